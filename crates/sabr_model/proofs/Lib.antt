@@ -1,0 +1,9 @@
+pub mod RowProofs
+pub mod Monotone
+pub mod Routes
+pub mod Begins
+pub mod Members
+pub mod Ordered
+pub mod Listed
+pub mod TableLemmas
+pub mod PlanLemmas

@@ -1,0 +1,14 @@
+pub mod Order
+pub mod Plan
+pub mod Table
+pub mod Adding
+pub mod Light
+pub mod Arrival
+pub mod Asking
+pub mod Route
+pub mod Fault
+pub mod Listing
+pub mod Parts
+pub mod Rows
+pub mod Laws
+pub mod Record

@@ -1,0 +1,89 @@
+-- Contact plans (CCSDS 734.3-B-1, contact plan: contacts and ranges).
+use Rattle.std.specs.Prelude.{◌≢◌, ℕ, ◌<◌, ◌≤◌, ◌^◌, Bool, true, ◌&&◌, not, nat_lt, ◌==◌, IsTrue, List, [], ◌∷◌, map, length}
+use Rattle.std.specs.List.{find, list_any, AllByRecursion}
+use Rattle.std.specs.declared.option.Option.{Option}
+use Rattle.std.specs.List.Sorted.{IsStrictlySortedBy}
+use Rattle.sabr_model.specs.Order.{by_numbers}
+use Rattle.sabr_model.specs.declared.contact.Contact.{Contact}
+use Rattle.sabr_model.specs.declared.contact.Range.{Range}
+
+-- the contacts and ranges that stand, and the greatest number that a contact was ever given, 0 at first
+pub record ContactPlan : Type 0 where
+  pub contacts : List Contact
+  pub ranges : List Range
+  pub greatest : ℕ
+
+-- a plan as its callers see it: what stands, and the nodes that send or receive a standing contact, each
+-- once, in the order of their table
+pub record TabledPlan : Type 0 where
+  pub plan : ContactPlan
+  pub table : List ℕ
+
+-- the greatest time, 9998-12-31T23:59:59Z in seconds since 1970-01-01T00:00:00Z
+abbrev pub last_time : ℕ
+last_time = 253370764799
+
+-- the standing contact of a number
+abbrev pub contact_named : ContactPlan → ℕ → Option Contact
+contact_named p n = find (λ c. c.number == n) p.contacts
+
+-- each number is greater than the one before it, and the first than `low`
+abbrev pub rises_above : ℕ → List ℕ → Bool
+rises_above low [] = true
+rises_above low (x ∷ xs) = nat_lt low x && rises_above x xs
+
+-- whether the number is in the list
+abbrev pub has : ℕ → List ℕ → Bool
+has x ys = list_any (λ y. x == y) ys
+
+-- no number stands twice
+abbrev pub are_different : List ℕ → Bool
+are_different [] = true
+are_different (x ∷ xs) = not (has x xs) && are_different xs
+
+abbrev pub IsWindow : ℕ → ℕ → Type 0
+IsWindow start end = (start < end) × (end ≤ last_time)
+
+-- a node is a number from 1 to 2^64 - 1
+abbrev pub IsNode : ℕ → Type 0
+IsNode n = (0 < n) × (n < 2 ^ 64)
+
+-- two different nodes
+abbrev pub IsPair : ℕ → ℕ → Type 0
+IsPair a b = IsNode a × IsNode b × (a ≢ b)
+
+-- the contact has this sender, receiver and start
+abbrev pub opens : ℕ → ℕ → ℕ → Contact → Bool
+opens from to start c = (from == c.from) && (to == c.to) && (start == c.start)
+
+abbrev pub same_opening : Contact → Contact → Bool
+same_opening c d = opens c.from c.to c.start d
+
+-- the same ordered pair of nodes, and a second that both hold
+abbrev pub overlap : Range → Range → Bool
+overlap a b = (a.one == b.one) && (a.other == b.other) && nat_lt a.start b.end && nat_lt b.start a.end
+
+-- no two elements pass the test
+abbrev pub none_twice : {X : Type 0} → (X → X → Bool) → List X → Bool
+none_twice same [] = true
+none_twice same (x ∷ xs) = not (list_any (same x) xs) && none_twice same xs
+
+-- ranges rise by their pair of nodes and then by their start
+abbrev pub range_key : Range → List ℕ
+range_key r = r.one ∷ r.other ∷ r.start ∷ []
+
+-- rules 1 to 4 and the limits
+pub record IsPlan (p : ContactPlan) : Type 0 where
+  pub contact_windows : AllByRecursion (λ c. IsWindow c.start c.end) p.contacts
+  pub contact_nodes : AllByRecursion (λ c. IsPair c.from c.to) p.contacts
+  pub numbers_rise : IsTrue (rises_above 0 (map (λ c. c.number) p.contacts))
+  pub numbers_given : AllByRecursion (λ c. c.number ≤ p.greatest) p.contacts
+  pub openings_differ : IsTrue (none_twice same_opening p.contacts)
+  pub range_windows : AllByRecursion (λ r. IsWindow r.start r.end) p.ranges
+  pub range_nodes : AllByRecursion (λ r. IsPair r.one r.other) p.ranges
+  pub rates : AllByRecursion (λ c. c.rate < 2 ^ 64) p.contacts
+  pub ranges_rise : IsStrictlySortedBy by_numbers (map range_key p.ranges)
+  pub lights : AllByRecursion (λ r. r.light ≤ 1000000) p.ranges
+  pub ranges_apart : IsTrue (none_twice overlap p.ranges)
+  pub count : p.greatest ≤ 20000
+  pub range_count : length p.ranges ≤ 20000
