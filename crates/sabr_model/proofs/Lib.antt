@@ -7,3 +7,5 @@ pub mod Ordered
 pub mod Listed
 pub mod TableLemmas
 pub mod PlanLemmas
+mod CountWalks
+pub mod WrittenTexts

@@ -2,6 +2,7 @@
 #![tactic(auto)]
 
 mod contact;
+mod devices;
 mod fault;
 mod laws;
 mod node_table;
@@ -14,6 +15,7 @@ mod rows;
 mod tests;
 
 pub use contact::{Contact, Range};
+pub use devices::{Device, Failed, FailureCount, Read, Write, WriteFault, write_text};
 pub use fault::{AddFault, HopFault, NoMemory, RequestError};
 pub use plan::{arrive, Plan};
 pub use route::Route;
