@@ -8,3 +8,5 @@ pub mod Listed
 pub mod TableLemmas
 pub mod PlanLemmas
 pub mod Rises
+mod CountWalks
+pub mod WrittenTexts
