@@ -8,3 +8,4 @@ pub mod Listed
 pub mod TableLemmas
 pub mod PlanLemmas
 pub mod Rises
+pub mod Paths
