@@ -9,3 +9,5 @@ pub mod TableLemmas
 pub mod PlanLemmas
 pub mod Rises
 pub mod Paths
+pub mod Prefixes
+pub mod Least
