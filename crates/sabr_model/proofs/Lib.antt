@@ -11,3 +11,5 @@ pub mod Rises
 pub mod Paths
 pub mod Prefixes
 pub mod Least
+pub mod Faults
+pub mod Follows

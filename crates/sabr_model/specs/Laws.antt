@@ -2,11 +2,12 @@
 use Rattle.std.specs.Prelude.{◌≡◌, ℕ, ◌≤◌, ◌↔◌, List, [], ◌++◌, IsTrue}
 use Rattle.std.specs.List.{Contains}
 use Rattle.std.specs.List.Sorted.{IsStrictlySortedBy}
-use Rattle.std.specs.declared.option.Option.TheVariants.{Some}
+use Rattle.std.specs.declared.option.Option.TheVariants.{Some, None}
 use Rattle.sabr_model.specs.declared.contact.Contact.{Contact}
 use Rattle.sabr_model.specs.Plan.{ContactPlan, IsPlan}
 use Rattle.sabr_model.specs.Arrival.{RouteRequest, arrival}
 use Rattle.sabr_model.specs.Route.{is_route, by_key}
+use Rattle.sabr_model.specs.Fault.{fault_of}
 use Rattle.sabr_model.specs.Listing.{routes}
 
 -- whoever is at the sender earlier arrives, and no later
@@ -18,6 +19,10 @@ ArrivalIsMonotone =
 abbrev pub NoRouteBeginsAnother : Type 0
 NoRouteBeginsAnother =
     (p : ContactPlan) (r : RouteRequest) (s t : List ℕ) → IsTrue (is_route p r s) → IsTrue (is_route p r (s ++ t)) → t ≡ []
+
+-- a list has no fault exactly where it is a route
+abbrev pub FaultsTellRoutes : Type 0
+FaultsTellRoutes = (p : ContactPlan) (r : RouteRequest) (s : List ℕ) → (fault_of p r s ≡ None) ↔ IsTrue (is_route p r s)
 
 -- the list of all routes has exactly the routes, and their keys rise strictly, so each once
 pub record IsListOfRoutes (p : ContactPlan) (r : RouteRequest) : Type 0 where

@@ -3,6 +3,7 @@
 
 mod contact;
 mod fault;
+mod following;
 mod laws;
 mod node_table;
 mod numbers;
@@ -16,6 +17,7 @@ mod tests;
 
 pub use contact::{Contact, Range};
 pub use fault::{AddFault, HopFault, NoMemory, RequestError};
+pub use following::follow;
 pub use numbers::Numbers;
 pub use plan::{arrive, Plan};
 pub use route::Route;
