@@ -18,7 +18,8 @@ use Rattle.sabr_model.specs.Listing.{routes}
 use Rattle.sabr_model.specs.Parts.{number_after, goes_on, least_in}
 use Rattle.sabr_model.specs.Record.{record_of, by_record}
 use Rattle.sabr_model.proofs.Members.{IsIn, in_from_Contains, Contains-from_in, all_in}
-use Rattle.sabr_model.proofs.Listed.{routes_are_listed, key_total, key_tells}
+use Rattle.sabr_model.proofs.Listed.{key_total, key_tells}
+use Rattle.sabr_model.proofs.RoutesListed.{routes_are_listed}
 
 -- ---- the number after a prefix
 

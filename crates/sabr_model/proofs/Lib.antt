@@ -5,6 +5,9 @@ pub mod Begins
 pub mod Members
 pub mod Ordered
 pub mod Listed
+pub mod Apart
+pub mod Candidates
+pub mod RoutesListed
 pub mod TableLemmas
 pub mod PlanLemmas
 pub mod Rises

@@ -23,4 +23,4 @@ pub use plan::{arrive, Plan};
 pub use route::Route;
 pub use rows::{row_of_plan_a, row_of_plan_c};
 pub use request::Request;
-pub use laws::{law1, law2, law3};
+pub use laws::{candidates_hold_each_once, faults_tell_routes, law1, law2, law3};
