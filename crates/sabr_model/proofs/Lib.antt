@@ -5,8 +5,16 @@ pub mod Begins
 pub mod Members
 pub mod Ordered
 pub mod Listed
+pub mod Apart
+pub mod Candidates
+pub mod RoutesListed
 pub mod TableLemmas
 pub mod PlanLemmas
 pub mod Rises
 mod CountWalks
 pub mod WrittenTexts
+pub mod Paths
+pub mod Prefixes
+pub mod Least
+pub mod Faults
+pub mod Follows
