@@ -11,6 +11,8 @@ pub mod RoutesListed
 pub mod TableLemmas
 pub mod PlanLemmas
 pub mod Rises
+mod CountWalks
+pub mod WrittenTexts
 pub mod Paths
 pub mod Prefixes
 pub mod Least

@@ -13,3 +13,4 @@ pub mod Parts
 pub mod Rows
 pub mod Laws
 pub mod Record
+pub mod Devices

@@ -2,6 +2,7 @@
 #![tactic(auto)]
 
 mod contact;
+mod devices;
 mod fault;
 mod following;
 mod laws;
@@ -16,6 +17,7 @@ mod rows;
 mod tests;
 
 pub use contact::{Contact, Range};
+pub use devices::{Device, Failed, FailureCount, Read, Write, WriteFault, write_text};
 pub use fault::{AddFault, HopFault, NoMemory, RequestError};
 pub use following::follow;
 pub use numbers::Numbers;
