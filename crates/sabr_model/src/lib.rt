@@ -3,18 +3,21 @@
 
 mod contact;
 mod fault;
+mod hop;
 mod laws;
 mod node_table;
 mod plan;
 mod request;
 mod route;
 mod rows;
+mod sent;
 
 #[cfg(test)]
 mod tests;
 
 pub use contact::{Contact, Range};
 pub use fault::{AddFault, HopFault, NoMemory, RequestError};
+pub use hop::Hop;
 pub use plan::{arrive, Plan};
 pub use route::Route;
 pub use rows::{row_of_plan_a, row_of_plan_c};
