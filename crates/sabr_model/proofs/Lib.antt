@@ -5,5 +5,12 @@ pub mod Begins
 pub mod Members
 pub mod Ordered
 pub mod Listed
+pub mod Answered
+pub mod Has
+pub mod StartLemmas
 pub mod TableLemmas
+pub mod Without
+pub mod Deletions
+pub mod RangeLemmas
+pub mod Tabled
 pub mod PlanLemmas

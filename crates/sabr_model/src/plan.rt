@@ -6,7 +6,7 @@ mod arriving;
 mod delete;
 mod light;
 mod nodes;
-mod places;
+pub mod places;
 mod views;
 
 ghost use Rattle.std.specs.Prelude.{◌≡◌, []};

@@ -1,6 +1,6 @@
 //! Contacts that are added, and those that are refused.
 
-ghost use Rattle.std.specs.Prelude.{◌≡◌, ℕ, ◌<◌, ◌≤◌, ◌+◌, [], None, Some, Err, IfOk, OnOk, OnErr, IsOkUnless, length, slice_index_or, unwrap_or};
+ghost use Rattle.std.specs.Prelude.{◌≡◌, ℕ, ◌<◌, ◌≤◌, ◌+◌, [], None, Some, Err, IfOk, OnOk, OnErr, IsOkUnless};
 ghost use Rattle.std.specs.List.{list_any};
 ghost use Rattle.sabr_model.specs.Plan.{last_time, opens};
 ghost use Rattle.sabr_model.specs.declared.fault.AddFault.{AddFault};
@@ -8,7 +8,6 @@ ghost use Rattle.sabr_model.specs.declared.fault.AddFault.TheVariants.{NoMemory}
 ghost use Rattle.sabr_model.specs.Adding.{next_contact, contact_refusal, with_contact};
 
 use super::Plan;
-use super::places::place_of_start;
 use crate::contact::Contact;
 use crate::fault::AddFault;
 use crate::node_table::note_contact;
@@ -59,20 +58,17 @@ impl<A: Allocator + Copy> Plan<A> {
         ensures err { OnErr result (self.new ≡ self.old) }
     {
         let number = self.greatest + 1;
-        let place = match self.table.get(&from) {
-            Some(sent) => place_of_start(&self.contacts, &sent.by_start, start, to),
-            None => 0,
-        };
-        self.contacts.reserve(1)?;
-        note_contact(self.alloc, &mut self.table, from, to, number, place)?;
-        self.contacts.push_reserved(Contact {
+        let contact = Contact {
             number,
             from,
             to,
             start,
             end,
             rate,
-        });
+        };
+        self.contacts.reserve(1)?;
+        note_contact(self.alloc, &mut self.table, &self.contacts, &contact)?;
+        self.contacts.push_reserved(contact);
         self.greatest = number;
         Ok(number)
     }

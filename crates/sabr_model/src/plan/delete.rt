@@ -11,18 +11,17 @@ ghost use Rattle.sabr_model.specs.Adding.{number_of_opening, without_contact, be
 use super::Plan;
 use crate::contact::Contact;
 use crate::fault::AddFault;
-use crate::node_table::{keep_node, take_number};
+use crate::node_table::forget_contact;
 use std::alloc::Allocator;
 
 impl<A: Allocator + Copy> Plan<A> {
-    /// The number of the standing contact with this sender, receiver and start.
-    fn number_of_opening(&self, from: u64, to: u64, start: u64) -> Option<u32>
-        ensures { result ≡ number_of_opening self.now.plan from to start }
+    /// The standing contact with this sender, receiver and start.
+    fn contact_of_opening(&self, from: u64, to: u64, start: u64) -> Option<&Contact>
+        ensures { option_copied result ≡ find (opens from to start) self.now.plan.contacts }
     {
         self.contacts
             .iter()
             .find(|c| from == c.from && to == c.to && start == c.start)
-            .map(|c| c.number)
     }
 
     /// Deletes the contact with this sender, receiver and start, and answers its number, which is not given again.
@@ -33,17 +32,13 @@ impl<A: Allocator + Copy> Plan<A> {
         ensures ok { OnOk result (self.new.plan ≡ without_contact self.old.plan from to start) }
         ensures err { OnErr result (self.new ≡ self.old) }
     {
-        let Some(number) = self.number_of_opening(from, to, start) else {
+        let Some(contact) = self.contact_of_opening(from, to, start) else {
             return Err(AddFault::NothingToDelete);
         };
-        self.contacts
-            .retain(|c| !(from == c.from && to == c.to && start == c.start));
-        take_number(&mut self.table, from, number);
-        let sends = is_in_use(&self.contacts, from);
-        keep_node(&mut self.table, from, sends);
-        let receives = is_in_use(&self.contacts, to);
-        keep_node(&mut self.table, to, receives);
-        Ok(number)
+        let contact = *contact;
+        forget_contact(&mut self.table, &self.contacts, &contact);
+        self.contacts.retain(|c| !(c.number == contact.number));
+        Ok(contact.number)
     }
 
     /// Deletes the range of this ordered pair that begins at this start.
@@ -71,11 +66,4 @@ impl<A: Allocator + Copy> Plan<A> {
             .iter()
             .any(|r| one == r.one && other == r.other && start == r.start)
     }
-}
-
-/// Whether the node sends or receives one of the contacts.
-fn is_in_use(contacts: &[Contact], node: u64) -> bool
-    ensures { result ≡ has node (ends_of contacts.now) }
-{
-    contacts.iter().any(|c| node == c.from || node == c.to)
 }

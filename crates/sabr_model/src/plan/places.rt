@@ -4,7 +4,7 @@ ghost use Rattle.std.specs.Prelude.{◌≡◌, ℕ, ◌<◌, ◌≤◌, ◌==◌
 ghost use Rattle.std.specs.Option.{option_copied};
 ghost use Rattle.std.specs.List.Sorted.{IsNonDecreasingBy};
 ghost use Rattle.sabr_model.specs.Plan.{rises_above};
-ghost use Rattle.sabr_model.specs.Table.{start_key, key_named};
+ghost use Rattle.sabr_model.specs.Table.{start_key, key_named, IsPlaceFor};
 
 use crate::contact::Contact;
 
@@ -16,30 +16,36 @@ pub fn contact_of_number(contacts: &[Contact], number: u32) -> Option<&Contact>
     contacts.iter().find(|c| c.number == number)
 }
 
-/// Whether the contact of a number comes before this start and receiver.
-fn comes_before(contacts: &[Contact], number: u32, start: u64, to: u64) -> bool
+/// The start and the receiver of the contact of a number; zeros where it names none.
+fn start_of_number(contacts: &[Contact], number: u32) -> (u64, u64)
     requires { IsTrue (rises_above 0 (map (λ c. c.number) contacts.now)) }
-    ensures { IsTrue result ↔ (key_named contacts.now number < start_key start to) }
+    ensures { start_key result.0 result.1 ≡ key_named contacts.now number }
 {
     match contact_of_number(contacts, number) {
-        Some(c) => c.start < start || (c.start == start && c.to < to),
-        None => 0 < start || 0 < to,
+        Some(contact) => (contact.start, contact.to),
+        None => (0, 0),
     }
 }
 
-/// The place of the first of the numbers whose contact does not come before this start and receiver.
-pub fn place_of_start(contacts: &[Contact], numbers: &[u32], start: u64, to: u64) -> usize
+/// Whether a start and receiver come before others.
+fn comes_before(start: u64, to: u64, other_start: u64, other_to: u64) -> bool
+    ensures { IsTrue result ↔ (start_key start to < start_key other_start other_to) }
+{
+    start < other_start || (start == other_start && to < other_to)
+}
+
+/// The place among numbers by start of a contact that is to be added.
+pub fn place_of_contact(contacts: &[Contact], numbers: &[u32], contact: &Contact) -> usize
     requires numbered { IsTrue (rises_above 0 (map (λ c. c.number) contacts.now)) }
     requires rising { IsNonDecreasingBy (key_named contacts.now) numbers.now }
-    ensures within { result ≤ length numbers.now }
-    ensures before { (k d : ℕ) → k < result → key_named contacts.now (slice_index_or numbers.now k d) < start_key start to }
-    ensures behind { (k d : ℕ) → result ≤ k → k < length numbers.now → start_key start to ≤ key_named contacts.now (slice_index_or numbers.now k d) }
+    ensures { IsPlaceFor contacts.now contact.now numbers.now result }
 {
     let mut low = 0;
     let mut high = numbers.len();
     while low < high {
         let middle = low + (high - low) / 2;
-        if comes_before(contacts, numbers[middle], start, to) {
+        let (start, to) = start_of_number(contacts, numbers[middle]);
+        if comes_before(start, to, contact.start, contact.to) {
             low = middle + 1;
         } else {
             high = middle;
