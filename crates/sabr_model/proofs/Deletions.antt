@@ -1,18 +1,16 @@
 -- A plan stays a plan without some of its contacts or ranges.
-use Rattle.std.proofs.Common.{◌≡◌, ℕ, ◌<◌, ◌≤◌, ◌^◌, Bool, true, false, cond, ◌||◌, ◌&&◌, not, eqb, ltb, List, [], ◌∷◌, length, map, refl, sym, ap, subst, ◌∙◌, inl, inr, arith}
+use Rattle.std.proofs.Common.{◌≡◌, ℕ, ◌<◌, ◌≤◌, ◌^◌, Bool, true, false, cond, ◌&&◌, not, eqb, ltb, List, [], ◌∷◌, length, map, refl, sym, ap, subst, ◌∙◌, arith}
 use Rattle.std.specs.List.{filter, find, list_any, AllByRecursion}
 use Rattle.std.specs.List.Sorted.{IsStrictlySortedBy}
-use Rattle.std.proofs.lemmas.Bool.{and_parts, and_from, or_parts, or_from, not-true, not_from_false, eqb-true, eq-eqb, ne_eqb, lt-ltb, ltb-true, both_ways, false_from_ne_true, cases_Bool}
-use Rattle.std.specs.declared.option.Option.{Option}
-use Rattle.std.specs.declared.option.Option.TheVariants.{Some, None}
+use Rattle.std.proofs.lemmas.Bool.{and_parts, and_from, or_parts, or_from, not-true, not_from_false, eqb-true, eq-eqb, ne_eqb, lt-ltb, ltb-true, both_ways}
+use Rattle.std.specs.declared.option.Option.TheVariants.{Some}
 use Rattle.std.specs.declared.cmp.Ordering.TheVariants.{Less}
 use Rattle.sabr_model.specs.declared.contact.Contact.{Contact}
 use Rattle.sabr_model.specs.declared.contact.Range.{Range}
 use Rattle.sabr_model.specs.Order.{by_numbers}
-use Rattle.sabr_model.specs.Plan.{ContactPlan, IsPlan, IsWindow, IsPair, rises_above, opens, same_opening, overlap, none_twice, range_key, last_time}
-use Rattle.sabr_model.specs.Adding.{without_contact, without_range, begins}
+use Rattle.sabr_model.specs.Plan.{ContactPlan, IsPlan, IsWindow, IsPair, rises_above, opens, same_opening, overlap, none_twice, range_key}
 use Rattle.sabr_model.specs.Table.{without_number}
-use Rattle.sabr_model.proofs.Without.{all_above, IsOne, is_one}
+use Rattle.sabr_model.proofs.Without.{all_above, is_one}
 
 module _ {X : Type 0} where
   pub all_filter : (P : X → Type 0) (t : X → Bool) (xs : List X) → AllByRecursion P xs → AllByRecursion P (filter t xs)
@@ -177,12 +175,13 @@ opening_one from to start (x ∷ cs) c none found =
     elim (opens from to start x) as (λ b. opens from to start x ≡ b → cond b (Some x) (find (opens from to start) cs) ≡ Some c → AllByRecursion (λ d. opens from to start d ≡ true → d ≡ c) (x ∷ cs)) [
       | true ↦ λ h e.
           let same : x ≡ c = cc in
-          let p = opens_parts from to start x h in
-          ((λ _. same),
-           all_one (λ d. same_opening x d ≡ false) (λ d. opens from to start d ≡ true → d ≡ c)
-               (λ d no yes. absurd (both_ways (same_opening x d) no
-                   (sym (ap (λ f. opens f to start d) p.0 ∙ ap (λ f. opens x.from f start d) p.1 ∙ ap (λ f. opens x.from x.to f d) p.2) ∙ yes)))
-               cs (any_none (same_opening x) cs (not-true (list_any (same_opening x) cs) parts.0)))
+          let p = opens_parts from to start x h in (
+            (λ _. same),
+            all_one (λ d. same_opening x d ≡ false) (λ d. opens from to start d ≡ true → d ≡ c)
+                (λ d no yes. absurd (both_ways (same_opening x d) no
+                (sym (ap (λ f. opens f to start d) p.0 ∙ ap (λ f. opens x.from f start d) p.1 ∙ ap (λ f. opens x.from x.to f d) p.2) ∙ yes)))
+                cs (any_none (same_opening x) cs (not-true (list_any (same_opening x) cs) parts.0)),
+          )
       | false ↦ λ h e. ((λ yes. absurd (both_ways (opens from to start x) h yes)), opening_one from to start cs c parts.1 e)
     ] refl found
 
@@ -197,10 +196,10 @@ without_opening p from to start c h found =
     let by_number = found_by_number 0 (opens from to start) p.contacts c h.numbers_rise found in
     let opened = found_passes (opens from to start) p.contacts c found in
     filter_alike (opens from to start) (λ d. eqb d.number c.number) p.contacts
-        (all_two (λ d. opens from to start d ≡ true → d ≡ c) (λ d. eqb d.number c.number ≡ true → d ≡ c) (λ d. opens from to start d ≡ eqb d.number c.number)
-            (λ d o n. alike (opens from to start d) (eqb d.number c.number)
-                (λ yes. eq-eqb d.number c.number (ap (λ (e : Contact). e.number) (o yes)))
-                (λ yes. subst (λ e. opens from to start e ≡ true) (sym (n yes)) opened))
-            p.contacts
-            (opening_one from to start p.contacts c h.openings_differ found)
-            (is_one 0 p.contacts c.number c h.numbers_rise by_number))
+    (all_two (λ d. opens from to start d ≡ true → d ≡ c) (λ d. eqb d.number c.number ≡ true → d ≡ c) (λ d. opens from to start d ≡ eqb d.number c.number)
+    (λ d o n. alike (opens from to start d) (eqb d.number c.number)
+    (λ yes. eq-eqb d.number c.number (ap (λ (e : Contact). e.number) (o yes)))
+    (λ yes. subst (λ e. opens from to start e ≡ true) (sym (n yes)) opened))
+    p.contacts
+    (opening_one from to start p.contacts c h.openings_differ found)
+    (is_one 0 p.contacts c.number c h.numbers_rise by_number))

@@ -3,9 +3,8 @@ use Rattle.std.proofs.Common.{◌≡◌, ◌≢◌, ℕ, zero, suc, ◌+◌, ◌
 use Rattle.std.specs.List.{insert, list_any, AllByRecursion}
 use Rattle.std.specs.List.Sorted.{IsStrictlySortedBy}
 use Rattle.std.specs.FinMap.{slice_cmp-IsAntisymmetric, nat_cmp-IsAntisymmetric}
-use Rattle.std.specs.Ordering.{nat_cmp}
 use Rattle.std.proofs.lemmas.Cmp.{nat_list_cmp_total}
-use Rattle.std.proofs.lemmas.Bool.{and_parts, and_from, or_parts, or_from, or_cases, not-true, not_from_false, lt-ltb, leb-false, eqb-false, eq-eqb, both_ways}
+use Rattle.std.proofs.lemmas.Bool.{and_parts, and_from, or_parts, or_from, not-true, not_from_false, lt-ltb, leb-false, eqb-false, eq-eqb, both_ways}
 use Rattle.std.proofs.lemmas.List.Folds.{list_any_at}
 use Rattle.std.specs.declared.option.Option.TheVariants.{Some, None}
 use Rattle.std.specs.declared.cmp.Ordering.{Ordering}
@@ -130,10 +129,10 @@ same_key_overlaps r s a b e =
     let other : r.other ≡ s.other = cc in
     let start : r.start ≡ s.start = cc in
     and_from (eqb r.one s.one && eqb r.other s.other && ltb r.start s.end) (ltb s.start r.end)
-        (and_from (eqb r.one s.one && eqb r.other s.other) (ltb r.start s.end)
-            (and_from (eqb r.one s.one) (eqb r.other s.other) (eq-eqb r.one s.one one) (eq-eqb r.other s.other other))
-            (lt-ltb r.start s.end (omega (arith, start, b))))
-        (lt-ltb s.start r.end (omega (arith, start, a)))
+    (and_from (eqb r.one s.one && eqb r.other s.other) (ltb r.start s.end)
+    (and_from (eqb r.one s.one) (eqb r.other s.other) (eq-eqb r.one s.one one) (eq-eqb r.other s.other other))
+    (lt-ltb r.start s.end (omega (arith, start, b))))
+    (lt-ltb s.start r.end (omega (arith, start, a)))
 
 all_at : {X : Type 0} (P : X → Type 0) (xs : List X) (i : ℕ) (d : X) → AllByRecursion P xs → i < length xs → P (get_or xs i d)
 all_at P [] i d all lt = absurd (omega arith)
@@ -152,7 +151,7 @@ pub place_is_put : (p : ContactPlan) (r : Range) (i : ℕ) → IsPlan p → rang
 place_is_put p r i h accept within before at =
     let a = accepted_range p r accept in
     insert_is_put by_range_key r p.ranges i within before
-        (λ lt. order_left (by_range_key r (get_or p.ranges i r)) (at lt)
-            (λ e. both_ways (list_any (overlap r) p.ranges) a.new
-                (list_any_at (overlap r) p.ranges i r lt
-                    (same_key_overlaps r (get_or p.ranges i r) a.window (all_at (λ s. IsWindow s.start s.end) p.ranges i r h.range_windows lt).0 e))))
+    (λ lt. order_left (by_range_key r (get_or p.ranges i r)) (at lt)
+    (λ e. both_ways (list_any (overlap r) p.ranges) a.new
+    (list_any_at (overlap r) p.ranges i r lt
+    (same_key_overlaps r (get_or p.ranges i r) a.window (all_at (λ s. IsWindow s.start s.end) p.ranges i r h.range_windows lt).0 e))))

@@ -1,18 +1,17 @@
 -- The contacts without one of them, and the table of nodes behind its deletion.
-use Rattle.std.proofs.Common.{◌≡◌, ℕ, ◌<◌, Bool, true, false, cond, ◌||◌, ◌&&◌, not, eqb, ltb, List, [], ◌∷◌, length, get_or, map, refl, sym, ap, subst, ◌∙◌, inl, inr, arith}
+use Rattle.std.proofs.Common.{◌≡◌, ℕ, ◌<◌, Bool, true, false, cond, ◌||◌, ◌&&◌, not, eqb, ltb, List, [], ◌∷◌, get_or, map, refl, sym, ap, subst, ◌∙◌, inl, inr, arith}
 use Rattle.std.specs.Prelude.{nat_eq}
 use Rattle.std.specs.List.{filter, find, list_any, AllByRecursion}
-use Rattle.std.specs.List.Sorted.{IsNonDecreasingBy}
 use Rattle.std.specs.Bool.{then_some}
 use Rattle.std.specs.Option.{option_map, option_map_or}
-use Rattle.std.proofs.lemmas.Bool.{and_parts, or_cases, or_left, or_right, or_from, not-true, eqb-true, eq-eqb, ne_eqb, ltb-true, both_ways, false_from_ne_true, cases_Bool}
+use Rattle.std.proofs.lemmas.Bool.{and_parts, or_cases, or_left, or_right, or_from, not-true, eqb-true, eq-eqb, ltb-true, both_ways, false_from_ne_true}
 use Rattle.std.proofs.lemmas.List.Kept.{IsNonDecreasingBy-filter}
 use Rattle.std.specs.declared.option.Option.{Option}
 use Rattle.std.specs.declared.option.Option.TheVariants.{Some, None}
 use Rattle.indexmap.specs.IndexMap.{IndexMap, IsUnique}
 use Rattle.sabr_model.specs.declared.contact.Contact.{Contact}
 use Rattle.sabr_model.specs.declared.sent.Sent.{Sent}
-use Rattle.sabr_model.specs.Plan.{has, are_different, rises_above}
+use Rattle.sabr_model.specs.Plan.{has, rises_above}
 use Rattle.sabr_model.specs.Table.{sent_by, ends_of, without_number, start_key, key_named, IsStartList, list_at, starts_at, IsTableOf}
 use Rattle.sabr_model.proofs.Has.{eqb_flip, has_at, has-without, without_absent, different-without}
 use Rattle.sabr_model.proofs.StartLemmas.{rises_alike}
@@ -58,10 +57,10 @@ absent_sent c n (x ∷ cs) q one ne = by (absent_sent c n cs q one.1 ne) (eqb q 
     by rest true e =
         ap (λ b. has n (map (λ (d : Contact). d.number) (cond b (x ∷ filter (λ d. eqb q d.from) cs) (filter (λ d. eqb q d.from) cs)))) e
         ∙ or_from (eqb n x.number) (has n (sent_by cs q))
-            (false_from_ne_true (eqb n x.number) (λ t.
-                let same : x ≡ c = one.0 (eqb_flip x.number n ∙ t) in
-                both_ways (eqb q c.from) ne (ap (λ (d : Contact). eqb q d.from) (sym same) ∙ e)))
-            rest
+        (false_from_ne_true (eqb n x.number) (λ t.
+        let same : x ≡ c = one.0 (eqb_flip x.number n ∙ t) in
+        both_ways (eqb q c.from) ne (ap (λ (d : Contact). eqb q d.from) (sym same) ∙ e)))
+        rest
     by rest false e =
         ap (λ b. has n (map (λ (d : Contact). d.number) (cond b (x ∷ filter (λ d. eqb q d.from) cs) (filter (λ d. eqb q d.from) cs)))) e
         ∙ rest
@@ -120,13 +119,15 @@ ends_of_found (x ∷ cs) n c found = by (ends_of_found cs n c) (eqb x.number n) 
     by : (find (λ d. eqb d.number n) cs ≡ Some c → (has c.from (ends_of cs) ≡ true) × (has c.to (ends_of cs) ≡ true)) → (b : Bool) → eqb x.number n ≡ b → (has c.from (ends_of (x ∷ cs)) ≡ true) × (has c.to (ends_of (x ∷ cs)) ≡ true)
     by rest_of true e =
         let some : Some x ≡ Some c = sym (ap (λ b. cond b (Some x) (find (λ d. eqb d.number n) cs)) e) ∙ found in
-        let same : x ≡ c = cc in
-        (or_left (eqb c.from x.from) (eqb c.from x.to || has c.from (ends_of cs)) (eq-eqb c.from x.from (ap (λ (d : Contact). d.from) (sym same))),
-         or_right (eqb c.to x.from) (eqb c.to x.to || has c.to (ends_of cs)) (or_left (eqb c.to x.to) (has c.to (ends_of cs)) (eq-eqb c.to x.to (ap (λ (d : Contact). d.to) (sym same)))))
+        let same : x ≡ c = cc in (
+          or_left (eqb c.from x.from) (eqb c.from x.to || has c.from (ends_of cs)) (eq-eqb c.from x.from (ap (λ (d : Contact). d.from) (sym same))),
+          or_right (eqb c.to x.from) (eqb c.to x.to || has c.to (ends_of cs)) (or_left (eqb c.to x.to) (has c.to (ends_of cs)) (eq-eqb c.to x.to (ap (λ (d : Contact). d.to) (sym same)))),
+        )
     by rest_of false e =
-        let rest = rest_of (sym (ap (λ b. cond b (Some x) (find (λ d. eqb d.number n) cs)) e) ∙ found) in
-        (or_right (eqb c.from x.from) (eqb c.from x.to || has c.from (ends_of cs)) (or_right (eqb c.from x.to) (has c.from (ends_of cs)) rest.0),
-         or_right (eqb c.to x.from) (eqb c.to x.to || has c.to (ends_of cs)) (or_right (eqb c.to x.to) (has c.to (ends_of cs)) rest.1))
+        let rest = rest_of (sym (ap (λ b. cond b (Some x) (find (λ d. eqb d.number n) cs)) e) ∙ found) in (
+          or_right (eqb c.from x.from) (eqb c.from x.to || has c.from (ends_of cs)) (or_right (eqb c.from x.to) (has c.from (ends_of cs)) rest.0),
+          or_right (eqb c.to x.from) (eqb c.to x.to || has c.to (ends_of cs)) (or_right (eqb c.to x.to) (has c.to (ends_of cs)) rest.1),
+        )
 
 pub sent_by-without : (cs : List Contact) (n q : ℕ) → sent_by (without_number n cs) q ≡ filter (λ k. not (eqb k n)) (sent_by cs q)
 sent_by-without [] n q = refl
@@ -171,8 +172,8 @@ IsStartList-without cs n q ys h =
       once = different-without ys n h.once;
       rising =
           rises_alike (key_named cs) (key_named (without_number n cs)) zs
-              (λ k d lt. ap (λ (o : Option Contact). option_map_or (λ c. start_key c.start c.to) o 0) (find-without cs n (get_or zs k d) (left_number ys n (get_or zs k d) (has_at zs k d lt))))
-              (IsNonDecreasingBy-filter (key_named cs) (λ k. not (eqb k n)) ys h.rising);
+          (λ k d lt. ap (λ (o : Option Contact). option_map_or (λ c. start_key c.start c.to) o 0) (find-without cs n (get_or zs k d) (left_number ys n (get_or zs k d) (has_at zs k d lt))))
+          (IsNonDecreasingBy-filter (key_named cs) (λ k. not (eqb k n)) ys h.rising);
     }
 
 -- ---- the table
@@ -231,16 +232,16 @@ IsTableOf-without low cs c t0 t1 t2 t3 from_used to_used rises found h unique fu
           ∙ ap (λ o. cond (eqb q c.to && not to_used) None (cond (eqb q c.from && not from_used) None o)) (l1 q)
           ∙ ap (λ o. cond (eqb q c.to && not to_used) None (cond (eqb q c.from && not from_used) None (cond (eqb q c.from) (option_map gone o) o))) (h.lists q)
           ∙ left (eqb q c.from) (eqb q c.to) from_used to_used (has q (ends_of (without_number c.number cs))) (has q (ends_of cs)) gone (sent_by cs q)
-              (λ e. fu ∙ ap (λ p. has p (ends_of (without_number c.number cs))) (sym (eqb-true q c.from e)))
-              (λ e. tu ∙ ap (λ p. has p (ends_of (without_number c.number cs))) (sym (eqb-true q c.to e)))
-              (λ e. ap (λ p. has p (ends_of cs)) (eqb-true q c.from e) ∙ ends.0)
-              (λ e. ap (λ p. has p (ends_of cs)) (eqb-true q c.to e) ∙ ends.1)
-              (λ f t. ends_kept c c.number cs q one f t)
+          (λ e. fu ∙ ap (λ p. has p (ends_of (without_number c.number cs))) (sym (eqb-true q c.from e)))
+          (λ e. tu ∙ ap (λ p. has p (ends_of (without_number c.number cs))) (sym (eqb-true q c.to e)))
+          (λ e. ap (λ p. has p (ends_of cs)) (eqb-true q c.from e) ∙ ends.0)
+          (λ e. ap (λ p. has p (ends_of cs)) (eqb-true q c.to e) ∙ ends.1)
+          (λ f t. ends_kept c c.number cs q one f t)
           ∙ ap (then_some (has q (ends_of (without_number c.number cs)))) (sent_left q (eqb q c.from) refl one);
       starts = λ q zs e.
           let back = was_there (eqb q c.to && not to_used) (eqb q c.from && not from_used) (eqb q c.from) gone (starts_at t0 q) zs
-                (sym (ap (λ o. cond (eqb q c.to && not to_used) None (cond (eqb q c.from && not from_used) None o)) (s1 q))
-                 ∙ sym (ap (λ o. cond (eqb q c.to && not to_used) None o) (s2 q)) ∙ sym (s3 q) ∙ e) in
+          (sym (ap (λ o. cond (eqb q c.to && not to_used) None (cond (eqb q c.from && not from_used) None o)) (s1 q))
+          ∙ sym (ap (λ o. cond (eqb q c.to && not to_used) None o) (s2 q)) ∙ sym (s3 q) ∙ e) in
           let old = h.starts q back.0 back.1 in
           subst (IsStartList (without_number c.number cs) q) (sym (back.2 ∙ list_left q back.0 old (eqb q c.from) refl one)) (IsStartList-without cs c.number q back.0 old);
     }
@@ -251,6 +252,7 @@ IsTableOf-without low cs c t0 t1 t2 t3 from_used to_used rises found h unique fu
         ap (λ b. cond b (filter (λ k. not (eqb k c.number)) (sent_by cs q)) (sent_by cs q)) e
         ∙ sym (without_absent (sent_by cs q) c.number (absent_sent c c.number cs q one e))
         ∙ sym (sent_by-without cs c.number q)
+
     list_left : (q : ℕ) (ys : List ℕ) → IsStartList cs q ys → (b : Bool) → eqb q c.from ≡ b → IsOne c c.number cs → cond (eqb q c.from) (filter (λ k. not (eqb k c.number)) ys) ys ≡ filter (λ k. not (eqb k c.number)) ys
     list_left q ys old true e one = ap (λ b. cond b (filter (λ k. not (eqb k c.number)) ys) ys) e
     list_left q ys old false e one =

@@ -11,15 +11,14 @@ mod request;
 mod route;
 mod rows;
 mod sent;
-
 #[cfg(test)]
 mod tests;
 
 pub use contact::{Contact, Range};
 pub use fault::{AddFault, HopFault, NoMemory, RequestError};
 pub use hop::Hop;
-pub use plan::{arrive, Plan};
+pub use laws::{law1, law2, law3};
+pub use plan::{Plan, arrive};
+pub use request::Request;
 pub use route::Route;
 pub use rows::{row_of_plan_a, row_of_plan_c};
-pub use request::Request;
-pub use laws::{law1, law2, law3};

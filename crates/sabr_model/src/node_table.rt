@@ -120,7 +120,14 @@ pub fn note_contact<A: Allocator + Copy>(
     ensures err_nodes { OnErr result (keys table.new ≡ keys table.old) }
 {
     let place = place_in_table(table, contacts, contact);
-    put_numbers(alloc, table, contact.from, contact.to, contact.number, place)
+    put_numbers(
+        alloc,
+        table,
+        contact.from,
+        contact.to,
+        contact.number,
+        place,
+    )
 }
 
 /// Takes the number out of those that the node sends.
@@ -151,9 +158,7 @@ fn keep_node<A: Allocator + Copy>(table: &mut NodeTable<A>, node: u64, used: boo
 fn is_in_use(contacts: &[Contact], number: u32, node: u64) -> bool
     ensures { result ≡ list_any (λ c. not (c.number == number) && (node == c.from || node == c.to)) contacts.now }
 {
-    contacts
-        .iter()
-        .any(|c| !(c.number == number) && (node == c.from || node == c.to))
+    contacts.iter().any(|c| !(c.number == number) && (node == c.from || node == c.to))
 }
 
 /// Forgets a contact that is to be deleted, and its nodes where no other contact has them.

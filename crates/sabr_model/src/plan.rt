@@ -11,10 +11,9 @@ mod views;
 
 ghost use Rattle.std.specs.Prelude.{◌≡◌, []};
 
-pub use arriving::arrive;
-
 use crate::contact::{Contact, Range};
 use crate::node_table::NodeTable;
+pub use arriving::arrive;
 use indexmap::IndexMap;
 use std::alloc::{Allocator, Global};
 use std::marker::Model;

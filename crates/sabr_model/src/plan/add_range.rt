@@ -37,7 +37,10 @@ impl<A: Allocator + Copy> Plan<A> {
         ensures { result ≡ list_any (overlap range.now) self.now.plan.ranges }
     {
         self.ranges.iter().any(|r| {
-            range.one == r.one && range.other == r.other && range.start < r.end && r.start < range.end
+            range.one == r.one
+                && range.other == r.other
+                && range.start < r.end
+                && r.start < range.end
         })
     }
 
@@ -79,7 +82,13 @@ impl<A: Allocator + Copy> Plan<A> {
         ensures ok { OnOk result (self.new ≡ record { plan = with_range self.old.plan (new_range one other start end light); table = self.old.table }) }
         ensures err { OnErr result (self.new ≡ self.old) }
     {
-        let range = Range { one, other, start, end, light };
+        let range = Range {
+            one,
+            other,
+            start,
+            end,
+            light,
+        };
         if let Some(fault) = self.range_refusal(&range) {
             return Err(fault);
         }
@@ -91,7 +100,8 @@ impl<A: Allocator + Copy> Plan<A> {
 fn range_before(a: &Range, b: &Range) -> bool
     ensures { result ≡ is_gt (by_range_key b.now a.now) }
 {
-    b.one > a.one || (b.one == a.one && (b.other > a.other || (b.other == a.other && b.start > a.start)))
+    b.one > a.one
+        || (b.one == a.one && (b.other > a.other || (b.other == a.other && b.start > a.start)))
 }
 
 /// The place of the first range that does not come before the given one.

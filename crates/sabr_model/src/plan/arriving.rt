@@ -11,7 +11,12 @@ use std::alloc::Allocator;
 
 /// The second at which a bundle that is at the contact's sender at `t` arrives at its receiver (CCSDS 734.3-B-1: earliest
 /// transmission time, one-way light time and margin); none where it is too late or no light time is known.
-pub fn arrive<A: Allocator + Copy>(plan: &Plan<A>, request: &Request, t: u64, contact: &Contact) -> Option<u64>
+pub fn arrive<A: Allocator + Copy>(
+    plan: &Plan<A>,
+    request: &Request,
+    t: u64,
+    contact: &Contact,
+) -> Option<u64>
     requires { contact.now.end ≤ last_time }
     ensures { result ≡ arrival plan.now.plan request.now t contact.now }
 {

@@ -53,8 +53,7 @@ impl<A: Allocator + Copy> Plan<A> {
         if !self.has_range(one, other, start) {
             return Err(AddFault::NothingToDelete);
         }
-        self.ranges
-            .retain(|r| !(one == r.one && other == r.other && start == r.start));
+        self.ranges.retain(|r| !(one == r.one && other == r.other && start == r.start));
         Ok(())
     }
 

@@ -42,7 +42,7 @@ impl<A: Allocator + Copy> Plan<A> {
         requires { contact_named self.now.plan contact.now.number ≡ Some contact.now }
         ensures { slice_get self.now.table result ≡ Some contact.now.to }
     {
-        self.node_index(contact.to).unwrap_or(0)
+        self.table.get_index_of(&contact.to).unwrap_or(0)
     }
 
     /// The numbers of the contacts that a node sends, by start, without such as have ended by `at`, or with some of these.

@@ -1,6 +1,5 @@
-use Rattle.std.proofs.Common.{◌≡◌, ◌∙◌, ap, not, rules, List}
+use Rattle.std.proofs.Common.{ap, not, rules}
 use Rattle.std.proofs.lemmas.Fn.{filter_same}
-use Rattle.sabr_model.specs.declared.contact.Range.{Range}
 use Rattle.sabr_model.specs.Plan.{ContactPlan, TabledPlan}
 use Rattle.sabr_model.specs.Adding.{begins, without_range}
 use Rattle.sabr_model.proofs.Deletions.{IsPlan-fewer_ranges}
