@@ -5,6 +5,7 @@ mod contact;
 mod devices;
 mod fault;
 mod following;
+mod hop;
 mod laws;
 mod node_table;
 mod numbers;
@@ -12,7 +13,7 @@ mod plan;
 mod request;
 mod route;
 mod rows;
-
+mod sent;
 #[cfg(test)]
 mod tests;
 
@@ -20,6 +21,7 @@ pub use contact::{Contact, Range};
 pub use devices::{Device, Failed, FailureCount, Read, Write, WriteFault, write_text};
 pub use fault::{AddFault, HopFault, NoMemory, RequestError};
 pub use following::follow;
+pub use hop::Hop;
 pub use numbers::Numbers;
 pub use plan::{arrive, Plan};
 pub use route::Route;
