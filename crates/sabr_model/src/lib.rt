@@ -14,6 +14,7 @@ mod request;
 mod route;
 mod rows;
 mod sent;
+
 #[cfg(test)]
 mod tests;
 
