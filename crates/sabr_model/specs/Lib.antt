@@ -8,8 +8,10 @@ pub mod Arrival
 pub mod Asking
 pub mod Route
 pub mod Fault
+pub mod Following
 pub mod Listing
 pub mod Parts
 pub mod Rows
 pub mod Laws
 pub mod Record
+pub mod Devices
