@@ -5,12 +5,12 @@ pub mod Begins
 pub mod Members
 pub mod Ordered
 pub mod Listed
-pub mod Apart
-pub mod Candidates
-pub mod RoutesListed
 pub mod Answered
 pub mod Has
 pub mod StartLemmas
+pub mod Apart
+pub mod Candidates
+pub mod RoutesListed
 pub mod TableLemmas
 pub mod Without
 pub mod Deletions
