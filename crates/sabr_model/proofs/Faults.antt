@@ -2,7 +2,7 @@
 use Rattle.std.proofs.Common.{◌≡◌, ℕ, ◌+◌, max, Bool, true, false, cond, not, eqb, leb, ltb, List, [], ◌∷◌, ◌++◌, length, refl, sym, ap, subst, ◌∙◌, arith, append_assoc}
 use Rattle.std.specs.Prelude.{is_none, IsTrue}
 use Rattle.std.specs.Option.{option_map, option_map_or, option_and_then}
-use Rattle.std.proofs.lemmas.Bool.{eqb-true, eq-eqb, leb-true, le-leb}
+use Rattle.std.proofs.lemmas.Bool.{eqb-true, eq-eqb, leb-true, le-leb, false_from_ne_true}
 use Rattle.std.specs.declared.option.Option.{Option}
 use Rattle.std.specs.declared.option.Option.TheVariants.{Some, None}
 use Rattle.sabr_model.specs.declared.contact.Contact.{Contact}
@@ -152,6 +152,10 @@ route_has_no_fault p r (n ∷ s) h =
     ap (λ o. fault_or o (cond (ends_at p r (n ∷ s)) None (Some WrongEnd))) (path_is_good p r [] (n ∷ s) (route_is_path p r (n ∷ s) h))
     ∙ ap (λ o. cond (option_map_or (λ b. eqb b r.destination) o false) None (Some WrongEnd)) f.reaches
     ∙ ap (λ b. cond b None (Some WrongEnd)) (eq-eqb r.destination r.destination refl)
+
+-- what has a fault is no route
+pub fault_is_no_route : (p : ContactPlan) (r : RouteRequest) (s : List ℕ) (f : HopFault) → fault_of p r s ≡ Some f → is_route p r s ≡ false
+fault_is_no_route p r s f e = false_from_ne_true (is_route p r s) (λ h. let none = route_has_no_fault p r s h in let no : ⊥ = cc in no)
 
 pub faults_tell_routes : FaultsTellRoutes
 faults_tell_routes p r s = (no_fault_is_route p r s, route_has_no_fault p r s)

@@ -14,7 +14,6 @@ mod request;
 mod route;
 mod rows;
 mod sent;
-
 #[cfg(test)]
 mod tests;
 
