@@ -3,8 +3,11 @@
 
 mod command;
 mod fault;
+mod feed;
 mod number;
 mod operand;
+mod read;
+mod reading;
 mod time;
 mod words;
 
@@ -12,4 +15,5 @@ mod words;
 mod tests;
 
 pub use fault::{PlanFault, PlanKind};
+pub use read::read_plan;
 pub use time::{parse_time, time_text};
