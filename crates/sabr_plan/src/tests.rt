@@ -1,3 +1,6 @@
 //! Worked examples.
 
+mod deleting;
+mod plans;
+mod reading;
 mod times;
