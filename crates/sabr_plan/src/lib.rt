@@ -1,6 +1,7 @@
 //! Plan texts after ionrc(5): the reader of plans, times, the canonical text of a plan and its digest.
 #![tactic(auto)]
 
+mod canonical_text;
 mod command;
 mod fault;
 mod feed;
@@ -8,12 +9,14 @@ mod number;
 mod operand;
 mod read;
 mod reading;
+mod record_line;
 mod time;
 mod words;
 
 #[cfg(test)]
 mod tests;
 
+pub use canonical_text::{canonical, digest};
 pub use fault::{PlanFault, PlanKind};
 pub use read::read_plan;
 pub use time::{parse_time, time_text};

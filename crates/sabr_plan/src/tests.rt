@@ -1,5 +1,6 @@
 //! Worked examples.
 
+mod canonical;
 mod deleting;
 mod plans;
 mod reading;
