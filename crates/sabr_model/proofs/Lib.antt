@@ -25,3 +25,4 @@ pub mod Prefixes
 pub mod Least
 pub mod Faults
 pub mod Follows
+pub mod RowPlans
