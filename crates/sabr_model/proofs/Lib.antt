@@ -7,6 +7,7 @@ pub mod Ordered
 pub mod Listed
 pub mod Answered
 pub mod Has
+pub mod Numbered
 pub mod StartLemmas
 pub mod Apart
 pub mod Candidates
@@ -16,6 +17,8 @@ pub mod Without
 pub mod Deletions
 pub mod RangeLemmas
 pub mod Tabled
+pub mod RangeKeys
+pub mod Openings
 pub mod PlanLemmas
 pub mod Rises
 mod CountWalks
