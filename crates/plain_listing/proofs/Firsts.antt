@@ -122,6 +122,6 @@ module _ {X : Type 0} (cmp : X → X → Ordering) (total : IsTotalOrder cmp) (o
       let rest : filter other ys ≡ put_in cmp w (filter one ys) = filter_one_more not_one is_other ys sorted.1 all.1 behind in
       ap (λ b. cond b (y ∷ filter other ys) (filter other ys)) (sym agree)
       ∙ elim (one y) as (λ b. cond b (y ∷ filter other ys) (filter other ys) ≡ put_in cmp w (cond b (y ∷ filter one ys) (filter one ys))) [
-          | true ↦ ap (λ zs. y ∷ zs) rest ∙ sym (put_behind cmp w y (filter one ys) above)
-          | false ↦ rest
-        ]
+        | true ↦ ap (λ zs. y ∷ zs) rest ∙ sym (put_behind cmp w y (filter one ys) above)
+        | false ↦ rest
+      ]

@@ -22,9 +22,10 @@ next_at low [] zero h = refl
 next_at low [] (suc i) h = refl
 next_at low (x ∷ xs) zero h = sym (ap (λ b. cond b (Some x) (next_from low xs)) (beyond x low (h.1 0 x (omega arith) (omega arith))))
 next_at low (x ∷ xs) (suc i) h =
-    next_at low xs i
-        (λ k d from to. h.0 (suc k) d (omega arith) (omega arith),
-         λ k d from to. h.1 (suc k) d (omega arith) (omega arith))
+    next_at low xs i (
+      λ k d from to. h.0 (suc k) d (omega arith) (omega arith),
+      λ k d from to. h.1 (suc k) d (omega arith) (omega arith),
+    )
     ∙ sym (ap (λ b. cond b (Some x) (next_from low xs)) (below x low (h.0 0 x (omega arith) (omega arith))))
 
 above_at : (low : ℕ) (xs : List ℕ) (j d : ℕ) → rises_above low xs ≡ true → j < length xs → low < get_or xs j d

@@ -61,9 +61,9 @@ before_empty (k ∷ u) = refl
 pub before_one : (k n : ℕ) (u : List ℕ) → n ≤ k → numbers_before (k ∷ u) (n ∷ []) ≡ false
 before_one k n u h =
     ⊎_elim
-        (λ e. ap (λ z. numbers_before (k ∷ u) (z ∷ [])) (sym e) ∙ before_same k u [] ∙ before_empty u)
-        (λ ne. before_greater k n u [] (omega arith))
-        (cases_eq k n)
+    (λ e. ap (λ z. numbers_before (k ∷ u) (z ∷ [])) (sym e) ∙ before_same k u [] ∙ before_empty u)
+    (λ ne. before_greater k n u [] (omega arith))
+    (cases_eq k n)
 
 pub before-behind : (q s t : List ℕ) → numbers_before (q ++ s) (q ++ t) ≡ numbers_before s t
 before-behind q s t = ap is_lt (by_numbers-behind q s t)

@@ -98,7 +98,7 @@ pub is_sent : (p : ContactPlan) (n : ℕ) (c : Contact) → contact_named p n �
 is_sent p n c e =
     let m = named_is p.contacts n c e in
     subst (λ k. IsIn k (sent_by p.contacts c.from)) m.1
-        (in_map (λ (d : Contact). d.number) c (filter (λ d. eqb c.from d.from) p.contacts) (in_filter (λ d. eqb c.from d.from) c p.contacts m.0 (eq-eqb c.from c.from refl)))
+    (in_map (λ (d : Contact). d.number) c (filter (λ d. eqb c.from d.from) p.contacts) (in_filter (λ d. eqb c.from d.from) c p.contacts m.0 (eq-eqb c.from c.from refl)))
 
 -- a number that is sent was given
 pub sent_is_given : (p : ContactPlan) (node n : ℕ) → IsPlan p → IsIn n (sent_by p.contacts node) → n ≤ p.greatest
