@@ -1,41 +1,29 @@
 -- What a walk has kept, as it moves on.
-use Rattle.std.proofs.Common.{◌≡◌, ◌≢◌, ℕ, ◌+◌, ◌<◌, ◌≤◌, min, true, false, List, [], ◌∷◌, ◌++◌, length, map, take, refl, sym, ap, subst, ◌∙◌, inl, inr, ⊎_elim, arith, append_assoc, length-append}
-use Rattle.std.specs.Prelude.{◌⊎◌, IsTrue, unwrap_or}
-use Rattle.std.specs.List.{filter, AllByRecursion}
+use Rattle.std.proofs.Common.{◌≡◌, ℕ, ◌+◌, ◌≤◌, true, false, List, [], ◌∷◌, ◌++◌, length, map, take, sym, ap, subst, ◌∙◌, arith, append_assoc}
+use Rattle.std.specs.Prelude.{IsTrue}
+use Rattle.std.specs.List.{AllByRecursion}
 use Rattle.std.specs.List.Sorted.{IsStrictlySortedBy}
-use Rattle.std.specs.Cmp.{IsTotalOrder}
-use Rattle.std.specs.declared.option.Option.{Option}
-use Rattle.std.specs.declared.option.Option.TheVariants.{Some, None}
-use Rattle.std.specs.declared.cmp.Ordering.{Ordering}
-use Rattle.std.specs.declared.cmp.Ordering.TheVariants.{Less}
 use Rattle.std.proofs.lemmas.Bool.{both_ways}
 use Rattle.std.proofs.lemmas.List.{length-take, take_all}
 use Rattle.std.proofs.lemmas.List.Kept.{IsStrictlySortedBy-filter}
 use Rattle.sabr_model.specs.Order.{put_in, numbers_before}
 use Rattle.sabr_model.specs.Plan.{ContactPlan, IsPlan}
-use Rattle.sabr_model.specs.Table.{sent_by}
 use Rattle.sabr_model.specs.Arrival.{RouteRequest}
-use Rattle.sabr_model.specs.Route.{is_route, is_path, chain_end, by_key}
+use Rattle.sabr_model.specs.Route.{is_route, is_path, by_key}
 use Rattle.sabr_model.specs.Listing.{routes}
-use Rattle.sabr_model.specs.Record.{RouteRecord, record_of, by_record}
+use Rattle.sabr_model.specs.Record.{record_of, by_record}
 use Rattle.sabr_model.proofs.Begins.{no_route_begins_another}
-use Rattle.sabr_model.proofs.Routes.{route_facts, empty_route}
-use Rattle.sabr_model.proofs.Members.{IsIn}
+use Rattle.sabr_model.proofs.Routes.{empty_route}
 use Rattle.sabr_model.proofs.Listed.{key_total}
 use Rattle.sabr_model.proofs.RoutesListed.{routes_are_listed}
 use Rattle.sabr_model.proofs.Least.{member_is_route, route_is_member, record_order}
-use Rattle.sabr_model.proofs.Paths.{IsHop, hop_facts, path_facts, route_from_path}
 use Rattle.sabr_model.proofs.Prefixes.{beginning_goes_on}
-use Rattle.plain_listing.specs.declared.hop.Hop.{Hop}
 use Rattle.plain_listing.specs.Before.{routes_before}
-use Rattle.plain_listing.specs.Way.{IsWay, numbers_of, hop_of, stop_of}
-use Rattle.plain_listing.specs.Walk.{IsWalk, IsMove, first_before}
+use Rattle.plain_listing.specs.Walk.{first_before}
 use Rattle.plain_listing.proofs.Firsts.{AgreeBut, filter_agrees, filter_none, filter_whole, filter_one_more, take-put_in, map-put_in}
 use Rattle.plain_listing.proofs.Rising.{all_from_in, rising_take, rising_map}
 use Rattle.plain_listing.proofs.Places.{before_less, before_one, before-behind}
 use Rattle.plain_listing.proofs.Passed.{passed_number, passed_list, passed_into, passed_back, none_before, all_before}
-use Rattle.plain_listing.proofs.Sent.{IsNextOf, is_sent, sent_is_given, named_is_given}
-use Rattle.plain_listing.proofs.Ways.{way_push, way_pop, numbers_push}
 
 -- the next number behind s, from low on: what routes go on with behind s, from low on, is no less
 pub record IsNext (p : ContactPlan) (r : RouteRequest) (s : List ℕ) (low n : ℕ) : Type 0 where

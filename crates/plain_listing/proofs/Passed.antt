@@ -1,10 +1,10 @@
 -- Which routes come before the place of the walk, as it moves on.
-use Rattle.std.proofs.Common.{◌≡◌, ◌≢◌, ℕ, zero, suc, ◌+◌, ◌<◌, ◌≤◌, Bool, true, false, ltb, List, [], ◌∷◌, ◌++◌, refl, sym, ap, subst, ◌∙◌, inl, inr, ⊎_elim, arith}
+use Rattle.std.proofs.Common.{◌≡◌, ◌≢◌, ℕ, ◌+◌, ◌≤◌, true, false, List, [], ◌∷◌, ◌++◌, refl, sym, ap, subst, ◌∙◌, inl, inr, ⊎_elim, arith}
 use Rattle.std.specs.Prelude.{◌⊎◌}
 use Rattle.std.specs.Ordering.{is_lt}
 use Rattle.std.proofs.lemmas.Bool.{cases_lt, cases_eq}
-use Rattle.sabr_model.specs.Order.{by_numbers, numbers_before}
-use Rattle.plain_listing.proofs.Places.{by_numbers-behind, begins_or_apart, IsApart, before_less, before_greater, before_same, before_empty, before_one, before-behind}
+use Rattle.sabr_model.specs.Order.{numbers_before}
+use Rattle.plain_listing.proofs.Places.{begins_or_apart, before_less, before_greater, before_same, before_one, before-behind}
 
 -- what comes before one list and not before the other begins with q
 module _ (q : List ℕ) (P : List ℕ → Type 0) where

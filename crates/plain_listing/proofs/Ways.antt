@@ -1,18 +1,17 @@
 -- Ways, a hop longer and a hop shorter.
-use Rattle.std.proofs.Common.{◌≡◌, ℕ, zero, suc, ◌+◌, ◌-◌, ◌<◌, ◌≤◌, min, true, false, List, [], ◌∷◌, ◌++◌, length, map, refl, sym, ap, subst, ◌∙◌, inl, inr, ⊎_elim, arith, append_assoc, length-append}
+use Rattle.std.proofs.Common.{◌≡◌, ℕ, zero, suc, ◌-◌, min, List, [], ◌∷◌, ◌++◌, length, refl, sym, ap, subst, ◌∙◌, inl, inr, ⊎_elim, arith, append_assoc, length-append}
 use Rattle.std.specs.Prelude.{◌⊎◌, IsTrue, unwrap_or, slice_get}
 use Rattle.std.specs.List.{fold, filter_map}
 use Rattle.std.specs.Option.{option_map_or}
 use Rattle.std.proofs.lemmas.List.{map-append, append-nil}
 use Rattle.std.proofs.lemmas.List.Sums.{fold-append}
 use Rattle.std.proofs.lemmas.List.Elements.{filter_map-append}
-use Rattle.std.specs.declared.option.Option.{Option}
-use Rattle.std.specs.declared.option.Option.TheVariants.{Some, None}
+use Rattle.std.specs.declared.option.Option.TheVariants.{Some}
 use Rattle.sabr_model.specs.declared.contact.Contact.{Contact}
-use Rattle.sabr_model.specs.Plan.{ContactPlan, contact_named, has}
-use Rattle.sabr_model.specs.Arrival.{RouteRequest, arrival_after}
+use Rattle.sabr_model.specs.Plan.{ContactPlan, contact_named}
+use Rattle.sabr_model.specs.Arrival.{RouteRequest}
 use Rattle.sabr_model.specs.Route.{chain_end, receivers, contacts_of, is_path, delivery_of, until_of, entry_of}
-use Rattle.sabr_model.specs.Record.{RouteRecord, record_of}
+use Rattle.sabr_model.specs.Record.{record_of}
 use Rattle.sabr_model.proofs.Begins.{receivers-cons}
 use Rattle.sabr_model.proofs.Paths.{IsHop, beginning_is_path, hop_facts, chain_end_push, arrival_after_push}
 use Rattle.plain_listing.specs.declared.hop.Stop.{Stop}

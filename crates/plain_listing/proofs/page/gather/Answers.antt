@@ -1,6 +1,4 @@
 use Rattle.std.proofs.Common.{[], sym, subst}
-use Rattle.plain_listing.specs.declared.hop.Hop.{Hop}
-use Rattle.sabr_model.specs.Record.{RouteRecord}
 use Rattle.plain_listing.specs.Walk.{IsWalk}
 use Rattle.plain_listing.proofs.Walks.{walk_begins}
 use Rattle.plain_listing.proofs.page.gather.Goals as goal

@@ -1,7 +1,7 @@
-use Rattle.std.proofs.Common.{◌≡◌, ◌≢◌, ℕ, ◌+◌, ◌<◌, ◌≤◌, true, false, List, [], ◌∷◌, ◌++◌, length, take, refl, sym, ap, subst, ◌∙◌, ⊎_elim, arith}
+use Rattle.std.proofs.Common.{◌≡◌, ℕ, ◌+◌, true, false, List, [], ◌∷◌, ◌++◌, length, take, refl, sym, ap, subst, ◌∙◌, ⊎_elim, arith}
 use Rattle.std.proofs.lemmas.Bool.{cases_eq}
 use Rattle.std.specs.declared.option.Option.{Option}
-use Rattle.std.specs.declared.option.Option.TheVariants.{Some, None}
+use Rattle.std.specs.declared.option.Option.TheVariants.{None}
 use Rattle.sabr_model.specs.Order.{put_in}
 use Rattle.sabr_model.specs.Arrival.{RouteRequest}
 use Rattle.sabr_model.specs.Record.{by_record}
@@ -12,9 +12,8 @@ use Rattle.plain_listing.specs.declared.hop.Stop.{Stop}
 use Rattle.plain_listing.specs.declared.hop.Hop.{Hop}
 use Rattle.plain_listing.specs.Way.{numbers_of, hop_of, last_stop, record_over}
 use Rattle.plain_listing.specs.Walk.{IsMove}
-use Rattle.plain_listing.proofs.Sent.{next_from, sent_rises, named_is_given}
-use Rattle.plain_listing.proofs.Moves.{IsNext, IsOver}
-use Rattle.plain_listing.proofs.Walks.{next_is, over_is, walk_rises, walk_within, last_given, move_back, move_end, move_past, move_found, move_into, move_to, some_where, none_where}
+use Rattle.plain_listing.proofs.Sent.{next_from, sent_rises}
+use Rattle.plain_listing.proofs.Walks.{next_is, over_is, walk_rises, last_given, move_back, move_end, move_past, move_found, move_into, move_to, some_where, none_where}
 use Rattle.plain_listing.proofs.walk.step.Goals as goal
 
 pub next_from-requires : goal.next_from-requires

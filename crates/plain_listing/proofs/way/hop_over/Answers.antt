@@ -1,8 +1,6 @@
-use Rattle.std.proofs.Common.{◌≡◌, ℕ, min, true, false, cond, sym, ap, subst, ◌∙◌, ◌++◌, [], ◌∷◌}
+use Rattle.std.proofs.Common.{◌≡◌, min, true, false, cond, sym, ap, ◌∙◌, ◌++◌, [], ◌∷◌}
 use Rattle.std.specs.Option.{option_copied}
-use Rattle.std.specs.declared.option.Option.{Option}
 use Rattle.std.specs.declared.option.Option.TheVariants.{Some, None}
-use Rattle.sabr_model.specs.declared.contact.Contact.{Contact}
 use Rattle.sabr_model.specs.Plan.{contact_named}
 use Rattle.sabr_model.specs.Arrival.{arrival}
 use Rattle.sabr_model.specs.Route.{is_path}
