@@ -1,0 +1,17 @@
+//! The program `cgrlist`: lists the routes of a contact plan, best first.
+#![tactic(auto)]
+
+mod command_line;
+mod number;
+mod pieces;
+mod status;
+
+use std::env;
+use std::process::ExitCode;
+use status::Status;
+
+fn main(rt: HostRuntime) -> ExitCode {
+    let _ = env::args(&rt);
+    let _ = command_line::parsed(rt.alloc(), &[]);
+    ExitCode::from(Status::Done as u8)
+}
