@@ -7,3 +7,6 @@ pub mod Ordered
 pub mod Listed
 pub mod TableLemmas
 pub mod PlanLemmas
+pub mod Rises
+mod CountWalks
+pub mod WrittenTexts

@@ -2,9 +2,11 @@
 #![tactic(auto)]
 
 mod contact;
+mod devices;
 mod fault;
 mod laws;
 mod node_table;
+mod numbers;
 mod plan;
 mod request;
 mod route;
@@ -14,7 +16,9 @@ mod rows;
 mod tests;
 
 pub use contact::{Contact, Range};
+pub use devices::{Device, Failed, FailureCount, Read, Write, WriteFault, write_text};
 pub use fault::{AddFault, HopFault, NoMemory, RequestError};
+pub use numbers::Numbers;
 pub use plan::{arrive, Plan};
 pub use route::Route;
 pub use rows::{row_of_plan_a, row_of_plan_c};
