@@ -1,5 +1,5 @@
 -- What the texts of the command line spell.
-use Rattle.std.specs.Prelude.{ℕ, ◌+◌, ◌==◌, nat_le, ◌&&◌, List, [], ◌∷◌, length, decimal, option_map, option_and_then, if◌then◌else◌}
+use Rattle.std.specs.Prelude.{ℕ, ◌+◌, ◌==◌, nat_le, ◌&&◌, List, [], ◌∷◌, length, decimal, option_map, option_and_then, map, if◌then◌else◌}
 use Rattle.std.specs.Str.{bytes_eq}
 use Rattle.std.specs.Str.Parse.{digits_value}
 use Rattle.std.specs.declared.option.Option.{Option}
@@ -31,3 +31,12 @@ abbrev pub all_of : List (Option ℕ) → Option (List ℕ)
 all_of [] = Some []
 all_of (None ∷ os) = None
 all_of (Some n ∷ os) = option_map (λ ns. n ∷ ns) (all_of os)
+
+-- the numbers that a text lists, parted by single commas, each within these bounds
+unfoldable pub numbers_within : ℕ → ℕ → List ℕ → Option (List ℕ)
+numbers_within low high text = all_of (map (number_within low high) (pieces_of text))
+
+-- the nodes that a text lists, at most 16 of them
+unfoldable pub nodes_listed : List ℕ → Option (List ℕ)
+nodes_listed text =
+    option_and_then (λ nodes. if nat_le (length nodes) 16 then Some nodes else None) (numbers_within 1 18446744073709551615 text)

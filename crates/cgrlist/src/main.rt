@@ -2,6 +2,7 @@
 #![tactic(auto)]
 
 mod command_line;
+mod lists;
 mod number;
 mod pieces;
 mod status;
