@@ -10,3 +10,6 @@ pub mod PlanLemmas
 pub mod Rises
 mod CountWalks
 pub mod WrittenTexts
+pub mod Paths
+pub mod Prefixes
+pub mod Least
