@@ -70,3 +70,16 @@ pub number_within-spelled_without : (low high : ℕ) (text : List ℕ) (n : ℕ)
 number_within-spelled_without low high text n h e out =
     number_within-spelled low high text n h e
     ∙ cut n (leb low n) (leb n high) (elim out [ inl a ↦ inl (below low n a) | inr b ↦ inr (below n high b) ])
+
+-- a number that was found lies within the bounds
+pub number_within-range : (low high : ℕ) (text : List ℕ) (n : ℕ) → number_within low high text ≡ Some n → (low ≤ n) × (n ≤ high)
+unfolding number_within
+number_within-range low high text n e = ranged (bytes_eq text (decimal m)) (leb low m) refl (leb m high) refl e
+  where
+    m : ℕ
+    m = digits_value 10 text
+    ranged : (a b : Bool) → leb low m ≡ b → (d : Bool) → leb m high ≡ d → cond (a && b && d) (Some m) None ≡ Some n → (low ≤ n) × (n ≤ high)
+    ranged false b eb d ed e = absurd cc
+    ranged true false eb d ed e = absurd cc
+    ranged true true eb false ed e = absurd cc
+    ranged true true eb true ed e = let is : m ≡ n = cc in (rw is at (leb-true low m eb), rw is at (leb-true m high ed))

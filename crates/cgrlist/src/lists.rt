@@ -51,6 +51,7 @@ impl NodeList {
     /// Puts a node behind the others, if there is room.
     fn push(&mut self, node: u64) -> Option<()>
         ensures pushed { IfSome result (λ _. self.new ≡ self.old ++ node ∷ []) }
+        ensures limit { IfSome result (λ _. length self.new ≤ 16) }
         ensures full { result ≡ None → length self.old ≡ 16 }
     {
         if self.count == MOST_NODES {
@@ -70,8 +71,12 @@ pub fn nodes_listed(text: &[u8]) -> Option<NodeList>
     let mut rest = Some(text);
     while let Some(behind) = rest {
         let (piece, others) = first_piece(behind);
-        let node = number_within(piece, 1, u64::MAX)?;
-        nodes.push(node)?;
+        let Some(node) = number_within(piece, 1, u64::MAX) else {
+            return None;
+        };
+        let Some(()) = nodes.push(node) else {
+            return None;
+        };
         rest = others;
     }
     Some(nodes)
