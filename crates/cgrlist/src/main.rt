@@ -5,7 +5,11 @@ mod command_line;
 mod lists;
 mod number;
 mod pieces;
+mod request_words;
 mod status;
+mod value_fault;
+mod value_name;
+mod values;
 
 use std::env;
 use std::process::ExitCode;

@@ -1,6 +1,6 @@
 //! Numbers of the command line.
 
-ghost use Rattle.std.specs.Prelude.{◌≡◌, ℕ, ◌<◌, ◌^◌, decimal, IfSome, IfNone};
+ghost use Rattle.std.specs.Prelude.{◌≡◌, ℕ, ◌<◌, ◌≤◌, ◌^◌, decimal, IfSome, IfNone};
 ghost use Rattle.cgrlist.specs.Words.{number_within};
 
 use itoa::Buffer;
@@ -26,7 +26,8 @@ fn spelled(text: &[u8]) -> Option<u64>
 
 /// The number that the text spells, decimal without a sign or leading zero, from `low` to `high`.
 pub fn number_within(text: &[u8], low: u64, high: u64) -> Option<u64>
-    ensures { result ≡ number_within low high text.now }
+    ensures value { result ≡ number_within low high text.now }
+    ensures range { IfSome result (λ n. (low ≤ n) × (n ≤ high)) }
 {
     let Some(number) = spelled(text) else {
         return None;
