@@ -116,7 +116,19 @@ pub record ValuesRead : Type 0 where
 abbrev pub where_asked : {A : Type 0} → Bool → Result A ValueFault → Result (Option A) ValueFault
 where_asked asked value = if asked then and_then value (λ a. Ok (Some a)) else Ok None
 
--- the request of a command that has one
+-- the words of a request, where the command has one
+abbrev pub words_where_asked : List ℕ → Found → Result (Option RequestWords) ValueFault
+words_where_asked command found = where_asked (has_request command) (request_words found)
+
+-- the count of routes, where the command has one
+abbrev pub count_where_asked : List ℕ → Found → Result (Option ℕ) ValueFault
+count_where_asked command found = where_asked (has_count command) (value_of (number_within 1 10000) found Count)
+
+-- the contacts, where the command has them
+abbrev pub contacts_where_asked : List ℕ → Found → Result (List ℕ) ValueFault
+contacts_where_asked command found = if has_contacts command then value_of (numbers_within 1 4294967295) found Contacts else Ok []
+
+-- the request of words that are there
 abbrev pub request_where_asked : Option RequestWords → Result (Option RouteRequest) ValueFault
 request_where_asked None = Ok None
 request_where_asked (Some words) = and_then (request_of words) (λ request. Ok (Some request))
@@ -124,8 +136,8 @@ request_where_asked (Some words) = and_then (request_of words) (λ request. Ok (
 -- the strict reading of a command's texts
 unfoldable pub values_of : List ℕ → Found → Result ValuesRead ValueFault
 values_of command found =
-    and_then (where_asked (has_request command) (request_words found)) (λ words.
-    and_then (where_asked (has_count command) (value_of (number_within 1 10000) found Count)) (λ count.
-    and_then (if has_contacts command then value_of (numbers_within 1 4294967295) found Contacts else Ok []) (λ contacts.
+    and_then (words_where_asked command found) (λ words.
+    and_then (count_where_asked command found) (λ count.
+    and_then (contacts_where_asked command found) (λ contacts.
     and_then (request_where_asked words) (λ request.
     Ok (record { request = request; count = count; contacts = contacts })))))

@@ -1,6 +1,6 @@
 //! The words that say what is asked for.
 
-ghost use Rattle.std.specs.Prelude.{◌≡◌, ℕ, ◌≤◌, [], List, Option, option_map, IfOk};
+ghost use Rattle.std.specs.Prelude.{◌≡◌, ℕ, ◌≤◌, [], List, Option, option_map, IfOk, IsErrOf};
 ghost use Rattle.clap.specs.Matches.{found_of};
 ghost use Rattle.sabr_plan.specs.Times.{time_of};
 ghost use Rattle.cgrlist.specs.Words.{number_within, nodes_listed};
@@ -105,6 +105,7 @@ fn with_limit_words(
     requires { IsNode from × IsNode to × (at ≤ last_time) × (margin_ppm ≤ most_margin) }
     ensures value { result ≡ limits_of from to at margin_ppm (found_of matches.now) }
     ensures range { IfOk result IsInRange }
+    ensures memory { ¬ IsErrOf result ValueFault.NoMemory }
 {
     let max_hops = number_or(matches, ValueName::MaxHops, 1, 20000, 20000)? as u32;
     let avoid = avoided(matches)?;
@@ -123,6 +124,7 @@ fn with_limit_words(
 pub fn request_words(matches: &ArgMatches<'_>) -> Result<RequestWords, ValueFault>
     ensures value { result ≡ request_words (found_of matches.now) }
     ensures range { IfOk result IsInRange }
+    ensures memory { ¬ IsErrOf result ValueFault.NoMemory }
 {
     let from = number_given(matches, ValueName::From, 1, u64::MAX)?;
     let to = number_given(matches, ValueName::To, 1, u64::MAX)?;
@@ -135,7 +137,8 @@ pub fn request_words(matches: &ArgMatches<'_>) -> Result<RequestWords, ValueFaul
 /// The request of these words: different nodes are asked for first, then nodes that may be avoided.
 pub fn request_of(words: &RequestWords) -> Result<Request, ValueFault>
     requires { IsInRange words.now }
-    ensures { result ≡ request_of words.now }
+    ensures value { result ≡ request_of words.now }
+    ensures memory { ¬ IsErrOf result ValueFault.NoMemory }
 {
     let Ok(request) = Request::new(words.from, words.to, words.at, words.margin_ppm) else {
         return Err(ValueFault::SameNode);
