@@ -1,3 +1,4 @@
 pub mod Numbers
 pub mod CommaPieces
 pub mod ListedNumbers
+pub mod TextsInTurn

@@ -2,7 +2,9 @@
 #![tactic(auto)]
 
 mod command_line;
+mod failure;
 mod lists;
+mod messages;
 mod number;
 mod pieces;
 mod request_words;
