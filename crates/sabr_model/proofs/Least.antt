@@ -1,13 +1,12 @@
 -- The least route of a part: what it is, and what tells it.
 use Rattle.std.proofs.Common.{◌≡◌, ℕ, true, false, Bool, cond, not, eqb, List, [], ◌∷◌, ◌++◌, length, refl, sym, ap, subst, ◌∙◌, inl, inr, ⊎_elim}
-use Rattle.std.specs.Prelude.{◌⊎◌, IsTrue, Contains}
-use Rattle.std.specs.List.{find, AllByRecursion}
+use Rattle.std.specs.Prelude.{◌⊎◌, IsTrue}
+use Rattle.std.specs.List.{find}
 use Rattle.std.specs.List.Sorted.{IsStrictlySortedBy}
 use Rattle.std.specs.Option.{option_map_or}
 use Rattle.std.specs.Ordering.{nat_cmp, is_lt, is_gt, ordering_reverse, ordering_then}
 use Rattle.std.specs.Cmp.{tied_itself, nat_cmp_total}
-use Rattle.std.proofs.lemmas.Bool.{and_parts, and_from, eqb-true, eq-eqb, not-true, not_from_false, both_ways, cond-true}
-use Rattle.std.specs.declared.option.Option.{Option}
+use Rattle.std.proofs.lemmas.Bool.{eqb-true, eq-eqb, not-true, not_from_false, both_ways, cond-true}
 use Rattle.std.specs.declared.option.Option.TheVariants.{Some, None}
 use Rattle.std.specs.declared.cmp.Ordering.{Ordering}
 use Rattle.std.specs.declared.cmp.Ordering.TheVariants.{Less, Equal, Greater}
@@ -16,10 +15,11 @@ use Rattle.sabr_model.specs.Plan.{ContactPlan, IsPlan, has}
 use Rattle.sabr_model.specs.Arrival.{RouteRequest}
 use Rattle.sabr_model.specs.Route.{is_route, delivery_of, until_of, entry_of, by_key}
 use Rattle.sabr_model.specs.Listing.{routes}
-use Rattle.sabr_model.specs.Parts.{number_after, goes_on, in_part, least_in}
+use Rattle.sabr_model.specs.Parts.{number_after, goes_on, least_in}
 use Rattle.sabr_model.specs.Record.{record_of, by_record}
 use Rattle.sabr_model.proofs.Members.{IsIn, in_from_Contains, Contains-from_in, all_in}
-use Rattle.sabr_model.proofs.Listed.{routes_are_listed, key_total, key_tells}
+use Rattle.sabr_model.proofs.Listed.{key_total, key_tells}
+use Rattle.sabr_model.proofs.RoutesListed.{routes_are_listed}
 
 -- ---- the number after a prefix
 

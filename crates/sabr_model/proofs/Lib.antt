@@ -5,6 +5,9 @@ pub mod Begins
 pub mod Members
 pub mod Ordered
 pub mod Listed
+pub mod Apart
+pub mod Candidates
+pub mod RoutesListed
 pub mod TableLemmas
 pub mod PlanLemmas
 pub mod Rises
@@ -13,3 +16,5 @@ pub mod WrittenTexts
 pub mod Paths
 pub mod Prefixes
 pub mod Least
+pub mod Faults
+pub mod Follows

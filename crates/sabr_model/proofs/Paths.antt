@@ -1,18 +1,18 @@
 -- Chains that can be the beginning of a route: their facts, their beginnings, and one hop more.
-use Rattle.std.proofs.Common.{◌≡◌, ℕ, ◌+◌, ◌<◌, ◌≤◌, Bool, true, false, cond, ◌&&◌, ◌||◌, not, eqb, leb, List, [], ◌∷◌, ◌++◌, length, refl, sym, ap, subst, ◌∙◌, inl, inr, ⊎_elim, arith, length-append}
+use Rattle.std.proofs.Common.{◌≡◌, ℕ, ◌<◌, Bool, true, false, cond, ◌&&◌, ◌||◌, not, eqb, leb, List, [], ◌∷◌, ◌++◌, length, refl, sym, ap, ◌∙◌, arith, length-append}
 use Rattle.std.specs.Prelude.{is_some, IsTrue}
 use Rattle.std.specs.List.{list_all}
-use Rattle.std.specs.Option.{option_and_then, option_map_or}
-use Rattle.std.proofs.lemmas.Bool.{and_parts, and_from, or_parts, or_from, or_cases, or_left, or_right, leb-true, le-leb, eqb-true, eq-eqb, not-true, not_from_false, false_from_ne_true, both_ways}
+use Rattle.std.specs.Option.{option_and_then}
+use Rattle.std.proofs.lemmas.Bool.{and_parts, and_from, or_parts, or_from, or_left, leb-true, le-leb, eqb-true, eq-eqb, not-true, not_from_false, false_from_ne_true, both_ways}
 use Rattle.std.proofs.lemmas.List.Folds.{list_any-append, list_all-append}
 use Rattle.std.specs.declared.option.Option.{Option}
 use Rattle.std.specs.declared.option.Option.TheVariants.{Some, None}
 use Rattle.sabr_model.specs.declared.contact.Contact.{Contact}
 use Rattle.sabr_model.specs.Plan.{ContactPlan, contact_named, has, are_different}
 use Rattle.sabr_model.specs.Arrival.{RouteRequest, arrival, arrival_after}
-use Rattle.sabr_model.specs.Route.{chain_end, receivers, is_path, is_prefix, is_route, IsPath, IsRoute}
+use Rattle.sabr_model.specs.Route.{chain_end, receivers, is_path, is_route, IsPath}
 use Rattle.sabr_model.proofs.Routes.{route_facts, route_from_facts}
-use Rattle.sabr_model.proofs.Begins.{chain_end-append, receivers-append, receivers-cons, end_is_received, different_apart, first_hop}
+use Rattle.sabr_model.proofs.Begins.{chain_end-append, receivers-append, receivers-cons, different_apart, first_hop}
 
 -- ---- the test and its facts
 

@@ -1,14 +1,14 @@
 -- Chains that routes may begin with and go on from.
-use Rattle.std.proofs.Common.{◌≡◌, ℕ, ◌+◌, ◌<◌, ◌≤◌, true, false, ◌&&◌, ◌||◌, not, eqb, List, [], ◌∷◌, ◌++◌, length, refl, sym, ap, subst, ◌∙◌, arith, length-append, append_assoc}
-use Rattle.std.specs.Prelude.{is_some, IsTrue}
+use Rattle.std.proofs.Common.{◌≡◌, ℕ, false, ◌||◌, not, eqb, List, [], ◌∷◌, ◌++◌, refl, sym, ap, subst, ◌∙◌, arith, length-append, append_assoc}
+use Rattle.std.specs.Prelude.{IsTrue}
 use Rattle.std.specs.Option.{option_and_then}
-use Rattle.std.proofs.lemmas.Bool.{and_parts, and_from, or_parts, or_from, or_left, eqb-true, not-true, not_from_false, false_from_ne_true, both_ways}
+use Rattle.std.proofs.lemmas.Bool.{and_parts, and_from, or_parts, or_from, eqb-true, not-true, not_from_false, false_from_ne_true, both_ways}
 use Rattle.std.proofs.lemmas.List.Folds.{list_any-append}
 use Rattle.std.specs.declared.option.Option.{Option}
 use Rattle.std.specs.declared.option.Option.TheVariants.{Some, None}
 use Rattle.sabr_model.specs.Plan.{ContactPlan, has, are_different}
 use Rattle.sabr_model.specs.Arrival.{RouteRequest}
-use Rattle.sabr_model.specs.Route.{chain_end, receivers, is_path, is_prefix, is_route, IsPath}
+use Rattle.sabr_model.specs.Route.{chain_end, receivers, is_path, is_prefix, is_route}
 use Rattle.sabr_model.proofs.Routes.{route_facts, empty_route}
 use Rattle.sabr_model.proofs.Begins.{chain_end-append, receivers-append, end_is_received, different_apart}
 use Rattle.sabr_model.proofs.Paths.{path_from_facts, beginning_is_path, route_is_path, route_from_path, hop_facts, receivers_push, chain_end_push}

@@ -7,6 +7,7 @@ pub mod Arrival
 pub mod Asking
 pub mod Route
 pub mod Fault
+pub mod Following
 pub mod Listing
 pub mod Parts
 pub mod Rows

@@ -3,7 +3,7 @@
 ghost use Rattle.std.specs.Prelude.{◌≡◌, ℕ, ◌<◌, ◌≤◌, ◌+◌, [], None, Some, Err, IfOk, IfSome, OnOk, OnErr, IsOkUnless, length};
 ghost use Rattle.std.specs.List.{list_any};
 ghost use Rattle.std.specs.Option.{option_copied};
-ghost use Rattle.sabr_model.specs.Plan.{contact_named, last_time, opens};
+ghost use Rattle.sabr_model.specs.Plan.{IsPlan, contact_named, last_time, opens};
 ghost use Rattle.sabr_model.specs.Table.{sent_by, node_count};
 ghost use Rattle.sabr_model.specs.Light.{light_of, light_of_pair};
 ghost use Rattle.sabr_model.specs.declared.fault.AddFault.{AddFault};
@@ -57,7 +57,8 @@ impl<A: Allocator + Copy> Plan<A> {
 
     /// The contacts by number.
     pub fn contacts(&self) -> &[Contact]
-        ensures { result.now ≡ self.now.plan.contacts }
+        ensures value { result.now ≡ self.now.plan.contacts }
+        ensures rules { IsPlan self.now.plan }
     {
         &self.contacts
     }
