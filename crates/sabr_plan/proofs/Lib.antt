@@ -1,3 +1,5 @@
+pub mod Digits
+pub mod FirstWords
 pub mod Days
 pub mod Dates
 pub mod Spelling

@@ -1,2 +1,7 @@
+pub mod Steps
+pub mod Digits
 pub mod Times
 pub mod TimeShape
+pub mod Words
+pub mod Operands
+pub mod Commands
