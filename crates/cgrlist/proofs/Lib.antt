@@ -2,3 +2,4 @@ pub mod Numbers
 pub mod CommaPieces
 pub mod ListedNumbers
 pub mod TextsInTurn
+pub mod SpelledTimes

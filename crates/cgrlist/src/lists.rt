@@ -4,7 +4,7 @@ ghost use Rattle.std.specs.Prelude.{◌≡◌, ℕ, ◌≤◌, ◌+◌, ◌<◌,
 ghost use Rattle.cgrlist.specs.Words.{nodes_listed, numbers_within};
 
 use crate::number::number_within;
-use crate::pieces::first_piece;
+use crate::first_piece::first_piece;
 use sabr_model::{NoMemory, Numbers};
 use std::alloc::Allocator;
 use std::marker::Model;

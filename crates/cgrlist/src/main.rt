@@ -3,11 +3,12 @@
 
 mod command_line;
 mod failure;
+mod first_piece;
 mod lists;
 mod messages;
 mod number;
-mod pieces;
 mod request_words;
+mod runs;
 mod status;
 mod value_fault;
 mod value_name;

@@ -7,7 +7,7 @@ use Rattle.std.proofs.lemmas.List.Sums.{fails_before_first}
 use Rattle.std.specs.declared.option.Option.TheVariants.{None}
 use Rattle.cgrlist.specs.Words.{pieces_of}
 use Rattle.cgrlist.proofs.CommaPieces.{pieces-at, pieces-none}
-use Rattle.cgrlist.proofs.pieces.first_piece.Goals as goal
+use Rattle.cgrlist.proofs.first_piece.first_piece.Goals as goal
 
 pub returns-in-Some-clause-pieces : goal.returns-in-Some-clause-pieces
 returns-in-Some-clause-pieces c =

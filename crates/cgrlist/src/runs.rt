@@ -1,0 +1,1 @@
+//! The runs of the program, over readers and writers.
