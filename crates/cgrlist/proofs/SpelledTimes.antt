@@ -1,5 +1,5 @@
 -- The times of every record of an accepted plan and request can be spelled.
-use Rattle.std.proofs.Common.{◌≡◌, ℕ, ◌+◌, ◌*◌, ◌/◌, ◌<◌, ◌≤◌, max, min, Bool, true, false, cond, ltb, eqb, ◌&&◌, List, [], ◌∷◌, map, refl, subst, ap, arith}
+use Rattle.std.proofs.Common.{◌≡◌, ℕ, zero, suc, ◌+◌, ◌*◌, ◌/◌, ◌<◌, ◌≤◌, max, min, Bool, true, false, cond, ltb, eqb, ◌&&◌, List, [], ◌∷◌, map, refl, subst, ap, arith}
 use Rattle.std.specs.Prelude.{All, nat_lt, unwrap_or}
 use Rattle.std.specs.List.{AllByRecursion, find, fold}
 use Rattle.std.specs.Option.{option_map, option_and_then}
@@ -107,7 +107,15 @@ record_spelled p r s h q =
     let until = least_end 253370764799 (contacts_of p s) in
     (omega (arith, delivery), omega (arith, until))
 
--- and so have all
-pub records_spelled : (p : ContactPlan) (r : RouteRequest) (ss : List (List ℕ)) → IsPlan p → IsRequest r → AllByRecursion HasSpelledTimes (map (record_of p r) ss)
-records_spelled p r [] h q = tt
-records_spelled p r (s ∷ ss) h q = (record_spelled p r s h q, records_spelled p r ss h q)
+all_at : {X : Type 0} (P : X → Type 0) (xs : List X) → AllByRecursion P xs → All P xs
+all_at P [] all k d lt = absurd (omega arith)
+all_at P (x ∷ xs) all zero d lt = all.0
+all_at P (x ∷ xs) all (suc k) d lt = all_at P xs all.1 k d (omega arith)
+
+each_spelled : (p : ContactPlan) (r : RouteRequest) (ss : List (List ℕ)) → IsPlan p → IsRequest r → AllByRecursion HasSpelledTimes (map (record_of p r) ss)
+each_spelled p r [] h q = tt
+each_spelled p r (s ∷ ss) h q = (record_spelled p r s h q, each_spelled p r ss h q)
+
+-- and so have the records of all lists
+pub records_spelled : (p : ContactPlan) (r : RouteRequest) (ss : List (List ℕ)) → IsPlan p → IsRequest r → All HasSpelledTimes (map (record_of p r) ss)
+records_spelled p r ss h q = all_at HasSpelledTimes (map (record_of p r) ss) (each_spelled p r ss h q)

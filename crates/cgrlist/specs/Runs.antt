@@ -1,6 +1,6 @@
 -- What a run leaves on its writers, over the plan that reading gave.
 use Rattle.std.specs.Prelude.{◌≡◌, ℕ, nat_lt, List, Result, Ok, Err, Option, map, length}
-use Rattle.sabr_model.specs.Plan.{ContactPlan, IsPlan}
+use Rattle.sabr_model.specs.Plan.{ContactPlan, TabledPlan}
 use Rattle.sabr_model.specs.Arrival.{RouteRequest}
 use Rattle.sabr_model.specs.Listing.{routes, page_of}
 use Rattle.sabr_model.specs.Record.{record_of}
@@ -23,18 +23,13 @@ Untouched old before new after = (new ≡ old) × (after ≡ before)
 
 -- what a first run writes over what reading gave: over a plan the report, or a beginning of it where the
 -- writer failed; nothing where the plan or memory was refused
-abbrev pub WritesFirst : Result ContactPlan PlanFault → RouteRequest → ℕ → Result (Unit {0}) Failure
+abbrev pub WritesFirst : Result TabledPlan PlanFault → RouteRequest → ℕ → Result (Unit {0}) Failure
     → Option (List ℕ) → ℕ → Option (List ℕ) → ℕ → Type 0
 WritesFirst (Err fault) r count end old before new after = (end ≡ Err (failure_of_plan fault)) × Untouched old before new after
-WritesFirst (Ok p) r count (Ok _) old before new after = Written old before (first_report p r count) new after
-WritesFirst (Ok p) r count (Err failure.Write) old before new after = WrittenInPart old before (first_report p r count) new after
+WritesFirst (Ok p) r count (Ok _) old before new after = Written old before (first_report p.plan r count) new after
+WritesFirst (Ok p) r count (Err failure.Write) old before new after = WrittenInPart old before (first_report p.plan r count) new after
 WritesFirst (Ok p) r count (Err failure.NoMemory) old before new after = Untouched old before new after
 WritesFirst (Ok p) r count (Err _) old before new after = ⊥
-
--- a plan that was given obeys the rules
-abbrev pub IsGiven : Result ContactPlan PlanFault → Type 0
-IsGiven (Ok p) = IsPlan p
-IsGiven (Err fault) = Unit {0}
 
 -- the status of a run that ended so
 abbrev pub status_at : Result (Unit {0}) Failure → Status
