@@ -8,7 +8,14 @@ pub mod Listed
 pub mod Apart
 pub mod Candidates
 pub mod RoutesListed
+pub mod Answered
+pub mod Has
+pub mod StartLemmas
 pub mod TableLemmas
+pub mod Without
+pub mod Deletions
+pub mod RangeLemmas
+pub mod Tabled
 pub mod PlanLemmas
 pub mod Rises
 mod CountWalks

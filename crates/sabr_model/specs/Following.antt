@@ -11,7 +11,7 @@ use Rattle.sabr_model.specs.Route.{chain_end}
 abbrev pub receives : ContactPlan → ℕ → ℕ → Bool
 receives p node n = option_map_or (λ c. node == c.to) (contact_named p n) false
 
--- at the end of the chain, at the time of arrival there
+-- it is at the end of the chain, since the time of arrival there
 pub record IsReachedBy (p : ContactPlan) (r : RouteRequest) (s : List ℕ) (reached : Reached) : Type 0 where
   pub node : chain_end p r.source s ≡ Some reached.node
   pub at : arrival_after p r r.at s ≡ Some reached.at

@@ -1,4 +1,4 @@
--- Laws of the definitions.
+-- Laws of the definitions, over all plans and requests.
 use Rattle.std.specs.Prelude.{◌≡◌, ℕ, ◌<◌, ◌≤◌, ◌↔◌, List, [], ◌++◌, IsTrue}
 use Rattle.std.specs.List.{Contains, AllByRecursion}
 use Rattle.std.specs.List.Sorted.{IsStrictlySortedBy}
@@ -17,6 +17,7 @@ ArrivalIsMonotone =
     (p : ContactPlan) (r : RouteRequest) (c : Contact) (t u x : ℕ) → t ≤ u → arrival p r u c ≡ Some x
     → (y : ℕ) × (arrival p r t c ≡ Some y) × (y ≤ x)
 
+-- no route is a beginning of another
 abbrev pub NoRouteBeginsAnother : Type 0
 NoRouteBeginsAnother =
     (p : ContactPlan) (r : RouteRequest) (s t : List ℕ) → IsTrue (is_route p r s) → IsTrue (is_route p r (s ++ t)) → t ≡ []
@@ -30,6 +31,7 @@ pub record IsListOfCandidates (n : ℕ) : Type 0 where
   pub members : (s : List ℕ) → Contains (candidates n) s ↔ (IsTrue (are_different s) × AllByRecursion (λ m. (0 < m) × (m ≤ n)) s)
   pub once : IsTrue (none_twice same_numbers (candidates n))
 
+-- that, for every n
 abbrev pub CandidatesAreListed : Type 0
 CandidatesAreListed = (n : ℕ) → IsListOfCandidates n
 
@@ -39,5 +41,6 @@ pub record IsListOfRoutes (p : ContactPlan) (r : RouteRequest) : Type 0 where
   pub once : IsTrue (none_twice same_numbers (routes p r))
   pub rising : IsStrictlySortedBy (by_key p r) (routes p r)
 
+-- that, for every contact plan and request
 abbrev pub RoutesAreListed : Type 0
 RoutesAreListed = (p : ContactPlan) (r : RouteRequest) → IsPlan p → IsListOfRoutes p r

@@ -1,6 +1,7 @@
 pub mod Order
 pub mod Plan
 pub mod Table
+pub mod Tabled
 pub mod Adding
 pub mod Light
 pub mod Arrival
