@@ -7,19 +7,23 @@ mod first_piece;
 mod lists;
 mod messages;
 mod number;
+mod program;
 mod request_words;
 mod runs;
 mod status;
+#[cfg(test)]
+mod tests;
 mod value_fault;
 mod value_name;
 mod values;
 
-use std::env;
+use program::run_arguments;
+use sabr_model::Device;
 use std::process::ExitCode;
-use status::Status;
 
 fn main(rt: HostRuntime) -> ExitCode {
-    let _ = env::args(&rt);
-    let _ = command_line::parsed(rt.alloc(), &[]);
-    ExitCode::from(Status::Done as u8)
+    let mut out = Device::new(rt.stdout());
+    let mut err = Device::new(rt.stderr());
+    let status = run_arguments(&rt, &mut out, &mut err);
+    ExitCode::from(status as u8)
 }

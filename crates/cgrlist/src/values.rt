@@ -1,6 +1,6 @@
 //! The values of a command, read strictly.
 
-ghost use Rattle.std.specs.Prelude.{◌≡◌, [], Ok, Err, IfOk, IfErr, IfSome, IsTrue, IsErrOf, ◌⊎◌};
+ghost use Rattle.std.specs.Prelude.{◌≡◌, [], Ok, Err, IfOk, IfErr, IfSome, IsTrue, IsErrOf, ◌⊎◌, ◌≤◌, is_some};
 ghost use Rattle.clap.specs.Matches.{found_of};
 ghost use Rattle.cgrlist.specs.Words.{numbers_within};
 ghost use Rattle.cgrlist.specs.Values.{has_request, has_count, has_contacts, value_of, values_of, words_where_asked, count_where_asked, contacts_where_asked, request_where_asked, IsInRange};
@@ -43,6 +43,7 @@ fn has_contacts(command: &str) -> bool
 fn words_where_asked(command: &str, matches: &ArgMatches<'_>) -> Result<Option<RequestWords>, ValueFault>
     ensures value { result ≡ words_where_asked command.now (found_of matches.now) }
     ensures range { IfOk result (λ words. IfSome words IsInRange) }
+    ensures asked { IfOk result (λ words. is_some words ≡ has_request command.now) }
     ensures memory { ¬ IsErrOf result ValueFault.NoMemory }
 {
     if !has_request(command) {
@@ -54,7 +55,9 @@ fn words_where_asked(command: &str, matches: &ArgMatches<'_>) -> Result<Option<R
 
 #[tactic(auto, unfolding(crate::specs::Values::count_where_asked))]
 fn count_where_asked(command: &str, matches: &ArgMatches<'_>) -> Result<Option<u32>, ValueFault>
-    ensures { result ≡ count_where_asked command.now (found_of matches.now) }
+    ensures value { result ≡ count_where_asked command.now (found_of matches.now) }
+    ensures asked { IfOk result (λ count. is_some count ≡ has_count command.now) }
+    ensures range { IfOk result (λ count. IfSome count (λ n. (1 ≤ n) × (n ≤ 10000))) }
 {
     if !has_count(command) {
         return Ok(None);
@@ -88,6 +91,7 @@ fn contacts_where_asked<A: Allocator + Copy>(alloc: A, command: &str, matches: &
 fn request_where_asked(words: &Option<RequestWords>) -> Result<Option<Request>, ValueFault>
     requires { IfSome words.now IsInRange }
     ensures value { result ≡ request_where_asked words.now }
+    ensures asked { IfOk result (λ request. is_some request ≡ is_some words.now) }
     ensures memory { ¬ IsErrOf result ValueFault.NoMemory }
 {
     let Some(words) = words else {
@@ -114,6 +118,9 @@ pub fn read_values<A: Allocator + Copy>(alloc: A, command: &str, matches: &ArgMa
     ensures ok { IfOk result (λ v. values_of command.now (found_of matches.now) ≡ Ok (record { request = v.request; count = v.count; contacts = v.contacts })) }
     ensures err { IfErr result (λ e. (e ≡ ValueFault.NoMemory) ⊎ (values_of command.now (found_of matches.now) ≡ Err e)) }
     ensures memory { IsErrOf result ValueFault.NoMemory → IsTrue (has_contacts command.now) }
+    ensures request { IfOk result (λ v. is_some v.request ≡ has_request command.now) }
+    ensures count { IfOk result (λ v. is_some v.count ≡ has_count command.now) }
+    ensures count_range { IfOk result (λ v. IfSome v.count (λ n. (1 ≤ n) × (n ≤ 10000))) }
 {
     let words = words_where_asked(command, matches)?;
     let count = count_where_asked(command, matches)?;
