@@ -21,7 +21,8 @@ use Rattle.sabr_model.specs.Record.{RouteRecord, record_of, by_record}
 use Rattle.sabr_model.proofs.Begins.{no_route_begins_another}
 use Rattle.sabr_model.proofs.Routes.{route_facts, empty_route}
 use Rattle.sabr_model.proofs.Members.{IsIn}
-use Rattle.sabr_model.proofs.Listed.{key_total, routes_are_listed}
+use Rattle.sabr_model.proofs.Listed.{key_total}
+use Rattle.sabr_model.proofs.RoutesListed.{routes_are_listed}
 use Rattle.sabr_model.proofs.Least.{member_is_route, route_is_member, record_order}
 use Rattle.sabr_model.proofs.Paths.{IsHop, hop_facts, path_facts, route_from_path}
 use Rattle.sabr_model.proofs.Prefixes.{beginning_goes_on}
