@@ -1,13 +1,12 @@
 //! The program: words, files and the runs over them.
 
-ghost use Rattle.std.specs.Prelude.{codes};
-
 use crate::command_line::parsed;
 use crate::failure::Failure;
 use crate::messages::tell;
 use crate::runs::run_first;
 use crate::status::Status;
 use crate::values::read_values;
+use clap::error::ErrorKind;
 use clap::{ArgMatches, Error};
 use sabr_model::{Device, Write, write_text};
 use std::alloc::Global;
@@ -59,6 +58,9 @@ pub fn run_words<R: Files + AllocGlobal, O: Write, E: Write>(
 
 // Tells why the words were refused, or the help that they ask for.
 fn tell_usage<E: Write>(alloc: Global, refusal: &Error, err: &mut E) -> Status {
+    if refusal.kind() == ErrorKind::OutOfMemory {
+        return tell(err, Failure::NoMemory);
+    }
     let Ok(text) = refusal.to_string(alloc) else {
         return tell(err, Failure::NoMemory);
     };
