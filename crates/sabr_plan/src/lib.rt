@@ -8,11 +8,10 @@ mod number;
 mod operand;
 mod read;
 mod reading;
-mod time;
-mod words;
-
 #[cfg(test)]
 mod tests;
+mod time;
+mod words;
 
 pub use fault::{PlanFault, PlanKind};
 pub use read::read_plan;
