@@ -1,5 +1,5 @@
 -- The first elements of a list in order, as further elements are put in.
-use Rattle.std.proofs.Common.{◌≡◌, ℕ, zero, suc, Bool, true, false, cond, List, [], ◌∷◌, map, take, refl, sym, ap, subst, ◌∙◌, inl, inr, ⊎_elim}
+use Rattle.std.proofs.Common.{◌≡◌, ℕ, zero, suc, Bool, true, false, cond, List, [], ◌∷◌, map, take, refl, sym, ap, subst, ◌∙◌, inl, inr}
 use Rattle.std.specs.Prelude.{◌⊎◌}
 use Rattle.std.specs.List.{filter, AllByRecursion}
 use Rattle.std.specs.List.Sorted.{IsStrictlySortedBy}
@@ -122,6 +122,6 @@ module _ {X : Type 0} (cmp : X → X → Ordering) (total : IsTotalOrder cmp) (o
       let rest : filter other ys ≡ put_in cmp w (filter one ys) = filter_one_more not_one is_other ys sorted.1 all.1 behind in
       ap (λ b. cond b (y ∷ filter other ys) (filter other ys)) (sym agree)
       ∙ elim (one y) as (λ b. cond b (y ∷ filter other ys) (filter other ys) ≡ put_in cmp w (cond b (y ∷ filter one ys) (filter one ys))) [
-          | true ↦ ap (λ zs. y ∷ zs) rest ∙ sym (put_behind cmp w y (filter one ys) above)
-          | false ↦ rest
-        ]
+        | true ↦ ap (λ zs. y ∷ zs) rest ∙ sym (put_behind cmp w y (filter one ys) above)
+        | false ↦ rest
+      ]

@@ -1,12 +1,11 @@
 -- The first of rising numbers from some number on, as a binary search finds it.
-use Rattle.std.proofs.Common.{◌≡◌, ℕ, zero, suc, ◌+◌, ◌<◌, ◌≤◌, true, false, cond, ltb, leb, List, [], ◌∷◌, length, get_or, drop, refl, sym, ap, ◌∙◌, inl, inr, ⊎_elim, arith}
+use Rattle.std.proofs.Common.{◌≡◌, ℕ, zero, suc, ◌<◌, ◌≤◌, true, false, cond, ltb, leb, List, [], ◌∷◌, length, get_or, drop, refl, sym, ap, ◌∙◌, arith}
 use Rattle.std.specs.Prelude.{slice_get}
-use Rattle.std.specs.List.{find}
-use Rattle.std.specs.List.Sorted.{IsPartitionPoint, IsPartitionedBy, IsNonDecreasingBy}
-use Rattle.std.proofs.lemmas.Bool.{and_parts, ltb-true, le-leb, cases_eq, cases_lt, both_ways, lt-ltb}
+use Rattle.std.specs.List.Sorted.{IsPartitionPoint, IsPartitionedBy}
+use Rattle.std.proofs.lemmas.Bool.{and_parts, ltb-true}
 use Rattle.std.proofs.lemmas.Bool.Decides.{nat_tests}
 use Rattle.std.proofs.lemmas.List.Sorted.{IsPartitionedBy-ltb}
-use Rattle.std.specs.declared.option.Option.TheVariants.{Some, None}
+use Rattle.std.specs.declared.option.Option.TheVariants.{Some}
 use Rattle.sabr_model.specs.Plan.{rises_above}
 use Rattle.plain_listing.proofs.Sent.{next_from}
 
@@ -22,9 +21,10 @@ next_at low [] zero h = refl
 next_at low [] (suc i) h = refl
 next_at low (x ∷ xs) zero h = sym (ap (λ b. cond b (Some x) (next_from low xs)) (beyond x low (h.1 0 x (omega arith) (omega arith))))
 next_at low (x ∷ xs) (suc i) h =
-    next_at low xs i
-        (λ k d from to. h.0 (suc k) d (omega arith) (omega arith),
-         λ k d from to. h.1 (suc k) d (omega arith) (omega arith))
+    next_at low xs i (
+      λ k d from to. h.0 (suc k) d (omega arith) (omega arith),
+      λ k d from to. h.1 (suc k) d (omega arith) (omega arith),
+    )
     ∙ sym (ap (λ b. cond b (Some x) (next_from low xs)) (below x low (h.0 0 x (omega arith) (omega arith))))
 
 above_at : (low : ℕ) (xs : List ℕ) (j d : ℕ) → rises_above low xs ≡ true → j < length xs → low < get_or xs j d

@@ -1,13 +1,12 @@
 -- Lists by their numbers from the front.
-use Rattle.std.proofs.Common.{◌≡◌, ℕ, zero, suc, ◌+◌, ◌<◌, ◌≤◌, Bool, true, false, cond, ltb, eqb, List, [], ◌∷◌, ◌++◌, refl, sym, ap, subst, ◌∙◌, inl, inr, ⊎_elim, arith}
+use Rattle.std.proofs.Common.{◌≡◌, ℕ, ◌<◌, ◌≤◌, true, false, cond, eqb, List, [], ◌∷◌, ◌++◌, refl, sym, ap, ◌∙◌, inl, inr, ⊎_elim, arith}
 use Rattle.std.specs.Prelude.{◌⊎◌}
 use Rattle.std.specs.Cmp.{nat_cmp_total}
 use Rattle.std.specs.Ordering.{nat_cmp, ordering_then, is_lt}
 use Rattle.std.specs.FinMap.{nat_cmp-IsAntisymmetric}
 use Rattle.std.proofs.lemmas.Cmp.{tied_itself}
-use Rattle.std.proofs.lemmas.Bool.{cases_lt, lt-ltb, cases_eq}
+use Rattle.std.proofs.lemmas.Bool.{lt-ltb, cases_eq}
 use Rattle.std.proofs.lemmas.Bool.Decides.{nat_tests}
-use Rattle.std.specs.declared.cmp.Ordering.{Ordering}
 use Rattle.std.specs.declared.cmp.Ordering.TheVariants.{Less, Equal, Greater}
 use Rattle.sabr_model.specs.Order.{by_numbers, numbers_before}
 
@@ -61,9 +60,9 @@ before_empty (k ∷ u) = refl
 pub before_one : (k n : ℕ) (u : List ℕ) → n ≤ k → numbers_before (k ∷ u) (n ∷ []) ≡ false
 before_one k n u h =
     ⊎_elim
-        (λ e. ap (λ z. numbers_before (k ∷ u) (z ∷ [])) (sym e) ∙ before_same k u [] ∙ before_empty u)
-        (λ ne. before_greater k n u [] (omega arith))
-        (cases_eq k n)
+    (λ e. ap (λ z. numbers_before (k ∷ u) (z ∷ [])) (sym e) ∙ before_same k u [] ∙ before_empty u)
+    (λ ne. before_greater k n u [] (omega arith))
+    (cases_eq k n)
 
 pub before-behind : (q s t : List ℕ) → numbers_before (q ++ s) (q ++ t) ≡ numbers_before s t
 before-behind q s t = ap is_lt (by_numbers-behind q s t)

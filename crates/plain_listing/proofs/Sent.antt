@@ -1,7 +1,7 @@
 -- The numbers that a node sends, and the next of them.
-use Rattle.std.proofs.Common.{◌≡◌, ℕ, ◌+◌, ◌<◌, ◌≤◌, true, false, cond, ltb, leb, eqb, List, [], ◌∷◌, ◌++◌, map, refl, sym, ap, subst, ◌∙◌, inl, inr, ⊎_elim, arith}
-use Rattle.std.specs.Prelude.{◌⊎◌, Bool, IsTrue}
-use Rattle.std.specs.List.{filter, find, AllByRecursion}
+use Rattle.std.proofs.Common.{◌≡◌, ℕ, ◌<◌, ◌≤◌, true, false, cond, ltb, leb, eqb, List, [], ◌∷◌, map, refl, sym, ap, subst, ◌∙◌, inl, inr, ⊎_elim, arith}
+use Rattle.std.specs.Prelude.{Bool}
+use Rattle.std.specs.List.{filter, find}
 use Rattle.std.proofs.lemmas.Bool.{and_parts, and_from, ltb-true, lt-ltb, leb-true, le-leb, eqb-true, eq-eqb, both_ways, cases_lt}
 use Rattle.std.specs.declared.option.Option.{Option}
 use Rattle.std.specs.declared.option.Option.TheVariants.{Some, None}
@@ -98,7 +98,7 @@ pub is_sent : (p : ContactPlan) (n : ℕ) (c : Contact) → contact_named p n �
 is_sent p n c e =
     let m = named_is p.contacts n c e in
     subst (λ k. IsIn k (sent_by p.contacts c.from)) m.1
-        (in_map (λ (d : Contact). d.number) c (filter (λ d. eqb c.from d.from) p.contacts) (in_filter (λ d. eqb c.from d.from) c p.contacts m.0 (eq-eqb c.from c.from refl)))
+    (in_map (λ (d : Contact). d.number) c (filter (λ d. eqb c.from d.from) p.contacts) (in_filter (λ d. eqb c.from d.from) c p.contacts m.0 (eq-eqb c.from c.from refl)))
 
 -- a number that is sent was given
 pub sent_is_given : (p : ContactPlan) (node n : ℕ) → IsPlan p → IsIn n (sent_by p.contacts node) → n ≤ p.greatest

@@ -1,10 +1,8 @@
 -- Each move of the walk.
-use Rattle.std.proofs.Common.{◌≡◌, ◌≢◌, ℕ, ◌+◌, ◌<◌, ◌≤◌, Bool, true, false, cond, List, [], ◌∷◌, ◌++◌, length, map, take, refl, sym, ap, subst, ◌∙◌, arith, length-append}
+use Rattle.std.proofs.Common.{◌≡◌, ◌≢◌, ℕ, ◌+◌, ◌<◌, ◌≤◌, Bool, true, false, cond, List, [], ◌∷◌, ◌++◌, length, take, refl, sym, ap, subst, ◌∙◌, arith, length-append}
 use Rattle.std.specs.Prelude.{IsTrue, unwrap_or}
 use Rattle.std.specs.List.Sorted.{IsStrictlySortedBy}
 use Rattle.std.proofs.lemmas.Bool.{false_from_ne_true}
-use Rattle.std.proofs.lemmas.List.{length-map}
-use Rattle.std.specs.declared.option.Option.{Option}
 use Rattle.std.specs.declared.option.Option.TheVariants.{Some, None}
 use Rattle.sabr_model.specs.Order.{put_in}
 use Rattle.sabr_model.specs.Plan.{ContactPlan, IsPlan}
@@ -135,7 +133,7 @@ module _ (p : ContactPlan) (r : RouteRequest) (good : IsPlan p) where
             let reaches : chain_end p r.source (s ++ n ∷ []) ≡ Some r.destination = end_named.1 ∙ ap Some (sym (ap (λ o. unwrap_or o 0) end_named.1) ∙ there) in
             let route = route_from_path p r (s ++ n ∷ []) open_way (omega (arith, length-append s (n ∷ []))) reaches in
             let is : record_over r longer ≡ record_of p r (s ++ n ∷ []) =
-                record_is p r longer (way_push p r hops n walk.way open_way) ∙ ap (record_of p r) (numbers_push hops (hop_of p r s n)) in
+            record_is p r longer (way_push p r hops n walk.way open_way) ∙ ap (record_of p r) (numbers_push hops (hop_of p r s n)) in
             record {
               stands = record {
                 way = walk.way;
@@ -160,7 +158,7 @@ module _ (p : ContactPlan) (r : RouteRequest) (good : IsPlan p) where
             let fewer = fewer_into (p.greatest + 2) r.max_hops s low n room f (omega arith) in
             let fewer' = subst (λ w. left_behind (p.greatest + 2) r.max_hops w 0 < left_behind (p.greatest + 2) r.max_hops s low) (sym numbers) fewer in
             let unfinished : is_route p r (s ++ n ∷ []) ≡ false =
-                false_from_ne_true (is_route p r (s ++ n ∷ [])) (λ route. elsewhere (ap (λ o. unwrap_or o 0) (route_facts p r (s ++ n ∷ []) route).reaches)) in
+            false_from_ne_true (is_route p r (s ++ n ∷ [])) (λ route. elsewhere (ap (λ o. unwrap_or o 0) (route_facts p r (s ++ n ∷ []) route).reaches)) in
             record {
               stands = record {
                 way = way_push p r hops n walk.way open_way;
@@ -177,8 +175,8 @@ pub move_to : (p : ContactPlan) (r : RouteRequest) (limit : ℕ) (hops : List Ho
     → IsMove p r limit hops low further (Some next) kept → there ≡ further → least ≡ next → more ≡ kept → IsMove p r limit hops low there (Some least) more
 move_to p r limit hops low further there next least kept more move e f g =
     subst (λ x. IsMove p r limit hops low x (Some least) more) (sym e)
-        (subst (λ x. IsMove p r limit hops low further (Some x) more) (sym f)
-            (subst (λ x. IsMove p r limit hops low further (Some next) x) (sym g) move))
+    (subst (λ x. IsMove p r limit hops low further (Some x) more) (sym f)
+    (subst (λ x. IsMove p r limit hops low further (Some next) x) (sym g) move))
 
 -- an option by a test, where it is there and where it isn't
 pub some_where : {X : Type 0} (b : Bool) (x y : X) → cond b (Some x) None ≡ Some y → (b ≡ true) × (y ≡ x)

@@ -1,18 +1,17 @@
 -- Ways, a hop longer and a hop shorter.
-use Rattle.std.proofs.Common.{◌≡◌, ℕ, zero, suc, ◌+◌, ◌-◌, ◌<◌, ◌≤◌, min, true, false, List, [], ◌∷◌, ◌++◌, length, map, refl, sym, ap, subst, ◌∙◌, inl, inr, ⊎_elim, arith, append_assoc, length-append}
+use Rattle.std.proofs.Common.{◌≡◌, ℕ, zero, suc, ◌-◌, min, List, [], ◌∷◌, ◌++◌, length, refl, sym, ap, subst, ◌∙◌, inl, inr, ⊎_elim, arith, append_assoc, length-append}
 use Rattle.std.specs.Prelude.{◌⊎◌, IsTrue, unwrap_or, slice_get}
 use Rattle.std.specs.List.{fold, filter_map}
 use Rattle.std.specs.Option.{option_map_or}
 use Rattle.std.proofs.lemmas.List.{map-append, append-nil}
 use Rattle.std.proofs.lemmas.List.Sums.{fold-append}
 use Rattle.std.proofs.lemmas.List.Elements.{filter_map-append}
-use Rattle.std.specs.declared.option.Option.{Option}
-use Rattle.std.specs.declared.option.Option.TheVariants.{Some, None}
+use Rattle.std.specs.declared.option.Option.TheVariants.{Some}
 use Rattle.sabr_model.specs.declared.contact.Contact.{Contact}
-use Rattle.sabr_model.specs.Plan.{ContactPlan, contact_named, has}
-use Rattle.sabr_model.specs.Arrival.{RouteRequest, arrival_after}
+use Rattle.sabr_model.specs.Plan.{ContactPlan, contact_named}
+use Rattle.sabr_model.specs.Arrival.{RouteRequest}
 use Rattle.sabr_model.specs.Route.{chain_end, receivers, contacts_of, is_path, delivery_of, until_of, entry_of}
-use Rattle.sabr_model.specs.Record.{RouteRecord, record_of}
+use Rattle.sabr_model.specs.Record.{record_of}
 use Rattle.sabr_model.proofs.Begins.{receivers-cons}
 use Rattle.sabr_model.proofs.Paths.{IsHop, beginning_is_path, hop_facts, chain_end_push, arrival_after_push}
 use Rattle.plain_listing.specs.declared.hop.Stop.{Stop}
@@ -26,9 +25,9 @@ pub by_last : {X : Type 0} (xs : List X) → (xs ≡ []) ⊎ ((front : List X) �
 by_last [] = inl refl
 by_last (x ∷ xs) =
     inr (⊎_elim
-        (λ none. ([], x, ap (λ ys. x ∷ ys) none))
-        (λ some. (x ∷ some.0, some.1, ap (λ ys. x ∷ ys) some.2))
-        (by_last xs))
+    (λ none. ([], x, ap (λ ys. x ∷ ys) none))
+    (λ some. (x ∷ some.0, some.1, ap (λ ys. x ∷ ys) some.2))
+    (by_last xs))
 
 -- two lists with a last element are equal only where these and what is before them are
 pub same_push : {X : Type 0} (xs ys : List X) (x y : X) → xs ++ x ∷ [] ≡ ys ++ y ∷ [] → (xs ≡ ys) × (x ≡ y)
@@ -76,29 +75,31 @@ module _ (p : ContactPlan) (r : RouteRequest) where
   way_pop hops h way =
       let numbers = numbers_push hops h in
       let both = same_push hops (hops_behind p r [] (numbers_of hops)) h (hop_of p r (numbers_of hops) h.number)
-          (way.told ∙ ap (hops_behind p r []) numbers ∙ hops_push [] (numbers_of hops) h.number) in
-      (record {
-        told = both.0;
-        path = beginning_is_path p r (numbers_of hops) (h.number ∷ []) (subst (λ w. IsTrue (is_path p r w)) numbers way.path);
-      }, both.1)
+      (way.told ∙ ap (hops_behind p r []) numbers ∙ hops_push [] (numbers_of hops) h.number) in (
+        record {
+          told = both.0;
+          path = beginning_is_path p r (numbers_of hops) (h.number ∷ []) (subst (λ w. IsTrue (is_path p r w)) numbers way.path);
+        },
+        both.1,
+      )
 
   -- the last stop of a way is where its numbers lead
   pub last_stop_is : (hops : List Hop) → IsWay p r hops → last_stop r hops ≡ stop_of p r (numbers_of hops)
   last_stop_is hops way =
       ⊎_elim
-          (λ none. ap (last_stop r) none ∙ ap (λ w. stop_of p r (numbers_of w)) (sym none))
-          (λ some.
-              let front = some.0 in
-              let h = some.1 in
-              let e : hops ≡ front ++ h ∷ [] = some.2 in
-              let count : length (front ++ h ∷ []) - 1 ≡ length front = omega (arith, length-append front (h ∷ [])) in
-              let is = (way_pop front h (subst (IsWay p r) e way)).1 in
-              ap (last_stop r) e
-              ∙ ap (λ o. option_map_or (λ (x : Hop). x.stop) o (source_stop r)) (last_of_push front h (length (front ++ h ∷ []) - 1) count)
-              ∙ ap (λ (x : Hop). x.stop) is
-              ∙ ap (stop_of p r) (sym (numbers_push front h))
-              ∙ ap (λ w. stop_of p r (numbers_of w)) (sym e))
-          (by_last hops)
+      (λ none. ap (last_stop r) none ∙ ap (λ w. stop_of p r (numbers_of w)) (sym none))
+      (λ some.
+      let front = some.0 in
+      let h = some.1 in
+      let e : hops ≡ front ++ h ∷ [] = some.2 in
+      let count : length (front ++ h ∷ []) - 1 ≡ length front = omega (arith, length-append front (h ∷ [])) in
+      let is = (way_pop front h (subst (IsWay p r) e way)).1 in
+      ap (last_stop r) e
+      ∙ ap (λ o. option_map_or (λ (x : Hop). x.stop) o (source_stop r)) (last_of_push front h (length (front ++ h ∷ []) - 1) count)
+      ∙ ap (λ (x : Hop). x.stop) is
+      ∙ ap (stop_of p r) (sym (numbers_push front h))
+      ∙ ap (λ w. stop_of p r (numbers_of w)) (sym e))
+      (by_last hops)
 
   nodes_behind : (front s : List ℕ) → IsTrue (is_path p r (front ++ s)) → nodes_of (hops_behind p r front s) ≡ receivers p s
   nodes_behind front [] path = refl
@@ -128,7 +129,7 @@ module _ (p : ContactPlan) (r : RouteRequest) where
       let node : unwrap_or (chain_end p r.source (s ++ n ∷ [])) 0 ≡ hop.contact.to = ap (λ o. unwrap_or o 0) (chain_end_push p r.source s n hop.contact hop.named hop.sent) in
       let arrival : delivery_of p r (s ++ n ∷ []) ≡ hop.arrived = ap (λ o. unwrap_or o 0) (arrival_after_push p r r.at s n hop.contact hop.ready hop.arrived hop.named hop.there_at hop.arrives_at) in
       let until : until_of p (s ++ n ∷ []) ≡ min (last_stop r hops).until hop.contact.end =
-          until_push s n hop.contact hop.named ∙ ap (λ (x : Stop). min x.until hop.contact.end) (sym (last_stop_is hops way)) in
+      until_push s n hop.contact hop.named ∙ ap (λ (x : Stop). min x.until hop.contact.end) (sym (last_stop_is hops way)) in
       λ i. record { number = n; stop = record { node = node i; arrival = arrival i; until = until i } }
 
   first_is : (hops : List Hop) → IsWay p r hops → first_node hops ≡ entry_of p (numbers_of hops)

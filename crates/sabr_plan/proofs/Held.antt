@@ -37,8 +37,8 @@ one_line_from (x ∷ xs) none =
 pub one_line_before : (xs : List ℕ) (end : ℕ) → end < length xs → ((k : ℕ) → k < end → eqb (get_or xs k 0) 10 ≡ true → ⊥) → is_one_line (take end xs) ≡ true
 one_line_before xs end h none =
     one_line_from (take end xs) (λ k below e.
-      let within : k < end = omega (arith, length-take end xs) in
-      none k within (sym (ap (λ b. eqb b 10) (get_or-take end xs k 0 within)) ∙ e))
+    let within : k < end = omega (arith, length-take end xs) in
+    none k within (sym (ap (λ b. eqb b 10) (get_or-take end xs k 0 within)) ∙ e))
 
 -- what is held is within the limits, so behind it the reader's failure is told
 pub broken_held : (lines count : ℕ) (held : List ℕ) → length held ≤ count → lines ≤ 1000000 → count ≤ 255 * (1000000 - lines) → count ≤ 255 → broken_line (lines + 1) held ≡ record { line = lines + 1; kind = kind.Read }

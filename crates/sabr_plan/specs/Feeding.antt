@@ -32,7 +32,6 @@ IsFed old piece (Err f) new = (f.kind ≡ NoMemory) ⊎ ((more : List ℕ) (ende
 abbrev pub weight : Fed → ℕ
 weight s = 256 * s.lines + length s.held
 
-
 -- the plan, its refusal, or one for want of memory
 abbrev pub Answers : Result ContactPlan PlanFault → Result TabledPlan PlanFault → Type 0
 Answers wanted (Ok p) = wanted ≡ Ok p.plan

@@ -10,11 +10,10 @@ mod operand;
 mod read;
 mod reading;
 mod record_line;
-mod time;
-mod words;
-
 #[cfg(test)]
 mod tests;
+mod time;
+mod words;
 
 pub use canonical_text::{canonical, digest};
 pub use fault::{PlanFault, PlanKind};

@@ -15,7 +15,10 @@ use std::alloc::Allocator;
 /// refused; then no plan is given. How many bytes behind a bad line the reader has given up is open.
 ///
 /// One pass over the text; each contact and range costs what adding it costs.
-pub fn read_plan<R: Read, A: Allocator + Copy>(alloc: A, reader: &mut R) -> Result<Plan<A>, PlanFault>
+pub fn read_plan<R: Read, A: Allocator + Copy>(
+    alloc: A,
+    reader: &mut R,
+) -> Result<Plan<A>, PlanFault>
     ensures { ReadsPlan (R.remaining reader.old) (R.failures reader.old) result (R.remaining reader.new) (R.failures reader.new) }
 {
     let mut buffer = [0u8; 8192];

@@ -94,7 +94,10 @@ impl<A: Allocator + Copy> PlanReading<A> {
         requires { HasBounds (Add target.Contact a) }
         ensures { Leaves (obeyed self.old (Add target.Contact a)) result self.new }
     {
-        match self.plan.add_contact(a.first, a.second, a.start, a.end, a.value) {
+        match self
+            .plan
+            .add_contact(a.first, a.second, a.start, a.end, a.value)
+        {
             Ok(_) => Ok(()),
             Err(fault) => Err(kind_of(fault)),
         }
@@ -105,7 +108,10 @@ impl<A: Allocator + Copy> PlanReading<A> {
         ensures { Leaves (obeyed self.old (Add target.Range a)) result self.new }
     {
         let light = a.value as u32;
-        match self.plan.add_range(a.first, a.second, a.start, a.end, light) {
+        match self
+            .plan
+            .add_range(a.first, a.second, a.start, a.end, light)
+        {
             Ok(()) => Ok(()),
             Err(fault) => Err(kind_of(fault)),
         }

@@ -12,8 +12,7 @@ invariant_of-self g c =
     let held = ap (λ (s : Fed). length s.held) c.self.view_is in
     let long : length (take i.held_count i.held) ≡ i.held_count = omega (arith, length-take i.held_count i.held, c.self.told, c.self.invariant.2) in
     let room : i.held_count + length bytes ≤ 255 = omega (arith, held, long, c.requires.room) in
-    let before : i.lines < 1000000 = omega (arith, lines, c.requires.lines) in
-    (
+    let before : i.lines < 1000000 = omega (arith, lines, c.requires.lines) in (
       omega arith,
       omega arith,
       omega arith,
