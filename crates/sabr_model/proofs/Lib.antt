@@ -29,3 +29,4 @@ pub mod Prefixes
 pub mod Least
 pub mod Faults
 pub mod Follows
+pub mod RowPlans

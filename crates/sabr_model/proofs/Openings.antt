@@ -46,24 +46,24 @@ opening_found p q to start ys h l fits here =
     let pair = all_found (λ c. IsPair c.from c.to) (λ c. eqb c.number (get_or ys k 0)) p.contacts s.0 h.contact_nodes s.1 in
     let key : start_key s.0.start s.0.to ≡ start_key start to = sym (ap (λ (o : Option Contact). option_map_or (λ c. start_key c.start c.to) o 0) s.1) ∙ here.2 0 in
     any_found (λ c. eqb c.number (get_or ys k 0)) (opens q to start) p.contacts s.0 s.1
-        (and_from (eqb q s.0.from && eqb to s.0.to) (eqb start s.0.start)
-            (and_from (eqb q s.0.from) (eqb to s.0.to) (eq-eqb q s.0.from (sym s.2)) (eq-eqb to s.0.to (sym (same_receiver s.0.start s.0.to start to pair.1.1 fits key))))
-            (eq-eqb start s.0.start (sym (same_start s.0.start s.0.to start to pair.1.1 fits key))))
+    (and_from (eqb q s.0.from && eqb to s.0.to) (eqb start s.0.start)
+    (and_from (eqb q s.0.from) (eqb to s.0.to) (eq-eqb q s.0.from (sym s.2)) (eq-eqb to s.0.to (sym (same_receiver s.0.start s.0.to start to pair.1.1 fits key))))
+    (eq-eqb start s.0.start (sym (same_start s.0.start s.0.to start to pair.1.1 fits key))))
 
 pub opening_missed : (p : ContactPlan) (q to start : ℕ) (ys : List ℕ) → IsPlan p → IsStartList p.contacts q ys
     → ((k d : ℕ) → k < length ys → key_named p.contacts (get_or ys k d) ≡ start_key start to → ⊥) → list_any (opens q to start) p.contacts ≡ false
 opening_missed p q to start ys h l none =
     false_from_ne_true (list_any (opens q to start) p.contacts) (λ yes.
-        let f = found_any (opens q to start) p.contacts yes in
-        let c = f.0 in
-        let parts = opens_parts q to start c (found_passes (opens q to start) p.contacts c f.1) in
-        let named = found_by_number 0 (opens q to start) p.contacts c h.numbers_rise f.1 in
-        let there : has c.number ys ≡ true = l.members c.number ∙ ap (λ a. has c.number (sent_by p.contacts a)) parts.0 ∙ number_sent p.contacts c.number c named in
-        let at = Contains-from_in ys c.number (in_from_has c.number ys there) in
-        none at.0 c.number at.1
-            (ap (key_named p.contacts) at.2
-             ∙ ap (λ (o : Option Contact). option_map_or (λ c. start_key c.start c.to) o 0) named
-             ∙ ap (λ s. start_key s c.to) (sym parts.2) ∙ ap (start_key start) (sym parts.1)))
+    let f = found_any (opens q to start) p.contacts yes in
+    let c = f.0 in
+    let parts = opens_parts q to start c (found_passes (opens q to start) p.contacts c f.1) in
+    let named = found_by_number 0 (opens q to start) p.contacts c h.numbers_rise f.1 in
+    let there : has c.number ys ≡ true = l.members c.number ∙ ap (λ a. has c.number (sent_by p.contacts a)) parts.0 ∙ number_sent p.contacts c.number c named in
+    let at = Contains-from_in ys c.number (in_from_has c.number ys there) in
+    none at.0 c.number at.1
+    (ap (key_named p.contacts) at.2
+    ∙ ap (λ (o : Option Contact). option_map_or (λ c. start_key c.start c.to) o 0) named
+    ∙ ap (λ s. start_key s c.to) (sym parts.2) ∙ ap (start_key start) (sym parts.1)))
 
 -- a test of the numbers by start tells whether the contact stands
 pub opening_told : (p : ContactPlan) (q to start : ℕ) (ys : List ℕ) (r : Bool) → IsPlan p → IsStartList p.contacts q ys → to < 2 ^ 64

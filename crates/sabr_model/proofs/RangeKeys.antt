@@ -97,11 +97,11 @@ pub range_list : (p : ContactPlan) → IsPlan p → IsRangeList p.ranges
 range_list p h =
     let rs = p.ranges in
     let fits = λ (k : ℕ) (d : Range) (lt : k < length rs).
-          let pair = all_at (λ r. IsPair r.one r.other) rs k d h.range_nodes lt in
-          let window = all_at (λ r. IsWindow r.start r.end) rs k d h.range_windows lt in
-          let start : (get_or rs k d).start < 2 ^ 64 = omega (arith, window.0, window.1) in
-          let all : ((get_or rs k d).one < 2 ^ 64) × ((get_or rs k d).other < 2 ^ 64) × ((get_or rs k d).start < 2 ^ 64) = (pair.0.1, pair.1.1, start) in
-          all in
+    let pair = all_at (λ r. IsPair r.one r.other) rs k d h.range_nodes lt in
+    let window = all_at (λ r. IsWindow r.start r.end) rs k d h.range_windows lt in
+    let start : (get_or rs k d).start < 2 ^ 64 = omega (arith, window.0, window.1) in
+    let all : ((get_or rs k d).one < 2 ^ 64) × ((get_or rs k d).other < 2 ^ 64) × ((get_or rs k d).start < 2 ^ 64) = (pair.0.1, pair.1.1, start) in
+    all in
     record {
       windows = λ k d lt. (all_at (λ r. IsWindow r.start r.end) rs k d h.range_windows lt).0;
       fields = fits;
@@ -162,10 +162,10 @@ overlap_parts r s h =
 overlap_from : (r s : Range) → r.one ≡ s.one → r.other ≡ s.other → r.start < s.end → s.start < r.end → overlap r s ≡ true
 overlap_from r s one other a b =
     and_from (eqb r.one s.one && eqb r.other s.other && ltb r.start s.end) (ltb s.start r.end)
-        (and_from (eqb r.one s.one && eqb r.other s.other) (ltb r.start s.end)
-            (and_from (eqb r.one s.one) (eqb r.other s.other) (eq-eqb r.one s.one one) (eq-eqb r.other s.other other))
-            (lt-ltb r.start s.end a))
-        (lt-ltb s.start r.end b)
+    (and_from (eqb r.one s.one && eqb r.other s.other) (ltb r.start s.end)
+    (and_from (eqb r.one s.one) (eqb r.other s.other) (eq-eqb r.one s.one one) (eq-eqb r.other s.other other))
+    (lt-ltb r.start s.end a))
+    (lt-ltb s.start r.end b)
 
 module _ (rs : List Range) (h : IsRangeList rs) where
   -- two of one pair, the earlier before the later
@@ -183,41 +183,41 @@ module _ (rs : List Range) (h : IsRangeList rs) where
     none_in_force : IsCountUntil rs (place_number one other t) 0 → light_of_pair rs one other t ≡ None
     none_in_force c =
         ap (option_map (λ (r : Range). r.light)) (find_none (in_force one other t) rs (λ k d lt yes.
-            let parts = force_parts one other t (get_or rs k d) yes in
-            let behind = c.behind k d (omega arith) lt in
-            omega (arith, parts.0, parts.1, parts.2, behind)))
+        let parts = force_parts one other t (get_or rs k d) yes in
+        let behind = c.behind k d (omega arith) lt in
+        omega (arith, parts.0, parts.1, parts.2, behind)))
 
     -- of the ranges that come by then only the last can be in force
     last_in_force : (j : ℕ) (e : Range) → IsCountUntil rs (place_number one other t) (j + 1) → light_of_pair rs one other t ≡ cond (in_force one other t (get_or rs j e)) (Some (get_or rs j e).light) None
     last_in_force j e c =
         ap (option_map (λ (r : Range). r.light)) (find_only (in_force one other t) rs j e (let w = c.within in omega (arith, w)) (λ k d lt ne yes.
-            let x = get_or rs k d in
-            let y = get_or rs j d in
-            let parts = force_parts one other t x yes in
-            let most = c.within in
-            elim (cases_lt k j) [
-              | inl less ↦
-                  let fx = h.fields k d lt in
-                  let fy = h.fields j d (omega (arith, most)) in
-                  let low = h.rises k j d less (omega (arith, most)) in
-                  let high = c.before j d (omega arith) in
-                  let own : place_number one other x.start ≡ number_of_range x = ap (λ a. place_number a other x.start) (sym parts.0) ∙ ap (λ a. place_number x.one a x.start) (sym parts.1) in
-                  let s = squeezed one other x.start y.one y.other y.start t fits_other fx.2 fy.1 fy.2 fits_t (omega (arith, own, low)) high in
-                  let ends = earlier_ends k j d less (omega (arith, most)) (parts.0 ∙ s.0) (parts.1 ∙ s.1) s.2 in
-                  omega (arith, ends, parts.3, s.3)
-              | inr le ↦
-                  let behind = c.behind k d (omega (arith, le, ne)) lt in
-                  omega (arith, parts.0, parts.1, parts.2, behind)
-            ]))
+        let x = get_or rs k d in
+        let y = get_or rs j d in
+        let parts = force_parts one other t x yes in
+        let most = c.within in
+        elim (cases_lt k j) [
+          | inl less ↦
+              let fx = h.fields k d lt in
+              let fy = h.fields j d (omega (arith, most)) in
+              let low = h.rises k j d less (omega (arith, most)) in
+              let high = c.before j d (omega arith) in
+              let own : place_number one other x.start ≡ number_of_range x = ap (λ a. place_number a other x.start) (sym parts.0) ∙ ap (λ a. place_number x.one a x.start) (sym parts.1) in
+              let s = squeezed one other x.start y.one y.other y.start t fits_other fx.2 fy.1 fy.2 fits_t (omega (arith, own, low)) high in
+              let ends = earlier_ends k j d less (omega (arith, most)) (parts.0 ∙ s.0) (parts.1 ∙ s.1) s.2 in
+              omega (arith, ends, parts.3, s.3)
+          | inr le ↦
+              let behind = c.behind k d (omega (arith, le, ne)) lt in
+              omega (arith, parts.0, parts.1, parts.2, behind)
+        ]))
         ∙ elim (in_force one other t (get_or rs j e)) as (λ b. option_map (λ (r : Range). r.light) (cond b (Some (get_or rs j e)) None) ≡ cond b (Some (get_or rs j e).light) None) [ true ↦ refl | false ↦ refl ]
 
   module _ (r : Range) (window : r.start < r.end) (fits_other : r.other < 2 ^ 64) (fits_end : r.end < 2 ^ 64) where
     none_overlaps : IsCountUntil rs (place_number r.one r.other (r.end - 1)) 0 → list_any (overlap r) rs ≡ false
     none_overlaps c =
         any_from_none (overlap r) rs (λ k d lt yes.
-            let parts = overlap_parts r (get_or rs k d) yes in
-            let behind = c.behind k d (omega arith) lt in
-            omega (arith, parts.0, parts.1, parts.3, behind))
+        let parts = overlap_parts r (get_or rs k d) yes in
+        let behind = c.behind k d (omega arith) lt in
+        omega (arith, parts.0, parts.1, parts.3, behind))
 
     -- of the ranges that begin before its end the last overlaps where any does
     last_overlaps : (j : ℕ) (e : Range) → IsCountUntil rs (place_number r.one r.other (r.end - 1)) (j + 1) → list_any (overlap r) rs ≡ overlap r (get_or rs j e)
@@ -227,27 +227,27 @@ module _ (rs : List Range) (h : IsRangeList rs) where
         by true here = list_any_at (overlap r) rs j e (let w = c.within in omega (arith, w)) here ∙ sym here
         by false not_here =
             any_from_none (overlap r) rs (λ k d lt yes.
-                let most = c.within in
-                let x = get_or rs k d in
-                let y = get_or rs j d in
-                let parts = overlap_parts r x yes in
-                let same : y ≡ get_or rs j e = default_free rs j d e (omega (arith, most)) in
-                elim (cases_order k j) [
-                  | inl kj ↦ both_ways (overlap r y) (ap (overlap r) same ∙ not_here) (ap (λ i. overlap r (get_or rs i d)) (sym kj) ∙ yes)
-                  | inr (inl less) ↦
-                      let fx = h.fields k d lt in
-                      let fy = h.fields j d (omega (arith, most)) in
-                      let low = h.rises k j d less (omega (arith, most)) in
-                      let high = c.before j d (omega arith) in
-                      let own : place_number r.one r.other x.start ≡ number_of_range x = ap (λ a. place_number a r.other x.start) parts.0 ∙ ap (λ a. place_number x.one a x.start) parts.1 in
-                      let s = squeezed r.one r.other x.start y.one y.other y.start (r.end - 1) fits_other fx.2 fy.1 fy.2 (omega (arith, fits_end)) (omega (arith, own, low)) high in
-                      let ends = earlier_ends k j d less (omega (arith, most)) (sym parts.0 ∙ s.0) (sym parts.1 ∙ s.1) s.2 in
-                      let last = h.windows j d (omega (arith, most)) in
-                      both_ways (overlap r y) (ap (overlap r) same ∙ not_here) (overlap_from r y s.0 s.1 (omega (arith, parts.2, ends, last)) (omega (arith, s.3, window)))
-                  | inr (inr more) ↦
-                      let behind = c.behind k d (omega (arith, more)) lt in
-                      omega (arith, parts.0, parts.1, parts.3, behind)
-                ])
+            let most = c.within in
+            let x = get_or rs k d in
+            let y = get_or rs j d in
+            let parts = overlap_parts r x yes in
+            let same : y ≡ get_or rs j e = default_free rs j d e (omega (arith, most)) in
+            elim (cases_order k j) [
+              | inl kj ↦ both_ways (overlap r y) (ap (overlap r) same ∙ not_here) (ap (λ i. overlap r (get_or rs i d)) (sym kj) ∙ yes)
+              | inr (inl less) ↦
+                  let fx = h.fields k d lt in
+                  let fy = h.fields j d (omega (arith, most)) in
+                  let low = h.rises k j d less (omega (arith, most)) in
+                  let high = c.before j d (omega arith) in
+                  let own : place_number r.one r.other x.start ≡ number_of_range x = ap (λ a. place_number a r.other x.start) parts.0 ∙ ap (λ a. place_number x.one a x.start) parts.1 in
+                  let s = squeezed r.one r.other x.start y.one y.other y.start (r.end - 1) fits_other fx.2 fy.1 fy.2 (omega (arith, fits_end)) (omega (arith, own, low)) high in
+                  let ends = earlier_ends k j d less (omega (arith, most)) (sym parts.0 ∙ s.0) (sym parts.1 ∙ s.1) s.2 in
+                  let last = h.windows j d (omega (arith, most)) in
+                  both_ways (overlap r y) (ap (overlap r) same ∙ not_here) (overlap_from r y s.0 s.1 (omega (arith, parts.2, ends, last)) (omega (arith, s.3, window)))
+              | inr (inr more) ↦
+                  let behind = c.behind k d (omega (arith, more)) lt in
+                  omega (arith, parts.0, parts.1, parts.3, behind)
+            ])
             ∙ sym not_here
 
 count_above : (rs : List Range) (number count : ℕ) → IsCountUntil rs number count → (count ≡ 0 → ⊥) → IsCountUntil rs number (count - 1 + 1)
@@ -284,8 +284,8 @@ or_else_limit (Some x) u a b = a
 pub light_of_limit : (p : ContactPlan) (c : Contact) → IsPlan p → IfSome (light_of p c) (λ l. l ≤ 1000000)
 light_of_limit p c h =
     or_else_limit (light_of_pair p.ranges c.from c.to c.start) (cond (ltb c.to c.from) (light_of_pair p.ranges c.to c.from c.start) None)
-        (light_limit p c.from c.to c.start h)
-        (elim (ltb c.to c.from) as (λ b. IfSome (cond b (light_of_pair p.ranges c.to c.from c.start) None) (λ l. l ≤ 1000000)) [ true ↦ light_limit p c.to c.from c.start h | false ↦ tt ])
+    (light_limit p c.from c.to c.start h)
+    (elim (ltb c.to c.from) as (λ b. IfSome (cond b (light_of_pair p.ranges c.to c.from c.start) None) (λ l. l ≤ 1000000)) [ true ↦ light_limit p c.to c.from c.start h | false ↦ tt ])
 
 -- ---- where a range goes
 
@@ -296,24 +296,24 @@ count_is_put p r i h accept other start c =
     let list = range_list p h in
     let a = accepted_range p r accept in
     let compared = λ (k : ℕ) (lt : k < length rs).
-          let x = get_or rs k r in
-          let f = list.fields k r lt in
-          let is : by_range_key r x ≡ nat_cmp (number_of_range r) (number_of_range x) = key_cmp r.one r.other r.start x.one x.other x.start other start f.1 f.2 in
-          is in
+    let x = get_or rs k r in
+    let f = list.fields k r lt in
+    let is : by_range_key r x ≡ nat_cmp (number_of_range r) (number_of_range x) = key_cmp r.one r.other r.start x.one x.other x.start other start f.1 f.2 in
+    is in
     place_is_put p r i h accept c.within
-        (λ k lt.
-            let most = c.within in
-            let x = get_or rs k r in
-            let within : k < length rs = omega (arith, lt, most) in
-            let le = c.before k r lt in
-            elim (cases_order (number_of_range x) (number_of_range r)) [
-              | inl e ↦ absurd (both_ways (list_any (overlap r) rs) a.new
-                    (list_any_at (overlap r) rs k r within
-                        (same_key_overlaps r x a.window (list.windows k r within) (compared k within ∙ cmp_same (number_of_range r) (number_of_range x) (sym e)))))
-              | inr (inl less) ↦ compared k within ∙ cmp_greater (number_of_range r) (number_of_range x) less
-              | inr (inr more) ↦ absurd (omega (arith, le, more))
-            ])
-        (λ lt e.
-            let behind = c.behind i r (omega arith) lt in
-            let less : by_range_key r (get_or rs i r) ≡ Less = compared i lt ∙ cmp_less (number_of_range r) (number_of_range (get_or rs i r)) behind in
-            let no_way : Less ≡ Greater = sym less ∙ e in cc)
+    (λ k lt.
+    let most = c.within in
+    let x = get_or rs k r in
+    let within : k < length rs = omega (arith, lt, most) in
+    let le = c.before k r lt in
+    elim (cases_order (number_of_range x) (number_of_range r)) [
+      | inl e ↦ absurd (both_ways (list_any (overlap r) rs) a.new
+          (list_any_at (overlap r) rs k r within
+          (same_key_overlaps r x a.window (list.windows k r within) (compared k within ∙ cmp_same (number_of_range r) (number_of_range x) (sym e)))))
+      | inr (inl less) ↦ compared k within ∙ cmp_greater (number_of_range r) (number_of_range x) less
+      | inr (inr more) ↦ absurd (omega (arith, le, more))
+    ])
+    (λ lt e.
+    let behind = c.behind i r (omega arith) lt in
+    let less : by_range_key r (get_or rs i r) ≡ Less = compared i lt ∙ cmp_less (number_of_range r) (number_of_range (get_or rs i r)) behind in
+    let no_way : Less ≡ Greater = sym less ∙ e in cc)

@@ -1,9 +1,18 @@
 //! Plan texts after ionrc(5): the reader of plans, times, the canonical text of a plan and its digest.
 #![tactic(auto)]
 
-mod time;
-
+mod command;
+mod fault;
+mod feed;
+mod number;
+mod operand;
+mod read;
+mod reading;
 #[cfg(test)]
 mod tests;
+mod time;
+mod words;
 
+pub use fault::{PlanFault, PlanKind};
+pub use read::read_plan;
 pub use time::{parse_time, time_text};

@@ -13,7 +13,8 @@ use crate::contact::Range;
 fn comes_by(one: u64, other: u64, t: u64, bound_one: u64, bound_other: u64, bound: u64) -> bool
     ensures { IsTrue result ↔ (place_number one other t ≤ place_number bound_one bound_other bound) }
 {
-    one < bound_one || (one == bound_one && (other < bound_other || (other == bound_other && t <= bound)))
+    one < bound_one
+        || (one == bound_one && (other < bound_other || (other == bound_other && t <= bound)))
 }
 
 /// Whether the range at a place comes by a pair and second.

@@ -52,7 +52,7 @@ returns c =
     let n = c.args.number in
     let test : c.loop-low.high ≤ c.loop-low.low = c.loop-low-test.false in
     found_nowhere cs n (λ k d within is.
-        elim (cases_lt k c.loop-low.low) [
-          | inl lt ↦ let below = c.loop-low.invariant.before k d within lt in omega (arith, below, is)
-          | inr le ↦ let above = c.loop-low.invariant.behind k d within (omega (arith, le, test)) in omega (arith, above, is)
-        ])
+    elim (cases_lt k c.loop-low.low) [
+      | inl lt ↦ let below = c.loop-low.invariant.before k d within lt in omega (arith, below, is)
+      | inr le ↦ let above = c.loop-low.invariant.behind k d within (omega (arith, le, test)) in omega (arith, above, is)
+    ])

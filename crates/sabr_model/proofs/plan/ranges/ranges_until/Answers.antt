@@ -33,10 +33,10 @@ loop-low-preserved c =
       before = c.loop-low.invariant.before;
       behind = λ k d above lt.
           let here : place_number c.args.one c.args.other c.args.t < number_of_range (get_or rs middle d) =
-                elim (cases_lt (place_number c.args.one c.args.other c.args.t) (number_of_range (get_or rs middle d))) [
-                  | inl less ↦ less
-                  | inr le ↦ absurd (both_ways c.range_comes_by.result c.if-range_comes_by.false ((c.range_comes_by.ensures d).1 le))
-                ] in
+          elim (cases_lt (place_number c.args.one c.args.other c.args.t) (number_of_range (get_or rs middle d))) [
+            | inl less ↦ less
+            | inr le ↦ absurd (both_ways c.range_comes_by.result c.if-range_comes_by.false ((c.range_comes_by.ensures d).1 le))
+          ] in
           elim (cases_order k middle) [
             | inl e ↦ let same : number_of_range (get_or rs k d) ≡ number_of_range (get_or rs middle d) = ap (λ i. number_of_range (get_or rs i d)) e in omega (arith, same, here)
             | inr (inl under) ↦ absurd (omega (arith, under, above))

@@ -1,0 +1,13 @@
+//! The plain listing: all routes gathered depth first, the best of them kept in order of their keys.
+#![tactic(auto)]
+
+mod hop;
+mod kept;
+mod next;
+mod page;
+#[cfg(test)]
+mod tests;
+mod walk;
+mod way;
+
+pub use page::{Page, first_routes};
