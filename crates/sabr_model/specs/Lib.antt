@@ -4,6 +4,7 @@ pub mod Table
 pub mod Tabled
 pub mod Adding
 pub mod Light
+pub mod RangeOrder
 pub mod Arrival
 pub mod Asking
 pub mod Route

@@ -7,6 +7,7 @@ mod delete;
 mod light;
 mod nodes;
 pub mod places;
+mod ranges;
 mod views;
 
 ghost use Rattle.std.specs.Prelude.{◌≡◌, []};

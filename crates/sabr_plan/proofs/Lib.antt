@@ -1,4 +1,13 @@
+pub mod Digits
+pub mod FirstWords
 pub mod Days
 pub mod Dates
 pub mod Spelling
 pub mod Seconds
+pub mod Lines
+pub mod Outcomes
+pub mod Held
+pub mod Feeds
+pub mod Consumed
+pub mod ReadSoFar
+pub mod Leaving

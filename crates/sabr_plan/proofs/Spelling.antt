@@ -4,8 +4,9 @@ use Rattle.std.proofs.lemmas.Bool.{and_parts}
 use Rattle.std.proofs.lemmas.Slice.Eq.{text_from_reads}
 use borrow.Author.Tests.{eqb-true, leb-true, le-leb}
 use Rattle.sabr_plan.specs.declared.time.TimeFields.{TimeFields}
+use Rattle.sabr_plan.specs.Digits.{is_digit}
 use Rattle.sabr_plan.specs.Times.{pair_at, spelled}
-use Rattle.sabr_plan.specs.TimeShape.{is_digit, is_pair, has_shape, fields_at, HasWidth}
+use Rattle.sabr_plan.specs.TimeShape.{is_pair, has_shape, fields_at, HasWidth}
 
 -- what two digits are of the number that they stand for
 pair_bytes : (word : List ℕ) (i : ℕ) → is_pair word i ≡ true → (get_or word i 0 ≡ 48 + pair_at word i / 10) × (get_or word (i + 1) 0 ≡ 48 + pair_at word i % 10) × (pair_at word i < 100)

@@ -1,2 +1,11 @@
+pub mod Steps
+pub mod Digits
 pub mod Times
 pub mod TimeShape
+pub mod Words
+pub mod Operands
+pub mod Commands
+pub mod Reading
+pub mod Leaving
+pub mod Feeding
+pub mod PlanRead

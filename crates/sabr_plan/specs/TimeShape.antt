@@ -1,11 +1,8 @@
 -- The shape of a time's text: digits in pairs, with bytes between them.
-use Rattle.std.specs.Prelude.{ℕ, ◌+◌, ◌*◌, ◌<◌, ◌==◌, nat_le, ◌&&◌, Bool, List, length, slice_index}
+use Rattle.std.specs.Prelude.{ℕ, ◌+◌, ◌*◌, ◌<◌, ◌==◌, ◌&&◌, Bool, List, length, slice_index}
+use Rattle.sabr_plan.specs.Digits.{is_digit}
 use Rattle.sabr_plan.specs.Times.{pair_at}
 use Rattle.sabr_plan.specs.declared.time.TimeFields.{TimeFields}
-
--- a byte is a digit
-abbrev pub is_digit : ℕ → Bool
-is_digit b = nat_le 48 b && nat_le b 57
 
 -- two digits stand from place i on
 abbrev pub is_pair : List ℕ → ℕ → Bool

@@ -1,0 +1,5 @@
+pub mod Numbers
+pub mod CommaPieces
+pub mod ListedNumbers
+pub mod TextsInTurn
+pub mod SpelledTimes

@@ -1,0 +1,44 @@
+-- Texts that a writer takes one behind the other.
+use Rattle.std.proofs.Common.{◌≡◌, ℕ, ◌+◌, ◌<◌, List, [], ◌∷◌, ◌++◌, Result, Ok, Err, Bor, map, length, get_or, take, drop, refl, sym, ap, ◌∙◌, append_assoc, append-nil, add-one, drop-cons, Option}
+use Rattle.std.specs.List.{concat}
+use Rattle.std.specs.Result.{IsErr}
+use Rattle.std.proofs.lemmas.List.{take_more, take-append-drop}
+use Rattle.std.proofs.lemmas.List.Folds.{concat-append}
+use Rattle.sabr_model.specs.Devices.{Written, WrittenInPart, WritesText}
+use Rattle.sabr_model.proofs.WrittenTexts.{Written-append, AppendsBeginning-after, AppendsBeginning-more}
+
+-- all of them, joined
+abbrev pub joined : List (Bor (List ℕ)) → List ℕ
+joined texts = concat (map (λ t. t.now) texts)
+
+pub joined-append : (xs ys : List (Bor (List ℕ))) → joined (xs ++ ys) ≡ joined xs ++ joined ys
+joined-append [] ys = refl
+joined-append (x ∷ xs) ys = ap (λ zs. x.now ++ zs) (joined-append xs ys) ∙ sym (append_assoc x.now (joined xs) (joined ys))
+
+-- one more of them
+pub joined-more : (xs : List (Bor (List ℕ))) (i : ℕ) (d : Bor (List ℕ)) → i < length xs
+    → joined (take (i + 1) xs) ≡ joined (take i xs) ++ (get_or xs i d).now
+joined-more xs i d h =
+    ap joined (take_more xs i d h) ∙ joined-append (take i xs) (get_or xs i d ∷ []) ∙ ap (λ z. joined (take i xs) ++ z) (append-nil (get_or xs i d).now)
+
+-- those before one of them, that one, and those behind it
+pub joined-at : (xs : List (Bor (List ℕ))) (i : ℕ) (d : Bor (List ℕ)) → i < length xs
+    → joined xs ≡ joined (take i xs) ++ ((get_or xs i d).now ++ joined (drop (i + 1) xs))
+joined-at xs i d h =
+    ap joined (sym (take-append-drop i xs)) ∙ joined-append (take i xs) (drop i xs)
+    ∙ ap (λ z. joined (take i xs) ++ joined z) (drop-cons xs i d h ∙ ap (λ k. get_or xs i d ∷ drop k xs) (sym (add-one i)))
+
+-- one more text was taken
+pub Written-more : (a b c : Option (List ℕ)) (k m n : ℕ) (xs : List (Bor (List ℕ))) (i : ℕ) (d : Bor (List ℕ)) (text : List ℕ) → i < length xs
+    → text ≡ (get_or xs i d).now → Written a k (joined (take i xs)) b m → Written b m text c n → Written a k (joined (take (i + 1) xs)) c n
+Written-more a b c k m n xs i d text h e p q = rw (joined-more xs i d h) (Written-append a b c k m n (joined (take i xs)) _ p (rw e at q))
+
+-- the writer failed in one of the texts
+pub WritesText-in : {A E : Type 0} (a b c : Option (List ℕ)) (k m n : ℕ) (xs : List (Bor (List ℕ))) (i : ℕ) (d : Bor (List ℕ)) (text : List ℕ)
+    (r : Result A E) → IsErr r → i < length xs → text ≡ (get_or xs i d).now → Written a k (joined (take i xs)) b m → WrittenInPart b m text c n
+    → WritesText a k (joined xs) r c n
+WritesText-in a b c k m n xs i d text (Ok _) bad h e p q = absurd cc
+WritesText-in a b c k m n xs i d text (Err _) is h e p q =
+    let part : WrittenInPart b m (get_or xs i d).now c n = rw e at q in
+    rw (joined-at xs i d h)
+        (AppendsBeginning-after a b c (joined (take i xs)) _ p.0 (AppendsBeginning-more b c (get_or xs i d).now _ part.0), part.1 ∙ ap (λ j. j + 1) p.1)

@@ -1,0 +1,15 @@
+use Rattle.std.proofs.Common.{◌≡◌, ◌≤◌, map, length}
+use Rattle.std.specs.Option.{option_copied}
+use Rattle.cgrlist.specs.Words.{number_within, pieces_of, pieces_behind, all_of}
+use Rattle.cgrlist.proofs.ListedNumbers.{behind}
+use Rattle.cgrlist.proofs.lists.nodes_listed.Given as goal
+
+abbrev pub invariant-loop-rest : goal.invariant-loop-rest
+invariant-loop-rest l = record {
+  few : length l.nodes ≤ 16;
+  listed : all_of (map (number_within 1 18446744073709551615) (pieces_of l.text))
+    ≡ behind l.nodes (all_of (map (number_within 1 18446744073709551615) (pieces_behind (option_copied l.rest))));
+}
+
+abbrev pub decreases-loop-rest : goal.decreases-loop-rest
+decreases-loop-rest l = length (pieces_behind (option_copied l.rest))

@@ -1,0 +1,4 @@
+pub mod Words
+pub mod Values
+pub mod Messages
+pub mod Runs

@@ -1,0 +1,76 @@
+-- What is told on standard error where a run ends early, and the status that it ends with.
+use Rattle.std.specs.Prelude.{ℕ, ◌≡◌, ◌⊎◌, List, [], ◌∷◌, Option, decimal, codes}
+use Rattle.std.specs.List.{concat}
+use Rattle.sabr_model.specs.Devices.{Written, WrittenInPart}
+use Rattle.sabr_plan.specs.declared.fault.PlanKind.{PlanKind}
+use Rattle.sabr_plan.specs.declared.fault.PlanKind.TheVariants.{LineTooLong, BadByte, UnknownCommand, WrongOperands, BadTime, NoReference, BadNode, BadNumber, EmptyWindow, SelfPair, DuplicateContact, RangeOverlap, TooMany, Read, NoMemory, NothingToDelete}
+use Rattle.sabr_plan.specs.declared.fault.PlanFault.{PlanFault}
+use Rattle.cgrlist.specs.declared.status.Status.{Status}
+use Rattle.cgrlist.specs.declared.status.Status.TheVariants as status
+use Rattle.cgrlist.specs.declared.failure.Failure.{Failure}
+use Rattle.cgrlist.specs.declared.failure.Failure.TheVariants as failure
+use Rattle.cgrlist.specs.declared.value_fault.ValueFault.{ValueFault}
+use Rattle.cgrlist.specs.declared.value_fault.ValueFault.TheVariants as value
+use Rattle.cgrlist.specs.Values.{name_text}
+
+-- a kind of a bad line, by its name
+abbrev pub kind_text : PlanKind → List ℕ
+kind_text LineTooLong = codes "LineTooLong"
+kind_text BadByte = codes "BadByte"
+kind_text UnknownCommand = codes "UnknownCommand"
+kind_text WrongOperands = codes "WrongOperands"
+kind_text BadTime = codes "BadTime"
+kind_text NoReference = codes "NoReference"
+kind_text BadNode = codes "BadNode"
+kind_text BadNumber = codes "BadNumber"
+kind_text EmptyWindow = codes "EmptyWindow"
+kind_text SelfPair = codes "SelfPair"
+kind_text DuplicateContact = codes "DuplicateContact"
+kind_text RangeOverlap = codes "RangeOverlap"
+kind_text TooMany = codes "TooMany"
+kind_text Read = codes "Read"
+kind_text NoMemory = codes "NoMemory"
+kind_text NothingToDelete = codes "NothingToDelete"
+
+-- the failure that a refused plan is: a failed reader and refused memory aren't a line's fault
+abbrev pub failure_of_kind : PlanFault → PlanKind → Failure
+failure_of_kind fault Read = failure.PlanRead
+failure_of_kind fault NoMemory = failure.NoMemory
+failure_of_kind fault _ = failure.PlanLine fault
+
+abbrev pub failure_of_plan : PlanFault → Failure
+failure_of_plan fault = failure_of_kind fault fault.kind
+
+-- the failure that refused values are
+abbrev pub failure_of_values : ValueFault → Failure
+failure_of_values (value.Bad name) = failure.BadValue name
+failure_of_values value.SameNode = failure.SameNode
+failure_of_values value.NoMemory = failure.NoMemory
+failure_of_values value.BadAvoid = failure.BadAvoid
+
+-- the line that tells a failure
+abbrev pub message_text : Failure → List ℕ
+message_text (failure.BadValue name) = concat (codes "cgrlist: bad --" ∷ name_text name ∷ codes "\n" ∷ [])
+message_text failure.SameNode = codes "cgrlist: request: SameNode\n"
+message_text failure.BadAvoid = codes "cgrlist: request: BadAvoid\n"
+message_text failure.CannotOpenPlan = codes "cgrlist: cannot open the plan\n"
+message_text (failure.PlanLine fault) =
+    concat (codes "cgrlist: plan line " ∷ decimal fault.line ∷ codes ": " ∷ kind_text fault.kind ∷ codes "\n" ∷ [])
+message_text failure.PlanRead = codes "cgrlist: plan: read failed\n"
+message_text failure.Write = codes "cgrlist: write failed\n"
+message_text failure.NoMemory = codes "cgrlist: no memory\n"
+
+-- the status that a failure ends with
+abbrev pub status_of : Failure → Status
+status_of (failure.BadValue name) = status.Usage
+status_of failure.SameNode = status.Usage
+status_of failure.BadAvoid = status.Usage
+status_of failure.CannotOpenPlan = status.Io
+status_of (failure.PlanLine fault) = status.Plan
+status_of failure.PlanRead = status.Io
+status_of failure.Write = status.Io
+status_of failure.NoMemory = status.Memory
+
+-- the text was taken, or a beginning of it by a writer that failed
+abbrev pub TellsText : Option (List ℕ) → ℕ → List ℕ → Option (List ℕ) → ℕ → Type 0
+TellsText old before text new after = Written old before text new after ⊎ WrittenInPart old before text new after

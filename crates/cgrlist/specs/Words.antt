@@ -1,0 +1,42 @@
+-- What the texts of the command line spell.
+use Rattle.std.specs.Prelude.{ℕ, ◌+◌, ◌==◌, nat_le, ◌&&◌, List, [], ◌∷◌, length, decimal, option_map, option_and_then, map, if◌then◌else◌}
+use Rattle.std.specs.Str.{bytes_eq}
+use Rattle.std.specs.Str.Parse.{digits_value}
+use Rattle.std.specs.declared.option.Option.{Option}
+use Rattle.std.specs.declared.option.Option.TheVariants.{Some, None}
+
+-- the number that the text spells, decimal without a sign or leading zero, where it lies within these bounds
+unfoldable pub number_within : ℕ → ℕ → List ℕ → Option ℕ
+number_within low high text =
+    let n = digits_value 10 text in
+    if bytes_eq text (decimal n) && nat_le low n && nat_le n high then Some n else None
+
+-- the piece that a byte goes on with
+abbrev pub with_byte : ℕ → List (List ℕ) → List (List ℕ)
+with_byte b [] = (b ∷ []) ∷ []
+with_byte b (piece ∷ pieces) = (b ∷ piece) ∷ pieces
+
+-- the pieces of a text between its commas
+abbrev pub pieces_of : List ℕ → List (List ℕ)
+pieces_of [] = [] ∷ []
+pieces_of (b ∷ text) = if b == 44 then [] ∷ pieces_of text else with_byte b (pieces_of text)
+
+-- the pieces of what stands behind a comma, if there is one
+abbrev pub pieces_behind : Option (List ℕ) → List (List ℕ)
+pieces_behind None = []
+pieces_behind (Some text) = pieces_of text
+
+-- the values of all, where each has one
+abbrev pub all_of : List (Option ℕ) → Option (List ℕ)
+all_of [] = Some []
+all_of (None ∷ os) = None
+all_of (Some n ∷ os) = option_map (λ ns. n ∷ ns) (all_of os)
+
+-- the numbers that a text lists, parted by single commas, each within these bounds
+unfoldable pub numbers_within : ℕ → ℕ → List ℕ → Option (List ℕ)
+numbers_within low high text = all_of (map (number_within low high) (pieces_of text))
+
+-- the nodes that a text lists, at most 16 of them
+unfoldable pub nodes_listed : List ℕ → Option (List ℕ)
+nodes_listed text =
+    option_and_then (λ nodes. if nat_le (length nodes) 16 then Some nodes else None) (numbers_within 1 18446744073709551615 text)

@@ -1,0 +1,29 @@
+//! The program `cgrlist`: lists the routes of a contact plan, best first.
+#![tactic(auto)]
+
+mod command_line;
+mod failure;
+mod first_piece;
+mod lists;
+mod messages;
+mod number;
+mod program;
+mod request_words;
+mod runs;
+mod status;
+#[cfg(test)]
+mod tests;
+mod value_fault;
+mod value_name;
+mod values;
+
+use program::run_arguments;
+use sabr_model::Device;
+use std::process::ExitCode;
+
+fn main(rt: HostRuntime) -> ExitCode {
+    let mut out = Device::new(rt.stdout());
+    let mut err = Device::new(rt.stderr());
+    let status = run_arguments(&rt, &mut out, &mut err);
+    ExitCode::from(status as u8)
+}

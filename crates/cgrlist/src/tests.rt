@@ -1,0 +1,7 @@
+//! Runs of the program over files, readers and writers.
+
+mod devices;
+mod listings;
+mod plans;
+mod refusals;
+mod running;

@@ -1,0 +1,35 @@
+//! The plans of the tests.
+
+/// Four contacts between three nodes.
+pub const PLAN_A: &str = "\
+@ 2030/01/01-00:00:00\n\
+a range +0 +1000 1 2 10\n\
+a range +0 +1000 2 3 5\n\
+a range +0 +1000 1 3 40\n\
+a contact +0 +100 1 2 1000\n\
+a contact +20 +60 2 3 1000\n\
+a contact +50 +90 1 3 1000\n\
+a contact +0 +200 2 3 1000\n";
+
+/// Five contacts between four nodes, without light time.
+pub const PLAN_B: &str = "\
+@ 2030/01/01-00:00:00\n\
+a range +0 +1000 1 2 0\n\
+a range +0 +1000 2 3 0\n\
+a range +0 +1000 1 3 0\n\
+a range +0 +1000 1 4 0\n\
+a range +0 +1000 3 4 0\n\
+a contact +0 +100 1 2 1000\n\
+a contact +10 +100 2 3 1000\n\
+a contact +10 +100 1 3 1000\n\
+a contact +0 +100 1 4 1000\n\
+a contact +10 +100 4 3 1000\n";
+
+/// What makes plan C of plan B.
+pub const MORE_OF_C: &str = "\
+a range +0 +1000 2 4 0\n\
+a contact +0 +100 2 4 1000\n\
+a contact +0 +100 4 2 1000\n";
+
+/// The reference of the plans above.
+pub const REFERENCE: &str = "@ 2030/01/01-00:00:00\n";

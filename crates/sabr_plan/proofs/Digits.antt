@@ -1,0 +1,144 @@
+-- Digits and the number that they stand for.
+use Rattle.std.proofs.Common.{◌≡◌, ℕ, suc, ◌+◌, ◌-◌, ◌*◌, ◌^◌, ◌<◌, ◌≤◌, Bool, true, false, ◌&&◌, List, [], ◌∷◌, ◌++◌, length, take, drop, get_or, refl, sym, ap, ◌∙◌, subst, arith, rules, fold}
+use Rattle.std.specs.List.{list_all}
+use Rattle.std.proofs.lemmas.List.{take_more, take-append-drop}
+use Rattle.std.proofs.lemmas.List.Sums.{fold_more}
+use Rattle.std.proofs.lemmas.List.Folds.{list_all-append, list_all_at}
+use Rattle.std.proofs.lemmas.Bool.Decides.{nat_tests}
+use Rattle.std.proofs.Math.Bool.{and-false}
+use Rattle.std.proofs.Math.Nat.{mul-le-mul_right, pow-suc, pow-le-pow_right}
+use borrow.Author.Tests.{le-leb, lt-ltb, le-ltb, ltb-false, ltb-true, lt-leb}
+use Rattle.std.specs.Prelude.{not, nat_lt, nat_le, Option, Some, None, Result, IfOk, ok_or, cond, if◌then◌else◌}
+use Rattle.std.proofs.lemmas.Bool.{and_parts}
+use borrow.Author.Tests.{leb-true}
+use Rattle.std.specs.Option.{option_and_then}
+use Rattle.sabr_plan.specs.Digits.{is_digit, are_digits, leads_with_zero, digits_value, number_between}
+
+with_digit : ℕ → ℕ → ℕ
+with_digit n b = n * 10 + (b - 48)
+
+fold_from : (ys : List ℕ) (n : ℕ) → n ≤ fold (λ n b. n * 10 + (b - 48)) n ys
+fold_from [] n = omega arith
+fold_from (y ∷ ys) n = omega (arith, fold_from ys (n * 10 + (y - 48)))
+
+fold-append : (xs ys : List ℕ) (n : ℕ) → fold (λ n b. n * 10 + (b - 48)) n (xs ++ ys) ≡ fold (λ n b. n * 10 + (b - 48)) (fold (λ n b. n * 10 + (b - 48)) n xs) ys
+fold-append [] ys n = refl
+fold-append (x ∷ xs) ys n = fold-append xs ys (n * 10 + (x - 48))
+
+-- one digit more
+pub digits_value-push : (xs : List ℕ) (b : ℕ) → digits_value (xs ++ b ∷ []) ≡ digits_value xs * 10 + (b - 48)
+unfolding digits_value
+digits_value-push xs b = fold-append xs (b ∷ []) 0
+
+-- more digits never make less
+pub digits_value_grows : (xs ys : List ℕ) → digits_value xs ≤ digits_value (xs ++ ys)
+unfolding digits_value
+digits_value_grows xs ys = rw (fold-append xs ys 0) (fold_from ys _)
+
+-- the digits up to a place, and the next
+pub take_digit : (xs : List ℕ) (i : ℕ) → i < length xs → digits_value (take (i + 1) xs) ≡ digits_value (take i xs) * 10 + (get_or xs i 0 - 48)
+take_digit xs i h = rw (take_more xs i 0 h) (digits_value-push (take i xs) (get_or xs i 0))
+
+-- digits up to a place make no more than all
+pub take_grows : (xs : List ℕ) (i : ℕ) → digits_value (take i xs) ≤ digits_value xs
+take_grows xs i = subst (λ (ys : List ℕ). digits_value (take i xs) ≤ digits_value ys) (take-append-drop i xs) (digits_value_grows (take i xs) (drop i xs))
+
+-- all digits up to a place and the next are all up to the next
+pub take_digits : (xs : List ℕ) (i : ℕ) → i < length xs → list_all is_digit (take i xs) ≡ true → is_digit (get_or xs i 0) ≡ true → list_all is_digit (take (i + 1) xs) ≡ true
+take_digits xs i h all one =
+    rw (take_more xs i 0 h, list_all-append is_digit (take i xs) (get_or xs i 0 ∷ []), all, one) refl
+
+-- the number that digits stand for, below 2^64
+abbrev pub small_value : List ℕ → Option ℕ
+small_value word = if are_digits word && nat_lt (digits_value word) 18446744073709551616 then Some (digits_value word) else None
+
+-- it is none where a byte is no digit
+pub small_value_none : (xs : List ℕ) (i : ℕ) → i < length xs → is_digit (get_or xs i 0) ≡ false → small_value xs ≡ None
+small_value_none xs i h other = rw (list_all_at is_digit xs i 0 h other, and-false (nat_lt 0 (length xs))) refl
+
+-- or where the digits up to a place stand for too much
+pub small_value_over : (xs : List ℕ) (i : ℕ) → i < length xs → 18446744073709551616 ≤ digits_value (take i xs) * 10 + (get_or xs i 0 - 48) → small_value xs ≡ None
+small_value_over xs i h over =
+    let grows : digits_value (take (i + 1) xs) ≤ digits_value xs = take_grows xs (i + 1) in
+    let more = take_digit xs i h in
+    let big : 18446744073709551616 ≤ digits_value xs = omega arith in
+    rw (le-ltb _ _ big, and-false (are_digits xs)) refl
+
+-- and else the number
+pub small_value_some : (xs : List ℕ) → 0 < length xs → list_all is_digit xs ≡ true → digits_value xs < 18446744073709551616 → small_value xs ≡ Some (digits_value xs)
+small_value_some xs some all h = rw (lt-ltb _ _ some, all, lt-ltb _ _ h) refl
+
+-- a test after another, where the other may be weaker than the first
+pick : (a s : Bool) (n : ℕ) (f : ℕ → Bool) → (s ≡ false → f n ≡ false) → (if a && f n then Some n else None) ≡ option_and_then (λ v. if f v then Some v else None) (if a && s then Some n else None)
+pick false s n f h = refl
+pick true true n f h = refl
+pick true false n f h = rw (h refl) refl
+
+-- a number between is the number of the digits, where that fits
+pub number_between-small_value : (low high : ℕ) (word : List ℕ) → high < 18446744073709551616 → number_between low high word ≡ option_and_then (λ v. if not (leads_with_zero word) && nat_le low v && nat_le v high then Some v else None) (small_value word)
+unfolding number_between
+number_between-small_value low high word h =
+    pick (are_digits word) (nat_lt (digits_value word) 18446744073709551616) (digits_value word) (λ v. not (leads_with_zero word) && nat_le low v && nat_le v high)
+    (λ e. let big = ltb-false (digits_value word) 18446744073709551616 e in
+    let over : high < digits_value word = omega arith in
+    rw (lt-leb _ _ over) (and-false (not (leads_with_zero word) && nat_le low (digits_value word))))
+
+module _ (low high : ℕ) (word : List ℕ) (h : high < 18446744073709551616) where
+  pub between_none : small_value word ≡ None → number_between low high word ≡ None
+  between_none e = rw (number_between-small_value low high word h, e) refl
+
+  pub between_yes : (v : ℕ) → small_value word ≡ Some v → leads_with_zero word ≡ false → low ≤ v → v ≤ high → number_between low high word ≡ Some v
+  between_yes v e zero above below = rw (number_between-small_value low high word h, e, zero, le-leb _ _ above, le-leb _ _ below) refl
+
+  pub between_zero : (v : ℕ) → small_value word ≡ Some v → leads_with_zero word ≡ true → number_between low high word ≡ None
+  between_zero v e zero = rw (number_between-small_value low high word h, e, zero) refl
+
+  pub between_below : (v : ℕ) → small_value word ≡ Some v → v < low → number_between low high word ≡ None
+  between_below v e under = rw (number_between-small_value low high word h, e, lt-leb _ _ under, and-false (not (leads_with_zero word))) refl
+
+  pub between_above : (v : ℕ) → small_value word ≡ Some v → high < v → number_between low high word ≡ None
+  between_above v e over = rw (number_between-small_value low high word h, e, lt-leb _ _ over, and-false (not (leads_with_zero word) && nat_le low v)) refl
+
+-- a number between is between
+pub between_bounds : (low high : ℕ) (word : List ℕ) (n : ℕ) → number_between low high word ≡ Some n → (low ≤ n) × (n ≤ high)
+unfolding number_between
+between_bounds low high word n e =
+    let v = digits_value word in
+    let tests : Bool = not (leads_with_zero word) && nat_le low v && nat_le v high in
+    let both : Bool = are_digits word && tests in
+    (elim both as (λ b. both ≡ b → cond b (Some v) None ≡ Some n → (low ≤ n) × (n ≤ high)) [
+      | true ↦ λ is found.
+        let same : v ≡ n = cc in
+        let inner = and_parts (are_digits word) tests is in
+        let upper = and_parts (not (leads_with_zero word) && nat_le low v) (nat_le v high) inner.1 in
+        let lower = and_parts (not (leads_with_zero word)) (nat_le low v) upper.0 in
+        (rw same at (leb-true low v lower.1), rw same at (leb-true v high upper.1))
+      | false ↦ λ is found. cc
+    ]) refl e
+
+-- and so it is as an operand
+pub operand_bounds : {E : Type 0} (low high : ℕ) (word : List ℕ) (kind : E) (r : Result ℕ E) → r ≡ ok_or (number_between low high word) kind → IfOk r (λ n. (low ≤ n) × (n ≤ high))
+operand_bounds low high word kind r e =
+    rw e ((elim (number_between low high word) as (λ o. number_between low high word ≡ o → IfOk (ok_or o kind) (λ n. (low ≤ n) × (n ≤ high))) [
+      | Some n ↦ λ is. between_bounds low high word n is
+      | None ↦ λ is. tt
+    ]) refl)
+
+value_below : (xs : List ℕ) (n : ℕ) → list_all is_digit xs ≡ true → fold (λ n b. n * 10 + (b - 48)) n xs + 1 ≤ (n + 1) * 10 ^ length xs
+value_below [] n all = omega arith
+value_below (x ∷ xs) n all =
+    let both = and_parts (is_digit x) (list_all is_digit xs) all in
+    let digit = and_parts (nat_le 48 x) (nat_le x 57) both.0 in
+    let small : x ≤ 57 = leb-true x 57 digit.1 in
+    let rest = value_below xs (n * 10 + (x - 48)) both.1 in
+    let step : (n * 10 + (x - 48) + 1) * 10 ^ length xs ≤ ((n + 1) * 10) * 10 ^ length xs = mul-le-mul_right (10 ^ length xs) (omega arith) in
+    let power : (n + 1) * 10 ^ suc (length xs) ≡ ((n + 1) * 10) * 10 ^ length xs = rw (pow-suc 10 (length xs)) (omega arith) in
+    rw power (omega arith)
+
+-- twelve digits make less than 2^64
+pub few_digits : (xs : List ℕ) → list_all is_digit xs ≡ true → length xs ≤ 12 → digits_value xs < 18446744073709551616
+unfolding digits_value
+few_digits xs all short =
+    let below = value_below xs 0 all in
+    let power : 10 ^ length xs ≤ 10 ^ 12 = pow-le-pow_right (omega arith) short in
+    omega arith

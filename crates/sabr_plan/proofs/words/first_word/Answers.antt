@@ -1,0 +1,62 @@
+-- What stands before a blank, or the end of the text, is its first word.
+use Rattle.std.proofs.Common.{◌≡◌, ◌≢◌, ℕ, ◌+◌, ◌-◌, ◌<◌, ◌≤◌, Bool, true, false, cond, List, [], ◌∷◌, ◌++◌, length, take, drop, get_or, inl, inr, refl, sym, ap, ◌∙◌, subst, arith, rules, length-take, length-drop, get_or-drop, add-zero}
+use Rattle.std.specs.List.{All}
+use Rattle.std.proofs.lemmas.Bool.{cases_lt, false≢true}
+use Rattle.std.proofs.lemmas.List.{take-append-drop}
+use borrow.Author.Tests.{lt-ltb, ltb-false}
+use Rattle.sabr_plan.specs.Words.{is_blank, has_bytes, words_of}
+use Rattle.sabr_plan.proofs.FirstWords.{first_is, words_of-nil}
+use Rattle.sabr_plan.proofs.words.first_word.Goals as goal
+use Rattle.sabr_plan.proofs.words.first_word.Goals.{then-loop-end-test+else-not-is_blank, else-loop-end-test}
+
+nil_is : (xs : List ℕ) → length xs ≡ 0 → xs ≡ []
+nil_is [] e = refl
+nil_is (x ∷ xs) e = absurd (omega arith)
+
+module _ (text : List ℕ) (end : ℕ) (range : end ≤ length text) (word : All (λ b. is_blank b ≡ false) (take end text)) (ends : end < length text → is_blank (get_or text end 0) ≡ true) (starts : 0 < length text → is_blank (get_or text 0 0) ≡ false) where
+  -- no word, no text
+  empty : end ≡ 0 → text ≡ []
+  empty e =
+      nil_is text (elim (cases_lt 0 (length text)) [
+        | inl some ↦ absurd (false≢true (sym (starts some) ∙ rw e at (ends (omega arith))))
+        | inr none ↦ omega arith
+      ])
+
+  long : length (take end text) ≡ end
+  long = omega (arith, length-take end text)
+
+  found : words_of text ≡ cond (has_bytes (take end text)) (take end text ∷ words_of (drop end text)) []
+  found =
+      elim (cases_lt 0 end) [
+        | inl some ↦
+          let first = first_is (take end text) (drop end text) (omega (arith, long)) word (λ h. rw (get_or-drop, add-zero) (ends (omega (arith, length-drop end text)))) in
+          rw (lt-ltb 0 (length (take end text)) (omega (arith, long))) (sym (ap words_of (take-append-drop end text)) ∙ first)
+        | inr none ↦
+          let e : end ≡ 0 = omega arith in
+          let no_text = empty e in
+          rw (e, no_text) words_of-nil
+      ]
+
+  nothing : has_bytes (take end text) ≡ false → words_of (drop end text) ≡ []
+  nothing h =
+      let short = ltb-false 0 (length (take end text)) h in
+      let e : end ≡ 0 = omega (arith, long) in
+      let no_text = empty e in
+      rw (e, no_text) words_of-nil
+
+stops : (c : goal.After-split_at) → c.loop-end.end < length c.skip_blanks-text.result.now → is_blank (get_or c.skip_blanks-text.result.now c.loop-end.end 0) ≡ true
+stops c h =
+    elim c.loop-end-test.branch [
+      | then-loop-end-test+else-not-is_blank w ↦ sym w.is_blank.ensures ∙ w.if-not-is_blank.false
+      | else-loop-end-test w ↦ absurd (omega (arith, w.loop-end-test.false))
+    ]
+
+pub returns-clause-words : goal.returns-clause-words
+returns-clause-words c =
+    let h = c.split_at.ensures in
+    sym c.skip_blanks-text.ensures.words ∙ rw (h.front, h.back) (found c.skip_blanks-text.result.now c.loop-end.end c.loop-end.invariant.in_range c.loop-end.invariant.word (stops c) c.skip_blanks-text.ensures.start)
+
+pub returns-clause-none : goal.returns-clause-none
+returns-clause-none c none =
+    let h = c.split_at.ensures in
+    rw h.back (nothing c.skip_blanks-text.result.now c.loop-end.end c.loop-end.invariant.in_range c.loop-end.invariant.word (stops c) c.skip_blanks-text.ensures.start (rw h.front at none))

@@ -1,0 +1,53 @@
+-- The operands of a plan line: times, nodes, rates and light times.
+use Rattle.std.specs.Prelude.{ℕ, ◌+◌, ◌==◌, nat_le, ◌&&◌, List, [], ◌∷◌, length, Result, Ok, Err, ok_or, if◌then◌else◌}
+use Rattle.std.specs.declared.option.Option.{Option}
+use Rattle.std.specs.declared.option.Option.TheVariants.{Some, None}
+use Rattle.sabr_model.specs.Plan.{last_time}
+use Rattle.sabr_plan.specs.Digits.{are_digits, digits_value, number_between}
+use Rattle.sabr_plan.specs.Times.{time_of}
+use Rattle.sabr_plan.specs.declared.fault.PlanKind.{PlanKind}
+use Rattle.sabr_plan.specs.declared.fault.PlanKind.TheVariants.{BadTime, NoReference, BadNode, BadNumber}
+use Rattle.sabr_plan.specs.declared.command.Target.{Target}
+use Rattle.sabr_plan.specs.declared.command.Target.TheVariants.{Contact, Range}
+
+-- the seconds of a relative time: `+` and one to twelve digits
+abbrev pub relative_of : List ℕ → Option ℕ
+relative_of [] = None
+relative_of (b ∷ digits) = if (b == 43) && are_digits digits && nat_le (length digits) 12 then Some (digits_value digits) else None
+
+-- that many seconds after the reference
+abbrev pub after_reference : Option ℕ → ℕ → Result ℕ PlanKind
+after_reference None seconds = Err NoReference
+after_reference (Some reference) seconds = if nat_le (reference + seconds) last_time then Ok (reference + seconds) else Err BadTime
+
+abbrev pub absolute_time : List ℕ → Result ℕ PlanKind
+absolute_time word = ok_or (time_of word) BadTime
+
+-- a time operand, relative or absolute
+unfoldable pub time_at : Option ℕ → List ℕ → Result ℕ PlanKind
+time_at reference word = elim (relative_of word) [ Some seconds ↦ after_reference reference seconds | None ↦ absolute_time word ]
+
+-- a node operand
+abbrev pub node_of : List ℕ → Result ℕ PlanKind
+node_of word = ok_or (number_between 1 18446744073709551615 word) BadNode
+
+-- the greatest rate of a contact, in bytes a second, and light time of a range, in seconds
+abbrev pub greatest_value : Target → ℕ
+greatest_value Contact = 18446744073709551615
+greatest_value Range = 1000000
+
+-- a rate or a light time
+abbrev pub value_of : Target → List ℕ → Result ℕ PlanKind
+value_of target word = ok_or (number_between 0 (greatest_value target) word) BadNumber
+
+-- of two refusals of times, BadTime comes first
+abbrev pub lesser_kind : PlanKind → PlanKind → PlanKind
+lesser_kind BadTime g = BadTime
+lesser_kind f g = g
+
+-- both, or the lesser refusal
+abbrev pub both_of : Result ℕ PlanKind → Result ℕ PlanKind → Result (ℕ × ℕ) PlanKind
+both_of (Ok a) (Ok b) = Ok (a, b)
+both_of (Ok a) (Err g) = Err g
+both_of (Err f) (Ok b) = Err f
+both_of (Err f) (Err g) = Err (lesser_kind f g)

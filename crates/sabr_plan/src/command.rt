@@ -1,0 +1,174 @@
+//! What a line of a plan text says.
+
+ghost use Rattle.std.specs.Prelude.{◌≡◌, ◌<◌, ◌≤◌, Ok, Err, IfOk};
+ghost use Rattle.sabr_plan.specs.Words.{words_of};
+ghost use Rattle.sabr_plan.specs.Commands.{line_command, command_of, reference_of, target_of, targeted, addition_of, deletion_of, HasBounds};
+
+use crate::fault::PlanKind;
+use crate::operand::{absolute_time, both_of, node_of, time_at, value_of};
+use crate::words::{five_words, is_comment, is_plain, is_word, next_word, one_word, three_words};
+
+/// What a command adds or takes out.
+#[derive(Clone, Copy, Debug, PartialEq, Eq)]
+pub enum Target {
+    Contact,
+    Range,
+}
+
+/// The operands of `a contact` and `a range`: times in seconds, two nodes, and a rate or a light time.
+#[derive(Clone, Copy, Debug, PartialEq, Eq)]
+pub struct Addition {
+    pub start: u64,
+    pub end: u64,
+    pub first: u64,
+    pub second: u64,
+    pub value: u64,
+}
+
+/// The operands of `d contact` and `d range`.
+#[derive(Clone, Copy, Debug, PartialEq, Eq)]
+pub struct Deletion {
+    pub start: u64,
+    pub first: u64,
+    pub second: u64,
+}
+
+/// What a line says.
+#[derive(Clone, Copy, Debug, PartialEq, Eq)]
+pub enum Command {
+    Nothing,
+    SetReference(u64),
+    Add(Target, Addition),
+    Delete(Target, Deletion),
+}
+
+/// What a line says, or the least of its refusals. Times are relative to the reference.
+pub fn line_command(reference: Option<u64>, line: &[u8]) -> Result<Command, PlanKind>
+    ensures value { result ≡ line_command reference line.now }
+    ensures bounds { IfOk result HasBounds }
+{
+    if is_comment(line) {
+        return Ok(Command::Nothing);
+    }
+    if !is_plain(line) {
+        return Err(PlanKind::BadByte);
+    }
+    command_of(reference, line)
+}
+
+/// What the words of a line say.
+fn command_of(reference: Option<u64>, line: &[u8]) -> Result<Command, PlanKind>
+    ensures value { result ≡ command_of reference (words_of line.now) }
+    ensures bounds { IfOk result HasBounds }
+{
+    let Some((word, rest)) = next_word(line) else {
+        return Ok(Command::Nothing);
+    };
+    if is_word(word, b"@") {
+        reference_of(rest)
+    } else if is_word(word, b"a") {
+        add_command(reference, rest)
+    } else if is_word(word, b"d") {
+        delete_command(reference, rest)
+    } else {
+        Err(PlanKind::UnknownCommand)
+    }
+}
+
+/// The absolute time behind `@`.
+fn reference_of(text: &[u8]) -> Result<Command, PlanKind>
+    ensures value { result ≡ reference_of (words_of text.now) }
+    ensures bounds { IfOk result HasBounds }
+{
+    let Some(word) = one_word(text) else {
+        return Err(PlanKind::WrongOperands);
+    };
+    match absolute_time(word) {
+        Ok(time) => Ok(Command::SetReference(time)),
+        Err(kind) => Err(kind),
+    }
+}
+
+/// What the word behind `a` or `d` names.
+fn target_of(word: &[u8]) -> Option<Target>
+    ensures { result ≡ target_of word.now }
+{
+    if is_word(word, b"contact") {
+        Some(Target::Contact)
+    } else if is_word(word, b"range") {
+        Some(Target::Range)
+    } else {
+        None
+    }
+}
+
+/// What stands behind `a`.
+fn add_command(reference: Option<u64>, text: &[u8]) -> Result<Command, PlanKind>
+    ensures value { result ≡ targeted (addition_of reference) (words_of text.now) }
+    ensures bounds { IfOk result HasBounds }
+{
+    let Some((word, operands)) = next_word(text) else {
+        return Err(PlanKind::UnknownCommand);
+    };
+    match target_of(word) {
+        Some(target) => addition_of(reference, target, operands),
+        None => Err(PlanKind::UnknownCommand),
+    }
+}
+
+/// What stands behind `d`.
+fn delete_command(reference: Option<u64>, text: &[u8]) -> Result<Command, PlanKind>
+    ensures value { result ≡ targeted (deletion_of reference) (words_of text.now) }
+    ensures bounds { IfOk result HasBounds }
+{
+    let Some((word, operands)) = next_word(text) else {
+        return Err(PlanKind::UnknownCommand);
+    };
+    match target_of(word) {
+        Some(target) => deletion_of(reference, target, operands),
+        None => Err(PlanKind::UnknownCommand),
+    }
+}
+
+/// Start, stop, two nodes, and a rate or a light time.
+fn addition_of(reference: Option<u64>, target: Target, text: &[u8]) -> Result<Command, PlanKind>
+    ensures value { result ≡ addition_of reference target (words_of text.now) }
+    ensures bounds { IfOk result HasBounds }
+{
+    let Some((start, end, first, second, value)) = five_words(text) else {
+        return Err(PlanKind::WrongOperands);
+    };
+    let (start, end) = both_of(time_at(reference, start), time_at(reference, end))?;
+    let (first, second) = both_of(node_of(first), node_of(second))?;
+    let value = value_of(target, value)?;
+    Ok(Command::Add(
+        target,
+        Addition {
+            start,
+            end,
+            first,
+            second,
+            value,
+        },
+    ))
+}
+
+/// Start and two nodes.
+fn deletion_of(reference: Option<u64>, target: Target, text: &[u8]) -> Result<Command, PlanKind>
+    ensures value { result ≡ deletion_of reference target (words_of text.now) }
+    ensures bounds { IfOk result HasBounds }
+{
+    let Some((start, first, second)) = three_words(text) else {
+        return Err(PlanKind::WrongOperands);
+    };
+    let start = time_at(reference, start)?;
+    let (first, second) = both_of(node_of(first), node_of(second))?;
+    Ok(Command::Delete(
+        target,
+        Deletion {
+            start,
+            first,
+            second,
+        },
+    ))
+}

@@ -1,0 +1,65 @@
+//! Why a plan text is refused.
+
+use thiserror::Error;
+
+/// What is wrong with a line, or with the reader, in the order in which it is asked. Of one line the first
+/// that holds is told. All but what ionrc(5) says of the commands is this project's profile.
+#[derive(Clone, Copy, Debug, PartialEq, Eq, Error)]
+pub enum PlanKind {
+    /// The line has more than 255 bytes without its LF.
+    #[error("the line is too long")]
+    LineTooLong,
+    /// A line that is no comment has a byte other than tabs and the bytes 32 to 126.
+    #[error("the line has a byte that is not plain text")]
+    BadByte,
+    /// The line doesn't begin with `@`, `a contact`, `a range`, `d contact` or `d range`.
+    #[error("the command is unknown")]
+    UnknownCommand,
+    /// The command has too few or too many operands.
+    #[error("the number of operands is wrong")]
+    WrongOperands,
+    /// A time is in neither form, outside the years 1970 to 9998, or relative where it must be absolute.
+    #[error("a time is not one")]
+    BadTime,
+    /// A time is relative, and no `@` line stands before.
+    #[error("a relative time has no reference")]
+    NoReference,
+    /// A node is not a number from 1 to 18446744073709551615.
+    #[error("a node is not one")]
+    BadNode,
+    /// A rate is not a number up to 18446744073709551615, or a light time is not one up to 1000000.
+    #[error("a rate or a light time is not one")]
+    BadNumber,
+    /// The start isn't before the stop.
+    #[error("the window is empty")]
+    EmptyWindow,
+    /// The two nodes are one.
+    #[error("both nodes are the same")]
+    SelfPair,
+    /// A standing contact has the same start, sender and receiver.
+    #[error("such a contact stands")]
+    DuplicateContact,
+    /// A standing range of the same ordered pair of nodes shares a second.
+    #[error("a range of the same pair overlaps")]
+    RangeOverlap,
+    /// It would be contact number 20001, the 20001st standing range, or line 1000001.
+    #[error("too many contacts, ranges or lines")]
+    TooMany,
+    /// The reader failed.
+    #[error("reading failed")]
+    Read,
+    /// Memory was refused. Which line is named is open.
+    #[error("out of memory")]
+    NoMemory,
+    /// Nothing that stands is named.
+    #[error("there is nothing to delete")]
+    NothingToDelete,
+}
+
+/// The first bad line of a plan text, counted from 1, and what is wrong with it.
+#[derive(Clone, Copy, Debug, PartialEq, Eq, Error)]
+#[error("line {line}: {kind}")]
+pub struct PlanFault {
+    pub line: u32,
+    pub kind: PlanKind,
+}

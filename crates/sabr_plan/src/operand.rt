@@ -1,0 +1,92 @@
+//! The operands of a plan line.
+
+ghost use Rattle.std.specs.Prelude.{◌≡◌, ◌<◌, ◌≤◌, Some, None, Ok, Err, IfSome, IfOk};
+ghost use Rattle.sabr_model.specs.Plan.{last_time};
+ghost use Rattle.sabr_plan.specs.Operands.{relative_of, after_reference, absolute_time, time_at, node_of, greatest_value, value_of, both_of};
+
+use crate::command::Target;
+use crate::fault::PlanKind;
+use crate::number::{digits_value, number_between};
+use crate::time::{LAST_TIME, parse_time};
+
+/// The seconds of a relative time: `+` and one to twelve digits.
+fn relative_of(word: &[u8]) -> Option<u64>
+    ensures { result ≡ relative_of word.now }
+{
+    if word.is_empty() || word[0] != b'+' || word.len() > 13 {
+        return None;
+    }
+    digits_value(&word[1..])
+}
+
+/// That many seconds after the reference.
+fn after_reference(reference: Option<u64>, seconds: u64) -> Result<u64, PlanKind>
+    ensures { result ≡ after_reference reference seconds }
+{
+    let Some(reference) = reference else {
+        return Err(PlanKind::NoReference);
+    };
+    if reference <= LAST_TIME && seconds <= LAST_TIME - reference {
+        Ok(reference + seconds)
+    } else {
+        Err(PlanKind::BadTime)
+    }
+}
+
+/// An absolute time.
+pub fn absolute_time(word: &[u8]) -> Result<u64, PlanKind>
+    ensures value { result ≡ absolute_time word.now }
+    ensures bound { IfOk result (λ t. t ≤ last_time) }
+{
+    parse_time(word).ok_or(PlanKind::BadTime)
+}
+
+/// A time, absolute or relative to the reference.
+pub fn time_at(reference: Option<u64>, word: &[u8]) -> Result<u64, PlanKind>
+    ensures value { result ≡ time_at reference word.now }
+    ensures bound { IfOk result (λ t. t ≤ last_time) }
+{
+    match relative_of(word) {
+        Some(seconds) => after_reference(reference, seconds),
+        None => absolute_time(word),
+    }
+}
+
+/// A node.
+pub fn node_of(word: &[u8]) -> Result<u64, PlanKind>
+    ensures value { result ≡ node_of word.now }
+    ensures bound { IfOk result (λ n. 0 < n) }
+{
+    number_between(1, u64::MAX, word).ok_or(PlanKind::BadNode)
+}
+
+/// The greatest rate of a contact, in bytes a second, and light time of a range, in seconds.
+fn greatest_value(target: Target) -> u64
+    ensures { result ≡ greatest_value target }
+{
+    match target {
+        Target::Contact => u64::MAX,
+        Target::Range => 1000000,
+    }
+}
+
+/// A rate or a light time.
+pub fn value_of(target: Target, word: &[u8]) -> Result<u64, PlanKind>
+    ensures value { result ≡ value_of target word.now }
+    ensures bound { IfOk result (λ v. v ≤ greatest_value target) }
+{
+    number_between(0, greatest_value(target), word).ok_or(PlanKind::BadNumber)
+}
+
+/// Both, or the lesser refusal.
+pub fn both_of(first: Result<u64, PlanKind>, second: Result<u64, PlanKind>) -> Result<(u64, u64), PlanKind>
+    ensures { result ≡ both_of first second }
+{
+    match (first, second) {
+        (Ok(a), Ok(b)) => Ok((a, b)),
+        (Ok(_), Err(kind)) => Err(kind),
+        (Err(PlanKind::BadTime), _) => Err(PlanKind::BadTime),
+        (Err(kind), Ok(_)) => Err(kind),
+        (Err(_), Err(kind)) => Err(kind),
+    }
+}
