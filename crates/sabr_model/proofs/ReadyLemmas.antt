@@ -21,6 +21,7 @@ use Rattle.sabr_model.proofs.Without.{ends_of_found}
 pub not_ready : (p : TabledPlan) (hops : List Hop) (longest : List ℕ) → IsReady false p hops longest
 not_ready p hops longest = record { hops = λ e. absurd cc; longest = λ e. absurd cc }
 
+-- each receiver is one of the nodes
 receiver_there : (cs : List Contact) (k : ℕ) (d : Contact) → k < length cs → has (get_or cs k d).to (ends_of cs) ≡ true
 receiver_there [] k d lt = absurd (omega arith)
 receiver_there (c ∷ cs) zero d lt =
@@ -43,6 +44,7 @@ hops_of_ranges p table hops h =
 pub named_at : (p : ContactPlan) (n k : ℕ) (x : Contact) → (k < length p.contacts) × (contact_named p n ≡ slice_get p.contacts k) → x ≡ get_or p.contacts k x → contact_named p n ≡ Some x
 named_at p n k x here is = here.1 ∙ slice_get-get_or p.contacts k x here.0 ∙ ap Some (sym is)
 
+-- the receiver of a named contact is in the table
 pub receiver_of_named : {S A : Type 0} (p : ContactPlan) (table : IndexMap ℕ (Sent A) S) (n : ℕ) (x : Contact) → IsTableOf p.contacts table → contact_named p n ≡ Some x → has x.to (keys table) ≡ true
 receiver_of_named p table n x h named = has_node p.contacts table x.to h ∙ (ends_of_found p.contacts n x named).1
 
@@ -64,6 +66,7 @@ made_hop p table n x h named is =
 
 -- ---- contacts that have ended
 
+-- what is found stands at some place
 found_place : {X : Type 0} (t : X → Bool) (xs : List X) (x : X) → find t xs ≡ Some x → (i : ℕ) × (i < length xs) × (get_or xs i x ≡ x)
 found_place t [] x found = absurd cc
 found_place t (y ∷ ys) x found =
@@ -83,6 +86,7 @@ ended_by p table longest k node n at c none here named from early =
     let start : start_among p.contacts n ≡ c.start = ap (λ (o : Option Contact). option_map_or (λ x. x.start) o 0) named in
     omega (arith, bound, ends, starts, start, early)
 
+-- fewer of different numbers are different
 different_drop : (k : ℕ) (xs : List ℕ) → are_different xs ≡ true → are_different (drop k xs) ≡ true
 different_drop zero xs d = d
 different_drop (suc k) [] d = d
@@ -110,6 +114,7 @@ open_behind p q at ys first h within ended =
       rising = IsNonDecreasingBy-drop (start_named p) first ys h.rising;
     }
 
+-- to take as many as there are is to take all
 take_enough : {X : Type 0} (n : ℕ) (xs : List X) → length xs ≤ n → take n xs ≡ xs
 take_enough zero [] le = refl
 take_enough zero (x ∷ xs) le = absurd (omega arith)

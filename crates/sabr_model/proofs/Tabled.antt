@@ -24,20 +24,24 @@ use Rattle.sabr_model.proofs.Has.{eqb_flip, has_at}
 use Rattle.sabr_model.proofs.TableLemmas.{has_node}
 use Rattle.sabr_model.proofs.Without.{all_above}
 
+-- a number unequal to each is not in the list
 none_equal : (n : ℕ) (xs : List ℕ) → AllByRecursion (λ y. nat_eq n y ≡ false) xs → has n xs ≡ false
 none_equal n [] all = refl
 none_equal n (x ∷ xs) all = ap (λ b. b || has n xs) all.0 ∙ none_equal n xs all.1
 
+-- distinct numbers are different
 pub different_from_distinct : (xs : List ℕ) → IsDistinct nat_eq xs → are_different xs ≡ true
 unfolding IsDistinct
 different_from_distinct [] d = refl
 different_from_distinct (x ∷ xs) d = and_from (not (has x xs)) (are_different xs) (not_from_false (has x xs) (none_equal x xs d.0)) (different_from_distinct xs d.1)
 
+-- a plan shows its table of nodes
 pub is_tabled : {S A : Type 0} (p : ContactPlan) (table : IndexMap ℕ (Sent A) S) → IsTableOf p.contacts table → IsTabled (record { plan = p; table = keys table })
 is_tabled p table h = record { nodes = λ q. has_node p.contacts table q h; once = different_from_distinct (keys_of table.entries) h.unique }
 
 -- ---- the place of a node
 
+-- where nothing is found, none passes
 none_any : {X : Type 0} (p : X → Bool) (xs : List X) → find p xs ≡ None → list_any p xs ≡ false
 none_any p [] e = refl
 none_any p (x ∷ xs) e =
@@ -46,6 +50,7 @@ none_any p (x ∷ xs) e =
       | false ↦ λ h. none_any p xs h
     ] e
 
+-- a place that is found holds the node, and none means that it is missing
 pub index_tells : (xs : List ℕ) (n : ℕ) → MatchOption (position (nat_eq n) xs) (has n xs ≡ false) (λ k. slice_get xs k ≡ Some n)
 index_tells xs n = by (position (nat_eq n) xs) refl
   where
@@ -61,6 +66,7 @@ index_tells xs n = by (position (nat_eq n) xs) refl
         (false_from_ne_true (ltb (position_or_len (nat_eq n) xs) (length xs)) (λ t.
         let here : Some (position_or_len (nat_eq n) xs) ≡ None = sym (ap (λ b. cond b (Some (position_or_len (nat_eq n) xs)) None) t) ∙ e in absurd cc))))
 
+-- a node of the table is found
 pub index_of_member : (xs : List ℕ) (n : ℕ) (o : Option ℕ) → MatchOption o (has n xs ≡ false) (λ k. slice_get xs k ≡ Some n) → has n xs ≡ true → slice_get xs (unwrap_or o 0) ≡ Some n
 index_of_member xs n None h there = absurd (both_ways (has n xs) h there)
 index_of_member xs n (Some k) h there = h
@@ -110,6 +116,7 @@ number_sent (x ∷ cs) n c found =
 starts_not_fall : (s t u v : ℕ) → v < 2 ^ 64 → start_key s t ≤ start_key u v → s ≤ u
 starts_not_fall s t u v lt le = omega (arith, lt, le)
 
+-- the starts of a list by start do not fall
 starts_rise : (p : ContactPlan) (q : ℕ) (ys : List ℕ) → IsPlan p → IsStartList p.contacts q ys → IsNonDecreasingBy (start_named p) ys
 starts_rise p q ys h l i j d le lt =
     let a = sent_number 0 p.contacts q (get_or ys i d) h.numbers_rise (sym (l.members (get_or ys i d)) ∙ has_at ys i d (omega arith)) in
@@ -123,6 +130,7 @@ starts_rise p q ys h l i j d le lt =
     let starts = starts_not_fall a.0.start a.0.to b.0.start b.0.to to.1.1 (omega (arith, keys, key_a, key_b)) in
     omega (arith, starts, start_a, start_b)
 
+-- a list by start is an open list at any second
 pub is_open_list : (p : ContactPlan) (q at : ℕ) (ys : List ℕ) → IsPlan p → IsStartList p.contacts q ys → IsOpenList p q at ys
 is_open_list p q at ys h l =
     record {
@@ -137,6 +145,7 @@ is_open_list p q at ys h l =
 pub names_itself : (cs : List Contact) (n : ℕ) (c : Contact) → find (λ d. eqb d.number n) cs ≡ Some c → find (λ d. eqb d.number c.number) cs ≡ Some c
 names_itself cs n c found = subst (λ m. find (λ d. eqb d.number m) cs ≡ Some c) (sym (eqb-true c.number n (found_passes (λ d. eqb d.number n) cs c found))) found
 
+-- what stands at a place is in the list
 pub has_place : (xs : List ℕ) (k n : ℕ) → slice_get xs k ≡ Some n → has n xs ≡ true
 has_place [] k n e = absurd cc
 has_place (x ∷ xs) zero n e = let same : n ≡ x = cc in or_left (eqb n x) (has n xs) (eq-eqb n x same)
