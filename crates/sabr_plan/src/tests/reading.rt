@@ -31,20 +31,27 @@ fn the_first_bad_line_is_told(rt: HostRuntime) {
 
 #[test]
 fn of_one_line_the_least_kind_is_told(rt: HostRuntime) {
+    for (line, kind) in [
+        (b"a contact +0 +10 1 2 5 1".as_slice(), PlanKind::WrongOperands),
+        (b"a contact +10 +10 1 2 5".as_slice(), PlanKind::EmptyWindow),
+        (b"a contact +10 +10 0 2 5".as_slice(), PlanKind::BadNode),
+        (b"a contact +0 +10 0 0 5".as_slice(), PlanKind::BadNode),
+        (b"a range +0 +10 3 3 1".as_slice(), PlanKind::SelfPair),
+        (b"a range +0 +10 1 2 1000001".as_slice(), PlanKind::BadNumber),
+        (b"@ +5".as_slice(), PlanKind::BadTime),
+        (b"a contact +0 +0000000000005 1 2 5".as_slice(), PlanKind::BadTime),
+        (b"a contact +0 * 1 2 5".as_slice(), PlanKind::BadTime),
+        (b"a contact +0 +5 1 2 18446744073709551616".as_slice(), PlanKind::BadNumber),
+        (b"a contact +0 +5 1 02 1".as_slice(), PlanKind::BadNode),
+        (b"a contact +0 +5 1 2 1\r".as_slice(), PlanKind::BadByte),
+    ] {
+        assert_eq!(rt; fault_behind_reference(rt.alloc(), line), Some((2, kind)));
+    }
+}
+
+#[test]
+fn a_reference_is_a_time(rt: HostRuntime) {
     let alloc = rt.alloc();
-    assert_eq!(rt; fault_behind_reference(alloc, b"a contact +0 +10 1 2 5 1"), Some((2, PlanKind::WrongOperands)));
-    assert_eq!(rt; fault_behind_reference(alloc, b"a contact +10 +10 1 2 5"), Some((2, PlanKind::EmptyWindow)));
-    assert_eq!(rt; fault_behind_reference(alloc, b"a contact +10 +10 0 2 5"), Some((2, PlanKind::BadNode)));
-    assert_eq!(rt; fault_behind_reference(alloc, b"a contact +0 +10 0 0 5"), Some((2, PlanKind::BadNode)));
-    assert_eq!(rt; fault_behind_reference(alloc, b"a range +0 +10 3 3 1"), Some((2, PlanKind::SelfPair)));
-    assert_eq!(rt; fault_behind_reference(alloc, b"a range +0 +10 1 2 1000001"), Some((2, PlanKind::BadNumber)));
-    assert_eq!(rt; fault_behind_reference(alloc, b"@ +5"), Some((2, PlanKind::BadTime)));
-    assert_eq!(rt; fault_behind_reference(alloc, b"a contact +0 +0000000000005 1 2 5"), Some((2, PlanKind::BadTime)));
-    assert_eq!(rt; fault_behind_reference(alloc, b"a contact +0 * 1 2 5"), Some((2, PlanKind::BadTime)));
-    assert_eq!(rt; fault_behind_reference(alloc, b"a contact +0 +05 1 2 18446744073709551615"), None);
-    assert_eq!(rt; fault_behind_reference(alloc, b"a contact +0 +05 1 2 18446744073709551616"), Some((2, PlanKind::BadNumber)));
-    assert_eq!(rt; fault_behind_reference(alloc, b"a contact +0 +05 1 02 1"), Some((2, PlanKind::BadNode)));
-    assert_eq!(rt; fault_behind_reference(alloc, b"a contact +0 +05 1 2 1\r"), Some((2, PlanKind::BadByte)));
     assert_eq!(rt; fault_of(alloc, b"a contact +0 x 1 2 5"), Some((1, PlanKind::BadTime)));
     assert_eq!(rt; fault_of(alloc, b"@ 2030/02/29-00:00:00"), Some((1, PlanKind::BadTime)));
     assert_eq!(rt; fault_of(alloc, b"@ 2032/02/29-00:00:00"), None);
@@ -84,14 +91,14 @@ fn lines_have_their_limits(rt: HostRuntime) -> Result<(), Fail> {
 #[test]
 fn a_text_that_breaks_off_is_judged_as_far_as_it_goes(rt: HostRuntime) -> Result<(), Fail> {
     let alloc = rt.alloc();
-    let mut ended = 0;
+    let mut line: u32 = 1;
     for length in 0..=PLAN_A.len() {
         let front = &PLAN_A[..length];
         if front.last() == Some(&b'\n') {
-            ended += 1;
+            line = line.saturating_add(1);
         }
-        let fault = read_in_pieces(alloc, front, 5, End::Fails).err().map(|f| (f.line, f.kind));
-        assert_eq!(rt; fault, Some((ended + 1, PlanKind::Read)));
+        let fault = read_in_pieces(alloc, front, 5, End::Fails).err();
+        assert_eq!(rt; fault.map(|f| (f.line, f.kind)), Some((line, PlanKind::Read)));
     }
     let first = PLAN_A.len() - 108;
     assert_eq!(rt; fault_of(alloc, &PLAN_A[..first + 5]), Some((5, PlanKind::UnknownCommand)));
