@@ -33,9 +33,9 @@ number_within-spelled low high text n h e =
 refused : (low high n : ℕ) (b : Bool) → (b ≡ true → n ≤ high → ⊥) → cond (b && leb low n && leb n high) (Some n) None ≡ None
 refused low high n false none = refl
 refused low high n true none = elim (leb low n) as (λ c. cond (c && leb n high) (Some n) None ≡ None) [
-    | false ↦ refl
-    | true ↦ within (leb n high) refl
-  ]
+  | false ↦ refl
+  | true ↦ within (leb n high) refl
+]
   where
     within : (c : Bool) → leb n high ≡ c → cond c (Some n) None ≡ None
     within false e = refl
@@ -46,7 +46,7 @@ pub number_within-unspelled : (low high : ℕ) (text : List ℕ) → high < 2 ^ 
 unfolding number_within
 number_within-unspelled low high text h none =
     refused low high (digits_value 10 text) (bytes_eq text (decimal (digits_value 10 text)))
-        (λ same le. none (digits_value 10 text) (omega arith) (is_text text (decimal (digits_value 10 text)) same))
+    (λ same le. none (digits_value 10 text) (omega arith) (is_text text (decimal (digits_value 10 text)) same))
   where
     is_text : (xs ys : List ℕ) → bytes_eq xs ys ≡ true → xs ≡ ys
     is_text xs ys e = (bytes_eq-Decides xs ys).0 e
@@ -78,6 +78,7 @@ number_within-range low high text n e = ranged (bytes_eq text (decimal m)) (leb 
   where
     m : ℕ
     m = digits_value 10 text
+
     ranged : (a b : Bool) → leb low m ≡ b → (d : Bool) → leb m high ≡ d → cond (a && b && d) (Some m) None ≡ Some n → (low ≤ n) × (n ≤ high)
     ranged false b eb d ed e = absurd cc
     ranged true false eb d ed e = absurd cc

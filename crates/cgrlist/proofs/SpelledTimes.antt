@@ -33,6 +33,7 @@ pair_light p one other t l h e = at (find test p.ranges) refl e
   where
     test : Range → Bool
     test = λ r. eqb r.one one && eqb r.other other && is_within r.start r.end t
+
     at : (found : Option Range) → find test p.ranges ≡ found → option_map (λ r. r.light) found ≡ Some l → l ≤ 1000000
     at None is e = absurd cc
     at (Some r) is e =
@@ -48,7 +49,7 @@ either_light None b l f g e = g l e
 light_bound : (p : ContactPlan) (c : Contact) (l : ℕ) → IsPlan p → light_of p c ≡ Some l → l ≤ 1000000
 light_bound p c l h e =
     either_light (light_of_pair p.ranges c.from c.to c.start) _ l (λ x is. pair_light p c.from c.to c.start x h is)
-        (λ x is. other (nat_lt c.to c.from) x is) e
+    (λ x is. other (nat_lt c.to c.from) x is) e
   where
     other : (b : Bool) (x : ℕ) → cond b (light_of_pair p.ranges c.to c.from c.start) None ≡ Some x → x ≤ 1000000
     other true x is = pair_light p c.to c.from c.start x h is
@@ -86,6 +87,7 @@ after_bound p r t d (n ∷ s) h hm ht e = named (contact_named p n) refl (λ u h
         → option_and_then (λ u. arrival_after p r u s) o ≡ Some d → d ≤ last_time + 2000000
     arrived c None is he on e = absurd cc
     arrived c (Some u) is he on e = on u (arrival_bound p r t u c h hm he is) e
+
     named : (o : Option Contact) → contact_named p n ≡ o → ((u : ℕ) → u ≤ last_time + 2000000 → arrival_after p r u s ≡ Some d → d ≤ last_time + 2000000)
         → option_and_then (λ c. option_and_then (λ u. arrival_after p r u s) (arrival p r t c)) o ≡ Some d → d ≤ last_time + 2000000
     named None is on e = absurd cc

@@ -41,4 +41,4 @@ WritesText-in a b c k m n xs i d text (Ok _) bad h e p q = absurd cc
 WritesText-in a b c k m n xs i d text (Err _) is h e p q =
     let part : WrittenInPart b m (get_or xs i d).now c n = rw e at q in
     rw (joined-at xs i d h)
-        (AppendsBeginning-after a b c (joined (take i xs)) _ p.0 (AppendsBeginning-more b c (get_or xs i d).now _ part.0), part.1 ∙ ap (λ j. j + 1) p.1)
+    (AppendsBeginning-after a b c (joined (take i xs)) _ p.0 (AppendsBeginning-more b c (get_or xs i d).now _ part.0), part.1 ∙ ap (λ j. j + 1) p.1)

@@ -3,8 +3,8 @@
 ghost use Rattle.std.specs.Prelude.{◌≡◌, ℕ, ◌≤◌, ◌+◌, ◌<◌, ◌∷◌, ◌++◌, [], List, None, Some, MatchResult, MatchOption, IfOk, IfSome, OnOk, length};
 ghost use Rattle.cgrlist.specs.Words.{nodes_listed, numbers_within};
 
-use crate::number::number_within;
 use crate::first_piece::first_piece;
+use crate::number::number_within;
 use sabr_model::{NoMemory, Numbers};
 use std::alloc::Allocator;
 use std::marker::Model;
@@ -83,7 +83,10 @@ pub fn nodes_listed(text: &[u8]) -> Option<NodeList>
 }
 
 /// The contact numbers that the text lists. None where it lists none.
-pub fn contacts_listed<A: Allocator + Copy>(alloc: A, text: &[u8]) -> Result<Option<Numbers<A>>, NoMemory>
+pub fn contacts_listed<A: Allocator + Copy>(
+    alloc: A,
+    text: &[u8],
+) -> Result<Option<Numbers<A>>, NoMemory>
     ensures { IfOk result (λ found. found ≡ numbers_within 1 4294967295 text.now) }
 {
     let mut contacts = Vec::new(alloc);

@@ -10,13 +10,15 @@ use clap::error::ErrorKind;
 use clap::{ArgMatches, Error};
 use sabr_model::{Device, Write, write_text};
 use std::alloc::Global;
-use std::env;
-use std::fs;
-use std::io;
 use std::rt::{Env, Files};
+use std::{env, fs, io};
 
 /// Runs the program over the words that it was started with.
-pub fn run_arguments<R: Env + Files + AllocGlobal, O: Write, E: Write>(rt: &R, out: &mut O, err: &mut E) -> Status {
+pub fn run_arguments<R: Env + Files + AllocGlobal, O: Write, E: Write>(
+    rt: &R,
+    out: &mut O,
+    err: &mut E,
+) -> Status {
     let arguments = match env::args(rt) {
         Ok(arguments) => arguments,
         Err(error) => return tell_unread(&error, err),

@@ -38,7 +38,12 @@ pub fn text_under<'a>(matches: &ArgMatches<'a>, name: ValueName) -> Option<&'a [
 }
 
 /// A number that has to be there.
-pub fn number_given(matches: &ArgMatches<'_>, name: ValueName, low: u64, high: u64) -> Result<u64, ValueFault>
+pub fn number_given(
+    matches: &ArgMatches<'_>,
+    name: ValueName,
+    low: u64,
+    high: u64,
+) -> Result<u64, ValueFault>
     ensures value { result ≡ value_of (number_within low high) (found_of matches.now) name }
     ensures range { IfOk result (λ n. (low ≤ n) × (n ≤ high)) }
 {
@@ -52,7 +57,13 @@ pub fn number_given(matches: &ArgMatches<'_>, name: ValueName, low: u64, high: u
 }
 
 /// A number up to `high` that may be left out.
-fn number_or(matches: &ArgMatches<'_>, name: ValueName, low: u64, high: u64, otherwise: u64) -> Result<u64, ValueFault>
+fn number_or(
+    matches: &ArgMatches<'_>,
+    name: ValueName,
+    low: u64,
+    high: u64,
+    otherwise: u64,
+) -> Result<u64, ValueFault>
     requires { (low ≤ otherwise) × (otherwise ≤ high) }
     ensures value { result ≡ value_or otherwise (number_within low high) (found_of matches.now) name }
     ensures range { IfOk result (λ n. (low ≤ n) × (n ≤ high)) }

@@ -34,7 +34,11 @@ fn is_within_limits(request: &Request)
 }
 
 // Writes and flushes the report of a page.
-fn write_page<O: Write, A: Allocator + Copy>(page: &Page<A>, first_rank: u128, out: &mut O) -> Result<(), WriteFault>
+fn write_page<O: Write, A: Allocator + Copy>(
+    page: &Page<A>,
+    first_rank: u128,
+    out: &mut O,
+) -> Result<(), WriteFault>
     requires ranks { first_rank + length page.now.routes.items < 2 ^ 128 }
     requires times { All HasSpelledTimes page.now.routes.items }
     ensures { WritesText (O.contents out.old) (O.failures out.old) (report_text page.now.routes.items first_rank page.now.more) result (O.contents out.new) (O.failures out.new) }
@@ -47,7 +51,13 @@ fn write_page<O: Write, A: Allocator + Copy>(page: &Page<A>, first_rank: u128, o
 }
 
 // Writes the first page of the listing over the plan of a request.
-fn write_first<O: Write, A: Allocator + Copy>(alloc: A, plan: &Plan<A>, request: &Request, count: u32, out: &mut O) -> Result<(), Failure>
+fn write_first<O: Write, A: Allocator + Copy>(
+    alloc: A,
+    plan: &Plan<A>,
+    request: &Request,
+    count: u32,
+    out: &mut O,
+) -> Result<(), Failure>
     requires { count ≤ 10000 }
     ensures { WritesFirst (Ok plan.now) request.now count result (O.contents out.old) (O.failures out.old) (O.contents out.new) (O.failures out.new) }
 {
@@ -71,11 +81,9 @@ fn read_and_write_first<P: Read, O: Write, A: Allocator + Copy>(
     out: &mut O,
 ) -> Result<(), Failure>
     requires { count ≤ 10000 }
-    ensures {
-        (planned : Result TabledPlan PlanFault)
+    ensures { (planned : Result TabledPlan PlanFault)
         × ReadsPlan (P.remaining plan.old) (P.failures plan.old) planned (P.remaining plan.new) (P.failures plan.new)
-        × WritesFirst planned request.now count result (O.contents out.old) (O.failures out.old) (O.contents out.new) (O.failures out.new)
-    }
+        × WritesFirst planned request.now count result (O.contents out.old) (O.failures out.old) (O.contents out.new) (O.failures out.new) }
 {
     match read_plan(alloc, plan) {
         Ok(plan) => write_first(alloc, &plan, request, count, out),
@@ -99,13 +107,11 @@ pub fn run_first<P: Read, O: Write, E: Write, A: Allocator + Copy>(
     err: &mut E,
 ) -> Status
     requires { (1 ≤ count) × (count ≤ 10000) }
-    ensures {
-        (planned : Result TabledPlan PlanFault) × ((end : Result (Unit {0}) Failure)
+    ensures { (planned : Result TabledPlan PlanFault) × ((end : Result (Unit {0}) Failure)
         × ReadsPlan (P.remaining plan.old) (P.failures plan.old) planned (P.remaining plan.new) (P.failures plan.new)
         × WritesFirst planned request count end (O.contents out.old) (O.failures out.old) (O.contents out.new) (O.failures out.new)
         × TellsEnd end (E.contents err.old) (E.failures err.old) (E.contents err.new) (E.failures err.new)
-        × (result ≡ status_at end))
-    }
+        × (result ≡ status_at end)) }
 {
     match read_and_write_first(alloc, plan, &request, count, out) {
         Ok(()) => Status::Done,

@@ -40,7 +40,10 @@ fn has_contacts(command: &str) -> bool
 }
 
 #[tactic(auto, unfolding(crate::specs::Values::words_where_asked))]
-fn words_where_asked(command: &str, matches: &ArgMatches<'_>) -> Result<Option<RequestWords>, ValueFault>
+fn words_where_asked(
+    command: &str,
+    matches: &ArgMatches<'_>,
+) -> Result<Option<RequestWords>, ValueFault>
     ensures value { result ≡ words_where_asked command.now (found_of matches.now) }
     ensures range { IfOk result (λ words. IfSome words IsInRange) }
     ensures asked { IfOk result (λ words. is_some words ≡ has_request command.now) }
@@ -67,7 +70,11 @@ fn count_where_asked(command: &str, matches: &ArgMatches<'_>) -> Result<Option<u
 }
 
 #[tactic(auto, unfolding(crate::specs::Values::contacts_where_asked))]
-fn contacts_where_asked<A: Allocator + Copy>(alloc: A, command: &str, matches: &ArgMatches<'_>) -> Result<Numbers<A>, ValueFault>
+fn contacts_where_asked<A: Allocator + Copy>(
+    alloc: A,
+    command: &str,
+    matches: &ArgMatches<'_>,
+) -> Result<Numbers<A>, ValueFault>
     ensures ok { IfOk result (λ contacts. contacts_where_asked command.now (found_of matches.now) ≡ Ok contacts) }
     ensures err { IfErr result (λ e. (e ≡ ValueFault.NoMemory) ⊎ (contacts_where_asked command.now (found_of matches.now) ≡ Err e)) }
     ensures memory { IsErrOf result ValueFault.NoMemory → IsTrue (has_contacts command.now) }
@@ -114,7 +121,11 @@ fn request_where_asked(words: &Option<RequestWords>) -> Result<Option<Request>, 
 /// [`ValueFault::SameNode`], [`ValueFault::BadAvoid`]. [`ValueFault::NoMemory`] comes only where memory
 /// for contacts was refused.
 #[tactic(auto, unfolding(crate::specs::Values::values_of))]
-pub fn read_values<A: Allocator + Copy>(alloc: A, command: &str, matches: &ArgMatches<'_>) -> Result<Values<A>, ValueFault>
+pub fn read_values<A: Allocator + Copy>(
+    alloc: A,
+    command: &str,
+    matches: &ArgMatches<'_>,
+) -> Result<Values<A>, ValueFault>
     ensures ok { IfOk result (λ v. values_of command.now (found_of matches.now) ≡ Ok (record { request = v.request; count = v.count; contacts = v.contacts })) }
     ensures err { IfErr result (λ e. (e ≡ ValueFault.NoMemory) ⊎ (values_of command.now (found_of matches.now) ≡ Err e)) }
     ensures memory { IsErrOf result ValueFault.NoMemory → IsTrue (has_contacts command.now) }

@@ -1,6 +1,6 @@
 -- Where an element goes in a list that is in order, as a binary search tells it.
-use Rattle.std.proofs.Common.{◌≡◌, ℕ, zero, suc, ◌+◌, ◌<◌, ◌≤◌, List, [], ◌∷◌, ◌++◌, length, take, drop, get_or, refl, sym, ap, subst, ◌∙◌, inl, inr, ⊎_elim, arith}
-use Rattle.std.specs.List.{AllByRecursion, AllWithin, insert}
+use Rattle.std.proofs.Common.{◌≡◌, ℕ, zero, suc, ◌<◌, ◌≤◌, List, [], ◌∷◌, ◌++◌, length, take, drop, get_or, refl, sym, ap, ◌∙◌, ⊎_elim, arith}
+use Rattle.std.specs.List.{insert}
 use Rattle.std.specs.List.Sorted.{IsStrictlySortedBy, IsNonDecreasingBy, IsPartitionPoint}
 use Rattle.std.specs.Cmp.{IsTotalOrder}
 use Rattle.std.specs.Ordering.{ordering_reverse, ordering_index}
@@ -14,6 +14,7 @@ use Rattle.sabr_model.specs.Order.{put_in}
 use Rattle.plain_listing.proofs.Firsts.{put_behind}
 
 module _ {X : Type 0} (cmp : X → X → Ordering) (total : IsTotalOrder cmp) where
+  -- a comparison turned round
   turned : (x y : X) (o : Ordering) → cmp x y ≡ o → cmp y x ≡ ordering_reverse o
   turned x y o e = total.antisymm y x ∙ ap ordering_reverse e
 
@@ -21,9 +22,9 @@ module _ {X : Type 0} (cmp : X → X → Ordering) (total : IsTotalOrder cmp) wh
   pub answers_rise : (x : X) (xs : List X) → IsStrictlySortedBy cmp xs → IsNonDecreasingBy (λ y. ordering_index (cmp y x)) xs
   answers_rise x xs sorted i j d le lt =
       ⊎_elim
-          (λ same. let e : ordering_index (cmp (get_or xs i d) x) ≡ ordering_index (cmp (get_or xs j d) x) = ap (λ k. ordering_index (cmp (get_or xs k d) x)) same in omega arith)
-          (λ ne. below (get_or xs i d) (get_or xs j d) (Less-from_sorted cmp xs i j d sorted (omega arith) lt))
-          (cases_eq i j)
+      (λ same. let e : ordering_index (cmp (get_or xs i d) x) ≡ ordering_index (cmp (get_or xs j d) x) = ap (λ k. ordering_index (cmp (get_or xs k d) x)) same in omega arith)
+      (λ ne. below (get_or xs i d) (get_or xs j d) (Less-from_sorted cmp xs i j d sorted (omega arith) lt))
+      (cases_eq i j)
     where
       below : (y z : X) → cmp y z ≡ Less → ordering_index (cmp y x) ≤ ordering_index (cmp z x)
       below y z h =
@@ -41,9 +42,10 @@ module _ {X : Type 0} (cmp : X → X → Ordering) (total : IsTotalOrder cmp) wh
       ap (λ o. elim o [ Less ↦ x ∷ y ∷ ys | Equal ↦ y ∷ ys | Greater ↦ y ∷ put_in cmp x ys ]) (turned y x Greater (h.1 0 y (omega arith) (omega arith)))
   put_at x (y ∷ ys) (suc i) h =
       put_behind cmp x y ys (turned y x Less (h.0 0 y (omega arith) (omega arith)))
-      ∙ ap (λ zs. y ∷ zs) (put_at x ys i
-          (λ k d low high. h.0 (suc k) d (omega arith) (omega arith),
-           λ k d low high. h.1 (suc k) d (omega arith) (omega arith)))
+      ∙ ap (λ zs. y ∷ zs) (put_at x ys i (
+        λ k d low high. h.0 (suc k) d (omega arith) (omega arith),
+        λ k d low high. h.1 (suc k) d (omega arith) (omega arith),
+      ))
 
   -- what ties with an element isn't put in
   pub put_tied : (x : X) (xs : List X) (k : ℕ) → IsStrictlySortedBy cmp xs → k < length xs → ((d : X) → cmp (get_or xs k d) x ≡ Equal) → put_in cmp x xs ≡ xs

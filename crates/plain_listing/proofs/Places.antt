@@ -1,13 +1,12 @@
 -- Lists by their numbers from the front.
-use Rattle.std.proofs.Common.{◌≡◌, ℕ, zero, suc, ◌+◌, ◌<◌, ◌≤◌, Bool, true, false, cond, ltb, eqb, List, [], ◌∷◌, ◌++◌, refl, sym, ap, subst, ◌∙◌, inl, inr, ⊎_elim, arith}
+use Rattle.std.proofs.Common.{◌≡◌, ℕ, ◌<◌, ◌≤◌, true, false, cond, eqb, List, [], ◌∷◌, ◌++◌, refl, sym, ap, ◌∙◌, inl, inr, ⊎_elim, arith}
 use Rattle.std.specs.Prelude.{◌⊎◌}
 use Rattle.std.specs.Cmp.{nat_cmp_total}
 use Rattle.std.specs.Ordering.{nat_cmp, ordering_then, is_lt}
 use Rattle.std.specs.FinMap.{nat_cmp-IsAntisymmetric}
 use Rattle.std.proofs.lemmas.Cmp.{tied_itself}
-use Rattle.std.proofs.lemmas.Bool.{cases_lt, lt-ltb, cases_eq}
+use Rattle.std.proofs.lemmas.Bool.{lt-ltb, cases_eq}
 use Rattle.std.proofs.lemmas.Bool.Decides.{nat_tests}
-use Rattle.std.specs.declared.cmp.Ordering.{Ordering}
 use Rattle.std.specs.declared.cmp.Ordering.TheVariants.{Less, Equal, Greater}
 use Rattle.sabr_model.specs.Order.{by_numbers, numbers_before}
 
@@ -20,6 +19,7 @@ by_numbers-behind (n ∷ q) s t = ap (λ o. ordering_then o (by_numbers (q ++ s)
 abbrev pub IsApart : List ℕ → List ℕ → Type 0
 IsApart q s = (m n : ℕ) (t v : List ℕ) → by_numbers s (q ++ m ∷ t) ≡ by_numbers s (q ++ n ∷ v)
 
+-- apart behind the same number
 apart_behind : (k j : ℕ) (q s : List ℕ) → IsApart q s → IsApart (k ∷ q) (j ∷ s)
 apart_behind k j q s apart m n t v = ap (ordering_then (nat_cmp j k)) (apart m n t v)
 
@@ -36,9 +36,11 @@ begins_or_apart (k ∷ q) (j ∷ s) =
       | Greater ↦ λ e. inr (λ m n t v. ap (λ o. ordering_then o (by_numbers s (q ++ m ∷ t))) e ∙ sym (ap (λ o. ordering_then o (by_numbers s (q ++ n ∷ v))) e))
     ] refl
 
+-- a lesser number
 less : (k n : ℕ) → k < n → nat_cmp k n ≡ Less
 less k n h = ap (λ b. cond b Less (cond (eqb k n) Equal Greater)) (lt-ltb k n h)
 
+-- a greater number
 greater : (k n : ℕ) → n < k → nat_cmp k n ≡ Greater
 greater k n h = grind (arith, nat_tests)
 
@@ -50,9 +52,11 @@ before_less k n u t h = ap (λ o. is_lt (ordering_then o (by_numbers u t))) (les
 pub before_greater : (k n : ℕ) (u t : List ℕ) → n < k → numbers_before (k ∷ u) (n ∷ t) ≡ false
 before_greater k n u t h = ap (λ o. is_lt (ordering_then o (by_numbers u t))) (greater k n h)
 
+-- behind the same first number the rest decides
 pub before_same : (k : ℕ) (u t : List ℕ) → numbers_before (k ∷ u) (k ∷ t) ≡ numbers_before u t
 before_same k u t = ap (λ o. is_lt (ordering_then o (by_numbers u t))) (tied_itself nat_cmp_total k)
 
+-- nothing comes before the empty list
 pub before_empty : (u : List ℕ) → numbers_before u [] ≡ false
 before_empty [] = refl
 before_empty (k ∷ u) = refl
@@ -61,9 +65,10 @@ before_empty (k ∷ u) = refl
 pub before_one : (k n : ℕ) (u : List ℕ) → n ≤ k → numbers_before (k ∷ u) (n ∷ []) ≡ false
 before_one k n u h =
     ⊎_elim
-        (λ e. ap (λ z. numbers_before (k ∷ u) (z ∷ [])) (sym e) ∙ before_same k u [] ∙ before_empty u)
-        (λ ne. before_greater k n u [] (omega arith))
-        (cases_eq k n)
+    (λ e. ap (λ z. numbers_before (k ∷ u) (z ∷ [])) (sym e) ∙ before_same k u [] ∙ before_empty u)
+    (λ ne. before_greater k n u [] (omega arith))
+    (cases_eq k n)
 
+-- behind the same beginning the rest decides
 pub before-behind : (q s t : List ℕ) → numbers_before (q ++ s) (q ++ t) ≡ numbers_before s t
 before-behind q s t = ap is_lt (by_numbers-behind q s t)

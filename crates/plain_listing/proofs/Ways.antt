@@ -1,18 +1,17 @@
 -- Ways, a hop longer and a hop shorter.
-use Rattle.std.proofs.Common.{◌≡◌, ℕ, zero, suc, ◌+◌, ◌-◌, ◌<◌, ◌≤◌, min, true, false, List, [], ◌∷◌, ◌++◌, length, map, refl, sym, ap, subst, ◌∙◌, inl, inr, ⊎_elim, arith, append_assoc, length-append}
+use Rattle.std.proofs.Common.{◌≡◌, ℕ, zero, suc, ◌-◌, min, List, [], ◌∷◌, ◌++◌, length, refl, sym, ap, subst, ◌∙◌, inl, inr, ⊎_elim, arith, append_assoc, length-append}
 use Rattle.std.specs.Prelude.{◌⊎◌, IsTrue, unwrap_or, slice_get}
 use Rattle.std.specs.List.{fold, filter_map}
 use Rattle.std.specs.Option.{option_map_or}
 use Rattle.std.proofs.lemmas.List.{map-append, append-nil}
 use Rattle.std.proofs.lemmas.List.Sums.{fold-append}
 use Rattle.std.proofs.lemmas.List.Elements.{filter_map-append}
-use Rattle.std.specs.declared.option.Option.{Option}
-use Rattle.std.specs.declared.option.Option.TheVariants.{Some, None}
+use Rattle.std.specs.declared.option.Option.TheVariants.{Some}
 use Rattle.sabr_model.specs.declared.contact.Contact.{Contact}
-use Rattle.sabr_model.specs.Plan.{ContactPlan, contact_named, has}
-use Rattle.sabr_model.specs.Arrival.{RouteRequest, arrival_after}
+use Rattle.sabr_model.specs.Plan.{ContactPlan, contact_named}
+use Rattle.sabr_model.specs.Arrival.{RouteRequest}
 use Rattle.sabr_model.specs.Route.{chain_end, receivers, contacts_of, is_path, delivery_of, until_of, entry_of}
-use Rattle.sabr_model.specs.Record.{RouteRecord, record_of}
+use Rattle.sabr_model.specs.Record.{record_of}
 use Rattle.sabr_model.proofs.Begins.{receivers-cons}
 use Rattle.sabr_model.proofs.Paths.{IsHop, beginning_is_path, hop_facts, chain_end_push, arrival_after_push}
 use Rattle.plain_listing.specs.declared.hop.Stop.{Stop}
@@ -26,9 +25,9 @@ pub by_last : {X : Type 0} (xs : List X) → (xs ≡ []) ⊎ ((front : List X) �
 by_last [] = inl refl
 by_last (x ∷ xs) =
     inr (⊎_elim
-        (λ none. ([], x, ap (λ ys. x ∷ ys) none))
-        (λ some. (x ∷ some.0, some.1, ap (λ ys. x ∷ ys) some.2))
-        (by_last xs))
+    (λ none. ([], x, ap (λ ys. x ∷ ys) none))
+    (λ some. (x ∷ some.0, some.1, ap (λ ys. x ∷ ys) some.2))
+    (by_last xs))
 
 -- two lists with a last element are equal only where these and what is before them are
 pub same_push : {X : Type 0} (xs ys : List X) (x y : X) → xs ++ x ∷ [] ≡ ys ++ y ∷ [] → (xs ≡ ys) × (x ≡ y)
@@ -42,6 +41,7 @@ same_push (w ∷ xs) (v ∷ ys) x y e =
     let rest = same_push xs ys x y tails in
     ((let same : xs ≡ ys = rest.0 in cc), rest.1)
 
+-- the last element of a list
 last_of_push : {X : Type 0} (xs : List X) (x : X) (k : ℕ) → k ≡ length xs → slice_get (xs ++ x ∷ []) k ≡ Some x
 last_of_push [] x zero e = refl
 last_of_push [] x (suc k) e = absurd (omega arith)
@@ -50,10 +50,12 @@ last_of_push (y ∷ xs) x (suc k) e = last_of_push xs x k (omega arith)
 
 -- ---- hops one behind the other
 
+-- the numbers behind one hop more
 pub numbers_push : (hops : List Hop) (h : Hop) → numbers_of (hops ++ h ∷ []) ≡ numbers_of hops ++ h.number ∷ []
 numbers_push hops h = map-append (λ (x : Hop). x.number) hops (h ∷ [])
 
 module _ (p : ContactPlan) (r : RouteRequest) where
+  -- the hops behind one number more
   hops_push : (front s : List ℕ) (n : ℕ) → hops_behind p r front (s ++ n ∷ []) ≡ hops_behind p r front s ++ hop_of p r (front ++ s) n ∷ []
   hops_push front [] n = ap (λ w. hop_of p r w n ∷ []) (sym (append-nil front))
   hops_push front (m ∷ s) n =
@@ -76,30 +78,33 @@ module _ (p : ContactPlan) (r : RouteRequest) where
   way_pop hops h way =
       let numbers = numbers_push hops h in
       let both = same_push hops (hops_behind p r [] (numbers_of hops)) h (hop_of p r (numbers_of hops) h.number)
-          (way.told ∙ ap (hops_behind p r []) numbers ∙ hops_push [] (numbers_of hops) h.number) in
-      (record {
-        told = both.0;
-        path = beginning_is_path p r (numbers_of hops) (h.number ∷ []) (subst (λ w. IsTrue (is_path p r w)) numbers way.path);
-      }, both.1)
+      (way.told ∙ ap (hops_behind p r []) numbers ∙ hops_push [] (numbers_of hops) h.number) in (
+        record {
+          told = both.0;
+          path = beginning_is_path p r (numbers_of hops) (h.number ∷ []) (subst (λ w. IsTrue (is_path p r w)) numbers way.path);
+        },
+        both.1,
+      )
 
   -- the last stop of a way is where its numbers lead
   pub last_stop_is : (hops : List Hop) → IsWay p r hops → last_stop r hops ≡ stop_of p r (numbers_of hops)
   last_stop_is hops way =
       ⊎_elim
-          (λ none. ap (last_stop r) none ∙ ap (λ w. stop_of p r (numbers_of w)) (sym none))
-          (λ some.
-              let front = some.0 in
-              let h = some.1 in
-              let e : hops ≡ front ++ h ∷ [] = some.2 in
-              let count : length (front ++ h ∷ []) - 1 ≡ length front = omega (arith, length-append front (h ∷ [])) in
-              let is = (way_pop front h (subst (IsWay p r) e way)).1 in
-              ap (last_stop r) e
-              ∙ ap (λ o. option_map_or (λ (x : Hop). x.stop) o (source_stop r)) (last_of_push front h (length (front ++ h ∷ []) - 1) count)
-              ∙ ap (λ (x : Hop). x.stop) is
-              ∙ ap (stop_of p r) (sym (numbers_push front h))
-              ∙ ap (λ w. stop_of p r (numbers_of w)) (sym e))
-          (by_last hops)
+      (λ none. ap (last_stop r) none ∙ ap (λ w. stop_of p r (numbers_of w)) (sym none))
+      (λ some.
+      let front = some.0 in
+      let h = some.1 in
+      let e : hops ≡ front ++ h ∷ [] = some.2 in
+      let count : length (front ++ h ∷ []) - 1 ≡ length front = omega (arith, length-append front (h ∷ [])) in
+      let is = (way_pop front h (subst (IsWay p r) e way)).1 in
+      ap (last_stop r) e
+      ∙ ap (λ o. option_map_or (λ (x : Hop). x.stop) o (source_stop r)) (last_of_push front h (length (front ++ h ∷ []) - 1) count)
+      ∙ ap (λ (x : Hop). x.stop) is
+      ∙ ap (stop_of p r) (sym (numbers_push front h))
+      ∙ ap (λ w. stop_of p r (numbers_of w)) (sym e))
+      (by_last hops)
 
+  -- the nodes of hops are the receivers of their contacts
   nodes_behind : (front s : List ℕ) → IsTrue (is_path p r (front ++ s)) → nodes_of (hops_behind p r front s) ≡ receivers p s
   nodes_behind front [] path = refl
   nodes_behind front (n ∷ s) path =
@@ -114,6 +119,7 @@ module _ (p : ContactPlan) (r : RouteRequest) where
   pub nodes_are : (hops : List Hop) → IsWay p r hops → nodes_of hops ≡ receivers p (numbers_of hops)
   nodes_are hops way = ap nodes_of way.told ∙ nodes_behind [] (numbers_of hops) way.path
 
+  -- the least end behind one contact more
   until_push : (s : List ℕ) (n : ℕ) (c : Contact) → contact_named p n ≡ Some c → until_of p (s ++ n ∷ []) ≡ min (until_of p s) c.end
   until_push s n c named =
       ap (fold (λ m (d : Contact). min m d.end) 253370764799) (filter_map-append (contact_named p) s (n ∷ []))
@@ -128,9 +134,10 @@ module _ (p : ContactPlan) (r : RouteRequest) where
       let node : unwrap_or (chain_end p r.source (s ++ n ∷ [])) 0 ≡ hop.contact.to = ap (λ o. unwrap_or o 0) (chain_end_push p r.source s n hop.contact hop.named hop.sent) in
       let arrival : delivery_of p r (s ++ n ∷ []) ≡ hop.arrived = ap (λ o. unwrap_or o 0) (arrival_after_push p r r.at s n hop.contact hop.ready hop.arrived hop.named hop.there_at hop.arrives_at) in
       let until : until_of p (s ++ n ∷ []) ≡ min (last_stop r hops).until hop.contact.end =
-          until_push s n hop.contact hop.named ∙ ap (λ (x : Stop). min x.until hop.contact.end) (sym (last_stop_is hops way)) in
+      until_push s n hop.contact hop.named ∙ ap (λ (x : Stop). min x.until hop.contact.end) (sym (last_stop_is hops way)) in
       λ i. record { number = n; stop = record { node = node i; arrival = arrival i; until = until i } }
 
+  -- the first hop ends at the entry node
   first_is : (hops : List Hop) → IsWay p r hops → first_node hops ≡ entry_of p (numbers_of hops)
   first_is [] way = refl
   first_is (h ∷ hops) way =

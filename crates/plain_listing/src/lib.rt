@@ -5,7 +5,9 @@ mod hop;
 mod kept;
 mod next;
 mod page;
+#[cfg(test)]
+mod tests;
 mod walk;
 mod way;
 
-pub use page::{first_routes, Page};
+pub use page::{Page, first_routes};

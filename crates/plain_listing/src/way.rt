@@ -6,7 +6,7 @@ ghost use Rattle.sabr_model.specs.Route.{is_path};
 ghost use Rattle.plain_listing.specs.Way.{IsWay, numbers_of, last_stop, hop_of, is_passed, may_visit, record_over};
 
 use crate::hop::{Hop, Stop};
-use sabr_model::{arrive, NoMemory, Numbers, Plan, Request, Route};
+use sabr_model::{NoMemory, Numbers, Plan, Request, Route, arrive};
 use std::alloc::Allocator;
 
 /// The last second of the year 9998: no contact ends after it.

@@ -41,15 +41,15 @@ module _ {X : Type 0} where
   apart-flat_map f each one [] a = tt
   apart-flat_map f each one (x ∷ xs) a =
       apart-append (f x) (flat_map f xs) (each x) (apart-flat_map f each one xs a.1)
-          (λ z l r. let m = flat_map_in f z xs r in a.0 (subst (λ w. IsIn w xs) (sym (one x m.0 z l m.2)) m.1))
+      (λ z l r. let m = flat_map_in f z xs r in a.0 (subst (λ w. IsIn w xs) (sym (one x m.0 z l m.2)) m.1))
 
   -- none passes a test that only equal elements pass
   pub apart-none_twice : (same : X → X → Bool) → ((x y : X) → same x y ≡ true → x ≡ y) → (xs : List X) → AreApart xs → none_twice same xs ≡ true
   apart-none_twice same exact [] a = refl
   apart-none_twice same exact (x ∷ xs) a =
       and_from (not (list_any (same x) xs)) (none_twice same xs)
-          (not_from_false (list_any (same x) xs) (false_from_ne_true (list_any (same x) xs) (λ h. a.0 (found (same x) x xs (exact x) h))))
-          (apart-none_twice same exact xs a.1)
+      (not_from_false (list_any (same x) xs) (false_from_ne_true (list_any (same x) xs) (λ h. a.0 (found (same x) x xs (exact x) h))))
+      (apart-none_twice same exact xs a.1)
     where
       found : (test : X → Bool) (x : X) (ys : List X) → ((y : X) → test y ≡ true → x ≡ y) → list_any test ys ≡ true → IsIn x ys
       found test x [] tells h = absurd cc
@@ -59,9 +59,10 @@ module _ {X : Type 0} where
   pub apart-sorted : (cmp : X → X → Ordering) → IsTotalOrder cmp → (xs : List X) → IsStrictlySortedBy cmp xs → AreApart xs
   unfolding IsStrictlySortedBy
   apart-sorted cmp total [] sorted = tt
-  apart-sorted cmp total (x ∷ xs) sorted =
-      (λ i. let less : cmp x x ≡ Less = all_in (λ z. cmp x z ≡ Less) xs sorted.0 x i in let tied : cmp x x ≡ Equal = tied_itself total x in let no : ⊥ = cc in no,
-       apart-sorted cmp total xs sorted.1)
+  apart-sorted cmp total (x ∷ xs) sorted = (
+    λ i. let less : cmp x x ≡ Less = all_in (λ z. cmp x z ≡ Less) xs sorted.0 x i in let tied : cmp x x ≡ Equal = tied_itself total x in let no : ⊥ = cc in no,
+    apart-sorted cmp total xs sorted.1,
+  )
 
 -- equal numbers from the front make one list
 pub same_numbers_tell : (s t : List ℕ) → same_numbers s t ≡ true → s ≡ t

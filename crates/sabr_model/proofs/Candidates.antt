@@ -47,17 +47,17 @@ unfolding lists_of_length
 apart-lists numbers a zero = ((λ i. i), tt)
 apart-lists numbers a (suc k) =
     apart-flat_map (λ t. map (λ n. n ∷ t) (filter (λ n. not (has n t)) numbers))
-        (λ t. apart-map (λ n. n ∷ t) (λ n m e. cc) (filter (λ n. not (has n t)) numbers) (apart-filter (λ n. not (has n t)) numbers a))
-        (λ s t z l r. let one = map_in (λ n. n ∷ s) z (filter (λ n. not (has n s)) numbers) l in let two = map_in (λ n. n ∷ t) z (filter (λ n. not (has n t)) numbers) r in let e : one.0 ∷ s ≡ two.0 ∷ t = sym one.2 ∙ two.2 in cc)
-        (lists_of_length numbers k) (apart-lists numbers a k)
+    (λ t. apart-map (λ n. n ∷ t) (λ n m e. cc) (filter (λ n. not (has n t)) numbers) (apart-filter (λ n. not (has n t)) numbers a))
+    (λ s t z l r. let one = map_in (λ n. n ∷ s) z (filter (λ n. not (has n s)) numbers) l in let two = map_in (λ n. n ∷ t) z (filter (λ n. not (has n t)) numbers) r in let e : one.0 ∷ s ≡ two.0 ∷ t = sym one.2 ∙ two.2 in cc)
+    (lists_of_length numbers k) (apart-lists numbers a k)
 
 apart-candidates : (n : ℕ) → AreApart (candidates n)
 unfolding candidates
 apart-candidates n =
     let numbers = range_with_len 1 n in
     apart-flat_map (lists_of_length numbers) (apart-lists numbers (apart-range 1 n))
-        (λ j k s l r. sym (lists_facts numbers j s l).long ∙ (lists_facts numbers k s r).long)
-        (range_with_len 0 (n + 1)) (apart-range 0 (n + 1))
+    (λ j k s l r. sym (lists_facts numbers j s l).long ∙ (lists_facts numbers k s r).long)
+    (range_with_len 0 (n + 1)) (apart-range 0 (n + 1))
 
 -- ---- the candidates
 
@@ -79,8 +79,9 @@ candidate_facts n s h =
 pub candidates_are_listed : CandidatesAreListed
 candidates_are_listed n =
     record {
-      members = λ s.
-          (λ c. candidate_facts n s (in_from_Contains (candidates n) s c),
-           λ h. Contains-from_in (candidates n) s (is_candidate n s h.0 (all_to_range n s h.1)));
+      members = λ s. (
+        λ c. candidate_facts n s (in_from_Contains (candidates n) s c),
+        λ h. Contains-from_in (candidates n) s (is_candidate n s h.0 (all_to_range n s h.1)),
+      );
       once = apart-none_twice same_numbers same_numbers_tell (candidates n) (apart-candidates n);
     }

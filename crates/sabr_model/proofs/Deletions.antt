@@ -60,7 +60,7 @@ module _ {X : Type 0} where
         | false ↦ λ h e. found_passes t ys x e
       ] refl found
 
-  any_none : (p : X → Bool) (xs : List X) → list_any p xs ≡ false → AllByRecursion (λ x. p x ≡ false) xs
+  pub any_none : (p : X → Bool) (xs : List X) → list_any p xs ≡ false → AllByRecursion (λ x. p x ≡ false) xs
   any_none p [] none = tt
   any_none p (x ∷ xs) none = let parts = or_parts (p x) (list_any p xs) none in (parts.0, any_none p xs parts.1)
 
@@ -162,7 +162,7 @@ found_by_number low t (x ∷ cs) c rises found =
     ] found
 
 -- an opening's parts
-opens_parts : (from to start : ℕ) (d : Contact) → opens from to start d ≡ true → (from ≡ d.from) × (to ≡ d.to) × (start ≡ d.start)
+pub opens_parts : (from to start : ℕ) (d : Contact) → opens from to start d ≡ true → (from ≡ d.from) × (to ≡ d.to) × (start ≡ d.start)
 opens_parts from to start d h =
     let a = and_parts (eqb from d.from && eqb to d.to) (eqb start d.start) h in
     let b = and_parts (eqb from d.from) (eqb to d.to) a.0 in

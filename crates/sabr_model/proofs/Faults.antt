@@ -2,7 +2,7 @@
 use Rattle.std.proofs.Common.{◌≡◌, ℕ, ◌+◌, max, Bool, true, false, cond, not, eqb, leb, ltb, List, [], ◌∷◌, ◌++◌, length, refl, sym, ap, subst, ◌∙◌, arith, append_assoc}
 use Rattle.std.specs.Prelude.{is_none, IsTrue}
 use Rattle.std.specs.Option.{option_map, option_map_or, option_and_then}
-use Rattle.std.proofs.lemmas.Bool.{eqb-true, eq-eqb, leb-true, le-leb}
+use Rattle.std.proofs.lemmas.Bool.{eqb-true, eq-eqb, leb-true, le-leb, false_from_ne_true}
 use Rattle.std.specs.declared.option.Option.{Option}
 use Rattle.std.specs.declared.option.Option.TheVariants.{Some, None}
 use Rattle.sabr_model.specs.declared.contact.Contact.{Contact}
@@ -56,19 +56,19 @@ hop_is_good p r q n hop =
     let place = length q + 1 in
     ap (λ o. option_map_or (contact_fault p r q) o (Some (NoSuchContact place))) hop.named
     ∙ six_to_none
-        (not (option_map_or (λ a. eqb a c.from) (chain_end p r.source q) false))
-        (has c.to (r.source ∷ receivers p q))
-        (is_none (light_of p c))
-        (is_none (option_and_then (λ t. arrival p r t c) (arrival_after p r r.at q)))
-        (has c.to r.avoided)
-        (not (leb place r.max_hops))
-        place
-        (ap (λ o. not (option_map_or (λ a. eqb a c.from) o false)) hop.sent ∙ ap not (eq-eqb c.from c.from refl))
-        hop.fresh
-        (lit p r hop.ready c hop.arrived hop.arrives_at)
-        (ap (λ o. is_none (option_and_then (λ t. arrival p r t c) o)) hop.there_at ∙ ap is_none hop.arrives_at)
-        hop.allowed
-        (ap not (le-leb place r.max_hops (let w = hop.room in omega arith)))
+    (not (option_map_or (λ a. eqb a c.from) (chain_end p r.source q) false))
+    (has c.to (r.source ∷ receivers p q))
+    (is_none (light_of p c))
+    (is_none (option_and_then (λ t. arrival p r t c) (arrival_after p r r.at q)))
+    (has c.to r.avoided)
+    (not (leb place r.max_hops))
+    place
+    (ap (λ o. not (option_map_or (λ a. eqb a c.from) o false)) hop.sent ∙ ap not (eq-eqb c.from c.from refl))
+    hop.fresh
+    (lit p r hop.ready c hop.arrived hop.arrives_at)
+    (ap (λ o. is_none (option_and_then (λ t. arrival p r t c) o)) hop.there_at ∙ ap is_none hop.arrives_at)
+    hop.allowed
+    (ap not (le-leb place r.max_hops (let w = hop.room in omega arith)))
 
 not_false : (b : Bool) → not b ≡ false → b ≡ true
 not_false true h = refl
@@ -91,13 +91,13 @@ good_is_hop p r q n path e =
       | Some c ↦ λ named h.
           let place = length q + 1 in
           let all = none_of_six
-              (not (option_map_or (λ a. eqb a c.from) (chain_end p r.source q) false))
-              (has c.to (r.source ∷ receivers p q))
-              (is_none (light_of p c))
-              (is_none (option_and_then (λ t. arrival p r t c) (arrival_after p r r.at q)))
-              (has c.to r.avoided)
-              (not (leb place r.max_hops))
-              place h in
+          (not (option_map_or (λ a. eqb a c.from) (chain_end p r.source q) false))
+          (has c.to (r.source ∷ receivers p q))
+          (is_none (light_of p c))
+          (is_none (option_and_then (λ t. arrival p r t c) (arrival_after p r r.at q)))
+          (has c.to r.avoided)
+          (not (leb place r.max_hops))
+          place h in
           let ready = value_of (arrival_after p r r.at q) (path_facts p r q path).in_time in
           let arrived = not_none (arrival p r ready.0 c) (ap (λ o. is_none (option_and_then (λ t. arrival p r t c) o)) (sym ready.1) ∙ all.3) in
           record {
@@ -143,7 +143,7 @@ no_fault_is_route p r [] e = absurd cc
 no_fault_is_route p r (n ∷ s) e =
     let both = neither (first_fault p r [] (n ∷ s)) (cond (ends_at p r (n ∷ s)) None (Some WrongEnd)) e in
     route_from_path p r (n ∷ s) (good_is_path p r [] (n ∷ s) (empty_is_path p r) both.0) (omega arith)
-        (ended (chain_end p r.source (n ∷ s)) r.destination (wrong_end_unless (ends_at p r (n ∷ s)) both.1))
+    (ended (chain_end p r.source (n ∷ s)) r.destination (wrong_end_unless (ends_at p r (n ∷ s)) both.1))
 
 pub route_has_no_fault : (p : ContactPlan) (r : RouteRequest) (s : List ℕ) → IsTrue (is_route p r s) → fault_of p r s ≡ None
 route_has_no_fault p r [] h = absurd (empty_route p r h)
@@ -152,6 +152,10 @@ route_has_no_fault p r (n ∷ s) h =
     ap (λ o. fault_or o (cond (ends_at p r (n ∷ s)) None (Some WrongEnd))) (path_is_good p r [] (n ∷ s) (route_is_path p r (n ∷ s) h))
     ∙ ap (λ o. cond (option_map_or (λ b. eqb b r.destination) o false) None (Some WrongEnd)) f.reaches
     ∙ ap (λ b. cond b None (Some WrongEnd)) (eq-eqb r.destination r.destination refl)
+
+-- what has a fault is no route
+pub fault_is_no_route : (p : ContactPlan) (r : RouteRequest) (s : List ℕ) (f : HopFault) → fault_of p r s ≡ Some f → is_route p r s ≡ false
+fault_is_no_route p r s f e = false_from_ne_true (is_route p r s) (λ h. let none = route_has_no_fault p r s h in let no : ⊥ = cc in no)
 
 pub faults_tell_routes : FaultsTellRoutes
 faults_tell_routes p r s = (no_fault_is_route p r s, route_has_no_fault p r s)

@@ -55,6 +55,6 @@ all_followed p r (n ∷ s) i here some over none reached same =
     let good : first_fault p r [] (n ∷ s) ≡ None = none ∙ ap (first_fault p r (take i (n ∷ s))) (drop_all i (n ∷ s) over) in
     let end : chain_end p r.source (n ∷ s) ≡ Some r.destination = ap (chain_end p r.source) (sym whole) ∙ reached.node ∙ ap Some same in
     no_fault_is_route p r (n ∷ s)
-        (ap (λ o. fault_or o (cond (ends_at p r (n ∷ s)) None (Some WrongEnd))) good
-         ∙ ap (λ o. cond (option_map_or (λ b. eqb b r.destination) o false) None (Some WrongEnd)) end
-         ∙ ap (λ b. cond b None (Some WrongEnd)) (eq-eqb r.destination r.destination refl))
+    (ap (λ o. fault_or o (cond (ends_at p r (n ∷ s)) None (Some WrongEnd))) good
+    ∙ ap (λ o. cond (option_map_or (λ b. eqb b r.destination) o false) None (Some WrongEnd)) end
+    ∙ ap (λ b. cond b None (Some WrongEnd)) (eq-eqb r.destination r.destination refl))

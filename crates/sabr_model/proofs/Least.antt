@@ -120,12 +120,14 @@ module _ (p : ContactPlan) (r : RouteRequest) (good : IsPlan p) (q excluded : Li
   pub least_some : (s : List ℕ) → least_in p r q excluded ≡ Some s → IsTrue (is_route p r s) × IsTrue (goes_on q excluded s) × ((t : List ℕ) → IsTrue (is_route p r t) → IsTrue (goes_on q excluded t) → is_lt (by_key p r t s) ≡ false)
   unfolding least_in
   least_some s e =
-      let m = find_in (goes_on q excluded) (routes p r) s e in
-      (member_is_route p r s good m.0, m.1,
-       λ t route on. ⊎_elim
-           (λ same. ap is_lt (ap (λ w. by_key p r w s) same ∙ tied_itself (key_total p r) s))
-           (λ less. ap is_lt ((key_total p r).antisymm t s ∙ ap ordering_reverse less))
-           (find_least (goes_on q excluded) (by_key p r) (routes p r) s t (routes_are_listed p r good).rising e (route_is_member p r t good route) on))
+      let m = find_in (goes_on q excluded) (routes p r) s e in (
+        member_is_route p r s good m.0,
+        m.1,
+        λ t route on. ⊎_elim
+            (λ same. ap is_lt (ap (λ w. by_key p r w s) same ∙ tied_itself (key_total p r) s))
+            (λ less. ap is_lt ((key_total p r).antisymm t s ∙ ap ordering_reverse less))
+            (find_least (goes_on q excluded) (by_key p r) (routes p r) s t (routes_are_listed p r good).rising e (route_is_member p r t good route) on),
+      )
 
   pub least_none : least_in p r q excluded ≡ None → (t : List ℕ) → IsTrue (is_route p r t) → IsTrue (goes_on q excluded t) → ⊥
   unfolding least_in
@@ -148,7 +150,7 @@ module _ (p : ContactPlan) (r : RouteRequest) (good : IsPlan p) (q excluded : Li
         | Some u ↦ λ e.
             let m = find_in (goes_on q excluded) (routes p r) u e in
             ⊎_elim
-                (λ same. ap Some (sym same))
-                (λ less. absurd (not_after_less p r s u less (least u (member_is_route p r u good m.0) m.1)))
-                (find_least (goes_on q excluded) (by_key p r) (routes p r) u s (routes_are_listed p r good).rising e (route_is_member p r s good route) on)
+            (λ same. ap Some (sym same))
+            (λ less. absurd (not_after_less p r s u less (least u (member_is_route p r u good m.0) m.1)))
+            (find_least (goes_on q excluded) (by_key p r) (routes p r) u s (routes_are_listed p r good).rising e (route_is_member p r s good route) on)
       ] refl

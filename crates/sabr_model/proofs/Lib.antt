@@ -5,17 +5,21 @@ pub mod Begins
 pub mod Members
 pub mod Ordered
 pub mod Listed
+pub mod Answered
+pub mod Has
+pub mod Numbered
+pub mod StartLemmas
 pub mod Apart
 pub mod Candidates
 pub mod RoutesListed
-pub mod Answered
-pub mod Has
-pub mod StartLemmas
 pub mod TableLemmas
 pub mod Without
 pub mod Deletions
 pub mod RangeLemmas
 pub mod Tabled
+pub mod RangeKeys
+pub mod ReadyLemmas
+pub mod Openings
 pub mod PlanLemmas
 pub mod Rises
 mod CountWalks
@@ -25,3 +29,4 @@ pub mod Prefixes
 pub mod Least
 pub mod Faults
 pub mod Follows
+pub mod RowPlans

@@ -122,7 +122,7 @@ IsPlan-range p r h one other ends light accept =
     }
 
 -- ranges of one key overlap, where neither is empty
-same_key_overlaps : (r s : Range) → r.start < r.end → s.start < s.end → by_range_key r s ≡ Equal → overlap r s ≡ true
+pub same_key_overlaps : (r s : Range) → r.start < r.end → s.start < s.end → by_range_key r s ≡ Equal → overlap r s ≡ true
 same_key_overlaps r s a b e =
     let same : range_key r ≡ range_key s = slice_cmp-IsAntisymmetric nat_cmp-IsAntisymmetric (range_key r) (range_key s) e in
     let one : r.one ≡ s.one = cc in
@@ -134,7 +134,7 @@ same_key_overlaps r s a b e =
     (lt-ltb r.start s.end (omega (arith, start, b))))
     (lt-ltb s.start r.end (omega (arith, start, a)))
 
-all_at : {X : Type 0} (P : X → Type 0) (xs : List X) (i : ℕ) (d : X) → AllByRecursion P xs → i < length xs → P (get_or xs i d)
+pub all_at : {X : Type 0} (P : X → Type 0) (xs : List X) (i : ℕ) (d : X) → AllByRecursion P xs → i < length xs → P (get_or xs i d)
 all_at P [] i d all lt = absurd (omega arith)
 all_at P (x ∷ xs) zero d all lt = all.0
 all_at P (x ∷ xs) (suc i) d all lt = all_at P xs i d all.1 (omega arith)

@@ -1,11 +1,11 @@
 -- What a plan shows of its table of nodes.
-use Rattle.std.proofs.Common.{◌≡◌, ℕ, ◌^◌, ◌<◌, ◌≤◌, Bool, true, false, cond, ◌||◌, not, eqb, ltb, List, [], ◌∷◌, length, get_or, map, refl, sym, ap, subst, ◌∙◌, inl, inr, arith}
+use Rattle.std.proofs.Common.{◌≡◌, ℕ, zero, suc, ◌^◌, ◌<◌, ◌≤◌, Bool, true, false, cond, ◌||◌, not, eqb, ltb, List, [], ◌∷◌, length, get_or, map, refl, sym, ap, subst, ◌∙◌, inl, inr, arith}
 use Rattle.std.specs.Prelude.{nat_eq, slice_get, MatchOption, unwrap_or}
 use Rattle.std.specs.List.{filter, find, list_any, position, position_or_len, AllByRecursion, IsDistinct}
 use Rattle.std.specs.List.Sorted.{IsNonDecreasingBy}
 use Rattle.std.specs.Map.{keys_of}
 use Rattle.std.specs.Option.{option_map_or}
-use Rattle.std.proofs.lemmas.Bool.{and_from, and_parts, or_cases, or_left, or_right, not_from_false, ltb-false, ne_eqb, eqb-true, eq-eqb, both_ways, false_from_ne_true}
+use Rattle.std.proofs.lemmas.Bool.{and_from, and_parts, not-true, or_cases, or_left, or_right, not_from_false, ltb-false, ne_eqb, eqb-true, eq-eqb, both_ways, false_from_ne_true}
 use Rattle.std.proofs.lemmas.List.Folds.{find_at}
 use Rattle.std.proofs.lemmas.List.Quantifiers.{position-Some}
 use Rattle.std.proofs.lemmas.Option.{slice_get-get_or, slice_get_past}
@@ -136,3 +136,22 @@ is_open_list p q at ys h l =
 -- what a contact's number names is the contact
 pub names_itself : (cs : List Contact) (n : ℕ) (c : Contact) → find (λ d. eqb d.number n) cs ≡ Some c → find (λ d. eqb d.number c.number) cs ≡ Some c
 names_itself cs n c found = subst (λ m. find (λ d. eqb d.number m) cs ≡ Some c) (sym (eqb-true c.number n (found_passes (λ d. eqb d.number n) cs c found))) found
+
+pub has_place : (xs : List ℕ) (k n : ℕ) → slice_get xs k ≡ Some n → has n xs ≡ true
+has_place [] k n e = absurd cc
+has_place (x ∷ xs) zero n e = let same : n ≡ x = cc in or_left (eqb n x) (has n xs) (eq-eqb n x same)
+has_place (x ∷ xs) (suc k) n e = or_right (eqb n x) (has n xs) (has_place xs k n e)
+
+-- a node stands at one place of the table
+pub place_one : (xs : List ℕ) (i j n : ℕ) → are_different xs ≡ true → slice_get xs i ≡ Some n → slice_get xs j ≡ Some n → i ≡ j
+place_one [] i j n d a b = absurd cc
+place_one (x ∷ xs) zero zero n d a b = refl
+place_one (x ∷ xs) zero (suc j) n d a b =
+    let apart = not-true (has x xs) (and_parts (not (has x xs)) (are_different xs) d).0 in
+    let same : x ≡ n = cc in
+    absurd (both_ways (has x xs) apart (subst (λ m. has m xs ≡ true) (sym same) (has_place xs j n b)))
+place_one (x ∷ xs) (suc i) zero n d a b =
+    let apart = not-true (has x xs) (and_parts (not (has x xs)) (are_different xs) d).0 in
+    let same : x ≡ n = cc in
+    absurd (both_ways (has x xs) apart (subst (λ m. has m xs ≡ true) (sym same) (has_place xs i n a)))
+place_one (x ∷ xs) (suc i) (suc j) n d a b = ap suc (place_one xs i j n (and_parts (not (has x xs)) (are_different xs) d).1 a b)

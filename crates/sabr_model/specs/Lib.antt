@@ -2,8 +2,10 @@ pub mod Order
 pub mod Plan
 pub mod Table
 pub mod Tabled
+pub mod Ready
 pub mod Adding
 pub mod Light
+pub mod RangeOrder
 pub mod Arrival
 pub mod Asking
 pub mod Route

@@ -41,6 +41,7 @@ abbrev pub are_different : List ℕ → Bool
 are_different [] = true
 are_different (x ∷ xs) = not (has x xs) && are_different xs
 
+-- from a start up to, and without, an end that is behind it and not above the greatest time
 abbrev pub IsWindow : ℕ → ℕ → Type 0
 IsWindow start end = (start < end) × (end ≤ last_time)
 
@@ -56,6 +57,7 @@ IsPair a b = IsNode a × IsNode b × (a ≢ b)
 abbrev pub opens : ℕ → ℕ → ℕ → Contact → Bool
 opens from to start c = (from == c.from) && (to == c.to) && (start == c.start)
 
+-- the same sender, receiver and start
 abbrev pub same_opening : Contact → Contact → Bool
 same_opening c d = opens c.from c.to c.start d
 
@@ -72,7 +74,8 @@ none_twice same (x ∷ xs) = not (list_any (same x) xs) && none_twice same xs
 abbrev pub range_key : Range → List ℕ
 range_key r = r.one ∷ r.other ∷ r.start ∷ []
 
--- rules 1 to 4 and the limits
+-- what every plan keeps: windows and nodes that are good, numbers that rise up to the greatest given, no
+-- opening of a contact twice, ranges in order and apart, and the limits (this project's profile of ionrc(5))
 pub record IsPlan (p : ContactPlan) : Type 0 where
   pub contact_windows : AllByRecursion (λ c. IsWindow c.start c.end) p.contacts
   pub contact_nodes : AllByRecursion (λ c. IsPair c.from c.to) p.contacts

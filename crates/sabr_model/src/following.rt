@@ -19,6 +19,7 @@ struct Reached {
     at: u64,
 }
 
+/// Whether the contact of a number is received by the node.
 fn receives<A: Allocator + Copy>(plan: &Plan<A>, number: u32, node: u64) -> bool
     ensures { result ≡ receives plan.now.plan node number }
 {

@@ -14,7 +14,6 @@ mod request;
 mod route;
 mod rows;
 mod sent;
-
 #[cfg(test)]
 mod tests;
 
@@ -31,5 +30,5 @@ pub use route::Route;
 pub use rows::{
     row_of_deleting, row_of_faults, row_of_light, row_of_limits, row_of_parts_of_a,
     row_of_parts_of_c, row_of_plan_a, row_of_plan_a_later, row_of_plan_b, row_of_plan_c,
-    row_of_the_last_day, row_of_windows,
+    row_of_the_last_day, row_of_windows, worked_plans_are_plans, worked_requests_are_requests,
 };

@@ -8,7 +8,7 @@ ghost use Rattle.sabr_model.specs.Plan.{rises_above};
 ghost use Rattle.sabr_model.specs.Table.{without_number, list_at, starts_at, with_number, with_node, with_start, IsPlaceFor, IsTableOf};
 
 use crate::contact::Contact;
-use crate::plan::places::place_of_contact;
+use crate::plan::places::place_of_start;
 use crate::sent::Sent;
 use indexmap::IndexMap;
 use std::alloc::{AllocError, Allocator};
@@ -97,10 +97,10 @@ fn place_in_table<A: Allocator + Copy>(
 ) -> usize
     requires numbered { IsTrue (rises_above 0 (map (λ c. c.number) contacts.now)) }
     requires table { IsTableOf contacts.now table.now }
-    ensures { IsPlaceFor contacts.now contact.now (unwrap_or (starts_at table.now contact.now.from) []) result }
+    ensures { IsPlaceFor contacts.now contact.now.start contact.now.to (unwrap_or (starts_at table.now contact.now.from) []) result }
 {
     match table.get(&contact.from) {
-        Some(sent) => place_of_contact(contacts, &sent.by_start, contact),
+        Some(sent) => place_of_start(contacts, &sent.by_start, contact.start, contact.to),
         None => 0,
     }
 }

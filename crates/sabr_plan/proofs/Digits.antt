@@ -108,11 +108,11 @@ between_bounds low high word n e =
     let both : Bool = are_digits word && tests in
     (elim both as (λ b. both ≡ b → cond b (Some v) None ≡ Some n → (low ≤ n) × (n ≤ high)) [
       | true ↦ λ is found.
-        let same : v ≡ n = cc in
-        let inner = and_parts (are_digits word) tests is in
-        let upper = and_parts (not (leads_with_zero word) && nat_le low v) (nat_le v high) inner.1 in
-        let lower = and_parts (not (leads_with_zero word)) (nat_le low v) upper.0 in
-        (rw same at (leb-true low v lower.1), rw same at (leb-true v high upper.1))
+          let same : v ≡ n = cc in
+          let inner = and_parts (are_digits word) tests is in
+          let upper = and_parts (not (leads_with_zero word) && nat_le low v) (nat_le v high) inner.1 in
+          let lower = and_parts (not (leads_with_zero word)) (nat_le low v) upper.0 in
+          (rw same at (leb-true low v lower.1), rw same at (leb-true v high upper.1))
       | false ↦ λ is found. cc
     ]) refl e
 

@@ -4,3 +4,11 @@ pub mod Days
 pub mod Dates
 pub mod Spelling
 pub mod Seconds
+pub mod Lines
+pub mod Outcomes
+pub mod Held
+pub mod Feeds
+pub mod Consumed
+pub mod ReadSoFar
+pub mod CanonicalLines
+pub mod Leaving

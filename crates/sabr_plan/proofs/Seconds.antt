@@ -128,9 +128,9 @@ time_of_tells word t e =
     let both : Bool = leb u last_time && bytes_eq word (time_text_of u) in
     (elim both as (λ b. both ≡ b → cond b (Some u) None ≡ Some t → (word ≡ time_text_of t) × (t ≤ last_time)) [
       | true ↦ λ is found.
-        let same : u ≡ t = cc in
-        let parts = and_parts (leb u last_time) (bytes_eq word (time_text_of u)) is in
-        (rw same at ((bytes_eq-Decides word (time_text_of u)).0 parts.1), rw same at (leb-true u last_time parts.0))
+          let same : u ≡ t = cc in
+          let parts = and_parts (leb u last_time) (bytes_eq word (time_text_of u)) is in
+          (rw same at ((bytes_eq-Decides word (time_text_of u)).0 parts.1), rw same at (leb-true u last_time parts.0))
       | false ↦ λ is found. cc
     ]) refl e
 

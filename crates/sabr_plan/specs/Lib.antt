@@ -5,3 +5,8 @@ pub mod TimeShape
 pub mod Words
 pub mod Operands
 pub mod Commands
+pub mod Reading
+pub mod Leaving
+pub mod Feeding
+pub mod PlanRead
+pub mod Canonical

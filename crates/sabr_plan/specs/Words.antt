@@ -1,6 +1,6 @@
 -- The lines of a text, and the words of a line.
-use Rattle.std.specs.Prelude.{ℕ, ◌==◌, nat_lt, nat_le, ◌&&◌, ◌||◌, Bool, List, [], ◌∷◌, length, slice_index, if◌then◌else◌}
-use Rattle.std.specs.List.{slice_split, filter}
+use Rattle.std.specs.Prelude.{ℕ, ◌==◌, nat_lt, nat_le, not, ◌&&◌, ◌||◌, Bool, List, [], ◌∷◌, length, slice_index, if◌then◌else◌}
+use Rattle.std.specs.List.{slice_split, filter, list_all}
 
 -- tabs and spaces part words
 abbrev pub is_blank : ℕ → Bool
@@ -21,6 +21,10 @@ has_bytes word = nat_lt 0 (length word)
 -- the words of a line: what stands between blanks
 unfoldable pub words_of : List ℕ → List (List ℕ)
 words_of line = filter has_bytes (slice_split is_blank line)
+
+-- no LF is among these bytes
+abbrev pub is_one_line : List ℕ → Bool
+is_one_line bytes = list_all (λ b. not (b == 10)) bytes
 
 -- a text: the lines that LF ends, and the bytes behind the last LF
 pub record TextLines : Type 0 where

@@ -79,7 +79,10 @@ pub fn value_of(target: Target, word: &[u8]) -> Result<u64, PlanKind>
 }
 
 /// Both, or the lesser refusal.
-pub fn both_of(first: Result<u64, PlanKind>, second: Result<u64, PlanKind>) -> Result<(u64, u64), PlanKind>
+pub fn both_of(
+    first: Result<u64, PlanKind>,
+    second: Result<u64, PlanKind>,
+) -> Result<(u64, u64), PlanKind>
     ensures { result ≡ both_of first second }
 {
     match (first, second) {

@@ -16,8 +16,7 @@ pub fn is_comment(line: &[u8]) -> bool
 pub fn is_plain(line: &[u8]) -> bool
     ensures { result ≡ list_all is_plain line.now }
 {
-    line.iter()
-        .all(|b| *b == b'\t' || (32 <= *b && *b <= 126))
+    line.iter().all(|b| *b == b'\t' || (32 <= *b && *b <= 126))
 }
 
 /// Whether a byte parts words.

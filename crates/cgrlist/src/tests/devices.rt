@@ -29,7 +29,10 @@ fn a_report_stops_where_its_writer_does(rt: HostRuntime) -> Result<(), Fail> {
             let status = run_first(rt.alloc(), &mut plan, request(), 2, &mut out, &mut err);
             assert_eq!(rt; status, Status::Io, "at {limit}");
             assert_eq!(rt; out.held(), &REPORT[..limit], "at {limit}");
-            assert!(rt; b"cgrlist: write failed\n".starts_with(err.held()), "at {limit}");
+            assert!(rt;
+                b"cgrlist: write failed\n".starts_with(err.held()),
+                "at {limit}"
+            );
         }
         let mut plan = PieceReader::new(PLAN_A.as_bytes(), piece, End::Ended);
         let mut out = LimitedWriter::with_failing_flush(rt.alloc(), 4096, piece);
@@ -52,7 +55,11 @@ fn a_failed_reader_is_told(rt: HostRuntime) -> Result<(), Fail> {
         let status = run_first(rt.alloc(), &mut plan, request(), 2, &mut out, &mut err);
         assert_eq!(rt; status, Status::Io, "at {limit}");
         assert_eq!(rt; out.held(), b"".as_slice(), "at {limit}");
-        assert_eq!(rt; err.held(), b"cgrlist: plan: read failed\n".as_slice(), "at {limit}");
+        assert_eq!(rt;
+            err.held(),
+            b"cgrlist: plan: read failed\n".as_slice(),
+            "at {limit}"
+        );
     }
     Ok(())
 }
@@ -81,7 +88,11 @@ fn refused_in_turn<R: Abort + AllocGlobal>(rt: &R, plan: &str) -> Result<(), Fai
             told = true;
             assert_eq!(rt; status, Status::Memory, "at {number}");
             assert_eq!(rt; out.held(), b"".as_slice(), "at {number}");
-            assert_eq!(rt; err.held(), b"cgrlist: no memory\n".as_slice(), "at {number}");
+            assert_eq!(rt;
+                err.held(),
+                b"cgrlist: no memory\n".as_slice(),
+                "at {number}"
+            );
         }
     }
     assert!(rt; false, "more than 1000 requests");

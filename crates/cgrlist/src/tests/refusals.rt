@@ -187,7 +187,12 @@ const PLANS: [Refusal; 14] = [
 ];
 
 // The run ended so, with this message alone.
-fn told<R: Abort + AllocGlobal>(rt: &R, outcome: &Outcome, status: Status, message: &str) -> Result<(), Fail> {
+fn told<R: Abort + AllocGlobal>(
+    rt: &R,
+    outcome: &Outcome,
+    status: Status,
+    message: &str,
+) -> Result<(), Fail> {
     let line = format!(in rt.alloc(); "cgrlist: {message}\n")?;
     assert_eq!(rt; outcome.status, status, "{message}");
     assert_eq!(rt; outcome.out.held(), b"".as_slice(), "{message}");
@@ -213,7 +218,13 @@ fn refusals_are_told(rt: HostRuntime) -> Result<(), Fail> {
 
 #[test]
 fn words_of_no_command_are_refused(rt: HostRuntime) -> Result<(), Fail> {
-    for line in ["", "last", "first", "first --plan p --from 1 --to 3 --count 1", "--help"] {
+    for line in [
+        "",
+        "last",
+        "first",
+        "first --plan p --from 1 --to 3 --count 1",
+        "--help",
+    ] {
         let outcome = run_line(&rt, line)?;
         assert_eq!(rt; outcome.status, Status::Usage, "{line}");
         assert_eq!(rt; outcome.out.held(), b"".as_slice(), "{line}");

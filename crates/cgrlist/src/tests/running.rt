@@ -27,7 +27,13 @@ pub fn run_line(rt: &HostRuntime, line: &str) -> Result<Outcome, Fail> {
 }
 
 /// Lists the first routes of a plan that two texts make, in a file of this name, for these words behind `--plan`.
-pub fn run_first_over(rt: &HostRuntime, file: &str, base: &str, more: &str, words: &str) -> Result<Outcome, Fail> {
+pub fn run_first_over(
+    rt: &HostRuntime,
+    file: &str,
+    base: &str,
+    more: &str,
+    words: &str,
+) -> Result<Outcome, Fail> {
     let plan = format!(in rt.alloc(); "{base}{more}")?;
     fs::write(rt, file, plan.as_str())?;
     let line = format!(in rt.alloc(); "first --plan {file} {words}")?;

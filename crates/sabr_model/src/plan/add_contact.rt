@@ -8,6 +8,7 @@ ghost use Rattle.sabr_model.specs.declared.fault.AddFault.TheVariants.{NoMemory}
 ghost use Rattle.sabr_model.specs.Adding.{next_contact, contact_refusal, with_contact};
 
 use super::Plan;
+use super::places::has_start;
 use crate::contact::Contact;
 use crate::fault::AddFault;
 use crate::node_table::note_contact;
@@ -35,9 +36,10 @@ impl<A: Allocator + Copy> Plan<A> {
     fn has_opening(&self, from: u64, to: u64, start: u64) -> bool
         ensures { result ≡ list_any (opens from to start) self.now.plan.contacts }
     {
-        self.contacts
-            .iter()
-            .any(|c| from == c.from && to == c.to && start == c.start)
+        match self.table.get(&from) {
+            Some(sent) => has_start(&self.contacts, &sent.by_start, start, to),
+            None => false,
+        }
     }
 
     /// Adds a contact that is not refused.
@@ -57,6 +59,7 @@ impl<A: Allocator + Copy> Plan<A> {
         ensures ok { OnOk result (self.new.plan ≡ with_contact self.old.plan (next_contact self.old.plan from to start end rate)) }
         ensures err { OnErr result (self.new ≡ self.old) }
     {
+        self.settled = false;
         let number = self.greatest + 1;
         let contact = Contact {
             number,

@@ -1,15 +1,13 @@
 //! Ranges that are added, and those that are refused.
 
-ghost use Rattle.std.specs.Prelude.{◌≡◌, ◌≢◌, ℕ, ◌<◌, ◌≤◌, None, Some, Err, OnOk, OnErr, IsOkUnless, length, slice_index_or};
-ghost use Rattle.std.specs.Ordering.{is_gt};
-ghost use Rattle.std.specs.List.{list_any};
-ghost use Rattle.std.specs.declared.cmp.Ordering.TheVariants.{Less, Greater};
-ghost use Rattle.sabr_model.specs.Plan.{last_time, overlap};
+ghost use Rattle.std.specs.Prelude.{◌≡◌, ℕ, ◌<◌, ◌≤◌, None, Some, Err, OnOk, OnErr, IsOkUnless};
+ghost use Rattle.sabr_model.specs.Plan.{last_time};
 ghost use Rattle.sabr_model.specs.declared.fault.AddFault.{AddFault};
 ghost use Rattle.sabr_model.specs.declared.fault.AddFault.TheVariants.{NoMemory};
-ghost use Rattle.sabr_model.specs.Adding.{new_range, range_refusal, with_range, by_range_key};
+ghost use Rattle.sabr_model.specs.Adding.{new_range, range_refusal, with_range};
 
 use super::Plan;
+use super::ranges::{overlaps_some, ranges_until};
 use crate::contact::Range;
 use crate::fault::AddFault;
 use std::alloc::{AllocError, Allocator};
@@ -23,25 +21,13 @@ impl<A: Allocator + Copy> Plan<A> {
             Some(AddFault::EmptyWindow)
         } else if range.one == range.other {
             Some(AddFault::SelfPair)
-        } else if self.has_overlap(range) {
+        } else if overlaps_some(&self.ranges, range) {
             Some(AddFault::RangeOverlap)
         } else if self.ranges.len() >= 20000 {
             Some(AddFault::TooMany)
         } else {
             None
         }
-    }
-
-    /// Whether a standing range of this ordered pair holds at some second of the range.
-    fn has_overlap(&self, range: &Range) -> bool
-        ensures { result ≡ list_any (overlap range.now) self.now.plan.ranges }
-    {
-        self.ranges.iter().any(|r| {
-            range.one == r.one
-                && range.other == r.other
-                && range.start < r.end
-                && r.start < range.end
-        })
     }
 
     /// Adds a range that is not refused.
@@ -54,7 +40,8 @@ impl<A: Allocator + Copy> Plan<A> {
         ensures ok { OnOk result (self.new ≡ record { plan = with_range self.old.plan range; table = self.old.table }) }
         ensures err { OnErr result (self.new ≡ self.old) }
     {
-        let place = place_of_range(&self.ranges, &range);
+        self.settled = false;
+        let place = ranges_until(&self.ranges, range.one, range.other, range.start);
         self.ranges.insert(place, range)?;
         Ok(())
     }
@@ -94,26 +81,4 @@ impl<A: Allocator + Copy> Plan<A> {
         }
         self.put_range(range).map_err(|_| AddFault::NoMemory)
     }
-}
-
-/// Whether a range comes before another, by (one, other, start).
-fn range_before(a: &Range, b: &Range) -> bool
-    ensures { result ≡ is_gt (by_range_key b.now a.now) }
-{
-    b.one > a.one
-        || (b.one == a.one && (b.other > a.other || (b.other == a.other && b.start > a.start)))
-}
-
-/// The place of the first range that does not come before the given one.
-fn place_of_range(ranges: &[Range], range: &Range) -> usize
-    ensures within { result ≤ length ranges.now }
-    ensures before { (k : ℕ) → k < result → by_range_key range.now (slice_index_or ranges.now k range.now) ≡ Greater }
-    ensures at { result < length ranges.now → by_range_key range.now (slice_index_or ranges.now result range.now) ≢ Greater }
-{
-    for (i, r) in ranges.iter().enumerate() {
-        if !range_before(r, range) {
-            return i;
-        }
-    }
-    ranges.len()
 }

@@ -1,37 +1,37 @@
 //! The one-way light time in force at a contact's start.
 
-ghost use Rattle.std.specs.Prelude.{◌≡◌, ◌≤◌, IfSome};
-ghost use Rattle.sabr_model.specs.Light.{light_of, light_of_pair};
+ghost use Rattle.std.specs.Prelude.{◌≡◌, ◌≤◌, [], IfSome};
+ghost use Rattle.sabr_model.specs.Light.{light_of};
+ghost use Rattle.sabr_model.specs.RangeOrder.{IsRangeList};
 
 use super::Plan;
-use crate::contact::Contact;
+use super::ranges::light_in_force;
+use crate::contact::{Contact, Range};
 use std::alloc::Allocator;
 
 impl<A: Allocator + Copy> Plan<A> {
     /// The one-way light time in seconds, 0 to 1000000, in force at the contact's start; none where no range gives one.
     ///
-    /// A range from the greater node to the lesser holds that way alone, and there it wins over one that holds both ways.
+    /// A range from the greater node to the lesser holds that way alone, and there it wins over one that holds both ways
+    /// (this project's profile). It takes a halving or two of the ranges.
     pub fn light(&self, contact: &Contact) -> Option<u32>
         ensures value { result ≡ light_of self.now.plan contact.now }
         ensures limit { IfSome result (λ l. l ≤ 1000000) }
     {
-        match self.light_of_pair(contact.from, contact.to, contact.start) {
-            Some(light) => Some(light),
-            None if contact.from > contact.to => {
-                self.light_of_pair(contact.to, contact.from, contact.start)
-            }
-            None => None,
-        }
+        light_of_contact(&self.ranges, contact)
     }
+}
 
-    /// The light time of the range of this ordered pair that is in force at `t`.
-    fn light_of_pair(&self, one: u64, other: u64, t: u64) -> Option<u32>
-        ensures value { result ≡ light_of_pair self.now.plan.ranges one other t }
-        ensures limit { IfSome result (λ l. l ≤ 1000000) }
-    {
-        self.ranges
-            .iter()
-            .find(|r| r.one == one && r.other == other && r.start <= t && t < r.end)
-            .map(|r| r.light)
+/// The light time that ranges give a contact.
+pub fn light_of_contact(ranges: &[Range], contact: &Contact) -> Option<u32>
+    requires { IsRangeList ranges.now }
+    ensures { result ≡ light_of (record { contacts = []; ranges = ranges.now; greatest = 0 }) contact.now }
+{
+    match light_in_force(ranges, contact.from, contact.to, contact.start) {
+        Some(light) => Some(light),
+        None if contact.from > contact.to => {
+            light_in_force(ranges, contact.to, contact.from, contact.start)
+        }
+        None => None,
     }
 }

@@ -14,7 +14,7 @@ returns-in-Some-clause-pieces c =
     let found = position-Some _ c.args.text.now c.in-Some.comma 0 (sym c.comma.ensures ∙ c.in-Some.is) in
     pieces-at c.args.text.now c.in-Some.comma found.0 found.1 found.2
     ∙ ap (λ (rest : List ℕ). take c.in-Some.comma c.args.text.now ∷ pieces_of rest)
-        (ap (λ n. drop n c.args.text.now) (sym (add-one c.in-Some.comma)) ∙ sym (take_rest c.args.text.now (c.in-Some.comma + 1)))
+    (ap (λ n. drop n c.args.text.now) (sym (add-one c.in-Some.comma)) ∙ sym (take_rest c.args.text.now (c.in-Some.comma + 1)))
 
 beyond : (text : List ℕ) → position (λ b. b == 44) text ≡ None → length text ≤ position_or_len (λ b. b == 44) text
 beyond text e = grind (arith, common_steps)

@@ -8,7 +8,7 @@ abbrev pub invariant-loop-rest : goal.invariant-loop-rest
 invariant-loop-rest l = record {
   few : length l.nodes ≤ 16;
   listed : all_of (map (number_within 1 18446744073709551615) (pieces_of l.text))
-    ≡ behind l.nodes (all_of (map (number_within 1 18446744073709551615) (pieces_behind (option_copied l.rest))));
+      ≡ behind l.nodes (all_of (map (number_within 1 18446744073709551615) (pieces_behind (option_copied l.rest))));
 }
 
 abbrev pub decreases-loop-rest : goal.decreases-loop-rest

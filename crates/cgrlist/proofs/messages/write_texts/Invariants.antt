@@ -6,4 +6,4 @@ use Rattle.cgrlist.proofs.messages.write_texts.Given as goal
 abbrev pub invariant-loop-text : goal.invariant-loop-text
 invariant-loop-text g l =
     Written (g.W.Write.contents l.initial.writer) (g.W.Write.failures l.initial.writer) (concat (map (λ t. t.now) (take l.text-index l.texts)))
-        (g.W.Write.contents l.writer) (g.W.Write.failures l.writer)
+    (g.W.Write.contents l.writer) (g.W.Write.failures l.writer)

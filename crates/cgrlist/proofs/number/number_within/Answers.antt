@@ -10,9 +10,9 @@ returns-in_default-clause-value c =
 pub returns-then-number-high-clause-value : goal.returns-then-number-high-clause-value
 returns-then-number-high-clause-value c =
     sym (number_within-spelled_within c.args.low c.args.high c.args.text.now c.in-Some.number (omega arith) (c.in-Some.ensures {u = tt}).value
-        c.if-low-number.true c.if-number-high.true)
+    c.if-low-number.true c.if-number-high.true)
 
 pub returns-else-low-number-clause-value : goal.returns-else-low-number-clause-value
 returns-else-low-number-clause-value c =
     sym (number_within-spelled_without c.args.low c.args.high c.args.text.now c.in-Some.number (omega arith) (c.in-Some.ensures {u = tt}).value
-        (elim c.else-low-number.either [ inl h ↦ inr h.1 | inr h ↦ inl h ]))
+    (elim c.else-low-number.either [ inl h ↦ inr h.1 | inr h ↦ inl h ]))

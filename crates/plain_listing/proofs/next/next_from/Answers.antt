@@ -1,4 +1,4 @@
-use Rattle.std.proofs.Common.{◌≡◌, ◌-◌, ltb, length, drop, ap, ◌∙◌, rules, arith, length-drop}
+use Rattle.std.proofs.Common.{◌-◌, ltb, length, drop, ap, ◌∙◌, rules, arith, length-drop}
 use Rattle.std.specs.Prelude.{slice_get}
 use Rattle.std.proofs.lemmas.List.{take_all}
 use Rattle.std.proofs.lemmas.List.Sorted.{IsPartitionPoint-from_clause}

@@ -1,7 +1,7 @@
-use Rattle.std.proofs.Common.{◌≡◌, ◌≢◌, ℕ, ◌+◌, ◌<◌, ◌≤◌, true, false, List, [], ◌∷◌, ◌++◌, length, take, refl, sym, ap, subst, ◌∙◌, ⊎_elim, arith}
+use Rattle.std.proofs.Common.{◌≡◌, ℕ, ◌+◌, true, false, List, [], ◌∷◌, ◌++◌, length, take, refl, sym, ap, subst, ◌∙◌, ⊎_elim, arith}
 use Rattle.std.proofs.lemmas.Bool.{cases_eq}
 use Rattle.std.specs.declared.option.Option.{Option}
-use Rattle.std.specs.declared.option.Option.TheVariants.{Some, None}
+use Rattle.std.specs.declared.option.Option.TheVariants.{None}
 use Rattle.sabr_model.specs.Order.{put_in}
 use Rattle.sabr_model.specs.Arrival.{RouteRequest}
 use Rattle.sabr_model.specs.Record.{by_record}
@@ -12,9 +12,8 @@ use Rattle.plain_listing.specs.declared.hop.Stop.{Stop}
 use Rattle.plain_listing.specs.declared.hop.Hop.{Hop}
 use Rattle.plain_listing.specs.Way.{numbers_of, hop_of, last_stop, record_over}
 use Rattle.plain_listing.specs.Walk.{IsMove}
-use Rattle.plain_listing.proofs.Sent.{next_from, sent_rises, named_is_given}
-use Rattle.plain_listing.proofs.Moves.{IsNext, IsOver}
-use Rattle.plain_listing.proofs.Walks.{next_is, over_is, walk_rises, walk_within, last_given, move_back, move_end, move_past, move_found, move_into, move_to, some_where, none_where}
+use Rattle.plain_listing.proofs.Sent.{next_from, sent_rises}
+use Rattle.plain_listing.proofs.Walks.{next_is, over_is, walk_rises, last_given, move_back, move_end, move_past, move_found, move_into, move_to, some_where, none_where}
 use Rattle.plain_listing.proofs.walk.step.Goals as goal
 
 pub next_from-requires : goal.next_from-requires
@@ -44,7 +43,7 @@ returns-in-Some-pop-clause-ok g c =
     let low = c.args.low in
     let none = sym (found p r hops low c.deref.result.now c.end_of-end.result c.from_node.result.now c.next_from.result c.deref.ensures.value c.end_of-end.ensures c.from_node.ensures c.next_from.ensures) ∙ c.in_default.is in
     move_back p r c.requires.rules c.args.kept.now.limit hops low c.args.kept.now.routes.items c.requires.walk
-        c.pop.new.self.items c.in-Some-pop.hop c.in-Some-pop.ensures.items (over_is p r c.requires.rules hops low c.requires.walk.way none)
+    c.pop.new.self.items c.in-Some-pop.hop c.in-Some-pop.ensures.items (over_is p r c.requires.rules hops low c.requires.walk.way none)
 
 pub returns-in-None-clause-ok : goal.returns-in-None-clause-ok
 returns-in-None-clause-ok g c =
@@ -56,7 +55,7 @@ returns-in-None-clause-ok g c =
     let left : c.pop.new.self.items ≡ [] = empty c.pop.new.self.items (let count = c.pop.new.self.ok.0 in let none_left = c.in-None.ensures.cases.1 in omega arith) in
     let nothing : hops ≡ [] = c.in-None.ensures.items ∙ ap (λ w. w ++ []) left in
     subst (λ further. IsMove p r c.args.kept.now.limit hops low further None c.args.kept.now.routes.items) (sym left)
-        (move_end p r c.requires.rules c.args.kept.now.limit hops low c.args.kept.now.routes.items c.requires.walk nothing (over_is p r c.requires.rules hops low c.requires.walk.way none))
+    (move_end p r c.requires.rules c.args.kept.now.limit hops low c.args.kept.now.routes.items c.requires.walk nothing (over_is p r c.requires.rules hops low c.requires.walk.way none))
 
 pub take_hop-requires-clause-number : goal.take_hop-requires-clause-number
 take_hop-requires-clause-number g c =
@@ -108,18 +107,18 @@ returns-in_ok-take_hop-in-Some-hop_over-clause-ok g c =
     let node : hop.stop.node ≡ (hop_of p r (numbers_of hops) n).stop.node = ap (λ (h : Hop). h.stop.node) told in
     let number : hop.number ≡ n = ap (λ (h : Hop). h.number) told in
     ⊎_elim
-        (λ there.
-            let is = c.in_ok-take_hop-in-Some-hop_over.ensures.route there in
-            move_to p r limit hops low hops c.take_hop.new.hops.items (n + 1) c.in_ok-take_hop-in-Some-hop_over.field-0 c.take_hop.new.kept.routes.items c.take_hop.new.kept.routes.items
-                (move_found p r c.requires.rules limit hops low kept c.requires.walk n next path (sym node ∙ there) c.take_hop.new.kept.routes.items
-                    (is.2 ∙ ap (λ h. take limit (put_in by_record (record_over r (hops ++ h ∷ [])) kept)) told))
-                is.1 (is.0 ∙ ap (λ m. m + 1) number) refl)
-        (λ elsewhere.
-            let is = c.in_ok-take_hop-in-Some-hop_over.ensures.onward elsewhere in
-            move_to p r limit hops low (hops ++ hop_of p r (numbers_of hops) n ∷ []) c.take_hop.new.hops.items 0 c.in_ok-take_hop-in-Some-hop_over.field-0 kept c.take_hop.new.kept.routes.items
-                (move_into p r c.requires.rules limit hops low kept c.requires.walk n next path (λ e. elsewhere (node ∙ e)))
-                (is.1 ∙ ap (λ h. hops ++ h ∷ []) told) is.0 is.2)
-        (cases_eq hop.stop.node r.destination)
+    (λ there.
+    let is = c.in_ok-take_hop-in-Some-hop_over.ensures.route there in
+    move_to p r limit hops low hops c.take_hop.new.hops.items (n + 1) c.in_ok-take_hop-in-Some-hop_over.field-0 c.take_hop.new.kept.routes.items c.take_hop.new.kept.routes.items
+    (move_found p r c.requires.rules limit hops low kept c.requires.walk n next path (sym node ∙ there) c.take_hop.new.kept.routes.items
+    (is.2 ∙ ap (λ h. take limit (put_in by_record (record_over r (hops ++ h ∷ [])) kept)) told))
+    is.1 (is.0 ∙ ap (λ m. m + 1) number) refl)
+    (λ elsewhere.
+    let is = c.in_ok-take_hop-in-Some-hop_over.ensures.onward elsewhere in
+    move_to p r limit hops low (hops ++ hop_of p r (numbers_of hops) n ∷ []) c.take_hop.new.hops.items 0 c.in_ok-take_hop-in-Some-hop_over.field-0 kept c.take_hop.new.kept.routes.items
+    (move_into p r c.requires.rules limit hops low kept c.requires.walk n next path (λ e. elsewhere (node ∙ e)))
+    (is.1 ∙ ap (λ h. hops ++ h ∷ []) told) is.0 is.2)
+    (cases_eq hop.stop.node r.destination)
 
 pub returns-in-None-hop_over-clause-ok : goal.returns-in-None-hop_over-clause-ok
 returns-in-None-hop_over-clause-ok g c =
@@ -131,6 +130,6 @@ returns-in-None-hop_over-clause-ok g c =
     let some = sym (found p r hops low c.deref.result.now c.end_of-end.result c.from_node.result.now c.next_from.result c.deref.ensures.value c.end_of-end.ensures c.from_node.ensures c.next_from.ensures) ∙ c.in-Some.is in
     let next = next_is p r c.requires.rules hops low n c.requires.walk.way some in
     let closed : is_path p r (numbers_of hops ++ n ∷ []) ≡ false =
-        ap (λ w. is_path p r (numbers_of w ++ n ∷ [])) (sym c.deref-2.ensures.value)
-        ∙ none_where (is_path p r (numbers_of c.deref-2.result.now ++ n ∷ [])) (hop_of p r (numbers_of c.deref-2.result.now) n) (sym c.hop_over.ensures ∙ c.in-None-hop_over.is) in
+    ap (λ w. is_path p r (numbers_of w ++ n ∷ [])) (sym c.deref-2.ensures.value)
+    ∙ none_where (is_path p r (numbers_of c.deref-2.result.now ++ n ∷ [])) (hop_of p r (numbers_of c.deref-2.result.now) n) (sym c.hop_over.ensures ∙ c.in-None-hop_over.is) in
     move_past p r c.requires.rules c.args.kept.now.limit hops low c.args.kept.now.routes.items c.requires.walk n next closed

@@ -1,8 +1,6 @@
-use Rattle.std.proofs.Common.{◌≡◌, ℕ, min, true, false, cond, sym, ap, subst, ◌∙◌, ◌++◌, [], ◌∷◌}
+use Rattle.std.proofs.Common.{◌≡◌, min, true, false, cond, sym, ap, ◌∙◌, ◌++◌, [], ◌∷◌}
 use Rattle.std.specs.Option.{option_copied}
-use Rattle.std.specs.declared.option.Option.{Option}
 use Rattle.std.specs.declared.option.Option.TheVariants.{Some, None}
-use Rattle.sabr_model.specs.declared.contact.Contact.{Contact}
 use Rattle.sabr_model.specs.Plan.{contact_named}
 use Rattle.sabr_model.specs.Arrival.{arrival}
 use Rattle.sabr_model.specs.Route.{is_path}
@@ -37,10 +35,10 @@ returns-then-contact-end g c =
     let named : contact_named p n ≡ Some contact = sym c.contact.ensures ∙ ap option_copied c.in_ok-contact.was in
     let end : c.end_of-end.result ≡ last_stop r hops = c.end_of-end.ensures in
     none_where (is_path p r (numbers_of hops ++ n ∷ [])) (hop_of p r (numbers_of hops) n)
-        (elim c.then-contact-end.branch [
-          | then-contact-end-via-then-contact-end w ↦ closed_apart p r hops c.requires.way n contact named (λ e. w.if-contact-end.true (e ∙ ap (λ (x : Stop). x.node) (sym end)))
-          | then-contact-end-via-else-contact-end+then-not-may_visit w ↦ closed_shut p r hops c.requires.way n contact named (sym w.may_visit.ensures ∙ w.if-not-may_visit.true)
-        ])
+    (elim c.then-contact-end.branch [
+      | then-contact-end-via-then-contact-end w ↦ closed_apart p r hops c.requires.way n contact named (λ e. w.if-contact-end.true (e ∙ ap (λ (x : Stop). x.node) (sym end)))
+      | then-contact-end-via-else-contact-end+then-not-may_visit w ↦ closed_shut p r hops c.requires.way n contact named (sym w.may_visit.ensures ∙ w.if-not-may_visit.true)
+    ])
 
 pub arrive-requires : goal.arrive-requires
 arrive-requires g c =
@@ -57,7 +55,7 @@ returns-in_err-arrival g c =
     let named : contact_named p n ≡ Some contact = sym c.contact.ensures ∙ ap option_copied c.in_ok-contact.was in
     let end : c.end_of-end.result ≡ last_stop r hops = c.end_of-end.ensures in
     let late : arrival p r (last_stop r hops).arrival contact ≡ None =
-        ap (λ (x : Stop). arrival p r x.arrival contact) (sym end) ∙ sym c.arrive.ensures ∙ c.in_err-arrival.was in
+    ap (λ (x : Stop). arrival p r x.arrival contact) (sym end) ∙ sym c.arrive.ensures ∙ c.in_err-arrival.was in
     c.from_residual-in_err-arrival.ensures
     ∙ none_where (is_path p r (numbers_of hops ++ n ∷ [])) (hop_of p r (numbers_of hops) n) (closed_late p r hops c.requires.way n contact named late)
 
@@ -74,7 +72,7 @@ returns g c =
     let sent : contact.from ≡ (last_stop r hops).node = c.if-contact-end.false ∙ ap (λ (x : Stop). x.node) end in
     let visits : may_visit r hops contact.to ≡ true = sym c.may_visit.ensures ∙ c.if-not-may_visit.false in
     let arrives : arrival p r (last_stop r hops).arrival contact ≡ Some u =
-        ap (λ (x : Stop). arrival p r x.arrival contact) (sym end) ∙ sym c.arrive.ensures ∙ c.in_ok-arrival.was in
+    ap (λ (x : Stop). arrival p r x.arrival contact) (sym end) ∙ sym c.arrive.ensures ∙ c.in_ok-arrival.was in
     let until : c.min.result ≡ min (last_stop r hops).until contact.end = c.min.ensures ∙ ap (λ (x : Stop). min x.until contact.end) end in
     let told = hop_open p r hops c.requires.way n contact named u sent visits arrives in
     ap (λ t. Some (record { number = n; stop = record { node = contact.to; arrival = u; until = t } })) until

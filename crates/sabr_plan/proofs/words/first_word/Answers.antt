@@ -29,12 +29,12 @@ module _ (text : List ℕ) (end : ℕ) (range : end ≤ length text) (word : All
   found =
       elim (cases_lt 0 end) [
         | inl some ↦
-          let first = first_is (take end text) (drop end text) (omega (arith, long)) word (λ h. rw (get_or-drop, add-zero) (ends (omega (arith, length-drop end text)))) in
-          rw (lt-ltb 0 (length (take end text)) (omega (arith, long))) (sym (ap words_of (take-append-drop end text)) ∙ first)
+            let first = first_is (take end text) (drop end text) (omega (arith, long)) word (λ h. rw (get_or-drop, add-zero) (ends (omega (arith, length-drop end text)))) in
+            rw (lt-ltb 0 (length (take end text)) (omega (arith, long))) (sym (ap words_of (take-append-drop end text)) ∙ first)
         | inr none ↦
-          let e : end ≡ 0 = omega arith in
-          let no_text = empty e in
-          rw (e, no_text) words_of-nil
+            let e : end ≡ 0 = omega arith in
+            let no_text = empty e in
+            rw (e, no_text) words_of-nil
       ]
 
   nothing : has_bytes (take end text) ≡ false → words_of (drop end text) ≡ []

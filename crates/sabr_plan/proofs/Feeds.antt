@@ -1,0 +1,38 @@
+-- Pieces of a text, fed one after the other.
+use Rattle.std.proofs.Common.{◌≡◌, ◌≢◌, ℕ, suc, ◌+◌, ◌*◌, ◌<◌, ◌≤◌, ◌⊎◌, inl, inr, Bool, true, false, List, [], ◌∷◌, ◌++◌, length, refl, sym, ap, ◌∙◌, arith, Result, Ok, Err, OnOk, IfErr, length-append}
+use Rattle.sabr_plan.specs.declared.fault.PlanFault.{PlanFault}
+use Rattle.sabr_plan.specs.declared.fault.PlanKind.TheVariants as kind
+use Rattle.sabr_plan.specs.Steps.{and_then}
+use Rattle.sabr_plan.specs.Words.{is_one_line}
+use Rattle.sabr_plan.specs.Leaving.{LeavesAt}
+use Rattle.sabr_plan.specs.Reading.{Reading, read_line, broken_line}
+use Rattle.sabr_plan.specs.Feeding.{Fed, outcome, IsFed, weight}
+use Rattle.sabr_plan.proofs.Outcomes.{outcome-line, outcome-held, outcome-refused}
+
+module _ (first : Fed) (piece : List ℕ) (s : Fed) (rest : List ℕ) (same : (more : List ℕ) (ended : Bool) → outcome first (piece ++ more) ended ≡ outcome s (rest ++ more) ended) (held : is_one_line s.held ≡ true) where
+  module _ (front back : List ℕ) (one : is_one_line front ≡ true) (parted : rest ≡ front ++ 10 ∷ back) where
+    -- a line ends
+    line_ends : (more : List ℕ) (ended : Bool) → outcome first (piece ++ more) ended ≡ and_then (read_line (s.lines + 1) s.reading (s.held ++ front)) (λ r. outcome (record { lines = s.lines + 1; reading = r; held = [] }) (back ++ more) ended)
+    line_ends more ended = same more ended ∙ ap (λ t. outcome s (t ++ more) ended) parted ∙ outcome-line s front back more ended held one
+
+    -- it is refused
+    pub line_refused : (f : PlanFault) → (f.kind ≡ kind.NoMemory) ⊎ (read_line (s.lines + 1) s.reading (s.held ++ front) ≡ Err f) → (f.kind ≡ kind.NoMemory) ⊎ ((more : List ℕ) (ended : Bool) → outcome first (piece ++ more) ended ≡ Err f)
+    line_refused f (inl memory) = inl memory
+    line_refused f (inr e) = inr (λ more ended. line_ends more ended ∙ rw e refl)
+
+    -- or read
+    pub line_read : (new : Fed) → read_line (s.lines + 1) s.reading (s.held ++ front) ≡ Ok new.reading → new.lines ≡ s.lines + 1 → new.held ≡ [] → (more : List ℕ) (ended : Bool) → outcome first (piece ++ more) ended ≡ outcome new (back ++ more) ended
+    line_read new e lines none more ended =
+        let made : ◌≡◌ {A = Fed} (record { lines = s.lines + 1; reading = new.reading; held = [] }) new = rw (← lines, ← none) refl in
+        line_ends more ended ∙ rw e (ap (λ t. outcome t (back ++ more) ended) made)
+
+    -- which is more than it was
+    pub line_grows : (new : Fed) → new.lines ≡ s.lines + 1 → new.held ≡ [] → length s.held + length front ≤ 255 → weight first + length piece ≤ weight s + length rest → weight first + length piece ≤ weight new + length back
+    line_grows new lines none short grows =
+        omega (arith, lines, ap length none, ap length parted, length-append front (10 ∷ back))
+
+  -- what is behind the last LF is held, or refused
+  pub rest_held : {U : Type 0} (new : Fed) (r : Result U PlanFault) → is_one_line rest ≡ true → OnOk r (new ≡ record { lines = s.lines; reading = s.reading; held = s.held ++ rest }) → IfErr r (λ f. (f ≡ broken_line (s.lines + 1) (s.held ++ rest)) × (f.kind ≢ kind.Read)) → IsFed first piece r new
+  rest_held new (Ok u) one ok err = λ more ended. same more ended ∙ outcome-held s rest more ended ∙ ap (λ t. outcome t more ended) (sym ok)
+  rest_held new (Err f) one ok err =
+      inr (λ more ended. same more ended ∙ outcome-refused s rest more ended held one (λ e. err.1 (ap (λ (g : PlanFault). g.kind) err.0 ∙ e)) ∙ ap Err (sym err.0))

@@ -1,0 +1,63 @@
+-- The bytes of a line that are held, and where a line ends.
+use Rattle.std.proofs.Common.{◌≡◌, ℕ, zero, suc, ◌+◌, ◌*◌, ◌-◌, ◌<◌, ◌≤◌, Bool, true, false, Result, ◌&&◌, not, eqb, ltb, cond, List, [], ◌∷◌, ◌++◌, length, take, drop, get_or, refl, sym, ap, ◌∙◌, arith, rules, inl, inr, length-take, get_or-take}
+use Rattle.std.specs.List.{list_all}
+use Rattle.std.proofs.lemmas.Bool.{cases_lt}
+use Rattle.std.proofs.lemmas.List.Folds.{list_all-append}
+use Rattle.std.proofs.lemmas.Slice.{take-put_mid}
+use Rattle.std.proofs.Math.Bool.{and-false}
+use borrow.Rule.Slice.PartMut.{put_mid}
+use borrow.Author.Tests.{lt-ltb, le-ltb, eq-eqb}
+use Rattle.sabr_plan.specs.declared.fault.PlanFault.{PlanFault}
+use Rattle.sabr_plan.specs.declared.fault.PlanKind.{PlanKind}
+use Rattle.sabr_plan.specs.declared.fault.PlanKind.TheVariants as kind
+use Rattle.sabr_plan.specs.Words.{is_one_line, has_bytes}
+use Rattle.sabr_plan.specs.Leaving.{Leaves}
+use Rattle.sabr_plan.specs.Feeding.{Fed}
+use Rattle.sabr_plan.specs.Reading.{Reading, judged, limited, broken_line}
+
+-- bytes put behind those that are held
+pub held_more : (held bytes part : List ℕ) (count : ℕ) → count + length bytes ≤ length held → part ≡ bytes → take (count + length bytes) (put_mid count (count + length bytes - count) held part) ≡ take count held ++ bytes
+held_more held bytes part count room same =
+    let long : length part ≡ length bytes = ap length same in
+    take-put_mid count (count + length bytes - count) held part (count + length bytes) (omega arith) (omega arith) ∙ ap (λ s. take count held ++ s) same
+
+pub one_line-append : (a b : List ℕ) → is_one_line a ≡ true → is_one_line b ≡ true → is_one_line (a ++ b) ≡ true
+one_line-append a b h k = rw (list_all-append (λ x. not (eqb x 10)) a b, h, k) refl
+
+-- no byte is LF
+pub one_line_from : (xs : List ℕ) → ((k : ℕ) → k < length xs → eqb (get_or xs k 0) 10 ≡ true → ⊥) → is_one_line xs ≡ true
+one_line_from [] none = refl
+one_line_from (x ∷ xs) none =
+    (elim (eqb x 10) as (λ b. eqb x 10 ≡ b → (not b && is_one_line xs) ≡ true) [
+      | true ↦ λ e. absurd (none 0 (omega arith) e)
+      | false ↦ λ e. one_line_from xs (λ k h. none (suc k) (omega arith))
+    ]) refl
+
+-- nor any before the first LF
+pub one_line_before : (xs : List ℕ) (end : ℕ) → end < length xs → ((k : ℕ) → k < end → eqb (get_or xs k 0) 10 ≡ true → ⊥) → is_one_line (take end xs) ≡ true
+one_line_before xs end h none =
+    one_line_from (take end xs) (λ k below e.
+    let within : k < end = omega (arith, length-take end xs) in
+    none k within (sym (ap (λ b. eqb b 10) (get_or-take end xs k 0 within)) ∙ e))
+
+-- what is held is within the limits, so behind it the reader's failure is told
+pub broken_held : (lines count : ℕ) (held : List ℕ) → length held ≤ count → lines ≤ 1000000 → count ≤ 255 * (1000000 - lines) → count ≤ 255 → broken_line (lines + 1) held ≡ record { line = lines + 1; kind = kind.Read }
+broken_held lines count held long within room limit =
+    let at_n : PlanKind → PlanFault = λ k. record { line = lines + 1; kind = k } in
+    let few : ltb 255 (length held) ≡ false = le-ltb 255 (length held) (omega arith) in
+    elim (cases_lt lines 1000000) [
+      | inl more ↦ rw (le-ltb 1000000 (lines + 1) (omega arith), few) refl
+      | inr full ↦ rw (le-ltb 0 (length held) (omega arith), and-false (ltb 1000000 (lines + 1)), few) refl
+    ]
+
+-- a line within the limits is judged
+pub limited-judged : (n : ℕ) (r : Reading) (line : List ℕ) → n ≤ 1000000 → length line ≤ 255 → limited n r line ≡ judged r line
+unfolding limited
+limited-judged n r line few short = rw (le-ltb 1000000 n few, le-ltb 255 (length line) short) refl
+
+-- also once all of it is held
+pub held_judged : {U : Type 0} (s new : Fed) (back : List ℕ) (r : Result U PlanKind) (after : Reading) → new ≡ record { lines = s.lines; reading = s.reading; held = s.held ++ back } → s.lines < 1000000 → length new.held ≤ 255 → Leaves (judged new.reading new.held) r after → Leaves (limited (s.lines + 1) s.reading (s.held ++ back)) r after
+held_judged s new back r after e few short is =
+    let held : new.held ≡ s.held ++ back = ap (λ (s : Fed). s.held) e in
+    let reading : new.reading ≡ s.reading = ap (λ (s : Fed). s.reading) e in
+    rw (limited-judged (s.lines + 1) s.reading (s.held ++ back) (omega arith) (rw held at short)) (rw (reading, held) at is)

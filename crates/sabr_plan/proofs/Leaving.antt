@@ -1,0 +1,43 @@
+-- A change of a plan, as its call answers it.
+use Rattle.std.proofs.Common.{◌≡◌, ℕ, ◌⊎◌, Bool, true, false, inl, inr, refl, sym, ap, ◌∙◌, Option, Some, None, Result, Ok, Err, IfOk, OnOk, IfErr, IsOk, IsTrue, is_some, ok_or, ◌↔◌}
+use Rattle.std.specs.Result.{IsOkUnless}
+use Rattle.std.proofs.lemmas.Bool.{false≢true}
+use Rattle.sabr_model.specs.Plan.{ContactPlan}
+use Rattle.sabr_model.specs.declared.fault.AddFault.{AddFault}
+use Rattle.sabr_model.specs.declared.fault.AddFault.TheVariants as add
+use Rattle.sabr_plan.specs.declared.fault.PlanKind.{PlanKind}
+use Rattle.sabr_plan.specs.declared.fault.PlanKind.TheVariants as kind
+use Rattle.sabr_plan.specs.Reading.{Reading, kind_of, changed, unless_named}
+
+-- how a call answers that may be refused so
+pub record IsAnswered {X : Type 0} (refusal : Option AddFault) (r : Result X AddFault) (p new : ContactPlan) : Type 0 where
+  pub refused : (f : AddFault) → refusal ≡ Some f → r ≡ Err f
+  pub accepted : refusal ≡ None → IsOkUnless r add.NoMemory
+  pub ok : OnOk r (new ≡ p)
+
+pub changed_ok : {X : Type 0} (refusal : Option AddFault) (reference : Option ℕ) (r : Result X AddFault) (p new : ContactPlan) (x : X) → IsAnswered refusal r p new → r ≡ Ok x → changed refusal reference p ≡ Ok (record { plan = new; reference = reference })
+changed_ok (Some f) reference r p new x is e = let other = is.refused f refl in cc
+changed_ok None reference r p new x is e =
+    let same : new ≡ p = rw e at is.ok in
+    ap (λ q. Ok (record { plan = q; reference = reference })) (sym same)
+
+pub changed_err : {X : Type 0} (refusal : Option AddFault) (reference : Option ℕ) (r : Result X AddFault) (p new : ContactPlan) (f : AddFault) → IsAnswered refusal r p new → r ≡ Err f → (kind_of f ≡ kind.NoMemory) ⊎ (changed refusal reference p ≡ Err (kind_of f))
+changed_err (Some g) reference r p new f is e =
+    let other = is.refused g refl in
+    let same : g ≡ f = cc in
+    inr (ap (λ h. Err (kind_of h)) same)
+changed_err None reference r p new f is e =
+    let same : f ≡ add.NoMemory = rw e at (is.accepted refl) in
+    inl (ap kind_of same)
+
+-- a deletion of a contact
+pub contact_deleted : (o : Option ℕ) (r : Result ℕ AddFault) (p new : ContactPlan) → r ≡ ok_or o add.NothingToDelete → OnOk r (new ≡ p) → IsAnswered (unless_named (is_some o)) r p new
+contact_deleted (Some n) r p new e ok = record { refused = λ f is. cc; accepted = λ is. rw e tt; ok = ok }
+contact_deleted None r p new e ok = record { refused = λ f is. let same : add.NothingToDelete ≡ f = cc in e ∙ ap Err same; accepted = λ is. cc; ok = ok }
+
+-- a deletion of a range
+pub range_deleted : {X : Type 0} (b : Bool) (r : Result X AddFault) (p new : ContactPlan) → IsOk r ↔ IsTrue b → IfErr r (λ f. f ≡ add.NothingToDelete) → OnOk r (new ≡ p) → IsAnswered (unless_named b) r p new
+range_deleted true (Ok x) p new is fault ok = record { refused = λ f e. cc; accepted = λ e. tt; ok = ok }
+range_deleted true (Err g) p new is fault ok = absurd (false≢true (is.1 refl))
+range_deleted false (Ok x) p new is fault ok = absurd (false≢true (is.0 refl))
+range_deleted false (Err g) p new is fault ok = record { refused = λ f e. let same : add.NothingToDelete ≡ f = cc in ap Err (fault ∙ same); accepted = λ e. cc; ok = ok }

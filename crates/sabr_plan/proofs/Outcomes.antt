@@ -1,0 +1,141 @@
+-- What comes of a text, one piece after the other.
+use Rattle.std.proofs.Common.{◌≡◌, ◌≢◌, ℕ, suc, ◌+◌, ◌*◌, ◌-◌, ◌<◌, ◌≤◌, ◌⊎◌, Bool, true, false, ◌&&◌, not, eqb, ltb, cond, List, [], ◌∷◌, ◌++◌, length, take, drop, get_or, inl, inr, refl, sym, ap, ◌∙◌, arith, rules, append_assoc, append-nil, length-append, Result, Ok, Err}
+use Rattle.std.proofs.lemmas.Bool.{and_parts, false≢true}
+use borrow.Author.Tests.{lt-ltb, le-ltb, ltb-true, ltb-false}
+use Rattle.std.proofs.lemmas.List.Folds.{list_all-append}
+use Rattle.std.proofs.Math.Bool.{and-false}
+use Rattle.std.specs.Prelude.{if◌then◌else◌}
+use Rattle.sabr_model.specs.Plan.{ContactPlan}
+use Rattle.sabr_plan.specs.declared.fault.PlanFault.{PlanFault}
+use Rattle.sabr_plan.specs.declared.fault.PlanKind.{PlanKind}
+use Rattle.sabr_plan.specs.declared.fault.PlanKind.TheVariants as kind
+use Rattle.sabr_plan.specs.Steps.{and_then, given_as}
+use Rattle.sabr_plan.specs.Words.{TextLines, is_one_line, has_bytes, lines_of}
+use Rattle.sabr_plan.specs.Reading.{Reading, nothing_read, judged, at_line, limited, read_line, read_lines, ended_line, broken_line, last_line, plan_of}
+use Rattle.sabr_plan.specs.Feeding.{Fed, nothing_fed, outcome}
+use Rattle.sabr_plan.proofs.Lines.{in_front, lines_of-front, lines_of-one, lines_of-line}
+
+-- a step after two steps
+and_then-and_then : {A B C E : Type 0} (r : Result A E) (f : A → Result B E) (g : B → Result C E) → and_then (and_then r f) g ≡ and_then r (λ x. and_then (f x) g)
+and_then-and_then (Ok x) f g = refl
+and_then-and_then (Err e) f g = refl
+
+-- second steps that give the same
+after : {A B E : Type 0} (r : Result A E) {f g : A → Result B E} → ((x : A) → f x ≡ g x) → and_then r f ≡ and_then r g
+after (Ok x) same = same x
+after (Err e) same = refl
+
+-- what the lines of a text come to, from number n on
+lines_outcome : ℕ → Reading → TextLines → Bool → Result ContactPlan PlanFault
+lines_outcome n r t ended = and_then (read_lines n r t.ended) (last_line ended (n + length t.ended) t.open_line)
+
+outcome-lines : (s : Fed) (bytes : List ℕ) (ended : Bool) → outcome s bytes ended ≡ lines_outcome (s.lines + 1) s.reading (lines_of (s.held ++ bytes)) ended
+unfolding outcome lines_outcome
+outcome-lines s bytes ended = refl
+
+lines_outcome-more : (n : ℕ) (r : Reading) (line : List ℕ) (lines : List (List ℕ)) (rest : List ℕ) (ended : Bool) → lines_outcome n r (record { ended = line ∷ lines; open_line = rest }) ended ≡ and_then (read_line n r line) (λ r₁. lines_outcome (n + 1) r₁ (record { ended = lines; open_line = rest }) ended)
+unfolding lines_outcome read_lines
+lines_outcome-more n r line lines rest ended =
+    let count : n + suc (length lines) ≡ n + 1 + length lines = omega arith in
+    rw count (and_then-and_then (read_line n r line) (λ r₁. read_lines (n + 1) r₁ lines) (last_line ended (n + 1 + length lines) rest))
+
+lines_outcome-last : (n : ℕ) (r : Reading) (rest : List ℕ) (ended : Bool) → lines_outcome n r (record { ended = []; open_line = rest }) ended ≡ last_line ended n rest r
+unfolding lines_outcome read_lines
+lines_outcome-last n r rest ended =
+    let count : n + 0 ≡ n = omega arith in
+    ap (λ k. last_line ended k rest r) count
+
+-- nothing was fed at first
+pub plan_of-outcome : (bytes : List ℕ) (ended : Bool) → plan_of bytes ended ≡ outcome nothing_fed bytes ended
+unfolding plan_of outcome
+plan_of-outcome bytes ended =
+    let count : length (lines_of bytes).ended + 1 ≡ 1 + length (lines_of bytes).ended = omega arith in
+    ap (λ k. and_then (read_lines 1 nothing_read (lines_of bytes).ended) (last_line ended k (lines_of bytes).open_line)) count
+
+-- a line ends in a piece
+pub outcome-line : (s : Fed) (front rest more : List ℕ) (ended : Bool) → is_one_line s.held ≡ true → is_one_line front ≡ true → outcome s ((front ++ 10 ∷ rest) ++ more) ended ≡ and_then (read_line (s.lines + 1) s.reading (s.held ++ front)) (λ r. outcome (record { lines = s.lines + 1; reading = r; held = [] }) (rest ++ more) ended)
+outcome-line s front rest more ended held one =
+    let line = s.held ++ front in
+    let whole : is_one_line line ≡ true = rw (list_all-append (λ b. not (eqb b 10)) s.held front, held, one) refl in
+    let parts : s.held ++ ((front ++ 10 ∷ rest) ++ more) ≡ line ++ 10 ∷ (rest ++ more) = rw (append_assoc, append_assoc) refl in
+    let t = lines_of (rest ++ more) in
+    outcome-lines s ((front ++ 10 ∷ rest) ++ more) ended
+    ∙ ap (λ t. lines_outcome (s.lines + 1) s.reading t ended) (ap lines_of parts ∙ lines_of-line line (rest ++ more) whole)
+    ∙ lines_outcome-more (s.lines + 1) s.reading line t.ended t.open_line ended
+    ∙ after (read_line (s.lines + 1) s.reading line) (λ r. sym (outcome-lines (record { lines = s.lines + 1; reading = r; held = [] }) (rest ++ more) ended))
+
+-- bytes are held
+pub outcome-held : (s : Fed) (bytes more : List ℕ) (ended : Bool) → outcome s (bytes ++ more) ended ≡ outcome (record { lines = s.lines; reading = s.reading; held = s.held ++ bytes }) more ended
+unfolding outcome
+outcome-held s bytes more ended = rw append_assoc refl
+
+-- a text ends, or breaks off, behind what is held
+pub outcome-end : (s : Fed) (ended : Bool) → is_one_line s.held ≡ true → outcome s [] ended ≡ last_line ended (s.lines + 1) s.held s.reading
+outcome-end s ended one =
+    outcome-lines s [] ended ∙ ap (λ t. lines_outcome (s.lines + 1) s.reading t ended) (ap lines_of (append-nil s.held) ∙ lines_of-one s.held one) ∙ lines_outcome-last (s.lines + 1) s.reading s.held ended
+
+-- a line that is too far on, or too long, is refused for its beginning
+choose : (far some long longer : Bool) (judgement : Result Reading PlanKind) → (some ≡ false → long ≡ false) → (long ≡ true → longer ≡ true) → (if far && some then kind.TooMany else if long then kind.LineTooLong else kind.Read) ≢ kind.Read → (if far then Err kind.TooMany else if longer then Err kind.LineTooLong else judgement) ≡ Err (if far && some then kind.TooMany else if long then kind.LineTooLong else kind.Read)
+choose true true long longer judgement p q other = refl
+choose true false long longer judgement p q other = absurd (other (rw (p refl) refl))
+choose false some true longer judgement p q other = rw (q refl) refl
+choose false some false longer judgement p q other = absurd (other refl)
+
+-- nothing is not long
+short : (front : List ℕ) → has_bytes front ≡ false → ltb 255 (length front) ≡ false
+short front none = let h = ltb-false 0 (length front) none in le-ltb 255 (length front) (omega arith)
+
+-- what is long stays long
+longer : (front back : List ℕ) → ltb 255 (length front) ≡ true → ltb 255 (length (front ++ back)) ≡ true
+longer front back long = let h = ltb-true 255 (length front) long in lt-ltb 255 (length (front ++ back)) (omega (arith, length-append front back))
+
+refused_line : (n : ℕ) (r : Reading) (front back : List ℕ) → (broken_line n front).kind ≢ kind.Read → limited n r (front ++ back) ≡ Err (broken_line n front).kind
+unfolding limited
+refused_line n r front back other = choose (ltb 1000000 n) (has_bytes front) (ltb 255 (length front)) (ltb 255 (length (front ++ back))) (judged r (front ++ back)) (short front) (longer front back) other
+
+-- so it has bytes
+some_front : (n : ℕ) (front : List ℕ) → (broken_line n front).kind ≢ kind.Read → has_bytes front ≡ true
+some_front n front other =
+    (elim (has_bytes front) as (λ b. has_bytes front ≡ b → b ≡ true) [
+      | true ↦ λ e. refl
+      | false ↦ λ e. absurd (other (rw (e, short front e, and-false (ltb 1000000 n)) refl))
+    ]) refl
+
+some_more : (front back : List ℕ) → has_bytes front ≡ true → has_bytes (front ++ back) ≡ true
+some_more front back some = let h = ltb-true 0 (length front) some in lt-ltb 0 (length (front ++ back)) (omega (arith, length-append front back))
+
+still : (far long longer : Bool) → (long ≡ true → longer ≡ true) → (if far && true then kind.TooMany else if long then kind.LineTooLong else kind.Read) ≢ kind.Read → ◌≡◌ {A = PlanKind} (if far && true then kind.TooMany else if longer then kind.LineTooLong else kind.Read) (if far && true then kind.TooMany else if long then kind.LineTooLong else kind.Read)
+still true long longer q other = refl
+still false true longer q other = rw (q refl) refl
+still false false longer q other = absurd (other refl)
+
+still_broken : (n : ℕ) (front back : List ℕ) → (broken_line n front).kind ≢ kind.Read → broken_line n (front ++ back) ≡ broken_line n front
+still_broken n front back other =
+    let some = some_front n front other in
+    let more = some_more front back some in
+    let same = still (ltb 1000000 n) (ltb 255 (length front)) (ltb 255 (length (front ++ back))) (longer front back) (rw some at other) in
+    let at_n : PlanKind → PlanFault = λ k. record { line = n; kind = k } in
+    rw (some, more) (ap at_n same)
+
+-- the last line too
+last_refused : (n : ℕ) (r : Reading) (front back : List ℕ) (ended : Bool) → (broken_line n front).kind ≢ kind.Read → last_line ended n (front ++ back) r ≡ Err (broken_line n front)
+last_refused n r front back true other =
+    rw (some_more front back (some_front n front other), refused_line n r front back other) refl
+last_refused n r front back false other = ap Err (still_broken n front back other)
+
+-- whatever comes behind it
+front_refused : (n : ℕ) (r : Reading) (front : List ℕ) (lines : List (List ℕ)) (rest : List ℕ) (ended : Bool) → (broken_line n front).kind ≢ kind.Read → lines_outcome n r (in_front front (record { ended = lines; open_line = rest })) ended ≡ Err (broken_line n front)
+front_refused n r front [] rest ended other = lines_outcome-last n r (front ++ rest) ended ∙ last_refused n r front rest ended other
+front_refused n r front (line ∷ lines) rest ended other =
+    lines_outcome-more n r (front ++ line) lines rest ended ∙ rw (refused_line n r front line other) refl
+
+-- bytes that are refused, whatever comes behind them
+pub outcome-refused : (s : Fed) (bytes more : List ℕ) (ended : Bool) → is_one_line s.held ≡ true → is_one_line bytes ≡ true → (broken_line (s.lines + 1) (s.held ++ bytes)).kind ≢ kind.Read → outcome s (bytes ++ more) ended ≡ Err (broken_line (s.lines + 1) (s.held ++ bytes))
+outcome-refused s bytes more ended held one other =
+    let front = s.held ++ bytes in
+    let whole : is_one_line front ≡ true = rw (list_all-append (λ b. not (eqb b 10)) s.held bytes, held, one) refl in
+    let parts : s.held ++ (bytes ++ more) ≡ front ++ more = rw append_assoc refl in
+    let t = lines_of more in
+    outcome-lines s (bytes ++ more) ended
+    ∙ ap (λ t. lines_outcome (s.lines + 1) s.reading t ended) (ap lines_of parts ∙ lines_of-front front more whole)
+    ∙ front_refused (s.lines + 1) s.reading front t.ended t.open_line ended other

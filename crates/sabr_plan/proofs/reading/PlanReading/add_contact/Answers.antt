@@ -1,0 +1,20 @@
+-- The plan takes the contact or refuses it.
+use Rattle.std.proofs.Common.{◌≡◌, refl, sym, ap, ◌∙◌}
+use Rattle.std.proofs.lemmas.Result.{on_ok_weaker}
+use Rattle.sabr_model.specs.Adding.{contact_refusal, range_refusal, new_range, next_contact, with_contact, with_range, number_of_opening, begins, without_contact, without_range}
+use Rattle.std.specs.List.{list_any}
+use Rattle.sabr_plan.specs.Reading.{obeyed}
+use Rattle.sabr_plan.proofs.Leaving.{IsAnswered, changed_ok, changed_err}
+use Rattle.sabr_plan.proofs.reading.PlanReading.add_contact.Goals as goal
+use Rattle.sabr_plan.proofs.reading.PlanReading.add_contact.Goals.{in-Ok, in-Err}
+
+pub returns : goal.returns
+unfolding obeyed
+returns g c =
+    let p = c.self.inside.plan.plan in
+    let a = c.args.a in
+    let is : IsAnswered (contact_refusal p a.first a.second a.start a.end) c.add_contact.result (with_contact p (next_contact p a.first a.second a.start a.end a.value)) c.add_contact.new.self.plan = record { refused = c.add_contact.ensures.refused; accepted = c.add_contact.ensures.accepted; ok = c.add_contact.ensures.ok } in
+    elim c.match-add_contact.branch [
+      | in-Ok w ↦ rw (← c.self.view_is, w.result-is) (changed_ok _ c.self.inside.reference c.add_contact.result _ _ _ is w.in-Ok.is)
+      | in-Err w ↦ rw (← c.self.view_is, w.result-is, w.kind_of.ensures) (changed_err _ c.self.inside.reference c.add_contact.result _ _ _ is w.in-Err.is)
+    ]

@@ -1,0 +1,20 @@
+-- The plan gives the contact up or has none.
+use Rattle.std.proofs.Common.{◌≡◌, refl, sym, ap, ◌∙◌}
+use Rattle.std.proofs.lemmas.Result.{on_ok_weaker}
+use Rattle.sabr_model.specs.Adding.{contact_refusal, range_refusal, new_range, next_contact, with_contact, with_range, number_of_opening, begins, without_contact, without_range}
+use Rattle.std.specs.List.{list_any}
+use Rattle.sabr_plan.specs.Reading.{obeyed}
+use Rattle.sabr_plan.proofs.Leaving.{IsAnswered, changed_ok, changed_err, contact_deleted}
+use Rattle.sabr_plan.proofs.reading.PlanReading.delete_contact.Goals as goal
+use Rattle.sabr_plan.proofs.reading.PlanReading.delete_contact.Goals.{in-Ok, in-Err}
+
+pub returns : goal.returns
+unfolding obeyed
+returns g c =
+    let p = c.self.inside.plan.plan in
+    let d = c.args.d in
+    let is = contact_deleted (number_of_opening p d.first d.second d.start) c.delete_contact.result (without_contact p d.first d.second d.start) c.delete_contact.new.self.plan c.delete_contact.ensures.value c.delete_contact.ensures.ok in
+    elim c.match-delete_contact.branch [
+      | in-Ok w ↦ rw (← c.self.view_is, w.result-is) (changed_ok _ c.self.inside.reference c.delete_contact.result _ _ _ is w.in-Ok.is)
+      | in-Err w ↦ rw (← c.self.view_is, w.result-is, w.kind_of.ensures) (changed_err _ c.self.inside.reference c.delete_contact.result _ _ _ is w.in-Err.is)
+    ]

@@ -1,0 +1,38 @@
+-- A plan text that is read in pieces: what was read so far, and what comes of the text.
+use Rattle.std.specs.Prelude.{◌≡◌, ℕ, ◌+◌, ◌*◌, Bool, List, [], ◌∷◌, ◌++◌, length, Result, Ok, Err, ◌⊎◌}
+use Rattle.sabr_model.specs.Plan.{ContactPlan, TabledPlan}
+use Rattle.sabr_plan.specs.Steps.{and_then}
+use Rattle.sabr_plan.specs.Words.{TextLines, lines_of}
+use Rattle.sabr_plan.specs.Reading.{Reading, nothing_read, read_lines, last_line}
+use Rattle.sabr_plan.specs.declared.fault.PlanFault.{PlanFault}
+use Rattle.sabr_plan.specs.declared.fault.PlanKind.TheVariants.{NoMemory}
+
+-- how many lines LF has ended, what they leave, and the bytes of the line behind them
+pub record Fed : Type 0 where
+  pub lines : ℕ
+  pub reading : Reading
+  pub held : List ℕ
+
+-- before the first piece
+abbrev pub nothing_fed : Fed
+nothing_fed = record { lines = 0; reading = nothing_read; held = [] }
+
+-- what comes of a text, with these bytes behind what was fed
+unfoldable pub outcome : Fed → List ℕ → Bool → Result ContactPlan PlanFault
+outcome s bytes ended =
+    let text = lines_of (s.held ++ bytes) in
+    and_then (read_lines (s.lines + 1) s.reading text.ended) (last_line ended (s.lines + 1 + length text.ended) text.open_line)
+
+-- a piece was fed: whatever comes behind it, the text comes to the same
+abbrev pub IsFed : {U : Type 0} → Fed → List ℕ → Result U PlanFault → Fed → Type 0
+IsFed old piece (Ok _) new = (more : List ℕ) (ended : Bool) → outcome old (piece ++ more) ended ≡ outcome new more ended
+IsFed old piece (Err f) new = (f.kind ≡ NoMemory) ⊎ ((more : List ℕ) (ended : Bool) → outcome old (piece ++ more) ended ≡ Err f)
+
+-- it grows with each byte
+abbrev pub weight : Fed → ℕ
+weight s = 256 * s.lines + length s.held
+
+-- the plan, its refusal, or one for want of memory
+abbrev pub Answers : Result ContactPlan PlanFault → Result TabledPlan PlanFault → Type 0
+Answers wanted (Ok p) = wanted ≡ Ok p.plan
+Answers wanted (Err f) = (f.kind ≡ NoMemory) ⊎ (wanted ≡ Err f)

@@ -1,0 +1,202 @@
+//! A plan text that is read piece by piece. One line at a time is held, in a fixed array.
+
+ghost use Rattle.std.specs.Prelude.{◌≡◌, ◌≢◌, ◌+◌, ◌-◌, ◌*◌, ◌≤◌, ◌<◌, [], ◌++◌, Ok, Err, OnOk, IfErr, IsTrue, length, take, slice_index, MatchOption, false, true};
+ghost use Rattle.sabr_plan.specs.Words.{is_one_line};
+ghost use Rattle.sabr_plan.specs.Leaving.{Leaves, LeavesAt};
+ghost use Rattle.sabr_plan.specs.declared.fault.PlanKind.TheVariants as kind;
+
+use crate::fault::{PlanFault, PlanKind};
+use crate::reading::PlanReading;
+use memchr::memchr;
+use sabr_model::Plan;
+use std::alloc::Allocator;
+use std::marker::Model;
+
+/// The greatest number of bytes of a line without its LF.
+const LINE_LIMIT: usize = 255;
+
+/// The greatest number of lines.
+const LINES_LIMIT: u32 = 1000000;
+
+/// What the lines so far leave, how many there are, and the bytes of the line behind them.
+#[derive(Drop)]
+pub struct PlanFeed<A: Allocator + Copy> {
+    lines: u32,
+    reading: PlanReading<A>,
+    held: [u8; 255],
+    held_count: usize,
+}
+
+impl<A: Allocator + Copy> Model for PlanFeed<A> {
+    ghost use Rattle.std.specs.Prelude.{◌≤◌, ◌-◌, ◌*◌, take, IsTrue};
+    ghost use Rattle.sabr_plan.specs.Words.{is_one_line};
+    ghost use Rattle.sabr_plan.specs.Feeding.{Fed};
+
+    ghost Value = { Fed };
+
+    ghost view = { λ f. record { lines = f.lines; reading = f.reading; held = take f.held_count f.held } };
+
+    ghost invariant = { λ f. (f.lines ≤ 1000000) × (f.held_count ≤ 255 * (1000000 - f.lines)) × (f.held_count ≤ 255) × IsTrue (is_one_line (take f.held_count f.held)) };
+}
+
+/// Where the first LF stands.
+fn line_end(text: &[u8]) -> Option<usize>
+    ensures { MatchOption result (IsTrue (is_one_line text.now)) (λ end. (end < length text.now) × (slice_index text.now end ≡ 10) × IsTrue (is_one_line (take end text.now))) }
+{
+    memchr(b'\n', text)
+}
+
+impl<A: Allocator + Copy> PlanFeed<A> {
+    ghost use Rattle.sabr_plan.specs.Reading.{judged, at_line, limited, read_line, ended_line, broken_line};
+    ghost use Rattle.sabr_plan.specs.Feeding.{Fed, nothing_fed, outcome, IsFed, weight, Answers};
+
+    /// Before the first piece.
+    pub fn new(alloc: A) -> PlanFeed<A>
+        ensures { result ≡ nothing_fed }
+    {
+        PlanFeed {
+            lines: 0,
+            reading: PlanReading::new(alloc),
+            held: [0; 255],
+            held_count: 0,
+        }
+    }
+
+    /// Takes the next piece of the text.
+    pub fn feed(&mut self, piece: &[u8]) -> Result<(), PlanFault>
+        ensures fed { IsFed self.old piece.now result self.new }
+        ensures grows { OnOk result (weight self.old + length piece.now ≤ weight self.new) }
+        ensures bound { OnOk result (weight self.new ≤ 256000000) }
+    {
+        let mut rest = piece;
+        while let Some(end) = line_end(rest) {
+            let (front, back) = rest.split_at(end);
+            self.end_line(front)?;
+            rest = &back[1..];
+        }
+        self.hold(rest)
+    }
+
+    /// The text has ended.
+    pub fn finish(mut self) -> Result<Plan<A>, PlanFault>
+        ensures { Answers (outcome self [] true) result }
+    {
+        self.end_text()?;
+        Ok(self.into_plan())
+    }
+
+    /// What is held is a line, if there is a byte.
+    fn end_text(&mut self) -> Result<(), PlanFault>
+        ensures value { LeavesAt (ended_line (self.old.lines + 1) self.old.reading self.old.held) result self.new.reading }
+        ensures held { IsTrue (is_one_line self.old.held) }
+    {
+        if self.held_count == 0 {
+            Ok(())
+        } else {
+            self.end_line(&[])
+        }
+    }
+
+    /// The plan that the lines leave.
+    fn into_plan(self) -> Plan<A>
+        ensures { result.plan ≡ self.reading.plan }
+    {
+        let PlanFeed {
+            lines: _,
+            reading,
+            held: _,
+            held_count: _,
+        } = self;
+        reading.into_plan()
+    }
+
+    /// The reader has failed.
+    pub fn failed(&self) -> PlanFault
+        ensures kind { result.kind ≡ kind.Read }
+        ensures value { outcome self.now [] false ≡ Err result }
+    {
+        PlanFault {
+            line: self.lines + 1,
+            kind: PlanKind::Read,
+        }
+    }
+
+    /// The line goes on with these bytes, and LF or the end of the text ends it.
+    fn end_line(&mut self, back: &[u8]) -> Result<(), PlanFault>
+        requires { IsTrue (is_one_line back.now) }
+        ensures value { LeavesAt (read_line (self.old.lines + 1) self.old.reading (self.old.held ++ back.now)) result self.new.reading }
+        ensures rest { OnOk result ((self.new.lines ≡ self.old.lines + 1) × (self.new.held ≡ [])) }
+        ensures fits { OnOk result (length self.old.held + length back.now ≤ 255) }
+        ensures held { IsTrue (is_one_line self.old.held) }
+    {
+        let line = self.lines + 1;
+        match self.judge_line(back) {
+            Ok(()) => {
+                self.lines = line;
+                self.held_count = 0;
+                Ok(())
+            }
+            Err(kind) => Err(PlanFault { line, kind }),
+        }
+    }
+
+    /// Judges the line that goes on with these bytes, if it is within the limits.
+    fn judge_line(&mut self, back: &[u8]) -> Result<(), PlanKind>
+        requires { IsTrue (is_one_line back.now) }
+        ensures value { Leaves (limited (self.old.lines + 1) self.old.reading (self.old.held ++ back.now)) result self.new.reading }
+        ensures lines { self.new.lines ≡ self.old.lines }
+        ensures fits { OnOk result ((self.old.lines < 1000000) × (length self.old.held + length back.now ≤ 255)) }
+    {
+        if self.lines >= LINES_LIMIT {
+            return Err(PlanKind::TooMany);
+        }
+        if back.len() > LINE_LIMIT - self.held_count {
+            return Err(PlanKind::LineTooLong);
+        }
+        if self.held_count == 0 {
+            return self.reading.judge(back);
+        }
+        self.append(back);
+        self.reading.judge(&self.held[..self.held_count])
+    }
+
+    /// Holds more bytes of a line.
+    fn append(&mut self, bytes: &[u8])
+        requires room { length self.old.held + length bytes.now ≤ 255 }
+        requires lines { self.old.lines < 1000000 }
+        requires line { IsTrue (is_one_line bytes.now) }
+        ensures { self.new ≡ record { lines = self.old.lines; reading = self.old.reading; held = self.old.held ++ bytes.now } }
+    {
+        let end = self.held_count + bytes.len();
+        self.held[self.held_count..end].copy_from_slice(bytes);
+        self.held_count = end;
+    }
+
+    /// Holds what comes behind the last LF of a piece.
+    fn hold(&mut self, bytes: &[u8]) -> Result<(), PlanFault>
+        requires { IsTrue (is_one_line bytes.now) }
+        ensures ok { OnOk result (self.new ≡ record { lines = self.old.lines; reading = self.old.reading; held = self.old.held ++ bytes.now }) }
+        ensures bound { OnOk result (weight self.new ≤ 256000000) }
+        ensures held { IsTrue (is_one_line self.old.held) }
+        ensures err { IfErr result (λ f. (f ≡ broken_line (self.old.lines + 1) (self.old.held ++ bytes.now)) × (f.kind ≢ kind.Read)) }
+    {
+        let line = self.lines + 1;
+        if bytes.is_empty() {
+            return Ok(());
+        }
+        if self.lines >= LINES_LIMIT {
+            return Err(PlanFault {
+                line,
+                kind: PlanKind::TooMany,
+            });
+        }
+        if bytes.len() > LINE_LIMIT - self.held_count {
+            return Err(PlanFault {
+                line,
+                kind: PlanKind::LineTooLong,
+            });
+        }
+        self.append(bytes);
+        Ok(())
+    }
+}

@@ -1,0 +1,33 @@
+//! Reading a plan.
+
+ghost use Rattle.std.specs.Prelude.{◌≡◌};
+ghost use Rattle.sabr_plan.specs.PlanRead.{ReadsPlan};
+
+use crate::fault::PlanFault;
+use crate::feed::PlanFeed;
+use sabr_model::{Failed, Plan, Read};
+use std::alloc::Allocator;
+
+/// Reads the plan that a text spells, to the text's end or up to its first bad line.
+///
+/// The text is that of ionrc(5), as far as this project's profile goes. Of the bad lines the first is told, and of
+/// that line the least kind. `Read` comes only where the reader failed, and `NoMemory` only where a growth was
+/// refused; then no plan is given. How many bytes behind a bad line the reader has given up is open.
+///
+/// One pass over the text; each contact and range costs what adding it costs.
+pub fn read_plan<R: Read, A: Allocator + Copy>(
+    alloc: A,
+    reader: &mut R,
+) -> Result<Plan<A>, PlanFault>
+    ensures { ReadsPlan (R.remaining reader.old) (R.failures reader.old) result (R.remaining reader.new) (R.failures reader.new) }
+{
+    let mut buffer = [0u8; 8192];
+    let mut feed = PlanFeed::new(alloc);
+    loop {
+        match reader.read(&mut buffer) {
+            Ok(0) => return feed.finish(),
+            Ok(count) => feed.feed(&buffer[..count])?,
+            Err(Failed) => return Err(feed.failed()),
+        }
+    }
+}

@@ -1,0 +1,137 @@
+//! What the lines of a plan text leave, one after the other.
+
+ghost use Rattle.std.specs.Prelude.{◌≡◌, None, []};
+ghost use Rattle.sabr_plan.specs.Commands.{HasBounds};
+ghost use Rattle.sabr_plan.specs.Leaving.{Leaves};
+ghost use Rattle.sabr_plan.specs.Reading.{kind_of};
+ghost use Rattle.sabr_plan.specs.declared.command.Command.TheVariants.{Add, Delete};
+ghost use Rattle.sabr_plan.specs.declared.command.Target.TheVariants as target;
+
+use crate::command::{Addition, Command, Deletion, Target, line_command};
+use crate::fault::PlanKind;
+use sabr_model::{AddFault, Plan};
+use std::alloc::Allocator;
+use std::marker::Model;
+
+/// A plan, and the time that relative times are counted from.
+#[derive(Drop)]
+pub struct PlanReading<A: Allocator + Copy> {
+    plan: Plan<A>,
+    reference: Option<u64>,
+}
+
+impl<A: Allocator + Copy> Model for PlanReading<A> {
+    ghost use Rattle.sabr_plan.specs.Reading.{Reading};
+
+    ghost Value = { Reading };
+
+    ghost view = { λ r. record { plan = r.plan.plan; reference = r.reference } };
+}
+
+/// A refusal of the plan, as a kind of bad line.
+fn kind_of(fault: AddFault) -> PlanKind
+    ensures { result ≡ kind_of fault }
+{
+    match fault {
+        AddFault::EmptyWindow => PlanKind::EmptyWindow,
+        AddFault::SelfPair => PlanKind::SelfPair,
+        AddFault::DuplicateContact => PlanKind::DuplicateContact,
+        AddFault::RangeOverlap => PlanKind::RangeOverlap,
+        AddFault::TooMany => PlanKind::TooMany,
+        AddFault::NoMemory => PlanKind::NoMemory,
+        AddFault::NothingToDelete => PlanKind::NothingToDelete,
+    }
+}
+
+impl<A: Allocator + Copy> PlanReading<A> {
+    ghost use Rattle.sabr_plan.specs.Reading.{nothing_read, obeyed, judged};
+
+    /// Before the first line.
+    pub fn new(alloc: A) -> PlanReading<A>
+        ensures { result ≡ nothing_read }
+    {
+        PlanReading {
+            plan: Plan::new(alloc),
+            reference: None,
+        }
+    }
+
+    /// The plan that the lines leave.
+    pub fn into_plan(self) -> Plan<A>
+        ensures { result.plan ≡ self.plan }
+    {
+        let PlanReading { plan, reference: _ } = self;
+        plan
+    }
+
+    /// Reads a line without its LF, and does what it says.
+    pub fn judge(&mut self, line: &[u8]) -> Result<(), PlanKind>
+        ensures { Leaves (judged self.old line.now) result self.new }
+    {
+        let command = line_command(self.reference, line)?;
+        self.obey(command)
+    }
+
+    /// Does what a line says.
+    fn obey(&mut self, command: Command) -> Result<(), PlanKind>
+        requires { HasBounds command }
+        ensures { Leaves (obeyed self.old command) result self.new }
+    {
+        match command {
+            Command::Nothing => Ok(()),
+            Command::SetReference(time) => {
+                self.reference = Some(time);
+                Ok(())
+            }
+            Command::Add(Target::Contact, a) => self.add_contact(a),
+            Command::Add(Target::Range, a) => self.add_range(a),
+            Command::Delete(Target::Contact, d) => self.delete_contact(d),
+            Command::Delete(Target::Range, d) => self.delete_range(d),
+        }
+    }
+
+    fn add_contact(&mut self, a: Addition) -> Result<(), PlanKind>
+        requires { HasBounds (Add target.Contact a) }
+        ensures { Leaves (obeyed self.old (Add target.Contact a)) result self.new }
+    {
+        match self
+            .plan
+            .add_contact(a.first, a.second, a.start, a.end, a.value)
+        {
+            Ok(_) => Ok(()),
+            Err(fault) => Err(kind_of(fault)),
+        }
+    }
+
+    fn add_range(&mut self, a: Addition) -> Result<(), PlanKind>
+        requires { HasBounds (Add target.Range a) }
+        ensures { Leaves (obeyed self.old (Add target.Range a)) result self.new }
+    {
+        let light = a.value as u32;
+        match self
+            .plan
+            .add_range(a.first, a.second, a.start, a.end, light)
+        {
+            Ok(()) => Ok(()),
+            Err(fault) => Err(kind_of(fault)),
+        }
+    }
+
+    fn delete_contact(&mut self, d: Deletion) -> Result<(), PlanKind>
+        ensures { Leaves (obeyed self.old (Delete target.Contact d)) result self.new }
+    {
+        match self.plan.delete_contact(d.first, d.second, d.start) {
+            Ok(_) => Ok(()),
+            Err(fault) => Err(kind_of(fault)),
+        }
+    }
+
+    fn delete_range(&mut self, d: Deletion) -> Result<(), PlanKind>
+        ensures { Leaves (obeyed self.old (Delete target.Range d)) result self.new }
+    {
+        match self.plan.delete_range(d.first, d.second, d.start) {
+            Ok(()) => Ok(()),
+            Err(fault) => Err(kind_of(fault)),
+        }
+    }
+}
