@@ -1,0 +1,17 @@
+pub mod Rising
+pub mod Beginnings
+pub mod Tree
+pub mod Parting
+pub mod Members
+pub mod Closed
+pub mod Leaves
+pub mod Division
+pub mod NextPlace
+pub mod Certified
+pub mod Formed
+pub mod Owed
+pub mod Forget
+pub mod Paths
+pub mod Listed
+pub mod Lawful
+pub mod RowProofs

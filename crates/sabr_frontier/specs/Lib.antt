@@ -1,0 +1,8 @@
+pub mod Rising
+pub mod Tree
+pub mod State
+pub mod Formed
+pub mod Step
+pub mod Listing
+pub mod Laws
+pub mod Rows

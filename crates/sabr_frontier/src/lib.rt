@@ -1,0 +1,8 @@
+//! Parts of a listing of routes, divided as routes are given.
+#![tactic(auto)]
+
+mod laws;
+mod rows;
+
+pub use laws::{law4, law5, law6};
+pub use rows::{states_of_plan_a, states_of_plan_c, steps_of_plan_a};
