@@ -1,7 +1,7 @@
 //! The table of nodes: under each node the numbers of the contacts that it sends.
 
 ghost use Rattle.std.specs.Prelude.{◌≡◌, ℕ, ◌==◌, ◌<◌, ◌≤◌, ◌+◌, [], ◌∷◌, ◌++◌, Some, nat_eq, unwrap_or, OnOk, OnErr, IsOk, if◌then◌else◌};
-ghost use Rattle.indexmap.specs.IndexMap.{IsUnique, spare};
+ghost use Rattle.indexmap.specs.IndexMap.{IsUnique, keys, spare};
 ghost use Rattle.sabr_model.specs.Table.{list_at, with_number, with_node};
 
 use indexmap::IndexMap;
@@ -21,6 +21,7 @@ pub fn add_number<A: Allocator + Copy>(
     requires { IsUnique nat_eq table.old }
     ensures ok { OnOk result ((q : ℕ) → list_at table.new q ≡ (if q == node then Some (unwrap_or (list_at table.old q) [] ++ number ∷ []) else list_at table.old q)) }
     ensures err { OnErr result ((q : ℕ) → list_at table.new q ≡ list_at table.old q) }
+    ensures err_nodes { OnErr result (keys table.new ≡ keys table.old) }
     ensures unique { IsUnique nat_eq table.new }
     ensures room { spare table.old ≤ spare table.new + 1 }
 {
@@ -43,6 +44,7 @@ pub fn add_node<A: Allocator + Copy>(
     requires { IsUnique nat_eq table.old }
     ensures ok { OnOk result ((q : ℕ) → list_at table.new q ≡ (if q == node then Some (unwrap_or (list_at table.old q) []) else list_at table.old q)) }
     ensures err { OnErr result ((q : ℕ) → list_at table.new q ≡ list_at table.old q) }
+    ensures err_nodes { OnErr result (keys table.new ≡ keys table.old) }
     ensures unique { IsUnique nat_eq table.new }
     ensures succeeds { 0 < spare table.old → IsOk result }
 {
@@ -63,6 +65,7 @@ pub fn note_contact<A: Allocator + Copy>(
     requires { IsUnique nat_eq table.old }
     ensures ok { OnOk result ((q : ℕ) → list_at table.new q ≡ with_node (with_number (list_at table.old q) (q == from) number) (q == to)) }
     ensures err { OnErr result ((q : ℕ) → list_at table.new q ≡ list_at table.old q) }
+    ensures err_nodes { OnErr result (keys table.new ≡ keys table.old) }
     ensures unique { IsUnique nat_eq table.new }
 {
     table.reserve(2)?;
