@@ -7,3 +7,4 @@ pub mod Ordered
 pub mod Listed
 pub mod TableLemmas
 pub mod PlanLemmas
+pub mod Rises

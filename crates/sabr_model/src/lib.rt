@@ -5,6 +5,7 @@ mod contact;
 mod fault;
 mod laws;
 mod node_table;
+mod numbers;
 mod plan;
 mod request;
 mod route;
@@ -15,6 +16,7 @@ mod tests;
 
 pub use contact::{Contact, Range};
 pub use fault::{AddFault, HopFault, NoMemory, RequestError};
+pub use numbers::Numbers;
 pub use plan::{arrive, Plan};
 pub use route::Route;
 pub use rows::{row_of_plan_a, row_of_plan_c};

@@ -1,0 +1,57 @@
+//! A list of contact numbers.
+
+use std::alloc::{Allocator, Global};
+use std::marker::Model;
+
+ghost use Rattle.std.specs.Prelude.{◌≡◌, ◌==◌, length};
+
+/// Contact numbers, one after the other. Contracts see the list.
+#[derive(Debug, Drop)]
+pub struct Numbers<A: Allocator + Copy = Global> {
+    items: Vec<u32, A>,
+}
+
+impl<A: Allocator + Copy> Model for Numbers<A> {
+    ghost use Rattle.std.specs.Prelude.{List, ℕ};
+
+    ghost Value = { List ℕ };
+
+    ghost view = { λ a. a.items.items };
+}
+
+impl<A: Allocator + Copy> Numbers<A> {
+    /// The list that a vector holds. It takes no memory.
+    pub fn new(items: Vec<u32, A>) -> Numbers<A>
+        ensures { result ≡ items.items }
+    {
+        Numbers { items }
+    }
+
+    /// The vector that holds the list. It takes no memory.
+    pub fn into_vec(self) -> Vec<u32, A>
+        ensures { result.items ≡ self }
+    {
+        self.items
+    }
+
+    /// The numbers, from the first to the last.
+    pub fn as_slice(&self) -> &[u32]
+        ensures { result.now ≡ self.now }
+    {
+        self.items.as_slice()
+    }
+
+    /// How many numbers there are.
+    pub fn len(&self) -> usize
+        ensures { result ≡ length self.now }
+    {
+        self.items.len()
+    }
+
+    /// Whether there is none.
+    pub fn is_empty(&self) -> bool
+        ensures { result ≡ (length self.now == 0) }
+    {
+        self.items.is_empty()
+    }
+}
