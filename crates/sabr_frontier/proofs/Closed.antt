@@ -10,7 +10,7 @@ use Rattle.sabr_frontier.specs.State.{Member, leaves_of, leaves}
 use Rattle.sabr_frontier.specs.Formed.{IsClosed}
 use Rattle.sabr_frontier.proofs.Rising.{both_ways, same_members, has_itself, has_exact, Rises-put_in, or_right}
 use Rattle.sabr_frontier.proofs.Beginnings.{lists_exact, numbers_exact, number_after-snoc, number_after-longer, number_after-of_longer}
-use Rattle.sabr_frontier.proofs.Tree.{In, Listed, In-first, In-later, In-cases, In-put_in, put_in-In, numbers_after_has, has_numbers_after, prefixes_has, has_prefixes}
+use Rattle.sabr_frontier.proofs.Trees.{In, Listed, In-first, In-later, In-cases, In-put_in, put_in-In, numbers_after_has, has_numbers_after, prefixes_has, has_prefixes}
 use Rattle.sabr_frontier.proofs.Members.{Member-map, Member-map_cases, Member-filter, Member-filter_cases, Member-flat_map, Member-flat_map_cases}
 
 -- between the two words for a member

@@ -12,7 +12,7 @@ use Rattle.sabr_frontier.specs.State.{PartState, pair_of, Member}
 use Rattle.sabr_frontier.specs.Step.{same_pair, carried_in, carry, fresh}
 use Rattle.sabr_frontier.proofs.Rising.{true_or_false, has-put_in, put_again, is_equal, or_left, has_itself, turned}
 use Rattle.sabr_frontier.proofs.Beginnings.{lists_exact, numbers_exact, number_after-snoc, number_after-split, number_after-compare, number_after-trans, number_after-nil, number_after-same}
-use Rattle.sabr_frontier.proofs.Tree.{In, Listed, In-first, In-later, In-cases, numbers_after_has, has_numbers_after, Rises-numbers_after, Rises-prefixes, tree_same}
+use Rattle.sabr_frontier.proofs.Trees.{In, Listed, In-first, In-later, In-cases, numbers_after_has, has_numbers_after, Rises-numbers_after, Rises-prefixes, tree_same}
 use Rattle.sabr_frontier.proofs.Members.{Member-map, Member-map_cases, Member-append_left, Member-append_right, Member-append_cases, Below-member, Less-apart, same_by_members}
 use Rattle.sabr_frontier.proofs.Closed.{tree_has, has_tree}
 

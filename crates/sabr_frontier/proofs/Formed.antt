@@ -11,7 +11,7 @@ use Rattle.sabr_frontier.specs.Formed.{IsClosed, Within, InOrder, IsWellFormed}
 use Rattle.sabr_frontier.specs.Step.{same_pair, carried_in, carry, parts_after, given, full, state_of}
 use Rattle.sabr_frontier.proofs.Rising.{true_or_false, both_ways, same_members, length-put_in, Rises-put_in}
 use Rattle.sabr_frontier.proofs.Beginnings.{lists_exact}
-use Rattle.sabr_frontier.proofs.Tree.{In, In-put_in, put_in-In, Rises-numbers_after, Rises-prefixes}
+use Rattle.sabr_frontier.proofs.Trees.{In, In-put_in, put_in-In, Rises-numbers_after, Rises-prefixes}
 use Rattle.sabr_frontier.proofs.Members.{Member-map_cases}
 use Rattle.sabr_frontier.proofs.Closed.{tree_has, leaves_has, Rises-leaves, Rises-set_of, set_of_has, has_set_of, tree_closed, leaves-tree}
 use Rattle.sabr_frontier.proofs.Parting.{taken_in_none}

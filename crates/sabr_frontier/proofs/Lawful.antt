@@ -22,7 +22,7 @@ use Rattle.sabr_frontier.specs.Step.{least_carried, step_of, full, state_of}
 use Rattle.sabr_frontier.specs.Listing.{is_prefix, state_at, leaves_in, IsState, next_route, one_step, given_first, steps}
 use Rattle.sabr_frontier.specs.Laws.{IsDivided, PartsDivide, CarriesLeast, LeavesComeFirst, IsTold, StatesAreTold, StepsFollowRoutes, StepsFollow}
 use Rattle.sabr_frontier.proofs.Rising.{true_or_false}
-use Rattle.sabr_frontier.proofs.Tree.{In}
+use Rattle.sabr_frontier.proofs.Trees.{In}
 use Rattle.sabr_frontier.proofs.Closed.{In_Member, Member_In, tree_has, has_tree}
 use Rattle.sabr_frontier.proofs.Parting.{in_some_part, in_one_part, taken_in_none}
 use Rattle.sabr_frontier.proofs.Leaves.{closed_tree}

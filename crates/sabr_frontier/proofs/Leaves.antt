@@ -10,7 +10,7 @@ use Rattle.sabr_frontier.specs.State.{Member, leaves}
 use Rattle.sabr_frontier.specs.Formed.{IsClosed, InOrder}
 use Rattle.sabr_frontier.proofs.Rising.{both_ways, same_members}
 use Rattle.sabr_frontier.proofs.Beginnings.{numbers_exact, number_after-snoc, number_after-of_longer, number_after-of_snoc, number_after-nil}
-use Rattle.sabr_frontier.proofs.Tree.{In, Listed, numbers_after_has, has_numbers_after, Rises-numbers_after, Rises-prefixes}
+use Rattle.sabr_frontier.proofs.Trees.{In, Listed, numbers_after_has, has_numbers_after, Rises-numbers_after, Rises-prefixes}
 use Rattle.sabr_frontier.proofs.Members.{Member-map, Below-member, Less-apart, same_by_members}
 use Rattle.sabr_frontier.proofs.Closed.{tree_has, has_tree, leaves_has, has_leaves}
 

@@ -1,6 +1,6 @@
 pub mod Rising
 pub mod Beginnings
-pub mod Tree
+pub mod Trees
 pub mod Parting
 pub mod Members
 pub mod Closed
@@ -15,3 +15,5 @@ pub mod Paths
 pub mod Listed
 pub mod Lawful
 pub mod RowProofs
+pub mod Places
+pub mod Undoing

@@ -4,5 +4,7 @@ pub mod State
 pub mod Formed
 pub mod Step
 pub mod Listing
+pub mod Shape
+pub mod Undo
 pub mod Laws
 pub mod Rows

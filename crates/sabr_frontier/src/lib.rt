@@ -1,8 +1,11 @@
 //! Parts of a listing of routes, divided as routes are given.
 #![tactic(auto)]
 
+mod excluded;
 mod laws;
 mod rows;
+mod tree;
+mod undo;
 
 pub use laws::{law4, law5, law6};
 pub use rows::{states_of_plan_a, states_of_plan_c, steps_of_plan_a};
