@@ -8,3 +8,8 @@ pub mod Listed
 pub mod TableLemmas
 pub mod PlanLemmas
 pub mod Rises
+mod CountWalks
+pub mod WrittenTexts
+pub mod Paths
+pub mod Prefixes
+pub mod Least

@@ -12,3 +12,4 @@ pub mod Parts
 pub mod Rows
 pub mod Laws
 pub mod Record
+pub mod Devices

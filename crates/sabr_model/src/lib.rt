@@ -2,6 +2,7 @@
 #![tactic(auto)]
 
 mod contact;
+mod devices;
 mod fault;
 mod laws;
 mod node_table;
@@ -15,6 +16,7 @@ mod rows;
 mod tests;
 
 pub use contact::{Contact, Range};
+pub use devices::{Device, Failed, FailureCount, Read, Write, WriteFault, write_text};
 pub use fault::{AddFault, HopFault, NoMemory, RequestError};
 pub use numbers::Numbers;
 pub use plan::{arrive, Plan};

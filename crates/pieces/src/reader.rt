@@ -1,0 +1,68 @@
+//! A reader that gives its bytes in pieces.
+
+ghost use Rattle.std.specs.Prelude.{◌≡◌, ◌<◌, ◌≤◌, Some, take, length};
+
+use sabr_model::{Failed, FailureCount, Read};
+
+/// What a reader answers once it has given all its bytes.
+#[derive(Clone, Copy, Debug, PartialEq, Eq)]
+pub enum End {
+    /// The end of the text.
+    Ended,
+    /// `Failed`, however often it is asked.
+    Fails,
+}
+
+/// Gives its bytes in pieces of a chosen size at most, and then ends or fails.
+#[derive(Drop)]
+pub struct PieceReader<'a> {
+    bytes: &'a [u8],
+    piece: usize,
+    end: End,
+    failures: FailureCount,
+    ghost gives: { 0 < piece },
+}
+
+impl<'a> PieceReader<'a> {
+    /// A reader of these bytes, `piece` of them at a time.
+    pub fn new(bytes: &'a [u8], piece: usize, end: End) -> PieceReader<'a>
+        requires { 0 < piece }
+        ensures bytes { result.bytes.now ≡ bytes.now }
+        ensures failures { result.failures.count ≡ 0 }
+    {
+        PieceReader {
+            bytes,
+            piece,
+            end,
+            failures: FailureCount::new(),
+        }
+    }
+
+    /// A reader that gives the first `limit` bytes and then fails.
+    pub fn failing_after(bytes: &'a [u8], limit: usize, piece: usize) -> PieceReader<'a>
+        requires limit { limit ≤ length bytes.now }
+        requires piece { 0 < piece }
+        ensures bytes { result.bytes.now ≡ take limit bytes.now }
+        ensures failures { result.failures.count ≡ 0 }
+    {
+        PieceReader::new(&bytes[..limit], piece, End::Fails)
+    }
+}
+
+impl<'a> Read for PieceReader<'a> {
+    ghost remaining = { λ reader. Some reader.bytes.now };
+
+    ghost failures = { λ reader. reader.failures.count };
+
+    fn read(&mut self, buf: &mut [u8]) -> Result<usize, Failed> {
+        if self.bytes.is_empty() && self.end == End::Fails {
+            self.failures.add();
+            return Err(Failed);
+        }
+        let count = self.piece.min(self.bytes.len()).min(buf.len());
+        let (given, rest) = self.bytes.split_at(count);
+        buf[..count].copy_from_slice(given);
+        self.bytes = rest;
+        Ok(count)
+    }
+}

@@ -1,0 +1,49 @@
+//! The readers and writers give and take what they are told to, and std's serve as devices.
+
+use crate::{End, LimitedWriter, PieceReader};
+use sabr_model::{Device, Failed, Read, Write, write_text};
+use std::test::Fail;
+
+#[test]
+fn a_text_stops_where_its_writer_does(rt: HostRuntime) -> Result<(), Fail> {
+    let text = b"a text of 22 bytes ...";
+    for piece in [1usize, 2, 4096] {
+        for limit in 0..=text.len() {
+            let mut writer = LimitedWriter::new(rt.alloc(), limit, piece);
+            assert_eq!(rt; write_text(&mut writer, text).is_ok(), limit == text.len());
+            assert_eq!(rt; writer.held(), &text[..limit]);
+            assert_eq!(rt; writer.flush(), Ok(()));
+        }
+    }
+    let mut writer = LimitedWriter::with_failing_flush(rt.alloc(), 9, 9);
+    assert_eq!(rt; writer.flush(), Err(Failed));
+    Ok(())
+}
+
+#[test]
+fn a_reader_gives_pieces_and_then_ends_or_fails(rt: HostRuntime) -> Result<(), Fail> {
+    let mut buffer = [0u8; 4];
+    let mut ends = PieceReader::new(b"abcdef", 5, End::Ended);
+    assert_eq!(rt; ends.read(&mut buffer), Ok(4));
+    assert_eq!(rt; buffer, *b"abcd");
+    assert_eq!(rt; ends.read(&mut buffer), Ok(2));
+    assert_eq!(rt; ends.read(&mut buffer), Ok(0));
+    let mut fails = PieceReader::failing_after(b"abc", 2, 1);
+    assert_eq!(rt; fails.read(&mut buffer), Ok(1));
+    assert_eq!(rt; fails.read(&mut buffer), Ok(1));
+    assert_eq!(rt; fails.read(&mut buffer), Err(Failed));
+    assert_eq!(rt; fails.read(&mut buffer), Err(Failed));
+    Ok(())
+}
+
+#[test]
+fn readers_and_writers_of_std_are_devices(rt: HostRuntime) -> Result<(), Fail> {
+    let mut buffer = [0u8; 4];
+    let mut reader = Device::new(b"xyz".as_slice());
+    assert_eq!(rt; reader.read(&mut buffer), Ok(3));
+    assert_eq!(rt; reader.read(&mut buffer), Ok(0));
+    let mut writer = Device::new(Vec::new(rt.alloc()));
+    assert!(rt; write_text(&mut writer, b"xyz").is_ok());
+    assert_eq!(rt; writer.flush(), Ok(()));
+    Ok(())
+}

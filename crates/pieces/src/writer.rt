@@ -1,0 +1,81 @@
+//! A writer that takes bytes in pieces up to a limit.
+
+ghost use Rattle.std.specs.Prelude.{◌≡◌, Some, []};
+
+use sabr_model::{Failed, FailureCount, Write};
+use std::alloc::{Allocator, Global};
+
+/// Takes bytes in pieces of a chosen size at most, up to a limit, and fails beyond it. It keeps what it took.
+///
+/// It fails, too, where no memory is left for the bytes.
+#[derive(Drop)]
+pub struct LimitedWriter<A: Allocator + Copy = Global> {
+    held: Vec<u8, A>,
+    limit: usize,
+    piece: usize,
+    flush_fails: bool,
+    failures: FailureCount,
+}
+
+impl<A: Allocator + Copy> LimitedWriter<A> {
+    /// A writer that takes up to `limit` bytes, `piece` at a time, and whose `flush` succeeds.
+    pub fn new(alloc: A, limit: usize, piece: usize) -> LimitedWriter<A>
+        ensures held { result.held.items ≡ [] }
+        ensures failures { result.failures.count ≡ 0 }
+    {
+        LimitedWriter {
+            held: Vec::new(alloc),
+            limit,
+            piece,
+            flush_fails: false,
+            failures: FailureCount::new(),
+        }
+    }
+
+    /// The same, with a `flush` that fails.
+    pub fn with_failing_flush(alloc: A, limit: usize, piece: usize) -> LimitedWriter<A>
+        ensures held { result.held.items ≡ [] }
+        ensures failures { result.failures.count ≡ 0 }
+    {
+        let mut writer = LimitedWriter::new(alloc, limit, piece);
+        writer.flush_fails = true;
+        writer
+    }
+
+    /// The bytes that were taken.
+    pub fn held(&self) -> &[u8]
+        ensures { result.now ≡ self.now.held.items }
+    {
+        &self.held
+    }
+}
+
+impl<A: Allocator + Copy> Write for LimitedWriter<A> {
+    ghost contents = { λ writer. Some writer.held.items };
+
+    ghost failures = { λ writer. writer.failures.count };
+
+    fn write(&mut self, buf: &[u8]) -> Result<usize, Failed> {
+        let room = self.limit.saturating_sub(self.held.len());
+        let count = room.min(self.piece).min(buf.len());
+        if count == 0 && !buf.is_empty() {
+            self.failures.add();
+            return Err(Failed);
+        }
+        match self.held.extend_from_slice(&buf[..count]) {
+            Ok(()) => Ok(count),
+            Err(_) => {
+                self.failures.add();
+                Err(Failed)
+            }
+        }
+    }
+
+    fn flush(&mut self) -> Result<(), Failed> {
+        if self.flush_fails {
+            self.failures.add();
+            return Err(Failed);
+        }
+        Ok(())
+    }
+}

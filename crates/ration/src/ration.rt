@@ -1,0 +1,54 @@
+//! The allocator that refuses one request.
+
+use crate::tally::{Tally, is_refused};
+use std::alloc::{AllocError, Allocator, Global};
+use std::cell::Cell;
+
+/// Hands requests for memory on to an inner allocator, counts them, and refuses the one that it is told to.
+///
+/// Collections take a `&Ration`, which is `Copy` and an allocator as well. A `Ration` stays in one thread.
+pub struct Ration<B: Allocator = Global> {
+    inner: B,
+    tally: Cell<Tally>,
+}
+
+impl<B: Allocator> Ration<B> {
+    /// An allocator that refuses its request of this number, counted from 1, and none for 0.
+    pub fn new(inner: B, refused: u64) -> Ration<B> {
+        Ration {
+            inner,
+            tally: Cell::new(Tally { made: 0, refused }),
+        }
+    }
+
+    /// Counts from 0 again, and refuses the request of this number, counted from 1 from now on; none for 0.
+    pub fn refuse(&self, refused: u64) {
+        self.tally.set(Tally { made: 0, refused });
+    }
+
+    /// The requests made since the count began, the refused one among them.
+    pub fn requests(&self) -> u64 {
+        self.tally.get().made
+    }
+}
+
+impl<B: Allocator> Drop for Ration<B> {
+    fn drop(self) {
+        let Self { inner: _, tally: _ } = self;
+    }
+}
+
+unsafe impl<B: Allocator> Allocator for Ration<B> {
+    ghost dealloc_token = { λ ration ty ptr. B.dealloc_token ration.inner ty ptr };
+
+    fn allocate(&self, size: usize, align: usize) -> Result<*mut u8, AllocError> {
+        if is_refused(&self.tally) {
+            return Err(AllocError);
+        }
+        self.inner.allocate(size, align)
+    }
+
+    unsafe fn deallocate(&self, ptr: *mut u8, size: usize, align: usize) {
+        self.inner.deallocate(ptr, size, align);
+    }
+}

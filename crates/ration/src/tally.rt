@@ -1,0 +1,18 @@
+//! The count of requests, and which of them is refused.
+
+use std::cell::Cell;
+
+/// How many requests were made, and the number of the one to refuse, 0 for none.
+#[derive(Clone, Copy)]
+pub(crate) struct Tally {
+    pub made: u64,
+    pub refused: u64,
+}
+
+/// Counts a request, and tells whether it is the one to refuse.
+pub(crate) fn is_refused(tally: &Cell<Tally>) -> bool {
+    let Tally { made, refused } = tally.get();
+    let made = made.wrapping_add(1);
+    tally.set(Tally { made, refused });
+    made == refused
+}

@@ -1,0 +1,69 @@
+//! Readers and writers of std, as devices.
+
+use crate::devices::count::FailureCount;
+use crate::devices::traits::{Failed, Read, Write};
+use std::io;
+
+/// A reader or writer of std, with the count of its failures. Every error of std's becomes `Failed`.
+#[derive(Drop)]
+pub struct Device<T> {
+    inner: T,
+    failures: FailureCount,
+}
+
+impl<T> Device<T> {
+    /// The reader or writer as a device, with no failure so far.
+    pub fn new(inner: T) -> Device<T> {
+        Device {
+            inner,
+            failures: FailureCount::new(),
+        }
+    }
+}
+
+impl<T: io::Read> Read for Device<T> {
+    ghost remaining = { λ d. T.remaining d.inner };
+
+    ghost failures = { λ d. d.failures.count };
+
+    fn read(&mut self, buf: &mut [u8]) -> Result<usize, Failed> {
+        match self.inner.read(buf) {
+            Ok(count) => Ok(count),
+            Err(_) => {
+                self.failures.add();
+                Err(Failed)
+            }
+        }
+    }
+}
+
+impl<T: io::Write> Write for Device<T> {
+    ghost contents = { λ d. T.contents d.inner };
+
+    ghost failures = { λ d. d.failures.count };
+
+    fn write(&mut self, buf: &[u8]) -> Result<usize, Failed> {
+        match self.inner.write(buf) {
+            Ok(count) => {
+                if count == 0 && !buf.is_empty() {
+                    self.failures.add();
+                }
+                Ok(count)
+            }
+            Err(_) => {
+                self.failures.add();
+                Err(Failed)
+            }
+        }
+    }
+
+    fn flush(&mut self) -> Result<(), Failed> {
+        match self.inner.flush() {
+            Ok(()) => Ok(()),
+            Err(_) => {
+                self.failures.add();
+                Err(Failed)
+            }
+        }
+    }
+}

@@ -1,0 +1,53 @@
+//! The traits of a reader and of a writer.
+
+ghost use Rattle.std.specs.Prelude.{◌≡◌, ℕ, ◌+◌, ◌≤◌, List, Option, length, IfOk};
+ghost use Rattle.std.specs.Io.KnownBytes.{Keeps, ReadConsumes, WriteAppends};
+ghost use Rattle.sabr_model.specs.Devices.{call_faults, write_faults};
+
+/// The one error of a device.
+#[derive(Clone, Copy, Debug, PartialEq, Eq)]
+pub struct Failed;
+
+/// A reader of bytes.
+///
+/// A contract sees the bytes that are left, where the reader tells them, and the count of its failures.
+pub trait Read {
+    /// The bytes that are left, where the reader tells them.
+    ghost remaining: { Self → Option (List ℕ) };
+
+    /// How often the reader has failed.
+    ghost failures: { Self → ℕ };
+
+    /// Reads bytes to the front of the buffer and answers how many; none into a buffer with room only at the end.
+    ///
+    /// `Failed` moves no byte and counts as one failure; nothing else counts.
+    fn read(&mut self, buf: &mut [u8]) -> Result<usize, Failed>
+        ensures bound { IfOk result (λ n. n ≤ length buf.new) }
+        ensures bytes { ReadConsumes (remaining self.old) (remaining self.new) result buf.new }
+        ensures count { failures self.new ≡ failures self.old + call_faults result };
+}
+
+/// A writer of bytes.
+///
+/// A contract sees the bytes that were taken, where the writer tells them, and the count of its failures.
+pub trait Write {
+    /// The bytes that were taken, where the writer tells them.
+    ghost contents: { Self → Option (List ℕ) };
+
+    /// How often the writer has failed.
+    ghost failures: { Self → ℕ };
+
+    /// Takes bytes from the front of the piece and answers how many.
+    ///
+    /// `Failed` moves no byte and counts as one failure, and so does taking none of a piece that isn't
+    /// empty; nothing else counts.
+    fn write(&mut self, buf: &[u8]) -> Result<usize, Failed>
+        ensures bound { IfOk result (λ n. n ≤ length buf.now) }
+        ensures bytes { WriteAppends (contents self.old) (contents self.new) result buf.now }
+        ensures count { failures self.new ≡ failures self.old + write_faults result buf.now };
+
+    /// Hands on what the writer may still hold back. `Failed` counts as one failure.
+    fn flush(&mut self) -> Result<(), Failed>
+        ensures bytes { Keeps (contents self.old) (contents self.new) }
+        ensures count { failures self.new ≡ failures self.old + call_faults result };
+}

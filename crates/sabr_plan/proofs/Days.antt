@@ -1,0 +1,81 @@
+-- The days of the calendar, one after the other, and their numbers.
+use Rattle.std.proofs.Common.{◌≡◌, ℕ, zero, suc, ◌+◌, ◌<◌, ◌≤◌, inl, inr, sym, ap, ◌∙◌, arith, rules, pos}
+use Rattle.std.proofs.lemmas.Bool.{cases_lt}
+use borrow.Author.Tests.{lt-ltb, le-ltb}
+use Rattle.jiff_core.specs.declared.civil.date.Date.{Date}
+use Rattle.jiff_core.specs.Calendar.{days_from_civil, days_in_month, IsCivilDate}
+use Rattle.jiff_core.specs.Date.{epoch_day}
+use Rattle.jiff_core.proofs.SignedLemmas.{signed_arith}
+use Rattle.jiff_core.proofs.CalendarLemmas.{days_in_month_bounds}
+use Rattle.jiff_core.proofs.DateLemmas.{epoch_day_injective, days_from_civil-day, days_from_civil-next_month, days_from_civil-next_year, days_from_civil-max}
+use Rattle.sabr_plan.specs.Times.{CalendarDay, next_day, day_after_epoch}
+
+-- the calendar has the day, not before 1970, and n is its number
+pub record IsDay (n : ℕ) (d : CalendarDay) : Type 0 where
+  pub since : 1970 ≤ d.year
+  pub civil : IsCivilDate (pos d.year) d.month d.day
+  pub number : days_from_civil (pos d.year) d.month d.day ≡ pos n
+
+within_month : (n : ℕ) (d : CalendarDay) → IsDay n d → d.day < days_in_month (pos d.year) d.month → IsDay (suc n) (record { year = d.year; month = d.month; day = d.day + 1 })
+within_month n d is h =
+    let low = is.civil.2.0 in
+    record {
+      since = is.since;
+      civil = (is.civil.0, is.civil.1, (omega arith, omega arith));
+      number = omega (arith, signed_arith, is.number, days_from_civil-day (pos d.year) d.month d.day (d.day + 1) low (omega arith));
+    }
+
+next_month : (n : ℕ) (d : CalendarDay) → IsDay n d → days_in_month (pos d.year) d.month ≤ d.day → d.month < 12 → IsDay (suc n) (record { year = d.year; month = d.month + 1; day = 1 })
+next_month n d is last h =
+    let full : d.day ≡ days_in_month (pos d.year) d.month = omega (arith, is.civil.2.1) in
+    record {
+      since = is.since;
+      civil = (is.civil.0, (omega arith, omega arith), (omega arith, omega (arith, days_in_month_bounds (pos d.year) (d.month + 1))));
+      number = omega (arith, signed_arith, is.number, days_from_civil-next_month (pos d.year) d.month d.day is.civil.1.0 full);
+    }
+
+-- 31 December of the year 9999 has the greatest number
+not_last : (n : ℕ) → n < 2932896 → days_from_civil (pos 9999) 12 31 ≡ pos n → ⊥
+not_last n h e = omega (arith, signed_arith, e, days_from_civil-max)
+
+next_year : (n : ℕ) (d : CalendarDay) → n < 2932896 → IsDay n d → days_in_month (pos d.year) d.month ≤ d.day → 12 ≤ d.month → IsDay (suc n) (record { year = d.year + 1; month = 1; day = 1 })
+next_year n d early is last h =
+    let month : d.month ≡ 12 = omega (arith, is.civil.1.1) in
+    let full : days_in_month (pos d.year) d.month ≡ 31 = ap (days_in_month (pos d.year)) month in
+    let day : d.day ≡ 31 = omega (arith, is.civil.2.1) in
+    let eve : days_from_civil (pos d.year) 12 31 ≡ pos n = rw (month, day) at is.number in
+    let apart : ¬ (d.year ≡ 9999) = λ e. not_last n early (rw e at eve) in
+    let year : d.year < 9999 = omega (arith, signed_arith, is.civil.0) in
+    record {
+      since = omega (arith, is.since);
+      civil = ((search rules, omega (arith, signed_arith)), (omega arith, omega arith), (omega arith, omega (arith, days_in_month_bounds (pos (d.year + 1)) 1)));
+      number = omega (arith, signed_arith, eve, days_from_civil-next_year (pos d.year) (pos (d.year + 1)) (omega (arith, signed_arith)) (omega (arith, signed_arith)));
+    }
+
+first_day : IsDay 0 (record { year = 1970; month = 1; day = 1 })
+unfolding days_from_civil
+first_day = record { since = omega arith; civil = search rules; number = omega (arith, signed_arith) }
+
+day_after : (n : ℕ) (d : CalendarDay) → n < 2932896 → IsDay n d → IsDay (suc n) (next_day d)
+day_after n d early is =
+    elim (cases_lt d.day (days_in_month (pos d.year) d.month)) [
+      | inl h ↦ rw (lt-ltb _ _ h) (within_month n d is h)
+      | inr last ↦ elim (cases_lt d.month 12) [
+        | inl h ↦ rw (le-ltb _ _ last, lt-ltb _ _ h) (next_month n d is last h)
+        | inr h ↦ rw (le-ltb _ _ last, le-ltb _ _ h) (next_year n d early is last h)
+      ]
+    ]
+
+-- the days from 1970/01/01 to 9999/12/31 have their numbers
+pub day_after_epoch_is : (n : ℕ) → n ≤ 2932896 → IsDay n (day_after_epoch n)
+unfolding day_after_epoch
+day_after_epoch_is zero h = first_day
+day_after_epoch_is (suc n) h = day_after n (day_after_epoch n) (omega arith) (day_after_epoch_is n (omega arith))
+
+-- a date of that number has the same year, month and day
+pub same_day : (n : ℕ) (date : Date) → n ≤ 2932896 → epoch_day date ≡ pos n → (date.year ≡ pos (day_after_epoch n).year) × (date.month ≡ (day_after_epoch n).month) × (date.day ≡ (day_after_epoch n).day)
+same_day n date h e =
+    let d = day_after_epoch n in
+    let is = day_after_epoch_is n h in
+    let other : Date = record { year = pos d.year; month = d.month; day = d.day; year_in = is.civil.0; month_in = is.civil.1; day_in = is.civil.2 } in
+    epoch_day_injective date other (e ∙ sym is.number)

@@ -1,0 +1,67 @@
+-- Absolute times: UTC without leap seconds, spelled in 19 bytes as `yyyy/mm/dd-hh:mm:ss`.
+use Rattle.std.specs.Prelude.{ℕ, zero, suc, ◌+◌, ◌-◌, ◌*◌, ◌/◌, ◌%◌, pos, unsigned_abs, nat_lt, nat_le, ◌&&◌, List, [], ◌∷◌, ◌++◌, slice_index, if◌then◌else◌}
+use Rattle.std.specs.Str.{bytes_eq}
+use Rattle.std.specs.declared.option.Option.{Option}
+use Rattle.std.specs.declared.option.Option.TheVariants.{Some, None}
+use Rattle.jiff_core.specs.Calendar.{days_in_month, days_from_civil}
+
+use Rattle.sabr_plan.specs.declared.time.TimeFields.{TimeFields}
+
+-- the greatest time
+abbrev pub last_time : ℕ
+last_time = 253370764799
+
+-- a day of the Gregorian calendar
+pub record CalendarDay : Type 0 where
+  pub year : ℕ
+  pub month : ℕ
+  pub day : ℕ
+
+-- the day after it
+abbrev pub next_day : CalendarDay → CalendarDay
+next_day d =
+    if nat_lt d.day (days_in_month (pos d.year) d.month) then record { year = d.year; month = d.month; day = d.day + 1 }
+    else if nat_lt d.month 12 then record { year = d.year; month = d.month + 1; day = 1 }
+    else record { year = d.year + 1; month = 1; day = 1 }
+
+-- the day that many days after 1970/01/01
+unfoldable pub day_after_epoch : ℕ → CalendarDay
+day_after_epoch zero = record { year = 1970; month = 1; day = 1 }
+day_after_epoch (suc n) = next_day (day_after_epoch n)
+
+-- what calendar and clock show, t seconds after 1970/01/01-00:00:00; each day has 86400 seconds
+unfoldable pub fields_of : ℕ → TimeFields
+fields_of t =
+    let d = day_after_epoch (t / 86400) in
+    let s = t % 86400 in
+    record { year = d.year; month = d.month; day = d.day; hour = s / 3600; minute = s % 3600 / 60; second = s % 60 }
+
+-- a number below 100 in two digits
+abbrev pub two_digits : ℕ → List ℕ
+two_digits n = (48 + n / 10) ∷ (48 + n % 10) ∷ []
+
+-- the fields in full width, with `/`, `-` and `:` between them
+abbrev pub spelled : TimeFields → List ℕ
+spelled f =
+    two_digits (f.year / 100) ++ two_digits (f.year % 100) ++ 47 ∷ two_digits f.month ++ 47 ∷ two_digits f.day
+    ++ 45 ∷ two_digits f.hour ++ 58 ∷ two_digits f.minute ++ 58 ∷ two_digits f.second
+
+-- the spelling of a second, up to 253402300799, the last of the year 9999
+unfoldable pub time_text_of : ℕ → List ℕ
+time_text_of t = spelled (fields_of t)
+
+-- the number that two digits from place i on stand for
+abbrev pub pair_at : List ℕ → ℕ → ℕ
+pair_at word i = (slice_index word i - 48) * 10 + (slice_index word (i + 1) - 48)
+
+-- the second that the digits of a word name
+unfoldable pub second_named : List ℕ → ℕ
+second_named word =
+    unsigned_abs (days_from_civil (pos (pair_at word 0 * 100 + pair_at word 2)) (pair_at word 5) (pair_at word 8)) * 86400
+    + pair_at word 11 * 3600 + pair_at word 14 * 60 + pair_at word 17
+
+-- a word is a time where it is the spelling of the second that its digits name
+unfoldable pub time_of : List ℕ → Option ℕ
+time_of word =
+    let t = second_named word in
+    if nat_le t last_time && bytes_eq word (time_text_of t) then Some t else None

@@ -1,0 +1,189 @@
+//! Absolute times as text: `yyyy/mm/dd-hh:mm:ss`, UTC without leap seconds.
+
+ghost use Rattle.std.specs.Prelude.{◌≡◌, ℕ, ◌<◌, ◌≤◌, ◌+◌, ◌≢◌, Some, IfSome, IsNone, IsTrue, length, slice_index};
+ghost use Rattle.sabr_plan.specs.Times.{last_time, day_after_epoch, pair_at, spelled, fields_of, time_text_of, time_of};
+ghost use Rattle.sabr_plan.specs.TimeShape.{is_pair, has_shape, fields_at, HasWidth};
+
+use jiff::civil::Date;
+
+/// The greatest time of a plan, 9998/12/31-23:59:59.
+pub const LAST_TIME: u64 = 253370764799;
+
+/// How many days before 1970/01/01 the calendar begins.
+const DAYS_BEFORE_EPOCH: u32 = 4371587;
+
+/// The year, month and day of the Gregorian calendar, and what the clock shows.
+#[derive(Clone, Copy, Debug, PartialEq, Eq)]
+pub struct TimeFields {
+    pub year: u16,
+    pub month: u8,
+    pub day: u8,
+    pub hour: u8,
+    pub minute: u8,
+    pub second: u8,
+}
+
+/// The fields of a second.
+fn fields_of(second: u64) -> TimeFields
+    requires { second ≤ 253402300799 }
+    ensures { result ≡ fields_of second }
+{
+    let days = second / 86400;
+    let clock = (second % 86400) as u32;
+    let date = jiff_core::civil::Date::from_days_since_min(days as u32 + DAYS_BEFORE_EPOCH);
+    TimeFields {
+        year: date.year as u16,
+        month: date.month,
+        day: date.day,
+        hour: (clock / 3600) as u8,
+        minute: (clock % 3600 / 60) as u8,
+        second: (clock % 60) as u8,
+    }
+}
+
+/// How many days after 1970/01/01 a day of the calendar comes, if the calendar has it and it comes
+/// before none of them.
+fn day_number(year: u16, month: u8, day: u8) -> Option<u32>
+    requires year { year < 10000 }
+    requires month { month < 100 }
+    requires day { day < 100 }
+    ensures some { IfSome result (λ n. (n ≤ 2932896) × (day_after_epoch n ≡ record { year = year; month = month; day = day })) }
+    ensures none { IsNone result → (n : ℕ) → n ≤ 2932896 → day_after_epoch n ≢ record { year = year; month = month; day = day } }
+{
+    let Ok(date) = Date::new(year as i16, month as i8, day as i8) else {
+        return None;
+    };
+    let days = date.to_plain().to_unix_epoch_day();
+    if days < 0 { None } else { Some(days as u32) }
+}
+
+/// The second that calendar and clock show so, if there is one up to the greatest time.
+fn second_of(fields: TimeFields) -> Option<u64>
+    requires { HasWidth fields }
+    ensures some { IfSome result (λ t. (fields_of t ≡ fields) × (t ≤ last_time)) }
+    ensures none { IsNone result → (t : ℕ) → t ≤ last_time → fields_of t ≢ fields }
+{
+    let days = day_number(fields.year, fields.month, fields.day)?;
+    if fields.hour > 23 || fields.minute > 59 || fields.second > 59 {
+        return None;
+    }
+    let clock = fields.hour as u64 * 3600 + fields.minute as u64 * 60 + fields.second as u64;
+    let second = days as u64 * 86400 + clock;
+    if second > LAST_TIME {
+        return None;
+    }
+    Some(second)
+}
+
+/// Whether two digits stand from a place on.
+fn is_pair(text: &[u8], at: usize) -> bool
+    requires { at + 1 < length text.now }
+    ensures { result ≡ is_pair text.now at }
+{
+    text[at].is_ascii_digit() && text[at + 1].is_ascii_digit()
+}
+
+/// The number that two digits stand for.
+fn pair_at(text: &[u8], at: usize) -> u8
+    requires room { at + 1 < length text.now }
+    requires digits { IsTrue (is_pair text.now at) }
+    ensures value { result ≡ pair_at text.now at }
+    ensures bound { result < 100 }
+{
+    (text[at] - b'0') * 10 + (text[at + 1] - b'0')
+}
+
+/// Whether the text has pairs of digits, and other bytes, where a time has them.
+fn has_shape(text: &[u8]) -> bool
+    ensures { result ≡ has_shape text.now }
+{
+    text.len() == 19
+        && is_pair(text, 0)
+        && is_pair(text, 2)
+        && text[4] == b'/'
+        && is_pair(text, 5)
+        && text[7] == b'/'
+        && is_pair(text, 8)
+        && text[10] == b'-'
+        && is_pair(text, 11)
+        && text[13] == b':'
+        && is_pair(text, 14)
+        && text[16] == b':'
+        && is_pair(text, 17)
+}
+
+/// The fields of a text of that shape.
+fn fields_at(text: &[u8]) -> TimeFields
+    requires { IsTrue (has_shape text.now) }
+    ensures value { result ≡ fields_at text.now }
+    ensures width { HasWidth result }
+{
+    TimeFields {
+        year: pair_at(text, 0) as u16 * 100 + pair_at(text, 2) as u16,
+        month: pair_at(text, 5),
+        day: pair_at(text, 8),
+        hour: pair_at(text, 11),
+        minute: pair_at(text, 14),
+        second: pair_at(text, 17),
+    }
+}
+
+/// The second of a text of exactly 19 bytes `yyyy/mm/dd-hh:mm:ss`, of the years 1970 to 9998, in
+/// seconds since 1970-01-01T00:00:00Z; each day has 86400. None for any other text.
+pub fn parse_time(text: &[u8]) -> Option<u64>
+    ensures some { IfSome result (λ t. (text.now ≡ time_text_of t) × (t ≤ last_time)) }
+    ensures all { (t : ℕ) → t ≤ last_time → text.now ≡ time_text_of t → result ≡ Some t }
+    ensures value { result ≡ time_of text.now }
+{
+    if !has_shape(text) {
+        return None;
+    }
+    second_of(fields_at(text))
+}
+
+/// A digit.
+fn digit(value: u8) -> u8
+    requires { value < 10 }
+    ensures { result ≡ 48 + value }
+{
+    b'0' + value
+}
+
+/// The 19 bytes `yyyy/mm/dd-hh:mm:ss` of a second since 1970-01-01T00:00:00Z, which is at most
+/// 253402300799, the last of the year 9999.
+pub fn time_text(second: u64) -> [u8; 19]
+    requires { second ≤ 253402300799 }
+    ensures { result ≡ time_text_of second }
+{
+    spelled(fields_of(second))
+}
+
+/// The fields in full width.
+fn spelled(fields: TimeFields) -> [u8; 19]
+    requires { HasWidth fields }
+    ensures { result ≡ spelled fields }
+{
+    let century = (fields.year / 100) as u8;
+    let year = (fields.year % 100) as u8;
+    [
+        digit(century / 10),
+        digit(century % 10),
+        digit(year / 10),
+        digit(year % 10),
+        b'/',
+        digit(fields.month / 10),
+        digit(fields.month % 10),
+        b'/',
+        digit(fields.day / 10),
+        digit(fields.day % 10),
+        b'-',
+        digit(fields.hour / 10),
+        digit(fields.hour % 10),
+        b':',
+        digit(fields.minute / 10),
+        digit(fields.minute % 10),
+        b':',
+        digit(fields.second / 10),
+        digit(fields.second % 10),
+    ]
+}
