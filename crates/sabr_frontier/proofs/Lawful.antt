@@ -9,17 +9,18 @@ use Rattle.std.specs.declared.cmp.Ordering.TheVariants.{Less, Equal, Greater}
 use Rattle.sabr_model.specs.Order.{by_numbers}
 use Rattle.sabr_model.specs.Plan.{ContactPlan, IsPlan}
 use Rattle.sabr_model.specs.Arrival.{RouteRequest}
-use Rattle.sabr_model.specs.Route.{is_route, is_path, by_key, before}
+use Rattle.sabr_model.specs.Route.{is_route, is_path, is_prefix, by_key, before}
 use Rattle.sabr_model.specs.Listing.{routes, page_of}
 use Rattle.sabr_model.specs.Parts.{goes_on, least_in}
 use Rattle.sabr_model.proofs.Members.{in_from_Contains, Contains-from_in}
 use Rattle.sabr_model.proofs.Listed.{key_total}
+use Rattle.sabr_model.proofs.Prefixes.{empty_is_prefix}
 use Rattle.sabr_frontier.specs.Rising.{has}
 use Rattle.sabr_frontier.specs.Tree.{tree, numbers_after}
 use Rattle.sabr_frontier.specs.State.{PartState, State, pair_of, Member, leaves}
 use Rattle.sabr_frontier.specs.Formed.{Within}
 use Rattle.sabr_frontier.specs.Step.{least_carried, step_of, full, state_of}
-use Rattle.sabr_frontier.specs.Listing.{is_prefix, state_at, leaves_in, IsState, next_route, one_step, given_first, steps}
+use Rattle.sabr_frontier.specs.Listing.{state_at, leaves_in, IsState, next_route, one_step, given_first, steps}
 use Rattle.sabr_frontier.specs.Laws.{IsDivided, PartsDivide, CarriesLeast, LeavesComeFirst, IsTold, StatesAreTold, StepsFollowRoutes, StepsFollow}
 use Rattle.sabr_frontier.proofs.Rising.{true_or_false}
 use Rattle.sabr_frontier.proofs.Trees.{In}
@@ -28,7 +29,7 @@ use Rattle.sabr_frontier.proofs.Parting.{in_some_part, in_one_part, taken_in_non
 use Rattle.sabr_frontier.proofs.Leaves.{closed_tree}
 use Rattle.sabr_frontier.proofs.NextPlace.{next_is, law6, law6_end}
 use Rattle.sabr_frontier.proofs.Certified.{verified}
-use Rattle.sabr_frontier.proofs.Paths.{route_filled, routes_apart, route_chains, route_fits, empty_fits, prefix_on, prefix_no_route}
+use Rattle.sabr_frontier.proofs.Paths.{route_filled, routes_apart, route_chains, route_fits}
 use Rattle.sabr_frontier.proofs.Listed.{Member_from_in, in_from_Member, within_goes_on, goes_on_within, by_key_exact, routes_rise, routes_sound, routes_complete, least_some, least_none}
 
 -- ---- how the parts divide the routes
@@ -101,17 +102,17 @@ module _ (p : ContactPlan) (r : RouteRequest) (good : IsPlan p) where
   L = routes p r
 
   step_at : (A B : List (List ℕ)) (s : List ℕ) → L ≡ A ++ s ∷ B → one_step p r (state_of (least_in p r) A) ≡ Some (s, state_of (least_in p r) (A ++ s ∷ []))
-  step_at A B s split = law6 (is_route p r) (is_path p r) (is_prefix p r) (routes_apart p r) (route_filled p r) (route_chains p r) (route_fits p r) (empty_fits p r)
+  step_at A B s split = law6 (is_route p r) (is_path p r) (is_prefix p r) (routes_apart p r) (route_filled p r) (route_chains p r) (route_fits p r) (empty_is_prefix p r)
       (by_key p r) (key_total p r) (by_key_exact p r) L (routes_rise p r good) (routes_sound p r good) (routes_complete p r good)
       (least_in p r) (least_some p r good) (least_none p r good) A B s split
 
   carried_at : (A B : List (List ℕ)) (s : List ℕ) → L ≡ A ++ s ∷ B → next_route p r (state_of (least_in p r) A) ≡ Some s
-  carried_at A B s split = next_is (is_route p r) (is_path p r) (is_prefix p r) (routes_apart p r) (route_filled p r) (route_chains p r) (route_fits p r) (empty_fits p r)
+  carried_at A B s split = next_is (is_route p r) (is_path p r) (is_prefix p r) (routes_apart p r) (route_filled p r) (route_chains p r) (route_fits p r) (empty_is_prefix p r)
       (by_key p r) (key_total p r) (by_key_exact p r) L (routes_rise p r good) (routes_sound p r good) (routes_complete p r good)
       (least_in p r) (least_some p r good) (least_none p r good) A B s split
 
   end_step : one_step p r (state_of (least_in p r) L) ≡ None
-  end_step = law6_end (is_route p r) (is_path p r) (is_prefix p r) (routes_apart p r) (route_filled p r) (route_chains p r) (route_fits p r) (empty_fits p r)
+  end_step = law6_end (is_route p r) (is_path p r) (is_prefix p r) (routes_apart p r) (route_filled p r) (route_chains p r) (route_fits p r) (empty_is_prefix p r)
       (by_key p r) (key_total p r) (by_key_exact p r) L (routes_rise p r good) (routes_sound p r good) (routes_complete p r good)
       (least_in p r) (least_some p r good) (least_none p r good)
 

@@ -6,8 +6,7 @@ use Rattle.std.proofs.Common.{arith}
 use Rattle.std.specs.Ordering.{nat_cmp, is_eq, is_lt}
 use Rattle.std.specs.declared.cmp.Ordering.{Ordering}
 use Rattle.std.specs.declared.cmp.Ordering.TheVariants.{Less}
-use Rattle.std.specs.Cmp.{IsTotalOrder}
-use Rattle.std.specs.List.{find, AllByRecursion}
+use Rattle.std.specs.List.{AllByRecursion}
 use Rattle.std.specs.List.Sorted.{IsStrictlySortedBy}
 use Rattle.std.specs.Option.{option_map_or}
 use Rattle.sabr_model.specs.Plan.{ContactPlan, IsPlan}
@@ -17,13 +16,11 @@ use Rattle.sabr_model.specs.Route.{is_route, by_key}
 use Rattle.sabr_model.specs.Listing.{routes}
 use Rattle.sabr_model.specs.Parts.{number_after, goes_on, least_in}
 use Rattle.sabr_model.proofs.Members.{IsIn, in_from_Contains, Contains-from_in}
+use Rattle.sabr_model.proofs.Least as model
 use Rattle.sabr_model.proofs.Listed.{key_total, key_tells, routes_are_listed}
 use Rattle.sabr_frontier.specs.Rising.{has, Below, Rises, IsExact}
 use Rattle.sabr_frontier.specs.State.{Member}
 use Rattle.sabr_frontier.specs.Formed.{Within}
-use Rattle.sabr_frontier.proofs.Members.{Below-member, Less-apart}
-use Rattle.sabr_frontier.proofs.Rising.{turned}
-use Rattle.std.proofs.lemmas.Cmp.{tied_itself}
 
 -- ---- words for membership and order
 
@@ -64,41 +61,6 @@ goes_on_within q X s h = elim (number_after q s) as (λ o. number_after q s ≡ 
   | Some x ↦ λ e k. (x, e, sym (has_number x X) ∙ not-true (plans.has x X) k)
 ] refl h
 
--- ---- the first that passes
-
-found_is : (test : List ℕ → Bool) (xs : List (List ℕ)) (s : List ℕ) → find test xs ≡ Some s → Member s xs × (test s ≡ true)
-found_is test [] s e = absurd cc
-found_is test (x ∷ xs) s e = elim (test x) as (λ b. test x ≡ b → cond b (Some x) (find test xs) ≡ Some s → Member s (x ∷ xs) × (test s ≡ true)) [
-  | true ↦ λ t k. let same : x ≡ s = cc in (inl (sym same), ap test (sym same) ∙ t)
-  | false ↦ λ _ k. let w = found_is test xs s k in (inr w.0, w.1)
-] refl e
-
-none_found : (test : List ℕ → Bool) (xs : List (List ℕ)) → find test xs ≡ None → (t : List ℕ) → Member t xs → test t ≡ true → ⊥
-none_found test [] e t m p = m
-none_found test (x ∷ xs) e t m p = elim (test x) as (λ b. test x ≡ b → cond b (Some x) (find test xs) ≡ None → ⊥) [
-  | true ↦ λ _ k. cc
-  | false ↦ λ f k. elim m [
-    | inl h ↦ true≢false (sym p ∙ ap test h ∙ f)
-    | inr n ↦ none_found test xs k t n p
-  ]
-] refl e
-
-module _ {cmp : List ℕ → List ℕ → Ordering} (o : IsTotalOrder cmp) where
-  found_first : (test : List ℕ → Bool) (xs : List (List ℕ)) (s : List ℕ) → Rises cmp xs → find test xs ≡ Some s → (t : List ℕ) → Member t xs → test t ≡ true → is_lt (cmp t s) ≡ false
-  found_first test [] s r e t m p = absurd m
-  found_first test (x ∷ xs) s r e t m p = elim (test x) as (λ b. test x ≡ b → cond b (Some x) (find test xs) ≡ Some s → is_lt (cmp t s) ≡ false) [
-    | true ↦ λ _ k.
-        let same : x ≡ s = cc in
-        elim m [
-          | inl h ↦ ap (λ z. is_lt (cmp z s)) (h ∙ same) ∙ ap is_lt (tied_itself o s)
-          | inr n ↦ ap (λ z. is_lt (cmp t z)) (sym same) ∙ ap is_lt (turned o x t Less (Below-member o x t xs r.0 n))
-        ]
-    | false ↦ λ f k. elim m [
-      | inl h ↦ absurd (true≢false (sym p ∙ ap test h ∙ f))
-      | inr n ↦ found_first test xs s r.1 k t n p
-    ]
-  ] refl e
-
 -- ---- what the frontier asks of the list and of the least of a part
 
 pub by_key_exact : (p : ContactPlan) (r : RouteRequest) → IsExact (by_key p r)
@@ -116,8 +78,8 @@ module _ (p : ContactPlan) (r : RouteRequest) (good : IsPlan p) where
 
   pub least_some : (q X s : List ℕ) → least_in p r q X ≡ Some s → (is_route p r s ≡ true) × Within q X s × ((t : List ℕ) → is_route p r t ≡ true → Within q X t → is_lt (by_key p r t s) ≡ false)
   least_some q X s e =
-      let w = found_is (goes_on q X) (routes p r) s e in
-      (routes_sound s w.0, goes_on_within q X s w.1, λ t is v. found_first (key_total p r) (goes_on q X) (routes p r) s routes_rise e t (routes_complete t is) (within_goes_on q X t v))
+      let w = model.least_some p r good q X s e in
+      (w.0, goes_on_within q X s w.1, λ t is v. w.2 t is (within_goes_on q X t v))
 
   pub least_none : (q X : List ℕ) → least_in p r q X ≡ None → (t : List ℕ) → is_route p r t ≡ true → Within q X t → ⊥
-  least_none q X e t is w = none_found (goes_on q X) (routes p r) e t (routes_complete t is) (within_goes_on q X t w)
+  least_none q X e t is w = model.least_none p r good q X e t is (within_goes_on q X t w)

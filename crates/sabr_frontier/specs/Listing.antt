@@ -1,17 +1,13 @@
 -- States and steps of the listing of a plan's routes.
-use Rattle.std.specs.Prelude.{ℕ, zero, suc, Bool, ◌&&◌, not, List, [], ◌∷◌, map, take, Option, Some, None}
-use Rattle.sabr_model.specs.Plan.{ContactPlan, has}
+use Rattle.std.specs.Prelude.{ℕ, zero, suc, List, [], ◌∷◌, map, take, Option, Some, None}
+use Rattle.sabr_model.specs.Plan.{ContactPlan}
 use Rattle.sabr_model.specs.Arrival.{RouteRequest}
-use Rattle.sabr_model.specs.Route.{is_path, is_route, receivers, by_key}
+use Rattle.sabr_model.specs.Route.{is_path, is_prefix, is_route, by_key}
 use Rattle.sabr_model.specs.Listing.{routes}
 use Rattle.sabr_model.specs.Parts.{least_in}
 use Rattle.sabr_frontier.specs.State.{PartState, State, pair_of, leaves}
 use Rattle.sabr_frontier.specs.Formed.{IsWellFormed}
 use Rattle.sabr_frontier.specs.Step.{least_carried, state_of, step}
-
--- routes may begin with it: a path that does not reach the destination
-unfoldable pub is_prefix : ContactPlan → RouteRequest → List ℕ → Bool
-is_prefix p r q = is_path p r q && not (has r.destination (receivers p q))
 
 -- the state of the place i in the list of all routes: the first i were given
 unfoldable pub state_at : ContactPlan → RouteRequest → ℕ → State
