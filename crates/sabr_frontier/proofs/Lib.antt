@@ -15,5 +15,8 @@ pub mod Paths
 pub mod Listed
 pub mod Lawful
 pub mod RowProofs
-pub mod Places
+pub mod Ends
 pub mod Undoing
+pub mod Partition
+pub mod Fronts
+pub mod Orders

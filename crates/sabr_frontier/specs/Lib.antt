@@ -6,5 +6,8 @@ pub mod Step
 pub mod Listing
 pub mod Shape
 pub mod Undo
+pub mod Queue
+pub mod Best
+pub mod Taking
 pub mod Laws
 pub mod Rows

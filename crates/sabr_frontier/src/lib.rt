@@ -1,8 +1,11 @@
 //! Parts of a listing of routes, divided as routes are given.
 #![tactic(auto)]
 
+mod divide;
 mod excluded;
+mod finder;
 mod laws;
+mod places;
 mod rows;
 mod tree;
 mod undo;

@@ -31,8 +31,7 @@ fn put_back<A: Allocator + Copy>(ids: &mut Vec<NodeId, A>, node: NodeId)
     ensures items { ids.new.items ≡ ids.old.items ++ node ∷ [] }
     ensures capacity { vec_capacity ids.old ≤ vec_capacity ids.new }
 {
-    let pushed = ids.push(node);
-    let Ok(()) = pushed else { unreachable!() };
+    ids.push_reserved(node);
 }
 
 // The route goes back into its node.

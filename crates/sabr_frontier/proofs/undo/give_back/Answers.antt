@@ -2,7 +2,7 @@ use Rattle.std.proofs.Common.{arith, ℕ, List, ◌≡◌, ap, ◌∙◌, set, S
 use Rattle.sabr_frontier.specs.declared.tree.Node.{Node}
 use Rattle.sabr_frontier.specs.Shape.{numbers_of}
 use Rattle.sabr_frontier.specs.Undo.{given_back, without}
-use Rattle.sabr_frontier.proofs.Places.{set-modify}
+use Rattle.sabr_frontier.proofs.Ends.{set-modify}
 use Rattle.sabr_frontier.proofs.undo.give_back.Goals as goal
 
 pub returns : goal.returns

@@ -5,7 +5,7 @@ use Rattle.sabr_frontier.specs.declared.tree.NodeId.{NodeId}
 use Rattle.sabr_model.specs.Record.{RouteRecord}
 use Rattle.sabr_frontier.specs.Shape.{shape_of}
 use Rattle.sabr_frontier.specs.Undo.{undone, undone_by, others, modify, given_back, IsLonger}
-use Rattle.sabr_frontier.proofs.Places.{last_item_push, front_push, length-modify}
+use Rattle.sabr_frontier.proofs.Ends.{last_item_push, front_push, length-modify}
 use Rattle.sabr_frontier.proofs.tree.Tree.undo.Goals as goal
 
 pub give_back-requires-clause-longer : goal.give_back-requires-clause-longer
