@@ -1,6 +1,6 @@
 -- The last of a list, and one place of it.
-use Rattle.std.proofs.Common.{◌≡◌, ℕ, ◌-◌, ◌<◌, zero, suc, List, [], ◌∷◌, ◌++◌, length, take, set, get_or, Some, refl, ap, ◌∙◌, arith, length-append}
-use Rattle.std.specs.Prelude.{slice_get}
+use Rattle.std.proofs.Common.{◌≡◌, ℕ, ◌-◌, ◌<◌, zero, suc, List, [], ◌∷◌, ◌++◌, length, take, set, get_or, Some, refl, sym, ap, ◌∙◌, arith, length-append}
+use Rattle.std.specs.Prelude.{slice_get, Vec, vec_len}
 use Rattle.sabr_frontier.specs.Undo.{modify, last_item, front}
 
 get_push : {X : Type 0} (xs : List X) (x : X) → slice_get (xs ++ x ∷ []) (length xs) ≡ Some x
@@ -30,3 +30,13 @@ pub length-modify : {X : Type 0} (f : X → X) (xs : List X) (i : ℕ) → lengt
 length-modify f [] i = refl
 length-modify f (x ∷ xs) zero = refl
 length-modify f (x ∷ xs) (suc i) = ap suc (length-modify f xs i)
+
+-- what an index reads
+pub get_there : {X : Type 0} (xs : List X) (i : ℕ) (x : X) → i < length xs → x ≡ get_or xs i x → slice_get xs i ≡ Some x
+get_there [] i x l e = absurd (omega arith)
+get_there (y ∷ xs) zero x l e = ap Some (sym e)
+get_there (y ∷ xs) (suc i) x l e = get_there xs i x (omega arith) e
+
+-- what a pop leaves
+pub vec_front : {X A : Type 0} (v : Vec X A) → take (vec_len v - 1) v.items ≡ front v.items
+vec_front v = let e : vec_len v ≡ length v.items = omega arith in ap (λ n. take (n - 1) v.items) e

@@ -20,3 +20,5 @@ pub mod Undoing
 pub mod Partition
 pub mod Fronts
 pub mod Orders
+pub mod Queues
+pub mod Blocks

@@ -9,5 +9,7 @@ pub mod Undo
 pub mod Queue
 pub mod Best
 pub mod Taking
+pub mod Room
+pub mod Sound
 pub mod Laws
 pub mod Rows

@@ -1,6 +1,7 @@
 -- What a tree is once its least carried route is given.
 use Rattle.std.specs.Prelude.{◌≡◌, ℕ, ◌+◌, zero, suc, Bool, false, List, [], ◌∷◌, ◌++◌, length, take, drop, Option, Some, None, slice_index, slice_get, if◌then◌else◌}
 use Rattle.std.specs.Ordering.{nat_cmp, is_lt}
+use Rattle.std.specs.Option.{option_and_then}
 use Rattle.sabr_model.specs.Order.{put_in, by_numbers}
 use Rattle.sabr_model.specs.Plan.{ContactPlan}
 use Rattle.sabr_model.specs.Arrival.{RouteRequest}
@@ -70,15 +71,18 @@ fresh_nodes best leaf q (y ∷ ys) = record { leaf = leaf; length = length q; ex
 abbrev pub widened : {A : Type 0} → List ℕ → Option RouteRecord → Node A → Node A
 widened wide found n = record n { excluded = wide; route = found }
 
--- the tree once the node's route is given, for what the searches found
-abbrev pub divided_by : {A : Type 0} → Shape A → NodeId → RouteRecord → List ℕ → List ℕ → Option RouteRecord → List (Node A) → Shape A
-divided_by {A} t node x q wide found fresh =
-    let nodes : List (Node A) = modify (widened wide found) t.nodes node.0 ++ fresh in
+-- the nodes then
+abbrev pub nodes_then : {A : Type 0} → List (Node A) → NodeId → List ℕ → Option RouteRecord → List (Node A) → List (Node A)
+nodes_then nodes node wide found fresh = modify (widened wide found) nodes node.0 ++ fresh
+
+-- the tree once the node's route x is given, for what the searches found, with the new nodes at a place of the index
+abbrev pub divided_by : {A : Type 0} → Shape A → NodeId → RouteRecord → ℕ → List ℕ → Option RouteRecord → List (Node A) → Shape A
+divided_by t node x place wide found fresh =
     let block = ids_from (length t.nodes) (length fresh) in
     record {
-      nodes = nodes;
-      index = with_block (passing (stands_before t.leaves t.nodes q) t.index) block t.index;
-      queue = enqueued_all nodes (node ∷ block) (front t.queue);
+      nodes = nodes_then t.nodes node wide found fresh;
+      index = with_block place block t.index;
+      queue = enqueued_all (nodes_then t.nodes node wide found fresh) (node ∷ block) (front t.queue);
       leaves = t.leaves ++ x ∷ [];
       last = Some (length t.leaves);
       journal = t.journal ++ record { node = node; nodes = length t.nodes; last = t.last } ∷ [];
@@ -92,7 +96,7 @@ abbrev pub divided : {A : Type 0} → ContactPlan → RouteRequest → Shape A �
 divided p r t node n x =
     let s = x.contacts in
     let q = take (n.length + 1) s in
-    divided_by t node x q (wide_of n s) (best_of p r (take n.length s) (wide_of n s)) (fresh_nodes (best_of p r) (length t.leaves) q (drop (n.length + 1) s))
+    divided_by t node x (passing (stands_before t.leaves t.nodes q) t.index) (wide_of n s) (best_of p r (take n.length s) (wide_of n s)) (fresh_nodes (best_of p r) (length t.leaves) q (drop (n.length + 1) s))
 
 abbrev pub taken_route : {A : Type 0} → ContactPlan → RouteRequest → Shape A → NodeId → Node A → Option RouteRecord → Shape A
 taken_route p r t node n None = t
@@ -105,6 +109,10 @@ taken_node p r t node (Some n) = taken_route p r t node n n.route
 abbrev pub taken_last : {A : Type 0} → ContactPlan → RouteRequest → Shape A → Option NodeId → Shape A
 taken_last p r t None = t
 taken_last p r t (Some node) = taken_node p r t node (slice_get t.nodes node.0)
+
+-- the route that the tree gives next
+abbrev pub least_route : {A : Type 0} → Shape A → Option RouteRecord
+least_route t = option_and_then (route_at t.nodes) (last_item t.queue)
 
 -- the tree once its least carried route is given
 unfoldable pub taken : {A : Type 0} → ContactPlan → RouteRequest → Shape A → Shape A
