@@ -22,3 +22,8 @@ pub mod Fronts
 pub mod Orders
 pub mod Queues
 pub mod Blocks
+pub mod Takes
+pub mod Nodes
+pub mod Splits
+pub mod Refined
+pub mod Divided

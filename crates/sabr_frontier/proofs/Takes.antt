@@ -63,9 +63,9 @@ module _ {A : Type 0} (t : Shape A) (node : NodeId) (part : Node A) (r : RouteRe
   abbrev widened : Node A → Node A
   widened n = record n { excluded = wide; route = found }
 
-  -- the tree once the route is taken
-  abbrev pub taken : Shape A
-  taken = record {
+  -- the tree once the route is after
+  abbrev pub after : Shape A
+  after = record {
     nodes = modify widened t.nodes node.0 ++ fresh;
     index = with_block place (ids_from (length t.nodes) (length fresh)) t.index;
     queue = queue;
@@ -79,7 +79,7 @@ module _ {A : Type 0} (t : Shape A) (node : NodeId) (part : Node A) (r : RouteRe
       ∙ modify_twice widened (given_back r) t.nodes node.0
       ∙ modify_back (λ n. given_back r (widened n)) t.nodes node.0 part stands (λ i. record { leaf = part.leaf; length = part.length; excluded = forgets i; route = sym carries i })
 
-  index_back : filter (λ (id : NodeId). nat_lt id.0 (length t.nodes)) taken.index ≡ t.index
+  index_back : filter (λ (id : NodeId). nat_lt id.0 (length t.nodes)) after.index ≡ t.index
   index_back =
       let p : NodeId → Bool = λ id. nat_lt id.0 (length t.nodes) in
       let block : List NodeId = ids_from (length t.nodes) (length fresh) in
@@ -94,7 +94,7 @@ module _ {A : Type 0} (t : Shape A) (node : NodeId) (part : Node A) (r : RouteRe
   queue_back : others entry queue ++ node ∷ [] ≡ t.queue
   queue_back = ap (λ z. z ++ node ∷ []) (only_new ∙ filter_all (λ (id : NodeId). nat_lt id.0 (length t.nodes) && not (nat_eq id.0 node.0)) rest older) ∙ sym queued
 
-  pub undone-taken : undone taken ≡ t
-  undone-taken =
-      let base : undone taken ≡ undone_by taken (Some entry) (Some r) = λ i. undone_by taken (last_item_push taken.journal t.journal entry refl i) (last_item_push taken.leaves t.leaves r refl i) in
-      base ∙ (λ i. record { nodes = nodes_back i; index = index_back i; queue = queue_back i; leaves = front_push taken.leaves t.leaves r refl i; last = t.last; journal = front_push taken.journal t.journal entry refl i })
+  pub undone-after : undone after ≡ t
+  undone-after =
+      let base : undone after ≡ undone_by after (Some entry) (Some r) = λ i. undone_by after (last_item_push after.journal t.journal entry refl i) (last_item_push after.leaves t.leaves r refl i) in
+      base ∙ (λ i. record { nodes = nodes_back i; index = index_back i; queue = queue_back i; leaves = front_push after.leaves t.leaves r refl i; last = t.last; journal = front_push after.journal t.journal entry refl i })

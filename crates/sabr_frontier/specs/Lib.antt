@@ -11,5 +11,6 @@ pub mod Best
 pub mod Taking
 pub mod Room
 pub mod Sound
+pub mod Prepared
 pub mod Laws
 pub mod Rows

@@ -40,3 +40,7 @@ pub record IsDividable {A : Type 0} (p : ContactPlan) (r : RouteRequest) (n : No
   pub longer : n.length < length x.contacts
   pub rises : Rises nat_cmp n.excluded
   pub absent : has nat_cmp (slice_index x.contacts n.length) n.excluded ≡ false
+
+-- wherever the node and its route are, it can be divided
+abbrev pub CanDivide : {A : Type 0} → ContactPlan → RouteRequest → List (Node A) → NodeId → Type 0
+CanDivide {A} p r nodes node = (n : Node A) (x : RouteRecord) → slice_get nodes node.0 ≡ Some n → n.route ≡ Some x → IsDividable p r n x

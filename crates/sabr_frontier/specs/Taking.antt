@@ -1,5 +1,5 @@
 -- What a tree is once its least carried route is given.
-use Rattle.std.specs.Prelude.{◌≡◌, ℕ, ◌+◌, zero, suc, Bool, false, List, [], ◌∷◌, ◌++◌, length, take, drop, Option, Some, None, slice_index, slice_get, if◌then◌else◌}
+use Rattle.std.specs.Prelude.{◌≡◌, ℕ, ◌+◌, ◌-◌, zero, suc, Bool, false, List, [], ◌∷◌, ◌++◌, length, take, drop, Option, Some, None, slice_index, slice_get, if◌then◌else◌}
 use Rattle.std.specs.Ordering.{nat_cmp, is_lt}
 use Rattle.std.specs.Option.{option_and_then}
 use Rattle.sabr_model.specs.Order.{put_in, by_numbers}
@@ -117,3 +117,19 @@ least_route t = option_and_then (route_at t.nodes) (last_item t.queue)
 -- the tree once its least carried route is given
 unfoldable pub taken : {A : Type 0} → ContactPlan → RouteRequest → Shape A → Shape A
 taken p r t = taken_last p r t (last_item t.queue)
+
+-- how many searches giving it takes: one for each hop of the route behind the node's prefix
+abbrev pub hops_of : {A : Type 0} → Node A → Option RouteRecord → ℕ
+hops_of n None = 0
+hops_of n (Some x) = length x.contacts - n.length
+
+abbrev pub hops_behind : {A : Type 0} → Option (Node A) → ℕ
+hops_behind None = 0
+hops_behind (Some n) = hops_of n n.route
+
+abbrev pub hops_from : {A : Type 0} → Shape A → Option NodeId → ℕ
+hops_from t None = 0
+hops_from t (Some node) = hops_behind (slice_get t.nodes node.0)
+
+unfoldable pub new_count : {A : Type 0} → Shape A → ℕ
+new_count t = hops_from t (last_item t.queue)

@@ -8,6 +8,7 @@ mod finder;
 mod laws;
 mod places;
 mod rows;
+mod take;
 mod tree;
 mod undo;
 
