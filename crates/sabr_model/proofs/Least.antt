@@ -1,13 +1,12 @@
 -- The least route of a part: what it is, and what tells it.
 use Rattle.std.proofs.Common.{◌≡◌, ℕ, true, false, Bool, cond, not, eqb, List, [], ◌∷◌, ◌++◌, length, refl, sym, ap, subst, ◌∙◌, inl, inr, ⊎_elim}
-use Rattle.std.specs.Prelude.{◌⊎◌, IsTrue, Contains}
-use Rattle.std.specs.List.{find, AllByRecursion}
+use Rattle.std.specs.Prelude.{◌⊎◌, IsTrue}
+use Rattle.std.specs.List.{find}
 use Rattle.std.specs.List.Sorted.{IsStrictlySortedBy}
 use Rattle.std.specs.Option.{option_map_or}
 use Rattle.std.specs.Ordering.{nat_cmp, is_lt, is_gt, ordering_reverse, ordering_then}
 use Rattle.std.specs.Cmp.{tied_itself, nat_cmp_total}
-use Rattle.std.proofs.lemmas.Bool.{and_parts, and_from, eqb-true, eq-eqb, not-true, not_from_false, both_ways, cond-true}
-use Rattle.std.specs.declared.option.Option.{Option}
+use Rattle.std.proofs.lemmas.Bool.{eqb-true, eq-eqb, not-true, not_from_false, both_ways, cond-true}
 use Rattle.std.specs.declared.option.Option.TheVariants.{Some, None}
 use Rattle.std.specs.declared.cmp.Ordering.{Ordering}
 use Rattle.std.specs.declared.cmp.Ordering.TheVariants.{Less, Equal, Greater}
@@ -16,10 +15,11 @@ use Rattle.sabr_model.specs.Plan.{ContactPlan, IsPlan, has}
 use Rattle.sabr_model.specs.Arrival.{RouteRequest}
 use Rattle.sabr_model.specs.Route.{is_route, delivery_of, until_of, entry_of, by_key}
 use Rattle.sabr_model.specs.Listing.{routes}
-use Rattle.sabr_model.specs.Parts.{number_after, goes_on, in_part, least_in}
+use Rattle.sabr_model.specs.Parts.{number_after, goes_on, least_in}
 use Rattle.sabr_model.specs.Record.{record_of, by_record}
 use Rattle.sabr_model.proofs.Members.{IsIn, in_from_Contains, Contains-from_in, all_in}
-use Rattle.sabr_model.proofs.Listed.{routes_are_listed, key_total, key_tells}
+use Rattle.sabr_model.proofs.Listed.{key_total, key_tells}
+use Rattle.sabr_model.proofs.RoutesListed.{routes_are_listed}
 
 -- ---- the number after a prefix
 
@@ -120,12 +120,14 @@ module _ (p : ContactPlan) (r : RouteRequest) (good : IsPlan p) (q excluded : Li
   pub least_some : (s : List ℕ) → least_in p r q excluded ≡ Some s → IsTrue (is_route p r s) × IsTrue (goes_on q excluded s) × ((t : List ℕ) → IsTrue (is_route p r t) → IsTrue (goes_on q excluded t) → is_lt (by_key p r t s) ≡ false)
   unfolding least_in
   least_some s e =
-      let m = find_in (goes_on q excluded) (routes p r) s e in
-      (member_is_route p r s good m.0, m.1,
-       λ t route on. ⊎_elim
-           (λ same. ap is_lt (ap (λ w. by_key p r w s) same ∙ tied_itself (key_total p r) s))
-           (λ less. ap is_lt ((key_total p r).antisymm t s ∙ ap ordering_reverse less))
-           (find_least (goes_on q excluded) (by_key p r) (routes p r) s t (routes_are_listed p r good).rising e (route_is_member p r t good route) on))
+      let m = find_in (goes_on q excluded) (routes p r) s e in (
+        member_is_route p r s good m.0,
+        m.1,
+        λ t route on. ⊎_elim
+            (λ same. ap is_lt (ap (λ w. by_key p r w s) same ∙ tied_itself (key_total p r) s))
+            (λ less. ap is_lt ((key_total p r).antisymm t s ∙ ap ordering_reverse less))
+            (find_least (goes_on q excluded) (by_key p r) (routes p r) s t (routes_are_listed p r good).rising e (route_is_member p r t good route) on),
+      )
 
   pub least_none : least_in p r q excluded ≡ None → (t : List ℕ) → IsTrue (is_route p r t) → IsTrue (goes_on q excluded t) → ⊥
   unfolding least_in
@@ -148,7 +150,7 @@ module _ (p : ContactPlan) (r : RouteRequest) (good : IsPlan p) (q excluded : Li
         | Some u ↦ λ e.
             let m = find_in (goes_on q excluded) (routes p r) u e in
             ⊎_elim
-                (λ same. ap Some (sym same))
-                (λ less. absurd (not_after_less p r s u less (least u (member_is_route p r u good m.0) m.1)))
-                (find_least (goes_on q excluded) (by_key p r) (routes p r) u s (routes_are_listed p r good).rising e (route_is_member p r s good route) on)
+            (λ same. ap Some (sym same))
+            (λ less. absurd (not_after_less p r s u less (least u (member_is_route p r u good m.0) m.1)))
+            (find_least (goes_on q excluded) (by_key p r) (routes p r) u s (routes_are_listed p r good).rising e (route_is_member p r s good route) on)
       ] refl

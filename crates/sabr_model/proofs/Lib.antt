@@ -5,7 +5,17 @@ pub mod Begins
 pub mod Members
 pub mod Ordered
 pub mod Listed
+pub mod Answered
+pub mod Has
+pub mod StartLemmas
+pub mod Apart
+pub mod Candidates
+pub mod RoutesListed
 pub mod TableLemmas
+pub mod Without
+pub mod Deletions
+pub mod RangeLemmas
+pub mod Tabled
 pub mod PlanLemmas
 pub mod Rises
 mod CountWalks
@@ -13,3 +23,5 @@ pub mod WrittenTexts
 pub mod Paths
 pub mod Prefixes
 pub mod Least
+pub mod Faults
+pub mod Follows

@@ -1,18 +1,18 @@
 -- Chains that can be the beginning of a route: their facts, their beginnings, and one hop more.
-use Rattle.std.proofs.Common.{◌≡◌, ℕ, ◌+◌, ◌<◌, ◌≤◌, Bool, true, false, cond, ◌&&◌, ◌||◌, not, eqb, leb, List, [], ◌∷◌, ◌++◌, length, refl, sym, ap, subst, ◌∙◌, inl, inr, ⊎_elim, arith, length-append}
+use Rattle.std.proofs.Common.{◌≡◌, ℕ, ◌<◌, Bool, true, false, cond, ◌&&◌, ◌||◌, not, eqb, leb, List, [], ◌∷◌, ◌++◌, length, refl, sym, ap, ◌∙◌, arith, length-append}
 use Rattle.std.specs.Prelude.{is_some, IsTrue}
 use Rattle.std.specs.List.{list_all}
-use Rattle.std.specs.Option.{option_and_then, option_map_or}
-use Rattle.std.proofs.lemmas.Bool.{and_parts, and_from, or_parts, or_from, or_cases, or_left, or_right, leb-true, le-leb, eqb-true, eq-eqb, not-true, not_from_false, false_from_ne_true, both_ways}
+use Rattle.std.specs.Option.{option_and_then}
+use Rattle.std.proofs.lemmas.Bool.{and_parts, and_from, or_parts, or_from, or_left, leb-true, le-leb, eqb-true, eq-eqb, not-true, not_from_false, false_from_ne_true, both_ways}
 use Rattle.std.proofs.lemmas.List.Folds.{list_any-append, list_all-append}
 use Rattle.std.specs.declared.option.Option.{Option}
 use Rattle.std.specs.declared.option.Option.TheVariants.{Some, None}
 use Rattle.sabr_model.specs.declared.contact.Contact.{Contact}
 use Rattle.sabr_model.specs.Plan.{ContactPlan, contact_named, has, are_different}
 use Rattle.sabr_model.specs.Arrival.{RouteRequest, arrival, arrival_after}
-use Rattle.sabr_model.specs.Route.{chain_end, receivers, is_path, is_prefix, is_route, IsPath, IsRoute}
+use Rattle.sabr_model.specs.Route.{chain_end, receivers, is_path, is_route, IsPath}
 use Rattle.sabr_model.proofs.Routes.{route_facts, route_from_facts}
-use Rattle.sabr_model.proofs.Begins.{chain_end-append, receivers-append, receivers-cons, end_is_received, different_apart, first_hop}
+use Rattle.sabr_model.proofs.Begins.{chain_end-append, receivers-append, receivers-cons, different_apart, first_hop}
 
 -- ---- the test and its facts
 
@@ -38,10 +38,10 @@ path_from_facts p r s h =
     let in_time = is_some (arrival_after p r r.at s) in
     let allowed = list_all (λ n. not (has n r.avoided)) (receivers p s) in
     and_from (chained && different && in_time && allowed) (leb (length s) r.max_hops)
-        (and_from (chained && different && in_time) allowed
-            (and_from (chained && different) in_time (and_from chained different h.chained h.different) h.in_time)
-            h.allowed)
-        (le-leb (length s) r.max_hops h.within)
+    (and_from (chained && different && in_time) allowed
+    (and_from (chained && different) in_time (and_from chained different h.chained h.different) h.in_time)
+    h.allowed)
+    (le-leb (length s) r.max_hops h.within)
 
 -- a route is a path that ends at the destination and has a hop
 pub route_is_path : (p : ContactPlan) (r : RouteRequest) (s : List ℕ) → IsTrue (is_route p r s) → IsTrue (is_path p r s)
@@ -72,9 +72,9 @@ arrival_after-append p r t (n ∷ q) s =
     elim (contact_named p n) as (λ o. option_and_then (λ c. option_and_then (λ u. arrival_after p r u (q ++ s)) (arrival p r t c)) o ≡ option_and_then (λ u. arrival_after p r u s) (option_and_then (λ c. option_and_then (λ u. arrival_after p r u q) (arrival p r t c)) o)) [
       | None ↦ refl
       | Some c ↦ elim (arrival p r t c) as (λ o. option_and_then (λ u. arrival_after p r u (q ++ s)) o ≡ option_and_then (λ u. arrival_after p r u s) (option_and_then (λ u. arrival_after p r u q) o)) [
-          | None ↦ refl
-          | Some u ↦ arrival_after-append p r u q s
-        ]
+        | None ↦ refl
+        | Some u ↦ arrival_after-append p r u q s
+      ]
     ]
 
 -- where a function of an option's value is there, so is the option
@@ -97,7 +97,7 @@ beginning_is_path p r q s h =
     let f = path_facts p r (q ++ s) h in
     let both : receivers p (q ++ s) ≡ receivers p q ++ receivers p s = receivers-append p q s in
     let allowed : (list_all (λ n. not (has n r.avoided)) (receivers p q) && list_all (λ n. not (has n r.avoided)) (receivers p s)) ≡ true =
-        sym (list_all-append (λ n. not (has n r.avoided)) (receivers p q) (receivers p s)) ∙ ap (list_all (λ n. not (has n r.avoided))) (sym both) ∙ f.allowed in
+    sym (list_all-append (λ n. not (has n r.avoided)) (receivers p q) (receivers p s)) ∙ ap (list_all (λ n. not (has n r.avoided))) (sym both) ∙ f.allowed in
     path_from_facts p r q (record {
       chained = before_then (λ b. chain_end p b s) (chain_end p r.source q) (ap is_some (sym (chain_end-append p r.source q s)) ∙ f.chained);
       different = different_front (r.source ∷ receivers p q) (receivers p s) (ap (λ w. are_different (r.source ∷ w)) (sym both) ∙ f.different);
@@ -169,7 +169,7 @@ hop_facts p r q n h =
     let hop = first_hop p end.0 n [] onward.0 onward.1 in
     let ready = value_of (arrival_after p r r.at q) before.in_time in
     let late : is_some (option_and_then (λ (c : Contact). option_and_then (λ w. Some w) (arrival p r ready.0 c)) (contact_named p n)) ≡ true =
-        ap (λ o. is_some (option_and_then (λ w. arrival_after p r w (n ∷ [])) o)) (sym ready.1) ∙ ap is_some (sym (arrival_after-append p r r.at q (n ∷ []))) ∙ f.in_time in
+    ap (λ o. is_some (option_and_then (λ w. arrival_after p r w (n ∷ [])) o)) (sym ready.1) ∙ ap is_some (sym (arrival_after-append p r r.at q (n ∷ []))) ∙ f.in_time in
     let arrived = value_of (arrival p r ready.0 hop.contact) (before_then (λ w. Some w) (arrival p r ready.0 hop.contact) (ap (λ o. is_some (option_and_then (λ (c : Contact). option_and_then (λ w. Some w) (arrival p r ready.0 c)) o)) (sym hop.named) ∙ late)) in
     let seen = receivers_push p q n hop.contact hop.named in
     record {

@@ -1,14 +1,14 @@
 -- Chains that routes may begin with and go on from.
-use Rattle.std.proofs.Common.{◌≡◌, ℕ, ◌+◌, ◌<◌, ◌≤◌, true, false, ◌&&◌, ◌||◌, not, eqb, List, [], ◌∷◌, ◌++◌, length, refl, sym, ap, subst, ◌∙◌, arith, length-append, append_assoc}
-use Rattle.std.specs.Prelude.{is_some, IsTrue}
+use Rattle.std.proofs.Common.{◌≡◌, ℕ, false, ◌||◌, not, eqb, List, [], ◌∷◌, ◌++◌, refl, sym, ap, subst, ◌∙◌, arith, length-append, append_assoc}
+use Rattle.std.specs.Prelude.{IsTrue}
 use Rattle.std.specs.Option.{option_and_then}
-use Rattle.std.proofs.lemmas.Bool.{and_parts, and_from, or_parts, or_from, or_left, eqb-true, not-true, not_from_false, false_from_ne_true, both_ways}
+use Rattle.std.proofs.lemmas.Bool.{and_parts, and_from, or_parts, or_from, eqb-true, not-true, not_from_false, false_from_ne_true, both_ways}
 use Rattle.std.proofs.lemmas.List.Folds.{list_any-append}
 use Rattle.std.specs.declared.option.Option.{Option}
 use Rattle.std.specs.declared.option.Option.TheVariants.{Some, None}
 use Rattle.sabr_model.specs.Plan.{ContactPlan, has, are_different}
 use Rattle.sabr_model.specs.Arrival.{RouteRequest}
-use Rattle.sabr_model.specs.Route.{chain_end, receivers, is_path, is_prefix, is_route, IsPath}
+use Rattle.sabr_model.specs.Route.{chain_end, receivers, is_path, is_prefix, is_route}
 use Rattle.sabr_model.proofs.Routes.{route_facts, empty_route}
 use Rattle.sabr_model.proofs.Begins.{chain_end-append, receivers-append, end_is_received, different_apart}
 use Rattle.sabr_model.proofs.Paths.{path_from_facts, beginning_is_path, route_is_path, route_from_path, hop_facts, receivers_push, chain_end_push}
@@ -44,14 +44,14 @@ pub prefix_goes_on : (p : ContactPlan) (r : RouteRequest) (q : List ℕ) (n : �
 prefix_goes_on p r q n h path none =
     let hop = hop_facts p r q n path in
     let elsewhere : eqb r.destination hop.contact.to ≡ false =
-        false_from_ne_true (eqb r.destination hop.contact.to) (λ e.
-            both_ways (is_route p r (q ++ n ∷ [])) none
-                (route_from_path p r (q ++ n ∷ []) path (omega (arith, length-append q (n ∷ [])))
-                    (chain_end_push p r.source q n hop.contact hop.named hop.sent ∙ ap Some (sym (eqb-true r.destination hop.contact.to e))))) in
+    false_from_ne_true (eqb r.destination hop.contact.to) (λ e.
+    both_ways (is_route p r (q ++ n ∷ [])) none
+    (route_from_path p r (q ++ n ∷ []) path (omega (arith, length-append q (n ∷ [])))
+    (chain_end_push p r.source q n hop.contact hop.named hop.sent ∙ ap Some (sym (eqb-true r.destination hop.contact.to e))))) in
     prefix_from_path p r (q ++ n ∷ []) path
-        (ap (has r.destination) (receivers_push p q n hop.contact hop.named)
-         ∙ list_any-append (eqb r.destination) (receivers p q) (hop.contact.to ∷ [])
-         ∙ or_from (has r.destination (receivers p q)) (eqb r.destination hop.contact.to || false) (prefix_passes p r q h) (or_from (eqb r.destination hop.contact.to) false elsewhere refl))
+    (ap (has r.destination) (receivers_push p q n hop.contact hop.named)
+    ∙ list_any-append (eqb r.destination) (receivers p q) (hop.contact.to ∷ [])
+    ∙ or_from (has r.destination (receivers p q)) (eqb r.destination hop.contact.to || false) (prefix_passes p r q h) (or_from (eqb r.destination hop.contact.to) false elsewhere refl))
 
 -- a proper beginning of a route is a prefix
 pub beginning_is_prefix : (p : ContactPlan) (r : RouteRequest) (q : List ℕ) (n : ℕ) (t : List ℕ) → IsTrue (is_route p r (q ++ n ∷ t)) → IsTrue (is_prefix p r q)
@@ -62,8 +62,8 @@ beginning_is_prefix p r q n t route =
     let received = end_is_received p onward.0 n t r.destination onward.1 in
     let different = and_parts (not (has r.source (receivers p (q ++ n ∷ t)))) (are_different (receivers p (q ++ n ∷ t))) f.different in
     prefix_from_path p r q path
-        (false_from_ne_true (has r.destination (receivers p q)) (λ h.
-            different_apart (receivers p q) (receivers p (n ∷ t)) r.destination (ap are_different (sym (receivers-append p q (n ∷ t))) ∙ different.1) h received))
+    (false_from_ne_true (has r.destination (receivers p q)) (λ h.
+    different_apart (receivers p q) (receivers p (n ∷ t)) r.destination (ap are_different (sym (receivers-append p q (n ∷ t))) ∙ different.1) h received))
   where
     reached : (o : Option ℕ) (f : ℕ → Option ℕ) (b : ℕ) → option_and_then f o ≡ Some b → (a : ℕ) × (f a ≡ Some b)
     reached None f b e = absurd cc
@@ -79,4 +79,4 @@ pub beginning_of_prefix : (p : ContactPlan) (r : RouteRequest) (q t : List ℕ) 
 beginning_of_prefix p r q t h =
     let passes : has r.destination (receivers p q ++ receivers p t) ≡ false = ap (has r.destination) (sym (receivers-append p q t)) ∙ prefix_passes p r (q ++ t) h in
     prefix_from_path p r q (beginning_is_path p r q t (prefix_is_path p r (q ++ t) h))
-        (or_parts (has r.destination (receivers p q)) (has r.destination (receivers p t)) (sym (list_any-append (eqb r.destination) (receivers p q) (receivers p t)) ∙ passes)).0
+    (or_parts (has r.destination (receivers p q)) (has r.destination (receivers p t)) (sym (list_any-append (eqb r.destination) (receivers p q) (receivers p t)) ∙ passes)).0

@@ -1,13 +1,15 @@
--- Laws of the definitions.
-use Rattle.std.specs.Prelude.{◌≡◌, ℕ, ◌≤◌, ◌↔◌, List, [], ◌++◌, IsTrue}
-use Rattle.std.specs.List.{Contains}
+-- Laws of the definitions, over all plans and requests.
+use Rattle.std.specs.Prelude.{◌≡◌, ℕ, ◌<◌, ◌≤◌, ◌↔◌, List, [], ◌++◌, IsTrue}
+use Rattle.std.specs.List.{Contains, AllByRecursion}
 use Rattle.std.specs.List.Sorted.{IsStrictlySortedBy}
-use Rattle.std.specs.declared.option.Option.TheVariants.{Some}
+use Rattle.std.specs.declared.option.Option.TheVariants.{Some, None}
 use Rattle.sabr_model.specs.declared.contact.Contact.{Contact}
-use Rattle.sabr_model.specs.Plan.{ContactPlan, IsPlan}
+use Rattle.sabr_model.specs.Order.{same_numbers}
+use Rattle.sabr_model.specs.Plan.{ContactPlan, IsPlan, are_different, none_twice}
 use Rattle.sabr_model.specs.Arrival.{RouteRequest, arrival}
 use Rattle.sabr_model.specs.Route.{is_route, by_key}
-use Rattle.sabr_model.specs.Listing.{routes}
+use Rattle.sabr_model.specs.Fault.{fault_of}
+use Rattle.sabr_model.specs.Listing.{candidates, routes}
 
 -- whoever is at the sender earlier arrives, and no later
 abbrev pub ArrivalIsMonotone : Type 0
@@ -15,14 +17,30 @@ ArrivalIsMonotone =
     (p : ContactPlan) (r : RouteRequest) (c : Contact) (t u x : ℕ) → t ≤ u → arrival p r u c ≡ Some x
     → (y : ℕ) × (arrival p r t c ≡ Some y) × (y ≤ x)
 
+-- no route is a beginning of another
 abbrev pub NoRouteBeginsAnother : Type 0
 NoRouteBeginsAnother =
     (p : ContactPlan) (r : RouteRequest) (s t : List ℕ) → IsTrue (is_route p r s) → IsTrue (is_route p r (s ++ t)) → t ≡ []
 
--- the list of all routes has exactly the routes, and their keys rise strictly, so each once
+-- a list has no fault exactly where it is a route
+abbrev pub FaultsTellRoutes : Type 0
+FaultsTellRoutes = (p : ContactPlan) (r : RouteRequest) (s : List ℕ) → (fault_of p r s ≡ None) ↔ IsTrue (is_route p r s)
+
+-- the candidates are the lists of different numbers from 1 to n, each once
+pub record IsListOfCandidates (n : ℕ) : Type 0 where
+  pub members : (s : List ℕ) → Contains (candidates n) s ↔ (IsTrue (are_different s) × AllByRecursion (λ m. (0 < m) × (m ≤ n)) s)
+  pub once : IsTrue (none_twice same_numbers (candidates n))
+
+-- that, for every n
+abbrev pub CandidatesAreListed : Type 0
+CandidatesAreListed = (n : ℕ) → IsListOfCandidates n
+
+-- the list of all routes has exactly the routes, each once, and their keys rise strictly
 pub record IsListOfRoutes (p : ContactPlan) (r : RouteRequest) : Type 0 where
   pub members : (s : List ℕ) → Contains (routes p r) s ↔ IsTrue (is_route p r s)
+  pub once : IsTrue (none_twice same_numbers (routes p r))
   pub rising : IsStrictlySortedBy (by_key p r) (routes p r)
 
+-- that, for every contact plan and request
 abbrev pub RoutesAreListed : Type 0
 RoutesAreListed = (p : ContactPlan) (r : RouteRequest) → IsPlan p → IsListOfRoutes p r

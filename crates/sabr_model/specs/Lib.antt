@@ -1,12 +1,14 @@
 pub mod Order
 pub mod Plan
 pub mod Table
+pub mod Tabled
 pub mod Adding
 pub mod Light
 pub mod Arrival
 pub mod Asking
 pub mod Route
 pub mod Fault
+pub mod Following
 pub mod Listing
 pub mod Parts
 pub mod Rows

@@ -4,6 +4,8 @@
 mod contact;
 mod devices;
 mod fault;
+mod following;
+mod hop;
 mod laws;
 mod node_table;
 mod numbers;
@@ -11,6 +13,7 @@ mod plan;
 mod request;
 mod route;
 mod rows;
+mod sent;
 
 #[cfg(test)]
 mod tests;
@@ -18,9 +21,15 @@ mod tests;
 pub use contact::{Contact, Range};
 pub use devices::{Device, Failed, FailureCount, Read, Write, WriteFault, write_text};
 pub use fault::{AddFault, HopFault, NoMemory, RequestError};
+pub use following::follow;
+pub use hop::Hop;
+pub use laws::{candidates_hold_each_once, faults_tell_routes, law1, law2, law3};
 pub use numbers::Numbers;
-pub use plan::{arrive, Plan};
-pub use route::Route;
-pub use rows::{row_of_plan_a, row_of_plan_c};
+pub use plan::{Plan, arrive};
 pub use request::Request;
-pub use laws::{law1, law2, law3};
+pub use route::Route;
+pub use rows::{
+    row_of_deleting, row_of_faults, row_of_light, row_of_limits, row_of_parts_of_a,
+    row_of_parts_of_c, row_of_plan_a, row_of_plan_a_later, row_of_plan_b, row_of_plan_c,
+    row_of_the_last_day, row_of_windows,
+};

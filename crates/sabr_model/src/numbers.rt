@@ -1,9 +1,9 @@
 //! A list of contact numbers.
 
+ghost use Rattle.std.specs.Prelude.{◌≡◌, ◌==◌, length};
+
 use std::alloc::{Allocator, Global};
 use std::marker::Model;
-
-ghost use Rattle.std.specs.Prelude.{◌≡◌, ◌==◌, length};
 
 /// Contact numbers, one after the other. Contracts see the list.
 #[derive(Debug, Drop)]

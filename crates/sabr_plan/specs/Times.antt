@@ -5,11 +5,8 @@ use Rattle.std.specs.declared.option.Option.{Option}
 use Rattle.std.specs.declared.option.Option.TheVariants.{Some, None}
 use Rattle.jiff_core.specs.Calendar.{days_in_month, days_from_civil}
 
+use Rattle.sabr_model.specs.Plan.{last_time}
 use Rattle.sabr_plan.specs.declared.time.TimeFields.{TimeFields}
-
--- the greatest time
-abbrev pub last_time : ℕ
-last_time = 253370764799
 
 -- a day of the Gregorian calendar
 pub record CalendarDay : Type 0 where

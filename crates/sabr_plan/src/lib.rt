@@ -3,4 +3,7 @@
 
 mod time;
 
+#[cfg(test)]
+mod tests;
+
 pub use time::{parse_time, time_text};

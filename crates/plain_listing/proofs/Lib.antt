@@ -1,0 +1,12 @@
+pub mod Firsts
+pub mod Placed
+pub mod Places
+pub mod Passed
+pub mod Ways
+pub mod Fewer
+pub mod Sent
+pub mod Hops
+pub mod Nexts
+pub mod Rising
+pub mod Moves
+pub mod Walks

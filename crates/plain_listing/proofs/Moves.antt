@@ -1,0 +1,153 @@
+-- What a walk has kept, as it moves on.
+use Rattle.std.proofs.Common.{◌≡◌, ◌≢◌, ℕ, ◌+◌, ◌<◌, ◌≤◌, min, true, false, List, [], ◌∷◌, ◌++◌, length, map, take, refl, sym, ap, subst, ◌∙◌, inl, inr, ⊎_elim, arith, append_assoc, length-append}
+use Rattle.std.specs.Prelude.{◌⊎◌, IsTrue, unwrap_or}
+use Rattle.std.specs.List.{filter, AllByRecursion}
+use Rattle.std.specs.List.Sorted.{IsStrictlySortedBy}
+use Rattle.std.specs.Cmp.{IsTotalOrder}
+use Rattle.std.specs.declared.option.Option.{Option}
+use Rattle.std.specs.declared.option.Option.TheVariants.{Some, None}
+use Rattle.std.specs.declared.cmp.Ordering.{Ordering}
+use Rattle.std.specs.declared.cmp.Ordering.TheVariants.{Less}
+use Rattle.std.proofs.lemmas.Bool.{both_ways}
+use Rattle.std.proofs.lemmas.List.{length-take, take_all}
+use Rattle.std.proofs.lemmas.List.Kept.{IsStrictlySortedBy-filter}
+use Rattle.sabr_model.specs.Order.{put_in, numbers_before}
+use Rattle.sabr_model.specs.Plan.{ContactPlan, IsPlan}
+use Rattle.sabr_model.specs.Table.{sent_by}
+use Rattle.sabr_model.specs.Arrival.{RouteRequest}
+use Rattle.sabr_model.specs.Route.{is_route, is_path, chain_end, by_key}
+use Rattle.sabr_model.specs.Listing.{routes}
+use Rattle.sabr_model.specs.Record.{RouteRecord, record_of, by_record}
+use Rattle.sabr_model.proofs.Begins.{no_route_begins_another}
+use Rattle.sabr_model.proofs.Routes.{route_facts, empty_route}
+use Rattle.sabr_model.proofs.Members.{IsIn}
+use Rattle.sabr_model.proofs.Listed.{key_total}
+use Rattle.sabr_model.proofs.RoutesListed.{routes_are_listed}
+use Rattle.sabr_model.proofs.Least.{member_is_route, route_is_member, record_order}
+use Rattle.sabr_model.proofs.Paths.{IsHop, hop_facts, path_facts, route_from_path}
+use Rattle.sabr_model.proofs.Prefixes.{beginning_goes_on}
+use Rattle.plain_listing.specs.declared.hop.Hop.{Hop}
+use Rattle.plain_listing.specs.Before.{routes_before}
+use Rattle.plain_listing.specs.Way.{IsWay, numbers_of, hop_of, stop_of}
+use Rattle.plain_listing.specs.Walk.{IsWalk, IsMove, first_before}
+use Rattle.plain_listing.proofs.Firsts.{AgreeBut, filter_agrees, filter_none, filter_whole, filter_one_more, take-put_in, map-put_in}
+use Rattle.plain_listing.proofs.Rising.{all_from_in, rising_take, rising_map}
+use Rattle.plain_listing.proofs.Places.{before_less, before_one, before-behind}
+use Rattle.plain_listing.proofs.Passed.{passed_number, passed_list, passed_into, passed_back, none_before, all_before}
+use Rattle.plain_listing.proofs.Sent.{IsNextOf, is_sent, sent_is_given, named_is_given}
+use Rattle.plain_listing.proofs.Ways.{way_push, way_pop, numbers_push}
+
+-- the next number behind s, from low on: what routes go on with behind s, from low on, is no less
+pub record IsNext (p : ContactPlan) (r : RouteRequest) (s : List ℕ) (low n : ℕ) : Type 0 where
+  pub from : low ≤ n
+  pub given : n ≤ p.greatest
+  pub least : (k : ℕ) (u : List ℕ) → IsTrue (is_route p r (s ++ k ∷ u)) → low ≤ k → n ≤ k
+
+-- no route goes on behind s with a number from low on
+abbrev pub IsOver : ContactPlan → RouteRequest → List ℕ → ℕ → Type 0
+IsOver p r s low = (k : ℕ) (u : List ℕ) → IsTrue (is_route p r (s ++ k ∷ u)) → low ≤ k → ⊥
+
+module _ (p : ContactPlan) (r : RouteRequest) (good : IsPlan p) where
+  all_routes : AllByRecursion (λ s. IsTrue (is_route p r s)) (routes p r)
+  all_routes = all_from_in (λ s. IsTrue (is_route p r s)) (routes p r) (λ s i. member_is_route p r s good i)
+
+  rising_routes : IsStrictlySortedBy (by_key p r) (routes p r)
+  rising_routes = (routes_are_listed p r good).rising
+
+  all_weaker : (Q : List ℕ → Type 0) → ((s : List ℕ) → IsTrue (is_route p r s) → Q s) → AllByRecursion Q (routes p r)
+  all_weaker Q gives = all_from_in Q (routes p r) (λ s i. gives s (member_is_route p r s good i))
+
+  -- two places with the same routes before them
+  same_before : (one other : List ℕ) → ((s : List ℕ) → IsTrue (is_route p r s) → numbers_before s one ≡ numbers_before s other) → routes_before p r one ≡ routes_before p r other
+  unfolding routes_before
+  same_before one other same = filter_agrees (λ s. numbers_before s one) (λ s. numbers_before s other) (routes p r) (all_weaker (λ s. numbers_before s one ≡ numbers_before s other) same)
+
+  -- ---- what is kept is in order, and no more than the limit
+
+  pub kept_within : (limit : ℕ) (place : List ℕ) → length (first_before p r limit place) ≤ limit
+  kept_within limit place = omega (arith, length-take limit (map (record_of p r) (routes_before p r place)))
+
+  pub kept_rises : (limit : ℕ) (place : List ℕ) → IsStrictlySortedBy by_record (first_before p r limit place)
+  unfolding routes_before
+  kept_rises limit place =
+      rising_take by_record limit (map (record_of p r) (routes_before p r place))
+          (rising_map (record_of p r) (by_key p r) by_record (record_order p r) (routes_before p r place)
+              (IsStrictlySortedBy-filter (by_key p r) (λ s. numbers_before s place) (routes p r) rising_routes))
+
+  -- ---- the beginning and the end
+
+  pub begins : (limit : ℕ) → first_before p r limit (0 ∷ []) ≡ []
+  unfolding routes_before
+  begins limit =
+      ap (λ ss. take limit (map (record_of p r) ss))
+          (filter_none (λ s. numbers_before s (0 ∷ [])) (routes p r)
+              (all_weaker (λ s. numbers_before s (0 ∷ []) ≡ false)
+                  (λ s route. none_before s (λ e. empty_route p r (subst (λ w. IsTrue (is_route p r w)) e route)))))
+      ∙ take_all limit [] (omega arith)
+
+  pub ends : (limit low : ℕ) → IsOver p r [] low → first_before p r limit (low ∷ []) ≡ take limit (map (record_of p r) (routes p r))
+  unfolding routes_before
+  ends limit low over =
+      ap (λ ss. take limit (map (record_of p r) ss))
+          (filter_whole (λ s. numbers_before s (low ∷ [])) (routes p r)
+              (all_weaker (λ s. numbers_before s (low ∷ []) ≡ true)
+                  (λ s route. all_before low s (λ k u e from. over k u (subst (λ w. IsTrue (is_route p r w)) e route) from))))
+
+  -- ---- moves
+
+  moved : (limit : ℕ) (one other : List ℕ) → ((s : List ℕ) → IsTrue (is_route p r s) → numbers_before s one ≡ numbers_before s other) → first_before p r limit one ≡ first_before p r limit other
+  moved limit one other same = ap (λ ss. take limit (map (record_of p r) ss)) (same_before one other same)
+
+  only_next : (s : List ℕ) (low n k : ℕ) (u : List ℕ) → IsNext p r s low n → IsTrue (is_route p r (s ++ k ∷ u)) → low ≤ k → k ≤ n → k ≡ n
+  only_next s low n k u next route from within = let least = next.least k u route from in omega arith
+
+  -- past a number with which no route goes on
+  pub skips : (limit : ℕ) (s : List ℕ) (low n : ℕ) → IsNext p r s low n → is_path p r (s ++ n ∷ []) ≡ false → first_before p r limit (s ++ low ∷ []) ≡ first_before p r limit (s ++ (n + 1) ∷ [])
+  skips limit s low n next closed =
+      moved limit (s ++ low ∷ []) (s ++ (n + 1) ∷ [])
+          (passed_number s (λ t. IsTrue (is_route p r t)) low n next.from
+              (λ k u route from within.
+                  let same = only_next s low n k u next route from within in
+                  both_ways (is_path p r (s ++ n ∷ [])) closed (beginning_goes_on p r s n u (subst (λ m. IsTrue (is_route p r (s ++ m ∷ u))) same route))))
+
+  -- past a number with which one route ends
+  pub finds : (limit : ℕ) (s : List ℕ) (low n : ℕ) → IsNext p r s low n → IsTrue (is_route p r (s ++ n ∷ []))
+      → first_before p r limit (s ++ (n + 1) ∷ []) ≡ take limit (put_in by_record (record_of p r (s ++ n ∷ [])) (first_before p r limit (s ++ low ∷ [])))
+  unfolding routes_before
+  finds limit s low n next route =
+      let w = s ++ n ∷ [] in
+      let earlier = routes_before p r (s ++ low ∷ []) in
+      let further : routes_before p r (s ++ (n + 1) ∷ []) ≡ put_in (by_key p r) w earlier =
+          filter_one_more (by_key p r) (key_total p r) (λ t. numbers_before t (s ++ low ∷ [])) (λ t. numbers_before t (s ++ (n + 1) ∷ [])) w
+              (before-behind s (n ∷ []) (low ∷ []) ∙ before_one n low [] next.from)
+              (before-behind s (n ∷ []) ((n + 1) ∷ []) ∙ before_less n (n + 1) [] [] (omega arith))
+              (routes p r) rising_routes
+              (all_weaker (AgreeBut (λ t. numbers_before t (s ++ low ∷ [])) (λ t. numbers_before t (s ++ (n + 1) ∷ [])) w)
+                  (passed_list s (λ t. IsTrue (is_route p r t)) low n next.from
+                      (λ k u longer from within.
+                          let same = only_next s low n k u next longer from within in
+                          let nothing : u ≡ [] = no_route_begins_another p r w u route (subst (λ t. IsTrue (is_route p r t)) (ap (λ m. s ++ m ∷ u) same ∙ sym (append_assoc s (n ∷ []) u)) longer) in
+                          ap (λ m. s ++ m ∷ u) same ∙ ap (λ v. s ++ n ∷ v) nothing)))
+              (route_is_member p r w good route) in
+      ap (λ ss. take limit (map (record_of p r) ss)) further
+      ∙ ap (take limit) (map-put_in (record_of p r) (by_key p r) by_record (record_order p r) w earlier)
+      ∙ sym (take-put_in by_record limit (record_of p r w) (map (record_of p r) earlier))
+
+  -- into the routes that go on with a number
+  pub enters : (limit : ℕ) (s : List ℕ) (low n : ℕ) → IsNext p r s low n → is_route p r (s ++ n ∷ []) ≡ false
+      → first_before p r limit (s ++ low ∷ []) ≡ first_before p r limit ((s ++ n ∷ []) ++ 0 ∷ [])
+  enters limit s low n next unfinished =
+      moved limit (s ++ low ∷ []) (s ++ n ∷ 0 ∷ [])
+          (passed_into s (λ t. IsTrue (is_route p r t)) low n next.from
+              (λ k u route from within.
+                  let same = only_next s low n k u next route from within in
+                  (same, λ nothing. both_ways (is_route p r (s ++ n ∷ [])) unfinished (subst (λ v. IsTrue (is_route p r (s ++ n ∷ v))) nothing (subst (λ m. IsTrue (is_route p r (s ++ m ∷ u))) same route)))))
+      ∙ ap (first_before p r limit) (sym (append_assoc s (n ∷ []) (0 ∷ [])))
+
+  -- back from the routes that go on with a number
+  pub returns : (limit : ℕ) (s : List ℕ) (m low : ℕ) → IsOver p r (s ++ m ∷ []) low → first_before p r limit ((s ++ m ∷ []) ++ low ∷ []) ≡ first_before p r limit (s ++ (m + 1) ∷ [])
+  returns limit s m low over =
+      ap (first_before p r limit) (append_assoc s (m ∷ []) (low ∷ []))
+      ∙ moved limit (s ++ m ∷ low ∷ []) (s ++ (m + 1) ∷ [])
+          (passed_back s (λ t. IsTrue (is_route p r t)) m low
+              (λ k u route from. over k u (subst (λ t. IsTrue (is_route p r t)) (sym (append_assoc s (m ∷ []) (k ∷ u))) route) from))

@@ -1,0 +1,4 @@
+pub mod Before
+pub mod Way
+pub mod Steps
+pub mod Walk

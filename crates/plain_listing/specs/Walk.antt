@@ -1,0 +1,32 @@
+-- What a walk through the ways has kept, wherever it stands.
+use Rattle.std.specs.Prelude.{◌≡◌, ℕ, ◌+◌, ◌<◌, ◌≤◌, List, [], ◌∷◌, ◌++◌, map, take}
+use Rattle.std.specs.declared.option.Option.{Option}
+use Rattle.std.specs.declared.option.Option.TheVariants.{Some, None}
+use Rattle.sabr_model.specs.Plan.{ContactPlan}
+use Rattle.sabr_model.specs.Arrival.{RouteRequest}
+use Rattle.sabr_model.specs.Listing.{routes}
+use Rattle.sabr_model.specs.Record.{RouteRecord, record_of}
+use Rattle.plain_listing.specs.declared.hop.Hop.{Hop}
+use Rattle.plain_listing.specs.Before.{routes_before}
+use Rattle.plain_listing.specs.Way.{IsWay, numbers_of}
+use Rattle.plain_listing.specs.Steps.{steps_left}
+
+-- the records of the first of the routes before this place
+abbrev pub first_before : ContactPlan → RouteRequest → ℕ → List ℕ → List RouteRecord
+first_before p r limit place = take limit (map (record_of p r) (routes_before p r place))
+
+-- the walk stands behind these hops, tries numbers from `low` on, and has kept the first of the routes before
+pub record IsWalk (p : ContactPlan) (r : RouteRequest) (limit : ℕ) (hops : List Hop) (low : ℕ) (kept : List RouteRecord) : Type 0 where
+  pub way : IsWay p r hops
+  pub least : low ≤ p.greatest + 1
+  pub first : kept ≡ first_before p r limit (numbers_of hops ++ low ∷ [])
+
+-- the same while there is a number to try next; then the first of all routes are kept
+abbrev pub Stands : ContactPlan → RouteRequest → ℕ → List Hop → Option ℕ → List RouteRecord → Type 0
+Stands p r limit hops (Some low) kept = IsWalk p r limit hops low kept
+Stands p r limit hops None kept = kept ≡ take limit (map (record_of p r) (routes p r))
+
+-- a move leads where the walk stands again, with fewer steps left
+pub record IsMove (p : ContactPlan) (r : RouteRequest) (limit : ℕ) (hops : List Hop) (low : ℕ) (further : List Hop) (next : Option ℕ) (kept : List RouteRecord) : Type 0 where
+  pub stands : Stands p r limit further next kept
+  pub fewer : steps_left p r further next < steps_left p r hops (Some low)

@@ -1,0 +1,61 @@
+-- The way on which a walk through the contacts stands.
+use Rattle.std.specs.Prelude.{◌≡◌, ℕ, ◌-◌, ◌==◌, ◌&&◌, ◌||◌, Bool, not, nat_lt, IsTrue, List, [], ◌∷◌, ◌++◌, map, length, unwrap_or, slice_get}
+use Rattle.std.specs.List.{list_any}
+use Rattle.std.specs.Option.{option_map_or}
+use Rattle.sabr_model.specs.Plan.{ContactPlan, has}
+use Rattle.sabr_model.specs.Arrival.{RouteRequest}
+use Rattle.sabr_model.specs.Route.{chain_end, is_path, delivery_of, until_of}
+use Rattle.sabr_model.specs.Record.{RouteRecord}
+use Rattle.plain_listing.specs.declared.hop.Stop.{Stop}
+use Rattle.plain_listing.specs.declared.hop.Hop.{Hop}
+
+-- where, when and until when the contacts of these numbers bring a bundle
+abbrev pub stop_of : ContactPlan → RouteRequest → List ℕ → Stop
+stop_of p r s = record { node = unwrap_or (chain_end p r.source s) 0; arrival = delivery_of p r s; until = until_of p s }
+
+-- the hop over contact n behind the contacts of `front`
+abbrev pub hop_of : ContactPlan → RouteRequest → List ℕ → ℕ → Hop
+hop_of p r front n = record { number = n; stop = stop_of p r (front ++ n ∷ []) }
+
+-- the hops over the contacts of s behind those of `front`
+abbrev pub hops_behind : ContactPlan → RouteRequest → List ℕ → List ℕ → List Hop
+hops_behind p r front [] = []
+hops_behind p r front (n ∷ s) = hop_of p r front n ∷ hops_behind p r (front ++ n ∷ []) s
+
+abbrev pub numbers_of : List Hop → List ℕ
+numbers_of hops = map (λ h. h.number) hops
+
+-- the nodes at which the hops arrive
+abbrev pub nodes_of : List Hop → List ℕ
+nodes_of hops = map (λ h. h.stop.node) hops
+
+-- the hops are those of their numbers, which can begin a route
+pub record IsWay (p : ContactPlan) (r : RouteRequest) (hops : List Hop) : Type 0 where
+  pub told : hops ≡ hops_behind p r [] (numbers_of hops)
+  pub path : IsTrue (is_path p r (numbers_of hops))
+
+-- where a way without hops ends: at the source
+abbrev pub source_stop : RouteRequest → Stop
+source_stop r = record { node = r.source; arrival = r.at; until = 253370764799 }
+
+-- where the last of the hops ends
+abbrev pub last_stop : RouteRequest → List Hop → Stop
+last_stop r hops = option_map_or (λ h. h.stop) (slice_get hops (length hops - 1)) (source_stop r)
+
+-- where the first of the hops ends
+abbrev pub first_node : List Hop → ℕ
+first_node hops = option_map_or (λ h. h.stop.node) (slice_get hops 0) 0
+
+-- the record of the route over these hops
+abbrev pub record_over : RouteRequest → List Hop → RouteRecord
+record_over r hops =
+    let last = last_stop r hops in
+    record { contacts = numbers_of hops; delivery = last.arrival; until = last.until; entry = first_node hops }
+
+-- whether a hop arrives at the node
+abbrev pub is_passed : List Hop → ℕ → Bool
+is_passed hops node = list_any (λ h. node == h.stop.node) hops
+
+-- whether a way over these hops may go on to the node
+abbrev pub may_visit : RouteRequest → List Hop → ℕ → Bool
+may_visit r hops node = nat_lt (length hops) r.max_hops && not ((node == r.source) || is_passed hops node) && not (has node r.avoided)

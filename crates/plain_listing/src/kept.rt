@@ -1,0 +1,51 @@
+//! The best routes found so far.
+
+ghost use Rattle.std.specs.Prelude.{◌≡◌, ◌≤◌, [], take, length, OnOk};
+ghost use Rattle.std.specs.List.Sorted.{IsStrictlySortedBy};
+ghost use Rattle.sabr_model.specs.Order.{put_in};
+ghost use Rattle.sabr_model.specs.Record.{by_record};
+
+use sabr_model::{NoMemory, Route};
+use std::alloc::Allocator;
+
+/// The best routes found so far, in order of their keys, and how many are kept.
+#[derive(Drop)]
+pub struct Kept<A: Allocator + Copy> {
+    /// Where routes are put.
+    pub alloc: A,
+    /// How many routes are kept at most.
+    pub limit: usize,
+    /// The routes.
+    pub routes: Vec<Route<A>, A>,
+}
+
+impl<A: Allocator + Copy> Kept<A> {
+    /// No route yet.
+    pub fn new(alloc: A, limit: usize) -> Kept<A>
+        ensures limit { result.limit ≡ limit }
+        ensures routes { result.routes.items ≡ [] }
+    {
+        Kept {
+            alloc,
+            limit,
+            routes: Vec::new(alloc),
+        }
+    }
+
+    /// Puts a route in its place, and lets go what then stands behind the last place.
+    pub fn keep(&mut self, route: Route<A>) -> Result<(), NoMemory>
+        requires rising { IsStrictlySortedBy by_record self.old.routes.items }
+        requires within { length self.old.routes.items ≤ self.old.limit }
+        ensures limit { self.new.limit ≡ self.old.limit }
+        ensures ok { OnOk result (self.new.routes.items ≡ take self.old.limit (put_in by_record route self.old.routes.items)) }
+    {
+        let Err(place) = self.routes.binary_search(&route) else {
+            return Ok(());
+        };
+        if place < self.limit {
+            self.routes.insert(place, route)?;
+            self.routes.truncate(self.limit);
+        }
+        Ok(())
+    }
+}

@@ -1,0 +1,72 @@
+//! The first page of the listing.
+
+ghost use Rattle.std.specs.Prelude.{◌≡◌, ◌≤◌, map, take, length, nat_lt, IfOk};
+ghost use Rattle.sabr_model.specs.Plan.{IsPlan};
+ghost use Rattle.sabr_model.specs.Listing.{routes, page_of};
+ghost use Rattle.sabr_model.specs.Record.{record_of};
+
+use crate::hop::Hop;
+use crate::kept::Kept;
+use crate::walk::step;
+use sabr_model::{NoMemory, Plan, Request, Route};
+use std::alloc::{Allocator, Global};
+
+/// A page of the listing.
+#[derive(Drop)]
+pub struct Page<A: Allocator + Copy = Global> {
+    /// The routes, best first.
+    pub routes: Vec<Route<A>, A>,
+    /// Whether the listing goes on behind them.
+    pub more: bool,
+}
+
+/// Every plan obeys the rules of contact plans.
+fn obeys_rules<A: Allocator + Copy>(plan: &Plan<A>)
+    ensures { IsPlan plan.now.plan }
+{
+    plan.contacts();
+}
+
+/// Walks through all ways, and keeps the best `limit` routes.
+fn gather<A: Allocator + Copy>(
+    alloc: A,
+    plan: &Plan<A>,
+    request: &Request,
+    limit: usize,
+) -> Result<Kept<A>, NoMemory>
+    ensures { IfOk result (λ kept. kept.routes.items ≡ take limit (map (record_of plan.now.plan request.now) (routes plan.now.plan request.now))) }
+{
+    obeys_rules(plan);
+    let mut kept = Kept::new(alloc, limit);
+    let mut hops: Vec<Hop, A> = Vec::new(alloc);
+    let mut next = Some(0);
+    while let Some(low) = next {
+        next = step(plan, request, &mut kept, &mut hops, low)?;
+    }
+    Ok(kept)
+}
+
+/// The first `count` routes of the listing, or all if they are fewer, and whether it goes on.
+///
+/// It walks through every way that a route can begin with, which for a dense plan may be very many, and
+/// keeps the best `count + 1` routes on the way.
+///
+/// # Errors
+///
+/// [`NoMemory`] if a growth was refused.
+pub fn first_routes<A: Allocator + Copy>(
+    alloc: A,
+    plan: &Plan<A>,
+    request: &Request,
+    count: u32,
+) -> Result<Page<A>, NoMemory>
+    requires { count ≤ 10000 }
+    ensures routes { IfOk result (λ page. page.routes.items ≡ map (record_of plan.now.plan request.now) (page_of plan.now.plan request.now 0 count)) }
+    ensures more { IfOk result (λ page. page.more ≡ nat_lt count (length (routes plan.now.plan request.now))) }
+{
+    let count = count as usize;
+    let Kept { mut routes, .. } = gather(alloc, plan, request, count + 1)?;
+    let more = routes.len() > count;
+    routes.truncate(count);
+    Ok(Page { routes, more })
+}

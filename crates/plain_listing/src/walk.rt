@@ -1,0 +1,67 @@
+//! The walk through all ways, depth first, in order of their numbers.
+
+ghost use Rattle.std.specs.Prelude.{◌≡◌, ◌≢◌, ◌≤◌, ◌+◌, ◌++◌, [], ◌∷◌, take, length, IfOk};
+ghost use Rattle.std.specs.List.Sorted.{IsStrictlySortedBy};
+ghost use Rattle.sabr_model.specs.Order.{put_in};
+ghost use Rattle.sabr_model.specs.Plan.{IsPlan};
+ghost use Rattle.sabr_model.specs.Record.{by_record};
+ghost use Rattle.plain_listing.specs.Way.{record_over};
+ghost use Rattle.plain_listing.specs.Walk.{IsWalk, IsMove};
+
+use crate::hop::Hop;
+use crate::kept::Kept;
+use crate::next::next_from;
+use crate::way::{end_of, hop_over, route_over};
+use sabr_model::{NoMemory, Plan, Request};
+use std::alloc::Allocator;
+
+/// Takes a hop: goes on behind it or, at the destination, keeps the route that it ends. Answers the least
+/// number to try next.
+fn take_hop<A: Allocator + Copy>(
+    request: &Request,
+    kept: &mut Kept<A>,
+    hops: &mut Vec<Hop, A>,
+    hop: Hop,
+) -> Result<u32, NoMemory>
+    requires number { hop.number ≤ 20000 }
+    requires rising { IsStrictlySortedBy by_record kept.old.routes.items }
+    requires within { length kept.old.routes.items ≤ kept.old.limit }
+    ensures limit { kept.new.limit ≡ kept.old.limit }
+    ensures onward { IfOk result (λ next. hop.stop.node ≢ request.now.destination → (next ≡ 0) × (hops.new.items ≡ hops.old.items ++ hop ∷ []) × (kept.new.routes.items ≡ kept.old.routes.items)) }
+    ensures route { IfOk result (λ next. hop.stop.node ≡ request.now.destination → (next ≡ hop.number + 1) × (hops.new.items ≡ hops.old.items) × (kept.new.routes.items ≡ take kept.old.limit (put_in by_record (record_over request.now (hops.old.items ++ hop ∷ [])) kept.old.routes.items))) }
+{
+    hops.push(hop)?;
+    if hop.stop.node != request.to() {
+        return Ok(0);
+    }
+    let route = route_over(kept.alloc, request, hops)?;
+    kept.keep(route)?;
+    hops.pop();
+    Ok(hop.number + 1)
+}
+
+/// Makes one move. Answers the least number to try next, or none where all ways have been passed.
+pub fn step<A: Allocator + Copy>(
+    plan: &Plan<A>,
+    request: &Request,
+    kept: &mut Kept<A>,
+    hops: &mut Vec<Hop, A>,
+    low: u32,
+) -> Result<Option<u32>, NoMemory>
+    requires rules { IsPlan plan.now.plan }
+    requires walk { IsWalk plan.now.plan request.now kept.old.limit hops.old.items low kept.old.routes.items }
+    ensures limit { kept.new.limit ≡ kept.old.limit }
+    ensures ok { IfOk result (λ next. IsMove plan.now.plan request.now kept.old.limit hops.old.items low hops.new.items next kept.new.routes.items) }
+{
+    let end = end_of(request, hops);
+    let Some(number) = next_from(plan.from_node(end.node), low) else {
+        return match hops.pop() {
+            Some(hop) => Ok(Some(hop.number + 1)),
+            None => Ok(None),
+        };
+    };
+    match hop_over(plan, request, hops, number) {
+        Some(hop) => Ok(Some(take_hop(request, kept, hops, hop)?)),
+        None => Ok(Some(number + 1)),
+    }
+}

@@ -1,0 +1,99 @@
+//! The way on which the walk stands: where it ends, where it may go on, and the route over it.
+
+ghost use Rattle.std.specs.Prelude.{◌≡◌, ℕ, ◌<◌, ◌++◌, [], ◌∷◌, None, Some, IfOk, if◌then◌else◌};
+ghost use Rattle.sabr_model.specs.Plan.{IsPlan, has};
+ghost use Rattle.sabr_model.specs.Route.{is_path};
+ghost use Rattle.plain_listing.specs.Way.{IsWay, numbers_of, last_stop, hop_of, is_passed, may_visit, record_over};
+
+use crate::hop::{Hop, Stop};
+use sabr_model::{arrive, NoMemory, Numbers, Plan, Request, Route};
+use std::alloc::Allocator;
+
+/// The last second of the year 9998: no contact ends after it.
+const LAST_TIME: u64 = 253370764799;
+
+/// Where the way ends: at the source, or behind the last hop.
+pub fn end_of(request: &Request, hops: &[Hop]) -> Stop
+    ensures { result ≡ last_stop request.now hops.now }
+{
+    match hops.last() {
+        Some(hop) => hop.stop,
+        None => Stop {
+            node: request.from(),
+            arrival: request.at(),
+            until: LAST_TIME,
+        },
+    }
+}
+
+/// Whether the node is one of these.
+fn is_among(nodes: &[u64], node: u64) -> bool
+    ensures { result ≡ has node nodes.now }
+{
+    nodes.iter().any(|n| node == *n)
+}
+
+/// Whether a hop arrives at the node.
+fn is_passed(hops: &[Hop], node: u64) -> bool
+    ensures { result ≡ is_passed hops.now node }
+{
+    hops.iter().any(|hop| node == hop.stop.node)
+}
+
+/// Whether the way may go on to the node within the limits, and without meeting a node twice.
+fn may_visit(request: &Request, hops: &[Hop], node: u64) -> bool
+    ensures { result ≡ may_visit request.now hops.now node }
+{
+    hops.len() < request.max_hops() as usize
+        && !(node == request.from() || is_passed(hops, node))
+        && !is_among(request.avoided(), node)
+}
+
+/// The hop over a contact, where a route may begin with the way and this contact.
+pub fn hop_over<A: Allocator + Copy>(
+    plan: &Plan<A>,
+    request: &Request,
+    hops: &[Hop],
+    number: u32,
+) -> Option<Hop>
+    requires rules { IsPlan plan.now.plan }
+    requires way { IsWay plan.now.plan request.now hops.now }
+    ensures { result ≡ (if is_path plan.now.plan request.now (numbers_of hops.now ++ number ∷ []) then Some (hop_of plan.now.plan request.now (numbers_of hops.now) number) else None) }
+{
+    let end = end_of(request, hops);
+    let contact = plan.contact(number)?;
+    if contact.from != end.node || !may_visit(request, hops, contact.to) {
+        return None;
+    }
+    let arrival = arrive(plan, request, end.arrival, contact)?;
+    Some(Hop {
+        number,
+        stop: Stop {
+            node: contact.to,
+            arrival,
+            until: end.until.min(contact.end),
+        },
+    })
+}
+
+/// The route over the hops.
+pub fn route_over<A: Allocator + Copy>(
+    alloc: A,
+    request: &Request,
+    hops: &[Hop],
+) -> Result<Route<A>, NoMemory>
+    ensures { IfOk result (λ route. route ≡ record_over request.now hops.now) }
+{
+    let end = end_of(request, hops);
+    let numbers = hops.iter().map(|hop| hop.number).collect(alloc)?;
+    let entry = match hops.first() {
+        Some(hop) => hop.stop.node,
+        None => 0,
+    };
+    Ok(Route {
+        contacts: Numbers::new(numbers),
+        delivery: end.arrival,
+        until: end.until,
+        entry,
+    })
+}

@@ -1,0 +1,138 @@
+-- What a plan shows of its table of nodes.
+use Rattle.std.proofs.Common.{◌≡◌, ℕ, ◌^◌, ◌<◌, ◌≤◌, Bool, true, false, cond, ◌||◌, not, eqb, ltb, List, [], ◌∷◌, length, get_or, map, refl, sym, ap, subst, ◌∙◌, inl, inr, arith}
+use Rattle.std.specs.Prelude.{nat_eq, slice_get, MatchOption, unwrap_or}
+use Rattle.std.specs.List.{filter, find, list_any, position, position_or_len, AllByRecursion, IsDistinct}
+use Rattle.std.specs.List.Sorted.{IsNonDecreasingBy}
+use Rattle.std.specs.Map.{keys_of}
+use Rattle.std.specs.Option.{option_map_or}
+use Rattle.std.proofs.lemmas.Bool.{and_from, and_parts, or_cases, or_left, or_right, not_from_false, ltb-false, ne_eqb, eqb-true, eq-eqb, both_ways, false_from_ne_true}
+use Rattle.std.proofs.lemmas.List.Folds.{find_at}
+use Rattle.std.proofs.lemmas.List.Quantifiers.{position-Some}
+use Rattle.std.proofs.lemmas.Option.{slice_get-get_or, slice_get_past}
+use Rattle.std.specs.declared.option.Option.{Option}
+use Rattle.std.specs.declared.option.Option.TheVariants.{Some, None}
+use Rattle.indexmap.specs.IndexMap.{IndexMap, keys}
+use Rattle.sabr_model.specs.declared.contact.Contact.{Contact}
+use Rattle.sabr_model.specs.declared.sent.Sent.{Sent}
+use Rattle.sabr_model.specs.Plan.{ContactPlan, IsPlan, IsPair, has, are_different, rises_above}
+use Rattle.sabr_model.specs.Table.{sent_by, start_key, key_named, IsStartList, IsTableOf}
+use Rattle.sabr_model.specs.Tabled.{IsTabled, IsOpenList, start_named}
+use Rattle.sabr_model.proofs.Members.{in_from_Contains, Contains-from_in}
+use Rattle.sabr_model.proofs.Listed.{in_from_has, has_from_in}
+use Rattle.sabr_model.proofs.Deletions.{all_found, found_passes}
+use Rattle.sabr_model.proofs.Has.{eqb_flip, has_at}
+use Rattle.sabr_model.proofs.TableLemmas.{has_node}
+use Rattle.sabr_model.proofs.Without.{all_above}
+
+none_equal : (n : ℕ) (xs : List ℕ) → AllByRecursion (λ y. nat_eq n y ≡ false) xs → has n xs ≡ false
+none_equal n [] all = refl
+none_equal n (x ∷ xs) all = ap (λ b. b || has n xs) all.0 ∙ none_equal n xs all.1
+
+pub different_from_distinct : (xs : List ℕ) → IsDistinct nat_eq xs → are_different xs ≡ true
+unfolding IsDistinct
+different_from_distinct [] d = refl
+different_from_distinct (x ∷ xs) d = and_from (not (has x xs)) (are_different xs) (not_from_false (has x xs) (none_equal x xs d.0)) (different_from_distinct xs d.1)
+
+pub is_tabled : {S A : Type 0} (p : ContactPlan) (table : IndexMap ℕ (Sent A) S) → IsTableOf p.contacts table → IsTabled (record { plan = p; table = keys table })
+is_tabled p table h = record { nodes = λ q. has_node p.contacts table q h; once = different_from_distinct (keys_of table.entries) h.unique }
+
+-- ---- the place of a node
+
+none_any : {X : Type 0} (p : X → Bool) (xs : List X) → find p xs ≡ None → list_any p xs ≡ false
+none_any p [] e = refl
+none_any p (x ∷ xs) e =
+    elim (p x) as (λ b. cond b (Some x) (find p xs) ≡ None → (b || list_any p xs) ≡ false) [
+      | true ↦ λ h. absurd cc
+      | false ↦ λ h. none_any p xs h
+    ] e
+
+pub index_tells : (xs : List ℕ) (n : ℕ) → MatchOption (position (nat_eq n) xs) (has n xs ≡ false) (λ k. slice_get xs k ≡ Some n)
+index_tells xs n = by (position (nat_eq n) xs) refl
+  where
+    by : (o : Option ℕ) → position (nat_eq n) xs ≡ o → MatchOption o (has n xs ≡ false) (λ k. slice_get xs k ≡ Some n)
+    by (Some k) e =
+        let at = position-Some (nat_eq n) xs k n e in
+        slice_get-get_or xs k n at.0 ∙ ap Some (sym (eqb-true n (get_or xs k n) at.1))
+    by None e =
+        none_any (nat_eq n) xs
+        (find_at (nat_eq n) xs
+        ∙ slice_get_past xs (position_or_len (nat_eq n) xs)
+        (ltb-false (position_or_len (nat_eq n) xs) (length xs)
+        (false_from_ne_true (ltb (position_or_len (nat_eq n) xs) (length xs)) (λ t.
+        let here : Some (position_or_len (nat_eq n) xs) ≡ None = sym (ap (λ b. cond b (Some (position_or_len (nat_eq n) xs)) None) t) ∙ e in absurd cc))))
+
+pub index_of_member : (xs : List ℕ) (n : ℕ) (o : Option ℕ) → MatchOption o (has n xs ≡ false) (λ k. slice_get xs k ≡ Some n) → has n xs ≡ true → slice_get xs (unwrap_or o 0) ≡ Some n
+index_of_member xs n None h there = absurd (both_ways (has n xs) h there)
+index_of_member xs n (Some k) h there = h
+
+-- ---- the contacts that a node sends
+
+-- a number sent is that of a contact of that sender
+pub sent_number : (low : ℕ) (cs : List Contact) (q n : ℕ) → rises_above low (map (λ d. d.number) cs) ≡ true → has n (sent_by cs q) ≡ true → (c : Contact) × (find (λ d. eqb d.number n) cs ≡ Some c) × (c.from ≡ q)
+sent_number low [] q n rises h = absurd cc
+sent_number low (x ∷ cs) q n rises h =
+    let parts = and_parts (ltb low x.number) (rises_above x.number (map (λ d. d.number) cs)) rises in
+    let rest = λ (g : has n (sent_by cs q) ≡ true).
+    let r = sent_number x.number cs q n parts.1 g in
+    let above = all_found (λ d. x.number < d.number) (λ d. eqb d.number n) cs r.0 (all_above x.number cs parts.1) r.1 in
+    let number = eqb-true r.0.number n (found_passes (λ d. eqb d.number n) cs r.0 r.1) in
+    let skipped : cond (eqb x.number n) (Some x) (find (λ d. eqb d.number n) cs) ≡ Some r.0 =
+    ap (λ b. cond b (Some x) (find (λ d. eqb d.number n) cs)) (ne_eqb x.number n (λ e. omega (arith, e, above, number))) ∙ r.1 in
+    let answer : (c : Contact) × (cond (eqb x.number n) (Some x) (find (λ d. eqb d.number n) cs) ≡ Some c) × (c.from ≡ q) = (r.0, skipped, r.2) in
+    answer in
+    elim (eqb q x.from) as (λ b. eqb q x.from ≡ b → has n (map (λ (d : Contact). d.number) (cond b (x ∷ filter (λ d. eqb q d.from) cs) (filter (λ d. eqb q d.from) cs))) ≡ true → (c : Contact) × (cond (eqb x.number n) (Some x) (find (λ d. eqb d.number n) cs) ≡ Some c) × (c.from ≡ q)) [
+      | true ↦ λ e g.
+          elim (or_cases (eqb n x.number) (has n (sent_by cs q)) g) [
+            | inl t ↦ (x, ap (λ b. cond b (Some x) (find (λ d. eqb d.number n) cs)) (eqb_flip x.number n ∙ t), sym (eqb-true q x.from e))
+            | inr r ↦ rest r
+          ]
+      | false ↦ λ e g. rest g
+    ] refl h
+
+-- and the number of a contact of that sender is sent
+pub number_sent : (cs : List Contact) (n : ℕ) (c : Contact) → find (λ d. eqb d.number n) cs ≡ Some c → has n (sent_by cs c.from) ≡ true
+number_sent [] n c found = absurd cc
+number_sent (x ∷ cs) n c found =
+    elim (eqb x.number n) as (λ b. eqb x.number n ≡ b → cond b (Some x) (find (λ d. eqb d.number n) cs) ≡ Some c → has n (map (λ (d : Contact). d.number) (cond (eqb c.from x.from) (x ∷ filter (λ d. eqb c.from d.from) cs) (filter (λ d. eqb c.from d.from) cs))) ≡ true) [
+      | true ↦ λ e f.
+          let same : x ≡ c = cc in
+          ap (λ b. has n (map (λ (d : Contact). d.number) (cond b (x ∷ filter (λ d. eqb c.from d.from) cs) (filter (λ d. eqb c.from d.from) cs)))) (eq-eqb c.from x.from (ap (λ (d : Contact). d.from) (sym same)))
+          ∙ or_left (eqb n x.number) (has n (sent_by cs c.from)) (eqb_flip n x.number ∙ e)
+      | false ↦ λ e f.
+          let rest = number_sent cs n c f in
+          elim (eqb c.from x.from) as (λ b. has n (map (λ (d : Contact). d.number) (cond b (x ∷ filter (λ d. eqb c.from d.from) cs) (filter (λ d. eqb c.from d.from) cs))) ≡ true) [
+            | true ↦ or_right (eqb n x.number) (has n (sent_by cs c.from)) rest
+            | false ↦ rest
+          ]
+    ] refl found
+
+-- keys that do not fall have starts that do not
+starts_not_fall : (s t u v : ℕ) → v < 2 ^ 64 → start_key s t ≤ start_key u v → s ≤ u
+starts_not_fall s t u v lt le = omega (arith, lt, le)
+
+starts_rise : (p : ContactPlan) (q : ℕ) (ys : List ℕ) → IsPlan p → IsStartList p.contacts q ys → IsNonDecreasingBy (start_named p) ys
+starts_rise p q ys h l i j d le lt =
+    let a = sent_number 0 p.contacts q (get_or ys i d) h.numbers_rise (sym (l.members (get_or ys i d)) ∙ has_at ys i d (omega arith)) in
+    let b = sent_number 0 p.contacts q (get_or ys j d) h.numbers_rise (sym (l.members (get_or ys j d)) ∙ has_at ys j d lt) in
+    let to = all_found (λ c. IsPair c.from c.to) (λ c. eqb c.number (get_or ys j d)) p.contacts b.0 h.contact_nodes b.1 in
+    let key_a : key_named p.contacts (get_or ys i d) ≡ start_key a.0.start a.0.to = ap (λ (o : Option Contact). option_map_or (λ c. start_key c.start c.to) o 0) a.1 in
+    let key_b : key_named p.contacts (get_or ys j d) ≡ start_key b.0.start b.0.to = ap (λ (o : Option Contact). option_map_or (λ c. start_key c.start c.to) o 0) b.1 in
+    let start_a : start_named p (get_or ys i d) ≡ a.0.start = ap (λ (o : Option Contact). option_map_or (λ c. c.start) o 0) a.1 in
+    let start_b : start_named p (get_or ys j d) ≡ b.0.start = ap (λ (o : Option Contact). option_map_or (λ c. c.start) o 0) b.1 in
+    let keys = l.rising i j d le lt in
+    let starts = starts_not_fall a.0.start a.0.to b.0.start b.0.to to.1.1 (omega (arith, keys, key_a, key_b)) in
+    omega (arith, starts, start_a, start_b)
+
+pub is_open_list : (p : ContactPlan) (q at : ℕ) (ys : List ℕ) → IsPlan p → IsStartList p.contacts q ys → IsOpenList p q at ys
+is_open_list p q at ys h l =
+    record {
+      sent = λ n there. sent_number 0 p.contacts q n h.numbers_rise (sym (l.members n) ∙ has_from_in n ys (in_from_Contains ys n there));
+      once = l.once;
+      whole = λ n c named from open_then.
+          Contains-from_in ys n (in_from_has n ys (l.members n ∙ subst (λ f. has n (sent_by p.contacts f) ≡ true) from (number_sent p.contacts n c named)));
+      rising = starts_rise p q ys h l;
+    }
+
+-- what a contact's number names is the contact
+pub names_itself : (cs : List Contact) (n : ℕ) (c : Contact) → find (λ d. eqb d.number n) cs ≡ Some c → find (λ d. eqb d.number c.number) cs ≡ Some c
+names_itself cs n c found = subst (λ m. find (λ d. eqb d.number m) cs ≡ Some c) (sym (eqb-true c.number n (found_passes (λ d. eqb d.number n) cs c found))) found

@@ -1,0 +1,17 @@
+-- Where a bundle is that followed a list of contacts without a fault.
+use Rattle.std.specs.Prelude.{◌≡◌, ℕ, ◌==◌, Bool, false, List}
+use Rattle.std.specs.Option.{option_map_or}
+use Rattle.std.specs.declared.option.Option.TheVariants.{Some}
+use Rattle.sabr_model.specs.declared.following.Reached.{Reached}
+use Rattle.sabr_model.specs.Plan.{ContactPlan, contact_named}
+use Rattle.sabr_model.specs.Arrival.{RouteRequest, arrival_after}
+use Rattle.sabr_model.specs.Route.{chain_end}
+
+-- whether the contact of a number is received by the node
+abbrev pub receives : ContactPlan → ℕ → ℕ → Bool
+receives p node n = option_map_or (λ c. node == c.to) (contact_named p n) false
+
+-- it is at the end of the chain, since the time of arrival there
+pub record IsReachedBy (p : ContactPlan) (r : RouteRequest) (s : List ℕ) (reached : Reached) : Type 0 where
+  pub node : chain_end p r.source s ≡ Some reached.node
+  pub at : arrival_after p r r.at s ≡ Some reached.at

@@ -1,0 +1,122 @@
+//! Following a list of contacts: when it delivers, or why it is no route.
+
+ghost use Rattle.std.specs.Prelude.{◌≡◌, ℕ, ◌+◌, ◌<◌, ◌^◌, [], ◌∷◌, ◌++◌, Some, None, IfOk, IfErr, IsTrue, length};
+ghost use Rattle.sabr_model.specs.Plan.{has};
+ghost use Rattle.sabr_model.specs.Arrival.{arrival_after};
+ghost use Rattle.sabr_model.specs.Route.{receivers, is_route};
+ghost use Rattle.sabr_model.specs.Fault.{fault_at, fault_of};
+ghost use Rattle.sabr_model.specs.Following.{IsReachedBy, receives};
+
+use crate::fault::HopFault;
+use crate::plan::{Plan, arrive};
+use crate::request::Request;
+use std::alloc::Allocator;
+
+/// Where a bundle is, and since when.
+#[derive(Clone, Copy)]
+struct Reached {
+    node: u64,
+    at: u64,
+}
+
+fn receives<A: Allocator + Copy>(plan: &Plan<A>, number: u32, node: u64) -> bool
+    ensures { result ≡ receives plan.now.plan node number }
+{
+    match plan.contact(number) {
+        Some(contact) => node == contact.to,
+        None => false,
+    }
+}
+
+/// Whether one of these contacts is received by the node.
+fn is_received<A: Allocator + Copy>(plan: &Plan<A>, numbers: &[u32], node: u64) -> bool
+    ensures { result ≡ has node (receivers plan.now.plan numbers.now) }
+{
+    for number in numbers {
+        if receives(plan, *number, node) {
+            return true;
+        }
+    }
+    false
+}
+
+/// One hop more, behind those in `front`, which have no fault and lead to `here`.
+fn take_hop<A: Allocator + Copy>(
+    plan: &Plan<A>,
+    request: &Request,
+    front: &[u32],
+    here: Reached,
+    number: u32,
+) -> Result<Reached, HopFault>
+    requires place { length front.now + 1 < 2 ^ 64 }
+    requires reached { IsReachedBy plan.now.plan request.now front.now here }
+    ensures good { IfOk result (λ _. fault_at plan.now.plan request.now front.now number ≡ None) }
+    ensures ok { IfOk result (IsReachedBy plan.now.plan request.now (front.now ++ number ∷ [])) }
+    ensures err { IfErr result (λ f. fault_at plan.now.plan request.now front.now number ≡ Some f) }
+{
+    let place = front.len() + 1;
+    let Some(contact) = plan.contact(number) else {
+        return Err(HopFault::NoSuchContact(place));
+    };
+    if here.node != contact.from {
+        return Err(HopFault::NotChained(place));
+    }
+    if contact.to == request.from() || is_received(plan, front, contact.to) {
+        return Err(HopFault::NodeAgain(place));
+    }
+    if plan.light(contact).is_none() {
+        return Err(HopFault::NoLight(place));
+    }
+    let _ = plan.contacts();
+    let Some(at) = arrive(plan, request, here.at, contact) else {
+        return Err(HopFault::TooLate(place));
+    };
+    if request.avoids(contact.to) {
+        return Err(HopFault::AvoidedNode(place));
+    }
+    if place > request.max_hops() as usize {
+        return Err(HopFault::TooManyHops(place));
+    }
+    Ok(Reached {
+        node: contact.to,
+        at,
+    })
+}
+
+/// The best-case delivery time of the route that the contacts of these numbers make, in seconds since
+/// 1970-01-01T00:00:00Z (CCSDS 734.3-B-1: best-case delivery time).
+///
+/// It takes no memory. It reads each contact and, against visiting a node twice, the contacts before it:
+/// the time grows with the square of the number of hops before the first fault.
+///
+/// # Errors
+///
+/// Where the list is no route of the request over the plan: the fault of the least place that has one,
+/// and of one place the first of [`HopFault::NoSuchContact`], [`HopFault::NotChained`],
+/// [`HopFault::NodeAgain`], [`HopFault::NoLight`], [`HopFault::TooLate`], [`HopFault::AvoidedNode`],
+/// [`HopFault::TooManyHops`]; [`HopFault::Empty`] for the empty list, and [`HopFault::WrongEnd`] where no
+/// hop has a fault and the last receiver isn't the destination.
+pub fn follow<A: Allocator + Copy>(
+    plan: &Plan<A>,
+    request: &Request,
+    contacts: &[u32],
+) -> Result<u64, HopFault>
+    ensures route { IfOk result (λ _. IsTrue (is_route plan.now.plan request.now contacts.now)) }
+    ensures delivery { IfOk result (λ d. arrival_after plan.now.plan request.now request.now.at contacts.now ≡ Some d) }
+    ensures fault { IfErr result (λ f. fault_of plan.now.plan request.now contacts.now ≡ Some f) }
+{
+    if contacts.is_empty() {
+        return Err(HopFault::Empty);
+    }
+    let mut here = Reached {
+        node: request.from(),
+        at: request.at(),
+    };
+    for (i, number) in contacts.iter().enumerate() {
+        here = take_hop(plan, request, &contacts[..i], here, *number)?;
+    }
+    if here.node != request.to() {
+        return Err(HopFault::WrongEnd);
+    }
+    Ok(here.at)
+}

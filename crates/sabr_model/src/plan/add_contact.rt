@@ -1,0 +1,105 @@
+//! Contacts that are added, and those that are refused.
+
+ghost use Rattle.std.specs.Prelude.{◌≡◌, ℕ, ◌<◌, ◌≤◌, ◌+◌, [], None, Some, Err, IfOk, OnOk, OnErr, IsOkUnless};
+ghost use Rattle.std.specs.List.{list_any};
+ghost use Rattle.sabr_model.specs.Plan.{last_time, opens};
+ghost use Rattle.sabr_model.specs.declared.fault.AddFault.{AddFault};
+ghost use Rattle.sabr_model.specs.declared.fault.AddFault.TheVariants.{NoMemory};
+ghost use Rattle.sabr_model.specs.Adding.{next_contact, contact_refusal, with_contact};
+
+use super::Plan;
+use crate::contact::Contact;
+use crate::fault::AddFault;
+use crate::node_table::note_contact;
+use std::alloc::{AllocError, Allocator};
+
+impl<A: Allocator + Copy> Plan<A> {
+    /// Why a contact would be refused, unless memory is short.
+    fn contact_refusal(&self, from: u64, to: u64, start: u64, end: u64) -> Option<AddFault>
+        ensures { result ≡ contact_refusal self.now.plan from to start end }
+    {
+        if start >= end {
+            Some(AddFault::EmptyWindow)
+        } else if from == to {
+            Some(AddFault::SelfPair)
+        } else if self.has_opening(from, to, start) {
+            Some(AddFault::DuplicateContact)
+        } else if self.greatest >= 20000 {
+            Some(AddFault::TooMany)
+        } else {
+            None
+        }
+    }
+
+    /// Whether a contact with this sender, receiver and start stands.
+    fn has_opening(&self, from: u64, to: u64, start: u64) -> bool
+        ensures { result ≡ list_any (opens from to start) self.now.plan.contacts }
+    {
+        self.contacts
+            .iter()
+            .any(|c| from == c.from && to == c.to && start == c.start)
+    }
+
+    /// Adds a contact that is not refused.
+    fn append(
+        &mut self,
+        from: u64,
+        to: u64,
+        start: u64,
+        end: u64,
+        rate: u64,
+    ) -> Result<u32, AllocError>
+        requires from { 0 < from }
+        requires to { 0 < to }
+        requires end { end ≤ last_time }
+        requires accepted { contact_refusal self.old.plan from to start end ≡ None }
+        ensures number { IfOk result (λ n. n ≡ self.old.plan.greatest + 1) }
+        ensures ok { OnOk result (self.new.plan ≡ with_contact self.old.plan (next_contact self.old.plan from to start end rate)) }
+        ensures err { OnErr result (self.new ≡ self.old) }
+    {
+        let number = self.greatest + 1;
+        let contact = Contact {
+            number,
+            from,
+            to,
+            start,
+            end,
+            rate,
+        };
+        self.contacts.reserve(1)?;
+        note_contact(self.alloc, &mut self.table, &self.contacts, &contact)?;
+        self.contacts.push_reserved(contact);
+        self.greatest = number;
+        Ok(number)
+    }
+
+    /// Adds a contact, and answers its number: one more than the greatest number ever given.
+    ///
+    /// Times are seconds since 1970-01-01T00:00:00Z, the rate is in bytes per second. The least of these is told:
+    /// `EmptyWindow` where the contact does not start before its end, `SelfPair` where sender and receiver are one,
+    /// `DuplicateContact` where a standing contact has this sender, receiver and start, `TooMany` where 20000 numbers were
+    /// given, and `NoMemory`. A refusal leaves the plan as it was.
+    pub fn add_contact(
+        &mut self,
+        from: u64,
+        to: u64,
+        start: u64,
+        end: u64,
+        rate: u64,
+    ) -> Result<u32, AddFault>
+        requires from { 0 < from }
+        requires to { 0 < to }
+        requires end { end ≤ last_time }
+        ensures refused { (f : AddFault) → contact_refusal self.old.plan from to start end ≡ Some f → result ≡ Err f }
+        ensures accepted { contact_refusal self.old.plan from to start end ≡ None → IsOkUnless result NoMemory }
+        ensures number { IfOk result (λ n. n ≡ self.old.plan.greatest + 1) }
+        ensures ok { OnOk result (self.new.plan ≡ with_contact self.old.plan (next_contact self.old.plan from to start end rate)) }
+        ensures err { OnErr result (self.new ≡ self.old) }
+    {
+        if let Some(fault) = self.contact_refusal(from, to, start, end) {
+            return Err(fault);
+        }
+        self.append(from, to, start, end, rate)
+            .map_err(|_| AddFault::NoMemory)
+    }
+}

@@ -1,0 +1,119 @@
+//! Ranges that are added, and those that are refused.
+
+ghost use Rattle.std.specs.Prelude.{◌≡◌, ◌≢◌, ℕ, ◌<◌, ◌≤◌, None, Some, Err, OnOk, OnErr, IsOkUnless, length, slice_index_or};
+ghost use Rattle.std.specs.Ordering.{is_gt};
+ghost use Rattle.std.specs.List.{list_any};
+ghost use Rattle.std.specs.declared.cmp.Ordering.TheVariants.{Less, Greater};
+ghost use Rattle.sabr_model.specs.Plan.{last_time, overlap};
+ghost use Rattle.sabr_model.specs.declared.fault.AddFault.{AddFault};
+ghost use Rattle.sabr_model.specs.declared.fault.AddFault.TheVariants.{NoMemory};
+ghost use Rattle.sabr_model.specs.Adding.{new_range, range_refusal, with_range, by_range_key};
+
+use super::Plan;
+use crate::contact::Range;
+use crate::fault::AddFault;
+use std::alloc::{AllocError, Allocator};
+
+impl<A: Allocator + Copy> Plan<A> {
+    /// Why a range would be refused, unless memory is short.
+    fn range_refusal(&self, range: &Range) -> Option<AddFault>
+        ensures { result ≡ range_refusal self.now.plan range.now }
+    {
+        if range.start >= range.end {
+            Some(AddFault::EmptyWindow)
+        } else if range.one == range.other {
+            Some(AddFault::SelfPair)
+        } else if self.has_overlap(range) {
+            Some(AddFault::RangeOverlap)
+        } else if self.ranges.len() >= 20000 {
+            Some(AddFault::TooMany)
+        } else {
+            None
+        }
+    }
+
+    /// Whether a standing range of this ordered pair holds at some second of the range.
+    fn has_overlap(&self, range: &Range) -> bool
+        ensures { result ≡ list_any (overlap range.now) self.now.plan.ranges }
+    {
+        self.ranges.iter().any(|r| {
+            range.one == r.one
+                && range.other == r.other
+                && range.start < r.end
+                && r.start < range.end
+        })
+    }
+
+    /// Adds a range that is not refused.
+    fn put_range(&mut self, range: Range) -> Result<(), AllocError>
+        requires one { 0 < range.one }
+        requires other { 0 < range.other }
+        requires end { range.end ≤ last_time }
+        requires light { range.light ≤ 1000000 }
+        requires accepted { range_refusal self.old.plan range ≡ None }
+        ensures ok { OnOk result (self.new ≡ record { plan = with_range self.old.plan range; table = self.old.table }) }
+        ensures err { OnErr result (self.new ≡ self.old) }
+    {
+        let place = place_of_range(&self.ranges, &range);
+        self.ranges.insert(place, range)?;
+        Ok(())
+    }
+
+    /// Adds a range: the one-way light time, 0 to 1000000 seconds, from `start` on and before `end`.
+    ///
+    /// With `one < other` it holds both ways, with `one > other` only from `one` to `other`. The least of these is told:
+    /// `EmptyWindow` where the range does not start before its end, `SelfPair` where both nodes are one, `RangeOverlap`
+    /// where a standing range of this ordered pair holds at some second of it, `TooMany` where 20000 ranges stand, and
+    /// `NoMemory`. A refusal leaves the plan as it was.
+    pub fn add_range(
+        &mut self,
+        one: u64,
+        other: u64,
+        start: u64,
+        end: u64,
+        light: u32,
+    ) -> Result<(), AddFault>
+        requires one { 0 < one }
+        requires other { 0 < other }
+        requires end { end ≤ last_time }
+        requires light { light ≤ 1000000 }
+        ensures refused { (f : AddFault) → range_refusal self.old.plan (new_range one other start end light) ≡ Some f → result ≡ Err f }
+        ensures accepted { range_refusal self.old.plan (new_range one other start end light) ≡ None → IsOkUnless result NoMemory }
+        ensures ok { OnOk result (self.new ≡ record { plan = with_range self.old.plan (new_range one other start end light); table = self.old.table }) }
+        ensures err { OnErr result (self.new ≡ self.old) }
+    {
+        let range = Range {
+            one,
+            other,
+            start,
+            end,
+            light,
+        };
+        if let Some(fault) = self.range_refusal(&range) {
+            return Err(fault);
+        }
+        self.put_range(range).map_err(|_| AddFault::NoMemory)
+    }
+}
+
+/// Whether a range comes before another, by (one, other, start).
+fn range_before(a: &Range, b: &Range) -> bool
+    ensures { result ≡ is_gt (by_range_key b.now a.now) }
+{
+    b.one > a.one
+        || (b.one == a.one && (b.other > a.other || (b.other == a.other && b.start > a.start)))
+}
+
+/// The place of the first range that does not come before the given one.
+fn place_of_range(ranges: &[Range], range: &Range) -> usize
+    ensures within { result ≤ length ranges.now }
+    ensures before { (k : ℕ) → k < result → by_range_key range.now (slice_index_or ranges.now k range.now) ≡ Greater }
+    ensures at { result < length ranges.now → by_range_key range.now (slice_index_or ranges.now result range.now) ≢ Greater }
+{
+    for (i, r) in ranges.iter().enumerate() {
+        if !range_before(r, range) {
+            return i;
+        }
+    }
+    ranges.len()
+}

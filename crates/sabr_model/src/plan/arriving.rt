@@ -1,0 +1,30 @@
+//! The earliest arrival over a contact.
+
+ghost use Rattle.std.specs.Prelude.{◌≡◌, ◌≤◌};
+ghost use Rattle.sabr_model.specs.Plan.{last_time};
+ghost use Rattle.sabr_model.specs.Arrival.{arrival};
+
+use super::Plan;
+use crate::contact::Contact;
+use crate::request::Request;
+use std::alloc::Allocator;
+
+/// The second at which a bundle that is at the contact's sender at `t` arrives at its receiver (CCSDS 734.3-B-1: earliest
+/// transmission time, one-way light time and margin); none where it is too late or no light time is known.
+pub fn arrive<A: Allocator + Copy>(
+    plan: &Plan<A>,
+    request: &Request,
+    t: u64,
+    contact: &Contact,
+) -> Option<u64>
+    requires { contact.now.end ≤ last_time }
+    ensures { result ≡ arrival plan.now.plan request.now t contact.now }
+{
+    let sent = t.max(contact.start);
+    if sent >= contact.end {
+        return None;
+    }
+    let light = plan.light(contact)? as u64;
+    let margin = (light * request.margin_ppm() as u64 + 999999) / 1000000;
+    Some(sent + (light + margin))
+}

@@ -1,0 +1,68 @@
+//! Contacts and ranges that are deleted.
+
+ghost use Rattle.std.specs.Prelude.{◌≡◌, ◌==◌, ◌↔◌, IsTrue, OnOk, OnErr, IfErr, IsOk, ok_or, find};
+ghost use Rattle.std.specs.List.{list_any};
+ghost use Rattle.std.specs.Option.{option_map, option_copied};
+ghost use Rattle.sabr_model.specs.Plan.{opens, has};
+ghost use Rattle.sabr_model.specs.Table.{ends_of};
+ghost use Rattle.sabr_model.specs.declared.fault.AddFault.TheVariants.{NothingToDelete};
+ghost use Rattle.sabr_model.specs.Adding.{number_of_opening, without_contact, begins, without_range};
+
+use super::Plan;
+use crate::contact::Contact;
+use crate::fault::AddFault;
+use crate::node_table::forget_contact;
+use std::alloc::Allocator;
+
+impl<A: Allocator + Copy> Plan<A> {
+    /// The standing contact with this sender, receiver and start.
+    fn contact_of_opening(&self, from: u64, to: u64, start: u64) -> Option<&Contact>
+        ensures { option_copied result ≡ find (opens from to start) self.now.plan.contacts }
+    {
+        self.contacts
+            .iter()
+            .find(|c| from == c.from && to == c.to && start == c.start)
+    }
+
+    /// Deletes the contact with this sender, receiver and start, and answers its number, which is not given again.
+    ///
+    /// `NothingToDelete` where no such contact stands; then the plan stays as it was. It takes no memory.
+    pub fn delete_contact(&mut self, from: u64, to: u64, start: u64) -> Result<u32, AddFault>
+        ensures value { result ≡ ok_or (number_of_opening self.old.plan from to start) NothingToDelete }
+        ensures ok { OnOk result (self.new.plan ≡ without_contact self.old.plan from to start) }
+        ensures err { OnErr result (self.new ≡ self.old) }
+    {
+        let Some(contact) = self.contact_of_opening(from, to, start) else {
+            return Err(AddFault::NothingToDelete);
+        };
+        let contact = *contact;
+        forget_contact(&mut self.table, &self.contacts, &contact);
+        self.contacts.retain(|c| !(c.number == contact.number));
+        Ok(contact.number)
+    }
+
+    /// Deletes the range of this ordered pair that begins at this start.
+    ///
+    /// `NothingToDelete` where no such range stands; then the plan stays as it was. It takes no memory.
+    pub fn delete_range(&mut self, one: u64, other: u64, start: u64) -> Result<(), AddFault>
+        ensures deleted { IsOk result ↔ IsTrue (list_any (begins one other start) self.old.plan.ranges) }
+        ensures fault { IfErr result (λ f. f ≡ NothingToDelete) }
+        ensures ok { OnOk result (self.new ≡ record { plan = without_range self.old.plan one other start; table = self.old.table }) }
+        ensures err { OnErr result (self.new ≡ self.old) }
+    {
+        if !self.has_range(one, other, start) {
+            return Err(AddFault::NothingToDelete);
+        }
+        self.ranges.retain(|r| !(one == r.one && other == r.other && start == r.start));
+        Ok(())
+    }
+
+    /// Whether a range of this ordered pair that begins at this start stands.
+    fn has_range(&self, one: u64, other: u64, start: u64) -> bool
+        ensures { result ≡ list_any (begins one other start) self.now.plan.ranges }
+    {
+        self.ranges
+            .iter()
+            .any(|r| one == r.one && other == r.other && start == r.start)
+    }
+}

@@ -1,0 +1,71 @@
+//! The nodes of a plan, each by its index in the table, and the contacts that one node sends.
+
+ghost use Rattle.std.specs.Prelude.{◌≡◌, ◌<◌, [], ℕ, Some, None, MatchOption, IfSome, IsFalse, length, slice_get};
+ghost use Rattle.sabr_model.specs.Plan.{IsPlan, contact_named, has};
+ghost use Rattle.sabr_model.specs.Table.{sent_by, node_count};
+ghost use Rattle.sabr_model.specs.Tabled.{IsTabled, IsOpenList, IsHopNamed};
+
+use super::Plan;
+use crate::contact::Contact;
+use crate::hop::Hop;
+use std::alloc::Allocator;
+
+impl<A: Allocator + Copy> Plan<A> {
+    /// How many nodes send or receive some standing contact.
+    pub fn nodes(&self) -> usize
+        ensures value { result ≡ node_count self.now.plan.contacts }
+        ensures table { result ≡ length self.now.table }
+        ensures tabled { IsTabled self.now }
+    {
+        self.table.len()
+    }
+
+    /// The rising numbers of the standing contacts that the node sends; none for a node that sends none.
+    pub fn from_node(&self, node: u64) -> &[u32]
+        ensures { result.now ≡ sent_by self.now.plan.contacts node }
+    {
+        match self.table.get(&node) {
+            Some(sent) => &sent.numbers,
+            None => &[],
+        }
+    }
+
+    /// The index of a node that sends or receives some standing contact.
+    pub fn node_index(&self, node: u64) -> Option<usize>
+        ensures { MatchOption result (IsFalse (has node self.now.table)) (λ k. slice_get self.now.table k ≡ Some node) }
+    {
+        self.table.get_index_of(&node)
+    }
+
+    /// The index of a standing contact's receiver.
+    pub fn receiver(&self, contact: &Contact) -> usize
+        requires { contact_named self.now.plan contact.now.number ≡ Some contact.now }
+        ensures { slice_get self.now.table result ≡ Some contact.now.to }
+    {
+        self.table.get_index_of(&contact.to).unwrap_or(0)
+    }
+
+    /// The numbers of the contacts that a node sends, by start, without such as have ended by `at`, or with some of these.
+    pub fn open_contacts(&self, index: usize, at: u64) -> &[u32]
+        requires { index < length self.now.table }
+        ensures { (node : ℕ) → slice_get self.now.table index ≡ Some node → IsOpenList self.now.plan node at result.now }
+    {
+        match self.table.get_index(index) {
+            Some((_, sent)) => &sent.by_start,
+            None => &[],
+        }
+    }
+
+    /// The standing contact of a number, as a search reads it.
+    pub fn hop(&self, number: u32) -> Option<Hop>
+        ensures { MatchOption result (contact_named self.now.plan number ≡ None) (IsHopNamed self.now number) }
+    {
+        let contact = self.contact(number)?;
+        Some(Hop {
+            start: contact.start,
+            end: contact.end,
+            receiver: self.receiver(contact),
+            light: self.light(contact),
+        })
+    }
+}

@@ -1,0 +1,4 @@
+pub mod Gathering
+pub mod SpacedNumbers
+mod RouteLine
+mod ReportLines
