@@ -27,3 +27,5 @@ pub mod Nodes
 pub mod Splits
 pub mod Refined
 pub mod Divided
+pub mod Sounds
+pub mod Giving

@@ -17,7 +17,8 @@ use Rattle.sabr_model.specs.Listing.{routes}
 use Rattle.sabr_model.specs.Parts.{number_after, goes_on, least_in}
 use Rattle.sabr_model.proofs.Members.{IsIn, in_from_Contains, Contains-from_in}
 use Rattle.sabr_model.proofs.Least as model
-use Rattle.sabr_model.proofs.Listed.{key_total, key_tells, routes_are_listed}
+use Rattle.sabr_model.proofs.Listed.{key_total, key_tells}
+use Rattle.sabr_model.proofs.RoutesListed.{routes_are_listed}
 use Rattle.sabr_frontier.specs.Rising.{has, Below, Rises, IsExact}
 use Rattle.sabr_frontier.specs.State.{Member}
 use Rattle.sabr_frontier.specs.Formed.{Within}

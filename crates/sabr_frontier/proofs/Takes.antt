@@ -42,7 +42,7 @@ modify_back f [] i x e h = refl
 modify_back f (y ∷ xs) zero x e h = let same : y ≡ x = cc in ap (λ z. z ∷ xs) (ap f same ∙ h ∙ sym same)
 modify_back f (y ∷ xs) (suc i) x e h = ap (λ t. y ∷ t) (modify_back f xs i x e h)
 
-take_front : {X : Type 0} (xs ys : List X) (n : ℕ) → n ≡ length xs → take n (xs ++ ys) ≡ xs
+pub take_front : {X : Type 0} (xs ys : List X) (n : ℕ) → n ≡ length xs → take n (xs ++ ys) ≡ xs
 take_front [] ys zero e = refl
 take_front [] ys (suc n) e = absurd (omega arith)
 take_front (x ∷ xs) ys zero e = absurd (omega arith)

@@ -12,5 +12,6 @@ pub mod Taking
 pub mod Room
 pub mod Sound
 pub mod Prepared
+pub mod Session
 pub mod Laws
 pub mod Rows

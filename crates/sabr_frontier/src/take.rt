@@ -1,6 +1,7 @@
 //! Giving the least route that the tree carries.
 
 ghost use Rattle.std.specs.Prelude.{◌≡◌, ℕ, ◌+◌, ◌<◌, ◌≤◌, ◌∷◌, ◌++◌, [], length, vec_len, IsSome, IfOk, IfSome, OnOk, OnErr};
+ghost use Rattle.sabr_model.specs.Plan.{IsPlan};
 ghost use Rattle.sabr_frontier.specs.Shape.{shape_of, route_at};
 ghost use Rattle.sabr_frontier.specs.Undo.{IsRoomy};
 ghost use Rattle.sabr_frontier.specs.Queue.{InPairs, IsBefore};
@@ -70,6 +71,7 @@ impl<A: Allocator + Copy> Tree<A> {
         finder: &mut B,
         given: &mut Vec<Route<A>, A>,
     ) -> Result<u64, NoMemory>
+        requires plan { IsPlan plan.now.plan }
         requires tree { IsTree plan.now.plan request.now (shape_of self.old) }
         requires waiting { 0 < vec_len self.old.queue }
         requires room { IsRoomy self.old }
