@@ -1,5 +1,5 @@
 -- What giving the least route of a sound tree is, whatever stands last in its queue.
-use Rattle.std.proofs.Common.{◌≡◌, ℕ, suc, ◌+◌, ◌-◌, ◌<◌, ◌≤◌, true, false, List, [], ◌∷◌, ◌++◌, map, length, take, drop, refl, sym, ap, subst, ◌∙◌, inl, inr, arith, Option, Some, None, length-drop}
+use Rattle.std.proofs.Common.{◌≡◌, ℕ, suc, ◌+◌, ◌-◌, ◌<◌, ◌≤◌, true, false, List, [], ◌∷◌, ◌++◌, map, length, take, drop, refl, sym, ap, subst, ◌∙◌, inl, inr, arith, Option, Some, None, length-drop, length-append}
 use Rattle.std.specs.Prelude.{slice_get, is_some}
 use Rattle.std.specs.Option.{option_map, option_and_then}
 use Rattle.sabr_model.specs.Plan.{ContactPlan, IsPlan}
@@ -8,6 +8,7 @@ use Rattle.sabr_model.specs.Route.{is_route, by_key}
 use Rattle.sabr_model.specs.Parts.{least_in}
 use Rattle.sabr_model.specs.Record.{RouteRecord, record_of}
 use Rattle.sabr_model.proofs.Listed.{key_total}
+use Rattle.sabr_model.proofs.Routes.{route_facts}
 use Rattle.sabr_frontier.specs.declared.tree.NodeId.{NodeId}
 use Rattle.sabr_frontier.specs.declared.tree.Node.{Node}
 use Rattle.sabr_frontier.specs.State.{PartState, Member}
@@ -22,7 +23,7 @@ use Rattle.sabr_frontier.proofs.Members.{Member-map_cases}
 use Rattle.sabr_frontier.proofs.NextPlace.{least_carried_none}
 use Rattle.sabr_frontier.proofs.Listed.{by_key_exact}
 use Rattle.sabr_frontier.proofs.Nodes.{some_last}
-use Rattle.sabr_frontier.proofs.Refined.{standing, next_is, record_is, route_there}
+use Rattle.sabr_frontier.proofs.Refined.{standing, inside, next_is, record_is, route_there}
 use Rattle.sabr_frontier.proofs.Divided.{shown_divided}
 use Rattle.sabr_frontier.proofs.Sounds.{tree_divided, undone_divided, can_undo}
 
@@ -45,6 +46,9 @@ length_fresh A best leaf q (y ∷ rest) = ap suc (length_fresh A best leaf (q ++
 pub new_nodes : (A : Type 0) (best : List ℕ → List ℕ → Option RouteRecord) (leaf : ℕ) (s : List ℕ) (d : ℕ) → d < length s → length (fresh_nodes {A = A} best leaf (take (d + 1) s) (drop (d + 1) s)) + 1 ≡ length s - d
 new_nodes A best leaf s d l = omega (arith, length_fresh A best leaf (take (d + 1) s) (drop (d + 1) s), length-drop (d + 1) s)
 
+length_push : {X : Type 0} (xs : List X) (x : X) → length (xs ++ x ∷ []) ≡ length xs + 1
+length_push xs x = length-append xs (x ∷ [])
+
 -- a step of the tree is the step of the state, and can be undone
 pub record IsGiven {A : Type 0} (p : ContactPlan) (r : RouteRequest) (t : Shape A) : Type 0 where
   pub route : RouteRecord
@@ -52,6 +56,8 @@ pub record IsGiven {A : Type 0} (p : ContactPlan) (r : RouteRequest) (t : Shape 
   pub told : route ≡ record_of p r route.contacts
   pub stepped : one_step p r (shown t) ≡ Some (route.contacts, shown (taken p r t))
   pub sound : IsTree p r (taken p r t)
+  pub entries : length (taken p r t).journal ≡ length t.journal + 1
+  pub few : new_count t ≤ r.max_hops
   pub back : undone (taken p r t) ≡ t
   pub can : CanUndo (taken p r t)
 
@@ -69,6 +75,8 @@ module _ {A : Type 0} (p : ContactPlan) (r : RouteRequest) (good : IsPlan p) (t 
         stepped = ap (step_of (is_route p r) (least_in p r) (shown t)) (next_is p r t is node z.1 w.0 w.1 w.2 w.3)
             ∙ (λ i. Some (w.1.contacts, (sym (shown_divided p r t is node z.1 w.0 w.1 w.2 w.3) ∙ ap shown (sym e)) i));
         sound = subst (IsTree p r) (sym e) (tree_divided p r good t is node z.1 w.0 w.1 w.2 w.3);
+        entries = ap (λ (z : Shape A). length z.journal) e ∙ length_push t.journal _;
+        few = omega (arith, count_is t node w.0 w.1 z.1 w.2 w.3, (route_facts p r w.1.contacts (inside p r t is node z.1 w.0 w.1 w.2 w.3).0).within);
         back = ap undone e ∙ undone_divided p r good t is node z.1 w.0 w.1 w.2 w.3;
         can = subst CanUndo (sym e) (can_undo p r good t is node z.1 w.0 w.1 w.2 w.3);
       }

@@ -29,3 +29,4 @@ pub mod Refined
 pub mod Divided
 pub mod Sounds
 pub mod Giving
+pub mod Pages

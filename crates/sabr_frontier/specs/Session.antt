@@ -21,9 +21,13 @@ pub record Seen : Type 0 where
   pub searches : ℕ
 
 -- the tree is sound, and so is each of the n trees before it, to which undos lead
-abbrev pub IsSound : {A : Type 0} → ContactPlan → RouteRequest → ℕ → Shape A → Type 0
-IsSound p r zero t = IsTree p r t
-IsSound p r (suc n) t = IsTree p r t × CanUndo t × IsSound p r n (undone t)
+abbrev pub IsSoundFor : {A : Type 0} → ContactPlan → RouteRequest → ℕ → Shape A → Type 0
+IsSoundFor p r zero t = IsTree p r t
+IsSoundFor p r (suc n) t = IsTree p r t × CanUndo t × IsSoundFor p r n (undone t)
+
+-- for as many as the journal has entries
+abbrev pub IsSound : {A : Type 0} → ContactPlan → RouteRequest → Shape A → Type 0
+IsSound p r t = IsSoundFor p r (length t.journal) t
 
 -- how long the journal was before each page, the latest first: each page gave a route, and the first began
 -- with an empty journal
@@ -46,7 +50,7 @@ seen plan request tree pages searches = record { plan = plan; request = request;
 pub record IsSession {A : Type 0} (plan : TabledPlan) (request : RouteRequest) (tree : Tree A) (pages : List ℕ) : Type 0 where
   pub rules : IsPlan plan.plan
   pub limits : IsRequest request
-  pub sound : IsSound plan.plan request (length tree.journal.items) (shape_of tree)
+  pub sound : IsSound plan.plan request (shape_of tree)
   pub starts : AreStarts (reverse pages) (length tree.journal.items)
   pub room : IsRoomy tree
 

@@ -5,6 +5,7 @@ mod change;
 mod divide;
 mod excluded;
 mod finder;
+mod gather;
 mod laws;
 mod places;
 mod rows;
