@@ -13,7 +13,7 @@ use Rattle.sabr_frontier.specs.declared.tree.NodeId.{NodeId}
 use Rattle.sabr_frontier.specs.declared.tree.Node.{Node}
 use Rattle.sabr_frontier.specs.State.{PartState, Member}
 use Rattle.sabr_frontier.specs.Step.{step_of, given, least_carried}
-use Rattle.sabr_frontier.specs.Listing.{one_step, next_route}
+use Rattle.sabr_frontier.specs.Listing.{one_step, next_route, searches_for}
 use Rattle.sabr_frontier.specs.Shape.{Shape, shown, part_at, part_of, numbers_of, route_at, route_of}
 use Rattle.sabr_frontier.specs.Undo.{last_item, undone, CanUndo}
 use Rattle.sabr_frontier.specs.Best.{best_of}
@@ -23,7 +23,7 @@ use Rattle.sabr_frontier.proofs.Members.{Member-map_cases}
 use Rattle.sabr_frontier.proofs.NextPlace.{least_carried_none}
 use Rattle.sabr_frontier.proofs.Listed.{by_key_exact}
 use Rattle.sabr_frontier.proofs.Nodes.{some_last}
-use Rattle.sabr_frontier.proofs.Refined.{standing, inside, next_is, record_is, route_there}
+use Rattle.sabr_frontier.proofs.Refined.{standing, inside, next_is, record_is, route_there, searches_are}
 use Rattle.sabr_frontier.proofs.Divided.{shown_divided}
 use Rattle.sabr_frontier.proofs.Sounds.{tree_divided, undone_divided, can_undo}
 
@@ -53,11 +53,13 @@ length_push xs x = length-append xs (x ∷ [])
 pub record IsGiven {A : Type 0} (p : ContactPlan) (r : RouteRequest) (t : Shape A) : Type 0 where
   pub route : RouteRecord
   pub least : least_route t ≡ Some route
+  pub next : next_route p r (shown t) ≡ Some route.contacts
   pub told : route ≡ record_of p r route.contacts
   pub stepped : one_step p r (shown t) ≡ Some (route.contacts, shown (taken p r t))
   pub sound : IsTree p r (taken p r t)
   pub entries : length (taken p r t).journal ≡ length t.journal + 1
   pub few : new_count t ≤ r.max_hops
+  pub counted : new_count t ≡ searches_for (shown t) route.contacts
   pub back : undone (taken p r t) ≡ t
   pub can : CanUndo (taken p r t)
 
@@ -71,12 +73,14 @@ module _ {A : Type 0} (p : ContactPlan) (r : RouteRequest) (good : IsPlan p) (t 
       record {
         route = w.1;
         least = least_is t node w.0 w.1 z.1 w.2 w.3;
+        next = next_is p r t is node z.1 w.0 w.1 w.2 w.3;
         told = record_is p r t is node z.1 w.0 w.1 w.2 w.3;
         stepped = ap (step_of (is_route p r) (least_in p r) (shown t)) (next_is p r t is node z.1 w.0 w.1 w.2 w.3)
             ∙ (λ i. Some (w.1.contacts, (sym (shown_divided p r t is node z.1 w.0 w.1 w.2 w.3) ∙ ap shown (sym e)) i));
         sound = subst (IsTree p r) (sym e) (tree_divided p r good t is node z.1 w.0 w.1 w.2 w.3);
         entries = ap (λ (z : Shape A). length z.journal) e ∙ length_push t.journal _;
         few = omega (arith, count_is t node w.0 w.1 z.1 w.2 w.3, (route_facts p r w.1.contacts (inside p r t is node z.1 w.0 w.1 w.2 w.3).0).within);
+        counted = count_is t node w.0 w.1 z.1 w.2 w.3 ∙ sym (searches_are p r t is node z.1 w.0 w.1 w.2 w.3);
         back = ap undone e ∙ undone_divided p r good t is node z.1 w.0 w.1 w.2 w.3;
         can = subst CanUndo (sym e) (can_undo p r good t is node z.1 w.0 w.1 w.2 w.3);
       }

@@ -25,8 +25,10 @@ pub mod Blocks
 pub mod Takes
 pub mod Nodes
 pub mod Splits
+pub mod Found
 pub mod Refined
 pub mod Divided
 pub mod Sounds
 pub mod Giving
 pub mod Pages
+pub mod Roots

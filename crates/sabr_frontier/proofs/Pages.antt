@@ -1,17 +1,20 @@
 -- Steps of a tree, one after another, and the trees before them.
 use Rattle.std.proofs.lemmas.Bool.Decides.{nat_tests}
-use Rattle.std.proofs.Common.{◌≡◌, ℕ, zero, suc, ◌+◌, ◌-◌, ◌<◌, ◌≤◌, Bool, true, false, nat_eq, List, [], ◌∷◌, ◌++◌, map, length, refl, sym, ap, subst, ◌∙◌, arith, Option, Some, None, append_assoc, length-append}
+use Rattle.std.proofs.Common.{◌≡◌, ℕ, zero, suc, ◌+◌, ◌-◌, ◌<◌, ◌≤◌, Bool, true, false, not, nat_eq, reverse, ◌⊎◌, inl, inr, List, [], ◌∷◌, ◌++◌, map, length, refl, sym, ap, subst, ◌∙◌, arith, Option, Some, None, append_assoc, length-append}
 use Rattle.sabr_model.specs.Plan.{ContactPlan, IsPlan}
 use Rattle.sabr_model.specs.Arrival.{RouteRequest}
 use Rattle.sabr_model.specs.Record.{RouteRecord, record_of}
 use Rattle.sabr_frontier.specs.State.{State}
-use Rattle.sabr_frontier.specs.Listing.{one_step, given_first, steps}
+use Rattle.std.specs.Prelude.{is_some}
+use Rattle.std.proofs.lemmas.List.{reverse-append}
+use Rattle.sabr_frontier.specs.Listing.{one_step, next_route, given_first, steps, searches_for, searches_in}
 use Rattle.sabr_frontier.specs.Shape.{Shape, shown}
 use Rattle.sabr_frontier.specs.Undo.{CanUndo, CanUndoTimes, undone, undone_times}
-use Rattle.sabr_frontier.specs.Taking.{taken, least_route}
+use Rattle.sabr_frontier.specs.Taking.{taken, least_route, new_count}
 use Rattle.sabr_frontier.specs.Sound.{IsTree}
 use Rattle.sabr_frontier.specs.Session.{IsSoundFor, IsSound, AreStarts, tree_before, former_of}
-use Rattle.sabr_frontier.proofs.Giving.{IsGiven, is_given, nothing_given}
+use Rattle.sabr_frontier.proofs.Giving.{IsGiven, is_given, nothing_carried, nothing_given}
+use Rattle.sabr_frontier.proofs.Undoing.{entries_undone}
 
 pub steps_stop : (p : ContactPlan) (r : RouteRequest) (s : State) (k : ℕ) → one_step p r s ≡ None → steps p r k s ≡ ([], s)
 unfolding steps
@@ -124,3 +127,80 @@ some_there n b e t = let h : nat_eq n 0 ≡ false = sym e ∙ t in grind (arith,
 
 pub last_steps : (p : ContactPlan) (r : RouteRequest) (s : State) (k : ℕ) → k ≡ 0 → steps p r k s ≡ ([], s)
 last_steps p r s k e = ap (λ n. steps p r n s) e ∙ steps_none p r s
+
+-- ---- pages of a session
+
+module _ {A : Type 0} (p : ContactPlan) (r : RouteRequest) (good : IsPlan p) (t : Shape A) (sound : IsSound p r t) where
+  tree_is : IsTree p r t
+  tree_is = sound_tree p r (length t.journal) t sound
+
+  -- no step, or nothing carried: nothing is given
+  pub idle : (k : ℕ) → (k ≡ 0) ⊎ (length t.queue ≡ 0) → steps p r k (shown t) ≡ ([], shown t)
+  idle k (inl e) = last_steps p r (shown t) k e
+  idle k (inr e) = steps_stop p r (shown t) k (nothing_given p r good t tree_is e)
+
+  -- a step, and something carried: a route is given
+  pub busy : (k : ℕ) → 0 < k → 0 < length t.queue → (x : List ℕ) × (xs : List (List ℕ)) × ((steps p r k (shown t)).0 ≡ x ∷ xs)
+  busy zero l m = absurd (omega arith)
+  busy (suc k) l m =
+      let g = is_given p r good t tree_is m in
+      (g.route.contacts, (steps p r k (shown (taken p r t))).0, ap (λ (z : List (List ℕ) × State). z.0) (steps_go p r (shown t) (shown (taken p r t)) g.route.contacts k g.stepped))
+
+  pub carried_or_not : (k : ℕ) → 0 < k → 0 < length t.queue → (k ≡ 0) ⊎ (next_route p r (shown t) ≡ None) → ⊥
+  carried_or_not k l m (inl e) = omega arith
+  carried_or_not k l m (inr e) = let g = is_given p r good t tree_is m in let a = g.next in cc
+
+  pub more_is : (n : ℕ) (b : Bool) → n ≡ length t.queue → b ≡ nat_eq n 0 → not b ≡ is_some (next_route p r (shown t))
+  more_is n true l e = sym (ap is_some (nothing_carried p r good t tree_is (let z = none_there n true e refl in omega arith)))
+  more_is n false l e = let g = is_given p r good t tree_is (let z = some_there n false e refl in omega arith) in sym (ap is_some g.next)
+
+pub length-former : {A : Type 0} (ss : List ℕ) (t : Shape A) → length (former_of ss t) ≡ length ss
+length-former [] t = refl
+length-former (s ∷ ss) t = ap suc (length-former ss (tree_before s t))
+
+-- how long the journal is after undos
+pub entries_before : {A : Type 0} (p : ContactPlan) (r : RouteRequest) (m : ℕ) (t : Shape A) → m ≤ length t.journal → IsSoundFor p r (length t.journal) t → length (undone_times m t).journal + m ≡ length t.journal
+entries_before p r zero t l h = omega arith
+entries_before p r (suc m) t l h =
+    let n : length t.journal ≡ suc (length t.journal - 1) = omega arith in
+    let h' = subst (λ k. IsSoundFor p r k t) n h in
+    let one = entries_undone t h'.1 (omega arith) in
+    let less : length t.journal - 1 ≡ length (undone t).journal = omega (arith, one) in
+    let rest = entries_before p r m (undone t) (omega (arith, one)) (subst (λ k. IsSoundFor p r k (undone t)) less h'.2) in
+    omega (arith, one, rest)
+
+pub last_first : (xs : List ℕ) (x : ℕ) → reverse (xs ++ x ∷ []) ≡ x ∷ reverse xs
+last_first xs x = reverse-append xs (x ∷ [])
+
+-- the tree before the last page is sound
+pub sound_back : {A : Type 0} (p : ContactPlan) (r : RouteRequest) (t : Shape A) (start : ℕ) → start ≤ length t.journal → IsSound p r t → IsSound p r (tree_before start t) × (length (tree_before start t).journal ≡ start)
+sound_back p r t start l h =
+    let m : ℕ = length t.journal - start in
+    let e = entries_before p r m t (omega arith) h in
+    let left : length t.journal - m ≡ length (undone_times m t).journal = omega (arith, e) in
+    (subst (λ k. IsSoundFor p r k (undone_times m t)) left (sound_before p r m (length t.journal) t (omega arith) h), omega (arith, e))
+
+-- ---- how many searches steps take
+
+pub counts_stop : (p : ContactPlan) (r : RouteRequest) (s : State) (k : ℕ) → one_step p r s ≡ None → searches_in p r k s ≡ 0
+unfolding searches_in
+counts_stop p r s zero e = refl
+counts_stop p r s (suc k) e = ap (λ o. elim o [ None ↦ 0 | Some w ↦ searches_for s w.0 + searches_in p r k w.1 ]) e
+
+pub counts_go : (p : ContactPlan) (r : RouteRequest) (s t : State) (x : List ℕ) (k : ℕ) → one_step p r s ≡ Some (x, t) → searches_in p r (suc k) s ≡ searches_for s x + searches_in p r k t
+unfolding searches_in
+counts_go p r s t x k e = ap (λ o. elim o [ None ↦ 0 | Some w ↦ searches_for s w.0 + searches_in p r k w.1 ]) e
+
+pub counts_none : (p : ContactPlan) (r : RouteRequest) (s : State) (k : ℕ) → k ≡ 0 → searches_in p r k s ≡ 0
+unfolding searches_in
+counts_none p r s zero e = refl
+counts_none p r s (suc k) e = absurd (omega arith)
+
+pub counts_idle : {A : Type 0} (p : ContactPlan) (r : RouteRequest) (good : IsPlan p) (t : Shape A) → IsSound p r t → (k : ℕ) → (k ≡ 0) ⊎ (length t.queue ≡ 0) → searches_in p r k (shown t) ≡ 0
+counts_idle p r good t sound k (inl e) = counts_none p r (shown t) k e
+counts_idle p r good t sound k (inr e) = counts_stop p r (shown t) k (nothing_given p r good t (sound_tree p r (length t.journal) t sound) e)
+
+pub counts_on : {A : Type 0} (p : ContactPlan) (r : RouteRequest) (t : Shape A) (g : IsGiven p r t) (k n m all : ℕ) → m ≡ new_count t → n + searches_in p r (suc k) (shown t) ≡ all → (n + m) + searches_in p r k (shown (taken p r t)) ≡ all
+counts_on p r t g k n m all c h =
+    let go = counts_go p r (shown t) (shown (taken p r t)) g.route.contacts k g.stepped in
+    omega (arith, go, g.counted)

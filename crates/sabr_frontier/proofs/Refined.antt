@@ -2,13 +2,16 @@
 use Rattle.std.proofs.Common.{◌≡◌, ℕ, zero, suc, ◌+◌, ◌-◌, ◌<◌, ◌≤◌, Bool, true, false, nat_eq, List, [], ◌∷◌, ◌++◌, map, length, take, drop, get_or, refl, sym, ap, subst, ◌∙◌, ◌⊎◌, inl, inr, arith, true≢false, Option, Some, None, append_assoc, length-append}
 use Rattle.std.specs.Prelude.{slice_get, is_some}
 use Rattle.std.specs.Option.{option_map, option_and_then}
-use Rattle.std.specs.Ordering.{nat_cmp, is_lt}
+use Rattle.std.specs.List.{find}
+use Rattle.std.specs.Option.{option_map_or}
+use Rattle.std.proofs.lemmas.Cmp.{tied_itself}
+use Rattle.std.specs.Ordering.{nat_cmp, is_lt, is_eq}
 use Rattle.std.specs.declared.cmp.Ordering.{Ordering}
 use Rattle.std.specs.declared.cmp.Ordering.TheVariants.{Less, Equal, Greater}
 use Rattle.std.proofs.lemmas.Bool.Decides.{nat_tests}
 use Rattle.std.proofs.lemmas.Cmp.{nat_list_cmp_total}
 use Rattle.std.proofs.lemmas.List.{take-append-drop}
-use Rattle.sabr_model.specs.Order.{put_in, by_numbers}
+use Rattle.sabr_model.specs.Order.{put_in, by_numbers, same_numbers}
 use Rattle.sabr_model.specs.Plan.{ContactPlan}
 use Rattle.sabr_model.specs.Arrival.{RouteRequest}
 use Rattle.sabr_model.specs.Route.{is_route, is_path, is_prefix, by_key}
@@ -23,16 +26,20 @@ use Rattle.sabr_frontier.specs.Tree.{tree, numbers_after}
 use Rattle.sabr_frontier.specs.State.{PartState, State, pair_of, Member, leaves}
 use Rattle.sabr_frontier.specs.Formed.{Within}
 use Rattle.sabr_frontier.specs.Step.{least_carried}
-use Rattle.sabr_frontier.specs.Listing.{next_route}
+use Rattle.sabr_frontier.specs.Listing.{next_route, carries_it, hops_past, searches_for}
 use Rattle.sabr_frontier.specs.Shape.{Shape, shown, part_at, part_of, prefix_of, numbers_of, route_at, route_of}
 use Rattle.sabr_frontier.specs.Undo.{modify, last_item, front}
 use Rattle.sabr_frontier.specs.Queue.{InPairs, IsBefore, IsAtOrBehind, IsNotBetter}
 use Rattle.sabr_frontier.specs.Taking.{passing, stands_before, nodes_then, widened}
 use Rattle.sabr_frontier.specs.Sound.{IsTree, IsDividable, AreApart}
-use Rattle.sabr_frontier.proofs.Rising.{turned, true_or_false}
+use Rattle.sabr_frontier.proofs.Found.{found_is, none_found}
+use Rattle.sabr_frontier.proofs.Rising.{turned, true_or_false, is_equal}
 use Rattle.sabr_frontier.proofs.Beginnings.{lists_exact, number_after-split, number_after-snoc}
 use Rattle.sabr_frontier.proofs.Members.{Member-map, Member-map_cases, Member-append_left, Member-append_right, Less-apart}
-use Rattle.sabr_frontier.proofs.Closed.{tree_has}
+use Rattle.sabr_frontier.proofs.Closed.{tree_has, leaves_has}
+use Rattle.sabr_frontier.proofs.Trees.{Listed}
+use Rattle.sabr_frontier.proofs.Parting.{in_one_part}
+use Rattle.sabr_frontier.proofs.Paths.{routes_apart}
 use Rattle.sabr_frontier.proofs.Leaves.{closed_tree}
 use Rattle.sabr_frontier.proofs.Division.{begins_less, earlier_excludes}
 use Rattle.sabr_frontier.proofs.NextPlace.{least_carried_is, not_less_itself}
@@ -179,3 +186,35 @@ module _ {A : Type 0} (p : ContactPlan) (r : RouteRequest) (t : Shape A) (is : I
       -- the tree's least route is the least that a part carries
       pub next_is : next_route p r (shown t) ≡ Some x.contacts
       next_is = least_carried_is (key_total p r) (by_key_exact p r) parts here x.contacts here_in refl least_here
+
+      -- a part that carries the same route has the same prefix
+      leaf_route : (l : List ℕ) → has by_numbers l (leaves (is_route p r) (map pair_of parts)) ≡ true → is_route p r l ≡ true
+      leaf_route l h = (leaves_has (is_route p r) l (map pair_of parts) h).6
+
+      listed_within : (u : PartState) → Member u parts → (is_route p r x.contacts ≡ true) × Within u.prefix u.excluded x.contacts → Listed (leaves (is_route p r) (map pair_of parts)) u.prefix × Within u.prefix (numbers_after u.prefix (leaves (is_route p r) (map pair_of parts))) x.contacts
+      listed_within u m w =
+          let S : List (List ℕ) = leaves (is_route p r) (map pair_of parts) in
+          let h = tree_has u.prefix u.excluded S (subst (Member (pair_of u)) (closed_tree (is_route p r) (is_path p r) (is_prefix p r) (map pair_of parts) is.formed.order is.formed.closed) (Member-map pair_of u parts m)) in
+          (h.0, subst (λ Z. Within u.prefix Z x.contacts) h.1 w.1)
+
+      same_prefix : (u : PartState) → Member u parts → u.carried ≡ Some x.contacts → u.prefix ≡ prefix_of t.leaves n
+      same_prefix u m e =
+          let a = listed_within u m (is.formed.carried u x.contacts m e) in
+          let b = listed_within here here_in inside in
+          in_one_part (is_route p r) (routes_apart p r) (leaves (is_route p r) (map pair_of parts)) leaf_route x.contacts inside.0 u.prefix (prefix_of t.leaves n) a.0 b.0 a.1 b.1
+
+      carried_is : (u : PartState) → carries_it x.contacts u ≡ true → u.carried ≡ Some x.contacts
+      carried_is u h = elim u.carried as (λ o. option_map_or (same_numbers x.contacts) o false ≡ true → o ≡ Some x.contacts) [
+        | None ↦ λ k. absurd (true≢false (sym k))
+        | Some s ↦ λ k. ap Some (sym (lists_exact x.contacts s (is_equal (by_numbers x.contacts s) k)))
+      ] h
+
+      pub searches_are : searches_for (shown t) x.contacts ≡ length x.contacts - n.length
+      unfolding searches_for
+      searches_are = elim (find (carries_it x.contacts) parts) as (λ o. find (carries_it x.contacts) parts ≡ o → hops_past x.contacts o ≡ length x.contacts - n.length) [
+        | None ↦ λ e. absurd (none_found (carries_it x.contacts) parts e here here_in (ap is_eq (tied_itself nat_list_cmp_total x.contacts)))
+        | Some u ↦ λ e.
+            let w = found_is (carries_it x.contacts) parts u e in
+            let same = same_prefix u w.0 (carried_is u w.1) in
+            ap (λ q. length x.contacts - length q) same ∙ ap (λ d. length x.contacts - d) (prefix_length t.leaves n (is.lent n (get_Member t.nodes node.0 n stands)))
+      ] refl

@@ -13,5 +13,7 @@ pub mod Room
 pub mod Sound
 pub mod Prepared
 pub mod Session
+pub mod Views
+pub mod Root
 pub mod Laws
 pub mod Rows

@@ -1,5 +1,8 @@
 -- States and steps of the listing of a plan's routes.
-use Rattle.std.specs.Prelude.{ℕ, zero, suc, List, [], ◌∷◌, map, take, Option, Some, None}
+use Rattle.std.specs.Prelude.{ℕ, ◌+◌, ◌-◌, zero, suc, Bool, false, length, List, [], ◌∷◌, map, take, Option, Some, None}
+use Rattle.std.specs.List.{find}
+use Rattle.std.specs.Option.{option_map_or}
+use Rattle.sabr_model.specs.Order.{same_numbers}
 use Rattle.sabr_model.specs.Plan.{ContactPlan}
 use Rattle.sabr_model.specs.Arrival.{RouteRequest}
 use Rattle.sabr_model.specs.Route.{is_path, is_prefix, is_route, by_key}
@@ -38,3 +41,22 @@ given_first s rest = (s ∷ rest.0, rest.1)
 unfoldable pub steps : ContactPlan → RouteRequest → ℕ → State → List (List ℕ) × State
 steps p r zero s = ([], s)
 steps p r (suc k) s = elim (one_step p r s) [ None ↦ ([], s) | Some w ↦ given_first w.0 (steps p r k w.1) ]
+
+-- the part carries this route
+abbrev pub carries_it : List ℕ → PartState → Bool
+carries_it s u = option_map_or (same_numbers s) u.carried false
+
+-- the hops of a route behind a part's prefix
+abbrev pub hops_past : List ℕ → Option PartState → ℕ
+hops_past s None = 0
+hops_past s (Some u) = length s - length u.prefix
+
+-- how many searches it takes to give a route that a state carries: one for each hop behind the prefix of the part
+-- that carries it
+unfoldable pub searches_for : State → List ℕ → ℕ
+searches_for state s = hops_past s (find (carries_it s) state.parts)
+
+-- how many searches at most k steps take
+unfoldable pub searches_in : ContactPlan → RouteRequest → ℕ → State → ℕ
+searches_in p r zero s = 0
+searches_in p r (suc k) s = elim (one_step p r s) [ None ↦ 0 | Some w ↦ searches_for s w.0 + searches_in p r k w.1 ]

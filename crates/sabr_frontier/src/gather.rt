@@ -3,7 +3,7 @@
 ghost use Rattle.std.specs.Prelude.{◌≡◌, ℕ, ◌+◌, ◌*◌, ◌≤◌, ◌++◌, map, length, IfOk, OnOk};
 ghost use Rattle.sabr_model.specs.Plan.{IsPlan};
 ghost use Rattle.sabr_model.specs.Record.{record_of};
-ghost use Rattle.sabr_frontier.specs.Listing.{steps};
+ghost use Rattle.sabr_frontier.specs.Listing.{searches_in, steps};
 ghost use Rattle.sabr_frontier.specs.Shape.{shape_of, shown};
 ghost use Rattle.sabr_frontier.specs.Undo.{IsRoomy};
 ghost use Rattle.sabr_frontier.specs.Session.{IsSound, tree_before};
@@ -33,6 +33,7 @@ impl<A: Allocator + Copy> Tree<A> {
         ensures routes { OnOk result (given.new.items ≡ given.old.items ++ map (record_of plan.now.plan request.now) (steps plan.now.plan request.now count (shown (shape_of self.old))).0) }
         ensures state { OnOk result (shown (shape_of self.new) ≡ (steps plan.now.plan request.now count (shown (shape_of self.old))).1) }
         ensures entries { OnOk result (length self.new.journal.items ≡ length self.old.journal.items + length (steps plan.now.plan request.now count (shown (shape_of self.old))).0) }
+        ensures searches { IfOk result (λ n. n ≡ searches_in plan.now.plan request.now count (shown (shape_of self.old))) }
         ensures sound { IsSound plan.now.plan request.now (shape_of self.new) }
         ensures longer { length self.old.journal.items ≤ length self.new.journal.items }
         ensures back { tree_before (length self.old.journal.items) (shape_of self.new) ≡ shape_of self.old }

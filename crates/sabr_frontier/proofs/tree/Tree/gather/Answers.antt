@@ -1,15 +1,17 @@
-use Rattle.std.proofs.Common.{◌≡◌, ◌-◌, ◌+◌, ◌<◌, ◌++◌, ◌∷◌, [], ℕ, suc, List, length, arith, ap, sym, subst, ◌∙◌, Option}
+use Rattle.std.proofs.Common.{◌≡◌, ◌-◌, ◌+◌, ◌<◌, ◌++◌, ◌∷◌, [], ℕ, suc, List, length, arith, ap, sym, subst, ◌∙◌, inr, Option, zero-add}
 use Rattle.std.specs.Prelude.{IfSome}
 use Rattle.sabr_model.specs.Record.{RouteRecord}
 use Rattle.sabr_frontier.specs.Shape.{Shape, shape_of, shown}
 use Rattle.sabr_frontier.proofs.Giving.{is_given}
-use Rattle.sabr_frontier.proofs.Pages.{IsOnTheWay, at_first, one_on, at_last, at_end, sound_tree, none_there, some_there, last_steps}
+use Rattle.sabr_frontier.proofs.Pages.{IsOnTheWay, at_first, one_on, at_last, at_end, sound_tree, none_there, some_there, last_steps, counts_on, counts_idle, counts_none}
+use Rattle.sabr_frontier.specs.Listing.{searches_in}
 use Rattle.sabr_frontier.proofs.tree.Tree.gather.Goals as goal
 
 pub loop-init : goal.loop-init
 loop-init g c = record {
   way = at_first c.args.plan.now.plan c.args.request.now c.args.count (c.args.count - 0) (shape_of c.args.self.now) c.args.given.now.items (omega arith) c.requires.sound;
   room = c.requires.room;
+  sum = (let e : c.args.count - 0 ≡ c.args.count = omega arith in ap (λ n. 0 + searches_in c.args.plan.now.plan c.args.request.now n (shown (shape_of c.args.self.now))) e ∙ zero-add _);
   few = omega arith;
 }
 
@@ -61,6 +63,9 @@ loop-preserved g c =
       way = subst (λ (z : Shape g.row.A.Denot). IsOnTheWay p r (shown first) c.args.count first before (c.args.count - (c.loop.counter + 1)) z c.take.new.given.items) (sym c.in_ok-searches.ensures.ok)
           (one_on p r (shown first) c.args.count first before (c.args.count - (c.loop.counter + 1)) t c.loop.given.items c.take.new.given.items step given way);
       room = c.in_ok-searches.ensures.room;
+      sum = subst (λ (z : Shape g.row.A.Denot). (c.loop.searches + c.in_ok-searches.field-0) + searches_in p r (c.args.count - (c.loop.counter + 1)) (shown z) ≡ searches_in p r c.args.count (shown first)) (sym c.in_ok-searches.ensures.ok)
+          (counts_on p r t step (c.args.count - (c.loop.counter + 1)) c.loop.searches c.in_ok-searches.field-0 (searches_in p r c.args.count (shown first)) c.in_ok-searches.ensures.count
+              (subst (λ n. c.loop.searches + searches_in p r n (shown t) ≡ searches_in p r c.args.count (shown first)) left c.loop.invariant.sum));
       few = omega (arith, step.few, c.in_ok-searches.ensures.count, c.loop.invariant.few, c.requires.hops);
     }
 
@@ -78,3 +83,16 @@ pub returns-clause-entries : goal.returns-clause-entries
 returns-clause-entries g c =
     let none : c.args.count - c.loop.counter ≡ 0 = omega (arith, c.loop-test.false) in
     (at_last c.args.plan.now.plan c.args.request.now (shown (shape_of c.args.self.now)) c.args.count (shape_of c.args.self.now) c.args.given.now.items (c.args.count - c.loop.counter) (shape_of c.loop.self) c.loop.given.items (last_steps c.args.plan.now.plan c.args.request.now (shown (shape_of c.loop.self)) (c.args.count - c.loop.counter) none) c.loop.invariant.way).entries
+
+pub returns-then-is_empty-clause-searches : goal.returns-then-is_empty-clause-searches
+returns-then-is_empty-clause-searches g c =
+    let none = none_there _ _ c.is_empty.ensures c.if-is_empty.true in
+    let empty : length c.loop.self.queue.items ≡ 0 = omega (arith, none) in
+    let still = counts_idle c.args.plan.now.plan c.args.request.now c.requires.plan (shape_of c.loop.self) c.loop.invariant.way.sound (c.args.count - c.loop.counter) (inr empty) in
+    omega (arith, still, c.loop.invariant.sum)
+
+pub returns-clause-searches : goal.returns-clause-searches
+returns-clause-searches g c =
+    let none : c.args.count - c.loop.counter ≡ 0 = omega (arith, c.loop-test.false) in
+    let still = counts_none c.args.plan.now.plan c.args.request.now (shown (shape_of c.loop.self)) (c.args.count - c.loop.counter) none in
+    omega (arith, still, c.loop.invariant.sum)
