@@ -32,3 +32,4 @@ pub mod Sounds
 pub mod Giving
 pub mod Pages
 pub mod Roots
+pub mod NewRoutes

@@ -15,5 +15,6 @@ pub mod Prepared
 pub mod Session
 pub mod Views
 pub mod Root
+pub mod Fresh
 pub mod Laws
 pub mod Rows

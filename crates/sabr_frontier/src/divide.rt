@@ -8,7 +8,7 @@ ghost use Rattle.sabr_frontier.specs.Best.{best_of};
 ghost use Rattle.sabr_frontier.specs.Taking.{fresh_nodes, wide_of};
 
 use crate::excluded::Excluded;
-use crate::finder::{BestOf, Part};
+use crate::finder::{ask, BestOf};
 use crate::tree::Node;
 use sabr_model::{NoMemory, Numbers, Plan, Request, Route};
 use std::alloc::{Allocator, Global};
@@ -37,7 +37,7 @@ pub fn copied<A: Allocator + Copy>(alloc: A, route: &Route<A>) -> Result<Route<A
 }
 
 /// A node of a leaf, for the first `count` numbers of a route and its next number.
-fn fresh_node<B: BestOf, A: Allocator + Copy>(
+fn fresh_node<B: BestOf<A>, A: Allocator + Copy>(
     alloc: A,
     plan: &Plan<A>,
     request: &Request,
@@ -51,11 +51,13 @@ fn fresh_node<B: BestOf, A: Allocator + Copy>(
     ensures { IfOk result (λ n. n ≡ record { leaf = leaf; length = count; excluded = slice_index route.now count ∷ []; route = best_of plan.now.plan request.now (take count route.now) (slice_index route.now count ∷ []) }) }
 {
     let excluded = Excluded::one(alloc, route[count])?;
-    let part = Part {
-        prefix: &route[..count],
-        excluded: excluded.as_slice(),
-    };
-    let found = finder.best(plan, request, part)?;
+    let found = ask(
+        finder,
+        plan,
+        request,
+        &route[..count],
+        excluded.as_slice(),
+    )?;
     Ok(Node {
         leaf,
         length: count,
@@ -66,7 +68,7 @@ fn fresh_node<B: BestOf, A: Allocator + Copy>(
 
 /// The nodes of a leaf for the beginnings of a route from `first` numbers on, each with its next number
 /// excluded.
-fn fresh_nodes<B: BestOf, A: Allocator + Copy>(
+fn fresh_nodes<B: BestOf<A>, A: Allocator + Copy>(
     alloc: A,
     plan: &Plan<A>,
     request: &Request,
@@ -91,7 +93,7 @@ fn fresh_nodes<B: BestOf, A: Allocator + Copy>(
 
 /// Divides the part of a node by the route that it carries, a leaf of the number `leaf` from then on: one
 /// search for the part itself, and one for each new part.
-pub fn divide<B: BestOf, A: Allocator + Copy>(
+pub fn divide<B: BestOf<A>, A: Allocator + Copy>(
     alloc: A,
     plan: &Plan<A>,
     request: &Request,
@@ -110,11 +112,7 @@ pub fn divide<B: BestOf, A: Allocator + Copy>(
 {
     let count = node.length;
     let wide = node.excluded.with(alloc, route[count])?;
-    let part = Part {
-        prefix: &route[..count],
-        excluded: wide.as_slice(),
-    };
-    let found = finder.best(plan, request, part)?;
+    let found = ask(finder, plan, request, &route[..count], wide.as_slice())?;
     let fresh = fresh_nodes(alloc, plan, request, finder, leaf, route, count + 1)?;
     Ok(Division { wide, found, fresh })
 }

@@ -2,11 +2,12 @@
 
 ghost use Rattle.std.specs.Prelude.{◌≡◌, ◌≢◌, ℕ, ◌+◌, ◌<◌, ◌≤◌, ◌⊎◌, ◌↔◌, ◌∷◌, ◌++◌, [], map, length, is_some, None, IfOk, OnOk, OnErr, IsOk, IsTrue, IsFalse};
 ghost use Rattle.sabr_model.specs.Record.{record_of};
+ghost use Rattle.sabr_frontier.specs.Fresh.{GivesNewRoutes};
 ghost use Rattle.sabr_frontier.specs.Listing.{next_route, searches_in, state_at, steps};
 ghost use Rattle.sabr_frontier.specs.Session.{former_then, told_part};
 ghost use Rattle.sabr_frontier.specs.Views.{told_left};
 
-use crate::finder::{BestOf, Part};
+use crate::finder::{ask, BestOf};
 use crate::tree::Tree;
 use crate::views::Parts;
 use sabr_model::{NoMemory, Plan, Request, Route};
@@ -15,7 +16,7 @@ use std::marker::Model;
 
 /// A listing of the routes of a plan for a request, as far as they were given.
 #[derive(Drop)]
-pub struct Session<'p, B: BestOf, A: Allocator + Copy = Global> {
+pub struct Session<'p, B: BestOf<A>, A: Allocator + Copy = Global> {
     alloc: A,
     plan: &'p Plan<A>,
     request: Request,
@@ -25,7 +26,7 @@ pub struct Session<'p, B: BestOf, A: Allocator + Copy = Global> {
     searches: u64,
 }
 
-impl<'p, B: BestOf, A: Allocator + Copy> Model for Session<'p, B, A> {
+impl<'p, B: BestOf<A>, A: Allocator + Copy> Model for Session<'p, B, A> {
     ghost use Rattle.sabr_frontier.specs.Session.{Seen, IsSession, seen};
 
     ghost Value = { Seen };
@@ -35,7 +36,7 @@ impl<'p, B: BestOf, A: Allocator + Copy> Model for Session<'p, B, A> {
     ghost invariant = { λ s. IsSession s.plan.now s.request s.tree s.pages.items };
 }
 
-impl<'p, B: BestOf, A: Allocator + Copy> Session<'p, B, A> {
+impl<'p, B: BestOf<A>, A: Allocator + Copy> Session<'p, B, A> {
     /// A session of which no route was given yet. A refusal drops the finder.
     pub fn start(
         alloc: A,
@@ -46,12 +47,9 @@ impl<'p, B: BestOf, A: Allocator + Copy> Session<'p, B, A> {
         ensures { IfOk result (λ s. s ≡ record { plan = plan.now; request = request; state = state_at plan.now.plan request 0; former = []; searches = 1 }) }
     {
         // contracts learn here that the plan and the request keep their rules
-        let _ = (plan.contacts(), request.max_hops());
-        let all = Part {
-            prefix: &[],
-            excluded: &[],
-        };
-        let found = finder.best(plan, &request, all)?;
+        let _ = plan.contacts();
+        let _ = request.max_hops();
+        let found = ask(&mut finder, plan, &request, &[], &[])?;
         let tree = Tree::root(alloc, found)?;
         Ok(Session {
             alloc,
@@ -73,6 +71,7 @@ impl<'p, B: BestOf, A: Allocator + Copy> Session<'p, B, A> {
         ensures searches { OnOk result (self.new.searches ≡ searches_in self.old.plan.plan self.old.request count self.old.state) }
         ensures plan { self.new.plan ≡ self.old.plan }
         ensures request { self.new.request ≡ self.old.request }
+        ensures new_routes { GivesNewRoutes self.old.plan.plan self.old.request count self.old.state }
         ensures err { OnErr result (self.new ≡ self.old) }
         ensures free { (count ≡ 0) ⊎ (next_route self.old.plan.plan self.old.request self.old.state ≡ None) → IsOk result }
     {

@@ -27,7 +27,7 @@ pub struct Prepared<A: Allocator + Copy = Global> {
 
 impl<A: Allocator + Copy> Tree<A> {
     /// All searches for giving the route of a node, and the memory that they fill.
-    fn prepare<B: BestOf>(
+    fn prepare<B: BestOf<A>>(
         &self,
         alloc: A,
         plan: &Plan<A>,
@@ -63,7 +63,7 @@ impl<A: Allocator + Copy> Tree<A> {
 
     /// Gives the least route that a node carries, and answers how many searches that took. What may be refused
     /// comes before the first change.
-    pub fn take<B: BestOf>(
+    pub fn take<B: BestOf<A>>(
         &mut self,
         alloc: A,
         plan: &Plan<A>,

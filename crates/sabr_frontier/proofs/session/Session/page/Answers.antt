@@ -4,7 +4,9 @@ use Rattle.sabr_frontier.specs.State.{State}
 use Rattle.sabr_frontier.specs.Listing.{next_route, searches_in, steps}
 use Rattle.sabr_frontier.specs.Shape.{Shape, shape_of, shown}
 use Rattle.sabr_frontier.specs.Session.{Seen, AreStarts, IsSound, former_of, former_then, tree_before}
-use Rattle.sabr_frontier.proofs.Pages.{counts_idle, sound_undos, last_first, idle, busy, carried_or_not, none_there, some_there}
+use Rattle.sabr_frontier.proofs.Pages.{sound_tree, counts_idle, sound_undos, last_first, idle, busy, carried_or_not, none_there, some_there}
+use Rattle.sabr_frontier.specs.Fresh.{GivesNewRoutes}
+use Rattle.sabr_frontier.proofs.NewRoutes.{new_routes}
 use Rattle.sabr_frontier.proofs.session.Session.page.Goals as goal
 use Rattle.sabr_frontier.proofs.session.Session.page.Goals.{then-count-eq0-via-then-count-eq0, then-count-eq0-via-else-count-eq0+then-is_empty}
 
@@ -124,3 +126,31 @@ returns-then-count-eq0-clause-searches g c =
       | then-count-eq0-via-else-count-eq0+then-is_empty w ↦ inr (let z = none_there _ _ w.is_empty.ensures w.if-is_empty.true in omega (arith, z))
     ] in
     subst (λ (v : Seen). 0 ≡ searches_in v.plan.plan v.request k v.state) c.self.view_is (sym (counts_idle s.plan.now.plan s.request c.self.invariant.rules t c.self.invariant.sound k none))
+
+pub returns-then-count-eq0-clause-new_routes : goal.returns-then-count-eq0-clause-new_routes
+returns-then-count-eq0-clause-new_routes g c =
+    let s = c.self.inside in
+    let t = shape_of s.tree in
+    subst (λ (v : Seen). GivesNewRoutes v.plan.plan v.request c.args.count v.state) c.self.view_is
+        (new_routes s.plan.now.plan s.request c.self.invariant.rules c.args.count (shown t) (sound_tree s.plan.now.plan s.request (length t.journal) t c.self.invariant.sound).formed)
+
+pub returns-in_default-clause-new_routes : goal.returns-in_default-clause-new_routes
+returns-in_default-clause-new_routes g c =
+    let s = c.self.inside in
+    let t = shape_of s.tree in
+    subst (λ (v : Seen). GivesNewRoutes v.plan.plan v.request c.args.count v.state) c.self.view_is
+        (new_routes s.plan.now.plan s.request c.self.invariant.rules c.args.count (shown t) (sound_tree s.plan.now.plan s.request (length t.journal) t c.self.invariant.sound).formed)
+
+pub returns-in-Ok-gather-clause-new_routes : goal.returns-in-Ok-gather-clause-new_routes
+returns-in-Ok-gather-clause-new_routes g c =
+    let s = c.self.inside in
+    let t = shape_of s.tree in
+    subst (λ (v : Seen). GivesNewRoutes v.plan.plan v.request c.args.count v.state) c.self.view_is
+        (new_routes s.plan.now.plan s.request c.self.invariant.rules c.args.count (shown t) (sound_tree s.plan.now.plan s.request (length t.journal) t c.self.invariant.sound).formed)
+
+pub returns-in-Err-clause-new_routes : goal.returns-in-Err-clause-new_routes
+returns-in-Err-clause-new_routes g c =
+    let s = c.self.inside in
+    let t = shape_of s.tree in
+    subst (λ (v : Seen). GivesNewRoutes v.plan.plan v.request c.args.count v.state) c.self.view_is
+        (new_routes s.plan.now.plan s.request c.self.invariant.rules c.args.count (shown t) (sound_tree s.plan.now.plan s.request (length t.journal) t c.self.invariant.sound).formed)

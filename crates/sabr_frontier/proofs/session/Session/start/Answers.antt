@@ -7,8 +7,8 @@ use Rattle.sabr_frontier.specs.Best.{best_of}
 use Rattle.sabr_frontier.proofs.Roots.{root_is_tree, shown_root}
 use Rattle.sabr_frontier.proofs.session.Session.start.Goals as goal
 
-pub best-requires : goal.best-requires
-best-requires g c = empty_is_prefix c.args.plan.now.plan c.args.request
+pub ask-requires : goal.ask-requires
+ask-requires g c = empty_is_prefix c.args.plan.now.plan c.args.request
 
 pub invariant_of-result : goal.invariant_of-result
 invariant_of-result g c =
