@@ -24,6 +24,7 @@ module _ {X : Type 0} where
         | false ↦ λ e. or_right (p y) (list_any p ys) (any_found t p ys x e passes)
       ] found
 
+  -- where one passes, one is found
   pub found_any : (p : X → Bool) (xs : List X) → list_any p xs ≡ true → (x : X) × (find p xs ≡ Some x)
   found_any p [] h = absurd cc
   found_any p (y ∷ ys) h =
@@ -32,12 +33,15 @@ module _ {X : Type 0} where
         | false ↦ λ e. found_any p ys e
       ] h
 
+-- equal keys have equal starts
 same_start : (s t u v : ℕ) → t < 2 ^ 64 → v < 2 ^ 64 → start_key s t ≡ start_key u v → s ≡ u
 same_start s t u v a b e = omega (arith, a, b, e)
 
+-- equal keys have equal receivers
 same_receiver : (s t u v : ℕ) → t < 2 ^ 64 → v < 2 ^ 64 → start_key s t ≡ start_key u v → t ≡ v
 same_receiver s t u v a b e = omega (arith, a, b, e)
 
+-- a key that is listed is that of a standing contact
 opening_found : (p : ContactPlan) (q to start : ℕ) (ys : List ℕ) → IsPlan p → IsStartList p.contacts q ys → to < 2 ^ 64
     → (k : ℕ) × (k < length ys) × ((d : ℕ) → key_named p.contacts (get_or ys k d) ≡ start_key start to) → list_any (opens q to start) p.contacts ≡ true
 opening_found p q to start ys h l fits here =
@@ -50,6 +54,7 @@ opening_found p q to start ys h l fits here =
     (and_from (eqb q s.0.from) (eqb to s.0.to) (eq-eqb q s.0.from (sym s.2)) (eq-eqb to s.0.to (sym (same_receiver s.0.start s.0.to start to pair.1.1 fits key))))
     (eq-eqb start s.0.start (sym (same_start s.0.start s.0.to start to pair.1.1 fits key))))
 
+-- an opening whose key is not listed does not stand
 pub opening_missed : (p : ContactPlan) (q to start : ℕ) (ys : List ℕ) → IsPlan p → IsStartList p.contacts q ys
     → ((k d : ℕ) → k < length ys → key_named p.contacts (get_or ys k d) ≡ start_key start to → ⊥) → list_any (opens q to start) p.contacts ≡ false
 opening_missed p q to start ys h l none =

@@ -23,19 +23,23 @@ use Rattle.sabr_model.proofs.RangeLemmas.{all_at, accepted_range, same_key_overl
 
 -- ---- keys as numbers
 
+-- how less numbers compare
 cmp_less : (a b : ℕ) → a < b → nat_cmp a b ≡ Less
 cmp_less a b lt = ap (λ t. cond t Less (cond (eqb a b) Equal Greater)) (lt-ltb a b lt)
 
+-- how greater numbers compare
 cmp_greater : (a b : ℕ) → b < a → nat_cmp a b ≡ Greater
 cmp_greater a b lt =
     ap (λ t. cond t Less (cond (eqb a b) Equal Greater)) (le-ltb a b (omega (arith, lt)))
     ∙ ap (λ t. cond t Equal Greater) (ne_eqb a b (λ e. omega (arith, e, lt)))
 
+-- how equal numbers compare
 cmp_same : (a b : ℕ) → a ≡ b → nat_cmp a b ≡ Equal
 cmp_same a b e =
     ap (λ t. cond t Less (cond (eqb a b) Equal Greater)) (le-ltb a b (omega (arith, e)))
     ∙ ap (λ t. cond t Equal Greater) (eq-eqb a b e)
 
+-- the order of keys is that of their numbers
 pub key_cmp : (a b c d e f : ℕ) → b < 2 ^ 64 → c < 2 ^ 64 → e < 2 ^ 64 → f < 2 ^ 64 → by_numbers (a ∷ b ∷ c ∷ []) (d ∷ e ∷ f ∷ []) ≡ nat_cmp (place_number a b c) (place_number d e f)
 key_cmp a b c d e f hb hc he hf =
     elim (cases_order a d) [
@@ -56,6 +60,7 @@ key_cmp a b c d e f hb hc he hf =
           ]
     ]
 
+-- what compares as less is less
 pub lt_from_less : (a b : ℕ) → nat_cmp a b ≡ Less → a < b
 lt_from_less a b h =
     elim (cases_order a b) [
@@ -73,11 +78,13 @@ squeezed a b s d e u v hb hs he hu hv low high =
 
 -- ---- a plan's ranges
 
+-- what holds of all keys holds at each place
 key_at : (rs : List Range) (i : ℕ) (d : Range) (P : List ℕ → Type 0) → AllByRecursion P (map range_key rs) → i < length rs → P (range_key (get_or rs i d))
 key_at [] i d P all lt = absurd (omega arith)
 key_at (r ∷ rs) zero d P all lt = all.0
 key_at (r ∷ rs) (suc i) d P all lt = key_at rs i d P all.1 (omega arith)
 
+-- of two ranges the one in front has the lesser key
 sorted_keys : (rs : List Range) (i j : ℕ) (d : Range) → IsStrictlySortedBy by_numbers (map range_key rs) → i < j → j < length rs → by_numbers (range_key (get_or rs i d)) (range_key (get_or rs j d)) ≡ Less
 unfolding IsStrictlySortedBy
 sorted_keys [] i j d sorted lt within = absurd (omega arith)
@@ -85,6 +92,7 @@ sorted_keys (r ∷ rs) i zero d sorted lt within = absurd (omega arith)
 sorted_keys (r ∷ rs) zero (suc j) d sorted lt within = key_at rs j d (λ y. by_numbers (range_key r) y ≡ Less) sorted.0 (omega arith)
 sorted_keys (r ∷ rs) (suc i) (suc j) d sorted lt within = sorted_keys rs i j d sorted.1 (omega arith) (omega arith)
 
+-- two ranges of a plan do not overlap
 apart_at : (rs : List Range) (i j : ℕ) (d : Range) → none_twice overlap rs ≡ true → i < j → j < length rs → overlap (get_or rs i d) (get_or rs j d) ≡ false
 apart_at [] i j d none lt within = absurd (omega arith)
 apart_at (r ∷ rs) i zero d none lt within = absurd (omega arith)
@@ -93,6 +101,7 @@ apart_at (r ∷ rs) zero (suc j) d none lt within =
     all_at (λ s. overlap r s ≡ false) rs j d (any_none (overlap r) rs (not-true (list_any (overlap r) rs) parts.0)) (omega arith)
 apart_at (r ∷ rs) (suc i) (suc j) d none lt within = apart_at rs i j d (and_parts (not (list_any (overlap r) rs)) (none_twice overlap rs) none).1 (omega arith) (omega arith)
 
+-- a plan's ranges stand in order and apart
 pub range_list : (p : ContactPlan) → IsPlan p → IsRangeList p.ranges
 range_list p h =
     let rs = p.ranges in
@@ -116,12 +125,14 @@ range_list p h =
 
 -- ---- what a count tells
 
+-- nothing is found where nothing passes
 find_none : {X : Type 0} (p : X → Bool) (xs : List X) → ((k : ℕ) (d : X) → k < length xs → p (get_or xs k d) ≡ true → ⊥) → find p xs ≡ None
 find_none p [] none = refl
 find_none p (x ∷ xs) none =
     ap (λ b. cond b (Some x) (find p xs)) (false_from_ne_true (p x) (none zero x (omega arith)))
     ∙ find_none p xs (λ k d lt. none (suc k) d (omega arith))
 
+-- where one place alone can pass, it decides what is found
 find_only : {X : Type 0} (p : X → Bool) (xs : List X) (i : ℕ) (e : X) → i < length xs → ((k : ℕ) (d : X) → k < length xs → (k ≡ i → ⊥) → p (get_or xs k d) ≡ true → ⊥) → find p xs ≡ cond (p (get_or xs i e)) (Some (get_or xs i e)) None
 find_only p [] i e lt none = absurd (omega arith)
 find_only p (x ∷ xs) zero e lt none =
@@ -130,12 +141,14 @@ find_only p (x ∷ xs) (suc i) e lt none =
     ap (λ b. cond b (Some x) (find p xs)) (false_from_ne_true (p x) (none zero x (omega arith) (λ q. omega (arith, q))))
     ∙ find_only p xs i e (omega arith) (λ k d within ne. none (suc k) d (omega arith) (λ q. ne (omega (arith, q))))
 
+-- where no place passes, none passes
 any_from_none : {X : Type 0} (p : X → Bool) (xs : List X) → ((k : ℕ) (d : X) → k < length xs → p (get_or xs k d) ≡ true → ⊥) → list_any p xs ≡ false
 any_from_none p [] none = refl
 any_from_none p (x ∷ xs) none =
     ap (λ b. b || list_any p xs) (false_from_ne_true (p x) (none zero x (omega arith)))
     ∙ any_from_none p xs (λ k d lt. none (suc k) d (omega arith))
 
+-- within a list the default plays no part
 default_free : {X : Type 0} (xs : List X) (i : ℕ) (d e : X) → i < length xs → get_or xs i d ≡ get_or xs i e
 default_free [] i d e lt = absurd (omega arith)
 default_free (x ∷ xs) zero d e lt = refl
@@ -145,6 +158,7 @@ default_free (x ∷ xs) (suc i) d e lt = default_free xs i d e (omega arith)
 abbrev pub in_force : ℕ → ℕ → ℕ → Range → Bool
 in_force one other t r = (eqb r.one one) && (eqb r.other other) && is_within r.start r.end t
 
+-- what a range in force is
 force_parts : (one other t : ℕ) (r : Range) → in_force one other t r ≡ true → (r.one ≡ one) × (r.other ≡ other) × (r.start ≤ t) × (t < r.end)
 force_parts one other t r h =
     let a = and_parts (eqb r.one one && eqb r.other other) (is_within r.start r.end t) h in
@@ -152,6 +166,7 @@ force_parts one other t r h =
     let c = and_parts (leb r.start t) (ltb t r.end) a.1 in
     (eqb-true r.one one b.0, eqb-true r.other other b.1, leb-true r.start t c.0, ltb-true t r.end c.1)
 
+-- what overlapping ranges are
 overlap_parts : (r s : Range) → overlap r s ≡ true → (r.one ≡ s.one) × (r.other ≡ s.other) × (r.start < s.end) × (s.start < r.end)
 overlap_parts r s h =
     let a = and_parts (eqb r.one s.one && eqb r.other s.other && ltb r.start s.end) (ltb s.start r.end) h in
@@ -159,6 +174,7 @@ overlap_parts r s h =
     let c = and_parts (eqb r.one s.one) (eqb r.other s.other) b.0 in
     (eqb-true r.one s.one c.0, eqb-true r.other s.other c.1, ltb-true r.start s.end b.1, ltb-true s.start r.end a.1)
 
+-- ranges that overlap, from the parts
 overlap_from : (r s : Range) → r.one ≡ s.one → r.other ≡ s.other → r.start < s.end → s.start < r.end → overlap r s ≡ true
 overlap_from r s one other a b =
     and_from (eqb r.one s.one && eqb r.other s.other && ltb r.start s.end) (ltb s.start r.end)
@@ -250,6 +266,7 @@ module _ (rs : List Range) (h : IsRangeList rs) where
             ])
             ∙ sym not_here
 
+-- a count that is not 0 is one more than some number
 count_above : (rs : List Range) (number count : ℕ) → IsCountUntil rs number count → (count ≡ 0 → ⊥) → IsCountUntil rs number (count - 1 + 1)
 count_above rs number count c ne = let same : count ≡ count - 1 + 1 = omega (arith, ne) in subst (IsCountUntil rs number) same c
 
@@ -258,18 +275,22 @@ pub light_told : (rs : List Range) (one other t count : ℕ) (e : Range) → IsR
     → light_of_pair rs one other t ≡ cond (in_force one other t (get_or rs (count - 1) e)) (Some (get_or rs (count - 1) e).light) None
 light_told rs one other t count e h a b c ne = last_in_force rs h one other t a b (count - 1) e (count_above rs (place_number one other t) count c ne)
 
+-- whether a range overlaps, told by the last that begins before its end
 pub overlap_told : (rs : List Range) (r : Range) (count : ℕ) (e : Range) → IsRangeList rs → r.start < r.end → r.other < 2 ^ 64 → r.end < 2 ^ 64 → IsCountUntil rs (place_number r.one r.other (r.end - 1)) count → (count ≡ 0 → ⊥)
     → list_any (overlap r) rs ≡ overlap r (get_or rs (count - 1) e)
 overlap_told rs r count e h w a b c ne = last_overlaps rs h r w a b (count - 1) e (count_above rs (place_number r.one r.other (r.end - 1)) count c ne)
 
+-- no range gives a light time where none comes by then
 pub light_none : (rs : List Range) (one other t count : ℕ) → IsRangeList rs → other < 2 ^ 64 → t < 2 ^ 64 → IsCountUntil rs (place_number one other t) count → count ≡ 0 → light_of_pair rs one other t ≡ None
 light_none rs one other t count h a b c e = none_in_force rs h one other t a b (subst (IsCountUntil rs (place_number one other t)) e c)
 
+-- no range overlaps where none begins before its end
 pub overlap_none : (rs : List Range) (r : Range) (count : ℕ) → IsRangeList rs → r.start < r.end → r.other < 2 ^ 64 → r.end < 2 ^ 64 → IsCountUntil rs (place_number r.one r.other (r.end - 1)) count → count ≡ 0 → list_any (overlap r) rs ≡ false
 overlap_none rs r count h w a b c e = none_overlaps rs h r w a b (subst (IsCountUntil rs (place_number r.one r.other (r.end - 1))) e c)
 
 -- ---- light times
 
+-- a pair's light time is within the limit
 light_limit : (p : ContactPlan) (one other t : ℕ) → IsPlan p → IfSome (light_of_pair p.ranges one other t) (λ l. l ≤ 1000000)
 light_limit p one other t h = by (find (in_force one other t) p.ranges) refl
   where
@@ -277,10 +298,12 @@ light_limit p one other t h = by (find (in_force one other t) p.ranges) refl
     by None e = subst (λ (o : Option Range). IfSome (option_map (λ r. r.light) o) (λ l. l ≤ 1000000)) (sym e) tt
     by (Some r) e = subst (λ (o : Option Range). IfSome (option_map (λ r. r.light) o) (λ l. l ≤ 1000000)) (sym e) (all_found (λ s. s.light ≤ 1000000) (in_force one other t) p.ranges r h.lights e)
 
+-- the first of two values, each within the limit, is within it
 or_else_limit : (o u : Option ℕ) → IfSome o (λ l. l ≤ 1000000) → IfSome u (λ l. l ≤ 1000000) → IfSome (or_else o u) (λ l. l ≤ 1000000)
 or_else_limit None u a b = b
 or_else_limit (Some x) u a b = a
 
+-- a contact's light time is within the limit
 pub light_of_limit : (p : ContactPlan) (c : Contact) → IsPlan p → IfSome (light_of p c) (λ l. l ≤ 1000000)
 light_of_limit p c h =
     or_else_limit (light_of_pair p.ranges c.from c.to c.start) (cond (ltb c.to c.from) (light_of_pair p.ranges c.to c.from c.start) None)

@@ -24,6 +24,7 @@ pub record IsAcceptedRange (p : ContactPlan) (r : Range) : Type 0 where
   pub new : list_any (overlap r) p.ranges ≡ false
   pub room : length p.ranges < 20000
 
+-- where no refusal comes, each test failed
 choice : (a b c d : Bool) → cond a (Some EmptyWindow) (cond b (Some SelfPair) (cond c (Some RangeOverlap) (cond d (Some TooMany) None))) ≡ None → (a ≡ false) × (b ≡ false) × (c ≡ false) × (d ≡ false)
 choice true b c d e = absurd cc
 choice false true c d e = absurd cc
@@ -31,21 +32,25 @@ choice false false true d e = absurd cc
 choice false false false true e = absurd cc
 choice false false false false e = (refl, refl, refl, refl)
 
+-- what is known of a range that is not refused
 pub accepted_range : (p : ContactPlan) (r : Range) → range_refusal p r ≡ None → IsAcceptedRange p r
 accepted_range p r e =
     let parts = choice (leb r.end r.start) (eqb r.one r.other) (list_any (overlap r) p.ranges) (leb 20000 (length p.ranges)) e in
     record { window = leb-false r.end r.start parts.0; apart = parts.1; new = parts.2; room = leb-false 20000 (length p.ranges) parts.3 }
 
+-- and, the other way round
 and_swap : (a b : Bool) → (a && b) ≡ (b && a)
 and_swap true true = refl
 and_swap true false = refl
 and_swap false true = refl
 and_swap false false = refl
 
+-- and, grouped the other way
 and_assoc : (a b c : Bool) → ((a && b) && c) ≡ (a && (b && c))
 and_assoc true b c = refl
 and_assoc false b c = refl
 
+-- overlap holds both ways round
 overlap_flip : (a b : Range) → overlap a b ≡ overlap b a
 overlap_flip a b =
     ap (λ x. x && eqb a.other b.other && ltb a.start b.end && ltb b.start a.end) (eqb_flip a.one b.one)
@@ -65,6 +70,7 @@ module _ {X : Type 0} (cmp : X → X → Ordering) where
         | Greater ↦ or_from (p y) (list_any p (put_in cmp x ys)) parts.0 (any_put p x ys one parts.1)
       ]
 
+  -- where no two pass a test, none do behind an element that passes with none
   none_twice-put : (same : X → X → Bool) → ((x y : X) → same x y ≡ same y x) → (x : X) (ys : List X) → none_twice same ys ≡ true → list_any (same x) ys ≡ false → none_twice same (put_in cmp x ys) ≡ true
   none_twice-put same flips x [] none new = refl
   none_twice-put same flips x (y ∷ ys) none new =
@@ -78,6 +84,7 @@ module _ {X : Type 0} (cmp : X → X → Ordering) where
             (none_twice-put same flips x ys parts.1 other.1)
       ]
 
+  -- a put adds one at most
   length-put_le : (x : X) (ys : List X) → length (put_in cmp x ys) ≤ length ys + 1
   length-put_le x [] = omega arith
   length-put_le x (y ∷ ys) =
@@ -93,6 +100,7 @@ module _ {X : Type 0} (cmp : X → X → Ordering) where
       ap (λ zs. y ∷ zs) (insert_is_put x ys i (omega arith) (λ k lt. before (suc k) (omega arith)) (λ lt. at (omega arith)))
       ∙ ap (λ o. elim o as (λ _. List X) [ Less ↦ x ∷ y ∷ ys | Equal ↦ y ∷ ys | Greater ↦ y ∷ put_in cmp x ys ]) (sym (before zero (omega arith)))
 
+-- the keys behind a put
 keys-put : (r : Range) (rs : List Range) → map range_key (put_in by_range_key r rs) ≡ put_in by_numbers (range_key r) (map range_key rs)
 keys-put r [] = refl
 keys-put r (s ∷ rs) =
@@ -102,6 +110,7 @@ keys-put r (s ∷ rs) =
       | Greater ↦ ap (λ ks. range_key s ∷ ks) (keys-put r rs)
     ]
 
+-- a plan with one range more that is not refused is a plan
 pub IsPlan-range : (p : ContactPlan) (r : Range) → IsPlan p → IsNode r.one → IsNode r.other → r.end ≤ last_time → r.light ≤ 1000000 → range_refusal p r ≡ None → IsPlan (with_range p r)
 IsPlan-range p r h one other ends light accept =
     let a = accepted_range p r accept in
@@ -134,11 +143,13 @@ same_key_overlaps r s a b e =
     (lt-ltb r.start s.end (omega (arith, start, b))))
     (lt-ltb s.start r.end (omega (arith, start, a)))
 
+-- what holds of all holds at each place
 pub all_at : {X : Type 0} (P : X → Type 0) (xs : List X) (i : ℕ) (d : X) → AllByRecursion P xs → i < length xs → P (get_or xs i d)
 all_at P [] i d all lt = absurd (omega arith)
 all_at P (x ∷ xs) zero d all lt = all.0
 all_at P (x ∷ xs) (suc i) d all lt = all_at P xs i d all.1 (omega arith)
 
+-- neither greater nor equal is less
 order_left : (o : Ordering) → o ≢ Greater → o ≢ Equal → o ≡ Less
 order_left Less a b = refl
 order_left Equal a b = absurd (b refl)

@@ -1,11 +1,11 @@
 -- What a plan shows of its table of nodes.
-use Rattle.std.proofs.Common.{◌≡◌, ℕ, ◌^◌, ◌<◌, ◌≤◌, Bool, true, false, cond, ◌||◌, not, eqb, ltb, List, [], ◌∷◌, length, get_or, map, refl, sym, ap, subst, ◌∙◌, inl, inr, arith}
+use Rattle.std.proofs.Common.{◌≡◌, ℕ, zero, suc, ◌^◌, ◌<◌, ◌≤◌, Bool, true, false, cond, ◌||◌, not, eqb, ltb, List, [], ◌∷◌, length, get_or, map, refl, sym, ap, subst, ◌∙◌, inl, inr, arith}
 use Rattle.std.specs.Prelude.{nat_eq, slice_get, MatchOption, unwrap_or}
 use Rattle.std.specs.List.{filter, find, list_any, position, position_or_len, AllByRecursion, IsDistinct}
 use Rattle.std.specs.List.Sorted.{IsNonDecreasingBy}
 use Rattle.std.specs.Map.{keys_of}
 use Rattle.std.specs.Option.{option_map_or}
-use Rattle.std.proofs.lemmas.Bool.{and_from, and_parts, or_cases, or_left, or_right, not_from_false, ltb-false, ne_eqb, eqb-true, eq-eqb, both_ways, false_from_ne_true}
+use Rattle.std.proofs.lemmas.Bool.{and_from, and_parts, not-true, or_cases, or_left, or_right, not_from_false, ltb-false, ne_eqb, eqb-true, eq-eqb, both_ways, false_from_ne_true}
 use Rattle.std.proofs.lemmas.List.Folds.{find_at}
 use Rattle.std.proofs.lemmas.List.Quantifiers.{position-Some}
 use Rattle.std.proofs.lemmas.Option.{slice_get-get_or, slice_get_past}
@@ -24,20 +24,24 @@ use Rattle.sabr_model.proofs.Has.{eqb_flip, has_at}
 use Rattle.sabr_model.proofs.TableLemmas.{has_node}
 use Rattle.sabr_model.proofs.Without.{all_above}
 
+-- a number unequal to each is not in the list
 none_equal : (n : ℕ) (xs : List ℕ) → AllByRecursion (λ y. nat_eq n y ≡ false) xs → has n xs ≡ false
 none_equal n [] all = refl
 none_equal n (x ∷ xs) all = ap (λ b. b || has n xs) all.0 ∙ none_equal n xs all.1
 
+-- distinct numbers are different
 pub different_from_distinct : (xs : List ℕ) → IsDistinct nat_eq xs → are_different xs ≡ true
 unfolding IsDistinct
 different_from_distinct [] d = refl
 different_from_distinct (x ∷ xs) d = and_from (not (has x xs)) (are_different xs) (not_from_false (has x xs) (none_equal x xs d.0)) (different_from_distinct xs d.1)
 
+-- a plan shows its table of nodes
 pub is_tabled : {S A : Type 0} (p : ContactPlan) (table : IndexMap ℕ (Sent A) S) → IsTableOf p.contacts table → IsTabled (record { plan = p; table = keys table })
 is_tabled p table h = record { nodes = λ q. has_node p.contacts table q h; once = different_from_distinct (keys_of table.entries) h.unique }
 
 -- ---- the place of a node
 
+-- where nothing is found, none passes
 none_any : {X : Type 0} (p : X → Bool) (xs : List X) → find p xs ≡ None → list_any p xs ≡ false
 none_any p [] e = refl
 none_any p (x ∷ xs) e =
@@ -46,6 +50,7 @@ none_any p (x ∷ xs) e =
       | false ↦ λ h. none_any p xs h
     ] e
 
+-- a place that is found holds the node, and none means that it is missing
 pub index_tells : (xs : List ℕ) (n : ℕ) → MatchOption (position (nat_eq n) xs) (has n xs ≡ false) (λ k. slice_get xs k ≡ Some n)
 index_tells xs n = by (position (nat_eq n) xs) refl
   where
@@ -61,6 +66,7 @@ index_tells xs n = by (position (nat_eq n) xs) refl
         (false_from_ne_true (ltb (position_or_len (nat_eq n) xs) (length xs)) (λ t.
         let here : Some (position_or_len (nat_eq n) xs) ≡ None = sym (ap (λ b. cond b (Some (position_or_len (nat_eq n) xs)) None) t) ∙ e in absurd cc))))
 
+-- a node of the table is found
 pub index_of_member : (xs : List ℕ) (n : ℕ) (o : Option ℕ) → MatchOption o (has n xs ≡ false) (λ k. slice_get xs k ≡ Some n) → has n xs ≡ true → slice_get xs (unwrap_or o 0) ≡ Some n
 index_of_member xs n None h there = absurd (both_ways (has n xs) h there)
 index_of_member xs n (Some k) h there = h
@@ -110,6 +116,7 @@ number_sent (x ∷ cs) n c found =
 starts_not_fall : (s t u v : ℕ) → v < 2 ^ 64 → start_key s t ≤ start_key u v → s ≤ u
 starts_not_fall s t u v lt le = omega (arith, lt, le)
 
+-- the starts of a list by start do not fall
 starts_rise : (p : ContactPlan) (q : ℕ) (ys : List ℕ) → IsPlan p → IsStartList p.contacts q ys → IsNonDecreasingBy (start_named p) ys
 starts_rise p q ys h l i j d le lt =
     let a = sent_number 0 p.contacts q (get_or ys i d) h.numbers_rise (sym (l.members (get_or ys i d)) ∙ has_at ys i d (omega arith)) in
@@ -123,6 +130,7 @@ starts_rise p q ys h l i j d le lt =
     let starts = starts_not_fall a.0.start a.0.to b.0.start b.0.to to.1.1 (omega (arith, keys, key_a, key_b)) in
     omega (arith, starts, start_a, start_b)
 
+-- a list by start is an open list at any second
 pub is_open_list : (p : ContactPlan) (q at : ℕ) (ys : List ℕ) → IsPlan p → IsStartList p.contacts q ys → IsOpenList p q at ys
 is_open_list p q at ys h l =
     record {
@@ -136,3 +144,23 @@ is_open_list p q at ys h l =
 -- what a contact's number names is the contact
 pub names_itself : (cs : List Contact) (n : ℕ) (c : Contact) → find (λ d. eqb d.number n) cs ≡ Some c → find (λ d. eqb d.number c.number) cs ≡ Some c
 names_itself cs n c found = subst (λ m. find (λ d. eqb d.number m) cs ≡ Some c) (sym (eqb-true c.number n (found_passes (λ d. eqb d.number n) cs c found))) found
+
+-- what stands at a place is in the list
+pub has_place : (xs : List ℕ) (k n : ℕ) → slice_get xs k ≡ Some n → has n xs ≡ true
+has_place [] k n e = absurd cc
+has_place (x ∷ xs) zero n e = let same : n ≡ x = cc in or_left (eqb n x) (has n xs) (eq-eqb n x same)
+has_place (x ∷ xs) (suc k) n e = or_right (eqb n x) (has n xs) (has_place xs k n e)
+
+-- a node stands at one place of the table
+pub place_one : (xs : List ℕ) (i j n : ℕ) → are_different xs ≡ true → slice_get xs i ≡ Some n → slice_get xs j ≡ Some n → i ≡ j
+place_one [] i j n d a b = absurd cc
+place_one (x ∷ xs) zero zero n d a b = refl
+place_one (x ∷ xs) zero (suc j) n d a b =
+    let apart = not-true (has x xs) (and_parts (not (has x xs)) (are_different xs) d).0 in
+    let same : x ≡ n = cc in
+    absurd (both_ways (has x xs) apart (subst (λ m. has m xs ≡ true) (sym same) (has_place xs j n b)))
+place_one (x ∷ xs) (suc i) zero n d a b =
+    let apart = not-true (has x xs) (and_parts (not (has x xs)) (are_different xs) d).0 in
+    let same : x ≡ n = cc in
+    absurd (both_ways (has x xs) apart (subst (λ m. has m xs ≡ true) (sym same) (has_place xs i n a)))
+place_one (x ∷ xs) (suc i) (suc j) n d a b = ap suc (place_one xs i j n (and_parts (not (has x xs)) (are_different xs) d).1 a b)

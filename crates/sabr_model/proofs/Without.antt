@@ -32,10 +32,12 @@ all_above low (x ∷ cs) rises =
 abbrev pub IsOne : Contact → ℕ → List Contact → Type 0
 IsOne c n cs = AllByRecursion (λ d. eqb d.number n ≡ true → d ≡ c) cs
 
+-- no contact above the number has it
 none_above : (c : Contact) (n : ℕ) (cs : List Contact) → AllByRecursion (λ d. n < d.number) cs → IsOne c n cs
 none_above c n [] all = tt
 none_above c n (d ∷ cs) all = ((λ e. absurd (let lt : n < d.number = all.0 in omega (arith, eqb-true d.number n e, lt))), none_above c n cs all.1)
 
+-- only the contact found has its number
 pub is_one : (low : ℕ) (cs : List Contact) (n : ℕ) (c : Contact) → rises_above low (map (λ d. d.number) cs) ≡ true → find (λ d. eqb d.number n) cs ≡ Some c → IsOne c n cs
 is_one low [] n c rises found = tt
 is_one low (x ∷ cs) n c rises found = by (is_one x.number cs n c (and_parts (ltb low x.number) (rises_above x.number (map (λ d. d.number) cs)) rises).1) (eqb x.number n) refl
@@ -129,6 +131,7 @@ ends_of_found (x ∷ cs) n c found = by (ends_of_found cs n c) (eqb x.number n) 
           or_right (eqb c.to x.from) (eqb c.to x.to || has c.to (ends_of cs)) (or_right (eqb c.to x.to) (has c.to (ends_of cs)) rest.1),
         )
 
+-- what a node sends without one number
 pub sent_by-without : (cs : List Contact) (n q : ℕ) → sent_by (without_number n cs) q ≡ filter (λ k. not (eqb k n)) (sent_by cs q)
 sent_by-without [] n q = refl
 sent_by-without (x ∷ cs) n q =
@@ -157,9 +160,11 @@ find-without (x ∷ cs) n m ne =
       | false ↦ λ e. ap (λ o. cond (eqb x.number m) (Some x) o) (find-without cs n m ne)
     ] refl
 
+-- a number that is left is not the one taken out
 left_number : (ys : List ℕ) (n m : ℕ) → has m (filter (λ k. not (eqb k n)) ys) ≡ true → eqb m n ≡ false
 left_number ys n m h = not-true (eqb m n) (and_parts (has m ys) (not (eqb m n)) (sym (has-without ys n m) ∙ h)).1
 
+-- the list by start without one number
 pub IsStartList-without : (cs : List Contact) (n q : ℕ) (ys : List ℕ) → IsStartList cs q ys → IsStartList (without_number n cs) q (filter (λ k. not (eqb k n)) ys)
 IsStartList-without cs n q ys h =
     let zs = filter (λ k. not (eqb k n)) ys in
@@ -178,10 +183,12 @@ IsStartList-without cs n q ys h =
 
 -- ---- the table
 
+-- a node that is both sender and receiver goes once
 two : {X : Type 0} (u : Bool) (x : X) → cond (not u) None (cond (not u) None (Some x)) ≡ then_some u x
 two true x = refl
 two false x = refl
 
+-- a node goes unless it is used
 once_gone : {X : Type 0} (u : Bool) (x : X) → cond (not u) None (Some x) ≡ then_some u x
 once_gone true x = refl
 once_gone false x = refl
@@ -210,6 +217,7 @@ was_there false false true f (Some ys) zs e = (ys, refl, cc)
 was_there false false false f None zs e = absurd cc
 was_there false false false f (Some ys) zs e = (ys, refl, cc)
 
+-- the table behind a deletion
 pub IsTableOf-without : {S A : Type 0} (low : ℕ) (cs : List Contact) (c : Contact) (t0 t1 t2 t3 : IndexMap ℕ (Sent A) S) (from_used to_used : Bool)
     → rises_above low (map (λ d. d.number) cs) ≡ true → find (λ d. eqb d.number c.number) cs ≡ Some c → IsTableOf cs t0 → IsUnique nat_eq t3
     → from_used ≡ has c.from (ends_of (without_number c.number cs)) → to_used ≡ has c.to (ends_of (without_number c.number cs))

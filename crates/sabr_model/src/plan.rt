@@ -8,11 +8,13 @@ mod light;
 mod nodes;
 pub mod places;
 mod ranges;
+mod ready;
 mod views;
 
 ghost use Rattle.std.specs.Prelude.{◌≡◌, []};
 
 use crate::contact::{Contact, Range};
+use crate::hop::Hop;
 use crate::node_table::NodeTable;
 pub use arriving::arrive;
 use indexmap::IndexMap;
@@ -29,18 +31,22 @@ pub struct Plan<A: Allocator + Copy = Global> {
     ranges: Vec<Range, A>,
     table: NodeTable<A>,
     greatest: u32,
+    hops: Vec<Hop, A>,
+    longest: Vec<u64, A>,
+    settled: bool,
 }
 
 impl<A: Allocator + Copy> Model for Plan<A> {
     ghost use Rattle.indexmap.specs.IndexMap.{keys};
     ghost use Rattle.sabr_model.specs.Plan.{TabledPlan, IsPlan};
     ghost use Rattle.sabr_model.specs.Table.{IsTableOf};
+    ghost use Rattle.sabr_model.specs.Ready.{IsReady};
 
     ghost Value = { TabledPlan };
 
     ghost view = { λ a. record { plan = record { contacts = a.contacts.items; ranges = a.ranges.items; greatest = a.greatest }; table = keys a.table } };
 
-    ghost invariant = { λ a. IsPlan (record { contacts = a.contacts.items; ranges = a.ranges.items; greatest = a.greatest }) × IsTableOf a.contacts.items a.table };
+    ghost invariant = { λ a. IsPlan (record { contacts = a.contacts.items; ranges = a.ranges.items; greatest = a.greatest }) × IsTableOf a.contacts.items a.table × IsReady a.settled (record { plan = record { contacts = a.contacts.items; ranges = a.ranges.items; greatest = a.greatest }; table = keys a.table }) a.hops.items a.longest.items };
 }
 
 impl<A: Allocator + Copy> Plan<A> {
@@ -54,6 +60,9 @@ impl<A: Allocator + Copy> Plan<A> {
             ranges: Vec::new(alloc),
             table: IndexMap::new(alloc),
             greatest: 0,
+            hops: Vec::new(alloc),
+            longest: Vec::new(alloc),
+            settled: false,
         }
     }
 }

@@ -36,6 +36,7 @@ impl<A: Allocator + Copy> Plan<A> {
             return Err(AddFault::NothingToDelete);
         };
         let contact = *contact;
+        self.settled = false;
         forget_contact(&mut self.table, &self.contacts, &contact);
         self.contacts.retain(|c| !(c.number == contact.number));
         Ok(contact.number)
@@ -53,6 +54,7 @@ impl<A: Allocator + Copy> Plan<A> {
         if !self.has_range(one, other, start) {
             return Err(AddFault::NothingToDelete);
         }
+        self.settled = false;
         self.ranges.retain(|r| !(one == r.one && other == r.other && start == r.start));
         Ok(())
     }

@@ -1,11 +1,15 @@
 //! The nodes of a plan, each by its index in the table, and the contacts that one node sends.
 
-ghost use Rattle.std.specs.Prelude.{◌≡◌, ◌<◌, [], ℕ, Some, None, MatchOption, IfSome, IsFalse, length, slice_get};
+ghost use Rattle.std.specs.Prelude.{◌≡◌, ◌<◌, [], ℕ, Some, None, MatchOption, IfSome, IsFalse, length, slice_get, slice_index_or, ◌≤◌};
+ghost use Rattle.std.specs.List.Sorted.{IsNonDecreasingBy};
+ghost use Rattle.sabr_model.specs.declared.contact.Contact.{Contact};
 ghost use Rattle.sabr_model.specs.Plan.{IsPlan, contact_named, has};
 ghost use Rattle.sabr_model.specs.Table.{sent_by, node_count};
-ghost use Rattle.sabr_model.specs.Tabled.{IsTabled, IsOpenList, IsHopNamed};
+ghost use Rattle.sabr_model.specs.Tabled.{IsTabled, IsOpenList, IsHopNamed, start_named};
 
 use super::Plan;
+use super::places::{first_open, place_of_number};
+use super::ready::{hop_of_contact, length_at};
 use crate::contact::Contact;
 use crate::hop::Hop;
 use std::alloc::Allocator;
@@ -37,6 +41,17 @@ impl<A: Allocator + Copy> Plan<A> {
         self.table.get_index_of(&node)
     }
 
+    /// The node at an index of the table.
+    pub fn node(&self, index: usize) -> u64
+        requires { index < length self.now.table }
+        ensures { slice_get self.now.table index ≡ Some result }
+    {
+        match self.table.get_index(index) {
+            Some((node, _)) => *node,
+            None => 0,
+        }
+    }
+
     /// The index of a standing contact's receiver.
     pub fn receiver(&self, contact: &Contact) -> usize
         requires { contact_named self.now.plan contact.now.number ≡ Some contact.now }
@@ -46,26 +61,44 @@ impl<A: Allocator + Copy> Plan<A> {
     }
 
     /// The numbers of the contacts that a node sends, by start, without such as have ended by `at`, or with some of these.
+    ///
+    /// Where the plan is settled, those are left out that start so early that none of the node's contacts lasts until then.
     pub fn open_contacts(&self, index: usize, at: u64) -> &[u32]
         requires { index < length self.now.table }
         ensures { (node : ℕ) → slice_get self.now.table index ≡ Some node → IsOpenList self.now.plan node at result.now }
     {
         match self.table.get_index(index) {
-            Some((_, sent)) => &sent.by_start,
+            Some((_, sent)) => {
+                let numbers: &[u32] = &sent.by_start;
+                let first = self.first_open_of(index, numbers, at);
+                &numbers[first..]
+            }
             None => &[],
         }
     }
 
-    /// The standing contact of a number, as a search reads it.
+    /// A place of a node's numbers by start before which all contacts have ended by `at`.
+    fn first_open_of(&self, index: usize, numbers: &[u32], at: u64) -> usize
+        requires { IsNonDecreasingBy (start_named self.now.plan) numbers.now }
+        ensures within { result ≤ length numbers.now }
+        ensures ended { (node : ℕ) → slice_get self.now.table index ≡ Some node → (k d : ℕ) (c : Contact) → k < result → contact_named self.now.plan (slice_index_or numbers.now k d) ≡ Some c → c.from ≡ node → c.end ≤ at }
+    {
+        if self.settled {
+            first_open(&self.contacts, numbers, length_at(&self.longest, index), at)
+        } else {
+            0
+        }
+    }
+
+    /// The standing contact of a number, as a search reads it. One step where the plan is settled.
     pub fn hop(&self, number: u32) -> Option<Hop>
         ensures { MatchOption result (contact_named self.now.plan number ≡ None) (IsHopNamed self.now number) }
     {
-        let contact = self.contact(number)?;
-        Some(Hop {
-            start: contact.start,
-            end: contact.end,
-            receiver: self.receiver(contact),
-            light: self.light(contact),
-        })
+        let place = place_of_number(&self.contacts, number)?;
+        if self.settled {
+            Some(self.hops[place])
+        } else {
+            Some(hop_of_contact(&self.contacts[place], &self.ranges, &self.table))
+        }
     }
 }

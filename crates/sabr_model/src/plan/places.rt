@@ -1,11 +1,12 @@
 //! Places in sorted lists: of a contact by its number, and of a start among a node's contacts.
 
-ghost use Rattle.std.specs.Prelude.{◌≡◌, ℕ, ◌<◌, ◌≤◌, ◌==◌, IsTrue, IsFalse, map, find, length, slice_get, slice_index_or, None, MatchOption, ◌↔◌};
+ghost use Rattle.std.specs.Prelude.{◌≡◌, ℕ, ◌<◌, ◌≤◌, ◌+◌, ◌==◌, IsTrue, IsFalse, map, find, length, slice_get, slice_index_or, None, MatchOption, ◌↔◌};
 ghost use Rattle.std.specs.Option.{option_copied};
 ghost use Rattle.std.specs.List.Sorted.{IsNonDecreasingBy};
 ghost use Rattle.sabr_model.specs.declared.contact.Contact.{Contact};
 ghost use Rattle.sabr_model.specs.Plan.{rises_above};
 ghost use Rattle.sabr_model.specs.Table.{start_key, key_named, IsPlaceFor};
+ghost use Rattle.sabr_model.specs.Ready.{start_among};
 
 use crate::contact::Contact;
 
@@ -69,7 +70,8 @@ pub fn contact_of_number(contacts: &[Contact], number: u32) -> Option<&Contact>
 /// The start and the receiver of the contact of a number; zeros where it names none.
 fn start_of_number(contacts: &[Contact], number: u32) -> (u64, u64)
     requires { IsTrue (rises_above 0 (map (λ c. c.number) contacts.now)) }
-    ensures { start_key result.0 result.1 ≡ key_named contacts.now number }
+    ensures key { start_key result.0 result.1 ≡ key_named contacts.now number }
+    ensures start { result.0 ≡ start_among contacts.now number }
 {
     match contact_of_number(contacts, number) {
         Some(contact) => (contact.start, contact.to),
@@ -125,4 +127,32 @@ fn is_same(start: u64, to: u64, other_start: u64, other_to: u64) -> bool
     ensures { IsTrue result ↔ (start_key start to ≡ start_key other_start other_to) }
 {
     start == other_start && to == other_to
+}
+
+/// Whether what starts then and lasts so long has ended by `at`.
+fn has_ended(start: u64, lasts: u64, at: u64) -> bool
+    ensures { IsTrue result ↔ (start + lasts ≤ at) }
+{
+    lasts <= at && start <= at - lasts
+}
+
+/// A place before which the contacts of numbers by start have ended by `at`, where none lasts longer than `longest`.
+pub fn first_open(contacts: &[Contact], numbers: &[u32], longest: u64, at: u64) -> usize
+    requires numbered { IsTrue (rises_above 0 (map (λ c. c.number) contacts.now)) }
+    requires rising { IsNonDecreasingBy (start_among contacts.now) numbers.now }
+    ensures within { result ≤ length numbers.now }
+    ensures ended { (k d : ℕ) → k < result → start_among contacts.now (slice_index_or numbers.now k d) + longest ≤ at }
+{
+    let mut low = 0;
+    let mut high = numbers.len();
+    while low < high {
+        let middle = low + (high - low) / 2;
+        let (start, _) = start_of_number(contacts, numbers[middle]);
+        if has_ended(start, longest, at) {
+            low = middle + 1;
+        } else {
+            high = middle;
+        }
+    }
+    low
 }

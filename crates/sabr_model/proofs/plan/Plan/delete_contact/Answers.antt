@@ -4,6 +4,7 @@ use Rattle.sabr_model.specs.declared.contact.Contact.{Contact}
 use Rattle.sabr_model.specs.Plan.{ContactPlan, TabledPlan, opens}
 use Rattle.sabr_model.specs.Adding.{without_contact}
 use Rattle.sabr_model.proofs.Deletions.{found_by_number, without_opening, IsPlan-fewer_contacts}
+use Rattle.sabr_model.proofs.ReadyLemmas.{not_ready}
 use Rattle.sabr_model.proofs.plan.Plan.delete_contact.Goals as goal
 
 pub forget_contact-requires : goal.forget_contact-requires
@@ -24,6 +25,7 @@ invariant_of-self g c =
     rw kept (
       IsPlan-fewer_contacts p (λ d. not (eqb d.number c.in-Some.contact.now.number)) c.self.invariant.0,
       rw c.deref.ensures.value at c.forget_contact.ensures,
+      not_ready _ _ _,
     )
 
 pub returns-clause-ok : goal.returns-clause-ok
