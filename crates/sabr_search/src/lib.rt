@@ -7,11 +7,16 @@ mod deadlines;
 mod enter;
 mod layered;
 mod layers;
+mod limits;
 mod looks;
 mod part;
 mod pick;
+mod queue;
+mod settled;
+mod settling;
 mod task;
 
 pub use best::BestOf;
 pub use layered::Layered;
 pub use part::Part;
+pub use settled::Settled;
