@@ -19,3 +19,4 @@ pub mod Front
 pub mod Told
 pub mod Entering
 pub mod Law
+pub mod FaultsOfPrefixes

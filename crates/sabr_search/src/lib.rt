@@ -5,13 +5,17 @@ mod answer;
 mod best;
 mod deadlines;
 mod enter;
+mod fitting;
 mod layered;
 mod layers;
 mod looks;
 mod part;
 mod pick;
 mod task;
+#[cfg(test)]
+mod tests;
 
 pub use best::BestOf;
+pub use fitting::fits;
 pub use layered::Layered;
 pub use part::Part;
