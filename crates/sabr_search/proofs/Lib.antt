@@ -24,3 +24,4 @@ pub mod FirstWays
 pub mod Shortness
 pub mod FirstLimits
 pub mod Cuts
+pub mod FaultsOfPrefixes
