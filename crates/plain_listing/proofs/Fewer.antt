@@ -4,10 +4,12 @@ use Rattle.std.proofs.Math.Nat.{mul-le-mul_left}
 use Rattle.plain_listing.specs.Steps.{whole, left_behind}
 
 module _ (numbers : ℕ) where
+  -- the steps of one number more
   whole_is : (k : ℕ) → whole numbers (suc k) ≡ numbers * whole numbers k + 1
   unfolding whole
   whole_is k = refl
 
+  -- there is always a step
   whole_some : (k : ℕ) → 0 < whole numbers k
   unfolding whole
   whole_some zero = omega arith

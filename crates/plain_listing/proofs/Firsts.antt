@@ -10,6 +10,7 @@ use Rattle.std.specs.declared.cmp.Ordering.TheVariants.{Less, Equal, Greater}
 use Rattle.sabr_model.specs.Order.{put_in}
 use Rattle.sabr_model.proofs.Members.{IsIn, all_in}
 
+-- the first k of the first k
 pub take_again : {X : Type 0} (k : ℕ) (xs : List X) → take k (take k xs) ≡ take k xs
 take_again zero xs = refl
 take_again (suc k) [] = refl
@@ -38,6 +39,7 @@ module _ {X : Type 0} (cmp : X → X → Ordering) where
   put_front x [] all = refl
   put_front x (y ∷ ys) all = ap (λ o. elim o [ Less ↦ x ∷ y ∷ ys | Equal ↦ y ∷ ys | Greater ↦ y ∷ put_in cmp x ys ]) all.0
 
+  -- an element above the first goes behind it
   pub put_behind : (x y : X) (ys : List X) → cmp x y ≡ Greater → put_in cmp x (y ∷ ys) ≡ y ∷ put_in cmp x ys
   put_behind x y ys e = ap (λ o. elim o [ Less ↦ x ∷ y ∷ ys | Equal ↦ y ∷ ys | Greater ↦ y ∷ put_in cmp x ys ]) e
 
@@ -55,19 +57,23 @@ map-put_in f one other same x (y ∷ ys) =
     ] (same x y)
 
 module _ {X : Type 0} where
+  -- tests that agree let the same through
   pub filter_agrees : (one other : X → Bool) (xs : List X) → AllByRecursion (λ x. one x ≡ other x) xs → filter one xs ≡ filter other xs
   filter_agrees one other [] all = refl
   filter_agrees one other (x ∷ xs) all =
       ap (λ b. cond b (x ∷ filter one xs) (filter one xs)) all.0 ∙ ap (λ ys. cond (other x) (x ∷ ys) ys) (filter_agrees one other xs all.1)
 
+  -- a test that all elements fail lets none through
   pub filter_none : (test : X → Bool) (xs : List X) → AllByRecursion (λ x. test x ≡ false) xs → filter test xs ≡ []
   filter_none test [] all = refl
   filter_none test (x ∷ xs) all = ap (λ b. cond b (x ∷ filter test xs) (filter test xs)) all.0 ∙ filter_none test xs all.1
 
+  -- a test that all elements pass lets all through
   pub filter_whole : (test : X → Bool) (xs : List X) → AllByRecursion (λ x. test x ≡ true) xs → filter test xs ≡ xs
   filter_whole test [] all = refl
   filter_whole test (x ∷ xs) all = ap (λ b. cond b (x ∷ filter test xs) (filter test xs)) all.0 ∙ ap (λ ys. x ∷ ys) (filter_whole test xs all.1)
 
+  -- what holds of all elements holds of those let through
   all_filtered : (P : X → Type 0) (test : X → Bool) (xs : List X) → AllByRecursion P xs → AllByRecursion P (filter test xs)
   all_filtered P test [] all = tt
   all_filtered P test (x ∷ xs) all =
@@ -76,6 +82,7 @@ module _ {X : Type 0} where
         | false ↦ all_filtered P test xs all.1
       ]
 
+  -- two facts of each element give a third
   all_both : (P Q R : X → Type 0) → ((x : X) → P x → Q x → R x) → (xs : List X) → AllByRecursion P xs → AllByRecursion Q xs → AllByRecursion R xs
   all_both P Q R gives [] a b = tt
   all_both P Q R gives (x ∷ xs) a b = (gives x a.0 b.0, all_both P Q R gives xs a.1 b.1)
@@ -86,16 +93,20 @@ AgreeBut one other w x = (x ≡ w) ⊎ (one x ≡ other x)
 
 -- the element of a list that stands in its first place, or behind it
 module _ {X : Type 0} (cmp : X → X → Ordering) (total : IsTotalOrder cmp) (one other : X → Bool) (w : X) where
+  -- no element is below itself
   not_below_itself : (x : X) → cmp x x ≡ Less → ⊥
   not_below_itself x e = let turned : cmp x x ≡ ordering_reverse (cmp x x) = total.antisymm x x in cc (e, ap ordering_reverse e)
 
+  -- behind w the tests agree
   agree_behind : (y : X) → y ≡ w → (x : X) → cmp y x ≡ Less → AgreeBut one other w x → one x ≡ other x
   agree_behind y e x below (inl same) = absurd (not_below_itself w (ap (λ z. cmp z w) (sym e) ∙ ap (cmp y) (sym same) ∙ below))
   agree_behind y e x below (inr agree) = agree
 
+  -- the first element is below w, which stands behind it
   below_member : (y : X) (ys : List X) → AllByRecursion (λ z. cmp y z ≡ Less) ys → IsIn w ys → cmp y w ≡ Less
   below_member y ys all here = all_in (λ z. cmp y z ≡ Less) ys all w here
 
+  -- before w the tests agree
   agree_before : (y : X) → cmp y w ≡ Less → AgreeBut one other w y → one y ≡ other y
   agree_before y below (inl same) = absurd (not_below_itself w (ap (λ z. cmp z w) (sym same) ∙ below))
   agree_before y below (inr agree) = agree

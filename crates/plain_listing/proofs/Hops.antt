@@ -39,6 +39,7 @@ module _ (p : ContactPlan) (r : RouteRequest) (hops : List Hop) (way : IsWay p r
       ready.1 ∙ ap Some (sym (ap (λ (x : Stop). x.arrival) (last_stop_is p r hops way) ∙ ap (λ o. unwrap_or o 0) ready.1))
 
   module _ (n : ℕ) where
+    -- without a hop there is no path
     closed : (IsHop p r (numbers_of hops) n → ⊥) → is_path p r (numbers_of hops ++ n ∷ []) ≡ false
     closed barred = false_from_ne_true (is_path p r (numbers_of hops ++ n ∷ [])) (λ h. barred (hop_facts p r (numbers_of hops) n h))
 
@@ -47,6 +48,7 @@ module _ (p : ContactPlan) (r : RouteRequest) (hops : List Hop) (way : IsWay p r
     closed_unnamed e = closed (λ hop. let named = hop.named in cc)
 
     module _ (c : Contact) (named : contact_named p n ≡ Some c) where
+      -- a hop over the number is a hop over its contact
       its : (hop : IsHop p r (numbers_of hops) n) → hop.contact ≡ c
       its hop = let other = hop.named in cc
 
@@ -86,6 +88,7 @@ module _ (p : ContactPlan) (r : RouteRequest) (hops : List Hop) (way : IsWay p r
           let never : ⊥ = cc in never)
 
       module _ (u : ℕ) (sent : c.from ≡ (last_stop r hops).node) (visits : may_visit r hops c.to ≡ true) (arrives : arrival p r (last_stop r hops).arrival c ≡ Some u) where
+        -- the hop over the contact
         hop : IsHop p r (numbers_of hops) n
         hop =
             let parts = and_parts (ltb (length hops) r.max_hops && not (eqb c.to r.source || is_passed hops c.to)) (not (has c.to r.avoided)) visits in
@@ -105,9 +108,11 @@ module _ (p : ContactPlan) (r : RouteRequest) (hops : List Hop) (way : IsWay p r
               room = omega arith;
             }
 
+        -- the way goes on to a path
         pub path_open : is_path p r (numbers_of hops ++ n ∷ []) ≡ true
         path_open = path_push p r (numbers_of hops) n way.path hop
 
+        -- and this is what the hop comes to
         pub hop_open : hop_of p r (numbers_of hops) n ≡ record { number = n; stop = record { node = c.to; arrival = u; until = min (last_stop r hops).until c.end } }
         unfolding hop
         hop_open = hop_is p r hops n way hop

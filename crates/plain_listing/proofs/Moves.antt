@@ -36,12 +36,15 @@ abbrev pub IsOver : ContactPlan → RouteRequest → List ℕ → ℕ → Type 0
 IsOver p r s low = (k : ℕ) (u : List ℕ) → IsTrue (is_route p r (s ++ k ∷ u)) → low ≤ k → ⊥
 
 module _ (p : ContactPlan) (r : RouteRequest) (good : IsPlan p) where
+  -- the listing has routes alone
   all_routes : AllByRecursion (λ s. IsTrue (is_route p r s)) (routes p r)
   all_routes = all_from_in (λ s. IsTrue (is_route p r s)) (routes p r) (λ s i. member_is_route p r s good i)
 
+  -- their keys rise
   rising_routes : IsStrictlySortedBy (by_key p r) (routes p r)
   rising_routes = (routes_are_listed p r good).rising
 
+  -- what holds of routes holds of the listing
   all_weaker : (Q : List ℕ → Type 0) → ((s : List ℕ) → IsTrue (is_route p r s) → Q s) → AllByRecursion Q (routes p r)
   all_weaker Q gives = all_from_in Q (routes p r) (λ s i. gives s (member_is_route p r s good i))
 
@@ -52,6 +55,7 @@ module _ (p : ContactPlan) (r : RouteRequest) (good : IsPlan p) where
 
   -- ---- what is kept is in order, and no more than the limit
 
+  -- no more than the limit is kept
   pub kept_within : (limit : ℕ) (place : List ℕ) → length (first_before p r limit place) ≤ limit
   kept_within limit place = omega (arith, length-take limit (map (record_of p r) (routes_before p r place)))
 
@@ -83,9 +87,11 @@ module _ (p : ContactPlan) (r : RouteRequest) (good : IsPlan p) where
 
   -- ---- moves
 
+  -- what is kept at two places with the same routes before them
   moved : (limit : ℕ) (one other : List ℕ) → ((s : List ℕ) → IsTrue (is_route p r s) → numbers_before s one ≡ numbers_before s other) → first_before p r limit one ≡ first_before p r limit other
   moved limit one other same = ap (λ ss. take limit (map (record_of p r) ss)) (same_before one other same)
 
+  -- a number from low on up to the next one is the next one
   only_next : (s : List ℕ) (low n k : ℕ) (u : List ℕ) → IsNext p r s low n → IsTrue (is_route p r (s ++ k ∷ u)) → low ≤ k → k ≤ n → k ≡ n
   only_next s low n k u next route from within = let least = next.least k u route from in omega arith
 

@@ -9,9 +9,11 @@ use Rattle.std.specs.declared.option.Option.TheVariants.{Some}
 use Rattle.sabr_model.specs.Plan.{rises_above}
 use Rattle.plain_listing.proofs.Sent.{next_from}
 
+-- a number below low fails the test
 below : (y low : ℕ) → ltb y low ≡ true → leb low y ≡ false
 below y low h = grind (arith, nat_tests)
 
+-- a number that is not passes it
 beyond : (y low : ℕ) → ltb y low ≡ false → leb low y ≡ true
 beyond y low h = grind (arith, nat_tests)
 
@@ -27,6 +29,7 @@ next_at low (x ∷ xs) (suc i) h =
     )
     ∙ sym (ap (λ b. cond b (Some x) (next_from low xs)) (below x low (h.0 0 x (omega arith) (omega arith))))
 
+-- each of the rising numbers is above the bound
 above_at : (low : ℕ) (xs : List ℕ) (j d : ℕ) → rises_above low xs ≡ true → j < length xs → low < get_or xs j d
 above_at low [] j d h lt = absurd (omega arith)
 above_at low (x ∷ xs) zero d h lt = ltb-true low x (and_parts (ltb low x) (rises_above x xs) h).0
@@ -36,6 +39,7 @@ above_at low (x ∷ xs) (suc j) d h lt =
     let rest = above_at x xs j d parts.1 (omega arith) in
     omega arith
 
+-- rising numbers, by their places
 rising_at : (low : ℕ) (xs : List ℕ) (i j d : ℕ) → rises_above low xs ≡ true → i ≤ j → j < length xs → get_or xs i d ≤ get_or xs j d
 rising_at low [] i j d h le lt = absurd (omega arith)
 rising_at low (x ∷ xs) zero zero d h le lt = omega arith

@@ -14,6 +14,7 @@ use Rattle.sabr_model.specs.Order.{put_in}
 use Rattle.plain_listing.proofs.Firsts.{put_behind}
 
 module _ {X : Type 0} (cmp : X → X → Ordering) (total : IsTotalOrder cmp) where
+  -- a comparison turned round
   turned : (x y : X) (o : Ordering) → cmp x y ≡ o → cmp y x ≡ ordering_reverse o
   turned x y o e = total.antisymm y x ∙ ap ordering_reverse e
 

@@ -19,6 +19,7 @@ by_numbers-behind (n ∷ q) s t = ap (λ o. ordering_then o (by_numbers (q ++ s)
 abbrev pub IsApart : List ℕ → List ℕ → Type 0
 IsApart q s = (m n : ℕ) (t v : List ℕ) → by_numbers s (q ++ m ∷ t) ≡ by_numbers s (q ++ n ∷ v)
 
+-- apart behind the same number
 apart_behind : (k j : ℕ) (q s : List ℕ) → IsApart q s → IsApart (k ∷ q) (j ∷ s)
 apart_behind k j q s apart m n t v = ap (ordering_then (nat_cmp j k)) (apart m n t v)
 
@@ -35,9 +36,11 @@ begins_or_apart (k ∷ q) (j ∷ s) =
       | Greater ↦ λ e. inr (λ m n t v. ap (λ o. ordering_then o (by_numbers s (q ++ m ∷ t))) e ∙ sym (ap (λ o. ordering_then o (by_numbers s (q ++ n ∷ v))) e))
     ] refl
 
+-- a lesser number
 less : (k n : ℕ) → k < n → nat_cmp k n ≡ Less
 less k n h = ap (λ b. cond b Less (cond (eqb k n) Equal Greater)) (lt-ltb k n h)
 
+-- a greater number
 greater : (k n : ℕ) → n < k → nat_cmp k n ≡ Greater
 greater k n h = grind (arith, nat_tests)
 
@@ -49,9 +52,11 @@ before_less k n u t h = ap (λ o. is_lt (ordering_then o (by_numbers u t))) (les
 pub before_greater : (k n : ℕ) (u t : List ℕ) → n < k → numbers_before (k ∷ u) (n ∷ t) ≡ false
 before_greater k n u t h = ap (λ o. is_lt (ordering_then o (by_numbers u t))) (greater k n h)
 
+-- behind the same first number the rest decides
 pub before_same : (k : ℕ) (u t : List ℕ) → numbers_before (k ∷ u) (k ∷ t) ≡ numbers_before u t
 before_same k u t = ap (λ o. is_lt (ordering_then o (by_numbers u t))) (tied_itself nat_cmp_total k)
 
+-- nothing comes before the empty list
 pub before_empty : (u : List ℕ) → numbers_before u [] ≡ false
 before_empty [] = refl
 before_empty (k ∷ u) = refl
@@ -64,5 +69,6 @@ before_one k n u h =
     (λ ne. before_greater k n u [] (omega arith))
     (cases_eq k n)
 
+-- behind the same beginning the rest decides
 pub before-behind : (q s t : List ℕ) → numbers_before (q ++ s) (q ++ t) ≡ numbers_before s t
 before-behind q s t = ap is_lt (by_numbers-behind q s t)

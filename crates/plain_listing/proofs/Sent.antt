@@ -12,6 +12,7 @@ use Rattle.sabr_model.proofs.Members.{IsIn, in_map, map_in, in_filter, filter_in
 
 -- ---- rising numbers
 
+-- numbers above a bound are above a lesser one
 rises_lower : (low high : ℕ) (xs : List ℕ) → low ≤ high → rises_above high xs ≡ true → rises_above low xs ≡ true
 rises_lower low high [] le h = refl
 rises_lower low high (x ∷ xs) le h =
@@ -19,6 +20,7 @@ rises_lower low high (x ∷ xs) le h =
     let above = ltb-true high x parts.0 in
     and_from (ltb low x) (rises_above x xs) (lt-ltb low x (omega arith)) parts.1
 
+-- the numbers of some of the contacts rise too
 numbers_of_some : (test : Contact → Bool) (low : ℕ) (cs : List Contact) → rises_above low (map (λ c. c.number) cs) ≡ true → rises_above low (map (λ c. c.number) (filter test cs)) ≡ true
 numbers_of_some test low [] h = refl
 numbers_of_some test low (c ∷ cs) h =
@@ -34,6 +36,7 @@ numbers_of_some test low (c ∷ cs) h =
 pub sent_rises : (p : ContactPlan) (node : ℕ) → IsPlan p → rises_above 0 (sent_by p.contacts node) ≡ true
 sent_rises p node good = numbers_of_some (λ c. eqb node c.from) 0 p.contacts good.numbers_rise
 
+-- rising numbers are above the bound
 above_all : (low : ℕ) (xs : List ℕ) (k : ℕ) → rises_above low xs ≡ true → IsIn k xs → low < k
 above_all low [] k h i = absurd i
 above_all low (x ∷ xs) k h i =
@@ -47,6 +50,7 @@ above_all low (x ∷ xs) k h i =
 abbrev pub next_from : ℕ → List ℕ → Option ℕ
 next_from low xs = find (λ n. leb low n) xs
 
+-- where none is found, each number is less than low
 pub next_none : (low : ℕ) (xs : List ℕ) (k : ℕ) → next_from low xs ≡ None → IsIn k xs → k < low
 next_none low [] k e i = absurd i
 next_none low (x ∷ xs) k e i =
@@ -61,6 +65,7 @@ pub record IsNextOf (low : ℕ) (xs : List ℕ) (n : ℕ) : Type 0 where
   pub from : low ≤ n
   pub least : (k : ℕ) → IsIn k xs → low ≤ k → n ≤ k
 
+-- what is found is the least from low on
 pub next_some : (bound low : ℕ) (xs : List ℕ) (n : ℕ) → rises_above bound xs ≡ true → next_from low xs ≡ Some n → IsNextOf low xs n
 next_some bound low [] n rises e = absurd cc
 next_some bound low (x ∷ xs) n rises e =
@@ -85,6 +90,7 @@ next_some bound low (x ∷ xs) n rises e =
 
 -- ---- contacts
 
+-- the contact of a number is a standing contact of that number
 pub named_is : (cs : List Contact) (n : ℕ) (c : Contact) → find (λ d. eqb d.number n) cs ≡ Some c → IsIn c cs × (c.number ≡ n)
 named_is [] n c e = absurd cc
 named_is (d ∷ cs) n c e =
@@ -109,5 +115,6 @@ sent_is_given p node n good i =
     let same = m.2 in
     omega arith
 
+-- a standing contact's number was given
 pub named_is_given : (p : ContactPlan) (n : ℕ) (c : Contact) → IsPlan p → contact_named p n ≡ Some c → n ≤ p.greatest
 named_is_given p n c good e = sent_is_given p c.from n good (is_sent p n c e)

@@ -34,6 +34,7 @@ module _ (p : ContactPlan) (r : RouteRequest) (good : IsPlan p) where
       let node : hop.contact.from ≡ (last_stop r hops).node = cc in
       subst (λ a. IsIn k (sent_by p.contacts a)) node (is_sent p k hop.contact hop.named)
 
+  -- the next number that the node sends is the next with which a route can go on
   pub next_is : (hops : List Hop) (low n : ℕ) → IsWay p r hops → next_from low (sent_by p.contacts (last_stop r hops).node) ≡ Some n → IsNext p r (numbers_of hops) low n
   next_is hops low n way e =
       let node = (last_stop r hops).node in
@@ -44,6 +45,7 @@ module _ (p : ContactPlan) (r : RouteRequest) (good : IsPlan p) where
         least = λ k u route from. next.least k (goes_on_sent hops way k u route) from;
       }
 
+  -- where the node sends no further number, no route goes on
   pub over_is : (hops : List Hop) (low : ℕ) → IsWay p r hops → next_from low (sent_by p.contacts (last_stop r hops).node) ≡ None → IsOver p r (numbers_of hops) low
   over_is hops low way e k u route from =
       let less = next_none low (sent_by p.contacts (last_stop r hops).node) k e (goes_on_sent hops way k u route) in absurd (omega arith)
@@ -53,9 +55,11 @@ module _ (p : ContactPlan) (r : RouteRequest) (good : IsPlan p) where
   walk_begins limit = record { way = record { told = refl; path = empty_is_path p r }; least = omega arith; first = sym (begins p r good limit) }
 
   module _ (limit : ℕ) (hops : List Hop) (low : ℕ) (kept : List RouteRecord) (walk : IsWalk p r limit hops low kept) where
+    -- no more than the limit is kept
     pub walk_within : length kept ≤ limit
     walk_within = subst (λ ks. length ks ≤ limit) (sym walk.first) (kept_within p r good limit (numbers_of hops ++ low ∷ []))
 
+    -- what is kept is in order
     pub walk_rises : IsStrictlySortedBy by_record kept
     walk_rises = subst (IsStrictlySortedBy by_record) (sym walk.first) (kept_rises p r good limit (numbers_of hops ++ low ∷ []))
 
@@ -101,9 +105,11 @@ module _ (p : ContactPlan) (r : RouteRequest) (good : IsPlan p) where
         }
 
     module _ (n : ℕ) (next : IsNext p r (numbers_of hops) low n) where
+      -- the number behind is at most one above the greatest
       past_least : n + 1 ≤ p.greatest + 1
       past_least = let g = next.given in omega arith
 
+      -- and fewer steps are left there
       past_fewer : steps_left p r hops (Some (n + 1)) < steps_left p r hops (Some low)
       past_fewer =
           let f = next.from in
@@ -120,6 +126,7 @@ module _ (p : ContactPlan) (r : RouteRequest) (good : IsPlan p) where
           }
 
       module _ (open_way : IsTrue (is_path p r (numbers_of hops ++ n ∷ []))) where
+        -- the longer way ends at a node
         end_named : (b : ℕ) × (chain_end p r.source (numbers_of hops ++ n ∷ []) ≡ Some b)
         end_named = value_of (chain_end p r.source (numbers_of hops ++ n ∷ [])) (path_facts p r (numbers_of hops ++ n ∷ []) open_way).chained
 
@@ -183,6 +190,7 @@ pub some_where : {X : Type 0} (b : Bool) (x y : X) → cond b (Some x) None ≡ 
 some_where true x y e = (refl, cc)
 some_where false x y e = absurd cc
 
+-- and where it is not
 pub none_where : {X : Type 0} (b : Bool) (x : X) → cond b (Some x) None ≡ None → b ≡ false
 none_where true x e = absurd cc
 none_where false x e = refl

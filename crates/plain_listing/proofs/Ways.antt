@@ -41,6 +41,7 @@ same_push (w ∷ xs) (v ∷ ys) x y e =
     let rest = same_push xs ys x y tails in
     ((let same : xs ≡ ys = rest.0 in cc), rest.1)
 
+-- the last element of a list
 last_of_push : {X : Type 0} (xs : List X) (x : X) (k : ℕ) → k ≡ length xs → slice_get (xs ++ x ∷ []) k ≡ Some x
 last_of_push [] x zero e = refl
 last_of_push [] x (suc k) e = absurd (omega arith)
@@ -49,10 +50,12 @@ last_of_push (y ∷ xs) x (suc k) e = last_of_push xs x k (omega arith)
 
 -- ---- hops one behind the other
 
+-- the numbers behind one hop more
 pub numbers_push : (hops : List Hop) (h : Hop) → numbers_of (hops ++ h ∷ []) ≡ numbers_of hops ++ h.number ∷ []
 numbers_push hops h = map-append (λ (x : Hop). x.number) hops (h ∷ [])
 
 module _ (p : ContactPlan) (r : RouteRequest) where
+  -- the hops behind one number more
   hops_push : (front s : List ℕ) (n : ℕ) → hops_behind p r front (s ++ n ∷ []) ≡ hops_behind p r front s ++ hop_of p r (front ++ s) n ∷ []
   hops_push front [] n = ap (λ w. hop_of p r w n ∷ []) (sym (append-nil front))
   hops_push front (m ∷ s) n =
@@ -101,6 +104,7 @@ module _ (p : ContactPlan) (r : RouteRequest) where
       ∙ ap (λ w. stop_of p r (numbers_of w)) (sym e))
       (by_last hops)
 
+  -- the nodes of hops are the receivers of their contacts
   nodes_behind : (front s : List ℕ) → IsTrue (is_path p r (front ++ s)) → nodes_of (hops_behind p r front s) ≡ receivers p s
   nodes_behind front [] path = refl
   nodes_behind front (n ∷ s) path =
@@ -115,6 +119,7 @@ module _ (p : ContactPlan) (r : RouteRequest) where
   pub nodes_are : (hops : List Hop) → IsWay p r hops → nodes_of hops ≡ receivers p (numbers_of hops)
   nodes_are hops way = ap nodes_of way.told ∙ nodes_behind [] (numbers_of hops) way.path
 
+  -- the least end behind one contact more
   until_push : (s : List ℕ) (n : ℕ) (c : Contact) → contact_named p n ≡ Some c → until_of p (s ++ n ∷ []) ≡ min (until_of p s) c.end
   until_push s n c named =
       ap (fold (λ m (d : Contact). min m d.end) 253370764799) (filter_map-append (contact_named p) s (n ∷ []))
@@ -132,6 +137,7 @@ module _ (p : ContactPlan) (r : RouteRequest) where
       until_push s n hop.contact hop.named ∙ ap (λ (x : Stop). min x.until hop.contact.end) (sym (last_stop_is hops way)) in
       λ i. record { number = n; stop = record { node = node i; arrival = arrival i; until = until i } }
 
+  -- the first hop ends at the entry node
   first_is : (hops : List Hop) → IsWay p r hops → first_node hops ≡ entry_of p (numbers_of hops)
   first_is [] way = refl
   first_is (h ∷ hops) way =

@@ -22,6 +22,7 @@ abbrev pub hops_behind : ContactPlan → RouteRequest → List ℕ → List ℕ 
 hops_behind p r front [] = []
 hops_behind p r front (n ∷ s) = hop_of p r front n ∷ hops_behind p r (front ++ n ∷ []) s
 
+-- the numbers of the hops
 abbrev pub numbers_of : List Hop → List ℕ
 numbers_of hops = map (λ h. h.number) hops
 

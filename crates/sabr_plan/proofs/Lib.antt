@@ -10,4 +10,5 @@ pub mod Held
 pub mod Feeds
 pub mod Consumed
 pub mod ReadSoFar
+pub mod CanonicalLines
 pub mod Leaving

@@ -9,3 +9,4 @@ pub mod Reading
 pub mod Leaving
 pub mod Feeding
 pub mod PlanRead
+pub mod Canonical

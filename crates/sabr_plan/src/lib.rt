@@ -1,6 +1,7 @@
 //! Plan texts after ionrc(5): the reader of plans, times, the canonical text of a plan and its digest.
 #![tactic(auto)]
 
+mod canonical_text;
 mod command;
 mod fault;
 mod feed;
@@ -8,11 +9,13 @@ mod number;
 mod operand;
 mod read;
 mod reading;
+mod record_line;
 #[cfg(test)]
 mod tests;
 mod time;
 mod words;
 
+pub use canonical_text::{canonical, digest};
 pub use fault::{PlanFault, PlanKind};
 pub use read::read_plan;
 pub use time::{parse_time, time_text};

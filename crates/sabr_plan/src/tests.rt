@@ -1,3 +1,7 @@
 //! Worked examples.
 
+mod canonical;
+mod deleting;
+mod plans;
+mod reading;
 mod times;

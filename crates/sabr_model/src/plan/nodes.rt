@@ -41,6 +41,17 @@ impl<A: Allocator + Copy> Plan<A> {
         self.table.get_index_of(&node)
     }
 
+    /// The node at an index of the table.
+    pub fn node(&self, index: usize) -> u64
+        requires { index < length self.now.table }
+        ensures { slice_get self.now.table index ≡ Some result }
+    {
+        match self.table.get_index(index) {
+            Some((node, _)) => *node,
+            None => 0,
+        }
+    }
+
     /// The index of a standing contact's receiver.
     pub fn receiver(&self, contact: &Contact) -> usize
         requires { contact_named self.now.plan contact.now.number ≡ Some contact.now }

@@ -1,0 +1,42 @@
+-- The last of a list, and one place of it.
+use Rattle.std.proofs.Common.{◌≡◌, ℕ, ◌-◌, ◌<◌, zero, suc, List, [], ◌∷◌, ◌++◌, length, take, set, get_or, Some, refl, sym, ap, ◌∙◌, arith, length-append}
+use Rattle.std.specs.Prelude.{slice_get, Vec, vec_len}
+use Rattle.sabr_frontier.specs.Undo.{modify, last_item, front}
+
+get_push : {X : Type 0} (xs : List X) (x : X) → slice_get (xs ++ x ∷ []) (length xs) ≡ Some x
+get_push [] x = refl
+get_push (y ∷ xs) x = get_push xs x
+
+take_push : {X : Type 0} (xs : List X) (x : X) → take (length xs) (xs ++ x ∷ []) ≡ xs
+take_push [] x = refl
+take_push (y ∷ xs) x = ap (λ t. y ∷ t) (take_push xs x)
+
+less_one : {X : Type 0} (xs : List X) (x : X) → length (xs ++ x ∷ []) - 1 ≡ length xs
+less_one xs x = omega (arith, length-append xs (x ∷ []))
+
+pub last_item_push : {X : Type 0} (ys xs : List X) (x : X) → ys ≡ xs ++ x ∷ [] → last_item ys ≡ Some x
+last_item_push ys xs x e = ap last_item e ∙ (ap (slice_get (xs ++ x ∷ [])) (less_one xs x) ∙ get_push xs x)
+
+pub front_push : {X : Type 0} (ys xs : List X) (x : X) → ys ≡ xs ++ x ∷ [] → front ys ≡ xs
+front_push ys xs x e = ap front e ∙ (ap (λ n. take n (xs ++ x ∷ [])) (less_one xs x) ∙ take_push xs x)
+
+-- a write of f of what stood there
+pub set-modify : {X : Type 0} (f : X → X) (xs : List X) (i : ℕ) (x : X) → i < length xs → x ≡ get_or xs i x → set xs i (f x) ≡ modify f xs i
+set-modify f [] i x l e = absurd (omega arith)
+set-modify f (y ∷ xs) zero x l e = ap (λ z. f z ∷ xs) e
+set-modify f (y ∷ xs) (suc i) x l e = ap (λ t. y ∷ t) (set-modify f xs i x (omega arith) e)
+
+pub length-modify : {X : Type 0} (f : X → X) (xs : List X) (i : ℕ) → length (modify f xs i) ≡ length xs
+length-modify f [] i = refl
+length-modify f (x ∷ xs) zero = refl
+length-modify f (x ∷ xs) (suc i) = ap suc (length-modify f xs i)
+
+-- what an index reads
+pub get_there : {X : Type 0} (xs : List X) (i : ℕ) (x : X) → i < length xs → x ≡ get_or xs i x → slice_get xs i ≡ Some x
+get_there [] i x l e = absurd (omega arith)
+get_there (y ∷ xs) zero x l e = ap Some (sym e)
+get_there (y ∷ xs) (suc i) x l e = get_there xs i x (omega arith) e
+
+-- what a pop leaves
+pub vec_front : {X A : Type 0} (v : Vec X A) → take (vec_len v - 1) v.items ≡ front v.items
+vec_front v = let e : vec_len v ≡ length v.items = omega arith in ap (λ n. take (n - 1) v.items) e

@@ -1,0 +1,99 @@
+-- The tree before any route is given is sound, and stands for the first state.
+use Rattle.std.proofs.Common.{◌≡◌, ℕ, zero, suc, ◌+◌, ◌<◌, ◌≤◌, true, false, cond, List, [], ◌∷◌, map, length, take, refl, sym, ap, subst, ◌∙◌, inl, inr, arith, true≢false, Option, Some, None}
+use Rattle.std.specs.Prelude.{slice_get, is_some}
+use Rattle.std.specs.Option.{option_map}
+use Rattle.sabr_model.specs.Plan.{ContactPlan, IsPlan}
+use Rattle.sabr_model.specs.Arrival.{RouteRequest}
+use Rattle.sabr_model.specs.Route.{is_route, is_path, is_prefix}
+use Rattle.sabr_model.specs.Listing.{routes}
+use Rattle.sabr_model.specs.Parts.{least_in}
+use Rattle.sabr_model.specs.Record.{RouteRecord, record_of}
+use Rattle.sabr_model.proofs.Prefixes.{empty_is_prefix}
+use Rattle.sabr_frontier.specs.declared.tree.NodeId.{NodeId}
+use Rattle.sabr_frontier.specs.declared.tree.Node.{Node}
+use Rattle.sabr_frontier.specs.State.{State, PartState, Member}
+use Rattle.sabr_frontier.specs.Step.{state_of}
+use Rattle.sabr_frontier.specs.Listing.{IsState, state_at}
+use Rattle.sabr_frontier.specs.Shape.{Shape, shown, part_at, numbers_of, route_at}
+use Rattle.sabr_frontier.specs.Best.{best_of}
+use Rattle.sabr_frontier.specs.Queue.{InPairs, IsAtOrBehind}
+use Rattle.sabr_frontier.specs.Sound.{IsTree, AreApart}
+use Rattle.sabr_frontier.specs.Root.{root, first_id}
+use Rattle.sabr_frontier.specs.Session.{told_part, PartTold}
+use Rattle.sabr_frontier.specs.Views.{told_at, told_node}
+use Rattle.sabr_frontier.proofs.Formed.{formed_start}
+use Rattle.sabr_frontier.proofs.Paths.{route_filled, routes_apart, route_chains, route_fits}
+use Rattle.sabr_frontier.proofs.Listed.{least_some}
+use Rattle.sabr_frontier.proofs.Divided.{best_numbers}
+use Rattle.sabr_frontier.proofs.Sounds.{best_is}
+use Rattle.sabr_frontier.proofs.Nodes.{same_node, get_Member}
+
+pub shown_root : (A : Type 0) (p : ContactPlan) (r : RouteRequest) → shown (root {A = A} (best_of p r [] [])) ≡ state_at p r 0
+unfolding state_at
+shown_root A p r = λ i. record { emitted = 0; last = []; parts = record { prefix = []; excluded = []; carried = best_numbers p r [] [] i } ∷ [] }
+
+first_formed : (p : ContactPlan) (r : RouteRequest) → IsPlan p → IsState p r (state_at p r 0)
+unfolding state_at
+first_formed p r good = formed_start (is_route p r) (is_path p r) (is_prefix p r) (routes_apart p r) (route_filled p r) (route_chains p r) (route_fits p r) (empty_is_prefix p r) (least_in p r)
+    (λ q X u e. let w = least_some p r good q X u e in (w.0, w.1))
+
+first_only : (id : NodeId) → id.0 < 1 → id ≡ first_id
+first_only id l = same_node id first_id (omega arith)
+
+module _ (A : Type 0) (p : ContactPlan) (r : RouteRequest) (good : IsPlan p) where
+  root_parts : (found : Option RouteRecord) → ((x : RouteRecord) → found ≡ Some x → x ≡ record_of p r x.contacts) → IsState p r (shown (root {A = A} found)) → IsTree p r (root {A = A} found)
+  root_parts None told formed = record {
+    formed = formed;
+    known = λ id m. elim m [ inl e ↦ (let a : id.0 ≡ 0 = ap (λ (z : NodeId). z.0) e in omega arith) | inr z ↦ absurd z ];
+    listed = λ id l. inl (first_only id l);
+    lent = λ n m. elim m [ inl e ↦ inl (ap (λ (z : Node A). z.length) e) | inr z ↦ absurd z ];
+    records = λ n x m e. elim m [ inl h ↦ told x (sym (ap (λ (z : Node A). z.route) h) ∙ e) | inr z ↦ absurd z ];
+    queued = λ id m. absurd m;
+    waiting = λ id h. absurd (none_there id.0 h);
+    falls = tt;
+    once = tt;
+    short = omega arith;
+  }
+    where
+      none_there : (n : ℕ) → is_some (route_at (root {A = A} None).nodes (record { 0 = n })) ≡ true → ⊥
+      none_there zero h = true≢false (sym h)
+      none_there (suc n) h = true≢false (sym h)
+  root_parts (Some x) told formed = record {
+    formed = formed;
+    known = λ id m. elim m [ inl e ↦ (let a : id.0 ≡ 0 = ap (λ (z : NodeId). z.0) e in omega arith) | inr z ↦ absurd z ];
+    listed = λ id l. inl (first_only id l);
+    lent = λ n m. elim m [ inl e ↦ inl (ap (λ (z : Node A). z.length) e) | inr z ↦ absurd z ];
+    records = λ n y m e. elim m [ inl h ↦ told y (sym (ap (λ (z : Node A). z.route) h) ∙ e) | inr z ↦ absurd z ];
+    queued = λ id m. elim m [ inl e ↦ ap (λ z. is_some (route_at (root {A = A} (Some x)).nodes z)) e | inr z ↦ absurd z ];
+    waiting = λ id h. inl (first_there id h);
+    falls = ((λ y m. absurd m), tt);
+    once = ((λ y m. absurd m), tt);
+    short = omega arith;
+  }
+    where
+      first_there : (id : NodeId) → is_some (route_at (root {A = A} (Some x)).nodes id) ≡ true → id ≡ first_id
+      first_there id h = at id.0 h
+        where
+          at : (n : ℕ) → is_some (route_at (root {A = A} (Some x)).nodes (record { 0 = n })) ≡ true → record { 0 = n } ≡ first_id
+          at zero h = refl
+          at (suc n) h = absurd (true≢false (sym h))
+
+  pub root_is_tree : IsTree p r (root {A = A} (best_of p r [] []))
+  root_is_tree = root_parts (best_of p r [] []) (best_is p r [] []) (subst (IsState p r) (sym (shown_root A p r)) (first_formed p r good))
+
+-- ---- what is told of the parts
+
+module _ {A : Type 0} (p : ContactPlan) (r : RouteRequest) (t : Shape A) (is : IsTree p r t) where
+  told_route : (n : Node A) (o : Option RouteRecord) → Member n t.nodes → n.route ≡ o → o ≡ option_map (record_of p r) (option_map numbers_of o)
+  told_route n None m e = refl
+  told_route n (Some x) m e = ap Some (is.records n x m e)
+
+  told_one : (id : NodeId) → told_at t.leaves t.nodes id ≡ told_part p r (part_at t.leaves t.nodes id)
+  told_one id = elim (slice_get t.nodes id.0) as (λ o. slice_get t.nodes id.0 ≡ o → told_node t.leaves o ≡ told_part p r (Rattle.sabr_frontier.specs.Shape.part_of t.leaves o)) [
+    | None ↦ λ _. refl
+    | Some n ↦ λ e. let w = told_route n n.route (get_Member t.nodes id.0 n e) refl in λ i. record { prefix = Rattle.sabr_frontier.specs.Shape.prefix_of t.leaves n; excluded = n.excluded; route = w i }
+  ] refl
+
+  pub told_all : (ids : List NodeId) → map (told_at t.leaves t.nodes) ids ≡ map (told_part p r) (map (part_at t.leaves t.nodes) ids)
+  told_all [] = refl
+  told_all (id ∷ ids) = λ i. told_one id i ∷ told_all ids i

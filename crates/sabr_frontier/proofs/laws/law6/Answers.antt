@@ -1,0 +1,5 @@
+use Rattle.sabr_frontier.proofs.Lawful.{steps_follow}
+use Rattle.sabr_frontier.proofs.laws.law6.Goals as goal
+
+pub returns : goal.returns
+returns c = steps_follow

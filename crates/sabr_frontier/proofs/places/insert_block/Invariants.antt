@@ -1,0 +1,10 @@
+use Rattle.std.proofs.Common.{◌≡◌, ◌+◌, ◌≤◌, vec_len, vec_capacity}
+use Rattle.sabr_frontier.specs.Taking.{ids_from, with_block}
+use Rattle.sabr_frontier.proofs.places.insert_block.Given as goal
+
+abbrev pub invariant-loop-i : goal.invariant-loop-i
+invariant-loop-i g l = record {
+  items : l.index.items ≡ with_block l.place (ids_from l.first l.i) l.fn.index.items;
+  long : vec_len l.index ≡ vec_len l.fn.index + l.i;
+  room : vec_len l.fn.index + l.count ≤ vec_capacity l.index;
+}

@@ -1,0 +1,14 @@
+use Rattle.std.proofs.Common.{◌≡◌, length, arith, ap, ◌∙◌}
+use Rattle.std.specs.Prelude.{is_some, vec_len}
+use Rattle.sabr_frontier.specs.Listing.{next_route}
+use Rattle.sabr_frontier.specs.Shape.{shape_of}
+use Rattle.sabr_frontier.specs.Session.{Seen}
+use Rattle.sabr_frontier.proofs.Pages.{more_is}
+use Rattle.sabr_frontier.proofs.session.Session.more.Goals as goal
+
+pub returns : goal.returns
+returns g c =
+    let s = c.self.inside in
+    let count : vec_len s.tree.queue ≡ length s.tree.queue.items = omega arith in
+    more_is s.plan.now.plan s.request c.self.invariant.rules (shape_of s.tree) c.self.invariant.sound (vec_len s.tree.queue) c.is_empty.result count c.is_empty.ensures
+    ∙ ap (λ (v : Seen). is_some (next_route v.plan.plan v.request v.state)) c.self.view_is

@@ -1,0 +1,156 @@
+use Rattle.std.proofs.Common.{◌≡◌, ◌-◌, ◌<◌, ◌≤◌, ◌⊎◌, inl, inr, ℕ, List, [], ◌∷◌, ◌++◌, map, length, reverse, arith, ap, sym, subst, ◌∙◌, refl, None}
+use Rattle.sabr_model.specs.Record.{RouteRecord, record_of}
+use Rattle.sabr_frontier.specs.State.{State}
+use Rattle.sabr_frontier.specs.Listing.{next_route, searches_in, steps}
+use Rattle.sabr_frontier.specs.Shape.{Shape, shape_of, shown}
+use Rattle.sabr_frontier.specs.Session.{Seen, AreStarts, IsSound, former_of, former_then, tree_before}
+use Rattle.sabr_frontier.proofs.Pages.{sound_tree, counts_idle, sound_undos, last_first, idle, busy, carried_or_not, none_there, some_there}
+use Rattle.sabr_frontier.specs.Fresh.{GivesNewRoutes}
+use Rattle.sabr_frontier.proofs.NewRoutes.{new_routes}
+use Rattle.sabr_frontier.proofs.session.Session.page.Goals as goal
+use Rattle.sabr_frontier.proofs.session.Session.page.Goals.{then-count-eq0-via-then-count-eq0, then-count-eq0-via-else-count-eq0+then-is_empty}
+
+pub returns-then-count-eq0-clause-routes : goal.returns-then-count-eq0-clause-routes
+returns-then-count-eq0-clause-routes g c =
+    let s = c.self.inside in
+    let t = shape_of s.tree in
+    let k = c.args.count in
+    let none : (k ≡ 0) ⊎ (length t.queue ≡ 0) = elim c.then-count-eq0.branch [
+      | then-count-eq0-via-then-count-eq0 w ↦ inl (omega arith)
+      | then-count-eq0-via-else-count-eq0+then-is_empty w ↦ inr (let z = none_there _ _ w.is_empty.ensures w.if-is_empty.true in omega (arith, z))
+    ] in
+    let still = idle s.plan.now.plan s.request c.self.invariant.rules t c.self.invariant.sound k none in
+    subst (λ (v : Seen). c.new-given.result.items ≡ map (record_of v.plan.plan v.request) (steps v.plan.plan v.request k v.state).0) c.self.view_is
+        (c.new-given.ensures.items ∙ sym (ap (λ (z : List (List ℕ) × State). map (record_of s.plan.now.plan s.request) z.0) still))
+
+pub returns-then-count-eq0-clause-state : goal.returns-then-count-eq0-clause-state
+returns-then-count-eq0-clause-state g c =
+    let s = c.self.inside in
+    let t = shape_of s.tree in
+    let k = c.args.count in
+    let none : (k ≡ 0) ⊎ (length t.queue ≡ 0) = elim c.then-count-eq0.branch [
+      | then-count-eq0-via-then-count-eq0 w ↦ inl (omega arith)
+      | then-count-eq0-via-else-count-eq0+then-is_empty w ↦ inr (let z = none_there _ _ w.is_empty.ensures w.if-is_empty.true in omega (arith, z))
+    ] in
+    let still = idle s.plan.now.plan s.request c.self.invariant.rules t c.self.invariant.sound k none in
+    subst (λ (v : Seen). shown t ≡ (steps v.plan.plan v.request k v.state).1) c.self.view_is (sym (ap (λ (z : List (List ℕ) × State). z.1) still))
+
+pub returns-then-count-eq0-clause-former : goal.returns-then-count-eq0-clause-former
+returns-then-count-eq0-clause-former g c =
+    let s = c.self.inside in
+    let t = shape_of s.tree in
+    let k = c.args.count in
+    let none : (k ≡ 0) ⊎ (length t.queue ≡ 0) = elim c.then-count-eq0.branch [
+      | then-count-eq0-via-then-count-eq0 w ↦ inl (omega arith)
+      | then-count-eq0-via-else-count-eq0+then-is_empty w ↦ inr (let z = none_there _ _ w.is_empty.ensures w.if-is_empty.true in omega (arith, z))
+    ] in
+    let still = idle s.plan.now.plan s.request c.self.invariant.rules t c.self.invariant.sound k none in
+    let former = former_of (reverse s.pages.items) t in
+    subst (λ (v : Seen). former ≡ former_then (steps v.plan.plan v.request k v.state).0 v.state v.former) c.self.view_is (sym (ap (λ (z : List (List ℕ) × State). former_then z.0 (shown t) former) still))
+
+pub returns-in_default-clause-free : goal.returns-in_default-clause-free
+returns-in_default-clause-free g c h =
+    let s = c.self.inside in
+    let t = shape_of s.tree in
+    let some = some_there _ _ c.is_empty.ensures c.if-is_empty.false in
+    absurd (carried_or_not s.plan.now.plan s.request c.self.invariant.rules t c.self.invariant.sound c.args.count (omega arith) (omega (arith, some))
+        (subst (λ (v : Seen). (c.args.count ≡ 0) ⊎ (next_route v.plan.plan v.request v.state ≡ None)) (sym c.self.view_is) h))
+
+pub invariant_of-self-in-Ok-gather : goal.invariant_of-self-in-Ok-gather
+invariant_of-self-in-Ok-gather g c =
+    let s = c.self.inside in
+    let t = shape_of s.tree in
+    let some = some_there _ _ c.is_empty.ensures c.if-is_empty.false in
+    let given = busy s.plan.now.plan s.request c.self.invariant.rules t c.self.invariant.sound c.args.count (omega arith) (omega (arith, some)) in
+    let start : c.len-start.result ≡ length t.journal = omega (arith, c.len-start.ensures) in
+    let more : c.len-start.result < length c.gather.new.self.journal.items = omega (arith, start, c.in-Ok-gather.ensures.entries, ap (length {A = List ℕ}) given.2) in
+    let pages : reverse c.push_reserved.new.self.items ≡ c.len-start.result ∷ reverse s.pages.items = ap reverse (c.push_reserved.ensures.items ∙ ap (λ z. z ++ c.len-start.result ∷ []) c.reserve.ensures.items) ∙ last_first s.pages.items c.len-start.result in
+    record {
+      rules = c.self.invariant.rules;
+      limits = c.self.invariant.limits;
+      sound = c.in-Ok-gather.ensures.sound;
+      starts = subst (λ z. AreStarts z (length c.gather.new.self.journal.items)) (sym pages) (more, subst (AreStarts (reverse s.pages.items)) (sym start) c.self.invariant.starts);
+      room = c.in-Ok-gather.ensures.room;
+    }
+
+pub undo_to-requires-clause-possible : goal.undo_to-requires-clause-possible
+undo_to-requires-clause-possible g c =
+    let s = c.self.inside in
+    let n : ℕ = length c.gather.new.self.journal.items in
+    sound_undos s.plan.now.plan s.request (n - c.len-start.result) n (shape_of c.gather.new.self) (omega arith) c.in-Err.ensures.sound
+
+pub invariant_of-self-in-Err-gather : goal.invariant_of-self-in-Err-gather
+invariant_of-self-in-Err-gather g c =
+    let s = c.self.inside in
+    let t = shape_of s.tree in
+    let start : c.len-start.result ≡ length t.journal = omega (arith, c.len-start.ensures) in
+    let same : shape_of c.undo_to.new.self ≡ t = c.undo_to.ensures.former ∙ ap (λ n. tree_before n (shape_of c.gather.new.self)) start ∙ c.in-Err.ensures.back in
+    record {
+      rules = c.self.invariant.rules;
+      limits = c.self.invariant.limits;
+      sound = subst (IsSound s.plan.now.plan s.request) (sym same) c.self.invariant.sound;
+      starts = subst (λ z. AreStarts (reverse z) (length c.undo_to.new.self.journal.items)) (sym c.reserve.ensures.items) (subst (AreStarts (reverse s.pages.items)) (sym (ap (λ (z : Shape g.row.A.Denot). length z.journal) same)) c.self.invariant.starts);
+      room = c.undo_to.ensures.room;
+    }
+
+pub returns-in-Ok-gather-clause-former : goal.returns-in-Ok-gather-clause-former
+returns-in-Ok-gather-clause-former g c =
+    let s = c.self.inside in
+    let t = shape_of s.tree in
+    let some = some_there _ _ c.is_empty.ensures c.if-is_empty.false in
+    let given = busy s.plan.now.plan s.request c.self.invariant.rules t c.self.invariant.sound c.args.count (omega arith) (omega (arith, some)) in
+    let start : c.len-start.result ≡ length t.journal = omega (arith, c.len-start.ensures) in
+    let pages : reverse c.push_reserved.new.self.items ≡ c.len-start.result ∷ reverse s.pages.items = ap reverse (c.push_reserved.ensures.items ∙ ap (λ z. z ++ c.len-start.result ∷ []) c.reserve.ensures.items) ∙ last_first s.pages.items c.len-start.result in
+    let before : tree_before c.len-start.result (shape_of c.gather.new.self) ≡ t = ap (λ n. tree_before n (shape_of c.gather.new.self)) start ∙ c.in-Ok-gather.ensures.back in
+    let former = former_of (reverse s.pages.items) t in
+    ap (λ z. former_of z (shape_of c.gather.new.self)) pages
+    ∙ ap (λ (z : Shape g.row.A.Denot). shown z ∷ former_of (reverse s.pages.items) z) before
+    ∙ sym (ap (λ z. former_then z (shown t) former) given.2)
+    ∙ ap (λ (v : Seen). former_then (steps v.plan.plan v.request c.args.count v.state).0 v.state v.former) c.self.view_is
+
+pub returns-in-Err-clause-free : goal.returns-in-Err-clause-free
+returns-in-Err-clause-free g c h =
+    let s = c.self.inside in
+    let t = shape_of s.tree in
+    let some = some_there _ _ c.is_empty.ensures c.if-is_empty.false in
+    absurd (carried_or_not s.plan.now.plan s.request c.self.invariant.rules t c.self.invariant.sound c.args.count (omega arith) (omega (arith, some))
+        (subst (λ (v : Seen). (c.args.count ≡ 0) ⊎ (next_route v.plan.plan v.request v.state ≡ None)) (sym c.self.view_is) h))
+
+pub returns-then-count-eq0-clause-searches : goal.returns-then-count-eq0-clause-searches
+returns-then-count-eq0-clause-searches g c =
+    let s = c.self.inside in
+    let t = shape_of s.tree in
+    let k = c.args.count in
+    let none : (k ≡ 0) ⊎ (length t.queue ≡ 0) = elim c.then-count-eq0.branch [
+      | then-count-eq0-via-then-count-eq0 w ↦ inl (omega arith)
+      | then-count-eq0-via-else-count-eq0+then-is_empty w ↦ inr (let z = none_there _ _ w.is_empty.ensures w.if-is_empty.true in omega (arith, z))
+    ] in
+    subst (λ (v : Seen). 0 ≡ searches_in v.plan.plan v.request k v.state) c.self.view_is (sym (counts_idle s.plan.now.plan s.request c.self.invariant.rules t c.self.invariant.sound k none))
+
+pub returns-then-count-eq0-clause-new_routes : goal.returns-then-count-eq0-clause-new_routes
+returns-then-count-eq0-clause-new_routes g c =
+    let s = c.self.inside in
+    let t = shape_of s.tree in
+    subst (λ (v : Seen). GivesNewRoutes v.plan.plan v.request c.args.count v.state) c.self.view_is
+        (new_routes s.plan.now.plan s.request c.self.invariant.rules c.args.count (shown t) (sound_tree s.plan.now.plan s.request (length t.journal) t c.self.invariant.sound).formed)
+
+pub returns-in_default-clause-new_routes : goal.returns-in_default-clause-new_routes
+returns-in_default-clause-new_routes g c =
+    let s = c.self.inside in
+    let t = shape_of s.tree in
+    subst (λ (v : Seen). GivesNewRoutes v.plan.plan v.request c.args.count v.state) c.self.view_is
+        (new_routes s.plan.now.plan s.request c.self.invariant.rules c.args.count (shown t) (sound_tree s.plan.now.plan s.request (length t.journal) t c.self.invariant.sound).formed)
+
+pub returns-in-Ok-gather-clause-new_routes : goal.returns-in-Ok-gather-clause-new_routes
+returns-in-Ok-gather-clause-new_routes g c =
+    let s = c.self.inside in
+    let t = shape_of s.tree in
+    subst (λ (v : Seen). GivesNewRoutes v.plan.plan v.request c.args.count v.state) c.self.view_is
+        (new_routes s.plan.now.plan s.request c.self.invariant.rules c.args.count (shown t) (sound_tree s.plan.now.plan s.request (length t.journal) t c.self.invariant.sound).formed)
+
+pub returns-in-Err-clause-new_routes : goal.returns-in-Err-clause-new_routes
+returns-in-Err-clause-new_routes g c =
+    let s = c.self.inside in
+    let t = shape_of s.tree in
+    subst (λ (v : Seen). GivesNewRoutes v.plan.plan v.request c.args.count v.state) c.self.view_is
+        (new_routes s.plan.now.plan s.request c.self.invariant.rules c.args.count (shown t) (sound_tree s.plan.now.plan s.request (length t.journal) t c.self.invariant.sound).formed)

@@ -1,0 +1,15 @@
+use Rattle.std.proofs.Common.{◌≡◌, length, map, ap, ◌∙◌}
+use Rattle.sabr_frontier.specs.Shape.{shape_of}
+use Rattle.sabr_frontier.specs.Session.{Seen, told_part}
+use Rattle.sabr_frontier.specs.Views.{told_at}
+use Rattle.sabr_frontier.proofs.Pages.{sound_tree}
+use Rattle.sabr_frontier.proofs.Roots.{told_all, root_is_tree, shown_root}
+use Rattle.sabr_frontier.proofs.session.Session.parts.Goals as goal
+
+pub returns : goal.returns
+returns g c =
+    let s = c.self.inside in
+    let t = shape_of s.tree in
+    (λ i. map (told_at (c.as_slice-3.ensures.value i) (c.as_slice-2.ensures.value i)) (c.as_slice.ensures.value i))
+    ∙ told_all s.plan.now.plan s.request t (sound_tree s.plan.now.plan s.request (length t.journal) t c.self.invariant.sound) t.index
+    ∙ ap (λ (v : Seen). map (told_part v.plan.plan v.request) v.state.parts) c.self.view_is

@@ -1,0 +1,98 @@
+use Rattle.std.proofs.Common.{◌≡◌, ◌-◌, ◌+◌, ◌<◌, ◌++◌, ◌∷◌, [], ℕ, suc, List, length, arith, ap, sym, subst, ◌∙◌, inr, Option, zero-add}
+use Rattle.std.specs.Prelude.{IfSome}
+use Rattle.sabr_model.specs.Record.{RouteRecord}
+use Rattle.sabr_frontier.specs.Shape.{Shape, shape_of, shown}
+use Rattle.sabr_frontier.proofs.Giving.{is_given}
+use Rattle.sabr_frontier.proofs.Pages.{IsOnTheWay, at_first, one_on, at_last, at_end, sound_tree, none_there, some_there, last_steps, counts_on, counts_idle, counts_none}
+use Rattle.sabr_frontier.specs.Listing.{searches_in}
+use Rattle.sabr_frontier.proofs.tree.Tree.gather.Goals as goal
+
+pub loop-init : goal.loop-init
+loop-init g c = record {
+  way = at_first c.args.plan.now.plan c.args.request.now c.args.count (c.args.count - 0) (shape_of c.args.self.now) c.args.given.now.items (omega arith) c.requires.sound;
+  room = c.requires.room;
+  sum = (let e : c.args.count - 0 ≡ c.args.count = omega arith in ap (λ n. 0 + searches_in c.args.plan.now.plan c.args.request.now n (shown (shape_of c.args.self.now))) e ∙ zero-add _);
+  few = omega arith;
+}
+
+pub returns-then-is_empty-clause-routes : goal.returns-then-is_empty-clause-routes
+returns-then-is_empty-clause-routes g c =
+    let none = none_there _ _ c.is_empty.ensures c.if-is_empty.true in
+    let empty : length c.loop.self.queue.items ≡ 0 = omega (arith, none) in
+    (at_end c.args.plan.now.plan c.args.request.now c.requires.plan (shown (shape_of c.args.self.now)) c.args.count (shape_of c.args.self.now) c.args.given.now.items (c.args.count - c.loop.counter) (shape_of c.loop.self) c.loop.given.items empty c.loop.invariant.way).routes
+
+pub returns-then-is_empty-clause-state : goal.returns-then-is_empty-clause-state
+returns-then-is_empty-clause-state g c =
+    let none = none_there _ _ c.is_empty.ensures c.if-is_empty.true in
+    let empty : length c.loop.self.queue.items ≡ 0 = omega (arith, none) in
+    (at_end c.args.plan.now.plan c.args.request.now c.requires.plan (shown (shape_of c.args.self.now)) c.args.count (shape_of c.args.self.now) c.args.given.now.items (c.args.count - c.loop.counter) (shape_of c.loop.self) c.loop.given.items empty c.loop.invariant.way).state
+
+pub returns-then-is_empty-clause-entries : goal.returns-then-is_empty-clause-entries
+returns-then-is_empty-clause-entries g c =
+    let none = none_there _ _ c.is_empty.ensures c.if-is_empty.true in
+    let empty : length c.loop.self.queue.items ≡ 0 = omega (arith, none) in
+    (at_end c.args.plan.now.plan c.args.request.now c.requires.plan (shown (shape_of c.args.self.now)) c.args.count (shape_of c.args.self.now) c.args.given.now.items (c.args.count - c.loop.counter) (shape_of c.loop.self) c.loop.given.items empty c.loop.invariant.way).entries
+
+pub take-requires-clause-tree : goal.take-requires-clause-tree
+take-requires-clause-tree g c = sound_tree c.args.plan.now.plan c.args.request.now (length c.loop.self.journal.items) (shape_of c.loop.self) c.loop.invariant.way.sound
+
+pub overflow_add-searches : goal.overflow_add-searches
+overflow_add-searches g c =
+    let p = c.args.plan.now.plan in
+    let r = c.args.request.now in
+    let t = shape_of c.loop.self in
+    let some = some_there _ _ c.is_empty.ensures c.if-is_empty.false in
+    let there : 0 < length t.queue = omega (arith, some) in
+    let step = is_given p r c.requires.plan t (sound_tree p r (length t.journal) t c.loop.invariant.way.sound) there in
+    omega (arith, step.few, c.in_ok-searches.ensures.count, c.loop.invariant.few, c.requires.hops, c.requires.count, c.loop-test.true)
+
+pub loop-preserved : goal.loop-preserved
+loop-preserved g c =
+    let p = c.args.plan.now.plan in
+    let r = c.args.request.now in
+    let t = shape_of c.loop.self in
+    let first = shape_of c.args.self.now in
+    let before = c.args.given.now.items in
+    let some = some_there _ _ c.is_empty.ensures c.if-is_empty.false in
+    let there : 0 < length t.queue = omega (arith, some) in
+    let step = is_given p r c.requires.plan t (sound_tree p r (length t.journal) t c.loop.invariant.way.sound) there in
+    let left : c.args.count - c.loop.counter ≡ suc (c.args.count - (c.loop.counter + 1)) = omega (arith, c.loop-test.true) in
+    let given : c.take.new.given.items ≡ c.loop.given.items ++ step.route ∷ [] = subst (λ (o : Option RouteRecord). IfSome o (λ x. c.take.new.given.items ≡ c.loop.given.items ++ x ∷ [])) step.least c.in_ok-searches.ensures.given in
+    let way = subst (λ n. IsOnTheWay p r (shown first) c.args.count first before n t c.loop.given.items) left c.loop.invariant.way in
+    record {
+      way = subst (λ (z : Shape g.row.A.Denot). IsOnTheWay p r (shown first) c.args.count first before (c.args.count - (c.loop.counter + 1)) z c.take.new.given.items) (sym c.in_ok-searches.ensures.ok)
+          (one_on p r (shown first) c.args.count first before (c.args.count - (c.loop.counter + 1)) t c.loop.given.items c.take.new.given.items step given way);
+      room = c.in_ok-searches.ensures.room;
+      sum = subst (λ (z : Shape g.row.A.Denot). (c.loop.searches + c.in_ok-searches.field-0) + searches_in p r (c.args.count - (c.loop.counter + 1)) (shown z) ≡ searches_in p r c.args.count (shown first)) (sym c.in_ok-searches.ensures.ok)
+          (counts_on p r t step (c.args.count - (c.loop.counter + 1)) c.loop.searches c.in_ok-searches.field-0 (searches_in p r c.args.count (shown first)) c.in_ok-searches.ensures.count
+              (subst (λ n. c.loop.searches + searches_in p r n (shown t) ≡ searches_in p r c.args.count (shown first)) left c.loop.invariant.sum));
+      few = omega (arith, step.few, c.in_ok-searches.ensures.count, c.loop.invariant.few, c.requires.hops);
+    }
+
+pub returns-clause-routes : goal.returns-clause-routes
+returns-clause-routes g c =
+    let none : c.args.count - c.loop.counter ≡ 0 = omega (arith, c.loop-test.false) in
+    (at_last c.args.plan.now.plan c.args.request.now (shown (shape_of c.args.self.now)) c.args.count (shape_of c.args.self.now) c.args.given.now.items (c.args.count - c.loop.counter) (shape_of c.loop.self) c.loop.given.items (last_steps c.args.plan.now.plan c.args.request.now (shown (shape_of c.loop.self)) (c.args.count - c.loop.counter) none) c.loop.invariant.way).routes
+
+pub returns-clause-state : goal.returns-clause-state
+returns-clause-state g c =
+    let none : c.args.count - c.loop.counter ≡ 0 = omega (arith, c.loop-test.false) in
+    (at_last c.args.plan.now.plan c.args.request.now (shown (shape_of c.args.self.now)) c.args.count (shape_of c.args.self.now) c.args.given.now.items (c.args.count - c.loop.counter) (shape_of c.loop.self) c.loop.given.items (last_steps c.args.plan.now.plan c.args.request.now (shown (shape_of c.loop.self)) (c.args.count - c.loop.counter) none) c.loop.invariant.way).state
+
+pub returns-clause-entries : goal.returns-clause-entries
+returns-clause-entries g c =
+    let none : c.args.count - c.loop.counter ≡ 0 = omega (arith, c.loop-test.false) in
+    (at_last c.args.plan.now.plan c.args.request.now (shown (shape_of c.args.self.now)) c.args.count (shape_of c.args.self.now) c.args.given.now.items (c.args.count - c.loop.counter) (shape_of c.loop.self) c.loop.given.items (last_steps c.args.plan.now.plan c.args.request.now (shown (shape_of c.loop.self)) (c.args.count - c.loop.counter) none) c.loop.invariant.way).entries
+
+pub returns-then-is_empty-clause-searches : goal.returns-then-is_empty-clause-searches
+returns-then-is_empty-clause-searches g c =
+    let none = none_there _ _ c.is_empty.ensures c.if-is_empty.true in
+    let empty : length c.loop.self.queue.items ≡ 0 = omega (arith, none) in
+    let still = counts_idle c.args.plan.now.plan c.args.request.now c.requires.plan (shape_of c.loop.self) c.loop.invariant.way.sound (c.args.count - c.loop.counter) (inr empty) in
+    omega (arith, still, c.loop.invariant.sum)
+
+pub returns-clause-searches : goal.returns-clause-searches
+returns-clause-searches g c =
+    let none : c.args.count - c.loop.counter ≡ 0 = omega (arith, c.loop-test.false) in
+    let still = counts_none c.args.plan.now.plan c.args.request.now (shown (shape_of c.loop.self)) (c.args.count - c.loop.counter) none in
+    omega (arith, still, c.loop.invariant.sum)

@@ -1,0 +1,14 @@
+use Rattle.std.proofs.Common.{◌≡◌, ◌+◌, ◌-◌, ◌*◌, ◌≤◌}
+use Rattle.sabr_frontier.specs.Listing.{searches_in}
+use Rattle.sabr_frontier.specs.Shape.{shape_of, shown}
+use Rattle.sabr_frontier.specs.Undo.{IsRoomy}
+use Rattle.sabr_frontier.proofs.Pages.{IsOnTheWay}
+use Rattle.sabr_frontier.proofs.tree.Tree.gather.Given as goal
+
+abbrev pub invariant-loop : goal.invariant-loop
+invariant-loop g l = record {
+  way : IsOnTheWay l.plan.plan l.request (shown (shape_of l.fn.self)) l.count (shape_of l.fn.self) l.fn.given.items (l.count - l.counter) (shape_of l.self) l.given.items;
+  room : IsRoomy l.self;
+  sum : l.searches + searches_in l.plan.plan l.request (l.count - l.counter) (shown (shape_of l.self)) ≡ searches_in l.plan.plan l.request l.count (shown (shape_of l.fn.self));
+  few : l.searches ≤ l.counter * 20000;
+}

@@ -1,0 +1,18 @@
+-- What a finder answers.
+use Rattle.std.specs.Prelude.{◌≡◌, ℕ, List, Option}
+use Rattle.std.specs.Option.{option_map}
+use Rattle.sabr_model.specs.Plan.{ContactPlan}
+use Rattle.sabr_model.specs.Arrival.{RouteRequest}
+use Rattle.sabr_model.specs.Parts.{least_in}
+use Rattle.sabr_model.specs.Record.{RouteRecord, record_of}
+
+-- the record of the least route of a part, or none where the part has no route
+unfoldable pub best_of : ContactPlan → RouteRequest → List ℕ → List ℕ → Option RouteRecord
+best_of p r prefix excluded = option_map (record_of p r) (least_in p r prefix excluded)
+
+abbrev pub IsBest : ContactPlan → RouteRequest → List ℕ → List ℕ → Option RouteRecord → Type 0
+IsBest p r prefix excluded answer = answer ≡ best_of p r prefix excluded
+
+-- the answer is the least route of the part, and none where the part has no route
+abbrev pub IsLeast : ContactPlan → RouteRequest → List ℕ → List ℕ → Option RouteRecord → Type 0
+IsLeast p r prefix excluded answer = answer ≡ option_map (record_of p r) (least_in p r prefix excluded)

@@ -1,0 +1,19 @@
+-- What any steps from a well-formed state give: routes that are new.
+use Rattle.std.specs.Prelude.{◌≡◌, ℕ, ◌<◌, ◌⊎◌, List, ◌∷◌, length, Some, None, IsTrue}
+use Rattle.sabr_model.specs.Plan.{ContactPlan}
+use Rattle.sabr_model.specs.Arrival.{RouteRequest}
+use Rattle.sabr_model.specs.Route.{is_route}
+use Rattle.sabr_frontier.specs.State.{State, Member}
+use Rattle.sabr_frontier.specs.Listing.{IsState, leaves_in, next_route, steps}
+use Rattle.sabr_frontier.specs.Queue.{InPairs}
+
+-- k steps from s give routes, none of them a leaf of s and none twice; all of them, and the leaves of s, are leaves
+-- then; the first is the least that a part carries; and there are k of them, or no part carries one then
+pub record GivesNewRoutes (p : ContactPlan) (r : RouteRequest) (k : ℕ) (s : State) : Type 0 where
+  pub formed : IsState p r (steps p r k s).1
+  pub routes : (x : List ℕ) → Member x (steps p r k s).0 → IsTrue (is_route p r x)
+  pub unseen : (x : List ℕ) → Member x (steps p r k s).0 → Member x (leaves_in p r s) → ⊥
+  pub once : InPairs (λ x y. x ≡ y → ⊥) (steps p r k s).0
+  pub seen_then : (x : List ℕ) → Member x (steps p r k s).0 ⊎ Member x (leaves_in p r s) → Member x (leaves_in p r (steps p r k s).1)
+  pub first : (x : List ℕ) → 0 < k → next_route p r s ≡ Some x → (xs : List (List ℕ)) × ((steps p r k s).0 ≡ x ∷ xs)
+  pub all : (length (steps p r k s).0 ≡ k) ⊎ (next_route p r (steps p r k s).1 ≡ None)

@@ -1,0 +1,25 @@
+-- Lists that rise strictly, as finite sets.
+use Rattle.std.specs.Prelude.{◌≡◌, Bool, false, ◌||◌, List, [], ◌∷◌}
+use Rattle.std.specs.Ordering.{is_eq}
+use Rattle.std.specs.declared.cmp.Ordering.{Ordering}
+use Rattle.std.specs.declared.cmp.Ordering.TheVariants.{Less, Equal}
+
+module _ {K : Type 0} (R : K → K → Ordering) where
+  -- whether it is one of these
+  abbrev pub has : K → List K → Bool
+  has q [] = false
+  has q (x ∷ xs) = is_eq (R q x) || has q xs
+
+  -- below each of these
+  abbrev pub Below : K → List K → Type 0
+  Below x [] = Unit {0}
+  Below x (y ∷ ys) = (R x y ≡ Less) × Below x ys
+
+  -- each is below all that follow
+  abbrev pub Rises : List K → Type 0
+  Rises [] = Unit {0}
+  Rises (x ∷ xs) = Below x xs × Rises xs
+
+-- only equal keys tie
+abbrev pub IsExact : {K : Type 0} → (K → K → Ordering) → Type 0
+IsExact {K} R = (x y : K) → R x y ≡ Equal → x ≡ y

@@ -1,0 +1,21 @@
+-- The tree before any route is given.
+use Rattle.std.specs.Prelude.{ℕ, is_some, List, [], ◌∷◌, Option, None, if◌then◌else◌}
+use Rattle.sabr_model.specs.Record.{RouteRecord}
+use Rattle.sabr_frontier.specs.declared.tree.NodeId.{NodeId}
+use Rattle.sabr_frontier.specs.declared.tree.Node.{Node}
+use Rattle.sabr_frontier.specs.Shape.{Shape}
+
+-- the first node
+abbrev pub first_id : NodeId
+first_id = record { 0 = 0 }
+
+-- one node with the empty prefix, where nothing is excluded, and the best route of all
+abbrev pub root : {A : Type 0} → Option RouteRecord → Shape A
+root found = record {
+  nodes = record { leaf = 0; length = 0; excluded = []; route = found } ∷ [];
+  index = first_id ∷ [];
+  queue = if is_some found then first_id ∷ [] else [];
+  leaves = [];
+  last = None;
+  journal = [];
+}

@@ -1,0 +1,46 @@
+-- When a tree stands for a well-formed state, and its queue for what its parts carry.
+use Rattle.std.specs.Prelude.{◌≡◌, ℕ, ◌<◌, ◌≤◌, true, false, nat_eq, is_some, ◌⊎◌, List, length, Some, slice_get, slice_index, IsTrue}
+use Rattle.std.specs.Ordering.{nat_cmp}
+use Rattle.sabr_model.specs.Plan.{ContactPlan}
+use Rattle.sabr_model.specs.Arrival.{RouteRequest}
+use Rattle.sabr_model.specs.Route.{is_route}
+use Rattle.sabr_model.specs.Record.{RouteRecord, record_of}
+use Rattle.sabr_frontier.specs.declared.tree.NodeId.{NodeId}
+use Rattle.sabr_frontier.specs.declared.tree.Node.{Node}
+use Rattle.sabr_frontier.specs.Rising.{has, Rises}
+use Rattle.sabr_frontier.specs.State.{Member}
+use Rattle.sabr_frontier.specs.Listing.{IsState}
+use Rattle.sabr_frontier.specs.Shape.{Shape, shown, route_at}
+use Rattle.sabr_frontier.specs.Queue.{InPairs, IsAtOrBehind}
+
+-- the node's prefix is empty, or a front of a leaf that is there and long enough
+abbrev pub IsLent : {A : Type 0} → List RouteRecord → Node A → Type 0
+IsLent leaves n = (n.length ≡ 0) ⊎ ((x : RouteRecord) × (slice_get leaves n.leaf ≡ Some x) × (n.length ≤ length x.contacts))
+
+-- a and b are different nodes
+abbrev pub AreApart : NodeId → NodeId → Type 0
+AreApart a b = nat_eq a.0 b.0 ≡ false
+
+pub record IsTree {A : Type 0} (p : ContactPlan) (r : RouteRequest) (t : Shape A) : Type 0 where
+  pub formed : IsState p r (shown t)
+  pub known : (id : NodeId) → Member id t.index → id.0 < length t.nodes
+  pub listed : (id : NodeId) → id.0 < length t.nodes → Member id t.index
+  pub lent : (n : Node A) → Member n t.nodes → IsLent t.leaves n
+  pub records : (n : Node A) (x : RouteRecord) → Member n t.nodes → n.route ≡ Some x → x ≡ record_of p r x.contacts
+  pub queued : (id : NodeId) → Member id t.queue → is_some (route_at t.nodes id) ≡ true
+  pub waiting : (id : NodeId) → is_some (route_at t.nodes id) ≡ true → Member id t.queue
+  pub falls : InPairs (IsAtOrBehind t.nodes) t.queue
+  pub once : InPairs AreApart t.queue
+  pub short : length t.queue ≤ length t.nodes
+
+-- a node can be divided by the route that it carries: a route that goes on behind the node's prefix with a
+-- number that the node doesn't exclude
+pub record IsDividable {A : Type 0} (p : ContactPlan) (r : RouteRequest) (n : Node A) (x : RouteRecord) : Type 0 where
+  pub route : IsTrue (is_route p r x.contacts)
+  pub longer : n.length < length x.contacts
+  pub rises : Rises nat_cmp n.excluded
+  pub absent : has nat_cmp (slice_index x.contacts n.length) n.excluded ≡ false
+
+-- wherever the node and its route are, it can be divided
+abbrev pub CanDivide : {A : Type 0} → ContactPlan → RouteRequest → List (Node A) → NodeId → Type 0
+CanDivide {A} p r nodes node = (n : Node A) (x : RouteRecord) → slice_get nodes node.0 ≡ Some n → n.route ≡ Some x → IsDividable p r n x

@@ -1,0 +1,51 @@
+//! Giving several routes, one after another.
+
+ghost use Rattle.std.specs.Prelude.{◌≡◌, ℕ, ◌+◌, ◌*◌, ◌≤◌, ◌++◌, map, length, IfOk, OnOk};
+ghost use Rattle.sabr_model.specs.Plan.{IsPlan};
+ghost use Rattle.sabr_model.specs.Record.{record_of};
+ghost use Rattle.sabr_frontier.specs.Listing.{searches_in, steps};
+ghost use Rattle.sabr_frontier.specs.Shape.{shape_of, shown};
+ghost use Rattle.sabr_frontier.specs.Undo.{IsRoomy};
+ghost use Rattle.sabr_frontier.specs.Session.{IsSound, tree_before};
+
+use crate::finder::BestOf;
+use crate::tree::Tree;
+use sabr_model::{NoMemory, Plan, Request, Route};
+use std::alloc::Allocator;
+
+impl<A: Allocator + Copy> Tree<A> {
+    /// Gives the next `count` routes, or all that are left if they are fewer, and answers how many searches
+    /// that took. After a refusal the routes given so far can be taken back.
+    pub fn gather<B: BestOf<A>>(
+        &mut self,
+        alloc: A,
+        plan: &Plan<A>,
+        request: &Request,
+        finder: &mut B,
+        count: u32,
+        given: &mut Vec<Route<A>, A>,
+    ) -> Result<u64, NoMemory>
+        requires plan { IsPlan plan.now.plan }
+        requires hops { request.now.max_hops ≤ 20000 }
+        requires count { count ≤ 10000 }
+        requires sound { IsSound plan.now.plan request.now (shape_of self.old) }
+        requires room { IsRoomy self.old }
+        ensures routes { OnOk result (given.new.items ≡ given.old.items ++ map (record_of plan.now.plan request.now) (steps plan.now.plan request.now count (shown (shape_of self.old))).0) }
+        ensures state { OnOk result (shown (shape_of self.new) ≡ (steps plan.now.plan request.now count (shown (shape_of self.old))).1) }
+        ensures entries { OnOk result (length self.new.journal.items ≡ length self.old.journal.items + length (steps plan.now.plan request.now count (shown (shape_of self.old))).0) }
+        ensures searches { IfOk result (λ n. n ≡ searches_in plan.now.plan request.now count (shown (shape_of self.old))) }
+        ensures sound { IsSound plan.now.plan request.now (shape_of self.new) }
+        ensures longer { length self.old.journal.items ≤ length self.new.journal.items }
+        ensures back { tree_before (length self.old.journal.items) (shape_of self.new) ≡ shape_of self.old }
+        ensures room { IsRoomy self.new }
+    {
+        let mut searches = 0;
+        for _ in 0..count {
+            if self.queue.is_empty() {
+                return Ok(searches);
+            }
+            searches += self.take(alloc, plan, request, finder, given)?;
+        }
+        Ok(searches)
+    }
+}

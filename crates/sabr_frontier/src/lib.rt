@@ -1,0 +1,23 @@
+//! Parts of a listing of routes, divided as routes are given.
+#![tactic(auto)]
+
+mod change;
+mod divide;
+mod excluded;
+mod finder;
+mod gather;
+mod laws;
+mod places;
+mod root;
+mod rows;
+mod session;
+mod take;
+mod tree;
+mod undo;
+mod views;
+
+pub use finder::{BestOf, Part};
+pub use laws::{law4, law5, law6};
+pub use rows::{states_of_plan_a, states_of_plan_c, steps_of_plan_a};
+pub use session::Session;
+pub use views::{PartView, Parts};

@@ -1,0 +1,50 @@
+//! The tree before any route is given.
+
+ghost use Rattle.std.specs.Prelude.{◌≡◌, IfOk};
+ghost use Rattle.sabr_frontier.specs.Root.{root};
+ghost use Rattle.sabr_frontier.specs.Shape.{shape_of};
+ghost use Rattle.sabr_frontier.specs.Undo.{IsRoomy};
+
+use crate::excluded::Excluded;
+use crate::tree::{Node, NodeId, Tree};
+use sabr_model::{NoMemory, Route};
+use std::alloc::Allocator;
+
+impl<A: Allocator + Copy> Tree<A> {
+    /// One part with all routes, which carries the best of them.
+    pub fn root(alloc: A, found: Option<Route<A>>) -> Result<Tree<A>, NoMemory>
+        ensures shape { IfOk result (λ t. shape_of t ≡ root found) }
+        ensures room { IfOk result IsRoomy }
+    {
+        let mut nodes = Vec::new(alloc);
+        let mut index = Vec::new(alloc);
+        let mut queue = Vec::new(alloc);
+        let Ok(()) = nodes.reserve(1) else {
+            return Err(NoMemory);
+        };
+        let Ok(()) = index.reserve(1) else {
+            return Err(NoMemory);
+        };
+        let Ok(()) = queue.reserve(1) else {
+            return Err(NoMemory);
+        };
+        if found.is_some() {
+            queue.push_reserved(NodeId(0));
+        }
+        index.push_reserved(NodeId(0));
+        nodes.push_reserved(Node {
+            leaf: 0,
+            length: 0,
+            excluded: Excluded::none(alloc),
+            route: found,
+        });
+        Ok(Tree {
+            nodes,
+            index,
+            queue,
+            leaves: Vec::new(alloc),
+            last: None,
+            journal: Vec::new(alloc),
+        })
+    }
+}

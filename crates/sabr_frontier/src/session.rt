@@ -1,0 +1,198 @@
+//! A session over a listing of routes: the next routes a page at a time, and back.
+
+ghost use Rattle.std.specs.Prelude.{◌≡◌, ◌≢◌, ℕ, ◌+◌, ◌<◌, ◌≤◌, ◌⊎◌, ◌↔◌, ◌∷◌, ◌++◌, [], map, length, is_some, None, IfOk, OnOk, OnErr, IsOk, IsTrue, IsFalse};
+ghost use Rattle.sabr_model.specs.Record.{record_of};
+ghost use Rattle.sabr_frontier.specs.Fresh.{GivesNewRoutes};
+ghost use Rattle.sabr_frontier.specs.Listing.{next_route, searches_in, state_at, steps};
+ghost use Rattle.sabr_frontier.specs.Session.{former_then, told_part};
+ghost use Rattle.sabr_frontier.specs.Views.{told_left};
+
+use crate::finder::{ask, BestOf};
+use crate::tree::Tree;
+use crate::views::Parts;
+use sabr_model::{NoMemory, Plan, Request, Route};
+use std::alloc::{Allocator, Global};
+use std::marker::Model;
+
+/// A listing of the routes of a plan for a request, as far as they were given.
+#[derive(Drop)]
+pub struct Session<'p, B: BestOf<A>, A: Allocator + Copy = Global> {
+    alloc: A,
+    plan: &'p Plan<A>,
+    request: Request,
+    finder: B,
+    tree: Tree<A>,
+    pages: Vec<usize, A>,
+    searches: u64,
+}
+
+impl<'p, B: BestOf<A>, A: Allocator + Copy> Model for Session<'p, B, A> {
+    ghost use Rattle.sabr_frontier.specs.Session.{Seen, IsSession, seen};
+
+    ghost Value = { Seen };
+
+    ghost view = { λ s. seen s.plan.now s.request s.tree s.pages.items s.searches };
+
+    ghost invariant = { λ s. IsSession s.plan.now s.request s.tree s.pages.items };
+}
+
+impl<'p, B: BestOf<A>, A: Allocator + Copy> Session<'p, B, A> {
+    /// A session of which no route was given yet. A refusal drops the finder.
+    pub fn start(
+        alloc: A,
+        plan: &'p Plan<A>,
+        request: Request,
+        mut finder: B,
+    ) -> Result<Session<'p, B, A>, NoMemory>
+        ensures { IfOk result (λ s. s ≡ record { plan = plan.now; request = request; state = state_at plan.now.plan request 0; former = []; searches = 1 }) }
+    {
+        // contracts learn here that the plan and the request keep their rules
+        let _ = plan.contacts();
+        let _ = request.max_hops();
+        let found = ask(&mut finder, plan, &request, &[], &[])?;
+        let tree = Tree::root(alloc, found)?;
+        Ok(Session {
+            alloc,
+            plan,
+            request,
+            finder,
+            tree,
+            pages: Vec::new(alloc),
+            searches: 1,
+        })
+    }
+
+    /// The next `count` routes, or all that are left if they are fewer.
+    pub fn page(&mut self, count: u32) -> Result<Vec<Route<A>, A>, NoMemory>
+        requires { count ≤ 10000 }
+        ensures routes { IfOk result (λ given. given.items ≡ map (record_of self.old.plan.plan self.old.request) (steps self.old.plan.plan self.old.request count self.old.state).0) }
+        ensures state { OnOk result (self.new.state ≡ (steps self.old.plan.plan self.old.request count self.old.state).1) }
+        ensures former { OnOk result (self.new.former ≡ former_then (steps self.old.plan.plan self.old.request count self.old.state).0 self.old.state self.old.former) }
+        ensures searches { OnOk result (self.new.searches ≡ searches_in self.old.plan.plan self.old.request count self.old.state) }
+        ensures plan { self.new.plan ≡ self.old.plan }
+        ensures request { self.new.request ≡ self.old.request }
+        ensures new_routes { GivesNewRoutes self.old.plan.plan self.old.request count self.old.state }
+        ensures err { OnErr result (self.new ≡ self.old) }
+        ensures free { (count ≡ 0) ⊎ (next_route self.old.plan.plan self.old.request self.old.state ≡ None) → IsOk result }
+    {
+        let mut given = Vec::new(self.alloc);
+        if count == 0 || self.tree.queue.is_empty() {
+            self.searches = 0;
+            return Ok(given);
+        }
+        let Ok(()) = self.pages.reserve(1) else {
+            return Err(NoMemory);
+        };
+        let start = self.tree.journal.len();
+        match self.tree.gather(
+            self.alloc,
+            self.plan,
+            &self.request,
+            &mut self.finder,
+            count,
+            &mut given,
+        ) {
+            Ok(searches) => {
+                self.pages.push_reserved(start);
+                self.searches = searches;
+                Ok(given)
+            }
+            Err(refused) => {
+                self.tree.undo_to(start);
+                Err(refused)
+            }
+        }
+    }
+
+    /// Takes the last page that gave routes back. It needs no memory. False, and nothing changes, where there
+    /// is none.
+    pub fn back(&mut self) -> bool
+        ensures yes { IsTrue result → self.new.state ∷ self.new.former ≡ self.old.former }
+        ensures searches { IsTrue result → self.new.searches ≡ 0 }
+        ensures plan { self.new.plan ≡ self.old.plan }
+        ensures request { self.new.request ≡ self.old.request }
+        ensures no { IsFalse result → self.new ≡ self.old }
+        ensures none { IsFalse result → self.old.former ≡ [] }
+    {
+        let Some(start) = self.pages.pop() else {
+            return false;
+        };
+        self.tree.undo_to(start);
+        self.searches = 0;
+        true
+    }
+
+    /// Whether a page that gave routes can be taken back.
+    pub fn can_back(&self) -> bool
+        ensures { IsTrue result ↔ (0 < length self.now.former) }
+    {
+        !self.pages.is_empty()
+    }
+
+    /// How many routes were given.
+    pub fn emitted(&self) -> u128
+        ensures { result ≡ self.now.state.emitted }
+    {
+        self.tree.leaves.len() as u128
+    }
+
+    /// Whether some part carries a route.
+    pub fn more(&self) -> bool
+        ensures { result ≡ is_some (next_route self.now.plan.plan self.now.request self.now.state) }
+    {
+        !self.tree.queue.is_empty()
+    }
+
+    /// The last route given, empty where none was.
+    pub fn last(&self) -> &[u32]
+        ensures { result.now ≡ self.now.state.last }
+    {
+        let Some(last) = self.tree.last else {
+            return &[];
+        };
+        match self.tree.leaves.get(last) {
+            Some(leaf) => leaf.contacts.as_slice(),
+            None => &[],
+        }
+    }
+
+    /// How many parts there are, those without a route among them.
+    pub fn part_count(&self) -> usize
+        ensures { result ≡ length self.now.state.parts }
+    {
+        self.tree.index.len()
+    }
+
+    /// The parts, rising by prefix, all borrowed; those without a route are among them.
+    pub fn parts(&self) -> Parts<'_, A>
+        ensures { told_left result ≡ map (told_part self.now.plan.plan self.now.request) self.now.state.parts }
+    {
+        Parts {
+            index: self.tree.index.as_slice(),
+            nodes: self.tree.nodes.as_slice(),
+            leaves: self.tree.leaves.as_slice(),
+        }
+    }
+
+    /// How many times the finder was asked in the last call of `start` or `page` that was answered, and 0 after
+    /// a `back` that was true.
+    pub fn searches(&self) -> u64
+        ensures { result ≡ self.now.searches }
+    {
+        self.searches
+    }
+
+    /// The plan.
+    pub fn plan(&self) -> &'p Plan<A>
+        ensures { result.now ≡ self.now.plan }
+    {
+        self.plan
+    }
+
+    /// The request.
+    pub fn request(&self) -> &Request
+        ensures { result.now ≡ self.now.request }
+    {
+        &self.request
+    }
+}

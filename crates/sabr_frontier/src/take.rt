@@ -1,0 +1,98 @@
+//! Giving the least route that the tree carries.
+
+ghost use Rattle.std.specs.Prelude.{◌≡◌, ℕ, ◌+◌, ◌<◌, ◌≤◌, ◌∷◌, ◌++◌, [], length, vec_len, IsSome, IfOk, IfSome, OnOk, OnErr};
+ghost use Rattle.sabr_model.specs.Plan.{IsPlan};
+ghost use Rattle.sabr_frontier.specs.Shape.{shape_of, route_at};
+ghost use Rattle.sabr_frontier.specs.Undo.{IsRoomy};
+ghost use Rattle.sabr_frontier.specs.Queue.{InPairs, IsBefore};
+ghost use Rattle.sabr_frontier.specs.Taking.{least_route, taken, new_count};
+ghost use Rattle.sabr_frontier.specs.Sound.{CanDivide, IsTree};
+ghost use Rattle.sabr_frontier.specs.Prepared.{IsReady};
+
+use crate::divide::{copied, divide, Division};
+use crate::finder::BestOf;
+use crate::places::index_place;
+use crate::tree::{NodeId, Tree};
+use sabr_model::{NoMemory, Plan, Request, Route};
+use std::alloc::{Allocator, Global};
+
+/// What is ready before the tree changes: a copy of the route, the place of the new nodes in the index, and
+/// what the searches found.
+#[derive(Debug, Drop)]
+pub struct Prepared<A: Allocator + Copy = Global> {
+    pub route: Route<A>,
+    pub place: usize,
+    pub division: Division<A>,
+}
+
+impl<A: Allocator + Copy> Tree<A> {
+    /// All searches for giving the route of a node, and the memory that they fill.
+    fn prepare<B: BestOf<A>>(
+        &self,
+        alloc: A,
+        plan: &Plan<A>,
+        request: &Request,
+        finder: &mut B,
+        node: NodeId,
+    ) -> Result<Prepared<A>, NoMemory>
+        requires in_range { node.0 < vec_len self.now.nodes }
+        requires carries { IsSome (route_at self.now.nodes.items node) }
+        requires order { InPairs (IsBefore self.now.leaves.items self.now.nodes.items) self.now.index.items }
+        requires dividable { CanDivide plan.now.plan request.now self.now.nodes.items node }
+        ensures { IfOk result (IsReady plan.now.plan request.now (shape_of self.now) node) }
+    {
+        let part = &self.nodes[node.0];
+        let Some(route) = &part.route else {
+            unreachable!()
+        };
+        let numbers = route.contacts.as_slice();
+        let copy = copied(alloc, route)?;
+        let division = divide(alloc, plan, request, finder, part, numbers, self.leaves.len())?;
+        let place = index_place(
+            self.leaves.as_slice(),
+            self.nodes.as_slice(),
+            self.index.as_slice(),
+            &numbers[..part.length + 1],
+        );
+        Ok(Prepared {
+            route: copy,
+            place,
+            division,
+        })
+    }
+
+    /// Gives the least route that a node carries, and answers how many searches that took. What may be refused
+    /// comes before the first change.
+    pub fn take<B: BestOf<A>>(
+        &mut self,
+        alloc: A,
+        plan: &Plan<A>,
+        request: &Request,
+        finder: &mut B,
+        given: &mut Vec<Route<A>, A>,
+    ) -> Result<u64, NoMemory>
+        requires plan { IsPlan plan.now.plan }
+        requires tree { IsTree plan.now.plan request.now (shape_of self.old) }
+        requires waiting { 0 < vec_len self.old.queue }
+        requires room { IsRoomy self.old }
+        ensures ok { OnOk result (shape_of self.new ≡ taken plan.now.plan request.now (shape_of self.old)) }
+        ensures given { OnOk result (IfSome (least_route (shape_of self.old)) (λ x. given.new.items ≡ given.old.items ++ x ∷ [])) }
+        ensures count { IfOk result (λ n. n ≡ new_count (shape_of self.old)) }
+        ensures err { OnErr result (shape_of self.new ≡ shape_of self.old) }
+        ensures room { IsRoomy self.new }
+    {
+        let Some(last) = self.queue.last() else {
+            unreachable!()
+        };
+        let node = *last;
+        let prepared = self.prepare(alloc, plan, request, finder, node)?;
+        let count = prepared.division.fresh.len();
+        let Ok(()) = given.reserve(1) else {
+            return Err(NoMemory);
+        };
+        self.reserve(count)?;
+        given.push_reserved(prepared.route);
+        self.change(node, prepared.place, prepared.division);
+        Ok(count as u64 + 1)
+    }
+}

@@ -1,0 +1,82 @@
+//! Taking a given route back, without memory.
+
+ghost use Rattle.std.specs.Prelude.{◌≡◌, ℕ, ◌-◌, ◌<◌, ◌≤◌, ◌&&◌, not, nat_lt, nat_eq, List, [], ◌∷◌, ◌++◌, length, vec_len, vec_capacity};
+ghost use Rattle.std.specs.List.{filter};
+ghost use Rattle.sabr_frontier.specs.Shape.{shape_of};
+ghost use Rattle.sabr_frontier.specs.Undo.{CanUndo, CanUndoTimes, IsLonger, IsRoomy, undone, undone_times, given_back, modify};
+
+use crate::tree::{Node, NodeId, Tree};
+use sabr_model::Route;
+use std::alloc::Allocator;
+
+// Only the nodes below a number stay.
+fn keep_below<A: Allocator + Copy>(ids: &mut Vec<NodeId, A>, count: usize)
+    ensures items { ids.new.items ≡ filter (λ id. nat_lt id.0 count) ids.old.items }
+    ensures capacity { vec_capacity ids.new ≡ vec_capacity ids.old }
+{
+    ids.retain(|id| id.0 < count);
+}
+
+// Only the nodes below a number stay, and a node goes.
+fn keep_others<A: Allocator + Copy>(ids: &mut Vec<NodeId, A>, count: usize, node: NodeId)
+    ensures items { ids.new.items ≡ filter (λ id. nat_lt id.0 count && not (nat_eq id.0 node.0)) ids.old.items }
+    ensures capacity { vec_capacity ids.new ≡ vec_capacity ids.old }
+{
+    ids.retain(|id| id.0 < count && !(id.0 == node.0));
+}
+
+// The node stands last, in a place that is kept.
+fn put_back<A: Allocator + Copy>(ids: &mut Vec<NodeId, A>, node: NodeId)
+    requires { vec_len ids.old < vec_capacity ids.old }
+    ensures items { ids.new.items ≡ ids.old.items ++ node ∷ [] }
+    ensures capacity { vec_capacity ids.old ≤ vec_capacity ids.new }
+{
+    ids.push_reserved(node);
+}
+
+// The route goes back into its node.
+fn give_back<A: Allocator + Copy>(nodes: &mut Vec<Node<A>, A>, node: NodeId, route: Route<A>)
+    requires in_range { node.0 < vec_len nodes.old }
+    requires longer { IsLonger nodes.old.items node.0 route }
+    ensures { nodes.new.items ≡ modify (given_back route) nodes.old.items node.0 }
+{
+    let part = &mut nodes[node.0];
+    let number = route.contacts.as_slice()[part.length];
+    part.excluded.forget(number);
+    part.route = Some(route);
+}
+
+impl<A: Allocator + Copy> Tree<A> {
+    /// Takes the last route back. It needs no memory.
+    fn undo(&mut self)
+        requires possible { CanUndo (shape_of self.old) }
+        requires room { IsRoomy self.old }
+        ensures former { shape_of self.new ≡ undone (shape_of self.old) }
+        ensures room { IsRoomy self.new }
+    {
+        let Some(entry) = self.journal.pop() else {
+            unreachable!()
+        };
+        let Some(route) = self.leaves.pop() else {
+            unreachable!()
+        };
+        self.nodes.truncate(entry.nodes);
+        give_back(&mut self.nodes, entry.node, route);
+        keep_below(&mut self.index, entry.nodes);
+        keep_others(&mut self.queue, entry.nodes, entry.node);
+        put_back(&mut self.queue, entry.node);
+        self.last = entry.last;
+    }
+
+    /// Takes routes back until the journal has as many entries as it had then. It needs no memory.
+    pub fn undo_to(&mut self, start: usize)
+        requires possible { CanUndoTimes (length self.old.journal.items - start) (shape_of self.old) }
+        requires room { IsRoomy self.old }
+        ensures former { shape_of self.new ≡ undone_times (length self.old.journal.items - start) (shape_of self.old) }
+        ensures room { IsRoomy self.new }
+    {
+        while self.journal.len() > start {
+            self.undo();
+        }
+    }
+}

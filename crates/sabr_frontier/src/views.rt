@@ -1,0 +1,66 @@
+//! The parts of a session, one after another, all borrowed.
+
+ghost use Rattle.std.specs.Prelude.{◌≡◌};
+ghost use Rattle.sabr_frontier.specs.Views.{told_at, told_of};
+
+use crate::places::prefix;
+use crate::tree::{Node, NodeId};
+use sabr_model::Route;
+use std::alloc::{Allocator, Global};
+
+/// A part: the routes that begin with the prefix, are longer, and whose next number is not excluded; and its
+/// least route, or none where it has no route.
+#[derive(Drop)]
+pub struct PartView<'a, A: Allocator + Copy = Global> {
+    pub prefix: &'a [u32],
+    pub excluded: &'a [u32],
+    pub route: Option<&'a Route<A>>,
+}
+
+/// The parts that are left, rising by prefix.
+#[derive(Drop)]
+pub struct Parts<'a, A: Allocator + Copy = Global> {
+    pub index: &'a [NodeId],
+    pub nodes: &'a [Node<A>],
+    pub leaves: &'a [Route<A>],
+}
+
+// The part of a node.
+fn part_view<'a, A: Allocator + Copy>(
+    leaves: &'a [Route<A>],
+    nodes: &'a [Node<A>],
+    id: NodeId,
+) -> PartView<'a, A>
+    ensures { told_of result ≡ told_at leaves.now nodes.now id }
+{
+    match nodes.get(id.0) {
+        Some(node) => PartView {
+            prefix: prefix(leaves, node),
+            excluded: node.excluded.as_slice(),
+            route: node.route.as_ref(),
+        },
+        None => PartView {
+            prefix: &[],
+            excluded: &[],
+            route: None,
+        },
+    }
+}
+
+impl<'a, A: Allocator + Copy> Iterator for Parts<'a, A> {
+    type Item = PartView<'a, A>;
+
+    ghost use Rattle.std.specs.Iterator.{YieldsFirstBy, item_count};
+    ghost use Rattle.sabr_frontier.specs.Views.{told_of, told_left};
+
+    ghost next_gives = { YieldsFirstBy told_of told_left };
+
+    ghost remaining = { item_count told_left };
+
+    fn next(&mut self) -> Option<PartView<'a, A>> {
+        let (first, others) = self.index.split_first()?;
+        let found = part_view(self.leaves, self.nodes, *first);
+        self.index = others;
+        Some(found)
+    }
+}

@@ -1,0 +1,70 @@
+-- The canonical text of a plan, piece by piece.
+use Rattle.std.proofs.Common.{◌≡◌, ℕ, ◌+◌, ◌<◌, List, [], ◌∷◌, ◌++◌, take, drop, length, get_or, refl, sym, ap, ◌∙◌, append_assoc, append-nil, Option, Result, Ok, Err, decimal}
+use Rattle.std.specs.List.{flat_map}
+use Rattle.std.proofs.lemmas.List.{take_more, take-append-drop}
+use Rattle.std.proofs.lemmas.List.Concat.{flat_map-append}
+use Rattle.sabr_model.specs.Devices.{Written, WrittenInPart, WritesText}
+use Rattle.sabr_model.proofs.WrittenTexts.{AppendsBeginning-after, AppendsBeginning-more, Written-append, WritesText-after}
+use Rattle.sabr_plan.specs.Canonical.{spaced_numbers, record_line}
+
+-- one number more
+put : (text : List ℕ) (n : ℕ) (ns : List ℕ) → (text ++ (32 ∷ decimal n)) ++ spaced_numbers ns ≡ text ++ spaced_numbers (n ∷ ns)
+put text n ns = append_assoc text (32 ∷ decimal n) (spaced_numbers ns)
+
+-- a letter and five numbers, put one behind the other
+five : (l a b c d e : ℕ) (ns : List ℕ) → ((((((l ∷ []) ++ (32 ∷ decimal a)) ++ (32 ∷ decimal b)) ++ (32 ∷ decimal c)) ++ (32 ∷ decimal d)) ++ (32 ∷ decimal e)) ++ spaced_numbers ns ≡ l ∷ spaced_numbers (a ∷ b ∷ c ∷ d ∷ e ∷ ns)
+five l a b c d e ns =
+    let text₁ = (l ∷ []) ++ (32 ∷ decimal a) in
+    let text₂ = text₁ ++ (32 ∷ decimal b) in
+    let text₃ = text₂ ++ (32 ∷ decimal c) in
+    let text₄ = text₃ ++ (32 ∷ decimal d) in
+    put text₄ e ns ∙ put text₃ d (e ∷ ns) ∙ put text₂ c (d ∷ e ∷ ns) ∙ put text₁ b (c ∷ d ∷ e ∷ ns) ∙ put (l ∷ []) a (b ∷ c ∷ d ∷ e ∷ ns)
+
+pub five_numbers : (l a b c d e : ℕ) → ((((((l ∷ []) ++ (32 ∷ decimal a)) ++ (32 ∷ decimal b)) ++ (32 ∷ decimal c)) ++ (32 ∷ decimal d)) ++ (32 ∷ decimal e)) ++ 10 ∷ [] ≡ record_line l (a ∷ b ∷ c ∷ d ∷ e ∷ [])
+five_numbers l a b c d e =
+    let text = (((((l ∷ []) ++ (32 ∷ decimal a)) ++ (32 ∷ decimal b)) ++ (32 ∷ decimal c)) ++ (32 ∷ decimal d)) ++ (32 ∷ decimal e) in
+    let whole : text ≡ l ∷ spaced_numbers (a ∷ b ∷ c ∷ d ∷ e ∷ []) = sym (append-nil text) ∙ five l a b c d e [] in
+    ap (λ s. s ++ 10 ∷ []) whole
+
+-- and six
+pub six_numbers : (l a b c d e f : ℕ) → (((((((l ∷ []) ++ (32 ∷ decimal a)) ++ (32 ∷ decimal b)) ++ (32 ∷ decimal c)) ++ (32 ∷ decimal d)) ++ (32 ∷ decimal e)) ++ (32 ∷ decimal f)) ++ 10 ∷ [] ≡ record_line l (a ∷ b ∷ c ∷ d ∷ e ∷ f ∷ [])
+six_numbers l a b c d e f =
+    let text = (((((l ∷ []) ++ (32 ∷ decimal a)) ++ (32 ∷ decimal b)) ++ (32 ∷ decimal c)) ++ (32 ∷ decimal d)) ++ (32 ∷ decimal e) in
+    let whole : text ++ (32 ∷ decimal f) ≡ l ∷ spaced_numbers (a ∷ b ∷ c ∷ d ∷ e ∷ f ∷ []) = sym (append-nil (text ++ (32 ∷ decimal f))) ∙ put text f [] ∙ five l a b c d e (f ∷ []) in
+    ap (λ s. s ++ 10 ∷ []) whole
+
+-- a text of which a beginning was written, with more behind it
+pub in_part_more : (a c : Option (List ℕ)) (k n : ℕ) (xs ys : List ℕ) → WrittenInPart a k xs c n → WrittenInPart a k (xs ++ ys) c n
+in_part_more a c k n xs ys p = (AppendsBeginning-more a c xs ys p.0, p.1)
+
+-- behind a text that was written
+pub in_part_after : (a b c : Option (List ℕ)) (k m n : ℕ) (xs ys : List ℕ) → Written a k xs b m → WrittenInPart b m ys c n → WrittenInPart a k (xs ++ ys) c n
+in_part_after a b c k m n xs ys p q = (AppendsBeginning-after a b c xs ys p.0 q.0, q.1 ∙ ap (λ j. j + 1) p.1)
+
+-- the lines before a record, its own, and those behind it
+pub flat_map-parted : {X : Type 0} (line : X → List ℕ) (xs : List X) (i : ℕ) (d : X) → i < length xs → flat_map line xs ≡ (flat_map line (take i xs) ++ line (get_or xs i d)) ++ flat_map line (drop (i + 1) xs)
+flat_map-parted line xs i d h =
+    ap (flat_map line) (sym (take-append-drop (i + 1) xs)) ∙ flat_map-append line (take (i + 1) xs) (drop (i + 1) xs)
+    ∙ ap (λ s. s ++ flat_map line (drop (i + 1) xs)) (ap (flat_map line) (take_more xs i d h) ∙ flat_map-append line (take i xs) (get_or xs i d ∷ []) ∙ ap (λ s. flat_map line (take i xs) ++ s) (append-nil (line (get_or xs i d))))
+
+-- the line of a record was not written, or in part
+pub stopped_at : {X : Type 0} (line : X → List ℕ) (xs : List X) (i : ℕ) (d : X) → i < length xs → (bytes : List ℕ) → bytes ≡ line (get_or xs i d) → (a b c : Option (List ℕ)) (k m n : ℕ) → Written a k (flat_map line (take i xs)) b m → WrittenInPart b m bytes c n → WrittenInPart a k (flat_map line xs) c n
+stopped_at line xs i d h bytes is a b c k m n before part =
+    let own : WrittenInPart b m (line (get_or xs i d)) c n = rw is at part in
+    rw (flat_map-parted line xs i d h) (in_part_more a c k n (flat_map line (take i xs) ++ line (get_or xs i d)) (flat_map line (drop (i + 1) xs)) (in_part_after a b c k m n (flat_map line (take i xs)) (line (get_or xs i d)) before own))
+
+-- a text of four parts, as far as it was written
+module _ (a z : Option (List ℕ)) (k n : ℕ) (one two three four : List ℕ) where
+  pub stopped_in_one : WrittenInPart a k one z n → WrittenInPart a k (((one ++ two) ++ three) ++ four) z n
+  stopped_in_one p = in_part_more a z k n ((one ++ two) ++ three) four (in_part_more a z k n (one ++ two) three (in_part_more a z k n one two p))
+
+  module _ (b : Option (List ℕ)) (m : ℕ) (first : Written a k one b m) where
+    pub stopped_in_two : WrittenInPart b m two z n → WrittenInPart a k (((one ++ two) ++ three) ++ four) z n
+    stopped_in_two p = in_part_more a z k n ((one ++ two) ++ three) four (in_part_more a z k n (one ++ two) three (in_part_after a b z k m n one two first p))
+
+    module _ (c : Option (List ℕ)) (q : ℕ) (second : Written b m two c q) where
+      pub stopped_in_three : WrittenInPart c q three z n → WrittenInPart a k (((one ++ two) ++ three) ++ four) z n
+      stopped_in_three p = in_part_more a z k n ((one ++ two) ++ three) four (in_part_after a c z k q n (one ++ two) three (Written-append a b c k m q one two first second) p)
+
+      pub at_last : {A E : Type 0} (d : Option (List ℕ)) (s : ℕ) (r : Result A E) → Written c q three d s → WritesText d s four r z n → WritesText a k (((one ++ two) ++ three) ++ four) r z n
+      at_last d s r third p = WritesText-after a d z k s n ((one ++ two) ++ three) four r (Written-append a c d k q s (one ++ two) three (Written-append a b c k m q one two first second) third) p

@@ -1,0 +1,41 @@
+-- The four parts of the text are written in turn.
+use Rattle.std.proofs.Common.{◌≡◌, refl, sym, ap, ◌∙◌, ◌++◌, codes}
+use Rattle.std.specs.List.{flat_map}
+use Rattle.std.proofs.lemmas.Result.{err_from_is_err_and}
+use Rattle.sabr_plan.specs.Canonical.{contact_line, range_line, canonical_text}
+use Rattle.sabr_plan.proofs.CanonicalLines.{stopped_in_one, stopped_in_two, stopped_in_three, at_last}
+use Rattle.sabr_plan.proofs.canonical_text.canonical.Goals as goal
+
+pub returns-in_err-write_text : goal.returns-in_err-write_text
+unfolding canonical_text
+returns-in_err-write_text g c =
+    let p = err_from_is_err_and c.from_residual.result c.from_residual.ensures.1 in
+    let plan = c.args.plan.now.plan in
+    rw p.1 (stopped_in_one _ _ _ _ (codes "cgr-plan 1\n") (flat_map contact_line plan.contacts) (flat_map range_line plan.ranges) (codes "end\n") c.in_err-write_text.ensures)
+
+pub returns-in_err-write_contacts : goal.returns-in_err-write_contacts
+unfolding canonical_text
+returns-in_err-write_contacts g c =
+    let r = c.from_residual-in_err-write_contacts in
+    let p = err_from_is_err_and r.result r.ensures.1 in
+    let plan = c.args.plan.now.plan in
+    let h = rw c.contacts.ensures.value at c.in_err-write_contacts.ensures in
+    rw p.1 (stopped_in_two _ _ _ _ (codes "cgr-plan 1\n") (flat_map contact_line plan.contacts) (flat_map range_line plan.ranges) (codes "end\n") _ _ c.in_ok-write_text.ensures h)
+
+pub returns-in_err-write_ranges : goal.returns-in_err-write_ranges
+unfolding canonical_text
+returns-in_err-write_ranges g c =
+    let r = c.from_residual-in_err-write_ranges in
+    let p = err_from_is_err_and r.result r.ensures.1 in
+    let plan = c.args.plan.now.plan in
+    let second = rw c.contacts.ensures.value at c.in_ok-write_contacts.ensures in
+    let h = rw c.ranges-2.ensures at c.in_err-write_ranges.ensures in
+    rw p.1 (stopped_in_three _ _ _ _ (codes "cgr-plan 1\n") (flat_map contact_line plan.contacts) (flat_map range_line plan.ranges) (codes "end\n") _ _ c.in_ok-write_text.ensures _ _ second h)
+
+pub returns : goal.returns
+unfolding canonical_text
+returns g c =
+    let plan = c.args.plan.now.plan in
+    let second = rw c.contacts.ensures.value at c.in_ok-write_contacts.ensures in
+    let third = rw c.ranges-2.ensures at c.in_ok-write_ranges.ensures in
+    at_last _ _ _ _ (codes "cgr-plan 1\n") (flat_map contact_line plan.contacts) (flat_map range_line plan.ranges) (codes "end\n") _ _ c.in_ok-write_text.ensures _ _ second _ _ c.write_text-2.result third c.write_text-2.ensures

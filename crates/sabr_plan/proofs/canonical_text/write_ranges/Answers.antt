@@ -1,0 +1,12 @@
+-- The lines before the one that failed were written.
+use Rattle.std.proofs.Common.{◌≡◌, refl}
+use Rattle.std.proofs.lemmas.Result.{err_from_is_err_and}
+use Rattle.sabr_plan.specs.Canonical.{range_line}
+use Rattle.sabr_plan.proofs.CanonicalLines.{stopped_at}
+use Rattle.sabr_plan.proofs.canonical_text.write_ranges.Goals as goal
+
+pub returns-in_err-write_text : goal.returns-in_err-write_text
+returns-in_err-write_text g c =
+    let p = err_from_is_err_and c.from_residual.result c.from_residual.ensures.1 in
+    let part = rw c.as_bytes.ensures at c.in_err-write_text.ensures in
+    rw p.1 (stopped_at range_line c.args.ranges.now c.loop-range.range-index _ c.loop-range-test.true c.of_range.result c.of_range.ensures _ _ _ _ _ _ c.loop-range.invariant part)

@@ -1,0 +1,83 @@
+//! The canonical text of a plan, and its digest.
+
+ghost use Rattle.std.specs.Prelude.{◌≡◌, ◌++◌, List, ℕ};
+ghost use Rattle.std.specs.List.{flat_map};
+ghost use Rattle.sabr_model.specs.Devices.{WritesText};
+ghost use Rattle.sabr_plan.specs.Canonical.{contact_line, range_line, canonical_text};
+ghost use Rattle.sha2.specs.Sha256.{sha256};
+ghost use Rattle.sha2.specs.Hashers.{Holds256};
+
+use crate::record_line::RecordLine;
+use sabr_model::{Contact, Plan, Range, Write, WriteFault, write_text};
+use sha2::{Digest, Sha256};
+use std::alloc::Allocator;
+
+/// The first line of a canonical text.
+const FIRST_LINE: &[u8] = b"cgr-plan 1\n";
+
+/// Its last line.
+const LAST_LINE: &[u8] = b"end\n";
+
+/// Writes the canonical text of a plan: a line for each standing contact by number, and one for each standing range by
+/// pair of nodes and start, between a first and a last line.
+///
+/// Fails with the writer; then a beginning of the text was written. It takes no memory, and doesn't flush. The text is
+/// this project's profile.
+pub fn canonical<W: Write, A: Allocator + Copy>(plan: &Plan<A>, writer: &mut W) -> Result<(), WriteFault>
+    ensures { WritesText (W.contents writer.old) (W.failures writer.old) (canonical_text plan.now.plan) result (W.contents writer.new) (W.failures writer.new) }
+{
+    write_text(writer, FIRST_LINE)?;
+    write_contacts(plan.contacts(), writer)?;
+    write_ranges(plan.ranges(), writer)?;
+    write_text(writer, LAST_LINE)
+}
+
+/// Writes the lines of contacts.
+fn write_contacts<W: Write>(contacts: &[Contact], writer: &mut W) -> Result<(), WriteFault>
+    ensures { WritesText (W.contents writer.old) (W.failures writer.old) (flat_map contact_line contacts.now) result (W.contents writer.new) (W.failures writer.new) }
+{
+    for contact in contacts {
+        write_text(writer, RecordLine::of_contact(contact).as_bytes())?;
+    }
+    Ok(())
+}
+
+/// Writes the lines of ranges.
+fn write_ranges<W: Write>(ranges: &[Range], writer: &mut W) -> Result<(), WriteFault>
+    ensures { WritesText (W.contents writer.old) (W.failures writer.old) (flat_map range_line ranges.now) result (W.contents writer.new) (W.failures writer.new) }
+{
+    for range in ranges {
+        write_text(writer, RecordLine::of_range(range).as_bytes())?;
+    }
+    Ok(())
+}
+
+/// The digest of a plan: SHA-256 of its canonical text, which is fed line by line. It takes no memory.
+pub fn digest<A: Allocator + Copy>(plan: &Plan<A>) -> [u8; 32]
+    ensures { result ≡ sha256 (canonical_text plan.now.plan) }
+{
+    let mut hasher = Sha256::new();
+    hasher.update(FIRST_LINE);
+    feed_contacts(plan.contacts(), &mut hasher);
+    feed_ranges(plan.ranges(), &mut hasher);
+    hasher.update(LAST_LINE);
+    hasher.finalize()
+}
+
+/// Feeds the lines of contacts.
+fn feed_contacts(contacts: &[Contact], hasher: &mut Sha256)
+    ensures { (m : List ℕ) → Holds256 hasher.old m → Holds256 hasher.new (m ++ flat_map contact_line contacts.now) }
+{
+    for contact in contacts {
+        hasher.update(RecordLine::of_contact(contact).as_bytes());
+    }
+}
+
+/// Feeds the lines of ranges.
+fn feed_ranges(ranges: &[Range], hasher: &mut Sha256)
+    ensures { (m : List ℕ) → Holds256 hasher.old m → Holds256 hasher.new (m ++ flat_map range_line ranges.now) }
+{
+    for range in ranges {
+        hasher.update(RecordLine::of_range(range).as_bytes());
+    }
+}

@@ -1,0 +1,88 @@
+-- Chains of contacts, joined and taken apart, with their arrivals.
+use Rattle.std.proofs.Common.{◌≡◌, ℕ, Bool, true, false, cond, not, ◌||◌, ◌&&◌, eqb, List, [], ◌∷◌, ◌++◌, refl, sym, ap, subst, ◌∙◌, inl, inr, ⊎_elim, arith}
+use Rattle.std.proofs.lemmas.Bool.{and_parts, and_from, or_cases, or_parts, or_right, or_left, or_from, eq-eqb, eqb-true, both_ways, not-true, not_from_false, false_from_ne_true}
+use Rattle.std.proofs.lemmas.List.Folds.{list_any-append}
+use Rattle.std.specs.List.{list_all, list_any}
+use Rattle.std.specs.Option.{option_and_then}
+use Rattle.std.specs.declared.option.Option.{Option}
+use Rattle.std.specs.declared.option.Option.TheVariants.{Some, None}
+use Rattle.sabr_model.specs.declared.contact.Contact.{Contact}
+use Rattle.sabr_model.specs.Plan.{ContactPlan, contact_named, has, are_different}
+use Rattle.sabr_model.specs.Arrival.{RouteRequest, arrival, arrival_after}
+use Rattle.sabr_model.specs.Route.{chain_end, receivers}
+use Rattle.sabr_model.proofs.Begins.{receivers-cons}
+
+-- the arrival over a list is that over its end, from the arrival over its beginning on
+pub arrival_after-append : (p : ContactPlan) (r : RouteRequest) (t : ℕ) (s u : List ℕ) → arrival_after p r t (s ++ u) ≡ option_and_then (λ b. arrival_after p r b u) (arrival_after p r t s)
+arrival_after-append p r t [] u = refl
+arrival_after-append p r t (n ∷ s) u =
+    elim (contact_named p n) as (λ o. option_and_then (λ c. option_and_then (λ b. arrival_after p r b (s ++ u)) (arrival p r t c)) o ≡ option_and_then (λ b. arrival_after p r b u) (option_and_then (λ c. option_and_then (λ b. arrival_after p r b s) (arrival p r t c)) o)) [
+      | None ↦ refl
+      | Some c ↦ elim (arrival p r t c) as (λ a. option_and_then (λ b. arrival_after p r b (s ++ u)) a ≡ option_and_then (λ b. arrival_after p r b u) (option_and_then (λ b. arrival_after p r b s) a)) [
+          | None ↦ refl
+          | Some b ↦ arrival_after-append p r b s u
+        ]
+    ]
+
+-- the arrival over the first contact of a list, and over the others from there on
+pub first_arrival : (p : ContactPlan) (r : RouteRequest) (t n : ℕ) (s : List ℕ) (e : ℕ) (c : Contact) → contact_named p n ≡ Some c → arrival_after p r t (n ∷ s) ≡ Some e
+    → (b : ℕ) × (arrival p r t c ≡ Some b) × (arrival_after p r b s ≡ Some e)
+first_arrival p r t n s e c named h =
+    let h' : option_and_then (λ b. arrival_after p r b s) (arrival p r t c) ≡ Some e = sym (ap (option_and_then (λ d. option_and_then (λ b. arrival_after p r b s) (arrival p r t d))) named) ∙ h in
+    elim (arrival p r t c) as (λ o. option_and_then (λ b. arrival_after p r b s) o ≡ Some e → (b : ℕ) × (o ≡ Some b) × (arrival_after p r b s ≡ Some e)) [
+      | None ↦ λ g. absurd cc
+      | Some b ↦ λ g. (b, refl, g)
+    ] h'
+
+pub chain_end-cons : (p : ContactPlan) (a n : ℕ) (s : List ℕ) (c : Contact) → contact_named p n ≡ Some c → c.from ≡ a → chain_end p a (n ∷ s) ≡ chain_end p c.to s
+chain_end-cons p a n s c named from =
+    ap (option_and_then (λ d. cond (eqb d.from a) (chain_end p d.to s) None)) named ∙ ap (λ w. cond w (chain_end p c.to s) None) (eq-eqb c.from a from)
+
+pub arrival_after-cons : (p : ContactPlan) (r : RouteRequest) (t n b : ℕ) (s : List ℕ) (c : Contact) → contact_named p n ≡ Some c → arrival p r t c ≡ Some b → arrival_after p r t (n ∷ s) ≡ arrival_after p r b s
+arrival_after-cons p r t n b s c named here =
+    ap (option_and_then (λ d. option_and_then (λ b. arrival_after p r b s) (arrival p r t d))) named ∙ ap (option_and_then (λ b. arrival_after p r b s)) here
+
+-- two lists without repetition that share nothing, one after the other
+pub different_append : (xs ys : List ℕ) → are_different xs ≡ true → are_different ys ≡ true → ((x : ℕ) → has x xs ≡ true → has x ys ≡ true → ⊥) → are_different (xs ++ ys) ≡ true
+different_append [] ys one other apart = other
+different_append (x ∷ xs) ys one other apart =
+    let parts = and_parts (not (has x xs)) (are_different xs) one in
+    let fresh : has x (xs ++ ys) ≡ false =
+        list_any-append (eqb x) xs ys ∙ or_from (has x xs) (has x ys) (not-true (has x xs) parts.0) (false_from_ne_true (has x ys) (λ h. apart x (or_left (eqb x x) (has x xs) (eq-eqb x x refl)) h)) in
+    and_from (not (has x (xs ++ ys))) (are_different (xs ++ ys)) (not_from_false (has x (xs ++ ys)) fresh)
+        (different_append xs ys parts.1 other (λ y h g. apart y (or_right (eqb y x) (has y xs) h) g))
+
+pub different_left : (xs ys : List ℕ) → are_different (xs ++ ys) ≡ true → are_different xs ≡ true
+different_left [] ys d = refl
+different_left (x ∷ xs) ys d =
+    let parts = and_parts (not (has x (xs ++ ys))) (are_different (xs ++ ys)) d in
+    let fresh = or_parts (has x xs) (has x ys) (sym (list_any-append (eqb x) xs ys) ∙ not-true (has x (xs ++ ys)) parts.0) in
+    and_from (not (has x xs)) (are_different xs) (not_from_false (has x xs) fresh.0) (different_left xs ys parts.1)
+
+pub different_right : (xs ys : List ℕ) → are_different (xs ++ ys) ≡ true → are_different ys ≡ true
+different_right [] ys d = d
+different_right (x ∷ xs) ys d = different_right xs ys (and_parts (not (has x (xs ++ ys))) (are_different (xs ++ ys)) d).1
+
+-- what a test of all elements says of each
+pub all_of : (test : ℕ → Bool) (xs : List ℕ) → list_all test xs ≡ true → (x : ℕ) → has x xs ≡ true → test x ≡ true
+all_of test [] all x h = absurd cc
+all_of test (y ∷ ys) all x h =
+    let parts = and_parts (test y) (list_all test ys) all in
+    ⊎_elim (λ e. ap test (eqb-true x y e) ∙ parts.0) (λ k. all_of test ys parts.1 x k) (or_cases (eqb x y) (has x ys) h)
+
+pub all_from : (test : ℕ → Bool) (xs : List ℕ) → ((x : ℕ) → has x xs ≡ true → test x ≡ true) → list_all test xs ≡ true
+all_from test [] each = refl
+all_from test (y ∷ ys) each =
+    and_from (test y) (list_all test ys) (each y (or_left (eqb y y) (has y ys) (eq-eqb y y refl))) (all_from test ys (λ x h. each x (or_right (eqb x y) (has x ys) h)))
+
+pub has_append : (x : ℕ) (xs ys : List ℕ) → has x (xs ++ ys) ≡ (has x xs || has x ys)
+has_append x xs ys = list_any-append (eqb x) xs ys
+
+pub has_left : (x : ℕ) (xs ys : List ℕ) → has x xs ≡ true → has x (xs ++ ys) ≡ true
+has_left x xs ys h = has_append x xs ys ∙ or_left (has x xs) (has x ys) h
+
+pub has_right : (x : ℕ) (xs ys : List ℕ) → has x ys ≡ true → has x (xs ++ ys) ≡ true
+has_right x xs ys h = has_append x xs ys ∙ or_right (has x xs) (has x ys) h
+
+pub has_either : (x : ℕ) (xs ys : List ℕ) → has x (xs ++ ys) ≡ true → ((P : Type 0) → (has x xs ≡ true → P) → (has x ys ≡ true → P) → P)
+has_either x xs ys h P one other = ⊎_elim one other (or_cases (has x xs) (has x ys) (sym (has_append x xs ys) ∙ h))

@@ -1,0 +1,13 @@
+use Rattle.std.proofs.Common.{◌≡◌, ◌<◌, Some, length, slice_index, slice_get}
+use Rattle.std.proofs.lemmas.Option.{slice_get-get_or}
+use Rattle.sabr_search.specs.Task.{SearchTask, IsTask}
+use Rattle.sabr_search.proofs.StepLists.{are_steps}
+use Rattle.sabr_search.proofs.task.Task.numbers.Goals as goal
+
+pub returns : goal.returns
+returns g c =
+    let task = rw (← c.self.view_is) at c.requires.task in
+    let table = c.self.inside.plan.now.table in
+    let inside : c.args.node < length table = rw (← c.self.view_is) at c.requires.node in
+    let here : slice_get table c.args.node ≡ Some (slice_index table c.args.node) = slice_get-get_or table c.args.node 0 inside in
+    rw (← c.self.view_is) (are_steps _ task c.args.node c.args.at (slice_index table c.args.node) here c.open_contacts.result.now (c.open_contacts.ensures (slice_index table c.args.node) here))

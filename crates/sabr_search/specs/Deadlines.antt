@@ -1,0 +1,39 @@
+-- Deadlines of the entries of hop layers: the first second at which it is too late for the rest of a way.
+use Rattle.std.specs.Prelude.{◌≡◌, ◌≢◌, ℕ, ◌+◌, ◌≤◌, ◌<◌, List, length, slice_get, slice_index}
+use Rattle.std.specs.declared.option.Option.TheVariants.{Some}
+use Rattle.sabr_search.specs.declared.layers.Reached.{Reached}
+use Rattle.sabr_search.specs.declared.layers.Best.{Best}
+use Rattle.sabr_search.specs.Layers.{Admits, IsTable, IsLayered}
+use Rattle.sabr_search.specs.Task.{SearchTask, Takes, never}
+use Rattle.sabr_search.specs.Lists.{IsPlaced}
+use Rattle.sabr_search.specs.Made.{Entry}
+
+-- `place` names the entry of each node of layer `hop`
+pub record ArePointed (task : SearchTask) (hop : ℕ) (bounds place : List ℕ) (reached : List Reached) : Type 0 where
+  pub flags : length place ≡ length task.table
+  pub bounded : hop + 1 < length bounds
+  pub later : 0 < slice_index bounds hop
+  pub ends : slice_index bounds (hop + 1) ≤ length reached
+  pub placed : IsPlaced place reached
+  pub pointed : (p : ℕ) (e : Reached) → slice_index bounds hop ≤ p → p < slice_index bounds (hop + 1) → slice_get reached p ≡ Some e → slice_index place e.node ≡ p
+  pub other : (p : ℕ) (e : Reached) → slice_get reached p ≡ Some e → e.node ≢ task.goal
+
+-- whoever is at the node by then still reaches the goal with the best delivery, by layers `hop` and later
+abbrev pub IsInTime : SearchTask → Best → List ℕ → List Reached → ℕ → ℕ → ℕ → Type 0
+IsInTime task best bounds reached hop w b = Admits (Entry bounds reached) task.goal best.hops best.delivery hop w b
+
+-- layers whose deadlines are set from layer `hop` on
+pub record AreTimed (task : SearchTask) (best : Best) (hop : ℕ) (bounds place : List ℕ) (reached : List Reached) : Type 0 where
+  pub flags : length place ≡ length task.table
+  pub bounded : best.hops + 1 < length bounds
+  pub first_bound : slice_index bounds 0 ≡ 0
+  pub second_bound : slice_index bounds 1 ≡ 1
+  pub rising : (j : ℕ) → j ≤ best.hops → slice_index bounds j ≤ slice_index bounds (j + 1)
+  pub ends : slice_index bounds (best.hops + 1) ≤ length reached
+  pub placed : IsPlaced place reached
+  pub inside : (p : ℕ) (e : Reached) → slice_get reached p ≡ Some e → e.node < length task.table
+  pub other : (p : ℕ) (e : Reached) → slice_get reached p ≡ Some e → e.node ≢ task.goal
+  pub apart : (h p q : ℕ) (e f : Reached) → h ≤ best.hops → slice_index bounds h ≤ p → slice_index bounds h ≤ q → p < slice_index bounds (h + 1) → q < slice_index bounds (h + 1) → slice_get reached p ≡ Some e → slice_get reached q ≡ Some f → e.node ≡ f.node → p ≡ q
+  pub layered : IsLayered (Takes task) (Entry bounds reached) task.start task.at task.goal best.hops best.delivery
+  pub tables : (h : ℕ) → hop ≤ h → h < best.hops → IsTable (Takes task) (Entry bounds reached) task.goal best.hops best.delivery h
+  pub early : best.delivery < never

@@ -1,0 +1,13 @@
+pub mod Ways
+pub mod Layers
+pub mod Front
+pub mod Hops
+pub mod Task
+pub mod Steps
+pub mod Lists
+pub mod Made
+pub mod Deadlines
+pub mod Picks
+pub mod Told
+pub mod Entering
+pub mod Part

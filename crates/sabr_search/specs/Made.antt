@@ -1,0 +1,39 @@
+-- Hop layers as they are made: the layers as entries, and what stands once some are made.
+use Rattle.std.specs.Prelude.{◌≡◌, ◌≢◌, ◌⊎◌, ℕ, ◌+◌, ◌≤◌, ◌<◌, List, [], ◌∷◌, length, true, false, slice_get, slice_index, slice_index_or}
+use Rattle.std.specs.declared.option.Option.TheVariants.{Some}
+use Rattle.sabr_search.specs.declared.layers.Reached.{Reached}
+use Rattle.sabr_search.specs.declared.layers.Best.{Best}
+use Rattle.sabr_search.specs.Ways.{Leads}
+use Rattle.sabr_search.specs.Layers.{Entries, IsTaken, IsLayered}
+use Rattle.sabr_search.specs.Task.{SearchTask, Takes, never}
+use Rattle.sabr_search.specs.Lists.{AreLists, AreClosed}
+
+-- layer h is the entries from its bound to before the next
+abbrev pub Entry : List ℕ → List Reached → Entries
+Entry bounds reached h v a x = (p : ℕ) × (slice_index bounds h ≤ p) × (p < slice_index bounds (h + 1)) × (slice_get reached p ≡ Some (record { node = v; arrival = a; deadline = x }))
+
+-- nothing is reached but the start
+pub record AreOpened (task : SearchTask) (arrival : List ℕ) : Type 0 where
+  pub flags : length arrival ≡ length task.shut
+  pub closed : AreClosed task.shut arrival task.at
+  pub unreached : (k : ℕ) → k < length arrival → slice_index_or task.shut k false ≡ false → slice_index arrival k ≡ never
+
+-- no delivery below the ceiling is found, or layers that find one
+abbrev pub IsFound : SearchTask → Entries → ℕ → ℕ → Best → Type 0
+IsFound task E ceiling hop best =
+    ((best.hops ≡ 0) × (best.delivery ≡ ceiling))
+    ⊎ ((0 < best.hops) × (best.hops ≤ hop) × (best.delivery < ceiling) × IsLayered (Takes task) E task.start task.at task.goal best.hops best.delivery)
+
+-- layers up to `hop` are made
+pub record AreLayers (task : SearchTask) (ceiling hop : ℕ) (bounds arrival place : List ℕ) (reached : List Reached) (best : Best) : Type 0 where
+  pub lists : AreLists task.shut task.goal task.at (slice_index bounds (hop + 1)) arrival place reached
+  pub many : length bounds ≡ hop + 2
+  pub first_bound : slice_index bounds 0 ≡ 0
+  pub second_bound : slice_index bounds 1 ≡ 1
+  pub rising : (j : ℕ) → j ≤ hop → slice_index bounds j ≤ slice_index bounds (j + 1)
+  pub last_bound : slice_index bounds (hop + 1) ≡ length reached
+  pub begins : slice_get reached 0 ≡ Some (record { node = task.start; arrival = task.at; deadline = 0 })
+  pub apart : (h p q : ℕ) (e f : Reached) → h ≤ hop → slice_index bounds h ≤ p → slice_index bounds h ≤ q → p < slice_index bounds (h + 1) → q < slice_index bounds (h + 1) → slice_get reached p ≡ Some e → slice_get reached q ≡ Some f → e.node ≡ f.node → p ≡ q
+  pub real : (h v a x : ℕ) → Entry bounds reached h v a x → (ns : List ℕ) × (length ns ≡ h) × Leads (Takes task) task.start task.at ns v a
+  pub taken : IsTaken (Takes task) (Entry bounds reached) hop best.delivery
+  pub found : IsFound task (Entry bounds reached) ceiling hop best

@@ -1,0 +1,71 @@
+-- What a search is asked, and the steps that it may take.
+use Rattle.std.specs.Prelude.{◌≡◌, ℕ, ◌-◌, ◌^◌, ◌≤◌, ◌<◌, Bool, true, false, ◌||◌, IsTrue, List, ◌∷◌, length, slice_get, slice_index_or}
+use Rattle.std.specs.declared.option.Option.{Option}
+use Rattle.std.specs.declared.option.Option.TheVariants.{Some}
+use Rattle.sabr_model.specs.declared.contact.Contact.{Contact}
+use Rattle.sabr_model.specs.Plan.{ContactPlan, IsPlan, contact_named, has}
+use Rattle.sabr_model.specs.Arrival.{RouteRequest, arrival, arrival_after}
+use Rattle.sabr_model.specs.Route.{chain_end, receivers}
+
+-- the plan, the request, the nodes of the plan in their table, by their places there which of them are shut,
+-- the numbers excluded at the start, where the search starts and when, and where it is to go
+pub record SearchTask : Type 0 where
+  pub plan : ContactPlan
+  pub request : RouteRequest
+  pub table : List ℕ
+  pub shut : List Bool
+  pub excluded : List ℕ
+  pub start : ℕ
+  pub goal : ℕ
+  pub at : ℕ
+
+-- the table has the sender and the receiver of each standing contact, and no node twice
+pub record HasNodes (p : ContactPlan) (table : List ℕ) : Type 0 where
+  pub apart : (i j x : ℕ) → slice_get table i ≡ Some x → slice_get table j ≡ Some x → i ≡ j
+  pub senders : (n : ℕ) (c : Contact) → contact_named p n ≡ Some c → (k : ℕ) × (slice_get table k ≡ Some c.from)
+  pub receivers : (n : ℕ) (c : Contact) → contact_named p n ≡ Some c → (k : ℕ) × (slice_get table k ≡ Some c.to)
+
+-- later than every arrival
+abbrev pub never : ℕ
+never = 2 ^ 64 - 1
+
+-- no arrival is later
+abbrev pub latest_arrival : ℕ
+latest_arrival = 253372764799
+
+-- what every search is asked: the plan and the request obey their rules, each node has a flag, the start is shut, and
+-- the goal is open
+pub record IsTask (task : SearchTask) : Type 0 where
+  pub plan : IsPlan task.plan
+  pub nodes : HasNodes task.plan task.table
+  pub margin : task.request.margin ≤ 1000000
+  pub as_many : length task.shut ≡ length task.table
+  pub start_in : task.start < length task.table
+  pub goal_in : task.goal < length task.table
+  pub start_shut : slice_index_or task.shut task.start false ≡ true
+  pub goal_open : slice_index_or task.shut task.goal false ≡ false
+  pub time : task.at ≤ latest_arrival
+
+-- contact n takes what is there at second t from the node at place u to the open node at place w at second b
+pub record Takes (task : SearchTask) (n u t w b : ℕ) : Type 0 where
+  pub contact : Contact
+  pub named : contact_named task.plan n ≡ Some contact
+  pub sender : slice_get task.table u ≡ Some contact.from
+  pub receiver : slice_get task.table w ≡ Some contact.to
+  pub unshut : slice_index_or task.shut w false ≡ false
+  pub allowed : u ≡ task.start → has n task.excluded ≡ false
+  pub arrives : arrival task.plan task.request t contact ≡ Some b
+
+-- no route goes on behind the prefix to the node: it is the source, a receiver of the prefix, or avoided
+abbrev pub is_closed : ContactPlan → RouteRequest → List ℕ → ℕ → Bool
+is_closed p r prefix x = has x (r.source ∷ receivers p prefix) || has x r.avoided
+
+-- the search starts where the prefix ends, when it arrives there, and all nodes that no route goes on to are shut
+pub record IsBehind (task : SearchTask) (prefix : List ℕ) : Type 0 where
+  pub nodes : HasNodes task.plan task.table
+  pub last_node : ℕ
+  pub chained : chain_end task.plan task.request.source prefix ≡ Some last_node
+  pub stands : slice_get task.table task.start ≡ Some last_node
+  pub arrives : arrival_after task.plan task.request task.request.at prefix ≡ Some task.at
+  pub goal_is : slice_get task.table task.goal ≡ Some task.request.destination
+  pub shuts : (k x : ℕ) → slice_get task.table k ≡ Some x → slice_index_or task.shut k false ≡ is_closed task.plan task.request prefix x

@@ -1,0 +1,85 @@
+//! The least route behind a prefix, from layers, deadlines and picks, with its record.
+
+ghost use Rattle.std.specs.Prelude.{◌≡◌, ◌++◌, ℕ, List, ◌+◌, ◌*◌, ◌-◌, ◌^◌, ◌≤◌, ◌<◌, Some, IfOk, IfSome, IfNone, OnErr, length, slice_get};
+ghost use Rattle.sabr_model.specs.declared.contact.Contact.{Contact};
+ghost use Rattle.sabr_model.specs.Plan.{contact_named};
+ghost use Rattle.sabr_model.specs.Route.{until_of, entry_of};
+ghost use Rattle.sabr_search.specs.Ways.{Leads};
+ghost use Rattle.sabr_search.specs.Task.{IsTask, IsBehind, Takes, never};
+ghost use Rattle.sabr_search.specs.Picks.{IsLeastWay};
+ghost use Rattle.sabr_search.specs.Told.{hops_told, IsTold};
+
+use crate::layers::{Layers, Limits};
+use crate::looks::Looks;
+use crate::task::Task;
+use sabr_model::{NoMemory, Numbers, Route};
+use std::alloc::Allocator;
+
+/// The last second of the year 9998, after which no contact ends.
+const LAST_TIME: u64 = 253370764799;
+
+/// The record of a route: one look for each of its contacts.
+fn record<A: Allocator + Copy>(
+    task: &Task<'_, A>,
+    looks: &mut Looks,
+    contacts: Vec<u32, A>,
+    delivery: u64,
+) -> Route<A>
+    requires task { IsTask task.now }
+    requires few { looks.old.count + length contacts.items ≤ 2 ^ 62 }
+    requires named { (i n : ℕ) → slice_get contacts.items i ≡ Some n → (c : Contact) × (contact_named task.now.plan n ≡ Some c) }
+    ensures looks { looks.new.count ≡ looks.old.count + length contacts.items }
+    ensures value { result ≡ record { contacts = contacts.items; delivery = delivery; until = until_of task.now.plan contacts.items; entry = entry_of task.now.plan contacts.items } }
+{
+    let mut until = LAST_TIME;
+    let mut entry = 0;
+    for number in &contacts {
+        let Some(hop) = task.look(looks, *number) else {
+            unreachable!();
+        };
+        until = until.min(hop.end);
+        if entry == 0 {
+            entry = task.node(hop.receiver);
+        }
+    }
+    Route {
+        contacts: Numbers::new(contacts),
+        delivery,
+        until,
+        entry,
+    }
+}
+
+impl<A: Allocator + Copy> Layers<A> {
+    /// The least route behind the prefix within the limits.
+    pub fn answer(
+        &mut self,
+        alloc: A,
+        task: &Task<'_, A>,
+        looks: &mut Looks,
+        prefix: &[u32],
+        limits: Limits,
+    ) -> Result<Option<Route<A>>, NoMemory>
+        requires task { IsTask task.now }
+        requires behind { IsBehind task.now prefix.now }
+        requires few { looks.old.count + 3 * (limits.hops * length task.now.plan.contacts) + length prefix.now + limits.hops ≤ 2 ^ 62 }
+        requires many { length prefix.now + limits.hops < 2 ^ 32 }
+        requires sooner { limits.lower < limits.ceiling }
+        requires ceiling { limits.ceiling ≤ never }
+        requires lower { (ns : List ℕ) (e : ℕ) → Leads (Takes task.now) task.now.start task.now.at ns task.now.goal e → limits.lower ≤ e }
+        ensures none { IfOk result (λ o. IfNone o ((ns : List ℕ) (e : ℕ) → length ns ≤ limits.hops → Leads (Takes task.now) task.now.start task.now.at ns task.now.goal e → limits.ceiling ≤ e)) }
+        ensures some { IfOk result (λ o. IfSome o (λ route. (s : List ℕ) × (route.contacts ≡ prefix.now ++ s) × IsLeastWay task.now limits.hops limits.ceiling s route.delivery × IsTold task.now.plan route)) }
+        ensures err_looks { OnErr result (looks.new.count ≤ looks.old.count + 3 * (limits.hops * length task.now.plan.contacts)) }
+        ensures ok_looks { IfOk result (λ o. looks.new.count ≤ looks.old.count + 3 * (limits.hops * length task.now.plan.contacts) + hops_told o) }
+        ensures stopped { IfOk result (λ o. IfSome o (λ route. route.delivery ≤ limits.lower → looks.new.count ≤ looks.old.count + 3 * ((length route.contacts - length prefix.now) * length task.now.plan.contacts) + length route.contacts)) }
+        ensures counted { IfOk result (λ o. hops_told o ≤ looks.new.count) }
+    {
+        let best = self.make(task, looks, limits)?;
+        if best.hops == 0 {
+            return Ok(None);
+        }
+        self.set_deadlines(task, looks, best);
+        let contacts = self.pick(alloc, task, looks, best, prefix)?;
+        Ok(Some(record(task, looks, contacts, best.delivery)))
+    }
+}

@@ -1,0 +1,38 @@
+//! The law of finders: the least route of a part.
+
+ghost use Rattle.std.specs.Prelude.{◌≡◌, ℕ, ◌+◌, ◌*◌, ◌≤◌, IfOk, IsTrue, length};
+ghost use Rattle.sabr_search.specs.Part.{IsLeast};
+ghost use Rattle.sabr_model.specs.Route.{is_prefix};
+ghost use Rattle.sabr_search.specs.Told.{hops_told};
+
+use crate::part::Part;
+use sabr_model::{NoMemory, Plan, Request, Route};
+use std::alloc::Allocator;
+
+/// A finder of the least route of a part of the routes.
+pub trait BestOf<A: Allocator + Copy>: Drop {
+    ghost looks_of: { Self → ℕ };
+
+    /// The least route of the part by key (delivery, number of hops, contact numbers), or none where the part has no
+    /// route.
+    ///
+    /// The part's prefix is one that `fits`. The answer doesn't depend on what was asked before.
+    ///
+    /// # Errors
+    ///
+    /// [`NoMemory`] where a growth was refused. The finder can be used again.
+    fn best(
+        &mut self,
+        plan: &Plan<A>,
+        request: &Request,
+        part: Part<'_>,
+    ) -> Result<Option<Route<A>>, NoMemory>
+        requires fits { IsTrue (is_prefix plan.now.plan request.now part.prefix.now) }
+        ensures least { IfOk result (IsLeast plan.now.plan request.now part.entry.prefix.now part.entry.excluded.now) }
+        ensures bound { looks_of self.new ≤ (3 * length plan.now.table + 1) * length plan.now.plan.contacts }
+        ensures counted { IfOk result (λ answer. hops_told answer ≤ looks_of self.new) };
+
+    /// How many times the last call of `best` read a contact's record, 0 before the first.
+    fn looks(&self) -> u64
+        ensures { result ≡ looks_of self.now };
+}

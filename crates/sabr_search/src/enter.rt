@@ -1,0 +1,112 @@
+//! Where a search starts and goes, and which nodes are shut: those of the prefix, the source, and those to avoid.
+
+ghost use Rattle.std.specs.Prelude.{◌≡◌, ◌||◌, ◌∷◌, ℕ, List, ◌+◌, ◌^◌, ◌≤◌, ◌<◌, Some, IfOk, IfSome, IfNone, OnOk, IsTrue, false, length, slice_get, slice_index_or};
+ghost use Rattle.sabr_model.specs.Plan.{IsPlan, has};
+ghost use Rattle.sabr_model.specs.Route.{is_route, receivers};
+ghost use Rattle.sabr_search.specs.Hops.{hop_arrival, IsSmall};
+ghost use Rattle.sabr_model.specs.Route.{is_prefix};
+ghost use Rattle.sabr_search.specs.Task.{HasNodes, IsTask, IsBehind, is_closed};
+ghost use Rattle.sabr_search.specs.Entering.{AreShut, IsPassed};
+
+use crate::looks::Looks;
+use crate::pick::Standing;
+use crate::task::arrive_by_hop;
+use sabr_model::{NoMemory, Plan, Request};
+use std::alloc::Allocator;
+
+/// As many nodes, all open.
+pub fn open_all<A: Allocator + Copy>(flags: &mut Vec<bool, A>, nodes: usize) -> Result<(), NoMemory>
+    ensures many { OnOk result (length flags.new.items ≡ nodes) }
+    ensures none { OnOk result ((k : ℕ) → slice_index_or flags.new.items k false ≡ false) }
+{
+    flags.clear();
+    flags.resize(nodes, false)?;
+    Ok(())
+}
+
+/// Every node is open but those to avoid.
+fn shut_avoided<A: Allocator + Copy>(
+    shut: &mut Vec<bool, A>,
+    plan: &Plan<A>,
+    request: &Request,
+) -> Result<(), NoMemory>
+    requires { HasNodes plan.now.plan plan.now.table }
+    ensures { OnOk result (AreShut plan.now.table shut.new.items (λ x. has x request.now.avoided)) }
+{
+    open_all(shut, plan.nodes())?;
+    for node in request.avoided() {
+        if let Some(index) = plan.node_index(*node) {
+            shut[index] = true;
+        }
+    }
+    Ok(())
+}
+
+/// Goes along the prefix, and shuts the source and every node on it.
+fn pass_prefix<A: Allocator + Copy>(
+    shut: &mut Vec<bool, A>,
+    looks: &mut Looks,
+    plan: &Plan<A>,
+    request: &Request,
+    prefix: &[u32],
+    source: usize,
+) -> Standing
+    requires plan { IsPlan plan.now.plan }
+    requires nodes { HasNodes plan.now.plan plan.now.table }
+    requires fits { IsTrue (is_prefix plan.now.plan request.now prefix.now) }
+    requires source { slice_get plan.now.table source ≡ Some request.now.source }
+    requires few { looks.old.count + length prefix.now ≤ 2 ^ 62 }
+    requires shut { AreShut plan.now.table shut.old.items (λ x. has x request.now.avoided) }
+    ensures looks { looks.new.count ≡ looks.old.count + length prefix.now }
+    ensures passed { IsPassed plan.now request.now prefix.now shut.new.items result.node result.at }
+{
+    let mut standing = Standing {
+        node: source,
+        at: request.at(),
+    };
+    shut[source] = true;
+    for number in prefix {
+        let Some(hop) = looks.look(plan, *number) else {
+            unreachable!();
+        };
+        let Some(at) = arrive_by_hop(request.margin_ppm(), standing.at, &hop) else {
+            unreachable!();
+        };
+        shut[hop.receiver] = true;
+        standing = Standing {
+            node: hop.receiver,
+            at,
+        };
+    }
+    standing
+}
+
+/// Where the search behind the prefix starts, and its goal; none where the plan has not both the source and the destination.
+pub fn enter<A: Allocator + Copy>(
+    shut: &mut Vec<bool, A>,
+    looks: &mut Looks,
+    plan: &Plan<A>,
+    request: &Request,
+    prefix: &[u32],
+) -> Result<Option<(Standing, usize)>, NoMemory>
+    requires fits { IsTrue (is_prefix plan.now.plan request.now prefix.now) }
+    requires few { looks.old.count + length prefix.now ≤ 2 ^ 62 }
+    ensures plan { IsPlan plan.now.plan }
+    ensures looks { looks.new.count ≤ looks.old.count + length prefix.now }
+    ensures none { IfOk result (λ o. IfNone o ((s : List ℕ) → IsTrue (is_route plan.now.plan request.now s) → ⊥)) }
+    ensures some { IfOk result (λ o. IfSome o (λ found. (excluded : List ℕ) →
+        IsTask (record { plan = plan.now.plan; request = request.now; table = plan.now.table; shut = shut.new.items; excluded = excluded; start = found.0.node; goal = found.1; at = found.0.at })
+        × IsBehind (record { plan = plan.now.plan; request = request.now; table = plan.now.table; shut = shut.new.items; excluded = excluded; start = found.0.node; goal = found.1; at = found.0.at }) prefix.now)) }
+{
+    let _standing = plan.contacts();
+    let _nodes = plan.nodes();
+    let Some(source) = plan.node_index(request.from()) else {
+        return Ok(None);
+    };
+    let Some(goal) = plan.node_index(request.to()) else {
+        return Ok(None);
+    };
+    shut_avoided(shut, plan, request)?;
+    let standing = pass_prefix(shut, looks, plan, request, prefix, source);
+    Ok(Some((standing, goal)))
+}

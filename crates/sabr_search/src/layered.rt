@@ -1,0 +1,69 @@
+//! A finder by hop layers.
+
+ghost use Rattle.std.specs.Prelude.{◌≡◌};
+
+use crate::best::BestOf;
+use crate::enter::enter;
+use crate::layers::{Layers, Limits, NEVER};
+use crate::looks::Looks;
+use crate::part::Part;
+use crate::task::Task;
+use sabr_model::{NoMemory, Plan, Request, Route};
+use std::alloc::{Allocator, Global};
+
+/// A finder that makes hop layers forward, deadlines backward, and then picks the least numbers from the front.
+///
+/// A call costs at most `(3 * N + 1) * C` looks, N the nodes and C the contacts of the plan. Its memory is kept from call
+/// to call.
+#[derive(Drop)]
+pub struct Layered<A: Allocator + Copy = Global> {
+    alloc: A,
+    shut: Vec<bool, A>,
+    layers: Layers<A>,
+    looks: Looks,
+}
+
+impl<A: Allocator + Copy> Layered<A> {
+    /// A finder that has taken no memory.
+    pub fn new(alloc: A) -> Layered<A>
+        ensures { result.looks.count ≡ 0 }
+    {
+        Layered {
+            alloc,
+            shut: Vec::new(alloc),
+            layers: Layers::new(alloc),
+            looks: Looks::new(),
+        }
+    }
+}
+
+impl<A: Allocator + Copy> BestOf<A> for Layered<A> {
+    ghost looks_of = { λ f. f.looks.count };
+
+    fn best(
+        &mut self,
+        plan: &Plan<A>,
+        request: &Request,
+        part: Part<'_>,
+    ) -> Result<Option<Route<A>>, NoMemory> {
+        self.looks = Looks::new();
+        let Some((standing, goal)) =
+            enter(&mut self.shut, &mut self.looks, plan, request, part.prefix)?
+        else {
+            return Ok(None);
+        };
+        let task = Task::new(plan, request, &self.shut, part.excluded, standing, goal);
+        let left = request.max_hops() as usize - part.prefix.len();
+        let limits = Limits {
+            hops: left.min(plan.nodes() - 1),
+            lower: 0,
+            ceiling: NEVER,
+        };
+        self.layers
+            .answer(self.alloc, &task, &mut self.looks, part.prefix, limits)
+    }
+
+    fn looks(&self) -> u64 {
+        self.looks.count
+    }
+}

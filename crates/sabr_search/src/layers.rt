@@ -1,0 +1,277 @@
+//! Hop layers, forward: by number of hops the nodes that they bring an earlier arrival, with it.
+
+ghost use Rattle.std.specs.Prelude.{◌≡◌, ℕ, List, [], ◌∷◌, ◌+◌, ◌*◌, ◌^◌, ◌≤◌, ◌<◌, length, take, slice_set, slice_index, slice_index_or, Some, OnOk, IfOk, false};
+ghost use Rattle.sabr_search.specs.Task.{IsTask, Takes};
+ghost use Rattle.sabr_search.specs.Steps.{degree};
+ghost use Rattle.sabr_search.specs.Hops.{hop_arrival, IsSmall};
+ghost use Rattle.sabr_search.specs.Lists.{IsPlaced, IsLinked, IsLayer, AddsOnly, AreFresh, AreLists, IsLowered, IsKnown, AreSources, GivenFrom, IsKnownFrom};
+ghost use Rattle.sabr_search.specs.Ways.{Leads};
+ghost use Rattle.sabr_search.specs.Made.{AreOpened, AreLayers};
+
+use crate::looks::Looks;
+use crate::task::Task;
+use sabr_model::{Hop, NoMemory};
+use std::alloc::Allocator;
+
+/// A node that a layer reaches, when, and the first second at which it is too late for the rest.
+#[derive(Clone, Copy)]
+pub struct Reached {
+    pub node: usize,
+    pub arrival: u64,
+    pub deadline: u64,
+}
+
+/// A delivery, and the number of hops with which it is reached; no hops where none is.
+#[derive(Clone, Copy)]
+pub struct Best {
+    pub delivery: u64,
+    pub hops: usize,
+}
+
+/// How far to look: at most `hops` hops, to a delivery before `ceiling`; none is before `lower`.
+#[derive(Clone, Copy)]
+pub struct Limits {
+    pub hops: usize,
+    pub lower: u64,
+    pub ceiling: u64,
+}
+
+/// Later than every arrival.
+pub const NEVER: u64 = u64::MAX;
+
+/// Every open node is unreached, and nothing improves a shut one.
+pub fn open_nodes<A: Allocator + Copy>(
+    arrival: &mut Vec<u64, A>,
+    task: &Task<'_, A>,
+) -> Result<(), NoMemory>
+    requires { IsTask task.now }
+    ensures { OnOk result (AreOpened task.now arrival.new.items) }
+{
+    arrival.clear();
+    for shut in task.shut() {
+        arrival.push(if *shut { 0 } else { NEVER })?;
+    }
+    arrival[task.start()] = task.at();
+    Ok(())
+}
+
+/// By node the least arrival so far and the place of an entry, or 0; the entries, layer by layer, the first being the
+/// start; and where each layer begins.
+#[derive(Drop)]
+pub struct Layers<A: Allocator + Copy> {
+    pub arrival: Vec<u64, A>,
+    pub place: Vec<usize, A>,
+    pub reached: Vec<Reached, A>,
+    pub bounds: Vec<usize, A>,
+}
+
+impl<A: Allocator + Copy> Layers<A> {
+    /// No layers, and no memory taken.
+    pub fn new(alloc: A) -> Layers<A> {
+        Layers {
+            arrival: Vec::new(alloc),
+            place: Vec::new(alloc),
+            reached: Vec::new(alloc),
+            bounds: Vec::new(alloc),
+        }
+    }
+
+    /// Notes an earlier arrival at a node in the layer that begins at `begin`, once for each node.
+    fn note(
+        &mut self,
+        _shut: &[bool],
+        node: usize,
+        arrival: u64,
+        begin: usize,
+    ) -> Result<(), NoMemory>
+        requires node { node < length self.old.arrival.items }
+        requires placed { IsPlaced self.old.place.items self.old.reached.items }
+        requires linked { IsLinked _shut.now self.old.arrival.items self.old.place.items self.old.reached.items }
+        requires layer { IsLayer begin self.old.place.items self.old.reached.items }
+        requires fresh { AreFresh self.old.reached.items }
+        requires later { 0 < begin }
+        ensures bounds { self.new.bounds ≡ self.old.bounds }
+        ensures arrivals { OnOk result (self.new.arrival.items ≡ slice_set self.old.arrival.items node arrival) }
+        ensures placed { OnOk result (IsPlaced self.new.place.items self.new.reached.items) }
+        ensures linked { OnOk result (IsLinked _shut.now self.new.arrival.items self.new.place.items self.new.reached.items) }
+        ensures layer { OnOk result (IsLayer begin self.new.place.items self.new.reached.items) }
+        ensures fresh { OnOk result (AreFresh self.new.reached.items) }
+        ensures before { OnOk result (take begin self.new.reached.items ≡ take begin self.old.reached.items) }
+        ensures entries { OnOk result (AddsOnly self.old.reached.items self.new.reached.items node arrival) }
+    {
+        let at = self.place[node];
+        if at >= begin {
+            self.reached[at].arrival = arrival;
+        } else {
+            let end = self.reached.len();
+            self.reached.push(Reached {
+                node,
+                arrival,
+                deadline: 0,
+            })?;
+            self.place[node] = end;
+        }
+        self.arrival[node] = arrival;
+        Ok(())
+    }
+
+    /// Takes one contact of a node that is reached at `at`; answers the least delivery so far.
+    fn take(
+        &mut self,
+        task: &Task<'_, A>,
+        at: u64,
+        hop: &Hop,
+        begin: usize,
+        best: u64,
+    ) -> Result<u64, NoMemory>
+        requires task { IsTask task.now }
+        requires small { IsSmall hop.now }
+        requires receiver { hop.now.receiver < length task.now.table }
+        requires since { task.now.at ≤ at }
+        requires later { 0 < begin }
+        requires lists { AreLists task.now.shut task.now.goal task.now.at begin self.old.arrival.items self.old.place.items self.old.reached.items }
+        ensures bounds { self.new.bounds ≡ self.old.bounds }
+        ensures lowered { IfOk result (λ b. IsLowered task.now.shut task.now.goal task.now.at begin (λ w x. (w ≡ hop.now.receiver) × (slice_index_or task.now.shut w false ≡ false) × (hop_arrival task.now.request.margin at hop.now ≡ Some x)) self.old.arrival.items self.old.reached.items best self.new.arrival.items self.new.place.items self.new.reached.items b) }
+        ensures known { IfOk result (λ b. (x : ℕ) → hop_arrival task.now.request.margin at hop.now ≡ Some x → IsKnown task.now.goal self.new.arrival.items b hop.now.receiver x) }
+    {
+        let to = hop.receiver;
+        if to == task.goal() {
+            return Ok(task.arrive_before(at, hop, best).unwrap_or(best));
+        }
+        if let Some(arrival) = task.arrive_before(at, hop, best.min(self.arrival[to])) {
+            self.note(task.shut(), to, arrival, begin)?;
+        }
+        Ok(best)
+    }
+
+    /// Takes every contact of a node that is reached; answers the least delivery so far.
+    fn take_all(
+        &mut self,
+        task: &Task<'_, A>,
+        looks: &mut Looks,
+        from: Reached,
+        begin: usize,
+        best: u64,
+    ) -> Result<u64, NoMemory>
+        requires task { IsTask task.now }
+        requires node { from.node < length task.now.table }
+        requires since { task.now.at ≤ from.arrival }
+        requires few { looks.old.count + degree task.now from.node ≤ 2 ^ 62 }
+        requires later { 0 < begin }
+        requires lists { AreLists task.now.shut task.now.goal task.now.at begin self.old.arrival.items self.old.place.items self.old.reached.items }
+        ensures bounds { self.new.bounds ≡ self.old.bounds }
+        ensures looks { looks.new.count ≤ looks.old.count + degree task.now from.node }
+        ensures lowered { IfOk result (λ b. IsLowered task.now.shut task.now.goal task.now.at begin (λ w x. (n : ℕ) × Takes task.now n from.node from.arrival w x) self.old.arrival.items self.old.reached.items best self.new.arrival.items self.new.place.items self.new.reached.items b) }
+        ensures known { IfOk result (λ b. (n w x : ℕ) → Takes task.now n from.node from.arrival w x → IsKnown task.now.goal self.new.arrival.items b w x) }
+    {
+        let mut least = best;
+        for number in task.numbers(from.node, from.arrival) {
+            if task.is_excluded(from.node, *number) {
+                continue;
+            }
+            let Some(hop) = task.look(looks, *number) else {
+                continue;
+            };
+            if hop.start >= least {
+                return Ok(least);
+            }
+            least = self.take(task, from.arrival, &hop, begin, least)?;
+        }
+        Ok(least)
+    }
+
+    /// Takes every contact of every node of layer `hop`; answers the least delivery so far.
+    fn next_layer(
+        &mut self,
+        task: &Task<'_, A>,
+        looks: &mut Looks,
+        hop: usize,
+        best: u64,
+    ) -> Result<u64, NoMemory>
+        requires task { IsTask task.now }
+        requires few { looks.old.count + length task.now.plan.contacts ≤ 2 ^ 62 }
+        requires bounded { hop + 1 < length self.old.bounds.items }
+        requires last { slice_index self.old.bounds.items (hop + 1) ≡ length self.old.reached.items }
+        requires later { 0 < slice_index self.old.bounds.items (hop + 1) }
+        requires sources { AreSources task.now self.old.reached.items (slice_index self.old.bounds.items hop) (slice_index self.old.bounds.items (hop + 1)) }
+        requires lists { AreLists task.now.shut task.now.goal task.now.at (slice_index self.old.bounds.items (hop + 1)) self.old.arrival.items self.old.place.items self.old.reached.items }
+        ensures bounds { self.new.bounds ≡ self.old.bounds }
+        ensures looks { looks.new.count ≤ looks.old.count + length task.now.plan.contacts }
+        ensures lowered { IfOk result (λ b. IsLowered task.now.shut task.now.goal task.now.at (slice_index self.old.bounds.items (hop + 1)) (GivenFrom task.now self.old.reached.items (slice_index self.old.bounds.items hop) (slice_index self.old.bounds.items (hop + 1))) self.old.arrival.items self.old.reached.items best self.new.arrival.items self.new.place.items self.new.reached.items b) }
+        ensures known { IfOk result (λ b. IsKnownFrom task.now self.old.reached.items (slice_index self.old.bounds.items hop) (slice_index self.old.bounds.items (hop + 1)) self.new.arrival.items b) }
+    {
+        let mut least = best;
+        let first = self.bounds[hop];
+        let begin = self.bounds[hop + 1];
+        for place in first..begin {
+            let from = self.reached[place];
+            least = self.take_all(task, looks, from, begin, least)?;
+        }
+        Ok(least)
+    }
+
+    /// Layer 0: the start alone.
+    fn first_layer(&mut self, task: &Task<'_, A>) -> Result<(), NoMemory>
+        requires { IsTask task.now }
+        ensures bounds { OnOk result (self.new.bounds.items ≡ 0 ∷ 1 ∷ []) }
+        ensures reached { OnOk result (self.new.reached.items ≡ record { node = task.now.start; arrival = task.now.at; deadline = 0 } ∷ []) }
+        ensures lists { OnOk result (AreLists task.now.shut task.now.goal task.now.at 1 self.new.arrival.items self.new.place.items self.new.reached.items) }
+    {
+        open_nodes(&mut self.arrival, task)?;
+        self.place.clear();
+        self.place.resize(task.shut().len(), 0)?;
+        self.reached.clear();
+        self.reached.push(Reached {
+            node: task.start(),
+            arrival: task.at(),
+            deadline: 0,
+        })?;
+        self.bounds.clear();
+        self.bounds.push(0)?;
+        self.bounds.push(1)?;
+        Ok(())
+    }
+
+    /// Layers until the goal is reached by `limits.lower`, no node is new, or the hops are used up.
+    pub fn make(
+        &mut self,
+        task: &Task<'_, A>,
+        looks: &mut Looks,
+        limits: Limits,
+    ) -> Result<Best, NoMemory>
+        requires task { IsTask task.now }
+        requires few { looks.old.count + limits.hops * length task.now.plan.contacts ≤ 2 ^ 62 }
+        requires sooner { limits.lower < limits.ceiling }
+        requires lower { (ns : List ℕ) (e : ℕ) → Leads (Takes task.now) task.now.start task.now.at ns task.now.goal e → limits.lower ≤ e }
+        ensures looks { looks.new.count ≤ looks.old.count + limits.hops * length task.now.plan.contacts }
+        ensures layers { IfOk result (λ best. (hop : ℕ) × AreLayers task.now limits.ceiling hop self.new.bounds.items self.new.arrival.items self.new.place.items self.new.reached.items best) }
+        ensures within { IfOk result (λ best. best.hops ≤ limits.hops) }
+        ensures least { IfOk result (λ best. (ns : List ℕ) (e : ℕ) → length ns ≤ limits.hops → Leads (Takes task.now) task.now.start task.now.at ns task.now.goal e → best.delivery ≤ e) }
+        ensures stopped { IfOk result (λ best. best.delivery ≤ limits.lower → looks.new.count ≤ looks.old.count + best.hops * length task.now.plan.contacts) }
+    {
+        self.first_layer(task)?;
+        let mut best = Best {
+            delivery: limits.ceiling,
+            hops: 0,
+        };
+        for hop in 0..limits.hops {
+            let delivery = self.next_layer(task, looks, hop, best.delivery)?;
+            if delivery < best.delivery {
+                best = Best {
+                    delivery,
+                    hops: hop + 1,
+                };
+            }
+            let begin = self.bounds[hop + 1];
+            let end = self.reached.len();
+            self.bounds.push(end)?;
+            if best.delivery <= limits.lower {
+                return Ok(best);
+            }
+            if end == begin {
+                return Ok(best);
+            }
+        }
+        Ok(best)
+    }
+}

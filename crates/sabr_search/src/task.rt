@@ -1,0 +1,202 @@
+//! What does not change during a search, and the arrival over one contact.
+
+ghost use Rattle.std.specs.Prelude.{◌≡◌, ◌↔◌, Contains, ◌==◌, ◌&&◌, ℕ, ◌≤◌, ◌<◌, ◌+◌, ◌^◌, None, Some, MatchOption, IfSome, IfNone, IsTrue, length, slice_get};
+ghost use Rattle.std.specs.List.Sorted.{IsNonDecreasing};
+ghost use Rattle.sabr_model.specs.Plan.{has};
+ghost use Rattle.sabr_model.specs.Plan.{contact_named};
+ghost use Rattle.sabr_search.specs.Hops.{hop_arrival, IsSmall};
+ghost use Rattle.sabr_search.specs.Task.{IsTask};
+ghost use Rattle.sabr_search.specs.Steps.{AreSteps, IsHopAt};
+
+use crate::looks::Looks;
+use crate::pick::Standing;
+use sabr_model::{Hop, Plan, Request};
+use std::alloc::Allocator;
+use std::marker::Model;
+
+/// A plan and a request, the nodes that are shut, the numbers excluded at the start, the start and when, and the goal.
+#[derive(Drop)]
+pub struct Task<'a, A: Allocator + Copy> {
+    plan: &'a Plan<A>,
+    request: &'a Request,
+    shut: &'a [bool],
+    excluded: &'a [u32],
+    in_order: bool,
+    start: usize,
+    goal: usize,
+    at: u64,
+}
+
+impl<'a, A: Allocator + Copy> Model for Task<'a, A> {
+    ghost use Rattle.std.specs.Prelude.{◌≡◌, true};
+    ghost use Rattle.std.specs.List.Sorted.{IsNonDecreasing};
+    ghost use Rattle.sabr_search.specs.Task.{SearchTask};
+
+    ghost Value = { SearchTask };
+
+    ghost view = { λ a. record { plan = a.plan.now.plan; request = a.request.now; table = a.plan.now.table; shut = a.shut.now; excluded = a.excluded.now; start = a.start; goal = a.goal; at = a.at } };
+
+    ghost invariant = { λ a. a.in_order ≡ true → IsNonDecreasing a.excluded.now };
+}
+
+impl<'a, A: Allocator + Copy> Task<'a, A> {
+    /// A task from where the search stands.
+    pub fn new(
+        plan: &'a Plan<A>,
+        request: &'a Request,
+        shut: &'a [bool],
+        excluded: &'a [u32],
+        standing: Standing,
+        goal: usize,
+    ) -> Task<'a, A>
+        ensures { result ≡ record { plan = plan.now.plan; request = request.now; table = plan.now.table; shut = shut.now; excluded = excluded.now; start = standing.node; goal = goal; at = standing.at } }
+    {
+        Task {
+            plan,
+            request,
+            shut,
+            excluded,
+            in_order: never_falls(excluded),
+            start: standing.node,
+            goal,
+            at: standing.at,
+        }
+    }
+
+    /// The numbers of the contacts that a node sends, by start; all that what is there at `at` can still take are among them.
+    pub fn numbers(&self, node: usize, at: u64) -> &[u32]
+        requires task { IsTask self.now }
+        requires node { node < length self.now.table }
+        ensures { AreSteps self.now node at result.now }
+    {
+        self.plan.open_contacts(node, at)
+    }
+
+    /// The record of a contact.
+    pub fn look(&self, looks: &mut Looks, number: u32) -> Option<Hop>
+        requires task { IsTask self.now }
+        requires few { looks.old.count < 2 ^ 62 }
+        ensures counted { looks.new.count ≡ looks.old.count + 1 }
+        ensures value { MatchOption result (contact_named self.now.plan number ≡ None) (IsHopAt self.now number) }
+        ensures small { IfSome result IsSmall }
+    {
+        looks.look(self.plan, number)
+    }
+
+    /// The node at a place of the table.
+    pub fn node(&self, index: usize) -> u64
+        requires { index < length self.now.table }
+        ensures { slice_get self.now.table index ≡ Some result }
+    {
+        self.plan.node(index)
+    }
+
+    /// Where the search starts.
+    pub fn start(&self) -> usize
+        ensures { result ≡ self.now.start }
+    {
+        self.start
+    }
+
+    /// When the search starts.
+    pub fn at(&self) -> u64
+        ensures { result ≡ self.now.at }
+    {
+        self.at
+    }
+
+    /// Where the search goes.
+    pub fn goal(&self) -> usize
+        ensures { result ≡ self.now.goal }
+    {
+        self.goal
+    }
+
+    /// By node whether it is shut.
+    pub fn shut(&self) -> &[bool]
+        ensures { result.now ≡ self.now.shut }
+    {
+        self.shut
+    }
+
+    /// Whether a route may not take this number behind the prefix.
+    pub fn is_excluded(&self, node: usize, number: u32) -> bool
+        ensures { result ≡ (node == self.now.start && has number self.now.excluded) }
+    {
+        node == self.start && is_among(self.excluded, self.in_order, number)
+    }
+
+    /// The arrival over the contact where it is before `before`.
+    pub fn arrive_before(&self, at: u64, hop: &Hop, before: u64) -> Option<u64>
+        requires task { IsTask self.now }
+        requires small { IsSmall hop.now }
+        ensures some { IfSome result (λ b. (hop_arrival self.now.request.margin at hop.now ≡ Some b) × (b < before)) }
+        ensures none { IfNone result ((b : ℕ) → hop_arrival self.now.request.margin at hop.now ≡ Some b → before ≤ b) }
+    {
+        let sent = at.max(hop.start);
+        if sent >= before || sent >= hop.end {
+            return None;
+        }
+        let arrival = sent + cost(hop.light?, self.request.margin_ppm());
+        if arrival < before { Some(arrival) } else { None }
+    }
+
+    /// The first second from which on the contact no longer arrives before `before`; 0 where it never does.
+    pub fn leave_before(&self, hop: &Hop, before: u64) -> u64
+        requires task { IsTask self.now }
+        requires small { IsSmall hop.now }
+        requires window { hop.now.start < hop.now.end }
+        ensures kept { (t : ℕ) → t < result → (b : ℕ) × (hop_arrival self.now.request.margin t hop.now ≡ Some b) × (b < before) }
+        ensures missed { (t b : ℕ) → result ≤ t → hop_arrival self.now.request.margin t hop.now ≡ Some b → before ≤ b }
+    {
+        match self.arrive_before(hop.start, hop, before) {
+            None => 0,
+            Some(soonest) => hop.end.min(before - (soonest - hop.start)),
+        }
+    }
+}
+
+ghost use Rattle.sabr_model.specs.Arrival.{cost};
+
+/// The arrival over the contact of what is at its sender at `at`.
+pub fn arrive_by_hop(margin_ppm: u32, at: u64, hop: &Hop) -> Option<u64>
+    requires margin { margin_ppm ≤ 1000000 }
+    requires small { IsSmall hop.now }
+    ensures { result ≡ hop_arrival margin_ppm at hop.now }
+{
+    let sent = at.max(hop.start);
+    if sent >= hop.end {
+        return None;
+    }
+    Some(sent + cost(hop.light?, margin_ppm))
+}
+
+/// Light time and margin, in seconds.
+fn cost(light: u32, margin_ppm: u32) -> u64
+    requires light { light ≤ 1000000 }
+    requires margin { margin_ppm ≤ 1000000 }
+    ensures value { result ≡ cost margin_ppm light }
+    ensures limit { result ≤ 2000000 }
+{
+    let light = light as u64;
+    light + (light * margin_ppm as u64 + 999999) / 1000000
+}
+
+/// Whether the numbers never fall.
+pub fn never_falls(numbers: &[u32]) -> bool
+    ensures { IsTrue result → IsNonDecreasing numbers.now }
+{
+    numbers.is_sorted()
+}
+
+/// Whether the number is in the list, of which the caller has asked whether it never falls.
+fn is_among(numbers: &[u32], in_order: bool, number: u32) -> bool
+    requires { IsTrue in_order → IsNonDecreasing numbers.now }
+    ensures { IsTrue result ↔ Contains numbers.now number }
+{
+    if in_order {
+        numbers.binary_search(&number).is_ok()
+    } else {
+        numbers.contains(&number)
+    }
+}
