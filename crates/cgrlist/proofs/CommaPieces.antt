@@ -1,5 +1,5 @@
 -- The pieces of a text between its commas.
-use Rattle.std.proofs.Common.{◌≡◌, ℕ, ◌+◌, ◌<◌, zero, suc, Bool, true, false, cond, eqb, List, [], ◌∷◌, length, get_or, take, drop, refl, sym, ◌∙◌, ap, arith, add-one}
+use Rattle.std.proofs.Common.{◌≡◌, ℕ, ◌<◌, zero, suc, Bool, true, false, cond, eqb, List, [], ◌∷◌, length, get_or, take, drop, refl, ◌∙◌, ap, arith}
 use Rattle.cgrlist.specs.Words.{pieces_of, with_byte}
 
 -- a comma behind no other cuts the first piece off

@@ -1,11 +1,10 @@
 -- The times of every record of an accepted plan and request can be spelled.
-use Rattle.std.proofs.Common.{◌≡◌, ℕ, zero, suc, ◌+◌, ◌*◌, ◌/◌, ◌<◌, ◌≤◌, max, min, Bool, true, false, cond, ltb, eqb, ◌&&◌, List, [], ◌∷◌, map, refl, subst, ap, arith}
+use Rattle.std.proofs.Common.{◌≡◌, ℕ, zero, suc, ◌+◌, ◌*◌, ◌/◌, ◌<◌, ◌≤◌, max, min, Bool, true, false, cond, eqb, ◌&&◌, List, [], ◌∷◌, map, refl, subst, arith}
 use Rattle.std.specs.Prelude.{All, nat_lt, unwrap_or}
 use Rattle.std.specs.List.{AllByRecursion, find, fold}
 use Rattle.std.specs.Option.{option_map, option_and_then}
 use Rattle.std.specs.declared.option.Option.{Option}
 use Rattle.std.specs.declared.option.Option.TheVariants.{Some, None}
-use Rattle.std.proofs.Math.Nat.{div-le_of_le-mul}
 use Rattle.std.proofs.lemmas.Nat.{mul-le}
 use Rattle.std.proofs.lemmas.Bool.{ltb-true}
 use Rattle.sabr_model.specs.declared.contact.Contact.{Contact}
@@ -14,8 +13,8 @@ use Rattle.sabr_model.specs.Plan.{ContactPlan, IsPlan, IsWindow, contact_named, 
 use Rattle.sabr_model.specs.Light.{light_of, light_of_pair, or_else, is_within}
 use Rattle.sabr_model.specs.Arrival.{RouteRequest, cost, arrival, arrival_after}
 use Rattle.sabr_model.specs.Asking.{IsRequest}
-use Rattle.sabr_model.specs.Route.{delivery_of, until_of, contacts_of}
-use Rattle.sabr_model.specs.Record.{RouteRecord, record_of}
+use Rattle.sabr_model.specs.Route.{contacts_of}
+use Rattle.sabr_model.specs.Record.{record_of}
 use Rattle.sabr_session.specs.ReportText.{HasSpelledTimes}
 
 -- what holds of all holds of one that is found

@@ -3,7 +3,6 @@ use Rattle.std.proofs.Common.{◌≡◌, ℕ, ◌+◌, ◌<◌, List, [], ◌∷
 use Rattle.std.specs.List.{concat}
 use Rattle.std.specs.Result.{IsErr}
 use Rattle.std.proofs.lemmas.List.{take_more, take-append-drop}
-use Rattle.std.proofs.lemmas.List.Folds.{concat-append}
 use Rattle.sabr_model.specs.Devices.{Written, WrittenInPart, WritesText}
 use Rattle.sabr_model.proofs.WrittenTexts.{Written-append, AppendsBeginning-after, AppendsBeginning-more}
 

@@ -1,5 +1,5 @@
 -- What is told on standard error where a run ends early, and the status that it ends with.
-use Rattle.std.specs.Prelude.{ℕ, ◌≡◌, ◌⊎◌, List, [], ◌∷◌, Option, decimal, codes}
+use Rattle.std.specs.Prelude.{ℕ, ◌⊎◌, List, [], ◌∷◌, Option, decimal, codes}
 use Rattle.std.specs.List.{concat}
 use Rattle.sabr_model.specs.Devices.{Written, WrittenInPart}
 use Rattle.sabr_plan.specs.declared.fault.PlanKind.{PlanKind}

@@ -9,4 +9,5 @@ pub mod Hops
 pub mod Nexts
 pub mod Rising
 pub mod Moves
+pub mod Late
 pub mod Walks

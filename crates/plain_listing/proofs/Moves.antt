@@ -1,19 +1,23 @@
 -- What a walk has kept, as it moves on.
-use Rattle.std.proofs.Common.{◌≡◌, ℕ, ◌+◌, ◌≤◌, true, false, List, [], ◌∷◌, ◌++◌, length, map, take, sym, ap, subst, ◌∙◌, arith, append_assoc}
-use Rattle.std.specs.Prelude.{IsTrue}
+use Rattle.std.proofs.Common.{◌≡◌, ℕ, suc, ◌+◌, ◌<◌, ◌≤◌, true, false, List, [], ◌∷◌, ◌++◌, length, map, take, sym, ap, subst, ◌∙◌, inl, inr, ⊎_elim, arith, append_assoc}
+use Rattle.std.specs.Prelude.{IsTrue, slice_get, unwrap_or}
+use Rattle.std.specs.Option.{option_and_then}
+use Rattle.std.specs.declared.option.Option.TheVariants.{Some}
+use Rattle.std.specs.declared.cmp.Ordering.TheVariants.{Less}
 use Rattle.std.specs.List.{AllByRecursion}
 use Rattle.std.specs.List.Sorted.{IsStrictlySortedBy}
 use Rattle.std.proofs.lemmas.Bool.{both_ways}
-use Rattle.std.proofs.lemmas.List.{length-take, take_all}
+use Rattle.std.proofs.lemmas.List.{length-take, take_all, take-map}
 use Rattle.std.proofs.lemmas.List.Kept.{IsStrictlySortedBy-filter}
 use Rattle.sabr_model.specs.Order.{put_in, numbers_before}
 use Rattle.sabr_model.specs.Plan.{ContactPlan, IsPlan}
-use Rattle.sabr_model.specs.Arrival.{RouteRequest}
-use Rattle.sabr_model.specs.Route.{is_route, is_path, by_key}
+use Rattle.sabr_model.specs.Arrival.{RouteRequest, arrival_after}
+use Rattle.sabr_model.specs.Route.{is_route, is_path, by_key, delivery_of}
 use Rattle.sabr_model.specs.Listing.{routes}
 use Rattle.sabr_model.specs.Record.{record_of, by_record}
 use Rattle.sabr_model.proofs.Begins.{no_route_begins_another}
-use Rattle.sabr_model.proofs.Routes.{empty_route}
+use Rattle.sabr_model.proofs.Routes.{empty_route, route_facts}
+use Rattle.sabr_model.proofs.Paths.{arrival_after-append, value_of}
 use Rattle.sabr_model.proofs.Listed.{key_total}
 use Rattle.sabr_model.proofs.RoutesListed.{routes_are_listed}
 use Rattle.sabr_model.proofs.Least.{member_is_route, route_is_member, record_order}
@@ -23,7 +27,8 @@ use Rattle.plain_listing.specs.Walk.{first_before}
 use Rattle.plain_listing.proofs.Firsts.{AgreeBut, filter_agrees, filter_none, filter_whole, filter_one_more, take-put_in, map-put_in}
 use Rattle.plain_listing.proofs.Rising.{all_from_in, rising_take, rising_map}
 use Rattle.plain_listing.proofs.Places.{before_less, before_one, before-behind}
-use Rattle.plain_listing.proofs.Passed.{passed_number, passed_list, passed_into, passed_back, none_before, all_before}
+use Rattle.plain_listing.proofs.Late.{AgreeOrAbove, same_first, arrival_after_later, key_less}
+use Rattle.plain_listing.proofs.Passed.{passed_number, passed_kind, passed_into, passed_back, none_before, all_before}
 
 -- the next number behind s, from low on: what routes go on with behind s, from low on, is no less
 pub record IsNext (p : ContactPlan) (r : RouteRequest) (s : List ℕ) (low n : ℕ) : Type 0 where
@@ -117,7 +122,7 @@ module _ (p : ContactPlan) (r : RouteRequest) (good : IsPlan p) where
       (before-behind s (n ∷ []) ((n + 1) ∷ []) ∙ before_less n (n + 1) [] [] (omega arith))
       (routes p r) rising_routes
       (all_weaker (AgreeBut (λ t. numbers_before t (s ++ low ∷ [])) (λ t. numbers_before t (s ++ (n + 1) ∷ [])) w)
-      (passed_list s (λ t. IsTrue (is_route p r t)) low n next.from
+      (passed_kind s (λ t. IsTrue (is_route p r t)) (λ t. t ≡ w) low n next.from
       (λ k u longer from within.
       let same = only_next s low n k u next longer from within in
       let nothing : u ≡ [] = no_route_begins_another p r w u route (subst (λ t. IsTrue (is_route p r t)) (ap (λ m. s ++ m ∷ u) same ∙ sym (append_assoc s (n ∷ []) u)) longer) in
@@ -145,3 +150,33 @@ module _ (p : ContactPlan) (r : RouteRequest) (good : IsPlan p) where
       ∙ moved limit (s ++ m ∷ low ∷ []) (s ++ (m + 1) ∷ [])
       (passed_back s (λ t. IsTrue (is_route p r t)) m low
       (λ k u route from. over k u (subst (λ t. IsTrue (is_route p r t)) (sym (append_assoc s (m ∷ []) (k ∷ u))) route) from))
+
+  -- past a number with which all routes are later than what is kept
+  pub prunes : (limit : ℕ) (s : List ℕ) (low n k : ℕ) (w : List ℕ) (u : ℕ) → IsNext p r s low n → limit ≡ suc k → slice_get (routes_before p r (s ++ low ∷ [])) k ≡ Some w
+      → arrival_after p r r.at (s ++ n ∷ []) ≡ Some u → delivery_of p r w < u → first_before p r limit (s ++ low ∷ []) ≡ first_before p r limit (s ++ (n + 1) ∷ [])
+  unfolding routes_before
+  prunes limit s low n k w u next count last arrives late =
+      let later : (t : List ℕ) (v : List ℕ) → t ≡ (s ++ n ∷ []) ++ v → IsTrue (is_route p r t) → by_key p r w t ≡ Less =
+      λ t v e route.
+      let at = value_of (arrival_after p r r.at t) (route_facts p r t route).in_time in
+      let onward : arrival_after p r u v ≡ Some at.0 =
+      sym (ap (λ o. option_and_then (λ x. arrival_after p r x v) o) arrives) ∙ sym (arrival_after-append p r r.at (s ++ n ∷ []) v) ∙ ap (arrival_after p r r.at) (sym e) ∙ at.1 in
+      let no_earlier = arrival_after_later p r u at.0 v onward in
+      let is : delivery_of p r t ≡ at.0 = ap (λ o. unwrap_or o 0) at.1 in
+      key_less p r w t (omega arith) in
+      let agree : (t : List ℕ) → IsTrue (is_route p r t) → AgreeOrAbove (by_key p r) (λ x. numbers_before x (s ++ low ∷ [])) (λ x. numbers_before x (s ++ (n + 1) ∷ [])) w t =
+      λ t route.
+      ⊎_elim (λ above. inr above) (λ same. inl same)
+      (passed_kind s (λ x. IsTrue (is_route p r x)) (λ x. by_key p r w x ≡ Less) low n next.from
+      (λ m v longer from within.
+      let same = only_next s low n m v next longer from within in
+      later (s ++ m ∷ v) v (ap (λ j. s ++ j ∷ v) same ∙ sym (append_assoc s (n ∷ []) v)) longer)
+      t route) in
+      let first : take (suc k) (routes_before p r (s ++ low ∷ [])) ≡ take (suc k) (routes_before p r (s ++ (n + 1) ∷ [])) =
+      same_first (by_key p r) (key_total p r) (λ x. numbers_before x (s ++ low ∷ [])) (λ x. numbers_before x (s ++ (n + 1) ∷ [])) w (routes p r) k rising_routes
+      (all_weaker (AgreeOrAbove (by_key p r) (λ x. numbers_before x (s ++ low ∷ [])) (λ x. numbers_before x (s ++ (n + 1) ∷ [])) w) agree) last in
+      ap (λ m. take m (map (record_of p r) (routes_before p r (s ++ low ∷ [])))) count
+      ∙ take-map (record_of p r) (suc k) (routes_before p r (s ++ low ∷ []))
+      ∙ ap (map (record_of p r)) first
+      ∙ sym (take-map (record_of p r) (suc k) (routes_before p r (s ++ (n + 1) ∷ [])))
+      ∙ ap (λ m. take m (map (record_of p r) (routes_before p r (s ++ (n + 1) ∷ [])))) (sym count)

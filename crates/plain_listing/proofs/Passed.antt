@@ -37,20 +37,20 @@ module _ (q : List ℕ) (P : List ℕ → Type 0) where
           (cases_lt k (n + 1)))
           (cases_lt k low)
 
-  -- past a number that only one list takes
-  pub passed_list : (low n : ℕ) → low ≤ n → ((k : ℕ) (u : List ℕ) → P (q ++ k ∷ u) → low ≤ k → k ≤ n → q ++ k ∷ u ≡ q ++ n ∷ [])
-      → (s : List ℕ) → P s → (s ≡ q ++ n ∷ []) ⊎ (numbers_before s (q ++ low ∷ []) ≡ numbers_before s (q ++ (n + 1) ∷ []))
-  passed_list low n le only s h =
+  -- past numbers that only lists of one kind take
+  pub passed_kind : (Q : List ℕ → Type 0) (low n : ℕ) → low ≤ n → ((k : ℕ) (u : List ℕ) → P (q ++ k ∷ u) → low ≤ k → k ≤ n → Q (q ++ k ∷ u))
+      → (s : List ℕ) → P s → Q s ⊎ (numbers_before s (q ++ low ∷ []) ≡ numbers_before s (q ++ (n + 1) ∷ []))
+  passed_kind Q low n le only s h =
       ⊎_elim
       (λ begins.
       ⊎_elim
-      (λ here. inl (begins.1 ∙ here))
+      (λ here. inl (subst Q (sym begins.1) here))
       (λ same. inr (ap (λ w. numbers_before w (q ++ low ∷ [])) begins.1 ∙ before-behind q begins.0 (low ∷ []) ∙ same ∙ sym (ap (λ w. numbers_before w (q ++ (n + 1) ∷ [])) begins.1 ∙ before-behind q begins.0 ((n + 1) ∷ []))))
       (cases begins.0 (subst P begins.1 h)))
       (λ apart. inr (ap is_lt (apart low (n + 1) [] [])))
       (begins_or_apart q s)
     where
-      cases : (u : List ℕ) → P (q ++ u) → (q ++ u ≡ q ++ n ∷ []) ⊎ (numbers_before u (low ∷ []) ≡ numbers_before u ((n + 1) ∷ []))
+      cases : (u : List ℕ) → P (q ++ u) → Q (q ++ u) ⊎ (numbers_before u (low ∷ []) ≡ numbers_before u ((n + 1) ∷ []))
       cases [] h = inr refl
       cases (k ∷ u) h =
           ⊎_elim

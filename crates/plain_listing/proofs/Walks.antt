@@ -1,14 +1,15 @@
 -- Each move of the walk.
-use Rattle.std.proofs.Common.{◌≡◌, ◌≢◌, ℕ, ◌+◌, ◌<◌, ◌≤◌, Bool, true, false, cond, List, [], ◌∷◌, ◌++◌, length, take, refl, sym, ap, subst, ◌∙◌, arith, length-append}
-use Rattle.std.specs.Prelude.{IsTrue, unwrap_or}
+use Rattle.std.proofs.Common.{◌≡◌, ◌≢◌, ℕ, zero, suc, ◌+◌, ◌-◌, ◌<◌, ◌≤◌, Bool, true, false, cond, eqb, ltb, List, [], ◌∷◌, ◌++◌, length, map, take, refl, sym, ap, subst, ◌∙◌, arith, length-append}
+use Rattle.std.specs.Prelude.{IsTrue, slice_get, unwrap_or}
+use Rattle.std.specs.Option.{option_map_or}
 use Rattle.std.specs.List.Sorted.{IsStrictlySortedBy}
-use Rattle.std.proofs.lemmas.Bool.{false_from_ne_true}
+use Rattle.std.proofs.lemmas.Bool.{false_from_ne_true, and_parts, eqb-true, ltb-true}
 use Rattle.std.specs.declared.option.Option.TheVariants.{Some, None}
 use Rattle.sabr_model.specs.Order.{put_in}
 use Rattle.sabr_model.specs.Plan.{ContactPlan, IsPlan}
 use Rattle.sabr_model.specs.Table.{sent_by}
-use Rattle.sabr_model.specs.Arrival.{RouteRequest}
-use Rattle.sabr_model.specs.Route.{is_route, is_path, chain_end}
+use Rattle.sabr_model.specs.Arrival.{RouteRequest, arrival_after}
+use Rattle.sabr_model.specs.Route.{is_route, is_path, chain_end, delivery_of}
 use Rattle.sabr_model.specs.Record.{RouteRecord, record_of, by_record}
 use Rattle.sabr_model.proofs.Members.{IsIn}
 use Rattle.sabr_model.proofs.Routes.{route_facts}
@@ -17,12 +18,39 @@ use Rattle.sabr_model.proofs.Prefixes.{beginning_goes_on, empty_is_path}
 use Rattle.plain_listing.specs.declared.hop.Hop.{Hop}
 use Rattle.plain_listing.specs.Way.{IsWay, numbers_of, hop_of, last_stop, record_over}
 use Rattle.plain_listing.specs.Steps.{left_behind, steps_left}
-use Rattle.plain_listing.specs.Walk.{IsWalk, IsMove, first_before}
+use Rattle.plain_listing.specs.Before.{routes_before}
+use Rattle.plain_listing.specs.Walk.{IsWalk, IsMove, first_before, is_past}
 use Rattle.plain_listing.proofs.Sent.{next_from, next_none, next_some, sent_rises, is_sent, sent_is_given, named_is_given}
 use Rattle.plain_listing.proofs.Ways.{way_push, way_pop, numbers_push, record_is}
 use Rattle.plain_listing.proofs.Hops.{way_end}
 use Rattle.plain_listing.proofs.Fewer.{fewer_past, fewer_into, fewer_back}
-use Rattle.plain_listing.proofs.Moves.{IsNext, IsOver, kept_within, kept_rises, begins, ends, skips, finds, enters, returns}
+use Rattle.plain_listing.proofs.Moves.{IsNext, IsOver, kept_within, kept_rises, begins, ends, skips, finds, prunes, enters, returns}
+
+-- the last of the first elements of a mapped list
+mapped_at : {X Y : Type 0} (f : X → Y) (k : ℕ) (xs : List X) (y : Y) → slice_get (take (suc k) (map f xs)) k ≡ Some y → (x : X) × (slice_get xs k ≡ Some x) × (y ≡ f x)
+mapped_at f zero [] y e = absurd cc
+mapped_at f zero (x ∷ xs) y e = (x, refl, cc)
+mapped_at f (suc k) [] y e = absurd cc
+mapped_at f (suc k) (x ∷ xs) y e = mapped_at f k xs y e
+
+-- the last record that is kept, which delivers before a time
+record LastKept (limit : ℕ) (kept : List RouteRecord) (time : ℕ) : Type 0 where
+  place : ℕ
+  last : RouteRecord
+  whole : limit ≡ suc place
+  there : slice_get kept place ≡ Some last
+  early : last.delivery < time
+
+last_kept : (limit : ℕ) (kept : List RouteRecord) (time : ℕ) → is_past limit kept time ≡ true → LastKept limit kept time
+last_kept limit [] time h = absurd (let parts = and_parts (eqb 0 limit) false h in (let never : false ≡ true = parts.1 in cc))
+last_kept limit (x ∷ xs) time h =
+    let parts = and_parts (eqb (length (x ∷ xs)) limit) (option_map_or (λ (l : RouteRecord). ltb l.delivery time) (slice_get (x ∷ xs) (length (x ∷ xs) - 1)) false) h in
+    let count = eqb-true (length (x ∷ xs)) limit parts.0 in
+    let place : length (x ∷ xs) - 1 ≡ length xs = omega arith in
+    elim (slice_get (x ∷ xs) (length (x ∷ xs) - 1)) as (λ o. slice_get (x ∷ xs) (length (x ∷ xs) - 1) ≡ o → option_map_or (λ (l : RouteRecord). ltb l.delivery time) o false ≡ true → LastKept limit (x ∷ xs) time) [
+      | None ↦ λ e g. absurd cc
+      | Some y ↦ λ e g. record { place = length xs; last = y; whole = omega arith; there = ap (slice_get (x ∷ xs)) (sym place) ∙ e; early = ltb-true y.delivery time g }
+    ] refl parts.1
 
 module _ (p : ContactPlan) (r : RouteRequest) (good : IsPlan p) where
   -- where a route goes on, the node at the way's end sends the contact
@@ -129,6 +157,24 @@ module _ (p : ContactPlan) (r : RouteRequest) (good : IsPlan p) where
         -- the longer way ends at a node
         end_named : (b : ℕ) × (chain_end p r.source (numbers_of hops ++ n ∷ []) ≡ Some b)
         end_named = value_of (chain_end p r.source (numbers_of hops ++ n ∷ [])) (path_facts p r (numbers_of hops ++ n ∷ []) open_way).chained
+
+        -- past a number that leads behind all that is kept
+        pub move_late : is_past limit kept (hop_of p r (numbers_of hops) n).stop.arrival ≡ true → IsMove p r limit hops low hops (Some (n + 1)) kept
+        move_late past =
+            let s = numbers_of hops in
+            let last = last_kept limit kept (hop_of p r s n).stop.arrival past in
+            let k = last.place in
+            let place = s ++ low ∷ [] in
+            let at = mapped_at (record_of p r) k (routes_before p r place) last.last
+            (ap (λ m. slice_get (take m (map (record_of p r) (routes_before p r place))) k) (sym last.whole) ∙ ap (λ ks. slice_get ks k) (sym walk.first) ∙ last.there) in
+            let when = value_of (arrival_after p r r.at (s ++ n ∷ [])) (path_facts p r (s ++ n ∷ []) open_way).in_time in
+            let arrival : delivery_of p r (s ++ n ∷ []) ≡ when.0 = ap (λ o. unwrap_or o 0) when.1 in
+            let delivery : last.last.delivery ≡ delivery_of p r at.0 = ap (λ (x : RouteRecord). x.delivery) at.2 in
+            let early = last.early in
+            record {
+              stands = record { way = walk.way; least = past_least; first = walk.first ∙ prunes p r good limit s low n k at.0 when.0 next last.whole at.1 when.1 (omega arith) };
+              fewer = past_fewer;
+            }
 
         -- past a number that ends a route
         pub move_found : (hop_of p r (numbers_of hops) n).stop.node ≡ r.destination → (more : List RouteRecord)

@@ -1,5 +1,6 @@
 -- What a walk through the ways has kept, wherever it stands.
-use Rattle.std.specs.Prelude.{◌≡◌, ℕ, ◌+◌, ◌<◌, ◌≤◌, List, [], ◌∷◌, ◌++◌, map, take}
+use Rattle.std.specs.Prelude.{◌≡◌, ℕ, ◌+◌, ◌-◌, ◌<◌, ◌≤◌, ◌==◌, ◌&&◌, Bool, false, nat_lt, List, [], ◌∷◌, ◌++◌, length, map, take, slice_get}
+use Rattle.std.specs.Option.{option_map_or}
 use Rattle.std.specs.declared.option.Option.{Option}
 use Rattle.std.specs.declared.option.Option.TheVariants.{Some, None}
 use Rattle.sabr_model.specs.Plan.{ContactPlan}
@@ -14,6 +15,10 @@ use Rattle.plain_listing.specs.Steps.{steps_left}
 -- the records of the first of the routes before this place
 abbrev pub first_before : ContactPlan → RouteRequest → ℕ → List ℕ → List RouteRecord
 first_before p r limit place = take limit (map (record_of p r) (routes_before p r place))
+
+-- as many records are kept as may be, and the last of them delivers before this time
+abbrev pub is_past : ℕ → List RouteRecord → ℕ → Bool
+is_past limit kept time = (length kept == limit) && option_map_or (λ last. nat_lt last.delivery time) (slice_get kept (length kept - 1)) false
 
 -- the walk stands behind these hops, tries numbers from `low` on, and has kept the first of the routes before
 pub record IsWalk (p : ContactPlan) (r : RouteRequest) (limit : ℕ) (hops : List Hop) (low : ℕ) (kept : List RouteRecord) : Type 0 where

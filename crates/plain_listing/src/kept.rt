@@ -4,6 +4,7 @@ ghost use Rattle.std.specs.Prelude.{◌≡◌, ◌≤◌, [], take, length, OnOk
 ghost use Rattle.std.specs.List.Sorted.{IsStrictlySortedBy};
 ghost use Rattle.sabr_model.specs.Order.{put_in};
 ghost use Rattle.sabr_model.specs.Record.{by_record};
+ghost use Rattle.plain_listing.specs.Walk.{is_past};
 
 use sabr_model::{NoMemory, Route};
 use std::alloc::Allocator;
@@ -30,6 +31,17 @@ impl<A: Allocator + Copy> Kept<A> {
             limit,
             routes: Vec::new(alloc),
         }
+    }
+
+    /// Whether every route that is delivered from this time on would be let go.
+    pub fn is_past(&self, time: u64) -> bool
+        ensures { result ≡ is_past self.now.limit self.now.routes.items time }
+    {
+        self.routes.len() == self.limit
+            && match self.routes.last() {
+                Some(route) => route.delivery < time,
+                None => false,
+            }
     }
 
     /// Puts a route in its place, and lets go what then stands behind the last place.

@@ -138,19 +138,27 @@ const LISTED_C: [Listed; 5] = [
     (&[4, 7, 2], 10, 100, 4),
 ];
 
+fn pages<A: Allocator + Copy>(alloc: A, plan: &Plan<A>, request: &Request, all: &[Listed]) -> bool {
+    for count in 0..=6u32 {
+        let shown = all.len().min(count as usize);
+        let Ok(page) = first_routes(alloc, plan, request, count) else {
+            return false;
+        };
+        if !is_listed(&page, &all[..shown], shown < all.len()) {
+            return false;
+        }
+    }
+    true
+}
+
 #[test]
 fn pages_of_each_size(rt: HostRuntime) -> Result<(), Fail> {
     let alloc = rt.alloc();
     let plan = plan_a(alloc).ok().ok_or("plan")?;
+    let ties = plan_c(alloc, 7).ok().ok_or("plan")?;
     let request = asked(0, 20000, &[]).ok_or("request")?;
-    for count in 0..=4u32 {
-        let page = first_routes(alloc, &plan, &request, count)?;
-        let shown = (count as usize).min(3);
-        assert!(rt;
-            is_listed(&page, &LISTED_A[..shown], count < 3),
-            "count {count}"
-        );
-    }
+    assert!(rt; pages(alloc, &plan, &request, &LISTED_A), "plan A");
+    assert!(rt; pages(alloc, &ties, &request, &LISTED_C), "plan C");
     Ok(())
 }
 

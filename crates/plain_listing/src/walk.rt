@@ -60,8 +60,11 @@ pub fn step<A: Allocator + Copy>(
             None => Ok(None),
         };
     };
-    match hop_over(plan, request, hops, number) {
-        Some(hop) => Ok(Some(take_hop(request, kept, hops, hop)?)),
-        None => Ok(Some(number + 1)),
+    let Some(hop) = hop_over(plan, request, hops, number) else {
+        return Ok(Some(number + 1));
+    };
+    if kept.is_past(hop.stop.arrival) {
+        return Ok(Some(number + 1));
     }
+    Ok(Some(take_hop(request, kept, hops, hop)?))
 }

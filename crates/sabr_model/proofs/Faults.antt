@@ -117,13 +117,13 @@ good_is_hop p r q n path e =
 -- ---- the whole list
 
 -- numbers without a fault behind a path make a path, and the other way round
-good_is_path : (p : ContactPlan) (r : RouteRequest) (q s : List ℕ) → IsTrue (is_path p r q) → first_fault p r q s ≡ None → IsTrue (is_path p r (q ++ s))
+pub good_is_path : (p : ContactPlan) (r : RouteRequest) (q s : List ℕ) → IsTrue (is_path p r q) → first_fault p r q s ≡ None → IsTrue (is_path p r (q ++ s))
 good_is_path p r q [] path e = subst (λ w. IsTrue (is_path p r w)) (sym (append-nil q)) path
 good_is_path p r q (n ∷ s) path e =
     let both = neither (fault_at p r q n) (first_fault p r (q ++ n ∷ []) s) e in
     subst (λ w. IsTrue (is_path p r w)) (append_assoc q (n ∷ []) s) (good_is_path p r (q ++ n ∷ []) s (path_push p r q n path (good_is_hop p r q n path both.0)) both.1)
 
-path_is_good : (p : ContactPlan) (r : RouteRequest) (q s : List ℕ) → IsTrue (is_path p r (q ++ s)) → first_fault p r q s ≡ None
+pub path_is_good : (p : ContactPlan) (r : RouteRequest) (q s : List ℕ) → IsTrue (is_path p r (q ++ s)) → first_fault p r q s ≡ None
 path_is_good p r q [] path = refl
 path_is_good p r q (n ∷ s) path =
     let whole : IsTrue (is_path p r ((q ++ n ∷ []) ++ s)) = subst (λ w. IsTrue (is_path p r w)) (sym (append_assoc q (n ∷ []) s)) path in

@@ -1,5 +1,5 @@
 -- Bytes consumed in turn.
-use Rattle.std.proofs.Common.{◌≡◌, ℕ, List, [], ◌++◌, refl, sym, append_assoc, append-nil, Option, Some, None}
+use Rattle.std.proofs.Common.{ℕ, List, [], ◌++◌, refl, sym, append_assoc, Option, Some, None}
 use Rattle.std.specs.Io.KnownBytes.{Consumes}
 
 pub Consumes-append : (a b c : Option (List ℕ)) (xs ys : List ℕ) → Consumes a b xs → Consumes b c ys → Consumes a c (xs ++ ys)

@@ -1,11 +1,10 @@
 -- Pieces of a text, fed one after the other.
-use Rattle.std.proofs.Common.{◌≡◌, ◌≢◌, ℕ, suc, ◌+◌, ◌*◌, ◌<◌, ◌≤◌, ◌⊎◌, inl, inr, Bool, true, false, List, [], ◌∷◌, ◌++◌, length, refl, sym, ap, ◌∙◌, arith, Result, Ok, Err, OnOk, IfErr, length-append}
+use Rattle.std.proofs.Common.{◌≡◌, ◌≢◌, ℕ, ◌+◌, ◌≤◌, ◌⊎◌, inl, inr, Bool, true, List, [], ◌∷◌, ◌++◌, length, refl, sym, ap, ◌∙◌, arith, Result, Ok, Err, OnOk, IfErr, length-append}
 use Rattle.sabr_plan.specs.declared.fault.PlanFault.{PlanFault}
 use Rattle.sabr_plan.specs.declared.fault.PlanKind.TheVariants as kind
 use Rattle.sabr_plan.specs.Steps.{and_then}
 use Rattle.sabr_plan.specs.Words.{is_one_line}
-use Rattle.sabr_plan.specs.Leaving.{LeavesAt}
-use Rattle.sabr_plan.specs.Reading.{Reading, read_line, broken_line}
+use Rattle.sabr_plan.specs.Reading.{read_line, broken_line}
 use Rattle.sabr_plan.specs.Feeding.{Fed, outcome, IsFed, weight}
 use Rattle.sabr_plan.proofs.Outcomes.{outcome-line, outcome-held, outcome-refused}
 

@@ -1,12 +1,11 @@
 -- The words of a line, one after the other.
-use Rattle.std.proofs.Common.{◌≡◌, ◌≢◌, ℕ, suc, ◌+◌, ◌<◌, ◌≤◌, Bool, true, false, cond, List, [], ◌∷◌, ◌++◌, length, take, drop, get_or, refl, sym, ap, ◌∙◌, arith, rules, append-nil}
-use Rattle.std.specs.List.{slice_split, filter, All}
+use Rattle.std.proofs.Common.{◌≡◌, ℕ, suc, ◌+◌, ◌<◌, true, false, List, [], ◌∷◌, ◌++◌, length, drop, get_or, refl, sym, ap, ◌∙◌, arith, append-nil}
+use Rattle.std.specs.List.{All}
 use Rattle.std.proofs.Math.Seq.{drop-cons}
 use Rattle.std.proofs.Math.Numerals.{add-one}
-use Rattle.std.proofs.lemmas.List.{take-append-drop}
 use Rattle.std.proofs.lemmas.List.Splits.{slice_split-cons_yes, slice_split_none, slice_split_at}
-use borrow.Author.Tests.{lt-ltb, ltb-false}
-use Rattle.sabr_plan.specs.Words.{is_blank, has_bytes, words_of}
+use borrow.Author.Tests.{lt-ltb}
+use Rattle.sabr_plan.specs.Words.{is_blank, words_of}
 
 -- a blank before a text changes no word
 pub words_of-blank : (b : ℕ) (s : List ℕ) → is_blank b ≡ true → words_of (b ∷ s) ≡ words_of s

@@ -1,13 +1,12 @@
 -- A change of a plan, as its call answers it.
-use Rattle.std.proofs.Common.{◌≡◌, ℕ, ◌⊎◌, Bool, true, false, inl, inr, refl, sym, ap, ◌∙◌, Option, Some, None, Result, Ok, Err, IfOk, OnOk, IfErr, IsOk, IsTrue, is_some, ok_or, ◌↔◌}
+use Rattle.std.proofs.Common.{◌≡◌, ℕ, ◌⊎◌, Bool, true, false, inl, inr, refl, sym, ap, ◌∙◌, Option, Some, None, Result, Ok, Err, OnOk, IfErr, IsOk, IsTrue, is_some, ok_or, ◌↔◌}
 use Rattle.std.specs.Result.{IsOkUnless}
 use Rattle.std.proofs.lemmas.Bool.{false≢true}
 use Rattle.sabr_model.specs.Plan.{ContactPlan}
 use Rattle.sabr_model.specs.declared.fault.AddFault.{AddFault}
 use Rattle.sabr_model.specs.declared.fault.AddFault.TheVariants as add
-use Rattle.sabr_plan.specs.declared.fault.PlanKind.{PlanKind}
 use Rattle.sabr_plan.specs.declared.fault.PlanKind.TheVariants as kind
-use Rattle.sabr_plan.specs.Reading.{Reading, kind_of, changed, unless_named}
+use Rattle.sabr_plan.specs.Reading.{kind_of, changed, unless_named}
 
 -- how a call answers that may be refused so
 pub record IsAnswered {X : Type 0} (refusal : Option AddFault) (r : Result X AddFault) (p new : ContactPlan) : Type 0 where

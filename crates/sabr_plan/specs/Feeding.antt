@@ -1,8 +1,8 @@
 -- A plan text that is read in pieces: what was read so far, and what comes of the text.
-use Rattle.std.specs.Prelude.{◌≡◌, ℕ, ◌+◌, ◌*◌, Bool, List, [], ◌∷◌, ◌++◌, length, Result, Ok, Err, ◌⊎◌}
+use Rattle.std.specs.Prelude.{◌≡◌, ℕ, ◌+◌, ◌*◌, Bool, List, [], ◌++◌, length, Result, Ok, Err, ◌⊎◌}
 use Rattle.sabr_model.specs.Plan.{ContactPlan, TabledPlan}
 use Rattle.sabr_plan.specs.Steps.{and_then}
-use Rattle.sabr_plan.specs.Words.{TextLines, lines_of}
+use Rattle.sabr_plan.specs.Words.{lines_of}
 use Rattle.sabr_plan.specs.Reading.{Reading, nothing_read, read_lines, last_line}
 use Rattle.sabr_plan.specs.declared.fault.PlanFault.{PlanFault}
 use Rattle.sabr_plan.specs.declared.fault.PlanKind.TheVariants.{NoMemory}

@@ -1,5 +1,5 @@
 -- The plan that a text spells, or its first bad line.
-use Rattle.std.specs.Prelude.{ℕ, ◌+◌, nat_lt, ◌&&◌, Bool, not, is_some, List, [], ◌∷◌, length, Result, Ok, Err, if◌then◌else◌}
+use Rattle.std.specs.Prelude.{ℕ, ◌+◌, nat_lt, ◌&&◌, Bool, is_some, List, [], ◌∷◌, length, Result, Ok, Err, if◌then◌else◌}
 use Rattle.std.specs.List.{list_any}
 use Rattle.std.specs.declared.option.Option.{Option}
 use Rattle.std.specs.declared.option.Option.TheVariants.{Some, None}
@@ -8,7 +8,7 @@ use Rattle.sabr_model.specs.declared.fault.AddFault.TheVariants as add
 use Rattle.sabr_model.specs.Plan.{ContactPlan}
 use Rattle.sabr_model.specs.Adding.{next_contact, contact_refusal, with_contact, number_of_opening, without_contact, new_range, range_refusal, with_range, begins, without_range}
 use Rattle.sabr_plan.specs.Steps.{and_then, given_as}
-use Rattle.sabr_plan.specs.Words.{has_bytes, TextLines, lines_of}
+use Rattle.sabr_plan.specs.Words.{has_bytes, lines_of}
 use Rattle.sabr_plan.specs.Commands.{line_command}
 use Rattle.sabr_plan.specs.declared.command.Command.{Command}
 use Rattle.sabr_plan.specs.declared.command.Command.TheVariants.{Nothing, SetReference, Add, Delete}

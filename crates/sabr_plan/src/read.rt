@@ -1,6 +1,7 @@
 //! Reading a plan.
 
-ghost use Rattle.std.specs.Prelude.{◌≡◌};
+ghost use Rattle.std.specs.Prelude.{◌≡◌, ◌+◌, IfErr};
+ghost use Rattle.sabr_plan.specs.declared.fault.PlanKind.TheVariants as kind;
 ghost use Rattle.sabr_plan.specs.PlanRead.{ReadsPlan};
 
 use crate::fault::PlanFault;
@@ -19,7 +20,8 @@ pub fn read_plan<R: Read, A: Allocator + Copy>(
     alloc: A,
     reader: &mut R,
 ) -> Result<Plan<A>, PlanFault>
-    ensures { ReadsPlan (R.remaining reader.old) (R.failures reader.old) result (R.remaining reader.new) (R.failures reader.new) }
+    ensures read { ReadsPlan (R.remaining reader.old) (R.failures reader.old) result (R.remaining reader.new) (R.failures reader.new) }
+    ensures failed { IfErr result (λ f. f.kind ≡ kind.Read → R.failures reader.new ≡ R.failures reader.old + 1) }
 {
     let mut buffer = [0u8; 8192];
     let mut feed = PlanFeed::new(alloc);

@@ -1,8 +1,7 @@
 -- The arrival over one contact.
-use Rattle.std.proofs.Common.{◌≡◌, ℕ, ◌+◌, ◌<◌, ◌≤◌, max, Bool, true, false, cond, ltb, refl, ap, ◌∙◌, arith}
+use Rattle.std.proofs.Common.{◌≡◌, ℕ, ◌+◌, ◌<◌, ◌≤◌, max, true, false, cond, ltb, refl, ap, ◌∙◌, arith}
 use Rattle.std.proofs.lemmas.Bool.{ltb-true, lt-ltb, cond-true}
 use Rattle.std.specs.Option.{option_map}
-use Rattle.std.specs.declared.option.Option.{Option}
 use Rattle.std.specs.declared.option.Option.TheVariants.{Some, None}
 use Rattle.sabr_model.specs.declared.contact.Contact.{Contact}
 use Rattle.sabr_model.specs.Plan.{ContactPlan}
@@ -21,9 +20,9 @@ arrival_parts p r t c b e =
     elim (ltb (max t c.start) c.end) as (λ w. ltb (max t c.start) c.end ≡ w → cond w (option_map (λ l. max t c.start + cost r.margin l) (light_of p c)) None ≡ Some b → IsArrival p r t c b) [
       | false ↦ λ q h. absurd cc
       | true ↦ λ q h. elim (light_of p c) as (λ o. light_of p c ≡ o → option_map (λ l. max t c.start + cost r.margin l) o ≡ Some b → IsArrival p r t c b) [
-          | None ↦ λ f g. absurd cc
-          | Some l ↦ λ f g. (let same : max t c.start + cost r.margin l ≡ b = cc (g) in record { light = l; in_force = f; before_end = ltb-true (max t c.start) c.end q; sum = omega (arith, same) })
-        ] refl h
+        | None ↦ λ f g. absurd cc
+        | Some l ↦ λ f g. (let same : max t c.start + cost r.margin l ≡ b = cc (g) in record { light = l; in_force = f; before_end = ltb-true (max t c.start) c.end q; sum = omega (arith, same) })
+      ] refl h
     ] refl e
 
 pub arrival_from_parts : (p : ContactPlan) (r : RouteRequest) (t : ℕ) (c : Contact) (l : ℕ) → light_of p c ≡ Some l → max t c.start < c.end → arrival p r t c ≡ Some (max t c.start + cost r.margin l)

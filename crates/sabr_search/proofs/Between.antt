@@ -1,15 +1,14 @@
 -- The entries between two places of a list, their nodes, and how many contacts these send.
-use Rattle.std.proofs.Common.{◌≡◌, ◌⊎◌, inl, inr, ℕ, zero, suc, ◌+◌, ◌-◌, ◌<◌, ◌≤◌, List, [], ◌∷◌, ◌++◌, length, map, take, drop, Bool, true, false, cond, ◌||◌, eqb, Some, slice_get, slice_index, slice_index_or, get_or, refl, ap, sym, subst, ◌∙◌, ⊎_elim, arith, length-take, length-drop}
-use Rattle.std.specs.Prelude.{Contains}
+use Rattle.std.proofs.Common.{◌≡◌, ℕ, zero, suc, ◌+◌, ◌-◌, ◌<◌, ◌≤◌, List, [], ◌∷◌, ◌++◌, length, map, take, drop, true, false, cond, ◌||◌, eqb, Some, slice_get, slice_index, slice_index_or, refl, ap, sym, ◌∙◌, ⊎_elim, arith, length-take, length-drop}
 use Rattle.std.specs.List.{count_by}
-use Rattle.std.proofs.lemmas.Bool.{or_left, or_right, or_from, or_cases, eqb-true, eq-eqb, ne_eqb, both_ways, cases_Bool, false_from_ne_true, cases_eq}
+use Rattle.std.proofs.lemmas.Bool.{eq-eqb, ne_eqb, cases_Bool, false_from_ne_true, cases_eq}
 use Rattle.std.proofs.lemmas.List.{take_more, drop-append-le, get_or-drop, get_or-take, map-append}
 use Rattle.std.proofs.lemmas.List.Folds.{list_any-append}
 use Rattle.std.proofs.lemmas.List.Sums.{sum_by-cons, count_by-le-length}
 use Rattle.std.proofs.lemmas.Option.{slice_get-get_or, slice_get_within, get_or_from_slice_get, slice_get_read}
 use Rattle.std.proofs.lemmas.List.Elements.{at_read}
 use Rattle.sabr_model.specs.Plan.{has}
-use Rattle.sabr_model.proofs.Members.{IsIn, map_in, Contains-from_in}
+use Rattle.sabr_model.proofs.Members.{map_in, Contains-from_in}
 use Rattle.sabr_model.proofs.Listed.{in_from_has}
 use Rattle.sabr_search.specs.declared.layers.Reached.{Reached}
 use Rattle.sabr_search.specs.Task.{SearchTask}
@@ -49,7 +48,7 @@ between_at reached first place u h =
     let below = length-take place reached in
     let near : first + c.0 < length reached = omega (arith, c.1, sizes, below) in
     let there : slice_index_or reached (first + c.0) m.0 ≡ m.0 =
-        sym (get_or-take place reached (first + c.0) m.0 (omega (arith, c.1, sizes, below))) ∙ sym (get_or-drop first (take place reached) c.0 m.0) ∙ c.2 in
+    sym (get_or-take place reached (first + c.0) m.0 (omega (arith, c.1, sizes, below))) ∙ sym (get_or-drop first (take place reached) c.0 m.0) ∙ c.2 in
     (first + c.0, m.0, omega arith, omega (arith, c.1, sizes, below), slice_get-get_or reached (first + c.0) m.0 near ∙ ap Some there, sym m.2)
 
 count_more : (nodes fs : List ℕ) (u : ℕ) → has u nodes ≡ false → count_by (λ k. has k (nodes ++ u ∷ [])) fs ≡ count_by (λ k. has k nodes) fs + count_by (λ k. eqb k u) fs
@@ -57,12 +56,12 @@ count_more nodes [] u fresh = refl
 count_more nodes (f ∷ fs) u fresh =
     let more : has f (nodes ++ u ∷ []) ≡ (has f nodes || (eqb f u || false)) = list_any-append (eqb f) nodes (u ∷ []) in
     let one : cond (has f (nodes ++ u ∷ [])) 1 0 ≡ cond (has f nodes) 1 0 + cond (eqb f u) 1 0 =
-        ⊎_elim
-            (λ same.
-              let out : has f nodes ≡ false = ap (λ w. has w nodes) same ∙ fresh in
-              rw (more, out, eq-eqb f u same) refl)
-            (λ other. rw (more, ne_eqb f u other) (⊎_elim (λ yes'. rw yes' refl) (λ no'. rw no' refl) (cases_Bool (has f nodes))))
-            (cases_eq f u) in
+    ⊎_elim
+    (λ same.
+    let out : has f nodes ≡ false = ap (λ w. has w nodes) same ∙ fresh in
+    rw (more, out, eq-eqb f u same) refl)
+    (λ other. rw (more, ne_eqb f u other) (⊎_elim (λ yes'. rw yes' refl) (λ no'. rw no' refl) (cases_Bool (has f nodes))))
+    (cases_eq f u) in
     omega (arith, sum_by-cons (λ k. cond (has k (nodes ++ u ∷ [])) 1 0) f fs, sum_by-cons (λ k. cond (has k nodes) 1 0) f fs, sum_by-cons (λ k. cond (eqb k u) 1 0) f fs, one, count_more nodes fs u fresh)
 
 -- the contacts of one more node come to those of the others
@@ -81,13 +80,13 @@ entry_read reached reached0 begin place e before less within is =
 pub fresh_node : (task : SearchTask) (reached : List Reached) (first begin place : ℕ) (e : Reached) → AreSources task reached first begin → first ≤ place → place < begin → slice_get reached place ≡ Some e → has e.node (nodes_between reached first place) ≡ false
 fresh_node task reached first begin place e sources le less at =
     false_from_ne_true (has e.node (nodes_between reached first place)) (λ h.
-      (let m = between_at reached first place e.node h in
-       let same = sources.apart m.0 place m.1 e m.2 le (omega (arith, m.3)) less m.4 at m.5 in
-       omega (arith, m.3)))
+    (let m = between_at reached first place e.node h in
+    let same = sources.apart m.0 place m.1 e m.2 le (omega (arith, m.3)) less m.4 at m.5 in
+    omega (arith, m.3)))
 
 -- so their contacts together are no more than those of the plan
 pub sent_next : (task : SearchTask) (reached : List Reached) (first begin place : ℕ) (e : Reached) → AreSources task reached first begin → first ≤ place → place < begin → slice_get reached place ≡ Some e →
-  sent_by_all task (nodes_between reached first place) + degree task e.node ≡ sent_by_all task (nodes_between reached first (place + 1))
+    sent_by_all task (nodes_between reached first place) + degree task e.node ≡ sent_by_all task (nodes_between reached first (place + 1))
 sent_next task reached first begin place e sources le less at =
     sym (ap (sent_by_all task) (between_more reached first place e le at) ∙ sent_more task (nodes_between reached first place) e.node (fresh_node task reached first begin place e sources le less at))
 

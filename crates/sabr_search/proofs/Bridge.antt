@@ -1,12 +1,10 @@
 -- Routes behind a prefix are the ways of a search, and the ways of the least key are routes.
-use Rattle.std.proofs.Common.{◌≡◌, ◌⊎◌, ℕ, ◌+◌, ◌<◌, ◌≤◌, Bool, true, false, cond, not, ◌||◌, eqb, List, [], ◌∷◌, ◌++◌, length, slice_get, slice_index_or, refl, sym, ap, subst, ◌∙◌, inl, inr, ⊎_elim, arith, length-append, append_assoc}
-use Rattle.std.proofs.lemmas.Bool.{and_parts, and_from, or_cases, or_parts, or_right, or_left, or_from, eq-eqb, eqb-true, both_ways, not-true, not_from_false, false_from_ne_true}
-use Rattle.std.specs.Option.{option_and_then}
-use Rattle.std.specs.declared.option.Option.{Option}
-use Rattle.std.specs.declared.option.Option.TheVariants.{Some, None}
+use Rattle.std.proofs.Common.{◌≡◌, ℕ, true, false, eqb, List, [], ◌∷◌, slice_get, slice_index_or, refl, sym, ap, subst, ◌∙◌, ⊎_elim}
+use Rattle.std.proofs.lemmas.Bool.{or_cases, or_right, or_left, eq-eqb, eqb-true, both_ways}
+use Rattle.std.specs.declared.option.Option.TheVariants.{Some}
 use Rattle.sabr_model.specs.declared.contact.Contact.{Contact}
-use Rattle.sabr_model.specs.Plan.{ContactPlan, contact_named, has, are_different}
-use Rattle.sabr_model.specs.Arrival.{RouteRequest, arrival, arrival_after}
+use Rattle.sabr_model.specs.Plan.{has}
+use Rattle.sabr_model.specs.Arrival.{arrival_after}
 use Rattle.sabr_model.specs.Route.{chain_end, receivers}
 use Rattle.sabr_model.proofs.Begins.{FirstHop, first_hop, receivers-cons, end_is_received}
 use Rattle.sabr_model.proofs.Monotone.{arrival_is_monotone}
@@ -23,13 +21,14 @@ pub takes_timely : (task : SearchTask) → HasNodes task.plan task.table → IsT
 takes_timely task nodes = record {
   later = λ n u t w b s. arrives_later task.plan task.request t s.contact b s.arrives;
   earlier = λ n u t w b a s le.
-    (let sooner = arrival_is_monotone task.plan task.request s.contact a t b le s.arrives in
-     (sooner.0, sooner.2, record { contact = s.contact; named = s.named; sender = s.sender; receiver = s.receiver; unshut = s.unshut; allowed = s.allowed; arrives = sooner.1 }));
+      (let sooner = arrival_is_monotone task.plan task.request s.contact a t b le s.arrives in
+      (sooner.0, sooner.2, record { contact = s.contact; named = s.named; sender = s.sender; receiver = s.receiver; unshut = s.unshut; allowed = s.allowed; arrives = sooner.1 }));
   one = λ n u t w b x d s z.
-    (let same : s.contact ≡ z.contact = same_some (sym s.named ∙ z.named) in
-     let to : s.contact.to ≡ z.contact.to = ap (λ (c : Contact). c.to) same in
-     (nodes.apart w x z.contact.to (s.receiver ∙ ap Some to) z.receiver,
-      same_some (sym s.arrives ∙ (rw same z.arrives))))
+      (let same : s.contact ≡ z.contact = same_some (sym s.named ∙ z.named) in
+      let to : s.contact.to ≡ z.contact.to = ap (λ (c : Contact). c.to) same in (
+        nodes.apart w x z.contact.to (s.receiver ∙ ap Some to) z.receiver,
+        same_some (sym s.arrives ∙ (rw same z.arrives)),
+      ));
 }
 
 -- what a way from node x at t to the node at place v at e says of its numbers
@@ -47,10 +46,10 @@ module _ (task : SearchTask) (prefix : List ℕ) (behind : IsBehind task prefix)
       let p = task.plan in
       let source = task.request.source in
       let listed : has behind.last_node (source ∷ receivers p prefix) ≡ true =
-          elim prefix as (λ q. chain_end p source q ≡ Some behind.last_node → has behind.last_node (source ∷ receivers p q) ≡ true) [
-            | [] ↦ λ e. or_left (eqb behind.last_node source) false (eq-eqb behind.last_node source (sym (same_some e)))
-            | n ∷ q ↦ λ e. or_right (eqb behind.last_node source) (has behind.last_node (receivers p (n ∷ q))) (end_is_received p source n q behind.last_node e)
-          ] behind.chained in
+      elim prefix as (λ q. chain_end p source q ≡ Some behind.last_node → has behind.last_node (source ∷ receivers p q) ≡ true) [
+        | [] ↦ λ e. or_left (eqb behind.last_node source) false (eq-eqb behind.last_node source (sym (same_some e)))
+        | n ∷ q ↦ λ e. or_right (eqb behind.last_node source) (has behind.last_node (receivers p (n ∷ q))) (end_is_received p source n q behind.last_node e)
+      ] behind.chained in
       behind.shuts task.start behind.last_node behind.stands ∙ or_left (has behind.last_node (source ∷ receivers p prefix)) (has behind.last_node task.request.avoided) listed
 
   -- a chain over open nodes to the destination, in time, is a way; only its first contact leaves the start
@@ -67,15 +66,21 @@ module _ (task : SearchTask) (prefix : List ℕ) (behind : IsBehind task prefix)
       let next = first_arrival p task.request t n s e h.contact h.named after in
       let place = behind.nodes.receivers n h.contact h.named in
       let closed : is_closed p task.request prefix h.contact.to ≡ false =
-          stays h.contact.to (ap (has h.contact.to) (receivers-cons p n s h.contact h.named) ∙ or_left (eqb h.contact.to h.contact.to) (has h.contact.to (receivers p s)) (eq-eqb h.contact.to h.contact.to refl)) in
+      stays h.contact.to (ap (has h.contact.to) (receivers-cons p n s h.contact h.named) ∙ or_left (eqb h.contact.to h.contact.to) (has h.contact.to (receivers p s)) (eq-eqb h.contact.to h.contact.to refl)) in
       let unshut : slice_index_or task.shut place.0 false ≡ false = behind.shuts place.0 h.contact.to place.1 ∙ closed in
       let step : Takes task n u t place.0 next.0 = record {
-        contact = h.contact; named = h.named; sender = at ∙ ap Some (sym h.sent); receiver = place.1; unshut = unshut;
-        allowed = first n s refl; arrives = next.1 } in
+        contact = h.contact;
+        named = h.named;
+        sender = at ∙ ap Some (sym h.sent);
+        receiver = place.1;
+        unshut = unshut;
+        allowed = first n s refl;
+        arrives = next.1;
+      } in
       let rest : Leads (Takes task) place.0 next.0 s task.goal e =
-          way_from_chain s place.0 h.contact.to next.0 e place.1 h.rest next.2
-              (λ x has_x. stays x (ap (has x) (receivers-cons p n s h.contact h.named) ∙ or_right (eqb x h.contact.to) (has x (receivers p s)) has_x))
-              (λ m z same here. absurd (both_ways (slice_index_or task.shut place.0 false) unshut (rw here start_is_shut))) in
+      way_from_chain s place.0 h.contact.to next.0 e place.1 h.rest next.2
+      (λ x has_x. stays x (ap (has x) (receivers-cons p n s h.contact h.named) ∙ or_right (eqb x h.contact.to) (has x (receivers p s)) has_x))
+      (λ m z same here. absurd (both_ways (slice_index_or task.shut place.0 false) unshut (rw here start_is_shut))) in
       (place.0, next.0, step, rest)
 
   pub chain_of_way : (s : List ℕ) (u t v e x : ℕ) → slice_get task.table u ≡ Some x → Leads (Takes task) u t s v e → IsChain task prefix s v e t x
@@ -92,7 +97,7 @@ module _ (task : SearchTask) (prefix : List ℕ) (behind : IsBehind task prefix)
         after = arrival_after-cons p task.request t n way.1 s step.contact step.named step.arrives ∙ rest.after;
         open_nodes = λ z h.
             ⊎_elim
-                (λ e. ap (is_closed p task.request prefix) (eqb-true z step.contact.to e) ∙ sym (behind.shuts way.0 step.contact.to step.receiver) ∙ step.unshut)
-                (λ k. rest.open_nodes z k)
-                (or_cases (eqb z step.contact.to) (has z (receivers p s)) (sym (ap (has z) (receivers-cons p n s step.contact step.named)) ∙ h))
+            (λ e. ap (is_closed p task.request prefix) (eqb-true z step.contact.to e) ∙ sym (behind.shuts way.0 step.contact.to step.receiver) ∙ step.unshut)
+            (λ k. rest.open_nodes z k)
+            (or_cases (eqb z step.contact.to) (has z (receivers p s)) (sym (ap (has z) (receivers-cons p n s step.contact step.named)) ∙ h));
       }

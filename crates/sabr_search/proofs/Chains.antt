@@ -1,16 +1,14 @@
 -- Chains of contacts, joined and taken apart, with their arrivals.
-use Rattle.std.proofs.Common.{◌≡◌, ℕ, Bool, true, false, cond, not, ◌||◌, ◌&&◌, eqb, List, [], ◌∷◌, ◌++◌, refl, sym, ap, subst, ◌∙◌, inl, inr, ⊎_elim, arith}
-use Rattle.std.proofs.lemmas.Bool.{and_parts, and_from, or_cases, or_parts, or_right, or_left, or_from, eq-eqb, eqb-true, both_ways, not-true, not_from_false, false_from_ne_true}
+use Rattle.std.proofs.Common.{◌≡◌, ℕ, Bool, true, false, cond, not, ◌||◌, eqb, List, [], ◌∷◌, ◌++◌, refl, sym, ap, ◌∙◌, ⊎_elim}
+use Rattle.std.proofs.lemmas.Bool.{and_parts, and_from, or_cases, or_parts, or_right, or_left, or_from, eq-eqb, eqb-true, not-true, not_from_false, false_from_ne_true}
 use Rattle.std.proofs.lemmas.List.Folds.{list_any-append}
-use Rattle.std.specs.List.{list_all, list_any}
+use Rattle.std.specs.List.{list_all}
 use Rattle.std.specs.Option.{option_and_then}
-use Rattle.std.specs.declared.option.Option.{Option}
 use Rattle.std.specs.declared.option.Option.TheVariants.{Some, None}
 use Rattle.sabr_model.specs.declared.contact.Contact.{Contact}
 use Rattle.sabr_model.specs.Plan.{ContactPlan, contact_named, has, are_different}
 use Rattle.sabr_model.specs.Arrival.{RouteRequest, arrival, arrival_after}
-use Rattle.sabr_model.specs.Route.{chain_end, receivers}
-use Rattle.sabr_model.proofs.Begins.{receivers-cons}
+use Rattle.sabr_model.specs.Route.{chain_end}
 
 -- the arrival over a list is that over its end, from the arrival over its beginning on
 pub arrival_after-append : (p : ContactPlan) (r : RouteRequest) (t : ℕ) (s u : List ℕ) → arrival_after p r t (s ++ u) ≡ option_and_then (λ b. arrival_after p r b u) (arrival_after p r t s)
@@ -19,9 +17,9 @@ arrival_after-append p r t (n ∷ s) u =
     elim (contact_named p n) as (λ o. option_and_then (λ c. option_and_then (λ b. arrival_after p r b (s ++ u)) (arrival p r t c)) o ≡ option_and_then (λ b. arrival_after p r b u) (option_and_then (λ c. option_and_then (λ b. arrival_after p r b s) (arrival p r t c)) o)) [
       | None ↦ refl
       | Some c ↦ elim (arrival p r t c) as (λ a. option_and_then (λ b. arrival_after p r b (s ++ u)) a ≡ option_and_then (λ b. arrival_after p r b u) (option_and_then (λ b. arrival_after p r b s) a)) [
-          | None ↦ refl
-          | Some b ↦ arrival_after-append p r b s u
-        ]
+        | None ↦ refl
+        | Some b ↦ arrival_after-append p r b s u
+      ]
     ]
 
 -- the arrival over the first contact of a list, and over the others from there on
@@ -48,9 +46,9 @@ different_append [] ys one other apart = other
 different_append (x ∷ xs) ys one other apart =
     let parts = and_parts (not (has x xs)) (are_different xs) one in
     let fresh : has x (xs ++ ys) ≡ false =
-        list_any-append (eqb x) xs ys ∙ or_from (has x xs) (has x ys) (not-true (has x xs) parts.0) (false_from_ne_true (has x ys) (λ h. apart x (or_left (eqb x x) (has x xs) (eq-eqb x x refl)) h)) in
+    list_any-append (eqb x) xs ys ∙ or_from (has x xs) (has x ys) (not-true (has x xs) parts.0) (false_from_ne_true (has x ys) (λ h. apart x (or_left (eqb x x) (has x xs) (eq-eqb x x refl)) h)) in
     and_from (not (has x (xs ++ ys))) (are_different (xs ++ ys)) (not_from_false (has x (xs ++ ys)) fresh)
-        (different_append xs ys parts.1 other (λ y h g. apart y (or_right (eqb y x) (has y xs) h) g))
+    (different_append xs ys parts.1 other (λ y h g. apart y (or_right (eqb y x) (has y xs) h) g))
 
 pub different_left : (xs ys : List ℕ) → are_different (xs ++ ys) ≡ true → are_different xs ≡ true
 different_left [] ys d = refl

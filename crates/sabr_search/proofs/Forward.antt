@@ -1,52 +1,50 @@
 -- Steps of a forward search: what one contact, one node and one layer leave.
-use Rattle.std.proofs.Common.{◌≡◌, ◌≢◌, ◌⊎◌, inl, inr, ℕ, suc, ◌+◌, ◌<◌, ◌≤◌, List, length, take, Bool, true, false, ◌&&◌, eqb, max, Option, Some, None, slice_get, slice_index, slice_index_or, refl, ap, sym, subst, ◌∙◌, arith}
-use Rattle.std.specs.Prelude.{MatchOption}
-use Rattle.std.proofs.lemmas.Bool.{both_ways, and_parts, eq-eqb, and_right, and_left, false_from_ne_true, cases_Bool, eqb-true, cases_lt}
-use Rattle.std.proofs.lemmas.Option.{slice_get_within}
+use Rattle.std.proofs.Common.{◌≡◌, ◌⊎◌, inl, inr, ℕ, ◌+◌, ◌<◌, ◌≤◌, List, Bool, true, false, ◌&&◌, eqb, Some, None, slice_get, slice_index, slice_index_or, refl, ap, sym, subst, ◌∙◌, arith}
+use Rattle.std.proofs.lemmas.Bool.{both_ways, and_parts, eq-eqb, eqb-true, cases_lt}
 use Rattle.sabr_model.specs.declared.contact.Contact.{Contact}
 use Rattle.sabr_model.specs.declared.hop.Hop.{Hop}
 use Rattle.sabr_model.specs.Plan.{contact_named, has}
 use Rattle.sabr_search.specs.declared.layers.Reached.{Reached}
 use Rattle.sabr_search.specs.Task.{SearchTask, Takes, IsTask}
-use Rattle.sabr_search.specs.Steps.{AreSteps, IsHopAt, degree}
+use Rattle.sabr_search.specs.Steps.{AreSteps, IsHopAt}
 use Rattle.sabr_search.specs.Hops.{hop_arrival}
-use Rattle.sabr_search.specs.Lists.{AreLists, IsLowered, IsKnown, Arrivals, AddsGiven}
+use Rattle.sabr_search.specs.Lists.{AreLists, IsLowered, IsKnown, Arrivals}
 use Rattle.sabr_search.proofs.Arrivals.{arrival_parts}
 use Rattle.sabr_search.proofs.PlanFacts.{hop_arrival_is}
 
 -- nothing was taken
 pub lowered_none : (shut : List Bool) (goal at begin : ℕ) (Given : Arrivals) (arrival place : List ℕ) (reached : List Reached) (best : ℕ) →
-  AreLists shut goal at begin arrival place reached → IsLowered shut goal at begin Given arrival reached best arrival place reached best
+    AreLists shut goal at begin arrival place reached → IsLowered shut goal at begin Given arrival reached best arrival place reached best
 lowered_none shut goal at begin Given arrival place reached best lists = record {
   lists = lists;
   lower = omega arith;
   lowered = λ k. omega arith;
   before = refl;
   adds = λ p d within. inl (within, refl);
-  found = inl refl
+  found = inl refl;
 }
 
 -- more steps after some steps, where the first give what the second give
 pub lowered_more : (shut : List Bool) (goal at begin : ℕ) (Given Given' : Arrivals) (arrival0 : List ℕ) (reached0 : List Reached) (best0 : ℕ) (arrival1 place1 : List ℕ) (reached1 : List Reached) (best1 : ℕ) (arrival2 place2 : List ℕ) (reached2 : List Reached) (best2 : ℕ) →
-  ((w x : ℕ) → Given' w x → Given w x) →
-  IsLowered shut goal at begin Given arrival0 reached0 best0 arrival1 place1 reached1 best1 → IsLowered shut goal at begin Given' arrival1 reached1 best1 arrival2 place2 reached2 best2 →
-  IsLowered shut goal at begin Given arrival0 reached0 best0 arrival2 place2 reached2 best2
+    ((w x : ℕ) → Given' w x → Given w x) →
+    IsLowered shut goal at begin Given arrival0 reached0 best0 arrival1 place1 reached1 best1 → IsLowered shut goal at begin Given' arrival1 reached1 best1 arrival2 place2 reached2 best2 →
+    IsLowered shut goal at begin Given arrival0 reached0 best0 arrival2 place2 reached2 best2
 lowered_more shut goal at begin Given Given' arrival0 reached0 best0 arrival1 place1 reached1 best1 arrival2 place2 reached2 best2 weaker one two = record {
   lists = two.lists;
   lower = omega (arith, one.lower, two.lower);
   lowered = λ k. omega (arith, one.lowered k, two.lowered k);
   before = two.before ∙ one.before;
   adds = λ p d within. elim (two.adds p d within) [
-    inl old ↦ elim (one.adds p d old.0) [
-      inl older ↦ inl (older.0, old.1 ∙ older.1)
-    | inr given ↦ inr (rw old.1 given)
+    | inl old ↦ elim (one.adds p d old.0) [
+      | inl older ↦ inl (older.0, old.1 ∙ older.1)
+      | inr given ↦ inr (rw old.1 given)
     ]
-  | inr given ↦ inr (weaker (slice_index_or reached2 p d).node (slice_index_or reached2 p d).arrival given)
+    | inr given ↦ inr (weaker (slice_index_or reached2 p d).node (slice_index_or reached2 p d).arrival given)
   ];
   found = elim two.found [
-    inl same ↦ (elim one.found [ inl older ↦ inl (same ∙ older) | inr given ↦ inr (subst (Given goal) (sym same) given) ])
-  | inr given ↦ inr (weaker goal best2 given)
-  ]
+    | inl same ↦ (elim one.found [ inl older ↦ inl (same ∙ older) | inr given ↦ inr (subst (Given goal) (sym same) given) ])
+    | inr given ↦ inr (weaker goal best2 given)
+  ];
 }
 
 -- what is known stays known, since arrivals and the best delivery only fall
@@ -61,13 +59,14 @@ same_some h = cc
 pub step_of_hop : (task : SearchTask) → IsTask task → (n : ℕ) (h : Hop) → IsHopAt task n h → (u t w x : ℕ) → Takes task n u t w x → (w ≡ h.receiver) × (hop_arrival task.request.margin t h ≡ Some x)
 step_of_hop task is n h hop u t w x s =
     let same : s.contact ≡ hop.contact = same_some (sym s.named ∙ hop.named) in
-    let to : slice_get task.table w ≡ Some hop.contact.to = s.receiver ∙ ap (λ (c : Contact). Some c.to) same in
-    (is.nodes.apart w h.receiver hop.contact.to to hop.is.receiver,
-     sym (hop_arrival_is (record { plan = task.plan; table = task.table }) task.request t hop.contact h hop.is) ∙ rw same at s.arrives)
+    let to : slice_get task.table w ≡ Some hop.contact.to = s.receiver ∙ ap (λ (c : Contact). Some c.to) same in (
+      is.nodes.apart w h.receiver hop.contact.to to hop.is.receiver,
+      sym (hop_arrival_is (record { plan = task.plan; table = task.table }) task.request t hop.contact h hop.is) ∙ rw same at s.arrives,
+    )
 
 -- a hop in time to an open node is a step
 pub hop_takes : (task : SearchTask) → IsTask task → (n : ℕ) (h : Hop) → IsHopAt task n h → (u t x : ℕ) → ((c : Contact) × (contact_named task.plan n ≡ Some c) × (slice_get task.table u ≡ Some c.from)) →
-  slice_index_or task.shut h.receiver false ≡ false → (u ≡ task.start → has n task.excluded ≡ false) → hop_arrival task.request.margin t h ≡ Some x → Takes task n u t h.receiver x
+    slice_index_or task.shut h.receiver false ≡ false → (u ≡ task.start → has n task.excluded ≡ false) → hop_arrival task.request.margin t h ≡ Some x → Takes task n u t h.receiver x
 hop_takes task is n h hop u t x sent unshut allowed arrives =
     let same : sent.0 ≡ hop.contact = same_some (sym sent.1 ∙ hop.named) in
     record {
@@ -77,7 +76,7 @@ hop_takes task is n h hop u t x sent unshut allowed arrives =
       receiver = hop.is.receiver;
       unshut = unshut;
       allowed = allowed;
-      arrives = hop_arrival_is (record { plan = task.plan; table = task.table }) task.request t hop.contact h hop.is ∙ arrives
+      arrives = hop_arrival_is (record { plan = task.plan; table = task.table }) task.request t hop.contact h hop.is ∙ arrives;
     }
 
 -- what the test of excluded numbers says
@@ -97,7 +96,7 @@ starts_before task n u t w x s = let a = arrival_parts task.plan task.request t 
 
 -- the contacts at place i and behind start no earlier than the one at place i
 pub late_behind : (task : SearchTask) (u t : ℕ) (numbers : List ℕ) → AreSteps task u t numbers → (i n : ℕ) (h : Hop) → slice_get numbers i ≡ Some n → IsHopAt task n h → (best : ℕ) → best ≤ h.start →
-  (j m w x : ℕ) → i ≤ j → slice_get numbers j ≡ Some m → Takes task m u t w x → best ≤ x
+    (j m w x : ℕ) → i ≤ j → slice_get numbers j ≡ Some m → Takes task m u t w x → best ≤ x
 late_behind task u t numbers steps i n h at_i hop best late j m w x le at_j s =
     omega (arith, late, hop.is.start, steps.rising i j n m hop.contact s.contact le at_i at_j hop.named s.named, starts_before task m u t w x s)
 
@@ -110,11 +109,11 @@ AreKnown task numbers u t i arrival best = (j n w x : ℕ) → j < i → slice_g
 
 -- one contact more
 pub known_more : (task : SearchTask) (numbers : List ℕ) (u t i : ℕ) (arrival arrival' : List ℕ) (best best' n : ℕ) → AreKnown task numbers u t i arrival best → slice_get numbers i ≡ Some n →
-  ((k : ℕ) → slice_index arrival' k ≤ slice_index arrival k) → best' ≤ best → ((w x : ℕ) → Takes task n u t w x → IsKnown task.goal arrival' best' w x) → AreKnown task numbers u t (i + 1) arrival' best'
+    ((k : ℕ) → slice_index arrival' k ≤ slice_index arrival k) → best' ≤ best → ((w x : ℕ) → Takes task n u t w x → IsKnown task.goal arrival' best' w x) → AreKnown task numbers u t (i + 1) arrival' best'
 known_more task numbers u t i arrival arrival' best best' n known at falls lower one j m w x less here s =
     elim (last_or_before j i less) [
-      inl before ↦ known_lower task.goal arrival arrival' best best' w x falls lower (known j m w x before here s)
-    | inr same ↦ (let number : n ≡ m = same_some (sym at ∙ rw same at here) in one w x (rw (← number) at s))
+      | inl before ↦ known_lower task.goal arrival arrival' best best' w x falls lower (known j m w x before here s)
+      | inr same ↦ (let number : n ≡ m = same_some (sym at ∙ rw same at here) in one w x (rw (← number) at s))
     ]
 
 -- a number that names no contact is that of no step
@@ -123,10 +122,10 @@ none_named task n u t w x none s = let e : None ≡ Some s.contact = sym none �
 
 -- where of all contacts each step is known, or late, each step is known
 pub known_all : (task : SearchTask) (numbers : List ℕ) (u t i : ℕ) (arrival : List ℕ) (best : ℕ) → AreSteps task u t numbers → AreKnown task numbers u t i arrival best →
-  ((j m w x : ℕ) → i ≤ j → slice_get numbers j ≡ Some m → Takes task m u t w x → best ≤ x) → (n w x : ℕ) → Takes task n u t w x → IsKnown task.goal arrival best w x
+    ((j m w x : ℕ) → i ≤ j → slice_get numbers j ≡ Some m → Takes task m u t w x → best ≤ x) → (n w x : ℕ) → Takes task n u t w x → IsKnown task.goal arrival best w x
 known_all task numbers u t i arrival best steps known late n w x s =
     let place = steps.whole n w x s in
     elim (cases_lt place.0 i) [
-      inl before ↦ known place.0 n w x before place.1 s
-    | inr behind ↦ inl (late place.0 n w x behind place.1 s)
+      | inl before ↦ known place.0 n w x before place.1 s
+      | inr behind ↦ inl (late place.0 n w x behind place.1 s)
     ]

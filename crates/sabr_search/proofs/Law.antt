@@ -1,5 +1,5 @@
 -- From the least way of a search to the law of finders, and the bounds on looks.
-use Rattle.std.proofs.Common.{◌≡◌, ◌⊎◌, inl, inr, ℕ, suc, ◌+◌, ◌-◌, ◌*◌, ◌<◌, ◌≤◌, Bool, true, false, eqb, ltb, List, [], ◌∷◌, ◌++◌, length, map, Some, None, Option, slice_get, refl, ap, sym, subst, ◌∙◌, ⊎_elim, arith, length-append}
+use Rattle.std.proofs.Common.{◌≡◌, inl, inr, ℕ, suc, ◌+◌, ◌-◌, ◌*◌, ◌≤◌, true, eqb, ltb, List, [], ◌∷◌, ◌++◌, length, map, Some, None, Option, refl, ap, sym, subst, ◌∙◌, ⊎_elim, arith, length-append}
 use Rattle.std.specs.Prelude.{IsTrue, is_some, min, IfSome, IfNone, IfOk, OnErr, Ok, Err, Result}
 use Rattle.std.proofs.Math.Nat.{mul-le-mul, mul-le-mul_right}
 use Rattle.sabr_model.specs.declared.fault.NoMemory.{NoMemory}
@@ -9,11 +9,10 @@ use Rattle.std.proofs.lemmas.Bool.{and_parts, or_cases, eqb-true, cases_order, l
 use Rattle.sabr_model.specs.declared.contact.Contact.{Contact}
 use Rattle.sabr_model.specs.Plan.{ContactPlan, IsPlan, contact_named, has, are_different, rises_above}
 use Rattle.sabr_model.specs.Arrival.{RouteRequest}
-use Rattle.sabr_model.specs.Route.{chain_end, receivers, is_route, IsRoute, until_of, entry_of, delivery_of}
-use Rattle.sabr_model.specs.Parts.{least_in}
+use Rattle.sabr_model.specs.Route.{chain_end, receivers, is_route, until_of, entry_of}
 use Rattle.sabr_model.specs.Record.{RouteRecord, record_of}
 use Rattle.sabr_model.proofs.Members.{IsIn, in_map}
-use Rattle.sabr_model.proofs.Listed.{in_from_has, has_from_in}
+use Rattle.sabr_model.proofs.Listed.{has_from_in}
 use Rattle.sabr_model.proofs.Routes.{route_facts}
 use Rattle.sabr_model.proofs.Begins.{first_hop, receivers-cons}
 use Rattle.sabr_search.specs.Front.{IsNotAfter}
@@ -38,14 +37,14 @@ way_early task is (n ∷ ns) u t v e le way = way_early task is ns way.0 way.1 v
 receivers_length : (p : ContactPlan) (a : ℕ) (s : List ℕ) (b : ℕ) → chain_end p a s ≡ Some b → length (receivers p s) ≡ length s
 receivers_length p a [] b chain = refl
 receivers_length p a (n ∷ s) b chain =
-  let h = first_hop p a n s b chain in
-  ap length (receivers-cons p n s h.contact h.named) ∙ ap suc (receivers_length p h.contact.to s b h.rest)
+    let h = first_hop p a n s b chain in
+    ap length (receivers-cons p n s h.contact h.named) ∙ ap suc (receivers_length p h.contact.to s b h.rest)
 
 received : (p : ContactPlan) (a : ℕ) (s : List ℕ) (b x : ℕ) → chain_end p a s ≡ Some b → has x (receivers p s) ≡ true → (n : ℕ) × (c : Contact) × (contact_named p n ≡ Some c) × (c.to ≡ x)
 received p a [] b x chain h = absurd cc
 received p a (n ∷ s) b x chain h =
-  let f = first_hop p a n s b chain in
-  ⊎_elim (λ here. (n, f.contact, f.named, sym (eqb-true x f.contact.to here))) (λ later. received p f.contact.to s b x f.rest later)
+    let f = first_hop p a n s b chain in
+    ⊎_elim (λ here. (n, f.contact, f.named, sym (eqb-true x f.contact.to here))) (λ later. received p f.contact.to s b x f.rest later)
     (or_cases (eqb x f.contact.to) (has x (receivers p s)) (sym (ap (has x) (receivers-cons p n s f.contact f.named)) ∙ h))
 
 map_size : (cs : List Contact) → length (map (λ (c : Contact). c.to) cs) ≡ length cs
@@ -55,15 +54,15 @@ map_size (c ∷ cs) = ap suc (map_size cs)
 -- a chain that comes to no node twice has no more contacts than the plan
 pub chain_few : (p : ContactPlan) (a : ℕ) (s : List ℕ) (b : ℕ) → chain_end p a s ≡ Some b → are_different (receivers p s) ≡ true → length s ≤ length p.contacts
 chain_few p a s b chain differ =
-  let few = few_different (receivers p s) (map (λ (c : Contact). c.to) p.contacts) differ
-      (λ q h. (let m = received p a s b q chain h in
-               has_from_in q (map (λ (c : Contact). c.to) p.contacts) (subst (λ x. IsIn x (map (λ (c : Contact). c.to) p.contacts)) m.3 (in_map (λ (c : Contact). c.to) m.1 p.contacts (contact_in p m.0 m.1 m.2))))) in
-  omega (arith, few, receivers_length p a s b chain, map_size p.contacts)
+    let few = few_different (receivers p s) (map (λ (c : Contact). c.to) p.contacts) differ
+    (λ q h. (let m = received p a s b q chain h in
+    has_from_in q (map (λ (c : Contact). c.to) p.contacts) (subst (λ x. IsIn x (map (λ (c : Contact). c.to) p.contacts)) m.3 (in_map (λ (c : Contact). c.to) m.1 p.contacts (contact_in p m.0 m.1 m.2))))) in
+    omega (arith, few, receivers_length p a s b chain, map_size p.contacts)
 
 pub route_few : (p : ContactPlan) (r : RouteRequest) (s : List ℕ) → IsTrue (is_route p r s) → length s ≤ length p.contacts
 route_few p r s route =
-  let facts = route_facts p r s route in
-  chain_few p r.source s r.destination facts.reaches (and_parts _ (are_different (receivers p s)) facts.different).1
+    let facts = route_facts p r s route in
+    chain_few p r.source s r.destination facts.reaches (and_parts _ (are_different (receivers p s)) facts.different).1
 
 some_value : (o : Option ℕ) → is_some o ≡ true → (x : ℕ) × (o ≡ Some x)
 some_value None e = absurd cc
@@ -71,28 +70,28 @@ some_value (Some x) e = (x, refl)
 
 pub prefix_few : (p : ContactPlan) (r : RouteRequest) (s : List ℕ) → IsPrefix p r s → length s ≤ length p.contacts
 prefix_few p r s facts =
-  let ends = some_value (chain_end p r.source s) facts.chained in
-  chain_few p r.source s ends.0 ends.1 (and_parts _ (are_different (receivers p s)) facts.different).1
+    let ends = some_value (chain_end p r.source s) facts.chained in
+    chain_few p r.source s ends.0 ends.1 (and_parts _ (are_different (receivers p s)) facts.different).1
 
 -- and fewer than the plan has nodes
 pub route_nodes : (p : ContactPlan) (r : RouteRequest) (table : List ℕ) → HasNodes p table → (s : List ℕ) → IsTrue (is_route p r s) → length s + 1 ≤ length table
 route_nodes p r table nodes [] route = absurd (omega (arith, (route_facts p r [] route).some_hop))
 route_nodes p r table nodes (n ∷ s) route =
-  let facts = route_facts p r (n ∷ s) route in
-  let h = first_hop p r.source n s r.destination facts.reaches in
-  let source = nodes.senders n h.contact h.named in
-  let few = few_different (r.source ∷ receivers p (n ∷ s)) table facts.different
-      (λ q there. ⊎_elim
-        (λ here. has_at table source.0 q (source.1 ∙ ap Some (h.sent ∙ sym (eqb-true q r.source here))))
-        (λ later. (let m = received p r.source (n ∷ s) r.destination q facts.reaches later in let place = nodes.receivers m.0 m.1 m.2 in has_at table place.0 q (place.1 ∙ ap Some m.3)))
-        (or_cases (eqb q r.source) (has q (receivers p (n ∷ s))) there)) in
-  omega (arith, few, receivers_length p r.source (n ∷ s) r.destination facts.reaches)
+    let facts = route_facts p r (n ∷ s) route in
+    let h = first_hop p r.source n s r.destination facts.reaches in
+    let source = nodes.senders n h.contact h.named in
+    let few = few_different (r.source ∷ receivers p (n ∷ s)) table facts.different
+    (λ q there. ⊎_elim
+    (λ here. has_at table source.0 q (source.1 ∙ ap Some (h.sent ∙ sym (eqb-true q r.source here))))
+    (λ later. (let m = received p r.source (n ∷ s) r.destination q facts.reaches later in let place = nodes.receivers m.0 m.1 m.2 in has_at table place.0 q (place.1 ∙ ap Some m.3)))
+    (or_cases (eqb q r.source) (has q (receivers p (n ∷ s))) there)) in
+    omega (arith, few, receivers_length p r.source (n ∷ s) r.destination facts.reaches)
 
 rising_few : (low top : ℕ) (cs : List Contact) → rises_above low (map (λ (c : Contact). c.number) cs) ≡ true → AllByRecursion (λ (c : Contact). c.number ≤ top) cs → low ≤ top → low + length cs ≤ top
 rising_few low top [] rise all le = omega arith
 rising_few low top (c ∷ cs) rise all le =
-  let parts = and_parts (ltb low c.number) (rises_above c.number (map (λ (d : Contact). d.number) cs)) rise in
-  omega (arith, ltb-true low c.number parts.0, rising_few c.number top cs parts.1 all.1 all.0)
+    let parts = and_parts (ltb low c.number) (rises_above c.number (map (λ (d : Contact). d.number) cs)) rise in
+    omega (arith, ltb-true low c.number parts.0, rising_few c.number top cs parts.1 all.1 all.0)
 
 -- a plan has at most 20000 contacts
 pub contacts_few : (p : ContactPlan) → IsPlan p → length p.contacts ≤ 20000
@@ -102,100 +101,103 @@ contacts_few p good = omega (arith, rising_few 0 p.greatest p.contacts good.numb
 
 key_order : (task : SearchTask) (hops ceiling : ℕ) (s : List ℕ) (d : ℕ) → IsLeastWay task hops ceiling s d → (ns : List ℕ) (e : ℕ) → Leads (Takes task) task.start task.at ns task.goal e → d ≤ e → IsNotAfter (d ∷ length s ∷ s) (e ∷ length ns ∷ ns)
 key_order task hops ceiling s d least ns e way le =
-  elim (cases_order d e) [
-    inr (inl less) ↦ inl less
-  | inr (inr more) ↦ absurd (omega arith)
-  | inl same ↦ inr (same, elim (cases_order (length s) (length ns)) [
-      inr (inl fewer) ↦ inl fewer
-    | inr (inr more) ↦ absurd (omega (arith, least.fewest ns e more way))
-    | inl equal ↦ inr (equal, least.front ns e (sym equal) way (omega arith))
-    ])
-  ]
+    elim (cases_order d e) [
+      | inr (inl less) ↦ inl less
+      | inr (inr more) ↦ absurd (omega arith)
+      | inl same ↦ inr (
+        same,
+        elim (cases_order (length s) (length ns)) [
+          | inr (inl fewer) ↦ inl fewer
+          | inr (inr more) ↦ absurd (omega (arith, least.fewest ns e more way))
+          | inl equal ↦ inr (equal, least.front ns e (sym equal) way (omega arith))
+        ],
+      )
+    ]
 
 -- the least way that no route of the part is sooner than is the least of the part
 pub found_is_least : (task : SearchTask) → IsTask task → (prefix : List ℕ) → IsBehind task prefix → IsPrefix task.plan task.request prefix → (hops ceiling : ℕ) (s : List ℕ) (route : RouteRecord) → route.contacts ≡ prefix ++ s → IsLeastWay task hops ceiling s route.delivery → IsTold task.plan route →
-  length prefix + length s ≤ task.request.max_hops →
-  ((ns : List ℕ) (e : ℕ) → IsTrue (is_route task.plan task.request (prefix ++ ns)) → Leads (Takes task) task.start task.at ns task.goal e → route.delivery ≤ e) →
-  IsLeast task.plan task.request prefix task.excluded (Some route)
+    length prefix + length s ≤ task.request.max_hops →
+    ((ns : List ℕ) (e : ℕ) → IsTrue (is_route task.plan task.request (prefix ++ ns)) → Leads (Takes task) task.start task.at ns task.goal e → route.delivery ≤ e) →
+    IsLeast task.plan task.request prefix task.excluded (Some route)
 found_is_least task is prefix behind facts hops ceiling s route contacts least told short soonest =
-  let p = task.plan in
-  let r = task.request in
-  let found = least_in_part task prefix behind is.plan facts s route.delivery least.some least.way least.fewest short
-      (λ ns e listed way. key_order task hops ceiling s route.delivery least ns e way (soonest ns e listed way)) in
-  let f : List ℕ → ℕ → RouteRecord = λ c d. record { contacts = c; delivery = d; until = until_of p c; entry = entry_of p c } in
-  let g : ℕ → ℕ → RouteRecord = λ u e. record { contacts = route.contacts; delivery = route.delivery; until = u; entry = e } in
-  let one : route ≡ f route.contacts route.delivery = ap (λ u. g u route.entry) told.until_is ∙ ap (g (until_of p route.contacts)) told.entry_is in
-  ap Some (one ∙ ap (λ c. f c route.delivery) contacts ∙ ap (f (prefix ++ s)) (sym found.1)) ∙ sym (ap (option_map (record_of p r)) found.0)
+    let p = task.plan in
+    let r = task.request in
+    let found = least_in_part task prefix behind is.plan facts s route.delivery least.some least.way least.fewest short
+    (λ ns e listed way. key_order task hops ceiling s route.delivery least ns e way (soonest ns e listed way)) in
+    let f : List ℕ → ℕ → RouteRecord = λ c d. record { contacts = c; delivery = d; until = until_of p c; entry = entry_of p c } in
+    let g : ℕ → ℕ → RouteRecord = λ u e. record { contacts = route.contacts; delivery = route.delivery; until = u; entry = e } in
+    let one : route ≡ f route.contacts route.delivery = ap (λ u. g u route.entry) told.until_is ∙ ap (g (until_of p route.contacts)) told.entry_is in
+    ap Some (one ∙ ap (λ c. f c route.delivery) contacts ∙ ap (f (prefix ++ s)) (sym found.1)) ∙ sym (ap (option_map (record_of p r)) found.0)
 
 -- where the part has no way, it has no route
 pub none_is_least : (task : SearchTask) → IsTask task → (prefix : List ℕ) → IsBehind task prefix →
-  ((ns : List ℕ) (e : ℕ) → IsTrue (is_route task.plan task.request (prefix ++ ns)) → Leads (Takes task) task.start task.at ns task.goal e → ⊥) → IsLeast task.plan task.request prefix task.excluded None
+    ((ns : List ℕ) (e : ℕ) → IsTrue (is_route task.plan task.request (prefix ++ ns)) → Leads (Takes task) task.start task.at ns task.goal e → ⊥) → IsLeast task.plan task.request prefix task.excluded None
 none_is_least task is prefix behind none = sym (ap (option_map (record_of task.plan task.request)) (none_in_part task prefix behind is.plan none))
 
 -- what a route of the part has behind the prefix
 pub behind_sizes : (task : SearchTask) → IsTask task → (prefix ns : List ℕ) → IsTrue (is_route task.plan task.request (prefix ++ ns)) → (length prefix + length ns ≤ task.request.max_hops) × (length prefix + length ns + 1 ≤ length task.table) × (length prefix + length ns ≤ length task.plan.contacts)
 behind_sizes task is prefix ns route =
-  let facts = route_facts task.plan task.request (prefix ++ ns) route in
-  let size : length (prefix ++ ns) ≡ length prefix + length ns = length-append prefix ns in
-  (omega (arith, facts.within), omega (arith, route_nodes task.plan task.request task.table is.nodes (prefix ++ ns) route), omega (arith, route_few task.plan task.request (prefix ++ ns) route))
+    let facts = route_facts task.plan task.request (prefix ++ ns) route in
+    let size : length (prefix ++ ns) ≡ length prefix + length ns = length-append prefix ns in
+    (omega (arith, facts.within), omega (arith, route_nodes task.plan task.request task.table is.nodes (prefix ++ ns) route), omega (arith, route_few task.plan task.request (prefix ++ ns) route))
 
 -- ---- a finder that takes all hops and deliveries that a route may have
 
 pub least_of_all_hops : (task : SearchTask) → IsTask task → (prefix : List ℕ) → IsBehind task prefix → IsPrefix task.plan task.request prefix → (hops : ℕ) → hops ≡ min (task.request.max_hops - length prefix) (length task.table - 1) → (o : Option RouteRecord) →
-  IfNone o ((ns : List ℕ) (e : ℕ) → length ns ≤ hops → Leads (Takes task) task.start task.at ns task.goal e → never ≤ e) →
-  IfSome o (λ route. (s : List ℕ) × (route.contacts ≡ prefix ++ s) × IsLeastWay task hops never s route.delivery × IsTold task.plan route) →
-  IsLeast task.plan task.request prefix task.excluded o
+    IfNone o ((ns : List ℕ) (e : ℕ) → length ns ≤ hops → Leads (Takes task) task.start task.at ns task.goal e → never ≤ e) →
+    IfSome o (λ route. (s : List ℕ) × (route.contacts ≡ prefix ++ s) × IsLeastWay task hops never s route.delivery × IsTold task.plan route) →
+    IsLeast task.plan task.request prefix task.excluded o
 least_of_all_hops task is prefix behind facts hops hops_is None none some =
-  none_is_least task is prefix behind (λ ns e route way.
+    none_is_least task is prefix behind (λ ns e route way.
     (let sizes = behind_sizes task is prefix ns route in
-     omega (arith, none ns e (omega (arith, sizes.0, sizes.1)) way, way_early task is ns task.start task.at task.goal e is.time way)))
+    omega (arith, none ns e (omega (arith, sizes.0, sizes.1)) way, way_early task is ns task.start task.at task.goal e is.time way)))
 least_of_all_hops task is prefix behind facts hops hops_is (Some route) none some =
-  found_is_least task is prefix behind facts hops never some.0 route some.1 some.2 some.3 (omega (arith, some.2.within, facts.within))
+    found_is_least task is prefix behind facts hops never some.0 route some.1 some.2 some.3 (omega (arith, some.2.within, facts.within))
     (λ ns e listed way. (let sizes = behind_sizes task is prefix ns listed in some.2.least ns e (omega (arith, sizes.0, sizes.1)) way))
 
 -- how many contacts a route that is found has
 pub told_few : (task : SearchTask) → IsTask task → (prefix : List ℕ) → IsBehind task prefix → IsPrefix task.plan task.request prefix → (hops ceiling : ℕ) → length prefix + hops ≤ task.request.max_hops → (o : Option RouteRecord) →
-  IfSome o (λ route. (s : List ℕ) × (route.contacts ≡ prefix ++ s) × IsLeastWay task hops ceiling s route.delivery × IsTold task.plan route) → hops_told o ≤ length task.plan.contacts
+    IfSome o (λ route. (s : List ℕ) × (route.contacts ≡ prefix ++ s) × IsLeastWay task hops ceiling s route.delivery × IsTold task.plan route) → hops_told o ≤ length task.plan.contacts
 told_few task is prefix behind facts hops ceiling short None some = omega arith
 told_few task is prefix behind facts hops ceiling short (Some route) some =
-  let own = way_is_route task prefix behind facts some.0 route.delivery some.2.some some.2.way some.2.fewest (omega (arith, some.2.within)) in
-  omega (arith, ap length some.1, route_few task.plan task.request (prefix ++ some.0) own.0)
+    let own = way_is_route task prefix behind facts some.0 route.delivery some.2.some some.2.way some.2.fewest (omega (arith, some.2.within)) in
+    omega (arith, ap length some.1, route_few task.plan task.request (prefix ++ some.0) own.0)
 
 -- looks within the bound of a finder
 pub looks_within : (n c used hops told looks : ℕ) → used ≤ c → told ≤ c → hops + 1 ≤ n → looks ≤ used + 3 * (hops * c) + told → looks ≤ (3 * n + 1) * c
 looks_within n c used hops told looks few short less le =
-  let product : (hops + 1) * c ≤ n * c = mul-le-mul_right c less in
-  omega (arith, product)
+    let product : (hops + 1) * c ≤ n * c = mul-le-mul_right c less in
+    omega (arith, product)
 
 pub answer_looks : (task : SearchTask) → IsTask task → (prefix : List ℕ) → IsBehind task prefix → IsPrefix task.plan task.request prefix → (hops ceiling used looks : ℕ) → length prefix + hops ≤ task.request.max_hops → hops + 1 ≤ length task.table → used ≤ length prefix →
-  (result : Result (Option RouteRecord) NoMemory) →
-  OnErr result (looks ≤ used + 3 * (hops * length task.plan.contacts)) → IfOk result (λ o. looks ≤ used + 3 * (hops * length task.plan.contacts) + hops_told o) →
-  IfOk result (λ o. IfSome o (λ route. (s : List ℕ) × (route.contacts ≡ prefix ++ s) × IsLeastWay task hops ceiling s route.delivery × IsTold task.plan route)) →
-  looks ≤ (3 * length task.table + 1) * length task.plan.contacts
+    (result : Result (Option RouteRecord) NoMemory) →
+    OnErr result (looks ≤ used + 3 * (hops * length task.plan.contacts)) → IfOk result (λ o. looks ≤ used + 3 * (hops * length task.plan.contacts) + hops_told o) →
+    IfOk result (λ o. IfSome o (λ route. (s : List ℕ) × (route.contacts ≡ prefix ++ s) × IsLeastWay task hops ceiling s route.delivery × IsTold task.plan route)) →
+    looks ≤ (3 * length task.table + 1) * length task.plan.contacts
 answer_looks task is prefix behind facts hops ceiling used looks short less few (Ok o) err ok some =
-  looks_within (length task.table) (length task.plan.contacts) used hops (hops_told o) looks (omega (arith, prefix_few task.plan task.request prefix facts)) (told_few task is prefix behind facts hops ceiling short o some) less ok
+    looks_within (length task.table) (length task.plan.contacts) used hops (hops_told o) looks (omega (arith, prefix_few task.plan task.request prefix facts)) (told_few task is prefix behind facts hops ceiling short o some) less ok
 answer_looks task is prefix behind facts hops ceiling used looks short less few (Err e) err ok some =
-  looks_within (length task.table) (length task.plan.contacts) used hops 0 looks (omega (arith, prefix_few task.plan task.request prefix facts)) (omega arith) less (omega (arith, err))
+    looks_within (length task.table) (length task.plan.contacts) used hops 0 looks (omega (arith, prefix_few task.plan task.request prefix facts)) (omega arith) less (omega (arith, err))
 
 pub prefix_looks : (p : ContactPlan) (r : RouteRequest) (prefix : List ℕ) → IsPrefix p r prefix → (n looks : ℕ) → looks ≤ length prefix → looks ≤ (3 * n + 1) * length p.contacts
 prefix_looks p r prefix facts n looks le =
-  let c = length p.contacts in
-  let few = prefix_few p r prefix facts in
-  omega arith
+    let c = length p.contacts in
+    let few = prefix_few p r prefix facts in
+    omega arith
 
 -- what the searches of one call may count, in numbers that a machine holds
 pub looks_fit : (task : SearchTask) → IsTask task → (prefix : List ℕ) → IsPrefix task.plan task.request prefix → (most hops used : ℕ) → task.request.max_hops ≤ 20000 → hops ≤ task.request.max_hops → used ≤ length prefix + most * length task.plan.contacts → most ≤ 40000 →
-  used + 3 * (hops * length task.plan.contacts) + length prefix + hops ≤ 4611686018427387904
+    used + 3 * (hops * length task.plan.contacts) + length prefix + hops ≤ 4611686018427387904
 looks_fit task is prefix facts most hops used limit le few many =
-  let c = length task.plan.contacts in
-  let small = contacts_few task.plan is.plan in
-  let one : hops * c ≤ 20000 * 20000 = mul-le-mul {n₂ = 20000} {m₂ = 20000} (omega arith) small in
-  let two : most * c ≤ 40000 * 20000 = mul-le-mul {n₂ = 40000} {m₂ = 20000} many small in
-  omega (arith, one, two, facts.within)
+    let c = length task.plan.contacts in
+    let small = contacts_few task.plan is.plan in
+    let one : hops * c ≤ 20000 * 20000 = mul-le-mul {n₂ = 20000} {m₂ = 20000} (omega arith) small in
+    let two : most * c ≤ 40000 * 20000 = mul-le-mul {n₂ = 40000} {m₂ = 20000} many small in
+    omega (arith, one, two, facts.within)
 
 pub least_answer : (task : SearchTask) → IsTask task → (prefix : List ℕ) → IsBehind task prefix → IsPrefix task.plan task.request prefix → (hops : ℕ) → hops ≡ min (task.request.max_hops - length prefix) (length task.table - 1) → (result : Result (Option RouteRecord) NoMemory) →
-  IfOk result (λ o. IfNone o ((ns : List ℕ) (e : ℕ) → length ns ≤ hops → Leads (Takes task) task.start task.at ns task.goal e → never ≤ e)) →
-  IfOk result (λ o. IfSome o (λ route. (s : List ℕ) × (route.contacts ≡ prefix ++ s) × IsLeastWay task hops never s route.delivery × IsTold task.plan route)) →
-  IfOk result (IsLeast task.plan task.request prefix task.excluded)
+    IfOk result (λ o. IfNone o ((ns : List ℕ) (e : ℕ) → length ns ≤ hops → Leads (Takes task) task.start task.at ns task.goal e → never ≤ e)) →
+    IfOk result (λ o. IfSome o (λ route. (s : List ℕ) × (route.contacts ≡ prefix ++ s) × IsLeastWay task hops never s route.delivery × IsTold task.plan route)) →
+    IfOk result (IsLeast task.plan task.request prefix task.excluded)
 least_answer task is prefix behind facts hops hops_is (Ok o) none some = least_of_all_hops task is prefix behind facts hops hops_is o none some
 least_answer task is prefix behind facts hops hops_is (Err e) none some = tt

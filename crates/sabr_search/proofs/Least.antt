@@ -1,13 +1,12 @@
 -- The first of all routes in a part is the one whose key is at most each key in the part.
-use Rattle.std.proofs.Common.{◌≡◌, ◌⊎◌, ℕ, ◌+◌, ◌<◌, ◌≤◌, Bool, true, false, cond, eqb, ltb, List, [], ◌∷◌, ◌++◌, length, refl, sym, ap, subst, ◌∙◌, inl, inr, ⊎_elim, arith, length-append}
+use Rattle.std.proofs.Common.{◌≡◌, ℕ, ◌+◌, ◌<◌, ◌≤◌, Bool, true, false, cond, eqb, List, [], ◌∷◌, ◌++◌, length, refl, sym, ap, subst, ◌∙◌, inl, inr, ⊎_elim, arith, length-append}
 use Rattle.std.specs.Prelude.{IsTrue, unwrap_or}
 use Rattle.std.proofs.lemmas.Bool.{le-ltb, ne_eqb, eq-eqb, cases_Bool}
-use Rattle.std.specs.List.{find, AllByRecursion}
+use Rattle.std.specs.List.{find}
 use Rattle.std.specs.List.Sorted.{IsStrictlySortedBy}
 use Rattle.std.specs.Ordering.{nat_cmp, ordering_then}
 use Rattle.std.specs.declared.cmp.Ordering.{Ordering}
 use Rattle.std.specs.declared.cmp.Ordering.TheVariants.{Less, Equal, Greater}
-use Rattle.std.specs.declared.option.Option.{Option}
 use Rattle.std.specs.declared.option.Option.TheVariants.{Some, None}
 use Rattle.sabr_model.specs.Order.{by_numbers}
 use Rattle.sabr_model.specs.Plan.{ContactPlan, IsPlan}
@@ -52,14 +51,14 @@ unfolding IsStrictlySortedBy
 find_first cmp test [] x sorted inside passes first = absurd inside
 find_first cmp test (y ∷ ys) x sorted inside passes first =
     ⊎_elim
-        (λ yes.
-          ap (λ b. cond b (Some y) (find test ys)) yes
-          ∙ ⊎_elim (λ (same : x ≡ y). ap Some (sym same)) (λ later. absurd (first y (inl refl) yes (all_in (λ z. cmp y z ≡ Less) ys sorted.0 x later))) inside)
-        (λ no.
-          ap (λ b. cond b (Some y) (find test ys)) no
-          ∙ ⊎_elim (λ (same : x ≡ y). absurd (let w : true ≡ false = sym passes ∙ ap test same ∙ no in cc))
-              (λ later. find_first cmp test ys x sorted.1 later passes (λ z i t e. first z (inr i) t e)) inside)
-        (cases_Bool (test y))
+    (λ yes.
+    ap (λ b. cond b (Some y) (find test ys)) yes
+    ∙ ⊎_elim (λ (same : x ≡ y). ap Some (sym same)) (λ later. absurd (first y (inl refl) yes (all_in (λ z. cmp y z ≡ Less) ys sorted.0 x later))) inside)
+    (λ no.
+    ap (λ b. cond b (Some y) (find test ys)) no
+    ∙ ⊎_elim (λ (same : x ≡ y). absurd (let w : true ≡ false = sym passes ∙ ap test same ∙ no in cc))
+    (λ later. find_first cmp test ys x sorted.1 later passes (λ z i t e. first z (inr i) t e)) inside)
+    (cases_Bool (test y))
 
 find_none : {X : Type 0} (test : X → Bool) (xs : List X) → ((y : X) → IsIn y xs → test y ≡ true → ⊥) → find test xs ≡ None
 find_none test [] none = refl
@@ -74,7 +73,7 @@ unfolding least_in
 least_is p r prefix excluded s good route on least =
     let listed = routes_are_listed p r good in
     find_first (by_key p r) (goes_on prefix excluded) (routes p r) s listed.rising (in_from_Contains (routes p r) s ((listed.members s).1 route)) on
-        (λ m inside passes e. not_before (key_of p r s) (key_of p r m) (least m ((listed.members m).0 (Contains-from_in (routes p r) m inside)) passes) e)
+    (λ m inside passes e. not_before (key_of p r s) (key_of p r m) (least m ((listed.members m).0 (Contains-from_in (routes p r) m inside)) passes) e)
 
 pub none_is : (p : ContactPlan) (r : RouteRequest) (prefix excluded : List ℕ) → IsPlan p
     → ((m : List ℕ) → IsTrue (is_route p r m) → goes_on prefix excluded m ≡ true → ⊥)
@@ -93,8 +92,8 @@ pub none_in_part : (task : SearchTask) (prefix : List ℕ) → IsBehind task pre
     → least_in task.plan task.request prefix task.excluded ≡ None
 none_in_part task prefix behind good none =
     none_is task.plan task.request prefix task.excluded good (λ m route on.
-      (let w : IsPartWay task prefix m = part_way task prefix behind m route on in
-       none w.rest w.delivery (subst (λ (x : List ℕ). IsTrue (is_route task.plan task.request x)) w.is route) w.way))
+    (let w : IsPartWay task prefix m = part_way task prefix behind m route on in
+    none w.rest w.delivery (subst (λ (x : List ℕ). IsTrue (is_route task.plan task.request x)) w.is route) w.way))
 
 -- a way that no way of the part comes before, in delivery, hops and numbers, is the least route of the part
 pub least_in_part : (task : SearchTask) (prefix : List ℕ) → IsBehind task prefix → IsPlan task.plan → IsPrefix task.plan task.request prefix
@@ -107,18 +106,24 @@ least_in_part task prefix behind good facts s d some way fewest short least =
     let p = task.plan in
     let r = task.request in
     let own = way_is_route task prefix behind facts s d some way fewest short in
-    let delivery : delivery_of p r (prefix ++ s) ≡ d = delivered p r (prefix ++ s) d own.2 in
-    (least_is p r prefix task.excluded (prefix ++ s) good own.0 own.1 (λ m route on.
-      (let w : IsPartWay task prefix m = part_way task prefix behind m route on in
-       let other : delivery_of p r m ≡ w.delivery = delivered p r m w.delivery w.delivers in
-       let sizes : length (prefix ++ s) ≡ length prefix + length s = length-append prefix s in
-       let sizes' : length m ≡ length prefix + length w.rest = ap length w.is ∙ length-append prefix w.rest in
-       ⊎_elim
-           (λ sooner. inl (omega (arith, delivery, other, sooner)))
-           (λ same. ⊎_elim
-               (λ fewer. inr (omega (arith, delivery, other, same.0), inl (omega (arith, sizes, sizes', fewer))))
-               (λ equal. inr (omega (arith, delivery, other, same.0), inr (omega (arith, sizes, sizes', equal.0),
-                   subst (λ (x : List ℕ). IsNotAfter (prefix ++ s) x) (sym w.is) (not_after_behind prefix s w.rest equal.1))))
-               same.1)
-           (least w.rest w.delivery (subst (λ (x : List ℕ). IsTrue (is_route p r x)) w.is route) w.way))),
-     delivery)
+    let delivery : delivery_of p r (prefix ++ s) ≡ d = delivered p r (prefix ++ s) d own.2 in (
+      least_is p r prefix task.excluded (prefix ++ s) good own.0 own.1 (λ m route on.
+          (let w : IsPartWay task prefix m = part_way task prefix behind m route on in
+          let other : delivery_of p r m ≡ w.delivery = delivered p r m w.delivery w.delivers in
+          let sizes : length (prefix ++ s) ≡ length prefix + length s = length-append prefix s in
+          let sizes' : length m ≡ length prefix + length w.rest = ap length w.is ∙ length-append prefix w.rest in
+          ⊎_elim
+          (λ sooner. inl (omega (arith, delivery, other, sooner)))
+          (λ same. ⊎_elim
+          (λ fewer. inr (omega (arith, delivery, other, same.0), inl (omega (arith, sizes, sizes', fewer))))
+          (λ equal. inr (
+            omega (arith, delivery, other, same.0),
+            inr (
+              omega (arith, sizes, sizes', equal.0),
+              subst (λ (x : List ℕ). IsNotAfter (prefix ++ s) x) (sym w.is) (not_after_behind prefix s w.rest equal.1),
+            ),
+          ))
+          same.1)
+          (least w.rest w.delivery (subst (λ (x : List ℕ). IsTrue (is_route p r x)) w.is route) w.way))),
+      delivery,
+    )

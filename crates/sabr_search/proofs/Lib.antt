@@ -19,3 +19,9 @@ pub mod Front
 pub mod Told
 pub mod Entering
 pub mod Law
+pub mod Queues
+pub mod FirstWays
+pub mod Shortness
+pub mod FirstLimits
+pub mod Cuts
+pub mod FaultsOfPrefixes

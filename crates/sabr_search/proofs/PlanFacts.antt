@@ -1,8 +1,8 @@
 -- What a plan's rules say of a contact of a number, of its hop, and of the table of nodes.
-use Rattle.std.proofs.Common.{◌≡◌, ◌⊎◌, ℕ, zero, suc, ◌+◌, ◌*◌, ◌<◌, ◌≤◌, max, Bool, true, false, ◌&&◌, cond, not, eqb, ltb, List, [], ◌∷◌, length, slice_get, refl, sym, ap, subst, ◌∙◌, inl, inr, ⊎_elim, arith}
-use Rattle.std.specs.Prelude.{IsTrue, IfSome, Contains, ◌↔◌}
-use Rattle.std.proofs.lemmas.Bool.{and_parts, not-true, both_ways, eqb-true, true_from_ne_false, false_from_ne_true, or_left, or_right, eq-eqb, ltb-true, cond-true, lt-ltb}
-use Rattle.std.specs.List.{find, AllByRecursion}
+use Rattle.std.proofs.Common.{◌≡◌, ℕ, zero, suc, ◌+◌, ◌*◌, ◌<◌, ◌≤◌, max, Bool, true, false, ◌&&◌, cond, not, eqb, ltb, List, [], ◌∷◌, slice_get, refl, sym, ap, subst, ◌∙◌, inl, inr, ⊎_elim, arith}
+use Rattle.std.specs.Prelude.{IfSome, Contains, ◌↔◌}
+use Rattle.std.proofs.lemmas.Bool.{and_parts, not-true, both_ways, eqb-true, false_from_ne_true, or_left, or_right, eq-eqb, ltb-true, cond-true, lt-ltb}
+use Rattle.std.specs.List.{find}
 use Rattle.std.specs.Option.{option_map}
 use Rattle.std.specs.declared.option.Option.{Option}
 use Rattle.std.specs.declared.option.Option.TheVariants.{Some, None}
@@ -43,22 +43,22 @@ contact_window p good n c h = all_in (λ (d : Contact). IsWindow d.start d.end) 
 light_of_pair_small : (p : ContactPlan) → IsPlan p → (one other t l : ℕ) → light_of_pair p.ranges one other t ≡ Some l → l ≤ 1000000
 light_of_pair_small p good one other t l h =
     elim (find (λ (r : Range). eqb r.one one && eqb r.other other && is_within r.start r.end t) p.ranges) as
-      (λ o. find (λ (r : Range). eqb r.one one && eqb r.other other && is_within r.start r.end t) p.ranges ≡ o → option_map (λ (r : Range). r.light) o ≡ Some l → l ≤ 1000000) [
+    (λ o. find (λ (r : Range). eqb r.one one && eqb r.other other && is_within r.start r.end t) p.ranges ≡ o → option_map (λ (r : Range). r.light) o ≡ Some l → l ≤ 1000000) [
       | None ↦ λ e g. absurd cc
       | Some r ↦ λ e g.
           (let small = all_in (λ (r : Range). r.light ≤ 1000000) p.ranges good.lights r (found_in (λ (r : Range). eqb r.one one && eqb r.other other && is_within r.start r.end t) p.ranges r e).0 in
-           let same : r.light ≡ l = cc (g) in omega arith)
+          let same : r.light ≡ l = cc (g) in omega arith)
     ] refl h
 
 pub light_small : (p : ContactPlan) → IsPlan p → (c : Contact) (l : ℕ) → light_of p c ≡ Some l → l ≤ 1000000
 light_small p good c l h =
     elim (light_of_pair p.ranges c.from c.to c.start) as
-      (λ o. light_of_pair p.ranges c.from c.to c.start ≡ o → or_else o (cond (ltb c.to c.from) (light_of_pair p.ranges c.to c.from c.start) None) ≡ Some l → l ≤ 1000000) [
+    (λ o. light_of_pair p.ranges c.from c.to c.start ≡ o → or_else o (cond (ltb c.to c.from) (light_of_pair p.ranges c.to c.from c.start) None) ≡ Some l → l ≤ 1000000) [
       | Some x ↦ λ e g. light_of_pair_small p good c.from c.to c.start l (e ∙ g)
       | None ↦ λ e g. elim (ltb c.to c.from) as (λ b. cond b (light_of_pair p.ranges c.to c.from c.start) None ≡ Some l → l ≤ 1000000) [
-          | true ↦ λ f. light_of_pair_small p good c.to c.from c.start l f
-          | false ↦ λ f. absurd cc
-        ] g
+        | true ↦ λ f. light_of_pair_small p good c.to c.from c.start l f
+        | false ↦ λ f. absurd cc
+      ] g
     ] refl h
 
 some_light : (o : Option ℕ) → ((l : ℕ) → o ≡ Some l → l ≤ 1000000) → IfSome o (λ l. l ≤ 1000000)
@@ -137,9 +137,9 @@ hop_arrives margin t b h e =
     elim (ltb (max t h.start) h.end) as (λ w. ltb (max t h.start) h.end ≡ w → cond w (option_map (λ l. max t h.start + cost margin l) h.light) None ≡ Some b → HopArrives margin t b h) [
       | false ↦ λ q g. absurd cc
       | true ↦ λ q g. elim h.light as (λ o. h.light ≡ o → option_map (λ l. max t h.start + cost margin l) o ≡ Some b → HopArrives margin t b h) [
-          | None ↦ λ f k. absurd cc
-          | Some l ↦ λ f k. (let same : max t h.start + cost margin l ≡ b = cc (k) in record { light = l; in_force = f; before_end = ltb-true (max t h.start) h.end q; sum = omega (arith, same) })
-        ] refl g
+        | None ↦ λ f k. absurd cc
+        | Some l ↦ λ f k. (let same : max t h.start + cost margin l ≡ b = cc (k) in record { light = l; in_force = f; before_end = ltb-true (max t h.start) h.end q; sum = omega (arith, same) })
+      ] refl g
     ] refl e
 
 pub hop_arrival_there : (margin t l : ℕ) (h : Hop) → h.light ≡ Some l → max t h.start < h.end → hop_arrival margin t h ≡ Some (max t h.start + cost margin l)

@@ -1,21 +1,20 @@
 -- The contacts that a plan lists for a node are the steps that a search can take there.
-use Rattle.std.proofs.Common.{◌≡◌, ◌⊎◌, ℕ, zero, suc, ◌+◌, ◌<◌, ◌≤◌, max, Bool, true, false, cond, not, eqb, ltb, List, [], ◌∷◌, length, map, slice_get, get_or, refl, sym, ap, subst, ◌∙◌, inl, inr, ⊎_elim, add-one, arith}
-use Rattle.std.specs.Prelude.{IsTrue, Contains, nat_eq}
+use Rattle.std.proofs.Common.{◌≡◌, ℕ, suc, ◌+◌, ◌≤◌, Bool, true, false, cond, not, eqb, List, [], ◌∷◌, length, map, slice_get, refl, sym, ap, subst, ◌∙◌, ⊎_elim, add-one, arith}
+use Rattle.std.specs.Prelude.{Contains, nat_eq}
 use Rattle.std.specs.List.{count_by, filter, AllByRecursion, IsDistinct}
 use Rattle.std.specs.Cmp.{nat_eq_equiv}
 use Rattle.std.specs.Option.{option_map_or}
-use Rattle.std.specs.declared.option.Option.{Option}
-use Rattle.std.specs.declared.option.Option.TheVariants.{Some, None}
+use Rattle.std.specs.declared.option.Option.TheVariants.{Some}
 use Rattle.std.proofs.lemmas.Bool.{and_parts, not-true, both_ways, eqb-true, or_parts, or_cases, eq-eqb, cases_Bool}
-use Rattle.std.proofs.lemmas.List.Sums.{length-filter, count_by-le-length, sum_by-cons}
+use Rattle.std.proofs.lemmas.List.Sums.{length-filter, sum_by-cons}
 use Rattle.std.proofs.lemmas.Map.Made.{length-le_from_is_member}
 use Rattle.std.proofs.lemmas.Option.{get_or_from_slice_get, slice_get_within, slice_get-get_or}
 use Rattle.sabr_model.specs.declared.contact.Contact.{Contact}
-use Rattle.sabr_model.specs.Plan.{ContactPlan, IsPlan, contact_named, has, are_different}
+use Rattle.sabr_model.specs.Plan.{ContactPlan, contact_named, has, are_different}
 use Rattle.sabr_model.specs.Tabled.{IsOpenList, start_named}
-use Rattle.sabr_model.proofs.Members.{IsIn, in_map, in_filter, in_from_Contains, Contains-from_in}
+use Rattle.sabr_model.proofs.Members.{IsIn, in_map, in_filter, Contains-from_in}
 use Rattle.sabr_model.proofs.Listed.{in_from_has, has_from_in}
-use Rattle.sabr_search.specs.Task.{SearchTask, Takes, HasNodes, IsTask}
+use Rattle.sabr_search.specs.Task.{SearchTask, HasNodes, IsTask}
 use Rattle.sabr_search.specs.Steps.{AreSteps, place_in, senders, degree}
 use Rattle.sabr_search.proofs.Arrivals.{arrival_parts}
 use Rattle.sabr_search.proofs.PlanFacts.{contact_in, contact_number, has_at}
@@ -25,10 +24,10 @@ place_found : (xs : List ℕ) (x : ℕ) → has x xs ≡ true → slice_get xs (
 place_found [] x h = absurd cc
 place_found (y ∷ ys) x h =
     ⊎_elim
-        (λ here. ap (λ b. slice_get (y ∷ ys) (cond b 0 (place_in ys x + 1))) here ∙ ap Some (sym (eqb-true x y here)))
-        (λ other. ap (λ b. slice_get (y ∷ ys) (cond b 0 (place_in ys x + 1))) other ∙ rw add-one
-            (place_found ys x (⊎_elim (λ e. absurd (both_ways (eqb x y) other e)) (λ k. k) (or_cases (eqb x y) (has x ys) h))))
-        (cases_Bool (eqb x y))
+    (λ here. ap (λ b. slice_get (y ∷ ys) (cond b 0 (place_in ys x + 1))) here ∙ ap Some (sym (eqb-true x y here)))
+    (λ other. ap (λ b. slice_get (y ∷ ys) (cond b 0 (place_in ys x + 1))) other ∙ rw add-one
+    (place_found ys x (⊎_elim (λ e. absurd (both_ways (eqb x y) other e)) (λ k. k) (or_cases (eqb x y) (has x ys) h))))
+    (cases_Bool (eqb x y))
 
 pub place_is : (p : ContactPlan) (table : List ℕ) → HasNodes p table → (u x : ℕ) → slice_get table u ≡ Some x → place_in table x ≡ u
 place_is p table nodes u x e = nodes.apart (place_in table x) u x (place_found table x (has_at table u x e)) e
@@ -74,17 +73,22 @@ module _ (task : SearchTask) (is : IsTask task) (u t node : ℕ) (at : slice_get
       let c : Contact = sent.0 in
       let here : place_in task.table c.from ≡ u = place_is task.plan task.table is.nodes u c.from (at ∙ ap Some (sym sent.2)) in
       let passes : IsIn c (filter (λ (d : Contact). eqb (place_in task.table d.from) u) task.plan.contacts) =
-          in_filter (λ (d : Contact). eqb (place_in task.table d.from) u) c task.plan.contacts (contact_in task.plan q c sent.1) (eq-eqb (place_in task.table c.from) u here) in
+      in_filter (λ (d : Contact). eqb (place_in task.table d.from) u) c task.plan.contacts (contact_in task.plan q c sent.1) (eq-eqb (place_in task.table c.from) u here) in
       has_from_in q (map (λ (d : Contact). d.number) (filter (λ (d : Contact). eqb (place_in task.table d.from) u) task.plan.contacts))
-          (subst (λ w. IsIn w (map (λ (d : Contact). d.number) (filter (λ (d : Contact). eqb (place_in task.table d.from) u) task.plan.contacts))) (contact_number task.plan q c sent.1)
-              (in_map (λ (d : Contact). d.number) c (filter (λ (d : Contact). eqb (place_in task.table d.from) u) task.plan.contacts) passes))
+      (subst (λ w. IsIn w (map (λ (d : Contact). d.number) (filter (λ (d : Contact). eqb (place_in task.table d.from) u) task.plan.contacts))) (contact_number task.plan q c sent.1)
+      (in_map (λ (d : Contact). d.number) c (filter (λ (d : Contact). eqb (place_in task.table d.from) u) task.plan.contacts) passes))
 
   few : length numbers ≤ degree task u
   few =
       let test : Contact → Bool = λ c. eqb (place_in task.table c.from) u in
       let own = few_different numbers (map (λ (c : Contact). c.number) (filter test task.plan.contacts)) listed.once from_here in
-      omega (arith, own, map_length (λ (c : Contact). c.number) (filter test task.plan.contacts), length-filter test task.plan.contacts,
-          count_by-map (λ (c : Contact). place_in task.table c.from) (λ k. eqb k u) task.plan.contacts)
+      omega (
+        arith,
+        own,
+        map_length (λ (c : Contact). c.number) (filter test task.plan.contacts),
+        length-filter test task.plan.contacts,
+        count_by-map (λ (c : Contact). place_in task.table c.from) (λ k. eqb k u) task.plan.contacts,
+      )
 
   start_is : (n : ℕ) (c : Contact) → contact_named task.plan n ≡ Some c → start_named task.plan n ≡ c.start
   start_is n c e = ap (λ o. option_map_or (λ (d : Contact). d.start) o 0) e
@@ -92,12 +96,12 @@ module _ (task : SearchTask) (is : IsTask task) (u t node : ℕ) (at : slice_get
   pub are_steps : AreSteps task u t numbers
   are_steps = record {
     whole = λ n w b s.
-      (let a = arrival_parts task.plan task.request t s.contact b s.arrives in
-       let sender : s.contact.from ≡ node = (let e : Some s.contact.from ≡ Some node = sym s.sender ∙ at in cc (e)) in
-       contains_at numbers n (listed.whole n s.contact s.named sender (omega (arith, a.before_end))));
+        (let a = arrival_parts task.plan task.request t s.contact b s.arrives in
+        let sender : s.contact.from ≡ node = (let e : Some s.contact.from ≡ Some node = sym s.sender ∙ at in cc (e)) in
+        contains_at numbers n (listed.whole n s.contact s.named sender (omega (arith, a.before_end))));
     sent = λ i n e. (let s = listed.sent n (at_contains numbers i n e) in (s.0, s.1, at ∙ ap Some (sym s.2)));
     rising = λ i j n m c d le at_i at_j named_i named_j.
-      (let r = listed.rising i j 0 le (slice_get_within numbers j m at_j) in
-       omega (arith, r, ap (start_named task.plan) (get_or_from_slice_get numbers i n 0 at_i), ap (start_named task.plan) (get_or_from_slice_get numbers j m 0 at_j), start_is n c named_i, start_is m d named_j));
+        (let r = listed.rising i j 0 le (slice_get_within numbers j m at_j) in
+        omega (arith, r, ap (start_named task.plan) (get_or_from_slice_get numbers i n 0 at_i), ap (start_named task.plan) (get_or_from_slice_get numbers j m 0 at_j), start_is n c named_i, start_is m d named_j));
     few = few;
   }

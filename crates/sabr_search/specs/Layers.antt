@@ -1,5 +1,5 @@
 -- What hop layers and their deadlines say, over any relation of steps and any relation of entries.
-use Rattle.std.specs.Prelude.{◌≡◌, ◌⊎◌, ℕ, ◌+◌, ◌≤◌, ◌<◌, List, [], ◌∷◌, length}
+use Rattle.std.specs.Prelude.{◌≡◌, ◌⊎◌, ℕ, ◌+◌, ◌≤◌, ◌<◌, List, length}
 use Rattle.sabr_search.specs.Ways.{StepRelation, Leads}
 
 -- layer h has an entry for node v with arrival a and deadline x

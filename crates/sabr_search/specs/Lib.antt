@@ -6,6 +6,8 @@ pub mod Task
 pub mod Steps
 pub mod Lists
 pub mod Made
+pub mod Settling
+pub mod Limits
 pub mod Deadlines
 pub mod Picks
 pub mod Told

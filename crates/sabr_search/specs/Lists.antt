@@ -23,7 +23,7 @@ pub record IsLayer (begin : ℕ) (place : List ℕ) (reached : List Reached) : T
 -- each entry of ys is the one of xs at its place, or one for node k at t
 abbrev pub AddsOnly : List Reached → List Reached → ℕ → ℕ → Type 0
 AddsOnly xs ys k t = (p : ℕ) (d : Reached) → p < length ys →
-  ((p < length xs) × (slice_index_or ys p d ≡ slice_index_or xs p d)) ⊎ (((slice_index_or ys p d).node ≡ k) × ((slice_index_or ys p d).arrival ≡ t))
+    ((p < length xs) × (slice_index_or ys p d ≡ slice_index_or xs p d)) ⊎ (((slice_index_or ys p d).node ≡ k) × ((slice_index_or ys p d).arrival ≡ t))
 
 -- no entry has a deadline yet
 abbrev pub AreFresh : List Reached → Type 0
@@ -40,7 +40,7 @@ Arrivals = ℕ → ℕ → Type 0
 -- each entry of ys is the one of xs at its place, or one that is given
 abbrev pub AddsGiven : List Reached → List Reached → Arrivals → Type 0
 AddsGiven xs ys Given = (p : ℕ) (d : Reached) → p < length ys →
-  ((p < length xs) × (slice_index_or ys p d ≡ slice_index_or xs p d)) ⊎ Given (slice_index_or ys p d).node (slice_index_or ys p d).arrival
+    ((p < length xs) × (slice_index_or ys p d ≡ slice_index_or xs p d)) ⊎ Given (slice_index_or ys p d).node (slice_index_or ys p d).arrival
 
 -- what the lists are between two steps of a search, in the layer that begins at `begin`
 pub record AreLists (shut : List Bool) (goal at begin : ℕ) (arrival place : List ℕ) (reached : List Reached) : Type 0 where

@@ -1,5 +1,5 @@
 -- Hop layers as they are made: the layers as entries, and what stands once some are made.
-use Rattle.std.specs.Prelude.{◌≡◌, ◌≢◌, ◌⊎◌, ℕ, ◌+◌, ◌≤◌, ◌<◌, List, [], ◌∷◌, length, true, false, slice_get, slice_index, slice_index_or}
+use Rattle.std.specs.Prelude.{◌≡◌, ◌⊎◌, ℕ, ◌+◌, ◌≤◌, ◌<◌, List, length, false, slice_get, slice_index, slice_index_or}
 use Rattle.std.specs.declared.option.Option.TheVariants.{Some}
 use Rattle.sabr_search.specs.declared.layers.Reached.{Reached}
 use Rattle.sabr_search.specs.declared.layers.Best.{Best}
@@ -16,6 +16,7 @@ Entry bounds reached h v a x = (p : ℕ) × (slice_index bounds h ≤ p) × (p <
 pub record AreOpened (task : SearchTask) (arrival : List ℕ) : Type 0 where
   pub flags : length arrival ≡ length task.shut
   pub closed : AreClosed task.shut arrival task.at
+  pub start : slice_index arrival task.start ≡ task.at
   pub unreached : (k : ℕ) → k < length arrival → slice_index_or task.shut k false ≡ false → slice_index arrival k ≡ never
 
 -- no delivery below the ceiling is found, or layers that find one

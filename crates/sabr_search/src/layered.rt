@@ -47,8 +47,13 @@ impl<A: Allocator + Copy> BestOf<A> for Layered<A> {
         part: Part<'_>,
     ) -> Result<Option<Route<A>>, NoMemory> {
         self.looks = Looks::new();
-        let Some((standing, goal)) =
-            enter(&mut self.shut, &mut self.looks, plan, request, part.prefix)?
+        let Some((standing, goal)) = enter(
+            &mut self.shut,
+            &mut self.looks,
+            plan,
+            request,
+            part.prefix,
+        )?
         else {
             return Ok(None);
         };

@@ -5,13 +5,22 @@ mod answer;
 mod best;
 mod deadlines;
 mod enter;
+mod fitting;
 mod layered;
 mod layers;
+mod limits;
 mod looks;
 mod part;
 mod pick;
+mod queue;
+mod settled;
+mod settling;
 mod task;
+#[cfg(test)]
+mod tests;
 
 pub use best::BestOf;
+pub use fitting::fits;
 pub use layered::Layered;
 pub use part::Part;
+pub use settled::Settled;

@@ -138,7 +138,11 @@ impl<'a, A: Allocator + Copy> Task<'a, A> {
             return None;
         }
         let arrival = sent + cost(hop.light?, self.request.margin_ppm());
-        if arrival < before { Some(arrival) } else { None }
+        if arrival < before {
+            Some(arrival)
+        } else {
+            None
+        }
     }
 
     /// The first second from which on the contact no longer arrives before `before`; 0 where it never does.

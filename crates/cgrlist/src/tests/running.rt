@@ -26,7 +26,8 @@ pub fn run_line(rt: &HostRuntime, line: &str) -> Result<Outcome, Fail> {
     Ok(Outcome { status, out, err })
 }
 
-/// Lists the first routes of a plan that two texts make, in a file of this name, for these words behind `--plan`.
+/// Lists the first routes of a plan that two texts make, for these words behind it. The plan stands in a
+/// file of this name for as long as the run takes.
 pub fn run_first_over(
     rt: &HostRuntime,
     file: &str,
@@ -37,5 +38,7 @@ pub fn run_first_over(
     let plan = format!(in rt.alloc(); "{base}{more}")?;
     fs::write(rt, file, plan.as_str())?;
     let line = format!(in rt.alloc(); "first --plan {file} {words}")?;
-    run_line(rt, line.as_str())
+    let outcome = run_line(rt, line.as_str())?;
+    fs::remove_file(rt, file)?;
+    Ok(outcome)
 }

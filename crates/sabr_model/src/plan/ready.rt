@@ -33,7 +33,11 @@ impl<A: Allocator + Copy> Plan<A> {
 }
 
 /// The hop of a contact of the table.
-pub fn hop_of_contact<A: Allocator + Copy>(contact: &Contact, ranges: &[Range], table: &NodeTable<A>) -> Hop
+pub fn hop_of_contact<A: Allocator + Copy>(
+    contact: &Contact,
+    ranges: &[Range],
+    table: &NodeTable<A>,
+) -> Hop
     requires ranges { IsRangeList ranges.now }
     requires there { IsTrue (has contact.now.to (keys table.now)) }
     ensures { IsHopOf (record { plan = record { contacts = []; ranges = ranges.now; greatest = 0 }; table = keys table.now }) contact.now result }
@@ -83,7 +87,11 @@ fn fill_longest<A: Allocator + Copy>(
 }
 
 /// Notes beside its sender how long a contact lasts.
-fn note_contact_length<A: Allocator + Copy>(longest: &mut [u64], contact: &Contact, table: &NodeTable<A>)
+fn note_contact_length<A: Allocator + Copy>(
+    longest: &mut [u64],
+    contact: &Contact,
+    table: &NodeTable<A>,
+)
     requires unique { IsUnique nat_eq table.now }
     requires as_many { length longest.old ≡ length (keys table.now) }
     ensures here { (k : ℕ) → slice_get (keys table.now) k ≡ Some contact.now.from → contact.now.end ≤ contact.now.start + slice_index longest.new k }

@@ -16,7 +16,11 @@ fn refused_contacts_leave_the_plan(rt: HostRuntime) -> Result<(), Fail> {
     for number in 1..=requests {
         let mut plan = Plan::new(&ration);
         ration.refuse(number);
-        assert_eq!(rt; plan.add_contact(7, 8, BEGIN, BEGIN + 10, 1), Err(AddFault::NoMemory), "at {number}");
+        assert_eq!(rt;
+            plan.add_contact(7, 8, BEGIN, BEGIN + 10, 1),
+            Err(AddFault::NoMemory),
+            "at {number}"
+        );
         assert_eq!(rt; plan.contacts().len(), 0);
         assert_eq!(rt; plan.nodes(), 0);
         assert_eq!(rt; plan.from_node(7).len(), 0);
@@ -31,7 +35,10 @@ fn refused_ranges_leave_the_plan(rt: HostRuntime) -> Result<(), Fail> {
     let ration = Ration::new(rt.alloc(), 0);
     let mut plan = Plan::new(&ration);
     ration.refuse(1);
-    assert_eq!(rt; plan.add_range(1, 2, BEGIN, BEGIN + 10, 1), Err(AddFault::NoMemory));
+    assert_eq!(rt;
+        plan.add_range(1, 2, BEGIN, BEGIN + 10, 1),
+        Err(AddFault::NoMemory)
+    );
     assert_eq!(rt; plan.ranges().len(), 0);
     assert_eq!(rt; plan.add_range(1, 2, BEGIN, BEGIN + 10, 1), Ok(()));
     assert_eq!(rt; ration.requests(), 2);

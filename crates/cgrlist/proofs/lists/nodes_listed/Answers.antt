@@ -1,4 +1,4 @@
-use Rattle.std.proofs.Common.{◌≡◌, Some, ap, sym, ◌∙◌}
+use Rattle.std.proofs.Common.{ap, sym, ◌∙◌}
 use Rattle.std.specs.Option.{option_copied}
 use Rattle.cgrlist.specs.Words.{nodes_listed, numbers_within, number_within, pieces_behind}
 use Rattle.cgrlist.proofs.ListedNumbers.{few, behind-bad, behind-end, few-kept, few-full}

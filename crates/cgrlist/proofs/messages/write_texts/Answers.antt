@@ -1,4 +1,3 @@
-use Rattle.std.proofs.Common.{List, ℕ, Bor}
 use Rattle.cgrlist.proofs.TextsInTurn.{Written-more, WritesText-in}
 use Rattle.cgrlist.proofs.messages.write_texts.Goals as goal
 

@@ -11,9 +11,9 @@ use Rattle.sabr_model.specs.Route.{is_path}
 use Rattle.plain_listing.specs.declared.hop.Stop.{Stop}
 use Rattle.plain_listing.specs.declared.hop.Hop.{Hop}
 use Rattle.plain_listing.specs.Way.{numbers_of, hop_of, last_stop, record_over}
-use Rattle.plain_listing.specs.Walk.{IsMove}
+use Rattle.plain_listing.specs.Walk.{IsMove, is_past}
 use Rattle.plain_listing.proofs.Sent.{next_from, sent_rises}
-use Rattle.plain_listing.proofs.Walks.{next_is, over_is, walk_rises, last_given, move_back, move_end, move_past, move_found, move_into, move_to, some_where, none_where}
+use Rattle.plain_listing.proofs.Walks.{next_is, over_is, walk_rises, last_given, move_back, move_end, move_past, move_late, move_found, move_into, move_to, some_where, none_where}
 use Rattle.plain_listing.proofs.walk.step.Goals as goal
 
 pub next_from-requires : goal.next_from-requires
@@ -75,8 +75,8 @@ pub take_hop-requires-clause-rising : goal.take_hop-requires-clause-rising
 take_hop-requires-clause-rising g c =
     walk_rises c.args.plan.now.plan c.args.request.now c.requires.rules c.args.kept.now.limit c.args.hops.now.items c.args.low c.args.kept.now.routes.items c.requires.walk
 
-pub overflow_add-result-in-None-hop_over : goal.overflow_add-result-in-None-hop_over
-overflow_add-result-in-None-hop_over g c =
+pub overflow_add-result-in_default-hop_over : goal.overflow_add-result-in_default-hop_over
+overflow_add-result-in_default-hop_over g c =
     let p = c.args.plan.now.plan in
     let r = c.args.request.now in
     let hops = c.args.hops.now.items in
@@ -87,9 +87,20 @@ overflow_add-result-in-None-hop_over g c =
     let most = c.requires.rules.count in
     omega arith
 
-pub returns-in_ok-take_hop-in-Some-hop_over-clause-ok :
-    goal.returns-in_ok-take_hop-in-Some-hop_over-clause-ok
-returns-in_ok-take_hop-in-Some-hop_over-clause-ok g c =
+pub overflow_add-result-then-is_past : goal.overflow_add-result-then-is_past
+overflow_add-result-then-is_past g c =
+    let p = c.args.plan.now.plan in
+    let r = c.args.request.now in
+    let hops = c.args.hops.now.items in
+    let low = c.args.low in
+    let some = sym (found p r hops low c.deref.result.now c.end_of-end.result c.from_node.result.now c.next_from.result c.deref.ensures.value c.end_of-end.ensures c.from_node.ensures c.next_from.ensures) ∙ c.in-Some.is in
+    let next = next_is p r c.requires.rules hops low c.in-Some.number c.requires.walk.way some in
+    let given = next.given in
+    let most = c.requires.rules.count in
+    omega arith
+
+pub returns-clause-ok : goal.returns-clause-ok
+returns-clause-ok g c =
     let p = c.args.plan.now.plan in
     let r = c.args.request.now in
     let hops = c.args.hops.now.items in
@@ -108,20 +119,20 @@ returns-in_ok-take_hop-in-Some-hop_over-clause-ok g c =
     let number : hop.number ≡ n = ap (λ (h : Hop). h.number) told in
     ⊎_elim
     (λ there.
-    let is = c.in_ok-take_hop-in-Some-hop_over.ensures.route there in
-    move_to p r limit hops low hops c.take_hop.new.hops.items (n + 1) c.in_ok-take_hop-in-Some-hop_over.field-0 c.take_hop.new.kept.routes.items c.take_hop.new.kept.routes.items
+    let is = c.in_ok-take_hop.ensures.route there in
+    move_to p r limit hops low hops c.take_hop.new.hops.items (n + 1) c.in_ok-take_hop.field-0 c.take_hop.new.kept.routes.items c.take_hop.new.kept.routes.items
     (move_found p r c.requires.rules limit hops low kept c.requires.walk n next path (sym node ∙ there) c.take_hop.new.kept.routes.items
     (is.2 ∙ ap (λ h. take limit (put_in by_record (record_over r (hops ++ h ∷ [])) kept)) told))
     is.1 (is.0 ∙ ap (λ m. m + 1) number) refl)
     (λ elsewhere.
-    let is = c.in_ok-take_hop-in-Some-hop_over.ensures.onward elsewhere in
-    move_to p r limit hops low (hops ++ hop_of p r (numbers_of hops) n ∷ []) c.take_hop.new.hops.items 0 c.in_ok-take_hop-in-Some-hop_over.field-0 kept c.take_hop.new.kept.routes.items
+    let is = c.in_ok-take_hop.ensures.onward elsewhere in
+    move_to p r limit hops low (hops ++ hop_of p r (numbers_of hops) n ∷ []) c.take_hop.new.hops.items 0 c.in_ok-take_hop.field-0 kept c.take_hop.new.kept.routes.items
     (move_into p r c.requires.rules limit hops low kept c.requires.walk n next path (λ e. elsewhere (node ∙ e)))
     (is.1 ∙ ap (λ h. hops ++ h ∷ []) told) is.0 is.2)
     (cases_eq hop.stop.node r.destination)
 
-pub returns-in-None-hop_over-clause-ok : goal.returns-in-None-hop_over-clause-ok
-returns-in-None-hop_over-clause-ok g c =
+pub returns-in_default-hop_over-clause-ok : goal.returns-in_default-hop_over-clause-ok
+returns-in_default-hop_over-clause-ok g c =
     let p = c.args.plan.now.plan in
     let r = c.args.request.now in
     let hops = c.args.hops.now.items in
@@ -131,5 +142,26 @@ returns-in-None-hop_over-clause-ok g c =
     let next = next_is p r c.requires.rules hops low n c.requires.walk.way some in
     let closed : is_path p r (numbers_of hops ++ n ∷ []) ≡ false =
     ap (λ w. is_path p r (numbers_of w ++ n ∷ [])) (sym c.deref-2.ensures.value)
-    ∙ none_where (is_path p r (numbers_of c.deref-2.result.now ++ n ∷ [])) (hop_of p r (numbers_of c.deref-2.result.now) n) (sym c.hop_over.ensures ∙ c.in-None-hop_over.is) in
+    ∙ none_where (is_path p r (numbers_of c.deref-2.result.now ++ n ∷ [])) (hop_of p r (numbers_of c.deref-2.result.now) n) (sym c.hop_over.ensures ∙ c.in_default-hop_over.is) in
     move_past p r c.requires.rules c.args.kept.now.limit hops low c.args.kept.now.routes.items c.requires.walk n next closed
+
+-- every route that goes on so is later than all that is kept
+pub returns-then-is_past-clause-ok : goal.returns-then-is_past-clause-ok
+returns-then-is_past-clause-ok g c =
+    let p = c.args.plan.now.plan in
+    let r = c.args.request.now in
+    let hops = c.args.hops.now.items in
+    let low = c.args.low in
+    let n = c.in-Some.number in
+    let hop = c.in-Some-hop_over.hop in
+    let limit = c.args.kept.now.limit in
+    let kept = c.args.kept.now.routes.items in
+    let lent : c.deref-2.result.now ≡ hops = c.deref-2.ensures.value in
+    let some = sym (found p r hops low c.deref.result.now c.end_of-end.result c.from_node.result.now c.next_from.result c.deref.ensures.value c.end_of-end.ensures c.from_node.ensures c.next_from.ensures) ∙ c.in-Some.is in
+    let next = next_is p r c.requires.rules hops low n c.requires.walk.way some in
+    let it = some_where (is_path p r (numbers_of c.deref-2.result.now ++ n ∷ [])) (hop_of p r (numbers_of c.deref-2.result.now) n) hop (sym c.hop_over.ensures ∙ c.in-Some-hop_over.is) in
+    let path : is_path p r (numbers_of hops ++ n ∷ []) ≡ true = ap (λ w. is_path p r (numbers_of w ++ n ∷ [])) (sym lent) ∙ it.0 in
+    let told : hop ≡ hop_of p r (numbers_of hops) n = it.1 ∙ ap (λ w. hop_of p r (numbers_of w) n) lent in
+    let past : is_past limit kept (hop_of p r (numbers_of hops) n).stop.arrival ≡ true =
+    ap (λ (h : Hop). is_past limit kept h.stop.arrival) (sym told) ∙ sym c.is_past.ensures ∙ c.if-is_past.true in
+    move_late p r c.requires.rules limit hops low kept c.requires.walk n next path past

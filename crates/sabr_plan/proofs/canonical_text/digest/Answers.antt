@@ -1,7 +1,6 @@
 -- The four parts of the text are fed in turn.
-use Rattle.std.proofs.Common.{◌≡◌, refl, sym, ap, ◌∙◌, ◌++◌, codes, []}
-use Rattle.std.specs.List.{flat_map}
-use Rattle.sabr_plan.specs.Canonical.{contact_line, range_line, canonical_text}
+use Rattle.std.proofs.Common.{[]}
+use Rattle.sabr_plan.specs.Canonical.{canonical_text}
 use Rattle.sabr_plan.proofs.canonical_text.digest.Goals as goal
 
 pub returns : goal.returns

@@ -1,5 +1,4 @@
 -- The lines before the one that failed were written.
-use Rattle.std.proofs.Common.{◌≡◌, refl}
 use Rattle.std.proofs.lemmas.Result.{err_from_is_err_and}
 use Rattle.sabr_plan.specs.Canonical.{range_line}
 use Rattle.sabr_plan.proofs.CanonicalLines.{stopped_at}

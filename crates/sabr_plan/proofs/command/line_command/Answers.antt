@@ -1,5 +1,5 @@
 -- A comment says nothing, and a line with other bytes is refused.
-use Rattle.std.proofs.Common.{sym, ◌∙◌, refl}
+use Rattle.std.proofs.Common.{refl}
 use Rattle.sabr_plan.specs.Commands.{line_command}
 use Rattle.sabr_plan.proofs.command.line_command.Goals as goal
 

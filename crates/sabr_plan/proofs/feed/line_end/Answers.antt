@@ -1,5 +1,5 @@
 -- The first LF ends the line.
-use Rattle.std.proofs.Common.{◌≡◌, ℕ, ◌<◌, ◌≤◌, Bool, true, eqb, List, length, get_or, take, Option, Some, None, MatchOption, IsTrue, sym, ap, ◌∙◌, arith}
+use Rattle.std.proofs.Common.{◌≡◌, ℕ, ◌<◌, List, length, get_or, take, Option, Some, None, MatchOption, IsTrue, arith}
 use borrow.Author.Tests.{eqb-true}
 use Rattle.memchr.specs.Find.{IsFirstByte, is_byte}
 use Rattle.sabr_plan.specs.Words.{is_one_line}

@@ -1,9 +1,9 @@
 -- Digits are read one after the other.
-use Rattle.std.proofs.Common.{◌≡◌, ◌<◌, ◌≤◌, ◌+◌, ◌*◌, ◌-◌, refl, sym, ap, ◌∙◌, take, length, get_or, arith, rules, Some}
+use Rattle.std.proofs.Common.{◌≡◌, ◌≤◌, ◌+◌, ◌*◌, ◌-◌, refl, sym, ap, ◌∙◌, take, get_or, arith, rules, Some}
 use Rattle.std.proofs.lemmas.List.{take_all}
 use Rattle.std.proofs.lemmas.Bool.Decides.{nat_tests}
-use Rattle.sabr_plan.specs.Digits.{is_digit, are_digits, digits_value}
-use Rattle.sabr_plan.proofs.Digits.{take_digit, take_digits, small_value_none, small_value_over, small_value_some}
+use Rattle.sabr_plan.specs.Digits.{digits_value}
+use Rattle.sabr_plan.proofs.Digits.{take_digit, take_digits, small_value_over, small_value_some}
 use Rattle.sabr_plan.proofs.number.digits_value.Goals as goal
 
 pub loop-byte-init : goal.loop-byte-init

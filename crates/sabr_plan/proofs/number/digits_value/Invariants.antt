@@ -1,4 +1,4 @@
-use Rattle.std.proofs.Common.{◌≡◌, ◌<◌, take, true, IsTrue}
+use Rattle.std.proofs.Common.{◌≡◌, ◌<◌, take, true}
 use Rattle.std.specs.List.{list_all}
 use Rattle.sabr_plan.specs.Digits.{is_digit, digits_value}
 use Rattle.sabr_plan.proofs.number.digits_value.Given as goal

@@ -1,5 +1,5 @@
 -- A number between is the number of the digits, where that fits.
-use Rattle.std.proofs.Common.{◌≡◌, refl, sym, ap, ◌∙◌, arith, rules}
+use Rattle.std.proofs.Common.{sym, ◌∙◌}
 use Rattle.sabr_plan.proofs.Digits.{between_none, between_yes, between_zero, between_below, between_above}
 use Rattle.sabr_plan.proofs.number.number_between.Goals as goal
 use Rattle.sabr_plan.proofs.number.number_between.Goals.{else-not-leads_with_zero-via-then-not-leads_with_zero+then-low-value+else-value-high, else-not-leads_with_zero-via-then-not-leads_with_zero+else-low-value, else-not-leads_with_zero-via-else-not-leads_with_zero}

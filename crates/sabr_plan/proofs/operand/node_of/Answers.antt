@@ -1,5 +1,5 @@
 -- A number between is between.
-use Rattle.std.proofs.Common.{◌≡◌, ◌<◌, ◌≤◌, ap, ◌∙◌, ok_or, arith}
+use Rattle.std.proofs.Common.{ap, ◌∙◌, ok_or}
 use Rattle.std.proofs.lemmas.Result.{IfOk-weaker}
 use Rattle.sabr_plan.specs.declared.fault.PlanKind.TheVariants.{BadNode}
 use Rattle.sabr_plan.proofs.Digits.{operand_bounds}

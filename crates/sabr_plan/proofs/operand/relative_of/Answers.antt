@@ -1,11 +1,11 @@
 -- Behind `+` stand at most twelve digits.
-use Rattle.std.proofs.Common.{◌≡◌, ℕ, ◌+◌, ◌-◌, ◌<◌, ◌≤◌, List, [], ◌∷◌, length, get_or, take, drop, true, false, refl, sym, ap, ◌∙◌, arith, rules, Bool, ◌&&◌, Option, Some, None, cond, ltb}
+use Rattle.std.proofs.Common.{◌≡◌, ℕ, ◌-◌, ◌<◌, ◌≤◌, List, [], ◌∷◌, length, get_or, take, drop, true, false, refl, sym, ap, ◌∙◌, arith, ◌&&◌, Some, None, cond, ltb}
 use Rattle.std.specs.List.{list_all}
 use Rattle.std.proofs.lemmas.List.{take_all}
 use Rattle.std.proofs.lemmas.Bool.{and_parts}
 use Rattle.std.proofs.Math.Bool.{and-true}
 use Rattle.std.proofs.lemmas.Bool.Decides.{nat_tests}
-use borrow.Author.Tests.{le-leb, lt-ltb, eq-eqb, ltb-true}
+use borrow.Author.Tests.{le-leb, lt-ltb, eq-eqb}
 use Rattle.sabr_plan.specs.Digits.{is_digit, are_digits, digits_value}
 use Rattle.sabr_plan.specs.Operands.{relative_of}
 use Rattle.sabr_plan.proofs.Digits.{small_value, few_digits}

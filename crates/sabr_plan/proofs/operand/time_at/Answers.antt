@@ -1,5 +1,4 @@
 -- A time is relative or absolute.
-use Rattle.std.proofs.Common.{sym, ◌∙◌, refl}
 use Rattle.sabr_plan.specs.Operands.{time_at}
 use Rattle.sabr_plan.proofs.operand.time_at.Goals as goal
 

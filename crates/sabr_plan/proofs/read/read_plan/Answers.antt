@@ -1,15 +1,15 @@
 -- Piece after piece, to the end of the text or its first bad line.
-use Rattle.std.proofs.Common.{◌≡◌, ℕ, ◌+◌, ◌-◌, ◌<◌, ◌≤◌, length, refl, sym, ap, ◌∙◌, arith}
+use Rattle.std.proofs.Common.{refl, arith}
 use Rattle.std.proofs.lemmas.Result.{err_from_is_err_and}
-use Rattle.sabr_plan.specs.Feeding.{outcome}
-use Rattle.sabr_plan.proofs.ReadSoFar.{HasRead, nothing_was_read, piece_was_read, text_ended, piece_refused}
+use Rattle.sabr_plan.proofs.ReadSoFar.{nothing_was_read, piece_was_read, text_ended, piece_refused}
+use Rattle.sabr_plan.proofs.NeverRead.{read_failed}
 use Rattle.sabr_plan.proofs.read.read_plan.Goals as goal
 
 pub loop-feed-init : goal.loop-feed-init
 loop-feed-init g c = record { read = nothing_was_read _ c.new-feed.result c.new-feed.ensures; fine = refl }
 
-pub returns-in-Ok-eq0 : goal.returns-in-Ok-eq0
-returns-in-Ok-eq0 g c =
+pub returns-in-Ok-eq0-clause-read : goal.returns-in-Ok-eq0-clause-read
+returns-in-Ok-eq0-clause-read g c =
     let h = c.in-Ok-eq0.ensures in
     text_ended _ _ _ c.loop-feed.feed _ _ c.finish.result c.loop-feed.invariant.read (rw c.in-Ok-eq0.field-0-test at h.bytes.0) (h.bytes.1 c.in-Ok-eq0.field-0-test (omega (arith, c.read.auto.buf))) (omega (arith, h.count, c.loop-feed.invariant.fine)) c.finish.ensures
 
@@ -21,8 +21,14 @@ loop-feed-preserved g c =
       fine = omega (arith, h.count, c.loop-feed.invariant.fine);
     }
 
-pub returns-in_err-feed-in-Ok : goal.returns-in_err-feed-in-Ok
-returns-in_err-feed-in-Ok g c =
+pub returns-in_err-feed-in-Ok-clause-read : goal.returns-in_err-feed-in-Ok-clause-read
+returns-in_err-feed-in-Ok-clause-read g c =
     let p = err_from_is_err_and c.from_residual.result c.from_residual.ensures.1 in
     let h = c.in-Ok.ensures in
     rw (p.1, p.2) (piece_refused _ _ _ c.loop-feed.feed _ _ _ c.in_err-feed-in-Ok.field-0.0 c.loop-feed.invariant.read h.bytes.0 (omega (arith, h.count, c.loop-feed.invariant.fine)) c.in_err-feed-in-Ok.ensures.fed)
+
+pub returns-in-Ok-eq0-clause-failed : goal.returns-in-Ok-eq0-clause-failed
+returns-in-Ok-eq0-clause-failed g c = read_failed _ _ c.finish.result _ _ (returns-in-Ok-eq0-clause-read g c)
+
+pub returns-in_err-feed-in-Ok-clause-failed : goal.returns-in_err-feed-in-Ok-clause-failed
+returns-in_err-feed-in-Ok-clause-failed g c = read_failed _ _ c.from_residual.result _ _ (returns-in_err-feed-in-Ok-clause-read g c)

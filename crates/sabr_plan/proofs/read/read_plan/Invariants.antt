@@ -1,4 +1,4 @@
-use Rattle.std.proofs.Common.{◌≡◌, ◌-◌, length}
+use Rattle.std.proofs.Common.{◌≡◌, ◌-◌}
 use Rattle.sabr_plan.specs.Feeding.{weight}
 use Rattle.sabr_plan.proofs.ReadSoFar.{HasRead}
 use Rattle.sabr_plan.proofs.read.read_plan.Given as goal

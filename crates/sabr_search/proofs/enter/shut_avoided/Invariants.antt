@@ -1,4 +1,4 @@
-use Rattle.std.proofs.Common.{◌≡◌, ℕ, take}
+use Rattle.std.proofs.Common.{take}
 use Rattle.sabr_model.specs.Plan.{has}
 use Rattle.sabr_search.specs.Entering.{AreShut}
 use Rattle.sabr_search.proofs.enter.shut_avoided.Given as goal

@@ -5,5 +5,5 @@ use Rattle.sabr_search.proofs.layers.open_nodes.Given as goal
 abbrev pub invariant-loop-shut : goal.invariant-loop-shut
 invariant-loop-shut g l = record {
   many : length l.arrival.items ≡ l.shut-index;
-  filled : (k : ℕ) → k < l.shut-index → slice_index l.arrival.items k ≡ cond (slice_index_or l.task.shut k false) 0 never
+  filled : (k : ℕ) → k < l.shut-index → slice_index l.arrival.items k ≡ cond (slice_index_or l.task.shut k false) 0 never;
 }

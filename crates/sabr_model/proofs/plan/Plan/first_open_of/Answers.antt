@@ -1,4 +1,4 @@
-use Rattle.std.proofs.Common.{◌≡◌, ◌+◌, ◌≤◌, ℕ, List, get_or, ap, sym, subst, ◌∙◌}
+use Rattle.std.proofs.Common.{◌≡◌, ◌+◌, ◌≤◌, ℕ, List, get_or, ap, subst, ◌∙◌}
 use Rattle.std.specs.Prelude.{Some, slice_get, slice_index}
 use Rattle.indexmap.specs.IndexMap.{keys}
 use Rattle.sabr_model.specs.declared.contact.Contact.{Contact}
@@ -17,5 +17,5 @@ returns-then-self-clause-ended g c = λ node here k d x lt named from.
     let is : contact_named p n ≡ Some x = ap (λ (q : TabledPlan). contact_named q.plan n) c.self.view_is ∙ named in
     let beside : c.length_at.result ≡ slice_index longest c.args.index = c.length_at.ensures ∙ ap (λ (ls : List ℕ). slice_index ls c.args.index) c.deref-then-self.ensures.value in
     let early = subst (λ l. start_among p.contacts n + l ≤ c.args.at) beside
-          (subst (λ (cs : List Contact). start_among cs n + c.length_at.result ≤ c.args.at) c.deref.ensures.value (c.first_open.ensures.ended k d lt)) in
+    (subst (λ (cs : List Contact). start_among cs n + c.length_at.result ≤ c.args.at) c.deref.ensures.value (c.first_open.ensures.ended k d lt)) in
     ended_by p table longest c.args.index node n c.args.at x (c.self.invariant.2.longest c.if-self.true) at_node is from early

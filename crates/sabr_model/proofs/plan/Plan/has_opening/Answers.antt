@@ -1,14 +1,12 @@
-use Rattle.std.proofs.Common.{◌≡◌, ℕ, ◌<◌, List, [], Bool, true, false, length, get_or, ap, sym, subst, ◌∙◌, arith}
-use Rattle.std.specs.Prelude.{nat_eq, unwrap_or}
+use Rattle.std.proofs.Common.{◌≡◌, ℕ, ◌<◌, List, [], true, false, length, get_or, ap, sym, subst, ◌∙◌, arith}
+use Rattle.std.specs.Prelude.{unwrap_or}
 use Rattle.std.specs.List.{list_any}
-use Rattle.std.specs.List.Sorted.{IsNonDecreasingBy}
 use Rattle.std.specs.Option.{option_map}
 use Rattle.std.specs.declared.option.Option.{Option}
-use Rattle.indexmap.specs.IndexMap.{get}
 use Rattle.sabr_model.specs.declared.contact.Contact.{Contact}
 use Rattle.sabr_model.specs.declared.sent.Sent.{Sent}
 use Rattle.sabr_model.specs.Plan.{ContactPlan, TabledPlan, opens}
-use Rattle.sabr_model.specs.Table.{start_key, key_named, starts_at, IsStartList}
+use Rattle.sabr_model.specs.Table.{start_key, key_named, IsStartList}
 use Rattle.sabr_model.proofs.Openings.{opening_told, opening_missed}
 use Rattle.sabr_model.proofs.TableLemmas.{start_list}
 use Rattle.sabr_model.proofs.plan.Plan.has_opening.Goals as goal

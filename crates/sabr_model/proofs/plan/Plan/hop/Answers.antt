@@ -1,10 +1,10 @@
-use Rattle.std.proofs.Common.{◌≡◌, ◌<◌, ℕ, List, [], eqb, length, sym, subst}
+use Rattle.std.proofs.Common.{◌≡◌, ◌<◌, List, [], eqb, length, sym, subst}
 use Rattle.std.specs.Prelude.{slice_get}
 use Rattle.std.specs.List.{find}
 use Rattle.indexmap.specs.IndexMap.{keys}
 use Rattle.sabr_model.specs.declared.contact.Contact.{Contact}
 use Rattle.sabr_model.specs.declared.contact.Range.{Range}
-use Rattle.sabr_model.specs.Plan.{ContactPlan, TabledPlan, contact_named}
+use Rattle.sabr_model.specs.Plan.{ContactPlan, TabledPlan}
 use Rattle.sabr_model.specs.RangeOrder.{IsRangeList}
 use Rattle.sabr_model.specs.Tabled.{IsHopOf, IsHopNamed}
 use Rattle.sabr_model.proofs.RangeKeys.{range_list}
@@ -30,7 +30,7 @@ returns-then-self g c =
     let k = c.in_ok-place.place in
     let here = subst (λ (cs : List Contact). (k < length cs) × (find (λ d. eqb d.number n) cs ≡ slice_get cs k)) c.deref.ensures.value c.in_ok-place.ensures in
     subst (λ (q : TabledPlan). IsHopNamed q n c.index.result.now) c.self.view_is
-        (kept_hop p (keys c.self.inside.table) n k c.index.result.now c.self.inside.hops.items (c.self.invariant.2.hops c.if-self.true) here c.index.ensures)
+    (kept_hop p (keys c.self.inside.table) n k c.index.result.now c.self.inside.hops.items (c.self.invariant.2.hops c.if-self.true) here c.index.ensures)
 
 pub returns-else-self : goal.returns-else-self
 returns-else-self g c =
@@ -41,4 +41,4 @@ returns-else-self g c =
     let here = subst (λ (cs : List Contact). (k < length cs) × (find (λ d. eqb d.number n) cs ≡ slice_get cs k)) c.deref.ensures.value c.in_ok-place.ensures in
     let is = subst (λ (rs : List Range). let q : TabledPlan = record { plan = record { contacts = []; ranges = rs; greatest = 0 }; table = keys c.self.inside.table } in IsHopOf q x c.hop_of_contact.result) c.deref-else-self.ensures.value c.hop_of_contact.ensures in
     subst (λ (q : TabledPlan). IsHopNamed q n c.hop_of_contact.result) c.self.view_is
-        (made_hop p (keys c.self.inside.table) n x c.hop_of_contact.result (named_at p n k x here c.index-else-self.ensures) is)
+    (made_hop p (keys c.self.inside.table) n x c.hop_of_contact.result (named_at p n k x here c.index-else-self.ensures) is)

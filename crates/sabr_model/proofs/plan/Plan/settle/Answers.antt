@@ -1,10 +1,10 @@
 use Rattle.std.proofs.Common.{◌≡◌, ◌<◌, true, ℕ, List, length, get_or, sym, subst}
 use Rattle.indexmap.specs.IndexMap.{keys}
 use Rattle.sabr_model.specs.declared.contact.Contact.{Contact}
-use Rattle.sabr_model.specs.Plan.{ContactPlan, TabledPlan, has}
+use Rattle.sabr_model.specs.Plan.{ContactPlan, has}
 use Rattle.sabr_model.specs.RangeOrder.{IsRangeList}
 use Rattle.sabr_model.proofs.RangeKeys.{range_list}
-use Rattle.sabr_model.proofs.ReadyLemmas.{not_ready, receiver_in_table, hops_of_ranges}
+use Rattle.sabr_model.proofs.ReadyLemmas.{receiver_in_table}
 use Rattle.sabr_model.proofs.plan.Plan.settle.Goals as goal
 
 pub fill_hops-requires-clause-ranges : goal.fill_hops-requires-clause-ranges
@@ -15,4 +15,4 @@ fill_hops-requires-clause-ranges g c =
 pub fill_hops-requires-clause-there : goal.fill_hops-requires-clause-there
 fill_hops-requires-clause-there g c =
     subst (λ (cs : List Contact). (k : ℕ) (d : Contact) → k < length cs → has (get_or cs k d).to (keys c.self.inside.table) ≡ true) (sym c.deref.ensures.value)
-        (receiver_in_table c.self.inside.contacts.items c.self.inside.table c.self.invariant.1)
+    (receiver_in_table c.self.inside.contacts.items c.self.inside.table c.self.invariant.1)

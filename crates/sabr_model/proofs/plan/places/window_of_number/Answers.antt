@@ -1,4 +1,4 @@
-use Rattle.std.proofs.Common.{◌≡◌, ℕ, ◌+◌, ◌-◌, ◌<◌, ◌≤◌, length, get_or, inl, inr, arith, ap}
+use Rattle.std.proofs.Common.{◌≡◌, ◌-◌, length, get_or, inl, inr, arith, ap}
 use Rattle.std.proofs.lemmas.Bool.{cases_eq}
 use Rattle.sabr_model.specs.declared.contact.Contact.{Contact}
 use Rattle.sabr_model.proofs.Numbered.{number_above, numbers_apart}

@@ -1,4 +1,4 @@
-use Rattle.std.proofs.Common.{◌≡◌, ◌≤◌, ℕ, Option, Some, None, false, sym, ap, subst, arith}
+use Rattle.std.proofs.Common.{◌≡◌, ℕ, Option, Some, false, sym, ap, subst, arith}
 use Rattle.std.specs.Prelude.{MatchOption, slice_get, slice_index}
 use Rattle.std.proofs.lemmas.Bool.{both_ways}
 use Rattle.indexmap.specs.IndexMap.{keys}

@@ -1,5 +1,5 @@
 -- What is held stays within the limits, and one line.
-use Rattle.std.proofs.Common.{◌≡◌, ℕ, ◌+◌, ◌-◌, ◌*◌, ◌<◌, ◌≤◌, List, ◌++◌, length, take, refl, sym, ap, ◌∙◌, arith, length-take}
+use Rattle.std.proofs.Common.{◌≡◌, ◌+◌, ◌<◌, ◌≤◌, length, take, ap, arith, length-take}
 use Rattle.sabr_plan.specs.Feeding.{Fed}
 use Rattle.sabr_plan.proofs.Held.{held_more, one_line-append}
 use Rattle.sabr_plan.proofs.feed.PlanFeed.append.Goals as goal

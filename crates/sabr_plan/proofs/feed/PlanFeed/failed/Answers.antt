@@ -1,5 +1,5 @@
 -- Behind what is held, the reader's failure is told.
-use Rattle.std.proofs.Common.{◌≡◌, ℕ, ◌+◌, ◌≤◌, length, take, refl, sym, ap, ◌∙◌, arith, length-take, Err, false}
+use Rattle.std.proofs.Common.{take, ap, ◌∙◌, arith, length-take, Err, false}
 use Rattle.sabr_plan.specs.Feeding.{Fed}
 use Rattle.sabr_plan.proofs.Held.{broken_held}
 use Rattle.sabr_plan.proofs.Outcomes.{outcome-end}

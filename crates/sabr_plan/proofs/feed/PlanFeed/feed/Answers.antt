@@ -1,9 +1,8 @@
 -- Each LF of a piece ends a line, and what is behind the last is held.
-use Rattle.std.proofs.Common.{◌≡◌, ℕ, ◌+◌, ◌-◌, ◌≤◌, Bool, List, ◌++◌, length, take, drop, refl, sym, ap, ◌∙◌, arith, true, length-drop}
+use Rattle.std.proofs.Common.{◌≡◌, ◌-◌, length, take, drop, refl, arith, true, length-drop}
 use Rattle.std.proofs.lemmas.List.{take_all}
 use Rattle.std.proofs.lemmas.Result.{err_from_is_err_and}
 use Rattle.sabr_plan.specs.Words.{is_one_line}
-use Rattle.sabr_plan.specs.Feeding.{Fed, outcome, IsFed, weight}
 use Rattle.sabr_plan.proofs.Lines.{parted}
 use Rattle.sabr_plan.proofs.Feeds.{line_refused, line_read, line_grows, rest_held}
 use Rattle.sabr_plan.proofs.feed.PlanFeed.feed.Goals as goal

@@ -1,5 +1,5 @@
 -- The text ends behind what is held.
-use Rattle.std.proofs.Common.{◌≡◌, ℕ, ◌+◌, ◌≤◌, refl, sym, ap, ◌∙◌, true, inl, inr, [], Result, Ok, Err, ◌⊎◌}
+use Rattle.std.proofs.Common.{◌≡◌, ◌+◌, sym, ap, ◌∙◌, true, inl, inr, [], Ok, Err, ◌⊎◌}
 use Rattle.std.proofs.lemmas.Result.{err_from_is_err_and}
 use Rattle.sabr_model.specs.Plan.{ContactPlan}
 use Rattle.sabr_plan.specs.declared.fault.PlanFault.{PlanFault}

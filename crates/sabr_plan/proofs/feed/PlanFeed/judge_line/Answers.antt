@@ -1,5 +1,5 @@
 -- A line within the limits is judged.
-use Rattle.std.proofs.Common.{◌≡◌, ℕ, ◌+◌, ◌-◌, ◌<◌, ◌≤◌, List, ◌++◌, length, take, refl, sym, ap, ◌∙◌, arith, inr, length-take, length-append}
+use Rattle.std.proofs.Common.{◌+◌, ◌<◌, ◌++◌, length, take, refl, ap, ◌∙◌, arith, inr, length-take, length-append}
 use borrow.Author.Tests.{lt-ltb, le-ltb}
 use Rattle.sabr_plan.specs.Reading.{limited}
 use Rattle.sabr_plan.specs.Feeding.{Fed}

@@ -1,8 +1,5 @@
 -- The plan takes the contact or refuses it.
-use Rattle.std.proofs.Common.{◌≡◌, refl, sym, ap, ◌∙◌}
-use Rattle.std.proofs.lemmas.Result.{on_ok_weaker}
-use Rattle.sabr_model.specs.Adding.{contact_refusal, range_refusal, new_range, next_contact, with_contact, with_range, number_of_opening, begins, without_contact, without_range}
-use Rattle.std.specs.List.{list_any}
+use Rattle.sabr_model.specs.Adding.{contact_refusal, next_contact, with_contact}
 use Rattle.sabr_plan.specs.Reading.{obeyed}
 use Rattle.sabr_plan.proofs.Leaving.{IsAnswered, changed_ok, changed_err}
 use Rattle.sabr_plan.proofs.reading.PlanReading.add_contact.Goals as goal

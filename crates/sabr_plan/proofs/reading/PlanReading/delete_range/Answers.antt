@@ -1,10 +1,10 @@
 -- The plan gives the range up or has none.
-use Rattle.std.proofs.Common.{◌≡◌, refl, sym, ap, ◌∙◌}
+use Rattle.std.proofs.Common.{ap}
 use Rattle.std.proofs.lemmas.Result.{on_ok_weaker}
-use Rattle.sabr_model.specs.Adding.{contact_refusal, range_refusal, new_range, next_contact, with_contact, with_range, number_of_opening, begins, without_contact, without_range}
+use Rattle.sabr_model.specs.Adding.{begins, without_range}
 use Rattle.std.specs.List.{list_any}
 use Rattle.sabr_plan.specs.Reading.{obeyed}
-use Rattle.sabr_plan.proofs.Leaving.{IsAnswered, changed_ok, changed_err, range_deleted}
+use Rattle.sabr_plan.proofs.Leaving.{changed_ok, changed_err, range_deleted}
 use Rattle.sabr_plan.proofs.reading.PlanReading.delete_range.Goals as goal
 use Rattle.sabr_plan.proofs.reading.PlanReading.delete_range.Goals.{in-Ok, in-Err}
 

@@ -1,5 +1,5 @@
 -- A line is refused for what it says, or for what is done with it.
-use Rattle.std.proofs.Common.{◌≡◌, refl, sym, ap, ◌∙◌, inl, inr}
+use Rattle.std.proofs.Common.{refl, inr}
 use Rattle.std.proofs.lemmas.Result.{err_from_is_err_and}
 use Rattle.sabr_plan.specs.Reading.{judged}
 use Rattle.sabr_plan.proofs.reading.PlanReading.judge.Goals as goal

@@ -1,5 +1,5 @@
 -- A line that says nothing changes nothing, and `@` sets the reference.
-use Rattle.std.proofs.Common.{◌≡◌, refl, sym, ap, ◌∙◌}
+use Rattle.std.proofs.Common.{refl}
 use Rattle.sabr_plan.specs.Reading.{obeyed}
 use Rattle.sabr_plan.proofs.reading.PlanReading.obey.Goals as goal
 

@@ -1,5 +1,4 @@
 -- The numbers stand one behind the other.
-use Rattle.std.proofs.Common.{◌≡◌, refl}
 use Rattle.sabr_plan.specs.Canonical.{range_line}
 use Rattle.sabr_plan.proofs.CanonicalLines.{five_numbers}
 use Rattle.sabr_plan.proofs.record_line.RecordLine.of_range.Goals as goal

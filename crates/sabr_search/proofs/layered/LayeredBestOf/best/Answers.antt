@@ -1,4 +1,4 @@
-use Rattle.std.proofs.Common.{◌≡◌, ◌+◌, ◌*◌, ◌-◌, ◌<◌, ◌≤◌, ℕ, List, length, None, Some, refl, ap, sym, ◌∙◌, min, arith}
+use Rattle.std.proofs.Common.{◌≡◌, ◌-◌, length, ap, sym, ◌∙◌, min, arith}
 use Rattle.std.specs.Option.{option_map}
 use Rattle.sabr_model.specs.Record.{record_of}
 use Rattle.sabr_search.proofs.Prefixes.{prefix_facts}
@@ -9,99 +9,99 @@ use Rattle.sabr_search.proofs.layered.LayeredBestOf.best.Goals as goal
 
 pub returns-in_err-standing-clause-bound : goal.returns-in_err-standing-clause-bound
 returns-in_err-standing-clause-bound g c =
-  prefix_looks c.args.plan.now.plan c.args.request.now c.args.part.prefix.now (prefix_facts c.args.plan.now.plan c.args.request.now c.args.part.prefix.now c.requires.fits) (length c.args.plan.now.table) c.enter.new.looks.count (omega (arith, c.enter.ensures.looks, c.new-self.ensures))
+    prefix_looks c.args.plan.now.plan c.args.request.now c.args.part.prefix.now (prefix_facts c.args.plan.now.plan c.args.request.now c.args.part.prefix.now c.requires.fits) (length c.args.plan.now.table) c.enter.new.looks.count (omega (arith, c.enter.ensures.looks, c.new-self.ensures))
 
 pub returns-in_default-clause-least : goal.returns-in_default-clause-least
 returns-in_default-clause-least g c =
-  let p = c.args.plan.now.plan in
-  let r = c.args.request.now in
-  let none = rw c.in_default.is at c.in_ok-standing.ensures.none in
-  sym (ap (option_map (record_of p r)) (none_is p r c.args.part.prefix.now c.args.part.excluded.now c.enter.ensures.plan (λ m route on. none m route)))
+    let p = c.args.plan.now.plan in
+    let r = c.args.request.now in
+    let none = rw c.in_default.is at c.in_ok-standing.ensures.none in
+    sym (ap (option_map (record_of p r)) (none_is p r c.args.part.prefix.now c.args.part.excluded.now c.enter.ensures.plan (λ m route on. none m route)))
 
 pub returns-in_default-clause-bound : goal.returns-in_default-clause-bound
 returns-in_default-clause-bound g c =
-  prefix_looks c.args.plan.now.plan c.args.request.now c.args.part.prefix.now (prefix_facts c.args.plan.now.plan c.args.request.now c.args.part.prefix.now c.requires.fits) (length c.args.plan.now.table) c.enter.new.looks.count (omega (arith, c.enter.ensures.looks, c.new-self.ensures))
+    prefix_looks c.args.plan.now.plan c.args.request.now c.args.part.prefix.now (prefix_facts c.args.plan.now.plan c.args.request.now c.args.part.prefix.now c.requires.fits) (length c.args.plan.now.table) c.enter.new.looks.count (omega (arith, c.enter.ensures.looks, c.new-self.ensures))
 
 pub overflow_sub-left : goal.overflow_sub-left
 overflow_sub-left g c =
-  let facts = prefix_facts c.args.plan.now.plan c.args.request.now c.args.part.prefix.now c.requires.fits in
-  omega (arith, facts.within, c.max_hops.ensures.value)
+    let facts = prefix_facts c.args.plan.now.plan c.args.request.now c.args.part.prefix.now c.requires.fits in
+    omega (arith, facts.within, c.max_hops.ensures.value)
 
 pub overflow_sub-nodes : goal.overflow_sub-nodes
 overflow_sub-nodes g c =
-  let p = c.args.plan.now in
-  let r = c.args.request.now in
-  let prefix = c.args.part.prefix.now in
-  let facts = prefix_facts p.plan r prefix c.requires.fits in
-  let task : SearchTask = record { plan = p.plan; request = r; table = p.table; shut = c.enter.new.shut.items; excluded = c.args.part.excluded.now; start = c.in-Some.standing.node; goal = c.in-Some.goal; at = c.in-Some.standing.at } in
-  let found = rw c.in-Some.is at c.in_ok-standing.ensures.some in
-  let both : IsTask task × IsBehind task prefix = found c.args.part.excluded.now in
-  omega (arith, both.0.start_in, c.nodes.ensures.table)
+    let p = c.args.plan.now in
+    let r = c.args.request.now in
+    let prefix = c.args.part.prefix.now in
+    let facts = prefix_facts p.plan r prefix c.requires.fits in
+    let task : SearchTask = record { plan = p.plan; request = r; table = p.table; shut = c.enter.new.shut.items; excluded = c.args.part.excluded.now; start = c.in-Some.standing.node; goal = c.in-Some.goal; at = c.in-Some.standing.at } in
+    let found = rw c.in-Some.is at c.in_ok-standing.ensures.some in
+    let both : IsTask task × IsBehind task prefix = found c.args.part.excluded.now in
+    omega (arith, both.0.start_in, c.nodes.ensures.table)
 
 pub answer-requires-clause-task : goal.answer-requires-clause-task
 answer-requires-clause-task g c =
-  let p = c.args.plan.now in
-  let r = c.args.request.now in
-  let prefix = c.args.part.prefix.now in
-  let facts = prefix_facts p.plan r prefix c.requires.fits in
-  let task : SearchTask = record { plan = p.plan; request = r; table = p.table; shut = c.enter.new.shut.items; excluded = c.args.part.excluded.now; start = c.in-Some.standing.node; goal = c.in-Some.goal; at = c.in-Some.standing.at } in
-  let found = rw c.in-Some.is at c.in_ok-standing.ensures.some in
-  let both : IsTask task × IsBehind task prefix = found c.args.part.excluded.now in
-  rw (c.new-task.ensures, c.deref.ensures.value) both.0
+    let p = c.args.plan.now in
+    let r = c.args.request.now in
+    let prefix = c.args.part.prefix.now in
+    let facts = prefix_facts p.plan r prefix c.requires.fits in
+    let task : SearchTask = record { plan = p.plan; request = r; table = p.table; shut = c.enter.new.shut.items; excluded = c.args.part.excluded.now; start = c.in-Some.standing.node; goal = c.in-Some.goal; at = c.in-Some.standing.at } in
+    let found = rw c.in-Some.is at c.in_ok-standing.ensures.some in
+    let both : IsTask task × IsBehind task prefix = found c.args.part.excluded.now in
+    rw (c.new-task.ensures, c.deref.ensures.value) both.0
 
 pub answer-requires-clause-behind : goal.answer-requires-clause-behind
 answer-requires-clause-behind g c =
-  let p = c.args.plan.now in
-  let r = c.args.request.now in
-  let prefix = c.args.part.prefix.now in
-  let facts = prefix_facts p.plan r prefix c.requires.fits in
-  let task : SearchTask = record { plan = p.plan; request = r; table = p.table; shut = c.enter.new.shut.items; excluded = c.args.part.excluded.now; start = c.in-Some.standing.node; goal = c.in-Some.goal; at = c.in-Some.standing.at } in
-  let found = rw c.in-Some.is at c.in_ok-standing.ensures.some in
-  let both : IsTask task × IsBehind task prefix = found c.args.part.excluded.now in
-  rw (c.new-task.ensures, c.deref.ensures.value) both.1
+    let p = c.args.plan.now in
+    let r = c.args.request.now in
+    let prefix = c.args.part.prefix.now in
+    let facts = prefix_facts p.plan r prefix c.requires.fits in
+    let task : SearchTask = record { plan = p.plan; request = r; table = p.table; shut = c.enter.new.shut.items; excluded = c.args.part.excluded.now; start = c.in-Some.standing.node; goal = c.in-Some.goal; at = c.in-Some.standing.at } in
+    let found = rw c.in-Some.is at c.in_ok-standing.ensures.some in
+    let both : IsTask task × IsBehind task prefix = found c.args.part.excluded.now in
+    rw (c.new-task.ensures, c.deref.ensures.value) both.1
 
 pub answer-requires-clause-few : goal.answer-requires-clause-few
 answer-requires-clause-few g c =
-  let p = c.args.plan.now in
-  let r = c.args.request.now in
-  let prefix = c.args.part.prefix.now in
-  let facts = prefix_facts p.plan r prefix c.requires.fits in
-  let task : SearchTask = record { plan = p.plan; request = r; table = p.table; shut = c.enter.new.shut.items; excluded = c.args.part.excluded.now; start = c.in-Some.standing.node; goal = c.in-Some.goal; at = c.in-Some.standing.at } in
-  let found = rw c.in-Some.is at c.in_ok-standing.ensures.some in
-  let both : IsTask task × IsBehind task prefix = found c.args.part.excluded.now in
-  rw c.new-task.ensures (looks_fit task both.0 prefix facts 0 c.min.result c.enter.new.looks.count c.max_hops.ensures.limits.hops.1 (omega (arith, c.min.ensures, c.max_hops.ensures.value)) (omega (arith, c.enter.ensures.looks, c.new-self.ensures)) (omega arith))
+    let p = c.args.plan.now in
+    let r = c.args.request.now in
+    let prefix = c.args.part.prefix.now in
+    let facts = prefix_facts p.plan r prefix c.requires.fits in
+    let task : SearchTask = record { plan = p.plan; request = r; table = p.table; shut = c.enter.new.shut.items; excluded = c.args.part.excluded.now; start = c.in-Some.standing.node; goal = c.in-Some.goal; at = c.in-Some.standing.at } in
+    let found = rw c.in-Some.is at c.in_ok-standing.ensures.some in
+    let both : IsTask task × IsBehind task prefix = found c.args.part.excluded.now in
+    rw c.new-task.ensures (looks_fit task both.0 prefix facts 0 c.min.result c.enter.new.looks.count c.max_hops.ensures.limits.hops.1 (omega (arith, c.min.ensures, c.max_hops.ensures.value)) (omega (arith, c.enter.ensures.looks, c.new-self.ensures)) (omega arith))
 
 pub answer-requires-clause-many : goal.answer-requires-clause-many
 answer-requires-clause-many g c =
-  let p = c.args.plan.now in
-  let r = c.args.request.now in
-  let prefix = c.args.part.prefix.now in
-  let facts = prefix_facts p.plan r prefix c.requires.fits in
-  let task : SearchTask = record { plan = p.plan; request = r; table = p.table; shut = c.enter.new.shut.items; excluded = c.args.part.excluded.now; start = c.in-Some.standing.node; goal = c.in-Some.goal; at = c.in-Some.standing.at } in
-  let found = rw c.in-Some.is at c.in_ok-standing.ensures.some in
-  let both : IsTask task × IsBehind task prefix = found c.args.part.excluded.now in
-  omega (arith, facts.within, c.max_hops.ensures.limits.hops.1, c.min.ensures, c.max_hops.ensures.value)
+    let p = c.args.plan.now in
+    let r = c.args.request.now in
+    let prefix = c.args.part.prefix.now in
+    let facts = prefix_facts p.plan r prefix c.requires.fits in
+    let task : SearchTask = record { plan = p.plan; request = r; table = p.table; shut = c.enter.new.shut.items; excluded = c.args.part.excluded.now; start = c.in-Some.standing.node; goal = c.in-Some.goal; at = c.in-Some.standing.at } in
+    let found = rw c.in-Some.is at c.in_ok-standing.ensures.some in
+    let both : IsTask task × IsBehind task prefix = found c.args.part.excluded.now in
+    omega (arith, facts.within, c.max_hops.ensures.limits.hops.1, c.min.ensures, c.max_hops.ensures.value)
 
 pub returns-clause-least : goal.returns-clause-least
 returns-clause-least g c =
-  let p = c.args.plan.now in
-  let r = c.args.request.now in
-  let prefix = c.args.part.prefix.now in
-  let facts = prefix_facts p.plan r prefix c.requires.fits in
-  let task : SearchTask = record { plan = p.plan; request = r; table = p.table; shut = c.enter.new.shut.items; excluded = c.args.part.excluded.now; start = c.in-Some.standing.node; goal = c.in-Some.goal; at = c.in-Some.standing.at } in
-  let found = rw c.in-Some.is at c.in_ok-standing.ensures.some in
-  let both : IsTask task × IsBehind task prefix = found c.args.part.excluded.now in
-  let hops : c.min.result ≡ min (r.max_hops - length prefix) (length p.table - 1) = c.min.ensures ∙ ap (λ m. min (m - length prefix) (c.nodes.result - 1)) c.max_hops.ensures.value ∙ ap (λ n. min (r.max_hops - length prefix) (n - 1)) c.nodes.ensures.table in
-  least_answer task both.0 prefix both.1 facts c.min.result hops c.answer.result (rw (c.new-task.ensures, c.deref.ensures.value) at c.answer.ensures.none) (rw (c.new-task.ensures, c.deref.ensures.value) at c.answer.ensures.some)
+    let p = c.args.plan.now in
+    let r = c.args.request.now in
+    let prefix = c.args.part.prefix.now in
+    let facts = prefix_facts p.plan r prefix c.requires.fits in
+    let task : SearchTask = record { plan = p.plan; request = r; table = p.table; shut = c.enter.new.shut.items; excluded = c.args.part.excluded.now; start = c.in-Some.standing.node; goal = c.in-Some.goal; at = c.in-Some.standing.at } in
+    let found = rw c.in-Some.is at c.in_ok-standing.ensures.some in
+    let both : IsTask task × IsBehind task prefix = found c.args.part.excluded.now in
+    let hops : c.min.result ≡ min (r.max_hops - length prefix) (length p.table - 1) = c.min.ensures ∙ ap (λ m. min (m - length prefix) (c.nodes.result - 1)) c.max_hops.ensures.value ∙ ap (λ n. min (r.max_hops - length prefix) (n - 1)) c.nodes.ensures.table in
+    least_answer task both.0 prefix both.1 facts c.min.result hops c.answer.result (rw (c.new-task.ensures, c.deref.ensures.value) at c.answer.ensures.none) (rw (c.new-task.ensures, c.deref.ensures.value) at c.answer.ensures.some)
 
 pub returns-clause-bound : goal.returns-clause-bound
 returns-clause-bound g c =
-  let p = c.args.plan.now in
-  let r = c.args.request.now in
-  let prefix = c.args.part.prefix.now in
-  let facts = prefix_facts p.plan r prefix c.requires.fits in
-  let task : SearchTask = record { plan = p.plan; request = r; table = p.table; shut = c.enter.new.shut.items; excluded = c.args.part.excluded.now; start = c.in-Some.standing.node; goal = c.in-Some.goal; at = c.in-Some.standing.at } in
-  let found = rw c.in-Some.is at c.in_ok-standing.ensures.some in
-  let both : IsTask task × IsBehind task prefix = found c.args.part.excluded.now in
-  answer_looks task both.0 prefix both.1 facts c.min.result never c.enter.new.looks.count c.answer.new.looks.count (omega (arith, facts.within, c.min.ensures, c.max_hops.ensures.value)) (omega (arith, both.0.start_in, c.min.ensures, c.nodes.ensures.table)) (omega (arith, c.enter.ensures.looks, c.new-self.ensures)) c.answer.result
+    let p = c.args.plan.now in
+    let r = c.args.request.now in
+    let prefix = c.args.part.prefix.now in
+    let facts = prefix_facts p.plan r prefix c.requires.fits in
+    let task : SearchTask = record { plan = p.plan; request = r; table = p.table; shut = c.enter.new.shut.items; excluded = c.args.part.excluded.now; start = c.in-Some.standing.node; goal = c.in-Some.goal; at = c.in-Some.standing.at } in
+    let found = rw c.in-Some.is at c.in_ok-standing.ensures.some in
+    let both : IsTask task × IsBehind task prefix = found c.args.part.excluded.now in
+    answer_looks task both.0 prefix both.1 facts c.min.result never c.enter.new.looks.count c.answer.new.looks.count (omega (arith, facts.within, c.min.ensures, c.max_hops.ensures.value)) (omega (arith, both.0.start_in, c.min.ensures, c.nodes.ensures.table)) (omega (arith, c.enter.ensures.looks, c.new-self.ensures)) c.answer.result
     (rw c.new-task.ensures at c.answer.ensures.err_looks) (rw c.new-task.ensures at c.answer.ensures.ok_looks) (rw (c.new-task.ensures, c.deref.ensures.value) at c.answer.ensures.some)

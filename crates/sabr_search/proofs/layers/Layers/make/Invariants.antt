@@ -1,4 +1,4 @@
-use Rattle.std.proofs.Common.{◌≡◌, ℕ, ◌+◌, ◌*◌, ◌≤◌, ◌<◌, length}
+use Rattle.std.proofs.Common.{◌+◌, ◌*◌, ◌≤◌, ◌<◌, length}
 use Rattle.sabr_search.specs.Made.{AreLayers}
 use Rattle.sabr_search.proofs.layers.Layers.make.Given as goal
 
@@ -6,5 +6,5 @@ abbrev pub invariant-loop-hop : goal.invariant-loop-hop
 invariant-loop-hop g l = record {
   layers : AreLayers l.task l.limits.ceiling l.hop l.self.bounds.items l.self.arrival.items l.self.place.items l.self.reached.items l.best;
   counted : l.looks.count ≤ l.fn.looks.count + l.hop * length l.task.plan.contacts;
-  sooner : l.limits.lower < l.best.delivery
+  sooner : l.limits.lower < l.best.delivery;
 }

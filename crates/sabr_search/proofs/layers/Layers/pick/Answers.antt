@@ -1,4 +1,4 @@
-use Rattle.std.proofs.Common.{◌≡◌, ◌<◌, ◌≤◌, ◌+◌, ◌*◌, ◌++◌, [], ◌∷◌, ℕ, List, Some, length, refl, ap, sym, ◌∙◌, arith}
+use Rattle.std.proofs.Common.{◌≤◌, ◌+◌, ◌*◌, ◌++◌, [], ◌∷◌, length, ap, sym, ◌∙◌, arith}
 use Rattle.std.proofs.Math.Nat.{mul-le-mul_right}
 use Rattle.std.proofs.lemmas.Option.{slice_get_within}
 use Rattle.sabr_search.proofs.Front.{IsFront, front_none, some_step, front_more, front_all, timed_later, degree_at_most, append_none, append_back}
@@ -6,43 +6,46 @@ use Rattle.sabr_search.proofs.layers.Layers.pick.Goals as goal
 
 pub loop-hop-init : goal.loop-hop-init
 loop-hop-init g c =
-  let task = c.args.task.now in
-  let started : IsFront task c.args.best 0 [] c.start.result c.at.result = rw (c.start.ensures, c.at.ensures) (front_none task c.args.best _ _ _ 1 c.requires.timed) in
-  record {
-    counted = omega arith;
-    timed = c.requires.timed;
-    node = omega (arith, c.start.ensures, c.requires.task.start_in);
-    chosen = ([], rw (c.in_ok-extend_from_slice.ensures.items, c.in_ok-contacts.ensures.items) (sym (append_none c.args.prefix.now)), started);
-  }
+    let task = c.args.task.now in
+    let started : IsFront task c.args.best 0 [] c.start.result c.at.result = rw (c.start.ensures, c.at.ensures) (front_none task c.args.best _ _ _ 1 c.requires.timed) in
+    record {
+      counted = omega arith;
+      timed = c.requires.timed;
+      node = omega (arith, c.start.ensures, c.requires.task.start_in);
+      chosen = ([], rw (c.in_ok-extend_from_slice.ensures.items, c.in_ok-contacts.ensures.items) (sym (append_none c.args.prefix.now)), started);
+    }
 
 pub least_step-requires-clause-timed : goal.least_step-requires-clause-timed
 least_step-requires-clause-timed g c = timed_later c.args.task.now c.args.best 1 (c.loop-hop.hop + 1) _ _ _ (omega arith) (c.point_at.ensures.timed 1 c.loop-hop.invariant.timed)
 
 pub unreachable-requires : goal.unreachable-requires
 unreachable-requires g c =
-  some_step c.args.task.now c.requires.task c.args.best _ _ _ (c.point_at.ensures.timed 1 c.loop-hop.invariant.timed) c.loop-hop.hop c.loop-hop-test.true c.loop-hop.invariant.chosen.0 c.loop-hop.from.node c.loop-hop.from.at c.loop-hop.invariant.chosen.2 c.in_default.ensures.none
+    some_step c.args.task.now c.requires.task c.args.best _ _ _ (c.point_at.ensures.timed 1 c.loop-hop.invariant.timed) c.loop-hop.hop c.loop-hop-test.true c.loop-hop.invariant.chosen.0 c.loop-hop.from.node c.loop-hop.from.at c.loop-hop.invariant.chosen.2 c.in_default.ensures.none
 
 pub returns-in_err-push-clause-looks : goal.returns-in_err-push-clause-looks
 returns-in_err-push-clause-looks g c =
-  let task = c.args.task.now in
-  let more : (c.loop-hop.hop + 1) * length task.plan.contacts ≤ c.args.best.hops * length task.plan.contacts = mul-le-mul_right (length task.plan.contacts) (omega arith) in
-  omega (arith, c.least_step.ensures.looks, c.loop-hop.invariant.counted, degree_at_most task c.loop-hop.from.node, more)
+    let task = c.args.task.now in
+    let more : (c.loop-hop.hop + 1) * length task.plan.contacts ≤ c.args.best.hops * length task.plan.contacts = mul-le-mul_right (length task.plan.contacts) (omega arith) in
+    omega (arith, c.least_step.ensures.looks, c.loop-hop.invariant.counted, degree_at_most task c.loop-hop.from.node, more)
 
 pub loop-hop-preserved : goal.loop-hop-preserved
 loop-hop-preserved g c =
-  let task = c.args.task.now in
-  let so_far = c.loop-hop.invariant.chosen in
-  let timed = c.point_at.ensures.timed 1 c.loop-hop.invariant.timed in
-  let least = c.in-Some.ensures.some in
-  record {
-    counted = omega (arith, c.least_step.ensures.looks, c.loop-hop.invariant.counted, degree_at_most task c.loop-hop.from.node);
-    timed = timed;
-    node = slice_get_within task.table c.in-Some.step.node least.step.contact.to least.step.receiver;
-    chosen = (so_far.0 ++ c.in-Some.step.number ∷ [], c.in_ok-push.ensures.items ∙ ap (λ xs. xs ++ c.in-Some.step.number ∷ []) so_far.1 ∙ append_back c.args.prefix.now so_far.0 (c.in-Some.step.number ∷ []),
-      front_more task c.requires.task c.args.best _ _ _ timed c.loop-hop.hop c.loop-hop-test.true so_far.0 c.loop-hop.from.node c.loop-hop.from.at so_far.2 c.in-Some.step least);
-  }
+    let task = c.args.task.now in
+    let so_far = c.loop-hop.invariant.chosen in
+    let timed = c.point_at.ensures.timed 1 c.loop-hop.invariant.timed in
+    let least = c.in-Some.ensures.some in
+    record {
+      counted = omega (arith, c.least_step.ensures.looks, c.loop-hop.invariant.counted, degree_at_most task c.loop-hop.from.node);
+      timed = timed;
+      node = slice_get_within task.table c.in-Some.step.node least.step.contact.to least.step.receiver;
+      chosen = (
+        so_far.0 ++ c.in-Some.step.number ∷ [],
+        c.in_ok-push.ensures.items ∙ ap (λ xs. xs ++ c.in-Some.step.number ∷ []) so_far.1 ∙ append_back c.args.prefix.now so_far.0 (c.in-Some.step.number ∷ []),
+        front_more task c.requires.task c.args.best _ _ _ timed c.loop-hop.hop c.loop-hop-test.true so_far.0 c.loop-hop.from.node c.loop-hop.from.at so_far.2 c.in-Some.step least,
+      );
+    }
 
 pub returns-clause-picked : goal.returns-clause-picked
 returns-clause-picked g c =
-  let so_far = c.loop-hop.invariant.chosen in
-  (so_far.0, so_far.1, front_all c.args.task.now c.args.best c.loop-hop.hop so_far.0 c.loop-hop.from.node c.loop-hop.from.at so_far.2 (omega arith) c.requires.least)
+    let so_far = c.loop-hop.invariant.chosen in
+    (so_far.0, so_far.1, front_all c.args.task.now c.args.best c.loop-hop.hop so_far.0 c.loop-hop.from.node c.loop-hop.from.at so_far.2 (omega arith) c.requires.least)

@@ -8,5 +8,5 @@ invariant-loop-hop g l = record {
   counted : l.looks.count ≤ l.fn.looks.count + l.hop * length l.task.plan.contacts;
   timed : AreTimed l.task l.best 1 l.self.bounds.items l.self.place.items l.self.reached.items;
   node : l.from.node < length l.task.table;
-  chosen : (s : List ℕ) × (l.contacts.items ≡ l.prefix ++ s) × IsFront l.task l.best l.hop s l.from.node l.from.at
+  chosen : (s : List ℕ) × (l.contacts.items ≡ l.prefix ++ s) × IsFront l.task l.best l.hop s l.from.node l.from.at;
 }

@@ -10,5 +10,5 @@ invariant-loop-place g l = record {
   arrival : l.self.arrival ≡ l.fn.self.arrival;
   flags : length l.self.place.items ≡ length l.fn.self.place.items;
   placed : IsPlaced l.self.place.items l.self.reached.items;
-  pointed : (p : ℕ) (e : Reached) → l.first ≤ p → p < l.place → slice_get l.self.reached.items p ≡ Some e → slice_index l.self.place.items e.node ≡ p
+  pointed : (p : ℕ) (e : Reached) → l.first ≤ p → p < l.place → slice_get l.self.reached.items p ≡ Some e → slice_index l.self.place.items e.node ≡ p;
 }

@@ -1,4 +1,4 @@
-use Rattle.std.proofs.Common.{◌≡◌, ◌<◌, ℕ, inl, inr, Some, length, slice_index, slice_get, sym, ap, ◌∙◌, arith}
+use Rattle.std.proofs.Common.{◌≡◌, ℕ, Some, slice_index, slice_get, ◌∙◌, arith}
 use Rattle.std.proofs.lemmas.Option.{slice_get-get_or, slice_get_within}
 use Rattle.sabr_search.specs.Task.{Takes}
 use Rattle.sabr_search.specs.Steps.{IsHopAt}
@@ -71,10 +71,10 @@ returns-then-hop-least-clause-known g c =
     let u = c.args.from.node in
     let t = c.args.from.arrival in
     known_all c.args.task.now numbers u t i _ _ c.numbers-number-items.ensures c.loop-number.invariant.known
-        (late_behind c.args.task.now u t numbers c.numbers-number-items.ensures i (slice_index numbers i) c.in-Some.hop (slice_get-get_or numbers i 0 c.loop-number-test.true) c.in-Some.ensures.value c.loop-number.least c.if-hop-least.true)
+    (late_behind c.args.task.now u t numbers c.numbers-number-items.ensures i (slice_index numbers i) c.in-Some.hop (slice_get-get_or numbers i 0 c.loop-number-test.true) c.in-Some.ensures.value c.loop-number.least c.if-hop-least.true)
 
 pub returns-clause-known : goal.returns-clause-known
 returns-clause-known g c =
     let numbers = c.numbers-number-items.result.now in
     known_all c.args.task.now numbers c.args.from.node c.args.from.arrival c.loop-number.number-index _ _ c.numbers-number-items.ensures c.loop-number.invariant.known
-        (λ j m w x le at s. absurd (omega (arith, slice_get_within numbers j m at)))
+    (λ j m w x le at s. absurd (omega (arith, slice_get_within numbers j m at)))

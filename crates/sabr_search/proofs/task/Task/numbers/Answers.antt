@@ -1,6 +1,5 @@
 use Rattle.std.proofs.Common.{◌≡◌, ◌<◌, Some, length, slice_index, slice_get}
 use Rattle.std.proofs.lemmas.Option.{slice_get-get_or}
-use Rattle.sabr_search.specs.Task.{SearchTask, IsTask}
 use Rattle.sabr_search.proofs.StepLists.{are_steps}
 use Rattle.sabr_search.proofs.task.Task.numbers.Goals as goal
 

@@ -1,0 +1,46 @@
+-- A way with the fewest hops is, with its prefix, no longer than the plan; and a plan has few nodes.
+use Rattle.std.proofs.Common.{◌≡◌, ℕ, ◌+◌, ◌*◌, ◌<◌, ◌≤◌, true, not, List, [], ◌∷◌, ◌++◌, length, refl, sym, ap, ◌∙◌, arith, length-append}
+use Rattle.std.proofs.lemmas.Bool.{and_parts, or_parts, both_ways}
+use Rattle.std.specs.Option.{option_and_then}
+use Rattle.std.specs.declared.option.Option.TheVariants.{Some}
+use Rattle.sabr_model.specs.declared.contact.Contact.{Contact}
+use Rattle.sabr_model.specs.Plan.{TabledPlan, IsPlan, has, are_different}
+use Rattle.sabr_model.specs.Table.{ends_of}
+use Rattle.sabr_model.specs.Tabled.{IsTabled}
+use Rattle.sabr_model.specs.Route.{chain_end, receivers}
+use Rattle.sabr_model.proofs.Begins.{receivers-append, chain_end-append}
+use Rattle.sabr_search.specs.Ways.{Leads}
+use Rattle.sabr_search.specs.Task.{SearchTask, Takes, IsBehind}
+use Rattle.sabr_search.proofs.Chains.{different_append}
+use Rattle.sabr_search.proofs.Prefixes.{IsPrefix}
+use Rattle.sabr_search.proofs.Bridge.{IsChain, chain_of_way}
+use Rattle.sabr_search.proofs.PartWays.{way_differs}
+use Rattle.sabr_search.proofs.StepLists.{few_different}
+use Rattle.sabr_search.proofs.Law.{chain_few, contacts_few}
+
+-- a way with the fewest hops by its delivery is, with its prefix, no longer than the plan
+pub way_few : (task : SearchTask) (prefix : List ℕ) → IsBehind task prefix → IsPrefix task.plan task.request prefix → (s : List ℕ) (d : ℕ) → Leads (Takes task) task.start task.at s task.goal d
+    → ((ns : List ℕ) (e : ℕ) → length ns < length s → Leads (Takes task) task.start task.at ns task.goal e → d < e)
+    → length prefix + length s ≤ length task.plan.contacts
+way_few task prefix behind facts s d way fewest =
+    let p = task.plan in
+    let r = task.request in
+    let chain : IsChain task prefix s task.goal d task.at behind.last_node = chain_of_way task prefix behind s task.start task.at task.goal d behind.last_node behind.stands way in
+    let reaches : chain_end p r.source (prefix ++ s) ≡ Some chain.last =
+    chain_end-append p r.source prefix s ∙ ap (option_and_then (λ b. chain_end p b s)) behind.chained ∙ chain.chain in
+    let apart : are_different (r.source ∷ receivers p (prefix ++ s)) ≡ true =
+    ap (λ w. are_different (r.source ∷ w)) (receivers-append p prefix s)
+    ∙ different_append (r.source ∷ receivers p prefix) (receivers p s) facts.different
+    (way_differs task prefix behind (length s) d fewest [] s task.start task.at d (refl, refl) way (omega arith) (omega arith))
+    (λ x one other. both_ways (has x (r.source ∷ receivers p prefix)) (or_parts (has x (r.source ∷ receivers p prefix)) (has x r.avoided) (chain.open_nodes x other)).0 one) in
+    let rest = and_parts (not (has r.source (receivers p (prefix ++ s)))) (are_different (receivers p (prefix ++ s))) apart in
+    omega (arith, length-append prefix s, chain_few p r.source (prefix ++ s) chain.last reaches rest.1)
+
+ends_size : (cs : List Contact) → length (ends_of cs) ≡ 2 * length cs
+ends_size [] = refl
+ends_size (c ∷ cs) = omega (arith, ends_size cs)
+
+-- a plan has at most 40000 nodes
+pub nodes_few : (p : TabledPlan) → IsPlan p.plan → IsTabled p → length p.table ≤ 40000
+nodes_few p good tabled =
+    omega (arith, few_different p.table (ends_of p.plan.contacts) tabled.once (λ q h. sym (tabled.nodes q) ∙ h), ends_size p.plan.contacts, contacts_few p.plan good)

@@ -1,0 +1,9 @@
+use Rattle.std.proofs.Common.{◌≡◌, drop}
+use Rattle.std.specs.List.{list_any}
+use Rattle.sabr_model.specs.Plan.{has}
+use Rattle.sabr_model.specs.Route.{receivers}
+use Rattle.sabr_model.specs.Following.{receives}
+use Rattle.sabr_search.proofs.fitting.enters.Given as goal
+
+abbrev pub invariant-loop-number : goal.invariant-loop-number
+invariant-loop-number g l = has l.node (receivers l.plan.plan l.numbers) ≡ list_any (receives l.plan.plan l.node) (drop l.number-index l.numbers)

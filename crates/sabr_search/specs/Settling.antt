@@ -1,0 +1,88 @@
+-- What a search by arrival keeps: the nodes that are settled, the events that wait, and the first delivery so far.
+use Rattle.std.specs.Prelude.{◌≡◌, ◌≢◌, ◌⊎◌, ℕ, ◌≤◌, ◌<◌, List, length, Bool, true, false, All, Contains, slice_index, slice_index_or}
+use Rattle.std.specs.List.{count_by}
+use Rattle.sabr_search.specs.declared.queue.Event.{Event}
+use Rattle.sabr_search.specs.declared.layers.Best.{Best}
+use Rattle.sabr_search.specs.Ways.{Leads}
+use Rattle.sabr_search.specs.Task.{SearchTask, Takes, never, latest_arrival}
+use Rattle.sabr_search.specs.Steps.{senders}
+use Rattle.sabr_search.specs.Lists.{AreClosed, IsKnown}
+
+-- every settled node is reached by second t
+abbrev pub AreSettledBy : List Bool → List ℕ → ℕ → Type 0
+AreSettledBy settled arrival t = (k : ℕ) → slice_index_or settled k false ≡ true → slice_index arrival k ≤ t
+
+-- how many nodes are settled
+abbrev pub settled_count : List Bool → ℕ
+settled_count settled = count_by (λ b. b) settled
+
+-- how many contacts the settled nodes send
+abbrev pub sent_by_settled : SearchTask → List Bool → ℕ
+sent_by_settled task settled = count_by (λ k. slice_index_or settled k false) (senders task)
+
+-- some way of h hops leads from the start to node v at second t
+abbrev pub IsWayTo : SearchTask → ℕ → ℕ → ℕ → Type 0
+IsWayTo task v h t = (ns : List ℕ) × (length ns ≡ h) × Leads (Takes task) task.start task.at ns v t
+
+-- what the queue holds between two steps
+pub record IsQueue (task : SearchTask) (settled : List Bool) (arrival : List ℕ) (queue : List Event) : Type 0 where
+  -- an open node that is reached and not settled waits with its arrival
+  pub waits : (k : ℕ) → k < length arrival → slice_index_or task.shut k false ≡ false → slice_index_or settled k false ≡ false → slice_index arrival k < never →
+      (h : ℕ) × Contains queue (record { at = slice_index arrival k; hops = h; node = k })
+  -- no event is earlier than the arrival at its node
+  pub late : All (λ (e : Event). slice_index arrival e.node ≤ e.at) queue
+  -- no event is earlier than a settled node, or than what improves a shut one
+  pub order : All (λ (e : Event). AreSettledBy settled arrival e.at) queue
+  pub since : All (λ (e : Event). AreClosed task.shut arrival e.at) queue
+  -- an event is of an open node, and not of the goal
+  pub inside : All (λ (e : Event). e.node < length arrival) queue
+  pub unshut : All (λ (e : Event). slice_index_or task.shut e.node false ≡ false) queue
+  pub other : All (λ (e : Event). e.node ≢ task.goal) queue
+  -- an event has a way, of no more hops than there are settled nodes
+  pub real : All (λ (e : Event). IsWayTo task e.node e.hops e.at) queue
+  pub few : All (λ (e : Event). e.hops ≤ settled_count settled) queue
+
+-- no delivery is found, or one by a way of no more hops than there are settled nodes
+abbrev pub IsFirst : SearchTask → List Bool → Best → Type 0
+IsFirst task settled best =
+    ((best.hops ≡ 0) × (best.delivery ≡ never))
+    ⊎ ((0 < best.hops) × (best.hops ≤ settled_count settled) × IsWayTo task task.goal best.hops best.delivery)
+
+-- what stands while the contacts of a node that is reached at t are taken
+pub record AreSettling (task : SearchTask) (settled : List Bool) (t : ℕ) (arrival : List ℕ) (queue : List Event) (best : Best) : Type 0 where
+  pub flags : length arrival ≡ length task.shut
+  pub closed : AreClosed task.shut arrival t
+  pub early : AreSettledBy settled arrival t
+  pub queue_is : IsQueue task settled arrival queue
+  pub found : IsFirst task settled best
+
+-- what does not change or only falls, once more contacts are taken
+pub record IsFallen (settled : List Bool) (arrival0 : List ℕ) (best0 : Best) (arrival : List ℕ) (best : Best) : Type 0 where
+  pub lower : best.delivery ≤ best0.delivery
+  pub lowered : (k : ℕ) → slice_index arrival k ≤ slice_index arrival0 k
+  pub kept : (k : ℕ) → slice_index_or settled k false ≡ true → slice_index arrival k ≡ slice_index arrival0 k
+
+-- what the contacts of the settled nodes bring is known
+abbrev pub AreSettledTaken : SearchTask → List Bool → List ℕ → ℕ → Type 0
+AreSettledTaken task settled arrival best =
+    (v n w b : ℕ) → slice_index_or settled v false ≡ true → Takes task n v (slice_index arrival v) w b → IsKnown task.goal arrival best w b
+
+-- what stands between two events
+pub record AreSettled (task : SearchTask) (settled : List Bool) (arrival : List ℕ) (queue : List Event) (best : Best) : Type 0 where
+  pub flags : length arrival ≡ length task.shut
+  pub many : length settled ≡ length task.shut
+  pub start_settled : slice_index_or settled task.start false ≡ true
+  pub start_reached : slice_index arrival task.start ≡ task.at
+  pub goal_unsettled : slice_index_or settled task.goal false ≡ false
+  pub queue_is : IsQueue task settled arrival queue
+  pub found : IsFirst task settled best
+  pub taken : AreSettledTaken task settled arrival best.delivery
+
+-- the first search's answer: no way to the goal comes before the delivery, and some way comes then with as many hops,
+-- fewer than there are nodes; or no way leads there
+pub record IsFirstWay (task : SearchTask) (best : Best) : Type 0 where
+  pub least : (ns : List ℕ) (e : ℕ) → Leads (Takes task) task.start task.at ns task.goal e → best.delivery ≤ e
+  pub none : best.hops ≡ 0 → (ns : List ℕ) (e : ℕ) → Leads (Takes task) task.start task.at ns task.goal e → ⊥
+  pub some : 0 < best.hops → IsWayTo task task.goal best.hops best.delivery
+  pub early : 0 < best.hops → best.delivery ≤ latest_arrival
+  pub few : best.hops < length task.table

@@ -1,0 +1,43 @@
+//! Which parts a search can be asked for.
+
+ghost use Rattle.std.specs.Prelude.{◌≡◌};
+ghost use Rattle.sabr_model.specs.Plan.{has};
+ghost use Rattle.sabr_model.specs.Route.{receivers, is_prefix};
+
+use crate::part::Part;
+use sabr_model::{HopFault, Plan, Request, follow};
+use std::alloc::Allocator;
+
+/// Whether one of these contacts is received by the node.
+fn enters<A: Allocator + Copy>(plan: &Plan<A>, numbers: &[u32], node: u64) -> bool
+    ensures { result ≡ has node (receivers plan.now.plan numbers.now) }
+{
+    for number in numbers {
+        if let Some(contact) = plan.contact(*number) && node == contact.to {
+            return true;
+        }
+    }
+    false
+}
+
+/// Whether routes may begin with the part's prefix and go on.
+///
+/// It is a chain of contacts from the source that can be followed in time, comes to no node twice and to no avoided node,
+/// is within the limit on hops, and doesn't come to the destination. The empty prefix fits. Which numbers are excluded
+/// doesn't matter. (No node twice, and the limits, are this project's profile.)
+///
+/// It takes no memory. Its time grows with the square of the number of contacts in the prefix.
+pub fn fits<A: Allocator + Copy>(plan: &Plan<A>, request: &Request, part: Part<'_>) -> bool
+    ensures { result ≡ is_prefix plan.now.plan request.now part.entry.prefix.now }
+{
+    if part.prefix.is_empty() {
+        return true;
+    }
+    let Err(fault) = follow(plan, request, part.prefix) else {
+        return false;
+    };
+    match fault {
+        HopFault::WrongEnd => !enters(plan, part.prefix, request.to()),
+        _ => false,
+    }
+}

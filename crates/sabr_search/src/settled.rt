@@ -1,0 +1,120 @@
+//! The finder that settles nodes first, and then makes only the layers that the least route needs.
+
+ghost use Rattle.std.specs.Prelude.{◌≡◌, ◌≤◌, ◌+◌, ◌-◌, ◌*◌, IfOk, IsTrue, length};
+ghost use Rattle.sabr_model.specs.Route.{is_prefix};
+ghost use Rattle.sabr_search.specs.Part.{IsLeast};
+ghost use Rattle.sabr_search.specs.Task.{IsTask, IsBehind};
+ghost use Rattle.sabr_search.specs.Told.{hops_told};
+
+use crate::best::BestOf;
+use crate::enter::enter;
+use crate::layers::Layers;
+use crate::limits::limits_of;
+use crate::looks::Looks;
+use crate::part::Part;
+use crate::settling::Settling;
+use crate::task::Task;
+use sabr_model::{NoMemory, Plan, Request, Route};
+use std::alloc::{Allocator, Global};
+
+/// The least route behind the prefix: the first delivery says how many layers are needed, and what is too late.
+fn least_route<A: Allocator + Copy>(
+    alloc: A,
+    settling: &mut Settling<A>,
+    layers: &mut Layers<A>,
+    task: &Task<'_, A>,
+    looks: &mut Looks,
+    max_hops: u32,
+    prefix: &[u32],
+) -> Result<Option<Route<A>>, NoMemory>
+    requires task { IsTask task.now }
+    requires behind { IsBehind task.now prefix.now }
+    requires fits { IsTrue (is_prefix task.now.plan task.now.request prefix.now) }
+    requires hops { max_hops ≡ task.now.request.max_hops }
+    requires nodes { length task.now.table ≤ 40000 }
+    requires few { looks.old.count ≤ length prefix.now }
+    ensures least { IfOk result (IsLeast task.now.plan task.now.request prefix.now task.now.excluded) }
+    ensures bound { looks.new.count ≤ (3 * length task.now.table + 1) * length task.now.plan.contacts }
+    ensures counted { IfOk result (λ answer. hops_told answer ≤ looks.new.count) }
+    ensures cut { IfOk result (λ answer. max_hops ≡ 20000 → looks.new.count ≤ (3 * (hops_told answer - length prefix.now) + 3) * length task.now.plan.contacts) }
+{
+    let first = settling.run(task, looks)?;
+    if first.hops == 0 {
+        return Ok(None);
+    }
+    let limits = limits_of(max_hops, prefix.len(), first);
+    layers.answer(alloc, task, looks, prefix, limits)
+}
+
+/// A finder that settles nodes in order of their arrival up to the first delivery, and then makes only as many hop layers
+/// as that needs.
+///
+/// A call costs at most `(3 * N + 1) * C` looks, N the nodes and C the contacts of the plan, and without a limit on hops
+/// at most `(3 * r + 3) * C`, r the hops of the answer behind the prefix. Its memory is kept from call to call.
+#[derive(Drop)]
+pub struct Settled<A: Allocator + Copy = Global> {
+    alloc: A,
+    shut: Vec<bool, A>,
+    settling: Settling<A>,
+    layers: Layers<A>,
+    looks: Looks,
+}
+
+impl<A: Allocator + Copy> Settled<A> {
+    /// A finder that has taken no memory.
+    pub fn new(alloc: A) -> Settled<A>
+        ensures { result.looks.count ≡ 0 }
+    {
+        Settled {
+            alloc,
+            shut: Vec::new(alloc),
+            settling: Settling::new(alloc),
+            layers: Layers::new(alloc),
+            looks: Looks::new(),
+        }
+    }
+}
+
+impl<A: Allocator + Copy> BestOf<A> for Settled<A> {
+    ghost looks_of = { λ f. f.looks.count };
+
+    fn best(
+        &mut self,
+        plan: &Plan<A>,
+        request: &Request,
+        part: Part<'_>,
+    ) -> Result<Option<Route<A>>, NoMemory>
+        requires fits { IsTrue (is_prefix plan.now.plan request.now part.prefix.now) }
+        ensures least { IfOk result (IsLeast plan.now.plan request.now part.entry.prefix.now part.entry.excluded.now) }
+        ensures bound { self.new.looks.count ≤ (3 * length plan.now.table + 1) * length plan.now.plan.contacts }
+        ensures counted { IfOk result (λ answer. hops_told answer ≤ self.new.looks.count) }
+        ensures cut { IfOk result (λ answer. request.now.max_hops ≡ 20000 → self.new.looks.count ≤ (3 * (hops_told answer - length part.entry.prefix.now) + 3) * length plan.now.plan.contacts) }
+    {
+        self.looks = Looks::new();
+        let _nodes = plan.nodes();
+        let Some((standing, goal)) = enter(
+            &mut self.shut,
+            &mut self.looks,
+            plan,
+            request,
+            part.prefix,
+        )?
+        else {
+            return Ok(None);
+        };
+        let task = Task::new(plan, request, &self.shut, part.excluded, standing, goal);
+        least_route(
+            self.alloc,
+            &mut self.settling,
+            &mut self.layers,
+            &task,
+            &mut self.looks,
+            request.max_hops(),
+            part.prefix,
+        )
+    }
+
+    fn looks(&self) -> u64 {
+        self.looks.count
+    }
+}

@@ -1,0 +1,170 @@
+//! Nodes settled in order of their arrival, up to the first delivery at the goal.
+
+ghost use Rattle.std.specs.Prelude.{◌≡◌, ℕ, List, [], ◌+◌, ◌^◌, ◌≤◌, ◌<◌, length, slice_set, slice_index, slice_index_or, replicate, Some, OnOk, IfOk, true, false};
+ghost use Rattle.sabr_search.specs.Task.{IsTask, Takes};
+ghost use Rattle.sabr_search.specs.Steps.{degree};
+ghost use Rattle.sabr_search.specs.Hops.{hop_arrival, IsSmall};
+ghost use Rattle.sabr_search.specs.Lists.{IsKnown};
+ghost use Rattle.sabr_search.specs.Ways.{Leads};
+ghost use Rattle.sabr_search.specs.Made.{AreOpened};
+ghost use Rattle.sabr_search.specs.Settling.{settled_count, IsWayTo, IsFirstWay, AreSettling, IsFallen, AreSettledTaken};
+
+use crate::layers::{Best, NEVER, open_nodes};
+use crate::looks::Looks;
+use crate::queue::{Event, Queue};
+use crate::task::Task;
+use sabr_model::{Hop, NoMemory};
+use std::alloc::Allocator;
+
+/// By node the least arrival so far and whether it is settled; and the arrivals that wait.
+#[derive(Drop)]
+pub struct Settling<A: Allocator + Copy> {
+    arrival: Vec<u64, A>,
+    settled: Vec<bool, A>,
+    queue: Queue<A>,
+}
+
+impl<A: Allocator + Copy> Settling<A> {
+    /// Takes no memory.
+    pub fn new(alloc: A) -> Settling<A> {
+        Settling {
+            arrival: Vec::new(alloc),
+            settled: Vec::new(alloc),
+            queue: Queue::new(alloc),
+        }
+    }
+
+    /// No node is settled, no event waits, and nothing is reached but the start.
+    fn first_events(&mut self, task: &Task<'_, A>) -> Result<(), NoMemory>
+        requires { IsTask task.now }
+        ensures arrivals { OnOk result (AreOpened task.now self.new.arrival.items) }
+        ensures settled { OnOk result (self.new.settled.items ≡ replicate (length task.now.shut) false) }
+        ensures queue { OnOk result (self.new.queue ≡ []) }
+    {
+        open_nodes(&mut self.arrival, task)?;
+        self.settled.clear();
+        self.settled.resize(task.shut().len(), false)?;
+        self.queue.clear();
+        Ok(())
+    }
+
+    /// Takes one contact of a node that is settled; answers the first delivery so far.
+    fn take(
+        &mut self,
+        task: &Task<'_, A>,
+        event: Event,
+        hop: &Hop,
+        best: Best,
+    ) -> Result<Best, NoMemory>
+        requires task { IsTask task.now }
+        requires small { IsSmall hop.now }
+        requires receiver { hop.now.receiver < length task.now.table }
+        requires step { (x : ℕ) → slice_index_or task.now.shut hop.now.receiver false ≡ false → hop_arrival task.now.request.margin event.at hop.now ≡ Some x → (n : ℕ) × Takes task.now n event.node event.at hop.now.receiver x }
+        requires real { IsWayTo task.now event.node event.hops event.at }
+        requires few { event.hops < settled_count self.old.settled.items }
+        requires state { AreSettling task.now self.old.settled.items event.at self.old.arrival.items self.old.queue best }
+        ensures settled { self.new.settled ≡ self.old.settled }
+        ensures state { IfOk result (λ b. AreSettling task.now self.old.settled.items event.at self.new.arrival.items self.new.queue b) }
+        ensures fallen { IfOk result (λ b. IsFallen self.old.settled.items self.old.arrival.items best self.new.arrival.items b) }
+        ensures known { IfOk result (λ b. (x : ℕ) → slice_index_or task.now.shut hop.now.receiver false ≡ false → hop_arrival task.now.request.margin event.at hop.now ≡ Some x → IsKnown task.now.goal self.new.arrival.items b.delivery hop.now.receiver x) }
+        ensures pushes { OnOk result (length self.new.queue ≤ length self.old.queue + 1) }
+    {
+        let to = hop.receiver;
+        if to == task.goal() {
+            return Ok(match task.arrive_before(event.at, hop, best.delivery) {
+                None => best,
+                Some(delivery) => Best {
+                    delivery,
+                    hops: event.hops + 1,
+                },
+            });
+        }
+        let before = best.delivery.min(self.arrival[to]);
+        if let Some(at) = task.arrive_before(event.at, hop, before) {
+            self.queue.push(Event {
+                at,
+                hops: event.hops + 1,
+                node: to,
+            })?;
+            self.arrival[to] = at;
+        }
+        Ok(best)
+    }
+
+    /// Settles a node that is reached at the event, and takes every contact of it; answers the first delivery so far.
+    fn settle(
+        &mut self,
+        task: &Task<'_, A>,
+        looks: &mut Looks,
+        event: Event,
+        best: Best,
+    ) -> Result<Best, NoMemory>
+        requires task { IsTask task.now }
+        requires node { event.node < length task.now.table }
+        requires many { length self.old.settled.items ≡ length task.now.table }
+        requires unsettled { slice_index_or self.old.settled.items event.node false ≡ false }
+        requires reached { slice_index self.old.arrival.items event.node ≡ event.at }
+        requires real { IsWayTo task.now event.node event.hops event.at }
+        requires few_hops { event.hops ≤ settled_count self.old.settled.items }
+        requires few { looks.old.count + degree task.now event.node ≤ 2 ^ 62 }
+        requires state { AreSettling task.now (slice_set self.old.settled.items event.node true) event.at self.old.arrival.items self.old.queue best }
+        requires taken { AreSettledTaken task.now self.old.settled.items self.old.arrival.items best.delivery }
+        ensures settled { self.new.settled.items ≡ slice_set self.old.settled.items event.node true }
+        ensures looks { looks.new.count ≤ looks.old.count + degree task.now event.node }
+        ensures state { IfOk result (λ b. AreSettling task.now (slice_set self.old.settled.items event.node true) event.at self.new.arrival.items self.new.queue b) }
+        ensures fallen { IfOk result (λ b. IsFallen (slice_set self.old.settled.items event.node true) self.old.arrival.items best self.new.arrival.items b) }
+        ensures taken { IfOk result (λ b. AreSettledTaken task.now (slice_set self.old.settled.items event.node true) self.new.arrival.items b.delivery) }
+        ensures pushes { OnOk result (length self.new.queue + looks.old.count ≤ length self.old.queue + looks.new.count) }
+    {
+        self.settled[event.node] = true;
+        let mut least = best;
+        for number in task.numbers(event.node, event.at) {
+            if task.is_excluded(event.node, *number) {
+                continue;
+            }
+            let Some(hop) = task.look(looks, *number) else {
+                continue;
+            };
+            if hop.start >= least.delivery {
+                return Ok(least);
+            }
+            least = self.take(task, event, &hop, least)?;
+        }
+        Ok(least)
+    }
+
+    /// Settles nodes in order of their arrival, until no event comes before the first delivery at the goal; answers that
+    /// delivery and the hops of a way with it, or no hops where no way leads to the goal. Each contact is looked at once
+    /// at most.
+    pub fn run(&mut self, task: &Task<'_, A>, looks: &mut Looks) -> Result<Best, NoMemory>
+        requires task { IsTask task.now }
+        requires few { looks.old.count + length task.now.plan.contacts ≤ 2 ^ 62 }
+        ensures looks { looks.new.count ≤ looks.old.count + length task.now.plan.contacts }
+        ensures first { IfOk result (IsFirstWay task.now) }
+    {
+        self.first_events(task)?;
+        let start = Event {
+            at: task.at(),
+            hops: 0,
+            node: task.start(),
+        };
+        let mut best = self.settle(
+            task,
+            looks,
+            start,
+            Best {
+                delivery: NEVER,
+                hops: 0,
+            },
+        )?;
+        while let Some(event) = self.queue.pop() {
+            if event.at >= best.delivery {
+                return Ok(best);
+            }
+            if !self.settled[event.node] {
+                best = self.settle(task, looks, event, best)?;
+            }
+        }
+        Ok(best)
+    }
+}
