@@ -7,7 +7,7 @@ ghost use Rattle.sabr_model.specs.Record.{record_of};
 
 use sabr_frontier::Session;
 use sabr_model::{NoMemory, Plan, Request, Route};
-use sabr_search::Layered;
+use sabr_search::Settled;
 use std::alloc::Allocator;
 
 /// A page of the listing.
@@ -35,7 +35,7 @@ pub fn first_page<A: Allocator + Copy>(
     ensures routes { IfOk result (λ page. page.routes.items ≡ map (record_of plan.now.plan request) (page_of plan.now.plan request 0 count)) }
     ensures more { IfOk result (λ page. page.more ≡ nat_lt count (length (routes plan.now.plan request))) }
 {
-    let mut session = Session::start(alloc, plan, request, Layered::new(alloc))?;
+    let mut session = Session::start(alloc, plan, request, Settled::new(alloc))?;
     let routes = session.page(count)?;
     let more = session.more();
     Ok(Page { routes, more })
