@@ -3,3 +3,4 @@ pub mod CommaPieces
 pub mod ListedNumbers
 pub mod TextsInTurn
 pub mod SpelledTimes
+pub mod SessionPages

@@ -3,6 +3,7 @@
 
 mod command_line;
 mod failure;
+mod first_page;
 mod first_piece;
 mod lists;
 mod messages;

@@ -11,9 +11,9 @@ ghost use Rattle.cgrlist.specs.declared.failure.Failure.{Failure};
 ghost use Rattle.cgrlist.specs.Runs.{first_report, WritesFirst, TellsEnd, status_at};
 
 use crate::failure::Failure;
+use crate::first_page::{Page, first_page};
 use crate::messages::tell;
 use crate::status::Status;
-use plain_listing::{Page, first_routes};
 use sabr_model::{Plan, Read, Request, Write, WriteFault};
 use sabr_plan::read_plan;
 use sabr_session::write_report;
@@ -50,20 +50,20 @@ fn write_page<O: Write, A: Allocator + Copy>(
     Ok(())
 }
 
-// Writes the first page of the listing over the plan of a request.
+// Writes the first page of the listing over a plan that is ready for searches.
 fn write_first<O: Write, A: Allocator + Copy>(
     alloc: A,
     plan: &Plan<A>,
-    request: &Request,
+    request: Request,
     count: u32,
     out: &mut O,
 ) -> Result<(), Failure>
     requires { count ≤ 10000 }
-    ensures { WritesFirst (Ok plan.now) request.now count result (O.contents out.old) (O.failures out.old) (O.contents out.new) (O.failures out.new) }
+    ensures { WritesFirst (Ok plan.now) request count result (O.contents out.old) (O.failures out.old) (O.contents out.new) (O.failures out.new) }
 {
     obeys_rules(plan);
-    is_within_limits(request);
-    let Ok(page) = first_routes(alloc, plan, request, count) else {
+    is_within_limits(&request);
+    let Ok(page) = first_page(alloc, plan, request, count) else {
         return Err(Failure::NoMemory);
     };
     let Ok(()) = write_page(&page, 1, out) else {
@@ -76,14 +76,14 @@ fn write_first<O: Write, A: Allocator + Copy>(
 fn read_and_write_first<P: Read, O: Write, A: Allocator + Copy>(
     alloc: A,
     plan: &mut P,
-    request: &Request,
+    request: Request,
     count: u32,
     out: &mut O,
 ) -> Result<(), Failure>
     requires { count ≤ 10000 }
     ensures { (planned : Result TabledPlan PlanFault)
         × ReadsPlan (P.remaining plan.old) (P.failures plan.old) planned (P.remaining plan.new) (P.failures plan.new)
-        × WritesFirst planned request.now count result (O.contents out.old) (O.failures out.old) (O.contents out.new) (O.failures out.new) }
+        × WritesFirst planned request count result (O.contents out.old) (O.failures out.old) (O.contents out.new) (O.failures out.new) }
 {
     match read_plan(alloc, plan) {
         Ok(plan) => write_first(alloc, &plan, request, count, out),
@@ -113,7 +113,7 @@ pub fn run_first<P: Read, O: Write, E: Write, A: Allocator + Copy>(
         × TellsEnd end (E.contents err.old) (E.failures err.old) (E.contents err.new) (E.failures err.new)
         × (result ≡ status_at end)) }
 {
-    match read_and_write_first(alloc, plan, &request, count, out) {
+    match read_and_write_first(alloc, plan, request, count, out) {
         Ok(()) => Status::Done,
         Err(failure) => tell(err, failure),
     }

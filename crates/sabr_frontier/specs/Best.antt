@@ -12,7 +12,3 @@ best_of p r prefix excluded = option_map (record_of p r) (least_in p r prefix ex
 
 abbrev pub IsBest : ContactPlan → RouteRequest → List ℕ → List ℕ → Option RouteRecord → Type 0
 IsBest p r prefix excluded answer = answer ≡ best_of p r prefix excluded
-
--- the answer is the least route of the part, and none where the part has no route
-abbrev pub IsLeast : ContactPlan → RouteRequest → List ℕ → List ℕ → Option RouteRecord → Type 0
-IsLeast p r prefix excluded answer = answer ≡ option_map (record_of p r) (least_in p r prefix excluded)

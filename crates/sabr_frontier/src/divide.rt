@@ -8,9 +8,10 @@ ghost use Rattle.sabr_frontier.specs.Best.{best_of};
 ghost use Rattle.sabr_frontier.specs.Taking.{fresh_nodes, wide_of};
 
 use crate::excluded::Excluded;
-use crate::finder::{ask, BestOf};
+use crate::finder::ask;
 use crate::tree::Node;
 use sabr_model::{NoMemory, Numbers, Plan, Request, Route};
+use sabr_search::BestOf;
 use std::alloc::{Allocator, Global};
 
 /// What a part and the new parts exclude and carry once its route is given.

@@ -8,9 +8,9 @@ ghost use Rattle.sabr_frontier.specs.Shape.{shape_of, shown};
 ghost use Rattle.sabr_frontier.specs.Undo.{IsRoomy};
 ghost use Rattle.sabr_frontier.specs.Session.{IsSound, tree_before};
 
-use crate::finder::BestOf;
 use crate::tree::Tree;
 use sabr_model::{NoMemory, Plan, Request, Route};
+use sabr_search::BestOf;
 use std::alloc::Allocator;
 
 impl<A: Allocator + Copy> Tree<A> {

@@ -16,7 +16,6 @@ mod tree;
 mod undo;
 mod views;
 
-pub use finder::{BestOf, Part};
 pub use laws::{law4, law5, law6};
 pub use rows::{states_of_plan_a, states_of_plan_c, steps_of_plan_a};
 pub use session::Session;

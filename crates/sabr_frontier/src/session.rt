@@ -7,10 +7,11 @@ ghost use Rattle.sabr_frontier.specs.Listing.{next_route, searches_in, state_at,
 ghost use Rattle.sabr_frontier.specs.Session.{former_then, told_part};
 ghost use Rattle.sabr_frontier.specs.Views.{told_left};
 
-use crate::finder::{ask, BestOf};
+use crate::finder::ask;
 use crate::tree::Tree;
 use crate::views::Parts;
 use sabr_model::{NoMemory, Plan, Request, Route};
+use sabr_search::BestOf;
 use std::alloc::{Allocator, Global};
 use std::marker::Model;
 

@@ -10,10 +10,10 @@ ghost use Rattle.sabr_frontier.specs.Sound.{CanDivide, IsTree};
 ghost use Rattle.sabr_frontier.specs.Prepared.{IsReady};
 
 use crate::divide::{copied, divide, Division};
-use crate::finder::BestOf;
 use crate::places::index_place;
 use crate::tree::{NodeId, Tree};
 use sabr_model::{NoMemory, Plan, Request, Route};
+use sabr_search::BestOf;
 use std::alloc::{Allocator, Global};
 
 /// What is ready before the tree changes: a copy of the route, the place of the new nodes in the index, and

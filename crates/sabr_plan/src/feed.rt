@@ -97,7 +97,7 @@ impl<A: Allocator + Copy> PlanFeed<A> {
         }
     }
 
-    /// The plan that the lines leave.
+    /// The plan that the lines leave, ready for searches; where memory is short for that, they take longer.
     fn into_plan(self) -> Plan<A>
         ensures { result.plan ≡ self.reading.plan }
     {
@@ -107,7 +107,9 @@ impl<A: Allocator + Copy> PlanFeed<A> {
             held: _,
             held_count: _,
         } = self;
-        reading.into_plan()
+        let mut plan = reading.into_plan();
+        let _ = plan.settle();
+        plan
     }
 
     /// The reader has failed.
