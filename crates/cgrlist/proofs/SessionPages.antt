@@ -18,16 +18,16 @@ taken zero [] = inr (omega arith, refl)
 taken zero (x ∷ xs) = inl (omega arith, refl)
 taken (suc k) [] = inr (omega arith, refl)
 taken (suc k) (x ∷ xs) = elim (taken k xs) [
-    | inl h ↦ inl (omega arith, ap suc h.1)
-    | inr h ↦ inr (omega arith, ap suc h.1)
-  ]
+  | inl h ↦ inl (omega arith, ap suc h.1)
+  | inr h ↦ inr (omega arith, ap suc h.1)
+]
 
 -- the list goes on behind its first k members exactly where it has more than k
 behind : {X : Type 0} (k : ℕ) (xs : List X) → nat_lt (length (take k xs)) (length xs) ≡ nat_lt k (length xs)
 behind k xs = elim (taken k xs) [
-    | inl h ↦ ap (λ n. nat_lt n (length xs)) h.1
-    | inr h ↦ let e = h.1 in let le = h.0 in rw e (grind (arith, nat_tests))
-  ]
+  | inl h ↦ ap (λ n. nat_lt n (length xs)) h.1
+  | inr h ↦ let e = h.1 in let le = h.0 in rw e (grind (arith, nat_tests))
+]
 
 within : {X : Type 0} (k : ℕ) (xs : List X) → length (take k xs) ≤ length xs
 within k xs = elim (taken k xs) [ inl h ↦ let e = h.1 in let lt = h.0 in omega arith | inr h ↦ let e = h.1 in omega arith ]

@@ -57,12 +57,12 @@ fresh_parts {A} p r leaves leaf x is base q (y ∷ rest) count e c =
     let more : List (Node A) = fresh_nodes (best_of p r) leaf (q ++ y ∷ []) rest in
     let prefix : prefix_of leaves new ≡ q = ap (λ o. front_of o (length q)) is ∙ ap (take (length q)) e ∙ take_append q (y ∷ rest) in
     let first : part_at leaves (base ++ new ∷ more) (record { 0 = length base }) ≡ record { prefix = q; excluded = y ∷ []; carried = least_in p r q (y ∷ []) } =
-        ap (part_of leaves) (get_at_end base more new) ∙ (λ i. record { prefix = prefix i; excluded = y ∷ []; carried = best_numbers p r q (y ∷ []) i }) in
+    ap (part_of leaves) (get_at_end base more new) ∙ (λ i. record { prefix = prefix i; excluded = y ∷ []; carried = best_numbers p r q (y ∷ []) i }) in
     let long : length (base ++ new ∷ []) ≡ suc (length base) = omega (arith, length-append base (new ∷ [])) in
     let rest_is = fresh_parts p r leaves leaf x is (base ++ new ∷ []) (q ++ y ∷ []) rest (length more) (e ∙ sym (append_assoc q (y ∷ []) rest)) refl in
     let assoc : base ++ new ∷ more ≡ (base ++ new ∷ []) ++ more = sym (append_assoc base (new ∷ []) more) in
     let tail : map (part_at leaves (base ++ new ∷ more)) (ids_from (suc (length base)) (length more)) ≡ fresh (is_route p r) (least_in p r) (q ++ y ∷ []) rest =
-        (λ i. map (part_at leaves (assoc i)) (ids_from (sym long i) (length more))) ∙ rest_is in
+    (λ i. map (part_at leaves (assoc i)) (ids_from (sym long i) (length more))) ∙ rest_is in
     ap (λ n. map (part_at leaves (base ++ new ∷ more)) (ids_from (length base) n)) c ∙ (λ i. first i ∷ tail i)
 
 part_stable : {A : Type 0} (leaves : List RouteRecord) (x : RouteRecord) (nodes : List (Node A)) (o : Option (Node A)) (i : ℕ) → ((n : Node A) → Member n nodes → IsLent leaves n) → slice_get nodes i ≡ o → part_of (leaves ++ x ∷ []) o ≡ part_of leaves o
@@ -242,8 +242,10 @@ module _ {A : Type 0} (p : ContactPlan) (r : RouteRequest) (t : Shape A) (is : I
   other_F id m = (member_taken k id t.index (front_in id (Member-append_left id F (node ∷ M) m)), not_before id (pair_across (IsBefore t.leaves t.nodes) F (node ∷ M) id node order_front m (inl refl)))
 
   other_M : (id : NodeId) → Member id M → Member id t.index × (id.0 ≡ node.0 → ⊥)
-  other_M id m = (member_taken k id t.index (front_in id (Member-append_right id F (node ∷ M) (inr m))),
-      not_behind id ((pairs_back (IsBefore t.leaves t.nodes) F (node ∷ M) order_front).0 id m))
+  other_M id m = (
+    member_taken k id t.index (front_in id (Member-append_right id F (node ∷ M) (inr m))),
+    not_behind id ((pairs_back (IsBefore t.leaves t.nodes) F (node ∷ M) order_front).0 id m),
+  )
 
   other_B : (id : NodeId) → Member id B → Member id t.index × (id.0 ≡ node.0 → ⊥)
   other_B id m = (member_dropped k id t.index m, not_behind id (pair_across (IsBefore t.leaves t.nodes) (F ++ node ∷ M) B node id order_is (Member-append_right node F (node ∷ M) (inl refl)) m))

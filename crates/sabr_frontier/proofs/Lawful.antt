@@ -75,10 +75,10 @@ states_are_told p r s formed = record {
   pairs = closed_tree (is_route p r) (is_path p r) (is_prefix p r) (map pair_of s.parts) formed.order formed.closed;
   placed = λ good carries first.
       verified (is_route p r) (is_path p r) (is_prefix p r) (routes_apart p r) (route_filled p r) (by_key p r) (key_total p r) (by_key_exact p r)
-          (routes p r) (routes_rise p r good) (routes_sound p r good) (routes_complete p r good)
-          (least_in p r) (least_some p r good) (least_none p r good) s formed carries
-          (λ l h. first.to_last l (Member_In l (leaves_in p r s) h))
-          (λ l t c h m e. less_is (by_key p r l c) (first.to_carried l t c (Member_In l (leaves_in p r s) h) m e));
+      (routes p r) (routes_rise p r good) (routes_sound p r good) (routes_complete p r good)
+      (least_in p r) (least_some p r good) (least_none p r good) s formed carries
+      (λ l h. first.to_last l (Member_In l (leaves_in p r s) h))
+      (λ l t c h m e. less_is (by_key p r l c) (first.to_carried l t c (Member_In l (leaves_in p r s) h) m e));
 }
 
 -- ---- how steps follow the list

@@ -112,7 +112,7 @@ module _ {A : Type 0} (p : ContactPlan) (r : RouteRequest) (t : Shape A) (is : I
       pub rest_order : InPairs (IsAtOrBehind (nodes_then t.nodes node wide found fresh)) (front t.queue)
       rest_order = pairs_weaker (IsAtOrBehind t.nodes) (IsAtOrBehind (nodes_then t.nodes node wide found fresh)) (front t.queue)
           (λ a b m k h. let P : Option RouteRecord × Option RouteRecord → Type 0 = λ w. IsNotBetter w.0 w.1 in
-              subst P (λ i. (sym (kept_route a (rest_within a m) (rest_other a m)) i, sym (kept_route b (rest_within b k) (rest_other b k)) i)) h)
+          subst P (λ i. (sym (kept_route a (rest_within a m) (rest_other a m)) i, sym (kept_route b (rest_within b k) (rest_other b k)) i)) h)
           (pairs_front (IsAtOrBehind t.nodes) (front t.queue) (node ∷ []) (subst (InPairs (IsAtOrBehind t.nodes)) queue_is is.falls))
 
     -- ---- the part that carries the least route

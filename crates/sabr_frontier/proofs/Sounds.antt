@@ -90,8 +90,8 @@ module _ {A : Type 0} (nodes : List (Node A)) where
   block_apart f (suc n) ids b h =
       let id : NodeId = record { 0 = f } in
       block_apart (suc f) n (enqueued nodes id ids)
-          (λ y m. elim (enqueued_cases y id ids m) [ inl w ↦ (let e : y.0 ≡ f = ap (λ (z : NodeId). z.0) w.0 in omega arith) | inr k ↦ (let l = b y k in omega arith) ])
-          (enqueued_apart id ids (λ y m. lesser_apart y id (b y m)) h)
+      (λ y m. elim (enqueued_cases y id ids m) [ inl w ↦ (let e : y.0 ≡ f = ap (λ (z : NodeId). z.0) w.0 in omega arith) | inr k ↦ (let l = b y k in omega arith) ])
+      (enqueued_apart id ids (λ y m. lesser_apart y id (b y m)) h)
 
   put_length : (test : NodeId → Bool) (id : NodeId) (ids : List NodeId) → length (put_behind test id ids) ≡ length ids + 1
   put_length test id [] = refl
@@ -194,7 +194,7 @@ module _ {A : Type 0} (p : ContactPlan) (r : RouteRequest) (good : IsPlan p) (t 
   formed_then : IsState p r (shown D)
   formed_then = subst (IsState p r) (sym (shown_divided p r t is node last n x stands carries))
       (formed_after (is_route p r) (is_path p r) (is_prefix p r) (routes_apart p r) (route_filled p r) (route_chains p r) (route_fits p r) (empty_is_prefix p r) (least_in p r)
-          (λ q X u e. let w = least_some p r good q X u e in (w.0, w.1)) (shown t) is.formed (here p r t is node last n x stands carries) s (here_in p r t is node last n x stands carries) refl)
+      (λ q X u e. let w = least_some p r good q X u e in (w.0, w.1)) (shown t) is.formed (here p r t is node last n x stands carries) s (here_in p r t is node last n x stands carries) refl)
 
   index_cases : (id : NodeId) → Member id D.index → Member id t.index ⊎ Member id ids
   index_cases id m = elim (Member-append_cases id (take k t.index ++ ids) (drop k t.index) m) [

@@ -56,7 +56,6 @@ module _ {A : Type 0} (t : Shape A) (node : NodeId) (part : Node A) (r : RouteRe
     (known : Passes (λ (id : NodeId). nat_lt id.0 (length t.nodes)) t.index)
     (older : Passes (λ (id : NodeId). nat_lt id.0 (length t.nodes) && not (nat_eq id.0 node.0)) rest)
     (only_new : filter (λ (id : NodeId). nat_lt id.0 (length t.nodes) && not (nat_eq id.0 node.0)) queue ≡ filter (λ (id : NodeId). nat_lt id.0 (length t.nodes) && not (nat_eq id.0 node.0)) rest) where
-
   abbrev entry : Entry
   entry = record { node = node; nodes = length t.nodes; last = t.last }
 

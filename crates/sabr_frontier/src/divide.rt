@@ -52,13 +52,7 @@ fn fresh_node<B: BestOf<A>, A: Allocator + Copy>(
     ensures { IfOk result (λ n. n ≡ record { leaf = leaf; length = count; excluded = slice_index route.now count ∷ []; route = best_of plan.now.plan request.now (take count route.now) (slice_index route.now count ∷ []) }) }
 {
     let excluded = Excluded::one(alloc, route[count])?;
-    let found = ask(
-        finder,
-        plan,
-        request,
-        &route[..count],
-        excluded.as_slice(),
-    )?;
+    let found = ask(finder, plan, request, &route[..count], excluded.as_slice())?;
     Ok(Node {
         leaf,
         length: count,

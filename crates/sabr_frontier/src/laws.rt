@@ -5,18 +5,15 @@ ghost use Rattle.sabr_frontier.specs.Laws.{PartsDivide, StatesAreTold, StepsFoll
 /// Every route was given or is in exactly one part of the tree of those given, never both.
 pub fn law4()
     ensures { PartsDivide }
-{
-}
+{}
 
 /// A well-formed state has the parts of its leaves; where each part carries its least route, and the leaves
 /// come before all that is carried, it is the state of the place that it counts.
 pub fn law5()
     ensures { StatesAreTold }
-{
-}
+{}
 
 /// From each place of the list, steps give the next routes and lead to the place behind them.
 pub fn law6()
     ensures { StepsFollow }
-{
-}
+{}

@@ -11,19 +11,16 @@ pub fn states_of_plan_a()
     ensures one { state_at plan_a from_1_to_3 1 ≡ a_after_1 }
     ensures two { state_at plan_a from_1_to_3 2 ≡ a_after_2 }
     ensures three { state_at plan_a from_1_to_3 3 ≡ a_after_3 }
-{
-}
+{}
 
 /// Plan C after three routes and after all five.
 pub fn states_of_plan_c()
     ensures three { state_at plan_c from_1_to_3 3 ≡ c_after_3 }
     ensures five { state_at plan_c from_1_to_3 5 ≡ c_after_5 }
-{
-}
+{}
 
 /// Steps over plan A: the first two, and five from there, of which one is left.
 pub fn steps_of_plan_a()
     ensures two { steps plan_a from_1_to_3 2 start_of_a ≡ ((1 ∷ 4 ∷ []) ∷ (1 ∷ 2 ∷ []) ∷ [], a_after_2) }
     ensures rest { steps plan_a from_1_to_3 5 a_after_2 ≡ ((3 ∷ []) ∷ [], a_after_3) }
-{
-}
+{}

@@ -9,7 +9,7 @@ ghost use Rattle.sabr_frontier.specs.Taking.{least_route, taken, new_count};
 ghost use Rattle.sabr_frontier.specs.Sound.{CanDivide, IsTree};
 ghost use Rattle.sabr_frontier.specs.Prepared.{IsReady};
 
-use crate::divide::{copied, divide, Division};
+use crate::divide::{Division, copied, divide};
 use crate::places::index_place;
 use crate::tree::{NodeId, Tree};
 use sabr_model::{NoMemory, Plan, Request, Route};
@@ -47,7 +47,15 @@ impl<A: Allocator + Copy> Tree<A> {
         };
         let numbers = route.contacts.as_slice();
         let copy = copied(alloc, route)?;
-        let division = divide(alloc, plan, request, finder, part, numbers, self.leaves.len())?;
+        let division = divide(
+            alloc,
+            plan,
+            request,
+            finder,
+            part,
+            numbers,
+            self.leaves.len(),
+        )?;
         let place = index_place(
             self.leaves.as_slice(),
             self.nodes.as_slice(),

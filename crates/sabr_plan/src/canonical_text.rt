@@ -23,7 +23,10 @@ const LAST_LINE: &[u8] = b"end\n";
 ///
 /// Fails with the writer; then a beginning of the text was written. It takes no memory, and doesn't flush. The text is
 /// this project's profile.
-pub fn canonical<W: Write, A: Allocator + Copy>(plan: &Plan<A>, writer: &mut W) -> Result<(), WriteFault>
+pub fn canonical<W: Write, A: Allocator + Copy>(
+    plan: &Plan<A>,
+    writer: &mut W,
+) -> Result<(), WriteFault>
     ensures { WritesText (W.contents writer.old) (W.failures writer.old) (canonical_text plan.now.plan) result (W.contents writer.new) (W.failures writer.new) }
 {
     write_text(writer, FIRST_LINE)?;

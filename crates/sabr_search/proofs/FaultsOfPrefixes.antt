@@ -30,44 +30,44 @@ no_end_of_six false false false false false false x h = cc
 
 fault_is_no_end : (p : ContactPlan) (r : RouteRequest) (q : List ℕ) (n : ℕ) → fault_at p r q n ≡ Some WrongEnd → ⊥
 fault_is_no_end p r q n h =
-  elim (contact_named p n) as (λ o. option_map_or (contact_fault p r q) o (Some (NoSuchContact (length q + 1))) ≡ Some WrongEnd → ⊥) [
-    | None ↦ λ e. cc
-    | Some c ↦ λ e.
-        no_end_of_six
-        (not (option_map_or (λ a. eqb a c.from) (chain_end p r.source q) false))
-        (has c.to (r.source ∷ receivers p q))
-        (is_none (light_of p c))
-        (is_none (option_and_then (λ t. arrival p r t c) (arrival_after p r r.at q)))
-        (has c.to r.avoided)
-        (not (leb (length q + 1) r.max_hops))
-        (length q + 1) e
-  ] h
+    elim (contact_named p n) as (λ o. option_map_or (contact_fault p r q) o (Some (NoSuchContact (length q + 1))) ≡ Some WrongEnd → ⊥) [
+      | None ↦ λ e. cc
+      | Some c ↦ λ e.
+          no_end_of_six
+          (not (option_map_or (λ a. eqb a c.from) (chain_end p r.source q) false))
+          (has c.to (r.source ∷ receivers p q))
+          (is_none (light_of p c))
+          (is_none (option_and_then (λ t. arrival p r t c) (arrival_after p r r.at q)))
+          (has c.to r.avoided)
+          (not (leb (length q + 1) r.max_hops))
+          (length q + 1) e
+    ] h
 
 -- no fault of the numbers is a wrong end
 faults_are_no_end : (p : ContactPlan) (r : RouteRequest) (q s : List ℕ) → first_fault p r q s ≡ Some WrongEnd → ⊥
 faults_are_no_end p r q [] h = cc
 faults_are_no_end p r q (n ∷ s) h =
-  elim (fault_at p r q n) as (λ o. fault_at p r q n ≡ o → fault_or o (first_fault p r (q ++ n ∷ []) s) ≡ Some WrongEnd → ⊥) [
-    | None ↦ λ e g. faults_are_no_end p r (q ++ n ∷ []) s g
-    | Some f ↦ λ e g. fault_is_no_end p r q n (e ∙ g)
-  ] refl h
+    elim (fault_at p r q n) as (λ o. fault_at p r q n ≡ o → fault_or o (first_fault p r (q ++ n ∷ []) s) ≡ Some WrongEnd → ⊥) [
+      | None ↦ λ e g. faults_are_no_end p r (q ++ n ∷ []) s g
+      | Some f ↦ λ e g. fault_is_no_end p r q n (e ∙ g)
+    ] refl h
 
 -- numbers whose end alone is wrong make a path
 wrong_end_is_path : (p : ContactPlan) (r : RouteRequest) (s : List ℕ) → fault_of p r s ≡ Some WrongEnd → IsTrue (is_path p r s)
 wrong_end_is_path p r [] h = absurd cc
 wrong_end_is_path p r (n ∷ s) h =
-  elim (first_fault p r [] (n ∷ s)) as (λ o. first_fault p r [] (n ∷ s) ≡ o → fault_or o (cond (ends_at p r (n ∷ s)) None (Some WrongEnd)) ≡ Some WrongEnd → IsTrue (is_path p r (n ∷ s))) [
-    | None ↦ λ e g. good_is_path p r [] (n ∷ s) (empty_is_path p r) e
-    | Some f ↦ λ e g. absurd (faults_are_no_end p r [] (n ∷ s) (e ∙ g))
-  ] refl h
+    elim (first_fault p r [] (n ∷ s)) as (λ o. first_fault p r [] (n ∷ s) ≡ o → fault_or o (cond (ends_at p r (n ∷ s)) None (Some WrongEnd)) ≡ Some WrongEnd → IsTrue (is_path p r (n ∷ s))) [
+      | None ↦ λ e g. good_is_path p r [] (n ∷ s) (empty_is_path p r) e
+      | Some f ↦ λ e g. absurd (faults_are_no_end p r [] (n ∷ s) (e ∙ g))
+    ] refl h
 
 -- such numbers are a prefix where they pass the destination by
 pub wrong_end_tells : (p : ContactPlan) (r : RouteRequest) (s : List ℕ) (f : HopFault) (node : ℕ) (entered : Bool) → fault_of p r s ≡ Some f → f ≡ WrongEnd → node ≡ r.destination → entered ≡ has node (receivers p s) → not entered ≡ is_prefix p r s
 unfolding is_prefix
 wrong_end_tells p r s f node entered h wrong same tells =
-  let path : is_path p r s ≡ true = wrong_end_is_path p r s (h ∙ ap Some wrong) in
-  let passes : entered ≡ has r.destination (receivers p s) = tells ∙ ap (λ x. has x (receivers p s)) same in
-  ap not passes ∙ ap (λ b. b && not (has r.destination (receivers p s))) (sym path)
+    let path : is_path p r s ≡ true = wrong_end_is_path p r s (h ∙ ap Some wrong) in
+    let passes : entered ≡ has r.destination (receivers p s) = tells ∙ ap (λ x. has x (receivers p s)) same in
+    ap not passes ∙ ap (λ b. b && not (has r.destination (receivers p s))) (sym path)
 
 end_or_none : (b : Bool) (f : HopFault) → cond b None (Some WrongEnd) ≡ Some f → f ≡ WrongEnd
 end_or_none true f h = absurd cc
@@ -77,7 +77,7 @@ end_or_none false f h = cc
 pub fault_is_no_prefix : (p : ContactPlan) (r : RouteRequest) (s : List ℕ) (f : HopFault) → 0 < length s → fault_of p r s ≡ Some f → (f ≡ WrongEnd → ⊥) → is_prefix p r s ≡ false
 fault_is_no_prefix p r [] f some h other = absurd (omega arith)
 fault_is_no_prefix p r (n ∷ s) f some h other =
-  false_from_ne_true (is_prefix p r (n ∷ s)) (λ is.
+    false_from_ne_true (is_prefix p r (n ∷ s)) (λ is.
     other (end_or_none (ends_at p r (n ∷ s)) f (ap (λ o. fault_or o (cond (ends_at p r (n ∷ s)) None (Some WrongEnd))) (sym (path_is_good p r [] (n ∷ s) (prefix_is_path p r (n ∷ s) is))) ∙ h)))
 
 -- the empty list is a prefix

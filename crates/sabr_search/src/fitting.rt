@@ -13,7 +13,9 @@ fn enters<A: Allocator + Copy>(plan: &Plan<A>, numbers: &[u32], node: u64) -> bo
     ensures { result ≡ has node (receivers plan.now.plan numbers.now) }
 {
     for number in numbers {
-        if let Some(contact) = plan.contact(*number) && node == contact.to {
+        if let Some(contact) = plan.contact(*number)
+            && node == contact.to
+        {
             return true;
         }
     }

@@ -16,7 +16,10 @@ fn a_plan_is_what_its_text_spells(rt: HostRuntime) -> Result<(), Fail> {
         assert_eq!(rt; plan.nodes(), 3);
     }
     assert_eq!(rt; read(rt.alloc(), b"")?.nodes(), 0);
-    assert_eq!(rt; read(rt.alloc(), b"\n \t\n# any \xff\x00 bytes\n#")?.nodes(), 0);
+    assert_eq!(rt;
+        read(rt.alloc(), b"\n \t\n# any \xff\x00 bytes\n#")?.nodes(),
+        0
+    );
     Ok(())
 }
 
@@ -25,23 +28,41 @@ fn the_first_bad_line_is_told(rt: HostRuntime) {
     let alloc = rt.alloc();
     let twice = b"a contact +0 +10 1 2 5\na contact +0 +10 1 2 5\n";
     assert_eq!(rt; fault_of(alloc, twice), Some((1, PlanKind::NoReference)));
-    assert_eq!(rt; fault_behind_reference(alloc, twice), Some((3, PlanKind::DuplicateContact)));
-    assert_eq!(rt; fault_of(alloc, b"@ 2030/01/01-00:00:00\n\n\na plan\n@\n"), Some((4, PlanKind::UnknownCommand)));
+    assert_eq!(rt;
+        fault_behind_reference(alloc, twice),
+        Some((3, PlanKind::DuplicateContact))
+    );
+    assert_eq!(rt;
+        fault_of(alloc, b"@ 2030/01/01-00:00:00\n\n\na plan\n@\n"),
+        Some((4, PlanKind::UnknownCommand))
+    );
 }
 
 #[test]
 fn of_one_line_the_least_kind_is_told(rt: HostRuntime) {
     for (line, kind) in [
-        (b"a contact +0 +10 1 2 5 1".as_slice(), PlanKind::WrongOperands),
+        (
+            b"a contact +0 +10 1 2 5 1".as_slice(),
+            PlanKind::WrongOperands,
+        ),
         (b"a contact +10 +10 1 2 5".as_slice(), PlanKind::EmptyWindow),
         (b"a contact +10 +10 0 2 5".as_slice(), PlanKind::BadNode),
         (b"a contact +0 +10 0 0 5".as_slice(), PlanKind::BadNode),
         (b"a range +0 +10 3 3 1".as_slice(), PlanKind::SelfPair),
-        (b"a range +0 +10 1 2 1000001".as_slice(), PlanKind::BadNumber),
+        (
+            b"a range +0 +10 1 2 1000001".as_slice(),
+            PlanKind::BadNumber,
+        ),
         (b"@ +5".as_slice(), PlanKind::BadTime),
-        (b"a contact +0 +0000000000005 1 2 5".as_slice(), PlanKind::BadTime),
+        (
+            b"a contact +0 +0000000000005 1 2 5".as_slice(),
+            PlanKind::BadTime,
+        ),
         (b"a contact +0 * 1 2 5".as_slice(), PlanKind::BadTime),
-        (b"a contact +0 +5 1 2 18446744073709551616".as_slice(), PlanKind::BadNumber),
+        (
+            b"a contact +0 +5 1 2 18446744073709551616".as_slice(),
+            PlanKind::BadNumber,
+        ),
         (b"a contact +0 +5 1 02 1".as_slice(), PlanKind::BadNode),
         (b"a contact +0 +5 1 2 1\r".as_slice(), PlanKind::BadByte),
     ] {
@@ -52,19 +73,40 @@ fn of_one_line_the_least_kind_is_told(rt: HostRuntime) {
 #[test]
 fn a_reference_is_a_time(rt: HostRuntime) {
     let alloc = rt.alloc();
-    assert_eq!(rt; fault_of(alloc, b"a contact +0 x 1 2 5"), Some((1, PlanKind::BadTime)));
-    assert_eq!(rt; fault_of(alloc, b"@ 2030/02/29-00:00:00"), Some((1, PlanKind::BadTime)));
+    assert_eq!(rt;
+        fault_of(alloc, b"a contact +0 x 1 2 5"),
+        Some((1, PlanKind::BadTime))
+    );
+    assert_eq!(rt;
+        fault_of(alloc, b"@ 2030/02/29-00:00:00"),
+        Some((1, PlanKind::BadTime))
+    );
     assert_eq!(rt; fault_of(alloc, b"@ 2032/02/29-00:00:00"), None);
-    assert_eq!(rt; fault_of(alloc, b"@ 9999/01/01-00:00:00"), Some((1, PlanKind::BadTime)));
+    assert_eq!(rt;
+        fault_of(alloc, b"@ 9999/01/01-00:00:00"),
+        Some((1, PlanKind::BadTime))
+    );
 }
 
 #[test]
 fn windows_of_one_pair_lie_apart(rt: HostRuntime) {
     let alloc = rt.alloc();
-    assert_eq!(rt; fault_behind_reference(alloc, b"a range +0 +10 1 2 1\na range +9 +20 1 2 1"), Some((3, PlanKind::RangeOverlap)));
-    assert_eq!(rt; fault_behind_reference(alloc, b"a range +0 +10 1 2 1\na range +10 +20 1 2 1"), None);
-    assert_eq!(rt; fault_behind_reference(alloc, b"a range +0 +10 1 2 1\na range +9 +20 2 1 1"), None);
-    assert_eq!(rt; fault_of(alloc, b"@ 9998/12/31-23:59:59\na contact +0 +1 1 2 1"), Some((2, PlanKind::BadTime)));
+    assert_eq!(rt;
+        fault_behind_reference(alloc, b"a range +0 +10 1 2 1\na range +9 +20 1 2 1"),
+        Some((3, PlanKind::RangeOverlap))
+    );
+    assert_eq!(rt;
+        fault_behind_reference(alloc, b"a range +0 +10 1 2 1\na range +10 +20 1 2 1"),
+        None
+    );
+    assert_eq!(rt;
+        fault_behind_reference(alloc, b"a range +0 +10 1 2 1\na range +9 +20 2 1 1"),
+        None
+    );
+    assert_eq!(rt;
+        fault_of(alloc, b"@ 9998/12/31-23:59:59\na contact +0 +1 1 2 1"),
+        Some((2, PlanKind::BadTime))
+    );
 }
 
 #[test]
@@ -76,7 +118,10 @@ fn lines_have_their_limits(rt: HostRuntime) -> Result<(), Fail> {
     }
     assert_eq!(rt; fault_of(rt.alloc(), &line), None);
     line.extend_from_slice(b".")?;
-    assert_eq!(rt; fault_of(rt.alloc(), &line), Some((1, PlanKind::LineTooLong)));
+    assert_eq!(rt;
+        fault_of(rt.alloc(), &line),
+        Some((1, PlanKind::LineTooLong))
+    );
     let mut lines = Vec::new(rt.alloc());
     for _ in 0..1000 {
         lines.extend_from_slice(&[b'\n'; 1000])?;
@@ -98,11 +143,20 @@ fn a_text_that_breaks_off_is_judged_as_far_as_it_goes(rt: HostRuntime) -> Result
             line = line.saturating_add(1);
         }
         let fault = read_in_pieces(alloc, front, 5, End::Fails).err();
-        assert_eq!(rt; fault.map(|f| (f.line, f.kind)), Some((line, PlanKind::Read)));
+        assert_eq!(rt;
+            fault.map(|f| (f.line, f.kind)),
+            Some((line, PlanKind::Read))
+        );
     }
     let first = PLAN_A.len() - 108;
-    assert_eq!(rt; fault_of(alloc, &PLAN_A[..first + 5]), Some((5, PlanKind::UnknownCommand)));
-    assert_eq!(rt; fault_of(alloc, &PLAN_A[..first + 21]), Some((5, PlanKind::WrongOperands)));
+    assert_eq!(rt;
+        fault_of(alloc, &PLAN_A[..first + 5]),
+        Some((5, PlanKind::UnknownCommand))
+    );
+    assert_eq!(rt;
+        fault_of(alloc, &PLAN_A[..first + 21]),
+        Some((5, PlanKind::WrongOperands))
+    );
     let short = read(alloc, &PLAN_A[..first + 23])?;
     assert_eq!(rt; short.contacts().len(), 1);
     assert_eq!(rt; short.contacts()[0].rate, 1);

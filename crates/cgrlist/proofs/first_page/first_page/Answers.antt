@@ -26,9 +26,9 @@ returns-clause-more g c =
     let plan = paged.plan ∙ ap (λ (s : Seen). s.plan) started in
     let request = paged.request ∙ ap (λ (s : Seen). s.request) started in
     let state =
-        paged.state
-        ∙ ap (λ (s : Seen). (steps s.plan.plan s.request c.args.count s.state).1) started
-        ∙ ap (λ (x : List (List ℕ) × State). x.1) (first_steps p r c.args.count c.requires.rules)
+    paged.state
+    ∙ ap (λ (s : Seen). (steps s.plan.plan s.request c.args.count s.state).1) started
+    ∙ ap (λ (x : List (List ℕ) × State). x.1) (first_steps p r c.args.count c.requires.rules)
     in
     c.more-more.ensures
     ∙ ap (λ (q : TabledPlan). is_some (next_route q.plan c.page.new.self.request c.page.new.self.state)) plan

@@ -15,4 +15,4 @@ returns-clause-value g c =
     let test = stands_before leaves nodes c.args.wanted.now in
     let first = partitioned test (IsBefore leaves nodes) (λ a b. earlier_prefix c.args.wanted.now (part_at leaves nodes a).prefix (part_at leaves nodes b).prefix) ids c.requires in
     passing_is test ids c.partition_point.result c.partition_point.ensures.bound
-        (IsPartitionPoint-from_clause test ids c.partition_point.result c.partition_point.ensures.partitioned first (λ a r q k. search (rules, of_calls)))
+    (IsPartitionPoint-from_clause test ids c.partition_point.result c.partition_point.ensures.partitioned first (λ a r q k. search (rules, of_calls)))

@@ -16,4 +16,4 @@ returns-clause-value g c =
     let test = λ (y : NodeId). beats x (route_at nodes y) in
     let first = partitioned test (IsAtOrBehind nodes) (λ a b. worse_too x (route_at nodes a) (route_at nodes b)) ids c.requires in
     passing_is test ids c.partition_point.result c.partition_point.ensures.bound
-        (IsPartitionPoint-from_clause test ids c.partition_point.result c.partition_point.ensures.partitioned first (λ a r q k. search (rules, of_calls)))
+    (IsPartitionPoint-from_clause test ids c.partition_point.result c.partition_point.ensures.partitioned first (λ a r q k. search (rules, of_calls)))

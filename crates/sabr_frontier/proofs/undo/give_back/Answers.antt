@@ -11,6 +11,6 @@ returns g c =
     let r = c.args.route in
     let items = c.args.nodes.now.items in
     let forgotten : c.forget.new.self ≡ without (slice_index r.contacts n.length) n.excluded =
-        c.forget.ensures ∙ ap (λ (s : List ℕ). without (slice_index s n.length) n.excluded) (c.as_slice.ensures ∙ ap numbers_of c.route.view_is) in
+    c.forget.ensures ∙ ap (λ (s : List ℕ). without (slice_index s n.length) n.excluded) (c.as_slice.ensures ∙ ap numbers_of c.route.view_is) in
     ap (λ (z : List ℕ). set items c.args.node.0 (record { leaf = n.leaf; length = n.length; excluded = z; route = Some r })) forgotten
     ∙ set-modify (given_back r) items c.args.node.0 n (omega arith) c.index_mut-part.ensures.value

@@ -21,7 +21,7 @@ returns-then-count-eq0-clause-routes g c =
     ] in
     let still = idle s.plan.now.plan s.request c.self.invariant.rules t c.self.invariant.sound k none in
     subst (λ (v : Seen). c.new-given.result.items ≡ map (record_of v.plan.plan v.request) (steps v.plan.plan v.request k v.state).0) c.self.view_is
-        (c.new-given.ensures.items ∙ sym (ap (λ (z : List (List ℕ) × State). map (record_of s.plan.now.plan s.request) z.0) still))
+    (c.new-given.ensures.items ∙ sym (ap (λ (z : List (List ℕ) × State). map (record_of s.plan.now.plan s.request) z.0) still))
 
 pub returns-then-count-eq0-clause-state : goal.returns-then-count-eq0-clause-state
 returns-then-count-eq0-clause-state g c =
@@ -54,7 +54,7 @@ returns-in_default-clause-free g c h =
     let t = shape_of s.tree in
     let some = some_there _ _ c.is_empty.ensures c.if-is_empty.false in
     absurd (carried_or_not s.plan.now.plan s.request c.self.invariant.rules t c.self.invariant.sound c.args.count (omega arith) (omega (arith, some))
-        (subst (λ (v : Seen). (c.args.count ≡ 0) ⊎ (next_route v.plan.plan v.request v.state ≡ None)) (sym c.self.view_is) h))
+    (subst (λ (v : Seen). (c.args.count ≡ 0) ⊎ (next_route v.plan.plan v.request v.state ≡ None)) (sym c.self.view_is) h))
 
 pub invariant_of-self-in-Ok-gather : goal.invariant_of-self-in-Ok-gather
 invariant_of-self-in-Ok-gather g c =
@@ -114,7 +114,7 @@ returns-in-Err-clause-free g c h =
     let t = shape_of s.tree in
     let some = some_there _ _ c.is_empty.ensures c.if-is_empty.false in
     absurd (carried_or_not s.plan.now.plan s.request c.self.invariant.rules t c.self.invariant.sound c.args.count (omega arith) (omega (arith, some))
-        (subst (λ (v : Seen). (c.args.count ≡ 0) ⊎ (next_route v.plan.plan v.request v.state ≡ None)) (sym c.self.view_is) h))
+    (subst (λ (v : Seen). (c.args.count ≡ 0) ⊎ (next_route v.plan.plan v.request v.state ≡ None)) (sym c.self.view_is) h))
 
 pub returns-then-count-eq0-clause-searches : goal.returns-then-count-eq0-clause-searches
 returns-then-count-eq0-clause-searches g c =
@@ -132,25 +132,25 @@ returns-then-count-eq0-clause-new_routes g c =
     let s = c.self.inside in
     let t = shape_of s.tree in
     subst (λ (v : Seen). GivesNewRoutes v.plan.plan v.request c.args.count v.state) c.self.view_is
-        (new_routes s.plan.now.plan s.request c.self.invariant.rules c.args.count (shown t) (sound_tree s.plan.now.plan s.request (length t.journal) t c.self.invariant.sound).formed)
+    (new_routes s.plan.now.plan s.request c.self.invariant.rules c.args.count (shown t) (sound_tree s.plan.now.plan s.request (length t.journal) t c.self.invariant.sound).formed)
 
 pub returns-in_default-clause-new_routes : goal.returns-in_default-clause-new_routes
 returns-in_default-clause-new_routes g c =
     let s = c.self.inside in
     let t = shape_of s.tree in
     subst (λ (v : Seen). GivesNewRoutes v.plan.plan v.request c.args.count v.state) c.self.view_is
-        (new_routes s.plan.now.plan s.request c.self.invariant.rules c.args.count (shown t) (sound_tree s.plan.now.plan s.request (length t.journal) t c.self.invariant.sound).formed)
+    (new_routes s.plan.now.plan s.request c.self.invariant.rules c.args.count (shown t) (sound_tree s.plan.now.plan s.request (length t.journal) t c.self.invariant.sound).formed)
 
 pub returns-in-Ok-gather-clause-new_routes : goal.returns-in-Ok-gather-clause-new_routes
 returns-in-Ok-gather-clause-new_routes g c =
     let s = c.self.inside in
     let t = shape_of s.tree in
     subst (λ (v : Seen). GivesNewRoutes v.plan.plan v.request c.args.count v.state) c.self.view_is
-        (new_routes s.plan.now.plan s.request c.self.invariant.rules c.args.count (shown t) (sound_tree s.plan.now.plan s.request (length t.journal) t c.self.invariant.sound).formed)
+    (new_routes s.plan.now.plan s.request c.self.invariant.rules c.args.count (shown t) (sound_tree s.plan.now.plan s.request (length t.journal) t c.self.invariant.sound).formed)
 
 pub returns-in-Err-clause-new_routes : goal.returns-in-Err-clause-new_routes
 returns-in-Err-clause-new_routes g c =
     let s = c.self.inside in
     let t = shape_of s.tree in
     subst (λ (v : Seen). GivesNewRoutes v.plan.plan v.request c.args.count v.state) c.self.view_is
-        (new_routes s.plan.now.plan s.request c.self.invariant.rules c.args.count (shown t) (sound_tree s.plan.now.plan s.request (length t.journal) t c.self.invariant.sound).formed)
+    (new_routes s.plan.now.plan s.request c.self.invariant.rules c.args.count (shown t) (sound_tree s.plan.now.plan s.request (length t.journal) t c.self.invariant.sound).formed)

@@ -20,7 +20,7 @@ enqueue_from-requires-clause-order g c =
     let popped = c.pop.ensures.rest ∙ vec_front t.queue in
     let queue : c.enqueue.new.queue.items ≡ enqueued N c.args.node (front t.queue.items) = c.enqueue.ensures.items ∙ (λ i. enqueued (one i) c.args.node (popped i)) in
     subst (λ z. InPairs (IsAtOrBehind z) c.enqueue.new.queue.items) (sym two)
-        (subst (InPairs (IsAtOrBehind N)) (sym queue) (enqueued_falls N c.args.node (front t.queue.items) c.requires.order))
+    (subst (InPairs (IsAtOrBehind N)) (sym queue) (enqueued_falls N c.args.node (front t.queue.items) c.requires.order))
 
 pub enqueue_from-requires-clause-room : goal.enqueue_from-requires-clause-room
 enqueue_from-requires-clause-room g c =
@@ -40,7 +40,7 @@ returns-clause-shape g c x e =
     let new : length c.as_slice-2.result.now - c.len-first.result ≡ length d.fresh.items = omega (arith, c.as_slice-2.ensures.len, c.in-Ok.ensures.len, c.in-Some.ensures.len, first) in
     let index = c.insert_block.ensures ∙ (λ i. with_block c.args.place (ids_from (first i) (count i)) t.index.items) in
     let queue = c.enqueue_from.ensures.items ∙ ap (λ n. enqueued_all c.as_slice-2.result.now (ids_from c.len-first.result n) c.enqueue.new.queue.items) new
-        ∙ (λ i. enqueued_all (two i) (ids_from (first i) (length d.fresh.items)) ((c.enqueue.ensures.items ∙ (λ j. enqueued (one j) c.args.node (popped j))) i)) in
+    ∙ (λ i. enqueued_all (two i) (ids_from (first i) (length d.fresh.items)) ((c.enqueue.ensures.items ∙ (λ j. enqueued (one j) c.args.node (popped j))) i)) in
     let route : c.in-Some.route ≡ x = let same : Some c.in-Some.route ≡ Some x = c.in-Some.ensures.route ∙ e in cc in
     let leaves = c.push_reserved-2.ensures.items ∙ ap (λ (z : RouteRecord). t.leaves.items ++ z ∷ []) route in
     let last : c.len.result ≡ length t.leaves.items = omega (arith, c.len.ensures) in

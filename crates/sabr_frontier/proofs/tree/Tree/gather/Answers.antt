@@ -65,7 +65,7 @@ loop-preserved g c =
       room = c.in_ok-searches.ensures.room;
       sum = subst (λ (z : Shape g.row.A.Denot). (c.loop.searches + c.in_ok-searches.field-0) + searches_in p r (c.args.count - (c.loop.counter + 1)) (shown z) ≡ searches_in p r c.args.count (shown first)) (sym c.in_ok-searches.ensures.ok)
           (counts_on p r t step (c.args.count - (c.loop.counter + 1)) c.loop.searches c.in_ok-searches.field-0 (searches_in p r c.args.count (shown first)) c.in_ok-searches.ensures.count
-              (subst (λ n. c.loop.searches + searches_in p r n (shown t) ≡ searches_in p r c.args.count (shown first)) left c.loop.invariant.sum));
+          (subst (λ n. c.loop.searches + searches_in p r n (shown t) ≡ searches_in p r c.args.count (shown first)) left c.loop.invariant.sum));
       few = omega (arith, step.few, c.in_ok-searches.ensures.count, c.loop.invariant.few, c.requires.hops);
     }
 

@@ -66,7 +66,7 @@ change-requires-clause-order g c =
     let node = c.in-Some.last.now in
     let last = sym (c.in-Some.ensures.value ∙ ap last_item c.deref.ensures.value) in
     subst (λ (z : Shape _). InPairs (IsAtOrBehind (nodes_then z.nodes node d.wide d.found d.fresh.items)) (front z.queue)) (sym c.reserve-2.ensures.same)
-        (rest_order c.args.plan.now.plan c.args.request.now t c.requires.tree node last d.wide d.found d.fresh.items)
+    (rest_order c.args.plan.now.plan c.args.request.now t c.requires.tree node last d.wide d.found d.fresh.items)
 
 pub change-requires-clause-short : goal.change-requires-clause-short
 change-requires-clause-short g c = omega (arith, c.requires.tree.short, ap (λ (z : Shape _). length z.queue) c.reserve-2.ensures.same, ap (λ (z : Shape _). length z.nodes) c.reserve-2.ensures.same)
@@ -95,7 +95,7 @@ returns-clause-given g c =
     let w = standing c.args.plan.now.plan c.args.request.now t c.requires.tree node last in
     let ready = c.in_ok-prepared.ensures w.0 w.1 w.2 w.3 in
     subst (λ (o : Option RouteRecord). IfSome o (λ x. c.push_reserved.new.self.items ≡ c.args.given.now.items ++ x ∷ [])) (sym (least_is t node w.0 w.1 last w.2 w.3))
-        (c.push_reserved.ensures.items ∙ (λ i. c.reserve.ensures.items i ++ ready.route i ∷ []))
+    (c.push_reserved.ensures.items ∙ (λ i. c.reserve.ensures.items i ++ ready.route i ∷ []))
 
 pub returns-clause-count : goal.returns-clause-count
 returns-clause-count g c =
