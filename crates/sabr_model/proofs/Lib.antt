@@ -18,6 +18,7 @@ pub mod Deletions
 pub mod RangeLemmas
 pub mod Tabled
 pub mod RangeKeys
+pub mod Gathers
 pub mod ReadyLemmas
 pub mod Openings
 pub mod PlanLemmas

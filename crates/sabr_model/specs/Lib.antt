@@ -4,6 +4,7 @@ pub mod Table
 pub mod Tabled
 pub mod Ready
 pub mod Adding
+pub mod Gathering
 pub mod Light
 pub mod RangeOrder
 pub mod Arrival

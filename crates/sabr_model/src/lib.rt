@@ -24,7 +24,7 @@ pub use following::follow;
 pub use hop::Hop;
 pub use laws::{candidates_hold_each_once, faults_tell_routes, law1, law2, law3};
 pub use numbers::Numbers;
-pub use plan::{Plan, arrive};
+pub use plan::{GatheredRanges, Plan, arrive};
 pub use request::Request;
 pub use route::Route;
 pub use rows::{

@@ -4,12 +4,15 @@ mod add_contact;
 mod add_range;
 mod arriving;
 mod delete;
+mod gathered_ranges;
 mod light;
+mod merging;
 mod nodes;
 pub mod places;
 mod ranges;
 mod ready;
 mod views;
+mod with_ranges;
 
 ghost use Rattle.std.specs.Prelude.{◌≡◌, []};
 
@@ -17,6 +20,7 @@ use crate::contact::{Contact, Range};
 use crate::hop::Hop;
 use crate::node_table::NodeTable;
 pub use arriving::arrive;
+pub use gathered_ranges::GatheredRanges;
 use indexmap::IndexMap;
 use std::alloc::{Allocator, Global};
 use std::marker::Model;
