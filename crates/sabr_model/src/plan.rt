@@ -5,6 +5,7 @@ mod add_range;
 mod arriving;
 mod delete;
 mod light;
+mod linked;
 mod nodes;
 pub mod places;
 mod ranges;
