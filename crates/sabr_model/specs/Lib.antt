@@ -2,6 +2,7 @@ pub mod Order
 pub mod Plan
 pub mod Table
 pub mod Tabled
+pub mod Links
 pub mod Ready
 pub mod Adding
 pub mod Gathering

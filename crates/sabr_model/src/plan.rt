@@ -6,6 +6,7 @@ mod arriving;
 mod delete;
 mod gathered_ranges;
 mod light;
+mod linked;
 mod merging;
 mod nodes;
 pub mod places;

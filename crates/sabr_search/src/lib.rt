@@ -10,6 +10,7 @@ mod layered;
 mod layers;
 mod limits;
 mod looks;
+mod over_link;
 mod part;
 mod pick;
 mod queue;

@@ -1,7 +1,7 @@
 use Rattle.std.proofs.Common.{◌≡◌, ◌+◌, ◌≤◌, length, slice_set, true}
 use Rattle.sabr_search.specs.Settling.{AreSettling, IsFallen}
 use Rattle.sabr_search.proofs.Forward.{AreKnown}
-use Rattle.sabr_search.proofs.settling.Settling.settle.Given as goal
+use Rattle.sabr_search.proofs.settling.Settling.settle_numbers.Given as goal
 
 abbrev pub invariant-loop-number : goal.invariant-loop-number
 invariant-loop-number g l = record {
