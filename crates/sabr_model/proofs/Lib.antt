@@ -20,6 +20,7 @@ pub mod Tabled
 pub mod RangeKeys
 pub mod Gathers
 pub mod ReadyLemmas
+pub mod LinkLemmas
 pub mod Openings
 pub mod PlanLemmas
 pub mod Rises
