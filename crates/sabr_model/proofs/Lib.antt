@@ -19,6 +19,7 @@ pub mod RangeLemmas
 pub mod Tabled
 pub mod RangeKeys
 pub mod ReadyLemmas
+pub mod LinkLemmas
 pub mod Openings
 pub mod PlanLemmas
 pub mod Rises

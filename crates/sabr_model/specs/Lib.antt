@@ -3,6 +3,7 @@ pub mod Plan
 pub mod Table
 pub mod Tabled
 pub mod Links
+pub mod Linking
 pub mod Ready
 pub mod Adding
 pub mod Light

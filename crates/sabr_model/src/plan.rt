@@ -19,6 +19,7 @@ use crate::hop::Hop;
 use crate::node_table::NodeTable;
 pub use arriving::arrive;
 use indexmap::IndexMap;
+use linked::NodeLinks;
 use std::alloc::{Allocator, Global};
 use std::marker::Model;
 
@@ -34,6 +35,7 @@ pub struct Plan<A: Allocator + Copy = Global> {
     greatest: u32,
     hops: Vec<Hop, A>,
     longest: Vec<u64, A>,
+    linked: Vec<NodeLinks<A>, A>,
     settled: bool,
 }
 
@@ -47,7 +49,7 @@ impl<A: Allocator + Copy> Model for Plan<A> {
 
     ghost view = { λ a. record { plan = record { contacts = a.contacts.items; ranges = a.ranges.items; greatest = a.greatest }; table = keys a.table } };
 
-    ghost invariant = { λ a. IsPlan (record { contacts = a.contacts.items; ranges = a.ranges.items; greatest = a.greatest }) × IsTableOf a.contacts.items a.table × IsReady a.settled (record { plan = record { contacts = a.contacts.items; ranges = a.ranges.items; greatest = a.greatest }; table = keys a.table }) a.hops.items a.longest.items };
+    ghost invariant = { λ a. IsPlan (record { contacts = a.contacts.items; ranges = a.ranges.items; greatest = a.greatest }) × IsTableOf a.contacts.items a.table × IsReady a.settled (record { plan = record { contacts = a.contacts.items; ranges = a.ranges.items; greatest = a.greatest }; table = keys a.table }) a.hops.items a.longest.items a.linked.items };
 }
 
 impl<A: Allocator + Copy> Plan<A> {
@@ -63,6 +65,7 @@ impl<A: Allocator + Copy> Plan<A> {
             greatest: 0,
             hops: Vec::new(alloc),
             longest: Vec::new(alloc),
+            linked: Vec::new(alloc),
             settled: false,
         }
     }
