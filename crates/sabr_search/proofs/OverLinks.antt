@@ -1,6 +1,15 @@
 -- What the bounds beside the passes of a link say of the steps over them.
-use Rattle.std.proofs.Common.{◌≡◌, ℕ, ◌+◌, ◌-◌, ◌<◌, ◌≤◌, max, List, length, take, drop, leb, true, false, Some, slice_get, slice_index_or, refl, sym, ap, ◌∙◌, arith}
+use Rattle.std.proofs.Common.{◌≡◌, ℕ, ◌+◌, ◌-◌, ◌<◌, ◌≤◌, max, ◌⊎◌, inl, inr, List, length, take, drop, leb, true, false, Some, slice_get, slice_index_or, refl, sym, ap, ◌∙◌, arith}
+use Rattle.std.specs.Prelude.{IfSome}
 use Rattle.std.specs.List.Sorted.{IsNonDecreasingBy}
+use Rattle.std.specs.declared.option.Option.{Option}
+use Rattle.std.specs.declared.option.Option.TheVariants.{None}
+use Rattle.sabr_search.specs.declared.layers.Reached.{Reached}
+use Rattle.sabr_search.specs.declared.layers.Best.{Best}
+use Rattle.sabr_search.specs.declared.pick.Step.{Step}
+use Rattle.sabr_search.specs.Deadlines.{IsInTime, AreTimed}
+use Rattle.sabr_search.specs.Picks.{IsAtMost}
+use Rattle.sabr_search.proofs.Backward.{in_time_open}
 use Rattle.std.proofs.lemmas.Option.{slice_get-get_or, slice_get_within, get_or_from_slice_get}
 use Rattle.sabr_model.specs.declared.contact.Contact.{Contact}
 use Rattle.sabr_model.specs.declared.hop.Hop.{Hop}
@@ -13,7 +22,7 @@ use Rattle.sabr_model.specs.Plan.{has}
 use Rattle.sabr_search.specs.Task.{SearchTask, IsTask, Takes}
 use Rattle.sabr_search.specs.Hops.{hop_arrival, IsSmall}
 use Rattle.sabr_search.specs.Steps.{IsHopAt}
-use Rattle.sabr_search.specs.Linked.{IsPassAt, IsLinkAt, HasNumber, passes_of}
+use Rattle.sabr_search.specs.Linked.{IsPassAt, IsLinkAt, HasNumber, passes_of, AreLinksAt}
 use Rattle.sabr_search.proofs.Arrivals.{arrival_parts}
 use Rattle.sabr_search.proofs.PlanFacts.{hop_small, light_small}
 use Rattle.sabr_search.proofs.Forward.{hop_takes}
@@ -111,3 +120,52 @@ module _ (task : SearchTask) (is : IsTask task) (u to : ℕ) (passes : List Pass
       let o = over_pass task is u to t y w b (link.each k y at_k) s in
       let kept = link.kept i k x y le at_i at_k in
       omega (arith, o.sum, late, kept.start, cost_rises task.request.margin x.least_light_behind y.light kept.light_behind)
+
+  pub starts_rise : IsNonDecreasingBy (λ (x : Pass). x.start) passes
+  starts_rise i j d le within =
+      (link.kept i j (slice_index_or passes i d) (slice_index_or passes j d) le (slice_get-get_or passes i d (omega (arith, le, within))) (slice_get-get_or passes j d within)).start
+
+  pub least_before_small : (k : ℕ) (x : Pass) → slice_get passes k ≡ Some x → x.least_light_before ≤ 1000000
+  least_before_small k x at =
+      let p = link.each k x at in
+      omega (arith, (link.kept k k x x (omega arith) at at).light_before, light_small task.plan is.plan p.contact x.light p.light)
+
+  -- nothing arrives before its pass starts, or before it is sent
+  pub starts_late : (t k : ℕ) (x : Pass) (w b : ℕ) → slice_get passes k ≡ Some x → Takes task x.number u t w b → (x.start ≤ b) × (t ≤ b)
+  starts_late t k x w b at s = let o = over_pass task is u to t x w b (link.each k x at) s in (omega (arith, o.sum), omega (arith, o.sum))
+
+  -- where a pass ends early, or arrives late with the lightest contact in front of it, none in front of it leaves later
+  pub none_later : (latest since before i : ℕ) (x : Pass) → slice_get passes i ≡ Some x → (x.latest_end ≤ max latest since) ⊎ (before ≤ latest + cost task.request.margin x.least_light_before) →
+      (k : ℕ) (y : Pass) (t w b : ℕ) → k ≤ i → slice_get passes k ≡ Some y → since ≤ t → Takes task y.number u t w b → b < before → t < latest
+  none_later latest since before i x at_i early k y t w b le at_k after s less =
+      let o = over_pass task is u to t y w b (link.each k y at_k) s in
+      let kept = link.kept k i y x le at_k at_i in
+      elim early [
+        | inl ended ↦ omega (arith, o.before_end, kept.end, ended, after)
+        | inr near ↦ omega (arith, o.sum, near, less, cost_rises task.request.margin x.least_light_before y.light kept.light_before)
+      ]
+
+-- a step over a link of a node leads to the link's receiver
+pub link_receiver : (task : SearchTask) → IsTask task → (u : ℕ) (links : List Link) (passes : List Pass) → AreLinksAt task u links passes → (i : ℕ) (l : Link) → slice_get links i ≡ Some l →
+    (n t w b : ℕ) → HasNumber (passes_of passes l) n → Takes task n u t w b → w ≡ l.receiver
+link_receiver task is u links passes are i l at n t w b has s =
+    (over_pass task is u l.receiver t has.1 w b ((are.each i l at).each has.0 has.1 has.2) (step_over task (passes_of passes l) n u t w b has s)).receiver
+
+-- what is at most a number is at most a greater one
+pub at_most_more : (o : Option Step) (m n : ℕ) → m ≤ n → IsAtMost o m → IsAtMost o n
+at_most_more None m n le h = absurd h
+at_most_more (Some s) m n le h = omega (arith, h)
+
+pub same_number : (passes : List Pass) (i k : ℕ) (x y : Pass) → slice_get passes i ≡ Some x → slice_get passes k ≡ Some y → k ≡ i → x.number ≡ y.number
+same_number passes i k x y at_i at_k same = ap (λ (p : Pass). p.number) (same_some (sym at_i ∙ ap (slice_get passes) (sym same) ∙ at_k))
+
+-- a step over a link that arrives before its deadline is a step in time
+pub chosen_from : (task : SearchTask) → IsTask task → (best : Best) (hop : ℕ) (bounds place : List ℕ) (reached : List Reached) → AreTimed task best hop bounds place reached → 0 < hop → (u t to before : ℕ) →
+    ((b : ℕ) → b < before → IsInTime task best bounds reached hop to b) → (o : Option Step) →
+    IfSome o (λ s. (s.node ≡ to) × (s.at < before) × (slice_index_or task.shut to false ≡ false → Takes task s.number u t to s.at)) →
+    IfSome o (λ s. Takes task s.number u t s.node s.at × IsInTime task best bounds reached hop s.node s.at)
+chosen_from task is best hop bounds place reached timed some u t to before in_time None h = tt
+chosen_from task is best hop bounds place reached timed some u t to before in_time (Some s) h =
+    let admits = in_time s.at h.1 in
+    let step = h.2 (in_time_open task is best hop bounds place reached timed some to s.at admits) in
+    rw h.0 (step, admits)

@@ -8,6 +8,8 @@ mod enter;
 mod fitting;
 mod layered;
 mod layers;
+mod least_link;
+mod leave_link;
 mod limits;
 mod looks;
 mod over_link;

@@ -23,7 +23,7 @@ pub fn link_passes<'a>(links: Links<'a>, link: &Link) -> &'a [Pass]
 }
 
 /// How many passes from the front of a link have ended by `at`; those behind may have ended as well.
-fn first_open<A: Allocator + Copy>(
+pub fn first_open<A: Allocator + Copy>(
     _task: &Task<'_, A>,
     _node: usize,
     _to: usize,
@@ -40,7 +40,7 @@ fn first_open<A: Allocator + Copy>(
 
 impl<'a, A: Allocator + Copy> Task<'a, A> {
     /// The record of a pass.
-    fn look_at(&self, looks: &mut Looks, _node: usize, to: usize, pass: &Pass) -> Hop
+    pub fn look_at(&self, looks: &mut Looks, _node: usize, to: usize, pass: &Pass) -> Hop
         requires pass { IsPassAt self.now _node to pass.now }
         requires task { IsTask self.now }
         requires few { looks.old.count < 2 ^ 62 }
@@ -53,7 +53,7 @@ impl<'a, A: Allocator + Copy> Task<'a, A> {
     }
 
     /// Whether what is at the sender at `at` arrives at `before` or later over this pass and over each behind it.
-    fn comes_late(&self, _node: usize, _to: usize, pass: &Pass, at: u64, before: u64) -> bool
+    pub fn comes_late(&self, pass: &Pass, at: u64, before: u64) -> bool
         requires task { IsTask self.now }
         requires light { pass.now.least_light_behind ≤ 1000000 }
         ensures { IsTrue result → before ≤ max at pass.now.start + cost self.now.request.margin pass.now.least_light_behind }
@@ -90,7 +90,7 @@ impl<'a, A: Allocator + Copy> Task<'a, A> {
         let mut least = before;
         for place in first_open(self, node, to, passes, at)..passes.len() {
             let pass = &passes[place];
-            if self.comes_late(node, to, pass, at, least) {
+            if self.comes_late(pass, at, least) {
                 return least;
             }
             let hop = self.look_at(looks, node, to, pass);

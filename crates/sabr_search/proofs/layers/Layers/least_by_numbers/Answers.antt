@@ -4,8 +4,8 @@ use Rattle.sabr_search.specs.Steps.{IsHopAt}
 use Rattle.sabr_search.proofs.Forward.{none_named, step_of_hop, excluded_by, allowed_by, late_behind}
 use Rattle.sabr_search.proofs.Backward.{step_in_time, in_time_by}
 use Rattle.sabr_search.proofs.Front.{least_more, least_found, least_missing, at_least_all}
-use Rattle.sabr_search.proofs.layers.Layers.least_step.Goals as goal
-use Rattle.sabr_search.proofs.layers.Layers.least_step.Goals.{in-Some-arrive_before, in_default-arrive_before}
+use Rattle.sabr_search.proofs.layers.Layers.least_by_numbers.Goals as goal
+use Rattle.sabr_search.proofs.layers.Layers.least_by_numbers.Goals.{in-Some-arrive_before, in_default-arrive_before}
 
 pub loop-number-preserved-then-is_excluded : goal.loop-number-preserved-then-is_excluded
 loop-number-preserved-then-is_excluded g c =

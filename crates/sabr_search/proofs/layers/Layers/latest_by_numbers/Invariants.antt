@@ -1,7 +1,7 @@
 use Rattle.std.proofs.Common.{◌≡◌, ℕ, ◌+◌, ◌≤◌, ◌<◌, Some, slice_get}
 use Rattle.sabr_search.specs.Task.{Takes}
 use Rattle.sabr_search.specs.Deadlines.{IsInTime}
-use Rattle.sabr_search.proofs.layers.Layers.latest.Given as goal
+use Rattle.sabr_search.proofs.layers.Layers.latest_by_numbers.Given as goal
 
 abbrev pub invariant-loop-number : goal.invariant-loop-number
 invariant-loop-number g l = record {

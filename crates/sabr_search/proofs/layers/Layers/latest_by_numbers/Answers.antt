@@ -5,7 +5,7 @@ use Rattle.sabr_search.specs.Steps.{IsHopAt}
 use Rattle.sabr_search.proofs.PlanFacts.{hop_at_window}
 use Rattle.sabr_search.proofs.Forward.{none_named, step_of_hop, last_or_before, late_behind}
 use Rattle.sabr_search.proofs.Backward.{step_in_time, in_time_by, number_of}
-use Rattle.sabr_search.proofs.layers.Layers.latest.Goals as goal
+use Rattle.sabr_search.proofs.layers.Layers.latest_by_numbers.Goals as goal
 
 pub loop-number-preserved-in_default : goal.loop-number-preserved-in_default
 loop-number-preserved-in_default g c =

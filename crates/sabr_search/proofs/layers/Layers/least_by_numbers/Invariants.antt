@@ -3,7 +3,7 @@ use Rattle.std.specs.Prelude.{IfSome}
 use Rattle.sabr_search.specs.Task.{Takes}
 use Rattle.sabr_search.specs.Deadlines.{IsInTime}
 use Rattle.sabr_search.specs.Picks.{IsAtMost}
-use Rattle.sabr_search.proofs.layers.Layers.least_step.Given as goal
+use Rattle.sabr_search.proofs.layers.Layers.least_by_numbers.Given as goal
 
 abbrev pub invariant-loop-number : goal.invariant-loop-number
 invariant-loop-number g l = record {

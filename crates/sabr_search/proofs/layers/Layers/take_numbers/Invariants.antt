@@ -2,7 +2,7 @@ use Rattle.std.proofs.Common.{◌≡◌, ℕ, ◌+◌, ◌≤◌}
 use Rattle.sabr_search.specs.Task.{Takes}
 use Rattle.sabr_search.specs.Lists.{IsLowered}
 use Rattle.sabr_search.proofs.Forward.{AreKnown}
-use Rattle.sabr_search.proofs.layers.Layers.take_all.Given as goal
+use Rattle.sabr_search.proofs.layers.Layers.take_numbers.Given as goal
 
 abbrev pub invariant-loop-number : goal.invariant-loop-number
 invariant-loop-number g l = record {

@@ -3,7 +3,7 @@ use Rattle.std.proofs.lemmas.Option.{slice_get-get_or, slice_get_within}
 use Rattle.sabr_search.specs.Task.{Takes}
 use Rattle.sabr_search.specs.Steps.{IsHopAt}
 use Rattle.sabr_search.proofs.Forward.{lowered_more, known_more, step_of_hop, hop_takes, allowed_by, excluded_by, late_behind, none_named, known_all}
-use Rattle.sabr_search.proofs.layers.Layers.take_all.Goals as goal
+use Rattle.sabr_search.proofs.layers.Layers.take_numbers.Goals as goal
 
 pub take-requires-clause-receiver : goal.take-requires-clause-receiver
 take-requires-clause-receiver g c = slice_get_within c.args.task.now.table c.in-Some.hop.receiver c.in-Some.ensures.value.contact.to c.in-Some.ensures.value.is.receiver
