@@ -10,8 +10,8 @@ use std::test::Fail;
 /// A part: prefix, excluded numbers, and the contacts of the route that it carries, none where it carries none.
 type PartRow = (&'static [u32], &'static [u32], &'static [u32]);
 
-/// A plan, the sizes of pages of its routes from node 1 to node 3, the searches that the last of them takes (or the start),
-/// and the parts behind them.
+/// A plan, the sizes of pages of its routes from node 1 to node 3, the searches that the last of them takes (where
+/// there is none, the start), and the parts behind them.
 struct Row {
     plan: Worked,
     pages: &'static [u32],

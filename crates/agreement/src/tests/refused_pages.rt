@@ -1,5 +1,5 @@
-//! Each growth of a page and of a start refused in turn: nothing shown changes, and with memory the same call gives what it
-//! has to give.
+//! Each growth of a page and of a start refused in turn: nothing shown changes, and with memory the same call gives
+//! what it has to give.
 
 use crate::tests::cases::{Case, Wrong};
 use crate::tests::plans::{ALL, PLAN_A, PLAN_C, Worked};
@@ -125,7 +125,7 @@ fn refused_pages_change_nothing(rt: HostRuntime) -> Result<(), Fail> {
         let mut refused = 0u64;
         for number in 1..1000u64 {
             let answer = page_refused_at(rt.alloc(), &ration, row, number);
-            assert!(rt; answer.is_ok(), "row {place}, growth {number}");
+            assert_eq!(rt; answer.err(), None, "row {place}, growth {number}");
             if answer == Ok(false) {
                 break;
             }
@@ -143,7 +143,7 @@ fn starts_are_refused(rt: HostRuntime) -> Result<(), Fail> {
         let mut refused = 0u64;
         for number in 1..1000u64 {
             let answer = start_refused_at(&ration, &plan, number);
-            assert!(rt; answer.is_ok(), "growth {number}");
+            assert_eq!(rt; answer.err(), None, "growth {number}");
             if answer == Ok(false) {
                 break;
             }

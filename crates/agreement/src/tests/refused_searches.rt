@@ -64,7 +64,7 @@ fn finders_answer_after_a_refusal(rt: HostRuntime) -> Result<(), Fail> {
         let mut refused = 0u64;
         for number in 1..1000u64 {
             let answer = either_refused_at(&ration, &plan, layered, number);
-            assert!(rt; answer.is_ok(), "layered {layered}, growth {number}");
+            assert_eq!(rt; answer.err(), None, "layered {layered}, growth {number}");
             if answer == Ok(false) {
                 break;
             }

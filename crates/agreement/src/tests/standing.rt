@@ -32,8 +32,8 @@ fn shared_before<A: Allocator + Copy>(
     most
 }
 
-/// How many searches a page takes that gives the routes from one place to another: for each route one for each hop behind
-/// the prefix of the part that carried it, which is what it shares with a route before it.
+/// How many searches a page takes that gives the routes from one place to another: for each route one for each hop
+/// behind the prefix of the part that carried it, which is what it shares with a route before it.
 pub fn searches_of<A: Allocator + Copy>(listing: &[Route<A>], start: usize, end: usize) -> u64 {
     let mut searches = 0u64;
     for (place, route) in listing.iter().enumerate().take(end).skip(start) {
@@ -44,8 +44,8 @@ pub fn searches_of<A: Allocator + Copy>(listing: &[Route<A>], start: usize, end:
     searches
 }
 
-// How many parts are left at a place: at first one, and then one for each beginning of a given route that is shorter than
-// it, each once.
+// How many parts are left at a place: at first one, and then one for each beginning of a given route that is shorter
+// than it, each once.
 fn parts_at<A: Allocator + Copy>(listing: &[Route<A>], place: usize) -> usize {
     let mut parts = 1usize;
     for (former, route) in listing.iter().enumerate().take(place) {

@@ -78,7 +78,8 @@ impl<'p, 'l, B: BestOf<A>, A: Allocator + Copy> Walk<'p, 'l, B, A> {
         self.stands()
     }
 
-    /// Takes the last page that gave routes back, where there is one; else nothing has to change. Answers whether there was.
+    /// Takes the last page that gave routes back, where there is one; else nothing has to change. Answers whether there
+    /// was one.
     pub fn back(&mut self) -> Result<bool, Wrong> {
         let taken = self.session.back();
         match self.former.pop() {

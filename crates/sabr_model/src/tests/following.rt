@@ -1,78 +1,68 @@
 //! Lists of contacts over plan A, followed.
 
 use super::{BEGIN, plan_a};
-use crate::{AddFault, HopFault, Request, RequestError, follow};
+use crate::{AddFault, HopFault, Plan, Request, RequestError, follow};
+use std::alloc::Global;
 use std::test::*;
 
-#[test]
-fn follows_lists(rt: HostRuntime) -> Result<(), Fail> {
-    let plan = plan_a(rt.alloc()).ok().ok_or("memory")?;
-    let request = Request::new(1, 3, BEGIN, 0).ok().ok_or("refused")?;
-    assert_eq!(rt; follow(&plan, &request, &[1, 2]), Ok(BEGIN + 25));
-    assert_eq!(rt; follow(&plan, &request, &[1, 4]), Ok(BEGIN + 15));
-    assert_eq!(rt; follow(&plan, &request, &[3]), Ok(BEGIN + 90));
-    assert_eq!(rt; follow(&plan, &request, &[]), Err(HopFault::Empty));
-    assert_eq!(rt; follow(&plan, &request, &[2]), Err(HopFault::NotChained(1)));
-    assert_eq!(rt;
-        follow(&plan, &request, &[1, 9]),
-        Err(HopFault::NoSuchContact(2))
-    );
-    assert_eq!(rt; follow(&plan, &request, &[1]), Err(HopFault::WrongEnd));
-    Ok(())
+/// What is asked from 1 to 3 (seconds after `BEGIN`, limit on hops, nodes to avoid), a list of contacts, and its delivery in
+/// seconds after `BEGIN`, or its fault.
+type Row = (
+    u32,
+    u32,
+    &'static [u64],
+    &'static [u32],
+    Result<u32, HopFault>,
+);
+
+/// Over plan A with contact 5 from 2 to 1 and contact 6 from 2 to 4, which has no light time.
+const ROWS: [Row; 13] = [
+    (0, 20000, &[], &[1, 2], Ok(25)),
+    (0, 20000, &[], &[1, 4], Ok(15)),
+    (0, 20000, &[], &[3], Ok(90)),
+    (0, 20000, &[], &[], Err(HopFault::Empty)),
+    (0, 20000, &[], &[2], Err(HopFault::NotChained(1))),
+    (0, 20000, &[], &[1, 9], Err(HopFault::NoSuchContact(2))),
+    (0, 20000, &[], &[1], Err(HopFault::WrongEnd)),
+    (0, 20000, &[], &[1, 5], Err(HopFault::NodeAgain(2))),
+    (0, 20000, &[], &[1, 6], Err(HopFault::NoLight(2))),
+    (90, 20000, &[], &[3], Err(HopFault::TooLate(1))),
+    (0, 1, &[], &[1, 2], Err(HopFault::TooManyHops(2))),
+    (0, 20000, &[2], &[1, 2], Err(HopFault::AvoidedNode(1))),
+    (0, 20000, &[2], &[3], Ok(90)),
+];
+
+fn plan_of_rows(alloc: Global) -> Result<Plan, AddFault> {
+    let mut plan = plan_a(alloc)?;
+    plan.add_contact(2, 1, BEGIN, BEGIN + 100, 1)?;
+    plan.add_contact(2, 4, BEGIN, BEGIN + 100, 1)?;
+    Ok(plan)
+}
+
+fn asked(after: u32, max_hops: u32, avoid: &[u64]) -> Result<Request, RequestError> {
+    Request::new(1, 3, BEGIN + after as u64, 0)?.with_limits(max_hops, avoid)
+}
+
+fn answers(plan: &Plan, row: Row) -> bool {
+    let (after, max_hops, avoid, numbers, answer) = row;
+    let Ok(request) = asked(after, max_hops, avoid) else {
+        return false;
+    };
+    match (follow(plan, &request, numbers), answer) {
+        (Ok(delivery), Ok(wanted)) => delivery == BEGIN + wanted as u64,
+        (Err(fault), Err(wanted)) => fault == wanted,
+        _ => false,
+    }
 }
 
 #[test]
-fn follows_within_limits(rt: HostRuntime) -> Result<(), Fail> {
-    let plan = plan_a(rt.alloc()).ok().ok_or("memory")?;
-    let short = Request::new(1, 3, BEGIN, 0).ok().ok_or("refused")?;
-    let short = short.with_limits(1, &[]).ok().ok_or("refused")?;
-    assert_eq!(rt;
-        follow(&plan, &short, &[1, 2]),
-        Err(HopFault::TooManyHops(2))
-    );
-    let around = short.with_limits(20000, &[2]).ok().ok_or("refused")?;
-    assert_eq!(rt;
-        follow(&plan, &around, &[1, 2]),
-        Err(HopFault::AvoidedNode(1))
-    );
-    assert_eq!(rt; follow(&plan, &around, &[3]), Ok(BEGIN + 90));
-    Ok(())
-}
-
-#[test]
-fn tells_each_other_fault(rt: HostRuntime) -> Result<(), Fail> {
-    let mut plan = plan_a(rt.alloc()).ok().ok_or("memory")?;
-    assert_eq!(rt; plan.add_contact(2, 1, BEGIN, BEGIN + 100, 1), Ok(5));
-    assert_eq!(rt; plan.add_contact(2, 4, BEGIN, BEGIN + 100, 1), Ok(6));
-    let request = Request::new(1, 3, BEGIN, 0).ok().ok_or("refused")?;
-    let late = Request::new(1, 3, BEGIN + 90, 0).ok().ok_or("refused")?;
-    assert_eq!(rt;
-        follow(&plan, &request, &[1, 5]),
-        Err(HopFault::NodeAgain(2))
-    );
-    assert_eq!(rt; follow(&plan, &request, &[1, 6]), Err(HopFault::NoLight(2)));
-    assert_eq!(rt; follow(&plan, &late, &[3]), Err(HopFault::TooLate(1)));
+fn lists_are_followed(rt: HostRuntime) -> Result<(), Fail> {
+    let mut plan = plan_of_rows(rt.alloc())?;
+    for row in ROWS {
+        assert!(rt; answers(&plan, row), "{:?}", row.3);
+    }
     assert_eq!(rt; plan.delete_contact(1, 3, BEGIN + 50), Ok(3));
-    assert_eq!(rt;
-        follow(&plan, &request, &[3]),
-        Err(HopFault::NoSuchContact(1))
-    );
-    Ok(())
-}
-
-#[test]
-fn faults_have_texts(rt: HostRuntime) -> Result<(), Fail> {
-    let fault = HopFault::TooLate(2);
-    assert_eq!(rt;
-        format!(in rt.alloc(); "{fault}")?.as_str(),
-        "hop 2: too late"
-    );
-    let fault = AddFault::TooMany;
-    assert_eq!(rt;
-        format!(in rt.alloc(); "{fault}")?.as_str(),
-        "too many contacts or ranges"
-    );
-    let fault = RequestError::BadNode;
-    assert_eq!(rt; format!(in rt.alloc(); "{fault}")?.as_str(), "a node is 0");
+    let row: Row = (0, 20000, &[], &[3], Err(HopFault::NoSuchContact(1)));
+    assert!(rt; answers(&plan, row));
     Ok(())
 }

@@ -5,50 +5,44 @@ use crate::{AddFault, Plan};
 use ration::Ration;
 use std::test::*;
 
+// Adds the first contact to an empty plan, with this growth refused; and then again, with memory.
+fn refused_at(ration: &Ration, number: u64) -> bool {
+    let mut plan = Plan::new(ration);
+    ration.refuse(number);
+    let refused = plan.add_contact(7, 8, BEGIN, BEGIN + 10, 1);
+    let empty = plan.contacts().is_empty() && plan.nodes() == 0 && plan.from_node(7).is_empty();
+    let again = plan.add_contact(7, 8, BEGIN, BEGIN + 10, 1);
+    refused == Err(AddFault::NoMemory) && empty && again == Ok(1)
+}
+
 #[test]
-fn refused_contacts_leave_the_plan(rt: HostRuntime) -> Result<(), Fail> {
+fn refused_contacts_leave_the_plan(rt: HostRuntime) {
     let ration = Ration::new(rt.alloc(), 0);
     let mut first = Plan::new(&ration);
-    ration.refuse(0);
     assert_eq!(rt; first.add_contact(7, 8, BEGIN, BEGIN + 10, 1), Ok(1));
     let requests = ration.requests();
     assert!(rt; requests > 3);
     for number in 1..=requests {
-        let mut plan = Plan::new(&ration);
-        ration.refuse(number);
-        assert_eq!(rt;
-            plan.add_contact(7, 8, BEGIN, BEGIN + 10, 1),
-            Err(AddFault::NoMemory),
-            "at {number}"
-        );
-        assert_eq!(rt; plan.contacts().len(), 0);
-        assert_eq!(rt; plan.nodes(), 0);
-        assert_eq!(rt; plan.from_node(7).len(), 0);
-        assert_eq!(rt; plan.add_contact(7, 8, BEGIN, BEGIN + 10, 1), Ok(1));
+        assert!(rt; refused_at(&ration, number), "at {number}");
     }
-    ration.refuse(0);
-    Ok(())
 }
 
 #[test]
-fn refused_ranges_leave_the_plan(rt: HostRuntime) -> Result<(), Fail> {
+fn refused_ranges_leave_the_plan(rt: HostRuntime) {
     let ration = Ration::new(rt.alloc(), 0);
     let mut plan = Plan::new(&ration);
     ration.refuse(1);
-    assert_eq!(rt;
-        plan.add_range(1, 2, BEGIN, BEGIN + 10, 1),
-        Err(AddFault::NoMemory)
-    );
+    let refused = plan.add_range(1, 2, BEGIN, BEGIN + 10, 1);
+    assert_eq!(rt; refused, Err(AddFault::NoMemory));
     assert_eq!(rt; plan.ranges().len(), 0);
     assert_eq!(rt; plan.add_range(1, 2, BEGIN, BEGIN + 10, 1), Ok(()));
     assert_eq!(rt; ration.requests(), 2);
-    Ok(())
 }
 
 #[test]
 fn deletions_take_no_memory(rt: HostRuntime) -> Result<(), Fail> {
     let ration = Ration::new(rt.alloc(), 0);
-    let mut plan = plan_a(&ration).ok().ok_or("plan")?;
+    let mut plan = plan_a(&ration)?;
     ration.refuse(1);
     assert_eq!(rt; plan.delete_contact(2, 3, BEGIN), Ok(4));
     assert_eq!(rt; plan.delete_range(1, 2, BEGIN), Ok(()));

@@ -4,13 +4,21 @@ use crate::{Numbers, Route};
 use std::alloc::{AllocError, Global};
 use std::test::*;
 
-fn route(
-    alloc: Global,
-    contacts: &[u32],
-    delivery: u64,
-    until: u64,
-    entry: u64,
-) -> Result<Route, AllocError> {
+/// Contacts, delivery, termination time and entry node.
+type Row = (&'static [u32], u64, u64, u64);
+
+const RISING: [Row; 7] = [
+    (&[1, 2, 3], 9, 50, 2),
+    (&[9], 10, 50, 2),
+    (&[1, 9], 10, 50, 2),
+    (&[2, 1], 10, 50, 2),
+    (&[2, 1], 10, 60, 1),
+    (&[2, 1], 10, 60, 2),
+    (&[1], 11, 10, 1),
+];
+
+fn route(alloc: Global, row: Row) -> Result<Route, AllocError> {
+    let (contacts, delivery, until, entry) = row;
     Ok(Route {
         contacts: Numbers::new(Vec::from_slice(alloc, contacts)?),
         delivery,
@@ -21,18 +29,11 @@ fn route(
 
 #[test]
 fn rise_by_delivery_hops_and_numbers(rt: HostRuntime) -> Result<(), Fail> {
-    let rising = [
-        route(rt.alloc(), &[1, 2, 3], 9, 50, 2)?,
-        route(rt.alloc(), &[9], 10, 50, 2)?,
-        route(rt.alloc(), &[1, 9], 10, 50, 2)?,
-        route(rt.alloc(), &[2, 1], 10, 50, 2)?,
-        route(rt.alloc(), &[2, 1], 10, 60, 1)?,
-        route(rt.alloc(), &[2, 1], 10, 60, 2)?,
-        route(rt.alloc(), &[1], 11, 10, 1)?,
-    ];
-    for (i, one) in rising.iter().enumerate() {
-        for (j, other) in rising.iter().enumerate() {
-            assert_eq!(rt; one.cmp(other), i.cmp(&j));
+    for (i, row) in RISING.iter().enumerate() {
+        let one = route(rt.alloc(), *row)?;
+        for (j, row) in RISING.iter().enumerate() {
+            let other = route(rt.alloc(), *row)?;
+            assert_eq!(rt; one.cmp(&other), i.cmp(&j));
             assert_eq!(rt; one == other, i == j);
         }
     }
