@@ -33,7 +33,7 @@ same_some h = cc
 
 -- what stands where a list of passes has no more
 abbrev pub no_pass : Pass
-no_pass = record { number = 0; light = 0; start = 0; end = 0; latest_end = 0; least_light_before = 0; least_light_behind = 0; least_number_behind = 0 }
+no_pass = record { number = 0; receiver = 0; light = 0; start = 0; end = 0; latest_end = 0; least_light_before = 0; least_light_behind = 0; least_number_behind = 0 }
 
 abbrev pub no_link : Link
 no_link = record { receiver = 0; first = 0; end = 0 }
