@@ -27,11 +27,16 @@ fn first<'a>(alloc: Global) -> Result<Command<'a>, AllocError> {
     with_request(alloc, plan)?.arg(required(alloc, "count"))
 }
 
+fn check<'a>(alloc: Global) -> Result<Command<'a>, AllocError> {
+    Command::new(alloc, "check").arg(required(alloc, "plan"))
+}
+
 fn program<'a>(alloc: Global) -> Result<Command<'a>, AllocError> {
     Command::new(alloc, "cgrlist")
         .no_binary_name(true)
         .subcommand_required(true)
-        .subcommand(first(alloc)?)
+        .subcommand(first(alloc)?)?
+        .subcommand(check(alloc)?)
 }
 
 /// What the words behind the program's name say. A call for help is a refusal, too, with the help as its text.

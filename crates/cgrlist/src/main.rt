@@ -1,6 +1,8 @@
 //! The program `cgrlist`: lists the routes of a contact plan, best first.
 #![tactic(auto)]
 
+mod check_run;
+mod check_text;
 mod command_line;
 mod failure;
 mod first_page;

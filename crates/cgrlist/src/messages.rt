@@ -35,7 +35,7 @@ fn kind_text(kind: PlanKind) -> &'static str
 }
 
 /// Writes the texts one behind the other, or fails with the writer at its first failure.
-fn write_texts<W: Write>(writer: &mut W, texts: &[&str]) -> Result<(), WriteFault>
+pub fn write_texts<W: Write>(writer: &mut W, texts: &[&str]) -> Result<(), WriteFault>
     ensures { WritesText (W.contents writer.old) (W.failures writer.old) (concat (map (λ t. t.now) texts.now)) result (W.contents writer.new) (W.failures writer.new) }
 {
     for text in texts {

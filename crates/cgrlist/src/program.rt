@@ -1,5 +1,6 @@
 //! The program: words, files and the runs over them.
 
+use crate::check_run::run_check;
 use crate::command_line::parsed;
 use crate::failure::Failure;
 use crate::messages::tell;
@@ -79,6 +80,7 @@ fn run_command<R: Files + AllocGlobal, O: Write, E: Write>(
 ) -> Status {
     match matches.subcommand() {
         Some(("first", values)) => run_first_words(rt, values, out, err),
+        Some(("check", values)) => run_check_words(rt, values, out, err),
         _ => Status::Usage,
     }
 }
@@ -96,8 +98,29 @@ fn run_first_words<R: Files + AllocGlobal, O: Write, E: Write>(
     };
     let request = values.request.unwrap();
     let count = values.count.unwrap();
-    let Ok(file) = fs::open(rt, matches.get_str("plan").unwrap_or("")) else {
-        return tell(err, Failure::CannotOpenPlan);
-    };
-    run_first(rt.alloc(), &mut Device::new(file), request, count, out, err)
+    match open_plan(rt, matches) {
+        Ok(mut plan) => run_first(rt.alloc(), &mut plan, request, count, out, err),
+        Err(failure) => tell(err, failure),
+    }
+}
+
+// Tells what the plan that the words name holds.
+fn run_check_words<R: Files + AllocGlobal, O: Write, E: Write>(
+    rt: &R,
+    matches: &ArgMatches<'_>,
+    out: &mut O,
+    err: &mut E,
+) -> Status {
+    match open_plan(rt, matches) {
+        Ok(mut plan) => run_check(rt.alloc(), &mut plan, out, err),
+        Err(failure) => tell(err, failure),
+    }
+}
+
+// Opens the plan's file that the words name.
+fn open_plan<R: Files>(rt: &R, matches: &ArgMatches<'_>) -> Result<Device<R::File>, Failure> {
+    match fs::open(rt, matches.get_str("plan").unwrap_or("")) {
+        Ok(file) => Ok(Device::new(file)),
+        Err(_) => Err(Failure::CannotOpenPlan),
+    }
 }

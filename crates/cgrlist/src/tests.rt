@@ -1,5 +1,6 @@
 //! Runs of the program over files, readers and writers.
 
+mod checks;
 mod devices;
 mod listings;
 mod plans;

@@ -12,6 +12,8 @@ mod root;
 mod rows;
 mod session;
 mod take;
+#[cfg(test)]
+mod tests;
 mod tree;
 mod undo;
 mod views;

@@ -15,7 +15,9 @@ use sabr_search::BestOf;
 use std::alloc::{Allocator, Global};
 use std::marker::Model;
 
-/// A listing of the routes of a plan for a request, as far as they were given.
+/// A listing of the routes of a plan for a request, as far as they were given: the parts that are left (Yen,
+/// Lawler), each with its least route. Contracts see the plan, the request, the state, the states that `back` leads
+/// to, the latest first, and the count of searches.
 #[derive(Drop)]
 pub struct Session<'p, B: BestOf<A>, A: Allocator + Copy = Global> {
     alloc: A,
@@ -38,7 +40,11 @@ impl<'p, B: BestOf<A>, A: Allocator + Copy> Model for Session<'p, B, A> {
 }
 
 impl<'p, B: BestOf<A>, A: Allocator + Copy> Session<'p, B, A> {
-    /// A session of which no route was given yet. A refusal drops the finder.
+    /// A session of which no route was given yet. It takes one search.
+    ///
+    /// # Errors
+    ///
+    /// [`NoMemory`] where a growth was refused. The finder is dropped.
     pub fn start(
         alloc: A,
         plan: &'p Plan<A>,
@@ -63,7 +69,15 @@ impl<'p, B: BestOf<A>, A: Allocator + Copy> Session<'p, B, A> {
         })
     }
 
-    /// The next `count` routes, or all that are left if they are fewer.
+    /// The next `count` routes, at most 10000, or all that are left if they are fewer. They come by key: by
+    /// delivery, then by number of hops, then by contact numbers (this project's profile).
+    ///
+    /// A route takes a search for each of its hops behind the prefix of the part that carried it. No part is
+    /// copied. Where no route is asked for, or none is left, no memory is taken.
+    ///
+    /// # Errors
+    ///
+    /// [`NoMemory`] where a growth was refused. All is shown as before, and the same call can be made again.
     pub fn page(&mut self, count: u32) -> Result<Vec<Route<A>, A>, NoMemory>
         requires { count ≤ 10000 }
         ensures routes { IfOk result (λ given. given.items ≡ map (record_of self.old.plan.plan self.old.request) (steps self.old.plan.plan self.old.request count self.old.state).0) }
@@ -105,8 +119,8 @@ impl<'p, B: BestOf<A>, A: Allocator + Copy> Session<'p, B, A> {
         }
     }
 
-    /// Takes the last page that gave routes back. It needs no memory. False, and nothing changes, where there
-    /// is none.
+    /// Takes the last page back that gave routes and wasn't taken back yet: the state is the one before it. False,
+    /// and nothing changes, where there is none. It takes no memory, and a pass over the parts for each route.
     pub fn back(&mut self) -> bool
         ensures yes { IsTrue result → self.new.state ∷ self.new.former ≡ self.old.former }
         ensures searches { IsTrue result → self.new.searches ≡ 0 }
@@ -123,28 +137,28 @@ impl<'p, B: BestOf<A>, A: Allocator + Copy> Session<'p, B, A> {
         true
     }
 
-    /// Whether a page that gave routes can be taken back.
+    /// Whether there is a page to take back: one that gave routes and wasn't taken back yet.
     pub fn can_back(&self) -> bool
         ensures { IsTrue result ↔ (0 < length self.now.former) }
     {
         !self.pages.is_empty()
     }
 
-    /// How many routes were given.
+    /// How many routes were given and not taken back.
     pub fn emitted(&self) -> u128
         ensures { result ≡ self.now.state.emitted }
     {
         self.tree.leaves.len() as u128
     }
 
-    /// Whether some part carries a route.
+    /// Whether routes are left: whether some part carries one.
     pub fn more(&self) -> bool
         ensures { result ≡ is_some (next_route self.now.plan.plan self.now.request self.now.state) }
     {
         !self.tree.queue.is_empty()
     }
 
-    /// The last route given, empty where none was.
+    /// The contact numbers of the last route given, none where none was.
     pub fn last(&self) -> &[u32]
         ensures { result.now ≡ self.now.state.last }
     {
@@ -164,7 +178,7 @@ impl<'p, B: BestOf<A>, A: Allocator + Copy> Session<'p, B, A> {
         self.tree.index.len()
     }
 
-    /// The parts, rising by prefix, all borrowed; those without a route are among them.
+    /// The parts, rising by prefix, all borrowed; those without a route are among them. A step for each, and no memory.
     pub fn parts(&self) -> Parts<'_, A>
         ensures { told_left result ≡ map (told_part self.now.plan.plan self.now.request) self.now.state.parts }
     {
@@ -175,22 +189,22 @@ impl<'p, B: BestOf<A>, A: Allocator + Copy> Session<'p, B, A> {
         }
     }
 
-    /// How many times the finder was asked in the last call of `start` or `page` that was answered, and 0 after
-    /// a `back` that was true.
+    /// How many searches the last call of `start` or `page` took that was answered, each a call of the finder, and
+    /// 0 after a `back` that was true.
     pub fn searches(&self) -> u64
         ensures { result ≡ self.now.searches }
     {
         self.searches
     }
 
-    /// The plan.
+    /// The plan whose routes are listed.
     pub fn plan(&self) -> &'p Plan<A>
         ensures { result.now ≡ self.now.plan }
     {
         self.plan
     }
 
-    /// The request.
+    /// The request that they answer.
     pub fn request(&self) -> &Request
         ensures { result.now ≡ self.now.request }
     {

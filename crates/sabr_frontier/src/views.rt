@@ -12,8 +12,11 @@ use std::alloc::{Allocator, Global};
 /// least route, or none where it has no route.
 #[derive(Drop)]
 pub struct PartView<'a, A: Allocator + Copy = Global> {
+    /// The contact numbers that each route of the part begins with.
     pub prefix: &'a [u32],
+    /// The contact numbers that no route of the part takes next, rising.
     pub excluded: &'a [u32],
+    /// The least route of the part by key.
     pub route: Option<&'a Route<A>>,
 }
 

@@ -18,7 +18,9 @@ pub mod Deletions
 pub mod RangeLemmas
 pub mod Tabled
 pub mod RangeKeys
+pub mod Gathers
 pub mod ReadyLemmas
+pub mod LinkLemmas
 pub mod Openings
 pub mod PlanLemmas
 pub mod Rises

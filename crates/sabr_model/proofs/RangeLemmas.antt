@@ -25,7 +25,7 @@ pub record IsAcceptedRange (p : ContactPlan) (r : Range) : Type 0 where
   pub room : length p.ranges < 20000
 
 -- where no refusal comes, each test failed
-choice : (a b c d : Bool) → cond a (Some EmptyWindow) (cond b (Some SelfPair) (cond c (Some RangeOverlap) (cond d (Some TooMany) None))) ≡ None → (a ≡ false) × (b ≡ false) × (c ≡ false) × (d ≡ false)
+pub choice : (a b c d : Bool) → cond a (Some EmptyWindow) (cond b (Some SelfPair) (cond c (Some RangeOverlap) (cond d (Some TooMany) None))) ≡ None → (a ≡ false) × (b ≡ false) × (c ≡ false) × (d ≡ false)
 choice true b c d e = absurd cc
 choice false true c d e = absurd cc
 choice false false true d e = absurd cc

@@ -9,6 +9,7 @@ use Rattle.std.proofs.lemmas.Option.{slice_get-get_or}
 use Rattle.indexmap.specs.IndexMap.{IndexMap, keys}
 use Rattle.sabr_model.specs.declared.contact.Contact.{Contact}
 use Rattle.sabr_model.specs.declared.hop.Hop.{Hop}
+use Rattle.sabr_model.specs.declared.plan.linked.NodeLinks.{NodeLinks}
 use Rattle.sabr_model.specs.declared.sent.Sent.{Sent}
 use Rattle.sabr_model.specs.Plan.{ContactPlan, TabledPlan, contact_named, has, are_different}
 use Rattle.sabr_model.specs.Table.{ends_of, IsTableOf}
@@ -18,8 +19,8 @@ use Rattle.sabr_model.proofs.TableLemmas.{has_node}
 use Rattle.sabr_model.proofs.Without.{ends_of_found}
 
 -- a plan that is not settled promises nothing
-pub not_ready : (p : TabledPlan) (hops : List Hop) (longest : List ℕ) → IsReady false p hops longest
-not_ready p hops longest = record { hops = λ e. absurd cc; longest = λ e. absurd cc }
+pub not_ready : {A : Type 0} {linked : List (NodeLinks A)} (p : TabledPlan) (hops : List Hop) (longest : List ℕ) → IsReady false p hops longest linked
+not_ready p hops longest = record { hops = λ e. absurd cc; longest = λ e. absurd cc; links = λ e. absurd cc }
 
 -- each receiver is one of the nodes
 receiver_there : (cs : List Contact) (k : ℕ) (d : Contact) → k < length cs → has (get_or cs k d).to (ends_of cs) ≡ true

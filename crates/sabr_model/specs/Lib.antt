@@ -2,8 +2,11 @@ pub mod Order
 pub mod Plan
 pub mod Table
 pub mod Tabled
+pub mod Links
+pub mod Linking
 pub mod Ready
 pub mod Adding
+pub mod Gathering
 pub mod Light
 pub mod RangeOrder
 pub mod Arrival

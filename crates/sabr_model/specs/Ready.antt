@@ -1,12 +1,14 @@
--- What a plan keeps ready for searches: a hop beside each contact, and by node how long a contact of it lasts at most.
+-- What a plan keeps ready for searches: a hop beside each contact, and by node its links and how long a contact of it lasts at most.
 use Rattle.std.specs.Prelude.{◌≡◌, ℕ, ◌+◌, ◌<◌, ◌≤◌, ◌==◌, Bool, true, List, length, slice_get, slice_index, slice_index_or}
 use Rattle.std.specs.List.{find}
 use Rattle.std.specs.Option.{option_map_or}
 use Rattle.std.specs.declared.option.Option.TheVariants.{Some}
 use Rattle.sabr_model.specs.declared.contact.Contact.{Contact}
 use Rattle.sabr_model.specs.declared.hop.Hop.{Hop}
+use Rattle.sabr_model.specs.declared.plan.linked.NodeLinks.{NodeLinks}
 use Rattle.sabr_model.specs.Plan.{TabledPlan}
 use Rattle.sabr_model.specs.Tabled.{IsHopOf}
+use Rattle.sabr_model.specs.Linking.{AreLinked}
 
 -- beside each contact stands its hop
 pub record AreHops (p : TabledPlan) (contacts : List Contact) (hops : List Hop) : Type 0 where
@@ -20,9 +22,10 @@ NoneLastsLonger table contacts longest =
     → (slice_index_or contacts i d).end ≤ (slice_index_or contacts i d).start + slice_index longest k
 
 -- where the plan is settled, all of it is right
-pub record IsReady (settled : Bool) (p : TabledPlan) (kept_hops : List Hop) (kept_longest : List ℕ) : Type 0 where
+pub record IsReady {A : Type 0} (settled : Bool) (p : TabledPlan) (kept_hops : List Hop) (kept_longest : List ℕ) (linked : List (NodeLinks A)) : Type 0 where
   pub hops : settled ≡ true → AreHops p p.plan.contacts kept_hops
   pub longest : settled ≡ true → NoneLastsLonger p.table p.plan.contacts kept_longest
+  pub links : settled ≡ true → AreLinked p linked
 
 -- the start of the contact of a number
 abbrev pub start_among : List Contact → ℕ → ℕ

@@ -7,6 +7,7 @@ mod fault;
 mod following;
 mod hop;
 mod laws;
+mod link;
 mod node_table;
 mod numbers;
 mod plan;
@@ -23,8 +24,9 @@ pub use fault::{AddFault, HopFault, NoMemory, RequestError};
 pub use following::follow;
 pub use hop::Hop;
 pub use laws::{candidates_hold_each_once, faults_tell_routes, law1, law2, law3};
+pub use link::{Link, Links, Pass};
 pub use numbers::Numbers;
-pub use plan::{Plan, arrive};
+pub use plan::{GatheredRanges, Plan, arrive};
 pub use request::Request;
 pub use route::Route;
 pub use rows::{

@@ -4,12 +4,16 @@ mod add_contact;
 mod add_range;
 mod arriving;
 mod delete;
+mod gathered_ranges;
 mod light;
+mod linked;
+mod merging;
 mod nodes;
 pub mod places;
 mod ranges;
 mod ready;
 mod views;
+mod with_ranges;
 
 ghost use Rattle.std.specs.Prelude.{◌≡◌, []};
 
@@ -17,7 +21,9 @@ use crate::contact::{Contact, Range};
 use crate::hop::Hop;
 use crate::node_table::NodeTable;
 pub use arriving::arrive;
+pub use gathered_ranges::GatheredRanges;
 use indexmap::IndexMap;
+use linked::NodeLinks;
 use std::alloc::{Allocator, Global};
 use std::marker::Model;
 
@@ -33,6 +39,7 @@ pub struct Plan<A: Allocator + Copy = Global> {
     greatest: u32,
     hops: Vec<Hop, A>,
     longest: Vec<u64, A>,
+    linked: Vec<NodeLinks<A>, A>,
     settled: bool,
 }
 
@@ -46,7 +53,7 @@ impl<A: Allocator + Copy> Model for Plan<A> {
 
     ghost view = { λ a. record { plan = record { contacts = a.contacts.items; ranges = a.ranges.items; greatest = a.greatest }; table = keys a.table } };
 
-    ghost invariant = { λ a. IsPlan (record { contacts = a.contacts.items; ranges = a.ranges.items; greatest = a.greatest }) × IsTableOf a.contacts.items a.table × IsReady a.settled (record { plan = record { contacts = a.contacts.items; ranges = a.ranges.items; greatest = a.greatest }; table = keys a.table }) a.hops.items a.longest.items };
+    ghost invariant = { λ a. IsPlan (record { contacts = a.contacts.items; ranges = a.ranges.items; greatest = a.greatest }) × IsTableOf a.contacts.items a.table × IsReady a.settled (record { plan = record { contacts = a.contacts.items; ranges = a.ranges.items; greatest = a.greatest }; table = keys a.table }) a.hops.items a.longest.items a.linked.items };
 }
 
 impl<A: Allocator + Copy> Plan<A> {
@@ -62,6 +69,7 @@ impl<A: Allocator + Copy> Plan<A> {
             greatest: 0,
             hops: Vec::new(alloc),
             longest: Vec::new(alloc),
+            linked: Vec::new(alloc),
             settled: false,
         }
     }

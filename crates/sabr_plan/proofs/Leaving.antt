@@ -34,9 +34,32 @@ pub contact_deleted : (o : Option ℕ) (r : Result ℕ AddFault) (p new : Contac
 contact_deleted (Some n) r p new e ok = record { refused = λ f is. cc; accepted = λ is. rw e tt; ok = ok }
 contact_deleted None r p new e ok = record { refused = λ f is. let same : add.NothingToDelete ≡ f = cc in e ∙ ap Err same; accepted = λ is. cc; ok = ok }
 
--- a deletion of a range
-pub range_deleted : {X : Type 0} (b : Bool) (r : Result X AddFault) (p new : ContactPlan) → IsOk r ↔ IsTrue b → IfErr r (λ f. f ≡ add.NothingToDelete) → OnOk r (new ≡ p) → IsAnswered (unless_named b) r p new
-range_deleted true (Ok x) p new is fault ok = record { refused = λ f e. cc; accepted = λ e. tt; ok = ok }
-range_deleted true (Err g) p new is fault ok = absurd (false≢true (is.1 refl))
-range_deleted false (Ok x) p new is fault ok = absurd (false≢true (is.0 refl))
-range_deleted false (Err g) p new is fault ok = record { refused = λ f e. let same : add.NothingToDelete ≡ f = cc in ap Err (fault ∙ same); accepted = λ e. cc; ok = ok }
+-- how a deletion of a range is answered, which may want memory
+pub record IsDeleted {X : Type 0} (named : Bool) (r : Result X AddFault) (p new : ContactPlan) : Type 0 where
+  pub refused : named ≡ false → (r ≡ Err add.NothingToDelete) ⊎ (r ≡ Err add.NoMemory)
+  pub accepted : named ≡ true → IsOkUnless r add.NoMemory
+  pub ok : OnOk r (new ≡ p)
+
+never_ok : {X : Type 0} (r : Result X AddFault) (x : X) → r ≡ Ok x → (r ≡ Err add.NothingToDelete) ⊎ (r ≡ Err add.NoMemory) → ⊥
+never_ok r x e (inl f) = absurd cc
+never_ok r x e (inr f) = absurd cc
+
+refused_so : {X : Type 0} (r : Result X AddFault) (f : AddFault) → r ≡ Err f → (r ≡ Err add.NothingToDelete) ⊎ (r ≡ Err add.NoMemory) → (f ≡ add.NoMemory) ⊎ (f ≡ add.NothingToDelete)
+refused_so r f e (inl g) = inr cc
+refused_so r f e (inr g) = inl cc
+
+told : (f : AddFault) (reference : Option ℕ) (p : ContactPlan) → (f ≡ add.NoMemory) ⊎ (f ≡ add.NothingToDelete) → (kind_of f ≡ kind.NoMemory) ⊎ (changed (unless_named false) reference p ≡ Err (kind_of f))
+told f reference p (inl e) = inl (ap kind_of e)
+told f reference p (inr e) = inr (ap (λ h. Err (kind_of h)) (sym e))
+
+pub deleted_ok : {X : Type 0} (b : Bool) (reference : Option ℕ) (r : Result X AddFault) (p new : ContactPlan) (x : X) → IsDeleted b r p new → r ≡ Ok x → changed (unless_named b) reference p ≡ Ok (record { plan = new; reference = reference })
+deleted_ok true reference r p new x is e =
+    let same : new ≡ p = rw e at is.ok in
+    ap (λ q. Ok (record { plan = q; reference = reference })) (sym same)
+deleted_ok false reference r p new x is e = absurd (never_ok r x e (is.refused refl))
+
+pub deleted_err : {X : Type 0} (b : Bool) (reference : Option ℕ) (r : Result X AddFault) (p new : ContactPlan) (f : AddFault) → IsDeleted b r p new → r ≡ Err f → (kind_of f ≡ kind.NoMemory) ⊎ (changed (unless_named b) reference p ≡ Err (kind_of f))
+deleted_err true reference r p new f is e =
+    let same : f ≡ add.NoMemory = rw e at (is.accepted refl) in
+    inl (ap kind_of same)
+deleted_err false reference r p new f is e = told f reference p (refused_so r f e (is.refused refl))

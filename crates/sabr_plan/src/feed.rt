@@ -1,6 +1,6 @@
 //! A plan text that is read piece by piece. One line at a time is held, in a fixed array.
 
-ghost use Rattle.std.specs.Prelude.{◌≡◌, ◌≢◌, ◌+◌, ◌-◌, ◌*◌, ◌≤◌, ◌<◌, [], ◌++◌, Ok, Err, OnOk, IfErr, IsTrue, length, take, slice_index, MatchOption, false, true};
+ghost use Rattle.std.specs.Prelude.{◌≡◌, ◌≢◌, ◌+◌, ◌-◌, ◌*◌, ◌≤◌, ◌<◌, [], ◌++◌, Ok, Err, OnOk, IfOk, IfErr, IsTrue, length, take, slice_index, MatchOption, false, true};
 ghost use Rattle.sabr_plan.specs.Words.{is_one_line};
 ghost use Rattle.sabr_plan.specs.Leaving.{Leaves, LeavesAt};
 ghost use Rattle.sabr_plan.specs.declared.fault.PlanKind.TheVariants as kind;
@@ -8,7 +8,7 @@ ghost use Rattle.sabr_plan.specs.declared.fault.PlanKind.TheVariants as kind;
 use crate::fault::{PlanFault, PlanKind};
 use crate::reading::PlanReading;
 use memchr::memchr;
-use sabr_model::Plan;
+use sabr_model::{NoMemory, Plan};
 use std::alloc::Allocator;
 use std::marker::Model;
 
@@ -82,7 +82,14 @@ impl<A: Allocator + Copy> PlanFeed<A> {
         ensures { Answers (outcome self [] true) result }
     {
         self.end_text()?;
-        Ok(self.into_plan())
+        let line = self.lines + 1;
+        match self.into_plan() {
+            Ok(plan) => Ok(plan),
+            Err(NoMemory) => Err(PlanFault {
+                line,
+                kind: PlanKind::NoMemory,
+            }),
+        }
     }
 
     /// What is held is a line, if there is a byte.
@@ -98,8 +105,8 @@ impl<A: Allocator + Copy> PlanFeed<A> {
     }
 
     /// The plan that the lines leave, ready for searches; where memory is short for that, they take longer.
-    fn into_plan(self) -> Plan<A>
-        ensures { result.plan ≡ self.reading.plan }
+    fn into_plan(self) -> Result<Plan<A>, NoMemory>
+        ensures { IfOk result (λ p. p.plan ≡ self.reading.plan) }
     {
         let PlanFeed {
             lines: _,
@@ -107,9 +114,9 @@ impl<A: Allocator + Copy> PlanFeed<A> {
             held: _,
             held_count: _,
         } = self;
-        let mut plan = reading.into_plan();
+        let mut plan = reading.into_plan()?;
         let _ = plan.settle();
-        plan
+        Ok(plan)
     }
 
     /// The reader has failed.

@@ -1,6 +1,6 @@
 //! What the lines of a plan text leave, one after the other.
 
-ghost use Rattle.std.specs.Prelude.{◌≡◌, None, []};
+ghost use Rattle.std.specs.Prelude.{◌≡◌, None, [], IfOk};
 ghost use Rattle.sabr_plan.specs.Commands.{HasBounds};
 ghost use Rattle.sabr_plan.specs.Leaving.{Leaves};
 ghost use Rattle.sabr_plan.specs.Reading.{kind_of};
@@ -9,14 +9,15 @@ ghost use Rattle.sabr_plan.specs.declared.command.Target.TheVariants as target;
 
 use crate::command::{Addition, Command, Deletion, Target, line_command};
 use crate::fault::PlanKind;
-use sabr_model::{AddFault, Plan};
+use sabr_model::{AddFault, GatheredRanges, NoMemory, Plan};
 use std::alloc::Allocator;
 use std::marker::Model;
 
-/// A plan, and the time that relative times are counted from.
+/// A plan, whose ranges are gathered beside it, and the time that relative times are counted from.
 #[derive(Drop)]
 pub struct PlanReading<A: Allocator + Copy> {
     plan: Plan<A>,
+    ranges: GatheredRanges<A>,
     reference: Option<u64>,
 }
 
@@ -25,7 +26,7 @@ impl<A: Allocator + Copy> Model for PlanReading<A> {
 
     ghost Value = { Reading };
 
-    ghost view = { λ r. record { plan = r.plan.plan; reference = r.reference } };
+    ghost view = { λ r. record { plan = record { contacts = r.plan.plan.contacts; ranges = r.ranges; greatest = r.plan.plan.greatest }; reference = r.reference } };
 }
 
 /// A refusal of the plan, as a kind of bad line.
@@ -52,16 +53,21 @@ impl<A: Allocator + Copy> PlanReading<A> {
     {
         PlanReading {
             plan: Plan::new(alloc),
+            ranges: GatheredRanges::new(alloc),
             reference: None,
         }
     }
 
     /// The plan that the lines leave.
-    pub fn into_plan(self) -> Plan<A>
-        ensures { result.plan ≡ self.plan }
+    pub fn into_plan(self) -> Result<Plan<A>, NoMemory>
+        ensures { IfOk result (λ p. p.plan ≡ self.plan) }
     {
-        let PlanReading { plan, reference: _ } = self;
-        plan
+        let PlanReading {
+            plan,
+            ranges,
+            reference: _,
+        } = self;
+        plan.with_ranges(ranges)
     }
 
     /// Reads a line without its LF, and does what it says.
@@ -108,10 +114,7 @@ impl<A: Allocator + Copy> PlanReading<A> {
         ensures { Leaves (obeyed self.old (Add target.Range a)) result self.new }
     {
         let light = a.value as u32;
-        match self
-            .plan
-            .add_range(a.first, a.second, a.start, a.end, light)
-        {
+        match self.ranges.add(a.first, a.second, a.start, a.end, light) {
             Ok(()) => Ok(()),
             Err(fault) => Err(kind_of(fault)),
         }
@@ -129,7 +132,7 @@ impl<A: Allocator + Copy> PlanReading<A> {
     fn delete_range(&mut self, d: Deletion) -> Result<(), PlanKind>
         ensures { Leaves (obeyed self.old (Delete target.Range d)) result self.new }
     {
-        match self.plan.delete_range(d.first, d.second, d.start) {
+        match self.ranges.delete(d.first, d.second, d.start) {
             Ok(()) => Ok(()),
             Err(fault) => Err(kind_of(fault)),
         }

@@ -1,7 +1,8 @@
-//! Worked examples.
+//! Plan texts read and refused, canonical texts and times.
 
 mod canonical;
-mod deleting;
+mod limits;
+mod plan_texts;
 mod plans;
-mod reading;
+mod refusals;
 mod times;

@@ -12,11 +12,22 @@ pub fn is_comment(line: &[u8]) -> bool
     !line.is_empty() && line[0] == b'#'
 }
 
-/// Whether the line has tabs and the bytes 32 to 126 alone.
+/// Whether the line has tabs and the bytes 32 to 126 alone. It looks at many bytes at a time, and so doesn't stop at one.
 pub fn is_plain(line: &[u8]) -> bool
     ensures { result ≡ list_all is_plain line.now }
 {
-    line.iter().all(|b| *b == b'\t' || (32 <= *b && *b <= 126))
+    let mut plain = true;
+    for byte in line {
+        plain &= is_plain_byte(*byte);
+    }
+    plain
+}
+
+/// Whether a byte is a tab or one of the bytes 32 to 126.
+fn is_plain_byte(byte: u8) -> bool
+    ensures { result ≡ is_plain byte }
+{
+    byte == b'\t' || (32 <= byte && byte <= 126)
 }
 
 /// Whether a byte parts words.

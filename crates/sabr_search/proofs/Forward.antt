@@ -1,6 +1,6 @@
 -- Steps of a forward search: what one contact, one node and one layer leave.
-use Rattle.std.proofs.Common.{◌≡◌, ◌⊎◌, inl, inr, ℕ, ◌+◌, ◌<◌, ◌≤◌, List, Bool, true, false, ◌&&◌, eqb, Some, None, slice_get, slice_index, slice_index_or, refl, ap, sym, subst, ◌∙◌, arith}
-use Rattle.std.proofs.lemmas.Bool.{both_ways, and_parts, eq-eqb, eqb-true, cases_lt}
+use Rattle.std.proofs.Common.{◌≡◌, ◌≢◌, min, ◌⊎◌, inl, inr, ℕ, ◌+◌, ◌<◌, ◌≤◌, List, Bool, true, false, ◌&&◌, eqb, Some, None, slice_get, slice_index, slice_index_or, refl, ap, sym, subst, ◌∙◌, arith}
+use Rattle.std.proofs.lemmas.Bool.{both_ways, and_parts, eq-eqb, eqb-true, cases_lt, cases_eq}
 use Rattle.sabr_model.specs.declared.contact.Contact.{Contact}
 use Rattle.sabr_model.specs.declared.hop.Hop.{Hop}
 use Rattle.sabr_model.specs.Plan.{contact_named, has}
@@ -51,6 +51,21 @@ lowered_more shut goal at begin Given Given' arrival0 reached0 best0 arrival1 pl
 pub known_lower : (goal : ℕ) (arrival arrival' : List ℕ) (best best' w x : ℕ) → ((k : ℕ) → slice_index arrival' k ≤ slice_index arrival k) → best' ≤ best → IsKnown goal arrival best w x → IsKnown goal arrival' best' w x
 known_lower goal arrival arrival' best best' w x falls lower (inl late) = inl (omega (arith, late))
 known_lower goal arrival arrival' best best' w x falls lower (inr reached) = inr (reached.0, omega (arith, reached.1, falls w))
+
+-- what is known at some second is known later
+pub known_later : (goal : ℕ) (arrival : List ℕ) (best w x y : ℕ) → x ≤ y → IsKnown goal arrival best w x → IsKnown goal arrival best w y
+known_later goal arrival best w x y le (inl late) = inl (omega (arith, late))
+known_later goal arrival best w x y le (inr reached) = inr (reached.0, omega (arith, reached.1))
+
+-- what comes no earlier than what is news is known
+pub known_old : (goal : ℕ) (arrival : List ℕ) (best w before x : ℕ) → (w ≡ goal → before ≡ best) → (w ≢ goal → before ≡ min best (slice_index arrival w)) → before ≤ x → IsKnown goal arrival best w x
+known_old goal arrival best w before x at_goal elsewhere le = elim (cases_eq w goal) [
+  | inl same ↦ inl (omega (arith, at_goal same))
+  | inr other ↦ elim (cases_lt (slice_index arrival w) best) [
+    | inl less ↦ inr (other, omega (arith, elsewhere other))
+    | inr more ↦ inl (omega (arith, elsewhere other))
+  ]
+]
 
 same_some : {X : Type 0} {x y : X} → Some x ≡ Some y → x ≡ y
 same_some h = cc

@@ -11,6 +11,8 @@ pub mod PartWays
 pub mod Least
 pub mod PlanFacts
 pub mod StepLists
+pub mod Linking
+pub mod OverLinks
 pub mod Forward
 pub mod Between
 pub mod MadeLayers

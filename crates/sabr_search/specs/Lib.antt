@@ -4,6 +4,7 @@ pub mod Front
 pub mod Hops
 pub mod Task
 pub mod Steps
+pub mod Linked
 pub mod Lists
 pub mod Made
 pub mod Settling

@@ -3,11 +3,14 @@
 ghost use Rattle.std.specs.Prelude.{◌≡◌, ◌≢◌, ◌↔◌, ◌⊎◌, ℕ, ◌+◌, ◌-◌, ◌*◌, ◌^◌, ◌≤◌, ◌<◌, length, slice_index};
 ghost use Rattle.sabr_search.specs.Task.{IsTask, Takes, never};
 ghost use Rattle.sabr_search.specs.Steps.{degree};
+ghost use Rattle.sabr_search.specs.Linked.{AreLinksAt};
 ghost use Rattle.sabr_search.specs.Deadlines.{ArePointed, IsInTime, AreTimed};
 
 use crate::layers::{Best, Layers, Reached};
 use crate::looks::Looks;
+use crate::over_link::link_passes;
 use crate::task::Task;
+use sabr_model::Links;
 use std::alloc::Allocator;
 
 impl<A: Allocator + Copy> Layers<A> {
@@ -52,8 +55,8 @@ impl<A: Allocator + Copy> Layers<A> {
         }
     }
 
-    /// The deadline of an entry by those of layer `hop`.
-    fn latest(
+    /// As `latest`, contact by contact, where the plan gives no links.
+    fn latest_by_numbers(
         &self,
         task: &Task<'_, A>,
         looks: &mut Looks,
@@ -85,6 +88,73 @@ impl<A: Allocator + Copy> Layers<A> {
             latest = latest.max(task.leave_before(&contact, before));
         }
         latest
+    }
+
+    /// As `latest`, link by link.
+    fn latest_by_links(
+        &self,
+        task: &Task<'_, A>,
+        looks: &mut Looks,
+        best: Best,
+        hop: usize,
+        from: Reached,
+        links: Links<'_>,
+    ) -> u64
+        requires task { IsTask task.now }
+        requires links { AreLinksAt task.now from.node links.links.now links.passes.now }
+        requires few { looks.old.count + degree task.now from.node ≤ 2 ^ 62 }
+        requires pointed { ArePointed task.now hop self.now.bounds.items self.now.place.items self.now.reached.items }
+        requires timed { AreTimed task.now best hop self.now.bounds.items self.now.place.items self.now.reached.items }
+        requires later { 0 < hop }
+        requires hop { hop ≤ best.hops }
+        requires node { from.node < length task.now.table }
+        requires other { from.node ≢ task.now.start }
+        ensures looks { looks.new.count ≤ looks.old.count + degree task.now from.node }
+        ensures sound { (t : ℕ) → t < result → (n : ℕ) × (w : ℕ) × (b : ℕ) × Takes task.now n from.node t w b × IsInTime task.now best self.now.bounds.items self.now.reached.items hop w b }
+        ensures full { (t n w b : ℕ) → from.arrival ≤ t → Takes task.now n from.node t w b → IsInTime task.now best self.now.bounds.items self.now.reached.items hop w b → t < result }
+    {
+        let mut latest = 0;
+        for link in links.links {
+            let passes = link_passes(links, link);
+            let before = self.deadline(task, best, hop, link.receiver);
+            latest = task.leave_over(
+                looks,
+                from.node,
+                link.receiver,
+                passes,
+                from.arrival,
+                before,
+                latest,
+            );
+        }
+        latest
+    }
+
+    /// The deadline of an entry by those of layer `hop`.
+    fn latest(
+        &self,
+        task: &Task<'_, A>,
+        looks: &mut Looks,
+        best: Best,
+        hop: usize,
+        from: Reached,
+    ) -> u64
+        requires task { IsTask task.now }
+        requires few { looks.old.count + degree task.now from.node ≤ 2 ^ 62 }
+        requires pointed { ArePointed task.now hop self.now.bounds.items self.now.place.items self.now.reached.items }
+        requires timed { AreTimed task.now best hop self.now.bounds.items self.now.place.items self.now.reached.items }
+        requires later { 0 < hop }
+        requires hop { hop ≤ best.hops }
+        requires node { from.node < length task.now.table }
+        requires other { from.node ≢ task.now.start }
+        ensures looks { looks.new.count ≤ looks.old.count + degree task.now from.node }
+        ensures sound { (t : ℕ) → t < result → (n : ℕ) × (w : ℕ) × (b : ℕ) × Takes task.now n from.node t w b × IsInTime task.now best self.now.bounds.items self.now.reached.items hop w b }
+        ensures full { (t n w b : ℕ) → from.arrival ≤ t → Takes task.now n from.node t w b → IsInTime task.now best self.now.bounds.items self.now.reached.items hop w b → t < result }
+    {
+        match task.links(from.node) {
+            Some(links) => self.latest_by_links(task, looks, best, hop, from, links),
+            None => self.latest_by_numbers(task, looks, best, hop, from),
+        }
     }
 
     /// Sets the deadlines of layer `hop` by those of the next.

@@ -1,16 +1,18 @@
 //! Hop layers, forward: by number of hops the nodes that they bring an earlier arrival, with it.
 
-ghost use Rattle.std.specs.Prelude.{◌≡◌, ℕ, List, [], ◌∷◌, ◌+◌, ◌*◌, ◌^◌, ◌≤◌, ◌<◌, length, take, slice_set, slice_index, slice_index_or, Some, OnOk, IfOk, false};
+ghost use Rattle.std.specs.Prelude.{◌≡◌, ◌≢◌, min, ℕ, List, [], ◌∷◌, ◌+◌, ◌*◌, ◌^◌, ◌≤◌, ◌<◌, length, take, slice_set, slice_index, slice_index_or, Some, OnOk, IfOk, false};
 ghost use Rattle.sabr_search.specs.Task.{IsTask, Takes};
 ghost use Rattle.sabr_search.specs.Steps.{degree};
+ghost use Rattle.sabr_search.specs.Linked.{IsLinkAt, HasNumber, AreLinksAt};
 ghost use Rattle.sabr_search.specs.Hops.{hop_arrival, IsSmall};
 ghost use Rattle.sabr_search.specs.Lists.{IsPlaced, IsLinked, IsLayer, AddsOnly, AreFresh, AreLists, IsLowered, IsKnown, AreSources, GivenFrom, IsKnownFrom};
 ghost use Rattle.sabr_search.specs.Ways.{Leads};
 ghost use Rattle.sabr_search.specs.Made.{AreOpened, AreLayers};
 
 use crate::looks::Looks;
+use crate::over_link::link_passes;
 use crate::task::Task;
-use sabr_model::{Hop, NoMemory};
+use sabr_model::{Hop, Links, NoMemory, Pass};
 use std::alloc::Allocator;
 
 /// A node that a layer reaches, when, and the first second at which it is too late for the rest.
@@ -144,8 +146,58 @@ impl<A: Allocator + Copy> Layers<A> {
         Ok(best)
     }
 
-    /// Takes every contact of a node that is reached; answers the least delivery so far.
-    fn take_all(
+    /// Before which an arrival at a node is news.
+    fn news_before(&self, task: &Task<'_, A>, to: usize, best: u64) -> u64
+        requires many { length self.now.arrival.items ≡ length task.now.shut }
+        requires task { IsTask task.now }
+        requires node { to < length task.now.table }
+        ensures goal { to ≡ task.now.goal → result ≡ best }
+        ensures other { to ≢ task.now.goal → result ≡ min best (slice_index self.now.arrival.items to) }
+    {
+        if to == task.goal() {
+            best
+        } else {
+            best.min(self.arrival[to])
+        }
+    }
+
+    /// Takes one link of a node that is reached; answers the least delivery so far.
+    fn take_link(
+        &mut self,
+        task: &Task<'_, A>,
+        looks: &mut Looks,
+        from: Reached,
+        to: usize,
+        passes: &[Pass],
+        begin: usize,
+        best: u64,
+    ) -> Result<u64, NoMemory>
+        requires task { IsTask task.now }
+        requires link { IsLinkAt task.now from.node to passes.now }
+        requires receiver { to < length task.now.table }
+        requires since { task.now.at ≤ from.arrival }
+        requires few { looks.old.count + length passes.now ≤ 2 ^ 62 }
+        requires later { 0 < begin }
+        requires lists { AreLists task.now.shut task.now.goal task.now.at begin self.old.arrival.items self.old.place.items self.old.reached.items }
+        ensures bounds { self.new.bounds ≡ self.old.bounds }
+        ensures looks { looks.new.count ≤ looks.old.count + length passes.now }
+        ensures lowered { IfOk result (λ b. IsLowered task.now.shut task.now.goal task.now.at begin (λ w x. (n : ℕ) × Takes task.now n from.node from.arrival w x) self.old.arrival.items self.old.reached.items best self.new.arrival.items self.new.place.items self.new.reached.items b) }
+        ensures known { IfOk result (λ b. (n w x : ℕ) → HasNumber passes.now n → Takes task.now n from.node from.arrival w x → IsKnown task.now.goal self.new.arrival.items b w x) }
+    {
+        let before = self.news_before(task, to, best);
+        let at = task.arrive_over(looks, from.node, to, passes, from.arrival, before);
+        if at >= before {
+            return Ok(best);
+        }
+        if to == task.goal() {
+            return Ok(at);
+        }
+        self.note(task.shut(), to, at, begin)?;
+        Ok(best)
+    }
+
+    /// As `take_all`, contact by contact, where the plan gives no links.
+    fn take_numbers(
         &mut self,
         task: &Task<'_, A>,
         looks: &mut Looks,
@@ -178,6 +230,62 @@ impl<A: Allocator + Copy> Layers<A> {
             least = self.take(task, from.arrival, &hop, begin, least)?;
         }
         Ok(least)
+    }
+
+    /// As `take_all`, link by link.
+    fn take_links(
+        &mut self,
+        task: &Task<'_, A>,
+        looks: &mut Looks,
+        from: Reached,
+        begin: usize,
+        best: u64,
+        links: Links<'_>,
+    ) -> Result<u64, NoMemory>
+        requires task { IsTask task.now }
+        requires links { AreLinksAt task.now from.node links.links.now links.passes.now }
+        requires node { from.node < length task.now.table }
+        requires since { task.now.at ≤ from.arrival }
+        requires few { looks.old.count + degree task.now from.node ≤ 2 ^ 62 }
+        requires later { 0 < begin }
+        requires lists { AreLists task.now.shut task.now.goal task.now.at begin self.old.arrival.items self.old.place.items self.old.reached.items }
+        ensures bounds { self.new.bounds ≡ self.old.bounds }
+        ensures looks { looks.new.count ≤ looks.old.count + degree task.now from.node }
+        ensures lowered { IfOk result (λ b. IsLowered task.now.shut task.now.goal task.now.at begin (λ w x. (n : ℕ) × Takes task.now n from.node from.arrival w x) self.old.arrival.items self.old.reached.items best self.new.arrival.items self.new.place.items self.new.reached.items b) }
+        ensures known { IfOk result (λ b. (n w x : ℕ) → Takes task.now n from.node from.arrival w x → IsKnown task.now.goal self.new.arrival.items b w x) }
+    {
+        let mut least = best;
+        for link in links.links {
+            let passes = link_passes(links, link);
+            least = self.take_link(task, looks, from, link.receiver, passes, begin, least)?;
+        }
+        Ok(least)
+    }
+
+    /// Takes every contact of a node that is reached; answers the least delivery so far.
+    fn take_all(
+        &mut self,
+        task: &Task<'_, A>,
+        looks: &mut Looks,
+        from: Reached,
+        begin: usize,
+        best: u64,
+    ) -> Result<u64, NoMemory>
+        requires task { IsTask task.now }
+        requires node { from.node < length task.now.table }
+        requires since { task.now.at ≤ from.arrival }
+        requires few { looks.old.count + degree task.now from.node ≤ 2 ^ 62 }
+        requires later { 0 < begin }
+        requires lists { AreLists task.now.shut task.now.goal task.now.at begin self.old.arrival.items self.old.place.items self.old.reached.items }
+        ensures bounds { self.new.bounds ≡ self.old.bounds }
+        ensures looks { looks.new.count ≤ looks.old.count + degree task.now from.node }
+        ensures lowered { IfOk result (λ b. IsLowered task.now.shut task.now.goal task.now.at begin (λ w x. (n : ℕ) × Takes task.now n from.node from.arrival w x) self.old.arrival.items self.old.reached.items best self.new.arrival.items self.new.place.items self.new.reached.items b) }
+        ensures known { IfOk result (λ b. (n w x : ℕ) → Takes task.now n from.node from.arrival w x → IsKnown task.now.goal self.new.arrival.items b w x) }
+    {
+        match task.links(from.node) {
+            Some(links) => self.take_links(task, looks, from, begin, best, links),
+            None => self.take_numbers(task, looks, from, begin, best),
+        }
     }
 
     /// Takes every contact of every node of layer `hop`; answers the least delivery so far.

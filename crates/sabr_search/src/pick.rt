@@ -4,13 +4,15 @@ ghost use Rattle.std.specs.Prelude.{◌≡◌, ◌++◌, ℕ, List, ◌+◌, ◌
 ghost use Rattle.sabr_search.specs.Ways.{Leads};
 ghost use Rattle.sabr_search.specs.Task.{IsTask, Takes};
 ghost use Rattle.sabr_search.specs.Steps.{degree};
+ghost use Rattle.sabr_search.specs.Linked.{AreLinksAt};
 ghost use Rattle.sabr_search.specs.Deadlines.{ArePointed, IsInTime, AreTimed};
 ghost use Rattle.sabr_search.specs.Picks.{IsAtMost, IsLeastStep, IsPicked};
 
 use crate::layers::{Best, Layers};
 use crate::looks::Looks;
+use crate::over_link::link_passes;
 use crate::task::Task;
-use sabr_model::NoMemory;
+use sabr_model::{Links, NoMemory};
 use std::alloc::Allocator;
 
 /// A node, and when the bundle is there.
@@ -29,7 +31,7 @@ pub struct Step {
 }
 
 /// Whether there is a step whose number is at most this.
-fn is_at_most(least: Option<Step>, number: u32) -> bool
+pub fn is_at_most(least: Option<Step>, number: u32) -> bool
     ensures at_most { IsTrue result → IsAtMost least number }
     ensures above { result ≡ false → (n : ℕ) → IsAtMost least n → number ≤ n }
 {
@@ -40,8 +42,8 @@ fn is_at_most(least: Option<Step>, number: u32) -> bool
 }
 
 impl<A: Allocator + Copy> Layers<A> {
-    /// The step of least number from a node after which the goal is still reached in time.
-    fn least_step(
+    /// As `least_step`, contact by contact, where the plan gives no links.
+    fn least_by_numbers(
         &self,
         task: &Task<'_, A>,
         looks: &mut Looks,
@@ -84,6 +86,71 @@ impl<A: Allocator + Copy> Layers<A> {
             }
         }
         least
+    }
+
+    /// As `least_step`, link by link.
+    fn least_by_links(
+        &self,
+        task: &Task<'_, A>,
+        looks: &mut Looks,
+        best: Best,
+        hop: usize,
+        from: Standing,
+        links: Links<'_>,
+    ) -> Option<Step>
+        requires task { IsTask task.now }
+        requires links { AreLinksAt task.now from.node links.links.now links.passes.now }
+        requires few { looks.old.count + degree task.now from.node ≤ 2 ^ 62 }
+        requires pointed { ArePointed task.now hop self.now.bounds.items self.now.place.items self.now.reached.items }
+        requires timed { AreTimed task.now best hop self.now.bounds.items self.now.place.items self.now.reached.items }
+        requires later { 0 < hop }
+        requires hop { hop ≤ best.hops }
+        requires node { from.node < length task.now.table }
+        ensures looks { looks.new.count ≤ looks.old.count + degree task.now from.node }
+        ensures some { IfSome result (IsLeastStep task.now best self.now.bounds.items self.now.reached.items hop from.node from.at) }
+        ensures none { IfNone result ((n w b : ℕ) → Takes task.now n from.node from.at w b → IsInTime task.now best self.now.bounds.items self.now.reached.items hop w b → ⊥) }
+    {
+        let mut least: Option<Step> = None;
+        for link in links.links {
+            let passes = link_passes(links, link);
+            let before = self.deadline(task, best, hop, link.receiver);
+            least = task.least_over(
+                looks,
+                from.node,
+                link.receiver,
+                passes,
+                from.at,
+                before,
+                least,
+            );
+        }
+        least
+    }
+
+    /// The step of least number from a node after which the goal is still reached in time.
+    fn least_step(
+        &self,
+        task: &Task<'_, A>,
+        looks: &mut Looks,
+        best: Best,
+        hop: usize,
+        from: Standing,
+    ) -> Option<Step>
+        requires task { IsTask task.now }
+        requires few { looks.old.count + degree task.now from.node ≤ 2 ^ 62 }
+        requires pointed { ArePointed task.now hop self.now.bounds.items self.now.place.items self.now.reached.items }
+        requires timed { AreTimed task.now best hop self.now.bounds.items self.now.place.items self.now.reached.items }
+        requires later { 0 < hop }
+        requires hop { hop ≤ best.hops }
+        requires node { from.node < length task.now.table }
+        ensures looks { looks.new.count ≤ looks.old.count + degree task.now from.node }
+        ensures some { IfSome result (IsLeastStep task.now best self.now.bounds.items self.now.reached.items hop from.node from.at) }
+        ensures none { IfNone result ((n w b : ℕ) → Takes task.now n from.node from.at w b → IsInTime task.now best self.now.bounds.items self.now.reached.items hop w b → ⊥) }
+    {
+        match task.links(from.node) {
+            Some(links) => self.least_by_links(task, looks, best, hop, from, links),
+            None => self.least_by_numbers(task, looks, best, hop, from),
+        }
     }
 
     /// The least numbers that lead from the start to the goal with the best delivery and hops, behind the prefix.

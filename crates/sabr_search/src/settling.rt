@@ -1,8 +1,9 @@
 //! Nodes settled in order of their arrival, up to the first delivery at the goal.
 
-ghost use Rattle.std.specs.Prelude.{◌≡◌, ℕ, List, [], ◌+◌, ◌^◌, ◌≤◌, ◌<◌, length, slice_set, slice_index, slice_index_or, replicate, Some, OnOk, IfOk, true, false};
+ghost use Rattle.std.specs.Prelude.{◌≡◌, ◌≢◌, ℕ, min, List, [], ◌+◌, ◌^◌, ◌≤◌, ◌<◌, length, slice_set, slice_index, slice_index_or, replicate, Some, OnOk, IfOk, true, false};
 ghost use Rattle.sabr_search.specs.Task.{IsTask, Takes};
 ghost use Rattle.sabr_search.specs.Steps.{degree};
+ghost use Rattle.sabr_search.specs.Linked.{IsLinkAt, HasNumber, AreLinksAt};
 ghost use Rattle.sabr_search.specs.Hops.{hop_arrival, IsSmall};
 ghost use Rattle.sabr_search.specs.Lists.{IsKnown};
 ghost use Rattle.sabr_search.specs.Ways.{Leads};
@@ -11,9 +12,10 @@ ghost use Rattle.sabr_search.specs.Settling.{settled_count, IsWayTo, IsFirstWay,
 
 use crate::layers::{Best, NEVER, open_nodes};
 use crate::looks::Looks;
+use crate::over_link::link_passes;
 use crate::queue::{Event, Queue};
 use crate::task::Task;
-use sabr_model::{Hop, NoMemory};
+use sabr_model::{Hop, Links, NoMemory, Pass};
 use std::alloc::Allocator;
 
 /// By node the least arrival so far and whether it is settled; and the arrivals that wait.
@@ -91,8 +93,89 @@ impl<A: Allocator + Copy> Settling<A> {
         Ok(best)
     }
 
-    /// Settles a node that is reached at the event, and takes every contact of it; answers the first delivery so far.
-    fn settle(
+    /// Before which an arrival at a node is news.
+    fn news_before(&self, task: &Task<'_, A>, to: usize, best: Best) -> u64
+        requires many { length self.now.arrival.items ≡ length task.now.shut }
+        requires task { IsTask task.now }
+        requires node { to < length task.now.table }
+        ensures goal { to ≡ task.now.goal → result ≡ best.delivery }
+        ensures other { to ≢ task.now.goal → result ≡ min best.delivery (slice_index self.now.arrival.items to) }
+    {
+        if to == task.goal() {
+            best.delivery
+        } else {
+            best.delivery.min(self.arrival[to])
+        }
+    }
+
+    /// Notes an arrival that is news; answers the first delivery so far.
+    fn reach(
+        &mut self,
+        task: &Task<'_, A>,
+        event: Event,
+        to: usize,
+        at: u64,
+        best: Best,
+    ) -> Result<Best, NoMemory>
+        requires task { IsTask task.now }
+        requires receiver { to < length task.now.table }
+        requires later { event.at ≤ at }
+        requires sooner { at < best.delivery }
+        requires news { to ≢ task.now.goal → at < slice_index self.old.arrival.items to }
+        requires step { slice_index_or task.now.shut to false ≡ false → (n : ℕ) × Takes task.now n event.node event.at to at }
+        requires real { IsWayTo task.now event.node event.hops event.at }
+        requires few { event.hops < settled_count self.old.settled.items }
+        requires state { AreSettling task.now self.old.settled.items event.at self.old.arrival.items self.old.queue best }
+        ensures settled { self.new.settled ≡ self.old.settled }
+        ensures state { IfOk result (λ b. AreSettling task.now self.old.settled.items event.at self.new.arrival.items self.new.queue b) }
+        ensures fallen { IfOk result (λ b. IsFallen self.old.settled.items self.old.arrival.items best self.new.arrival.items b) }
+        ensures known { IfOk result (λ b. IsKnown task.now.goal self.new.arrival.items b.delivery to at) }
+        ensures pushes { OnOk result (length self.new.queue ≤ length self.old.queue + 1) }
+    {
+        let hops = event.hops + 1;
+        if to == task.goal() {
+            return Ok(Best { delivery: at, hops });
+        }
+        self.queue.push(Event { at, hops, node: to })?;
+        self.arrival[to] = at;
+        Ok(best)
+    }
+
+    /// Takes one link of a node that is settled; answers the first delivery so far.
+    fn take_link(
+        &mut self,
+        task: &Task<'_, A>,
+        looks: &mut Looks,
+        event: Event,
+        to: usize,
+        passes: &[Pass],
+        best: Best,
+    ) -> Result<Best, NoMemory>
+        requires task { IsTask task.now }
+        requires link { IsLinkAt task.now event.node to passes.now }
+        requires receiver { to < length task.now.table }
+        requires real { IsWayTo task.now event.node event.hops event.at }
+        requires few_hops { event.hops < settled_count self.old.settled.items }
+        requires few { looks.old.count + length passes.now ≤ 2 ^ 62 }
+        requires state { AreSettling task.now self.old.settled.items event.at self.old.arrival.items self.old.queue best }
+        ensures settled { self.new.settled ≡ self.old.settled }
+        ensures looks { looks.new.count ≤ looks.old.count + length passes.now }
+        ensures state { IfOk result (λ b. AreSettling task.now self.old.settled.items event.at self.new.arrival.items self.new.queue b) }
+        ensures fallen { IfOk result (λ b. IsFallen self.old.settled.items self.old.arrival.items best self.new.arrival.items b) }
+        ensures known { IfOk result (λ b. (n w x : ℕ) → HasNumber passes.now n → Takes task.now n event.node event.at w x → IsKnown task.now.goal self.new.arrival.items b.delivery w x) }
+        ensures pushes { OnOk result (length self.new.queue + looks.old.count ≤ length self.old.queue + looks.new.count) }
+    {
+        let before = self.news_before(task, to, best);
+        let at = task.arrive_over(looks, event.node, to, passes, event.at, before);
+        if at >= before {
+            return Ok(best);
+        }
+        let least = self.reach(task, event, to, at, best)?;
+        Ok(least)
+    }
+
+    /// As `settle`, contact by contact, where the plan gives no links.
+    fn settle_numbers(
         &mut self,
         task: &Task<'_, A>,
         looks: &mut Looks,
@@ -131,6 +214,73 @@ impl<A: Allocator + Copy> Settling<A> {
             least = self.take(task, event, &hop, least)?;
         }
         Ok(least)
+    }
+
+    /// As `settle`, link by link.
+    fn settle_links(
+        &mut self,
+        task: &Task<'_, A>,
+        looks: &mut Looks,
+        event: Event,
+        best: Best,
+        links: Links<'_>,
+    ) -> Result<Best, NoMemory>
+        requires task { IsTask task.now }
+        requires node { event.node < length task.now.table }
+        requires many { length self.old.settled.items ≡ length task.now.table }
+        requires unsettled { slice_index_or self.old.settled.items event.node false ≡ false }
+        requires reached { slice_index self.old.arrival.items event.node ≡ event.at }
+        requires real { IsWayTo task.now event.node event.hops event.at }
+        requires few_hops { event.hops ≤ settled_count self.old.settled.items }
+        requires few { looks.old.count + degree task.now event.node ≤ 2 ^ 62 }
+        requires links { AreLinksAt task.now event.node links.links.now links.passes.now }
+        requires state { AreSettling task.now (slice_set self.old.settled.items event.node true) event.at self.old.arrival.items self.old.queue best }
+        requires taken { AreSettledTaken task.now self.old.settled.items self.old.arrival.items best.delivery }
+        ensures settled { self.new.settled.items ≡ slice_set self.old.settled.items event.node true }
+        ensures looks { looks.new.count ≤ looks.old.count + degree task.now event.node }
+        ensures state { IfOk result (λ b. AreSettling task.now (slice_set self.old.settled.items event.node true) event.at self.new.arrival.items self.new.queue b) }
+        ensures fallen { IfOk result (λ b. IsFallen (slice_set self.old.settled.items event.node true) self.old.arrival.items best self.new.arrival.items b) }
+        ensures taken { IfOk result (λ b. AreSettledTaken task.now (slice_set self.old.settled.items event.node true) self.new.arrival.items b.delivery) }
+        ensures pushes { OnOk result (length self.new.queue + looks.old.count ≤ length self.old.queue + looks.new.count) }
+    {
+        self.settled[event.node] = true;
+        let mut least = best;
+        for link in links.links {
+            let passes = link_passes(links, link);
+            least = self.take_link(task, looks, event, link.receiver, passes, least)?;
+        }
+        Ok(least)
+    }
+
+    /// Settles a node that is reached at the event, and takes every contact of it; answers the first delivery so far.
+    fn settle(
+        &mut self,
+        task: &Task<'_, A>,
+        looks: &mut Looks,
+        event: Event,
+        best: Best,
+    ) -> Result<Best, NoMemory>
+        requires task { IsTask task.now }
+        requires node { event.node < length task.now.table }
+        requires many { length self.old.settled.items ≡ length task.now.table }
+        requires unsettled { slice_index_or self.old.settled.items event.node false ≡ false }
+        requires reached { slice_index self.old.arrival.items event.node ≡ event.at }
+        requires real { IsWayTo task.now event.node event.hops event.at }
+        requires few_hops { event.hops ≤ settled_count self.old.settled.items }
+        requires few { looks.old.count + degree task.now event.node ≤ 2 ^ 62 }
+        requires state { AreSettling task.now (slice_set self.old.settled.items event.node true) event.at self.old.arrival.items self.old.queue best }
+        requires taken { AreSettledTaken task.now self.old.settled.items self.old.arrival.items best.delivery }
+        ensures settled { self.new.settled.items ≡ slice_set self.old.settled.items event.node true }
+        ensures looks { looks.new.count ≤ looks.old.count + degree task.now event.node }
+        ensures state { IfOk result (λ b. AreSettling task.now (slice_set self.old.settled.items event.node true) event.at self.new.arrival.items self.new.queue b) }
+        ensures fallen { IfOk result (λ b. IsFallen (slice_set self.old.settled.items event.node true) self.old.arrival.items best self.new.arrival.items b) }
+        ensures taken { IfOk result (λ b. AreSettledTaken task.now (slice_set self.old.settled.items event.node true) self.new.arrival.items b.delivery) }
+        ensures pushes { OnOk result (length self.new.queue + looks.old.count ≤ length self.old.queue + looks.new.count) }
+    {
+        match task.links(event.node) {
+            Some(links) => self.settle_links(task, looks, event, best, links),
+            None => self.settle_numbers(task, looks, event, best),
+        }
     }
 
     /// Settles nodes in order of their arrival, until no event comes before the first delivery at the goal; answers that

@@ -2,15 +2,17 @@
 
 ghost use Rattle.std.specs.Prelude.{◌≡◌, ◌↔◌, Contains, ◌==◌, ◌&&◌, ℕ, ◌≤◌, ◌<◌, ◌+◌, ◌^◌, None, Some, MatchOption, IfSome, IfNone, IsTrue, length, slice_get};
 ghost use Rattle.std.specs.List.Sorted.{IsNonDecreasing};
+ghost use Rattle.sabr_model.specs.Arrival.{cost};
 ghost use Rattle.sabr_model.specs.Plan.{has};
 ghost use Rattle.sabr_model.specs.Plan.{contact_named};
 ghost use Rattle.sabr_search.specs.Hops.{hop_arrival, IsSmall};
 ghost use Rattle.sabr_search.specs.Task.{IsTask};
 ghost use Rattle.sabr_search.specs.Steps.{AreSteps, IsHopAt};
+ghost use Rattle.sabr_search.specs.Linked.{AreLinksAt};
 
 use crate::looks::Looks;
 use crate::pick::Standing;
-use sabr_model::{Hop, Plan, Request};
+use sabr_model::{Hop, Links, Plan, Request};
 use std::alloc::Allocator;
 use std::marker::Model;
 
@@ -72,6 +74,15 @@ impl<'a, A: Allocator + Copy> Task<'a, A> {
         self.plan.open_contacts(node, at)
     }
 
+    /// The links of a node, on which every step from there is; none where the plan isn't settled.
+    pub fn links(&self, node: usize) -> Option<Links<'_>>
+        requires task { IsTask self.now }
+        requires node { node < length self.now.table }
+        ensures { IfSome result (λ l. AreLinksAt self.now node l.links.now l.passes.now) }
+    {
+        self.plan.links(node)
+    }
+
     /// The record of a contact.
     pub fn look(&self, looks: &mut Looks, number: u32) -> Option<Hop>
         requires task { IsTask self.now }
@@ -126,6 +137,15 @@ impl<'a, A: Allocator + Copy> Task<'a, A> {
         node == self.start && is_among(self.excluded, self.in_order, number)
     }
 
+    /// A light time with the margin, in seconds.
+    pub fn cost(&self, light: u32) -> u64
+        requires task { IsTask self.now }
+        requires light { light ≤ 1000000 }
+        ensures { result ≡ cost self.now.request.margin light }
+    {
+        cost(light, self.request.margin_ppm())
+    }
+
     /// The arrival over the contact where it is before `before`.
     pub fn arrive_before(&self, at: u64, hop: &Hop, before: u64) -> Option<u64>
         requires task { IsTask self.now }
@@ -159,8 +179,6 @@ impl<'a, A: Allocator + Copy> Task<'a, A> {
         }
     }
 }
-
-ghost use Rattle.sabr_model.specs.Arrival.{cost};
 
 /// The arrival over the contact of what is at its sender at `at`.
 pub fn arrive_by_hop(margin_ppm: u32, at: u64, hop: &Hop) -> Option<u64>

@@ -223,6 +223,8 @@ fn words_of_no_command_are_refused(rt: HostRuntime) -> Result<(), Fail> {
         "last",
         "first",
         "first --plan p --from 1 --to 3 --count 1",
+        "check",
+        "check --plan p --from 1",
         "--help",
     ] {
         let outcome = run_line(&rt, line)?;

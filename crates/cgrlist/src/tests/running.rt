@@ -26,9 +26,9 @@ pub fn run_line(rt: &HostRuntime, line: &str) -> Result<Outcome, Fail> {
     Ok(Outcome { status, out, err })
 }
 
-/// Lists the first routes of a plan that two texts make, for these words behind it. The plan stands in a
-/// file of this name for as long as the run takes.
-pub fn run_first_over(
+/// Runs the program over a plan that two texts make: the words, and `--plan` behind them. The plan stands
+/// in a file of this name for as long as the run takes.
+pub fn run_over(
     rt: &HostRuntime,
     file: &str,
     base: &str,
@@ -37,8 +37,20 @@ pub fn run_first_over(
 ) -> Result<Outcome, Fail> {
     let plan = format!(in rt.alloc(); "{base}{more}")?;
     fs::write(rt, file, plan.as_str())?;
-    let line = format!(in rt.alloc(); "first --plan {file} {words}")?;
+    let line = format!(in rt.alloc(); "{words} --plan {file}")?;
     let outcome = run_line(rt, line.as_str())?;
     fs::remove_file(rt, file)?;
     Ok(outcome)
+}
+
+/// Lists the first routes of a plan that two texts make, for these words.
+pub fn run_first_over(
+    rt: &HostRuntime,
+    file: &str,
+    base: &str,
+    more: &str,
+    words: &str,
+) -> Result<Outcome, Fail> {
+    let line = format!(in rt.alloc(); "first {words}")?;
+    run_over(rt, file, base, more, line.as_str())
 }

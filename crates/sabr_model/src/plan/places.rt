@@ -1,6 +1,6 @@
 //! Places in sorted lists: of a contact by its number, and of a start among a node's contacts.
 
-ghost use Rattle.std.specs.Prelude.{◌≡◌, ℕ, ◌<◌, ◌≤◌, ◌+◌, ◌==◌, IsTrue, IsFalse, map, find, length, slice_get, slice_index_or, None, MatchOption, ◌↔◌};
+ghost use Rattle.std.specs.Prelude.{◌≡◌, ℕ, ◌<◌, ◌≤◌, ◌+◌, ◌-◌, ◌==◌, IsTrue, IsFalse, map, find, length, slice_get, slice_index_or, None, MatchOption, ◌↔◌};
 ghost use Rattle.std.specs.Option.{option_copied};
 ghost use Rattle.std.specs.List.Sorted.{IsNonDecreasingBy};
 ghost use Rattle.sabr_model.specs.declared.contact.Contact.{Contact};
@@ -37,6 +37,27 @@ fn number_at(contacts: &[Contact], place: usize) -> u32
 
 /// The place of the contact of a number. Where no contact was deleted this takes one step, else a halving.
 pub fn place_of_number(contacts: &[Contact], number: u32) -> Option<usize>
+    requires { IsTrue (rises_above 0 (map (λ c. c.number) contacts.now)) }
+    ensures { MatchOption result (find (λ c. c.number == number) contacts.now ≡ None) (λ k. (k < length contacts.now) × (find (λ c. c.number == number) contacts.now ≡ slice_get contacts.now k)) }
+{
+    if is_at_own_place(contacts, number) {
+        Some(number as usize - 1)
+    } else {
+        halved_place(contacts, number)
+    }
+}
+
+/// Whether the contact of a number stands where it does if no contact before it was deleted.
+fn is_at_own_place(contacts: &[Contact], number: u32) -> bool
+    ensures within { IsTrue result → (0 < number) × (number ≤ length contacts.now) }
+    ensures there { IsTrue result → (d : Contact) → (slice_index_or contacts.now (number - 1) d).number ≡ number }
+{
+    let count = number as usize;
+    0 < count && count <= contacts.len() && number_at(contacts, count - 1) == number
+}
+
+/// The place of the contact of a number, by halving.
+fn halved_place(contacts: &[Contact], number: u32) -> Option<usize>
     requires { IsTrue (rises_above 0 (map (λ c. c.number) contacts.now)) }
     ensures { MatchOption result (find (λ c. c.number == number) contacts.now ≡ None) (λ k. (k < length contacts.now) × (find (λ c. c.number == number) contacts.now ≡ slice_get contacts.now k)) }
 {

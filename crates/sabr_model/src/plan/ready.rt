@@ -1,4 +1,5 @@
-//! What a plan keeps ready for searches: a hop beside each contact, and by node how long a contact of it lasts at most.
+//! What a plan keeps ready for searches: a hop beside each contact, and by node its links and how long a contact of it
+//! lasts at most.
 
 ghost use Rattle.std.specs.Prelude.{◌≡◌, ◌<◌, ◌≤◌, ◌+◌, ℕ, [], Some, IsTrue, OnOk, length, nat_eq, slice_get, slice_index, slice_index_or};
 ghost use Rattle.indexmap.specs.IndexMap.{IsUnique, keys};
@@ -10,6 +11,7 @@ ghost use Rattle.sabr_model.specs.Ready.{AreHops, NoneLastsLonger};
 
 use super::Plan;
 use super::light::light_of_contact;
+use super::linked::link_nodes;
 use crate::contact::{Contact, Range};
 use crate::fault::NoMemory;
 use crate::hop::Hop;
@@ -25,9 +27,11 @@ impl<A: Allocator + Copy> Plan<A> {
         ensures { self.new ≡ self.old }
     {
         self.settled = false;
+        self.linked.clear();
         fill_hops(&mut self.hops, &self.contacts, &self.ranges, &self.table)?;
         fill_longest(&mut self.longest, &self.contacts, &self.table)?;
         self.settled = true;
+        self.linked = link_nodes(self.alloc, self)?;
         Ok(())
     }
 }

@@ -58,3 +58,22 @@ fn deletions_take_no_memory(rt: HostRuntime) -> Result<(), Fail> {
     assert!(rt; plan.settle().is_ok());
     Ok(())
 }
+
+#[test]
+fn a_refused_settling_can_be_done_again(rt: HostRuntime) -> Result<(), Fail> {
+    let ration = Ration::new(rt.alloc(), 0);
+    let mut first = plan_a(&ration).ok().ok_or("plan")?;
+    ration.refuse(0);
+    assert!(rt; first.settle().is_ok());
+    let requests = ration.requests();
+    assert!(rt; requests > 5);
+    for number in 1..=requests {
+        ration.refuse(0);
+        let mut plan = plan_a(&ration).ok().ok_or("plan")?;
+        ration.refuse(number);
+        assert!(rt; plan.settle().is_err());
+        assert!(rt; plan.settle().is_ok());
+    }
+    ration.refuse(0);
+    Ok(())
+}

@@ -24,7 +24,7 @@ returns-in_err-end_text g c =
     let h = c.in_err-end_text.ensures in
     rw (p.1, p.2) (refused c.args.self c.in_err-end_text.field-0.0 h.held h.value)
 
-pub returns : goal.returns
-returns g c =
+pub returns-in-Ok : goal.returns-in-Ok
+returns-in-Ok g c =
     let h = c.in_ok-end_text.ensures in
-    read c.args.self _ c.into_plan.result.plan h.held h.value c.into_plan.ensures
+    read c.args.self _ _ h.held h.value (rw c.in-Ok.is at c.into_plan.ensures)

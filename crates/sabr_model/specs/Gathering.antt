@@ -1,0 +1,37 @@
+-- Ranges that are gathered in any order: most in their places, and the latest beside them.
+use Rattle.std.specs.Prelude.{◌≡◌, false, List, [], ◌∷◌, map}
+use Rattle.std.specs.List.{list_any, AllByRecursion}
+use Rattle.std.specs.List.Sorted.{IsStrictlySortedBy}
+use Rattle.std.specs.declared.cmp.Ordering.{Ordering}
+use Rattle.sabr_model.specs.declared.contact.Range.{Range}
+use Rattle.sabr_model.specs.Order.{by_numbers, put_in}
+use Rattle.sabr_model.specs.Plan.{ContactPlan, IsPlan, IsWindow, overlap, range_key}
+use Rattle.sabr_model.specs.Adding.{by_range_key}
+
+-- elements put into a list, one after the other
+abbrev pub put_all : {X : Type 0} → (X → X → Ordering) → List X → List X → List X
+put_all cmp [] ys = ys
+put_all cmp (x ∷ xs) ys = put_in cmp x (put_all cmp xs ys)
+
+-- ranges alone, as a plan without contacts
+abbrev pub plan_of_ranges : List Range → ContactPlan
+plan_of_ranges ranges = record { contacts = []; ranges = ranges; greatest = 0 }
+
+-- the ranges in their places, and the latest put among them
+abbrev pub gathered : List Range → List Range → List Range
+gathered placed late = put_all by_range_key late placed
+
+-- ranges in order, and others in order that share no second of a pair with them
+pub record AreTwoLists (placed late : List Range) : Type 0 where
+  pub placed_rise : IsStrictlySortedBy by_numbers (map range_key placed)
+  pub late_rise : IsStrictlySortedBy by_numbers (map range_key late)
+  pub placed_windows : AllByRecursion (λ r. IsWindow r.start r.end) placed
+  pub late_windows : AllByRecursion (λ r. IsWindow r.start r.end) late
+  pub are_apart : AllByRecursion (λ r. list_any (overlap r) placed ≡ false) late
+
+-- both lists and all of them obey the rules of a plan's ranges, and none of the latest overlaps one of the others
+pub record AreGathered (placed late : List Range) : Type 0 where
+  pub placed_obey : IsPlan (plan_of_ranges placed)
+  pub late_obey : IsPlan (plan_of_ranges late)
+  pub all_obey : IsPlan (plan_of_ranges (gathered placed late))
+  pub are_apart : AllByRecursion (λ r. list_any (overlap r) placed ≡ false) late

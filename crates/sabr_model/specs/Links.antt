@@ -1,0 +1,46 @@
+-- A node's links: its standing contacts with a light time by receiver, and by start on each link.
+use Rattle.std.specs.Prelude.{◌≡◌, ℕ, ◌+◌, ◌<◌, ◌≤◌, List, length, slice_get}
+use Rattle.std.specs.declared.option.Option.TheVariants.{Some}
+use Rattle.sabr_model.specs.declared.contact.Contact.{Contact}
+use Rattle.sabr_model.specs.declared.link.Pass.{Pass}
+use Rattle.sabr_model.specs.declared.link.Link.{Link}
+use Rattle.sabr_model.specs.Plan.{TabledPlan, contact_named}
+use Rattle.sabr_model.specs.Light.{light_of}
+use Rattle.sabr_model.specs.Table.{sent_by}
+
+-- the pass is a standing contact from one node to another that has a light time
+pub record IsPassOf (p : TabledPlan) (node to : ℕ) (x : Pass) : Type 0 where
+  pub contact : Contact
+  pub named : contact_named p.plan x.number ≡ Some contact
+  pub sender : contact.from ≡ node
+  pub receiver : contact.to ≡ to
+  pub start : x.start ≡ contact.start
+  pub end : x.end ≡ contact.end
+  pub light : light_of p.plan contact ≡ Some x.light
+
+-- of two passes of a link, or one taken twice, the first does not start later, and each keeps within the other's bounds
+pub record IsBefore (x y : Pass) : Type 0 where
+  pub start : x.start ≤ y.start
+  pub end : x.end ≤ y.latest_end
+  pub latest_end : x.latest_end ≤ y.latest_end
+  pub light_before : y.least_light_before ≤ x.light
+  pub light_behind : x.least_light_behind ≤ y.light
+  pub number_behind : x.least_number_behind ≤ y.number
+
+-- the places of the link hold passes from the node to the link's receiver, by start
+pub record IsLinkOf (p : TabledPlan) (node : ℕ) (passes : List Pass) (l : Link) : Type 0 where
+  pub to : ℕ
+  pub receiver : slice_get p.table l.receiver ≡ Some to
+  pub ordered : l.first ≤ l.end
+  pub within : l.end ≤ length passes
+  pub each : (k : ℕ) (x : Pass) → l.first ≤ k → k < l.end → slice_get passes k ≡ Some x → IsPassOf p node to x
+  pub kept : (i k : ℕ) (x y : Pass) → l.first ≤ i → i ≤ k → k < l.end → slice_get passes i ≡ Some x → slice_get passes k ≡ Some y → IsBefore x y
+
+-- The links are the node's: each lies behind the one before it, each standing contact of the node that has a light time
+-- is a pass of one of them, and there are no more passes than the node has contacts.
+pub record AreLinksOf (p : TabledPlan) (node : ℕ) (links : List Link) (passes : List Pass) : Type 0 where
+  pub each : (j : ℕ) (l : Link) → slice_get links j ≡ Some l → IsLinkOf p node passes l
+  pub in_row : (j : ℕ) (l m : Link) → slice_get links j ≡ Some l → slice_get links (j + 1) ≡ Some m → l.end ≤ m.first
+  pub whole : (n t : ℕ) (c : Contact) → contact_named p.plan n ≡ Some c → c.from ≡ node → light_of p.plan c ≡ Some t
+      → (j k : ℕ) × (l : Link) × (x : Pass) × (slice_get links j ≡ Some l) × (l.first ≤ k) × (k < l.end) × (slice_get passes k ≡ Some x) × (x.number ≡ n)
+  pub few : length passes ≤ length (sent_by p.plan.contacts node)

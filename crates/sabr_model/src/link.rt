@@ -1,0 +1,43 @@
+//! A node's contacts as a search reads them: link by link, and by start on each link.
+
+/// A standing contact with a light time, among those of one link in order of their starts. Beside it stands what bounds
+/// those before it and those behind it, so that a search can leave out most of them.
+#[derive(Clone, Copy, Debug, PartialEq, Eq)]
+pub struct Pass {
+    /// The contact's number.
+    pub number: u32,
+    /// The index of its receiver in the table of nodes.
+    pub receiver: usize,
+    /// The one-way light time in seconds that is in force at its start.
+    pub light: u32,
+    /// The first second at which the contact can be used.
+    pub start: u64,
+    /// The first second at which it no longer can.
+    pub end: u64,
+    /// The greatest end of this contact and those before it on the link.
+    pub latest_end: u64,
+    /// The least light time of this contact and those before it on the link.
+    pub least_light_before: u32,
+    /// The least light time of this contact and those behind it on the link.
+    pub least_light_behind: u32,
+    /// The least number of this contact and those behind it on the link.
+    pub least_number_behind: u32,
+}
+
+/// The contacts from one node to another: a range of places among the node's passes.
+#[derive(Clone, Copy, Debug, PartialEq, Eq)]
+pub struct Link {
+    /// The index of the receiver in the table of nodes.
+    pub receiver: usize,
+    /// The place of the link's first pass.
+    pub first: usize,
+    /// The place behind its last.
+    pub end: usize,
+}
+
+/// The links of one node, and the passes over which they lie one behind the other.
+#[derive(Clone, Copy)]
+pub struct Links<'a> {
+    pub links: &'a [Link],
+    pub passes: &'a [Pass],
+}

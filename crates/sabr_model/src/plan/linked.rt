@@ -1,0 +1,39 @@
+//! The links of each node of a settled plan.
+
+mod bounds;
+mod building;
+mod rows;
+
+ghost use Rattle.std.specs.Prelude.{◌≡◌, ◌<◌, ℕ, Some, IfSome, length, slice_get};
+ghost use Rattle.sabr_model.specs.Links.{AreLinksOf};
+
+use super::Plan;
+use crate::link::{Link, Links, Pass};
+pub use building::link_nodes;
+use std::alloc::Allocator;
+
+/// What a settled plan keeps of one node: its links, and the passes over which they lie.
+#[derive(Drop)]
+pub struct NodeLinks<A: Allocator + Copy> {
+    pub links: Vec<Link, A>,
+    pub passes: Vec<Pass, A>,
+}
+
+impl<A: Allocator + Copy> Plan<A> {
+    /// The links of the node at an index of the table; none where the plan isn't settled.
+    pub fn links(&self, index: usize) -> Option<Links<'_>>
+        requires { index < length self.now.table }
+        ensures { IfSome result (λ l. (node : ℕ) → slice_get self.now.table index ≡ Some node → AreLinksOf self.now node l.links.now l.passes.now) }
+    {
+        if !self.settled {
+            return None;
+        }
+        match self.linked.get(index) {
+            Some(node) => Some(Links {
+                links: &node.links,
+                passes: &node.passes,
+            }),
+            None => None,
+        }
+    }
+}

@@ -1,0 +1,85 @@
+//! How the links of each node are built.
+
+ghost use Rattle.std.specs.Prelude.{◌≡◌, ◌<◌, ℕ, Some, IfOk, MatchOption, length, slice_get};
+ghost use Rattle.sabr_model.specs.Plan.{IsPlan};
+ghost use Rattle.sabr_model.specs.Links.{AreLinksOf};
+ghost use Rattle.sabr_model.specs.Linking.{HasNoLight, IsContactPass, IsBounded, AreBounded, ArePassesOf, AreLinked};
+
+use super::NodeLinks;
+use super::bounds::order_passes;
+use super::rows::links_over;
+use crate::link::Pass;
+use crate::plan::Plan;
+use std::alloc::{AllocError, Allocator};
+
+/// The links of each node of the table.
+pub fn link_nodes<A: Allocator + Copy>(
+    alloc: A,
+    plan: &Plan<A>,
+) -> Result<Vec<NodeLinks<A>, A>, AllocError>
+    requires { IsPlan plan.now.plan }
+    ensures { IfOk result (λ v. AreLinked plan.now v.items) }
+{
+    let mut linked = Vec::new(alloc);
+    let count = plan.nodes();
+    linked.reserve(count)?;
+    for index in 0..count {
+        let node = links_of_node(alloc, plan, index)?;
+        linked.push(node)?;
+    }
+    Ok(linked)
+}
+
+/// The links of the node at an index of the table.
+fn links_of_node<A: Allocator + Copy>(
+    alloc: A,
+    plan: &Plan<A>,
+    index: usize,
+) -> Result<NodeLinks<A>, AllocError>
+    requires rules { IsPlan plan.now.plan }
+    requires index { index < length plan.now.table }
+    ensures { IfOk result (λ s. (node : ℕ) → slice_get plan.now.table index ≡ Some node → AreLinksOf plan.now node s.links.items s.passes.items) }
+{
+    let mut passes = passes_of(alloc, plan, plan.open_contacts(index, 0))?;
+    order_passes(&mut passes);
+    let links = links_over(alloc, &passes)?;
+    Ok(NodeLinks { links, passes })
+}
+
+/// The passes of those contacts of these numbers that have a light time.
+fn passes_of<A: Allocator + Copy>(
+    alloc: A,
+    plan: &Plan<A>,
+    numbers: &[u32],
+) -> Result<Vec<Pass, A>, AllocError>
+    ensures are { IfOk result (λ v. ArePassesOf plan.now numbers.now v.items) }
+    ensures bounded { IfOk result (λ v. AreBounded v.items) }
+{
+    let mut passes = Vec::new(alloc);
+    passes.reserve(numbers.len())?;
+    for number in numbers {
+        if let Some(pass) = pass_of(plan, *number) {
+            passes.push(pass)?;
+        }
+    }
+    Ok(passes)
+}
+
+/// The pass of the contact of a number, bounded by itself alone; none where it has no light time.
+fn pass_of<A: Allocator + Copy>(plan: &Plan<A>, number: u32) -> Option<Pass>
+    ensures { MatchOption result (HasNoLight plan.now number) (λ x. (x.number ≡ number) × IsContactPass plan.now x × IsBounded x) }
+{
+    let hop = plan.hop(number)?;
+    let light = hop.light?;
+    Some(Pass {
+        number,
+        receiver: hop.receiver,
+        light,
+        start: hop.start,
+        end: hop.end,
+        latest_end: hop.end,
+        least_light_before: light,
+        least_light_behind: light,
+        least_number_behind: number,
+    })
+}

@@ -1,0 +1,44 @@
+//! The links that lie over passes in order of their receivers.
+
+ghost use Rattle.std.specs.Prelude.{◌≡◌, ◌<◌, ◌≤◌, ℕ, IfOk, length, slice_index_or};
+ghost use Rattle.sabr_model.specs.declared.link.Pass.{Pass};
+ghost use Rattle.sabr_model.specs.Linking.{AreRows};
+
+use crate::link::{Link, Pass};
+use std::alloc::{AllocError, Allocator};
+
+/// The links over passes: one over each row of passes that have one receiver.
+pub fn links_over<A: Allocator + Copy>(
+    alloc: A,
+    passes: &[Pass],
+) -> Result<Vec<Link, A>, AllocError>
+    ensures { IfOk result (λ v. AreRows passes.now v.items (length passes.now)) }
+{
+    let mut links = Vec::new(alloc);
+    let mut first = 0;
+    while first < passes.len() {
+        let end = end_of_row(passes, first);
+        links.push(Link {
+            receiver: passes[first].receiver,
+            first,
+            end,
+        })?;
+        first = end;
+    }
+    Ok(links)
+}
+
+/// The place behind those from `first` on that have its receiver.
+fn end_of_row(passes: &[Pass], first: usize) -> usize
+    requires { first < length passes.now }
+    ensures behind { first < result }
+    ensures within { result ≤ length passes.now }
+    ensures alike { (k : ℕ) (d : Pass) → first ≤ k → k < result → (slice_index_or passes.now k d).receiver ≡ (slice_index_or passes.now first d).receiver }
+{
+    let receiver = passes[first].receiver;
+    let mut end = first + 1;
+    while end < passes.len() && passes[end].receiver == receiver {
+        end += 1;
+    }
+    end
+}

@@ -1,0 +1,66 @@
+//! The links of a settled plan.
+
+use super::BEGIN;
+use crate::{AddFault, Link, Pass, Plan};
+use std::alloc::Allocator;
+use std::test::*;
+
+/// Three contacts from 1 to 2 that overlap, one without a light time, and one to another node.
+fn plan_of_links<A: Allocator + Copy>(alloc: A) -> Result<Plan<A>, AddFault> {
+    let mut plan = Plan::new(alloc);
+    plan.add_range(1, 2, BEGIN, BEGIN + 10, 7)?;
+    plan.add_range(1, 2, BEGIN + 10, BEGIN + 20, 3)?;
+    plan.add_range(1, 2, BEGIN + 20, BEGIN + 30, 5)?;
+    plan.add_range(1, 3, BEGIN, BEGIN + 30, 1)?;
+    plan.add_contact(1, 2, BEGIN + 10, BEGIN + 15, 1000)?;
+    plan.add_contact(1, 2, BEGIN, BEGIN + 100, 1000)?;
+    plan.add_contact(1, 2, BEGIN + 20, BEGIN + 25, 1000)?;
+    plan.add_contact(1, 4, BEGIN, BEGIN + 25, 1000)?;
+    plan.add_contact(1, 3, BEGIN + 5, BEGIN + 6, 1000)?;
+    Ok(plan)
+}
+
+/// A pass by its number, light time, start and end, and what bounds it, in the order of its fields; times from `BEGIN` on.
+fn pass(receiver: usize, of: [u32; 2], times: [u64; 3], least: [u32; 3]) -> Pass {
+    Pass {
+        number: of[0],
+        receiver,
+        light: of[1],
+        start: BEGIN.saturating_add(times[0]),
+        end: BEGIN.saturating_add(times[1]),
+        latest_end: BEGIN.saturating_add(times[2]),
+        least_light_before: least[0],
+        least_light_behind: least[1],
+        least_number_behind: least[2],
+    }
+}
+
+/// A link by its receiver's index and the places of its passes.
+fn link(receiver: usize, first: usize, end: usize) -> Link {
+    Link {
+        receiver,
+        first,
+        end,
+    }
+}
+
+#[test]
+fn a_settled_plan_tells_its_links(rt: HostRuntime) -> Result<(), Fail> {
+    let mut plan = plan_of_links(rt.alloc()).ok().ok_or("plan")?;
+    let node = plan.node_index(1).ok_or("node")?;
+    assert!(rt; plan.links(node).is_none());
+    assert!(rt; plan.settle().is_ok());
+    let told = plan.links(node).ok_or("links")?;
+    assert_eq!(rt; told.links, [link(1, 0, 3), link(3, 3, 4)].as_slice());
+    assert_eq!(rt;
+        told.passes,
+        [
+            pass(1, [2, 7], [0, 100, 100], [7, 3, 1]),
+            pass(1, [1, 3], [10, 15, 100], [3, 3, 1]),
+            pass(1, [3, 5], [20, 25, 100], [3, 5, 3]),
+            pass(3, [5, 1], [5, 6, 6], [1, 1, 5]),
+        ]
+        .as_slice()
+    );
+    Ok(())
+}

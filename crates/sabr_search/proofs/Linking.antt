@@ -1,0 +1,102 @@
+-- The links that a plan gives for a node are those of a search, and what bounds their passes.
+use Rattle.std.proofs.Common.{◌≡◌, ℕ, ◌+◌, ◌-◌, ◌*◌, ◌<◌, ◌≤◌, max, Bool, true, false, cond, eqb, List, [], ◌∷◌, length, map, take, drop, get_or, slice_get, refl, sym, ap, ◌∙◌, arith}
+use Rattle.std.specs.List.{count_by, filter}
+use Rattle.std.specs.declared.option.Option.TheVariants.{Some}
+use Rattle.std.proofs.lemmas.Bool.{cases_Bool, eqb-true, eq-eqb}
+use Rattle.std.proofs.lemmas.List.{length-take, length-drop, get_or-take, get_or-drop}
+use Rattle.std.proofs.lemmas.List.Sums.{sum_by-cons}
+use Rattle.std.proofs.lemmas.Option.{slice_get-get_or, slice_get_within, get_or_from_slice_get}
+use Rattle.std.proofs.Math.Nat.{mul-le-mul}
+use Rattle.sabr_model.specs.declared.contact.Contact.{Contact}
+use Rattle.sabr_model.specs.declared.link.Pass.{Pass}
+use Rattle.sabr_model.specs.declared.link.Link.{Link}
+use Rattle.sabr_model.specs.Plan.{TabledPlan}
+use Rattle.sabr_model.specs.Arrival.{cost}
+use Rattle.sabr_model.specs.Table.{sent_by}
+use Rattle.sabr_model.specs.Links.{AreLinksOf, IsLinkOf, IsPassOf}
+use Rattle.sabr_search.specs.Task.{SearchTask, IsTask, Takes}
+use Rattle.sabr_search.specs.Steps.{place_in, senders, degree}
+use Rattle.sabr_search.specs.Linked.{IsPassAt, IsLinkAt, HasNumber, passes_of, AreLinksAt}
+use Rattle.sabr_search.proofs.Arrivals.{arrival_parts}
+use Rattle.sabr_search.proofs.PlanFacts.{light_small}
+use Rattle.sabr_search.proofs.StepLists.{place_is}
+
+same_some : {X : Type 0} {x y : X} → Some x ≡ Some y → x ≡ y
+same_some h = cc
+
+-- an element of a part of a list, in the list
+part_at : {X : Type 0} (xs : List X) (first n k : ℕ) (x : X) → slice_get (take n (drop first xs)) k ≡ Some x → (k < n) × (slice_get xs (first + k) ≡ Some x)
+part_at xs first n k x h =
+    let within : k < length (take n (drop first xs)) = slice_get_within (take n (drop first xs)) k x h in
+    let less : k < n = omega (arith, within, length-take n (drop first xs)) in (
+      less,
+      slice_get-get_or xs (first + k) x (omega (arith, within, length-take n (drop first xs), length-drop first xs))
+          ∙ ap Some (sym (get_or-drop first xs k x) ∙ sym (get_or-take n (drop first xs) k x less) ∙ get_or_from_slice_get (take n (drop first xs)) k x x h),
+    )
+
+-- an element of a list, in a part of it
+part_has : {X : Type 0} (xs : List X) (first end p : ℕ) (x : X) → first ≤ p → p < end → end ≤ length xs → slice_get xs p ≡ Some x → slice_get (take (end - first) (drop first xs)) (p - first) ≡ Some x
+part_has xs first end p x after before within h =
+    let back : first + (p - first) ≡ p = omega arith in
+    slice_get-get_or (take (end - first) (drop first xs)) (p - first) x (omega (arith, length-take (end - first) (drop first xs), length-drop first xs))
+    ∙ ap Some (get_or-take (end - first) (drop first xs) (p - first) x (omega arith) ∙ get_or-drop first xs (p - first) x ∙ ap (λ q. get_or xs q x) back ∙ get_or_from_slice_get xs p x x h)
+
+-- a node's contacts are as many as those of its place
+sent_few : (table : List ℕ) (u node : ℕ) → place_in table node ≡ u → (cs : List Contact) → length (sent_by cs node) ≤ count_by (λ k. eqb k u) (map (λ (c : Contact). place_in table c.from) cs)
+sent_few table u node here [] = omega arith
+sent_few table u node here (c ∷ cs) =
+    let more = sum_by-cons (λ (k : ℕ). cond (eqb k u) 1 0) (place_in table c.from) (map (λ (d : Contact). place_in table d.from) cs) in
+    let rest = sent_few table u node here cs in
+    elim (eqb node c.from) as (λ b. eqb node c.from ≡ b → length (map (λ (d : Contact). d.number) (cond b (c ∷ filter (λ (d : Contact). eqb node d.from) cs) (filter (λ (d : Contact). eqb node d.from) cs))) ≤ count_by (λ k. eqb k u) (map (λ (d : Contact). place_in table d.from) (c ∷ cs))) [
+      | true ↦ λ e.
+          (let one : cond (eqb (place_in table c.from) u) 1 0 ≡ cond true 1 0 = ap (λ b. cond {A = ℕ} b 1 0) (eq-eqb (place_in table c.from) u (ap (place_in table) (sym (eqb-true node c.from e)) ∙ here)) in
+          omega (arith, more, rest, one))
+      | false ↦ λ e. omega (arith, more, rest)
+    ] refl
+
+module _ (task : SearchTask) (is : IsTask task) (u node : ℕ) (at : slice_get task.table u ≡ Some node) where
+  pass_at : (to w : ℕ) (x : Pass) → slice_get task.table w ≡ Some to → IsPassOf (record { plan = task.plan; table = task.table }) node to x → IsPassAt task u w x
+  pass_at to w x there p = record {
+    contact = p.contact;
+    named = p.named;
+    sender = at ∙ ap Some (sym p.sender);
+    receiver = there ∙ ap Some (sym p.receiver);
+    start = p.start;
+    end = p.end;
+    light = p.light;
+  }
+
+  link_at : (passes : List Pass) (l : Link) → IsLinkOf (record { plan = task.plan; table = task.table }) node passes l → IsLinkAt task u l.receiver (passes_of passes l)
+  link_at passes l link = record {
+    each = λ k x h.
+        (let p = part_at passes l.first (l.end - l.first) k x h in
+        pass_at link.to l.receiver x link.receiver (link.each (l.first + k) x (omega arith) (omega (arith, p.0)) p.1));
+    kept = λ i k x y le at_i at_k.
+        (let p = part_at passes l.first (l.end - l.first) i x at_i in
+        let q = part_at passes l.first (l.end - l.first) k y at_k in
+        link.kept (l.first + i) (l.first + k) x y (omega arith) (omega (arith, le)) (omega (arith, q.0)) p.1 q.1);
+  }
+
+  -- what a plan says of a node's links, of a search
+  pub links_at : (links : List Link) (passes : List Pass) → AreLinksOf (record { plan = task.plan; table = task.table }) node links passes → AreLinksAt task u links passes
+  links_at links passes of = record {
+    receivers = λ j l h. slice_get_within task.table l.receiver (of.each j l h).to (of.each j l h).receiver;
+    ordered = λ j l h. (of.each j l h).ordered;
+    within = λ j l h. (of.each j l h).within;
+    each = λ j l h. link_at passes l (of.each j l h);
+    in_row = of.in_row;
+    whole = λ n t w b s.
+        (let a = arrival_parts task.plan task.request t s.contact b s.arrives in
+        let from : s.contact.from ≡ node = same_some (sym s.sender ∙ at) in
+        let p = of.whole n a.light s.contact s.named from a.in_force in
+        let j = p.0 in
+        let k = p.1 in
+        let l = p.2 in
+        let x = p.3 in
+        (j, l, p.4, (k - l.first, x, part_has passes l.first l.end k x p.5 p.6 (of.each j l p.4).within p.7, p.8)));
+    few = omega (arith, of.few, sent_few task.table u node (place_is task.plan task.table is.nodes u node at) task.plan.contacts);
+  }
+
+-- a lighter contact costs no more
+pub cost_rises : (margin l m : ℕ) → l ≤ m → cost margin l ≤ cost margin m
+cost_rises margin l m le = let product : l * margin ≤ m * margin = mul-le-mul le (omega arith) in omega (arith, product)

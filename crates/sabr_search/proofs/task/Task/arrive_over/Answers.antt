@@ -1,0 +1,117 @@
+use Rattle.std.proofs.Common.{◌≡◌, ◌<◌, inl, inr, Some, length, slice_index_or, slice_get, sym, ◌∙◌, arith}
+use Rattle.std.proofs.lemmas.Option.{slice_get-get_or, slice_get_within}
+use Rattle.std.proofs.lemmas.Bool.{cases_lt}
+use Rattle.sabr_search.proofs.PlanFacts.{hop_arrives}
+use Rattle.sabr_search.proofs.Forward.{step_of_hop, allowed_by, excluded_by, last_or_before}
+use Rattle.sabr_search.proofs.OverLinks.{same_some, no_pass, none_ended, least_light_small, late_over, pass_takes, step_at, step_over}
+use Rattle.sabr_search.proofs.task.Task.arrive_over.Goals as goal
+use Rattle.sabr_search.proofs.task.Task.arrive_over.Goals.{in-Some, in_default}
+
+pub loop-place-init : goal.loop-place-init
+loop-place-init g c = record {
+  counted = omega arith;
+  looked = omega arith;
+  some_looks = λ less. absurd (omega (arith, less));
+  later = omega (arith, c.if-at-before.false);
+  upper = omega arith;
+  sound = λ less. absurd (omega (arith, less));
+  full = λ k x w b less at s. absurd (none_ended c.args.self.now c.requires.task c.args.node c.args.to c.args.passes.now c.requires.link c.args.at k x w b at (c.first_open-place.ensures.ended k x less at) s);
+}
+
+pub comes_late-requires-clause-light : goal.comes_late-requires-clause-light
+comes_late-requires-clause-light g c =
+    let passes = c.args.passes.now in
+    let i = c.loop-place.place in
+    least_light_small c.args.self.now c.requires.task c.args.node c.args.to passes c.requires.link i (slice_index_or passes i no_pass) (slice_get-get_or passes i no_pass c.loop-place-test.true)
+
+pub returns-then-comes_late-clause-full : goal.returns-then-comes_late-clause-full
+returns-then-comes_late-clause-full g c = λ n w b has s.
+    let task = c.args.self.now in
+    let passes = c.args.passes.now in
+    let i = c.loop-place.place in
+    let step = step_over task passes n c.args.node c.args.at w b has s in
+    elim (cases_lt has.0 i) [
+      | inl before ↦ c.loop-place.invariant.full has.0 has.1 w b before has.2 step
+      | inr behind ↦
+          late_over task c.requires.task c.args.node c.args.to passes c.requires.link c.args.at c.loop-place.least i (slice_index_or passes i no_pass) (slice_get-get_or passes i no_pass c.loop-place-test.true)
+          (c.comes_late.ensures c.if-comes_late.true) has.0 has.1 w b behind has.2 step
+    ]
+
+pub look_at-hop-requires-clause-pass : goal.look_at-hop-requires-clause-pass
+look_at-hop-requires-clause-pass g c =
+    let passes = c.args.passes.now in
+    let i = c.loop-place.place in
+    c.requires.link.each i (slice_index_or passes i no_pass) (slice_get-get_or passes i no_pass c.loop-place-test.true)
+
+pub loop-place-preserved-then-is_excluded : goal.loop-place-preserved-then-is_excluded
+loop-place-preserved-then-is_excluded g c =
+    let task = c.args.self.now in
+    let passes = c.args.passes.now in
+    let i = c.loop-place.place in
+    let pass = slice_index_or passes i no_pass in
+    let here : slice_get passes i ≡ Some pass = slice_get-get_or passes i no_pass c.loop-place-test.true in
+    let so_far = c.loop-place.invariant in
+    record {
+      counted = omega (arith, so_far.counted, c.look_at-hop.ensures.counted);
+      looked = omega (arith, so_far.looked, c.look_at-hop.ensures.counted);
+      some_looks = λ less. omega (arith, so_far.looked, c.look_at-hop.ensures.counted);
+      later = so_far.later;
+      upper = so_far.upper;
+      sound = so_far.sound;
+      full = λ k x w b less at s. elim (last_or_before k i less) [
+        | inl before ↦ so_far.full k x w b before at s
+        | inr same ↦ absurd (excluded_by task c.args.node pass.number c.args.at w b c.is_excluded.result c.is_excluded.ensures c.if-is_excluded.true (step_at task passes c.args.node c.args.at i k pass x w b here at same s))
+      ];
+    }
+
+pub loop-place-preserved : goal.loop-place-preserved
+loop-place-preserved g c =
+    let task = c.args.self.now in
+    let passes = c.args.passes.now in
+    let i = c.loop-place.place in
+    let u = c.args.node in
+    let t = c.args.at in
+    let pass = slice_index_or passes i no_pass in
+    let here : slice_get passes i ≡ Some pass = slice_get-get_or passes i no_pass c.loop-place-test.true in
+    let so_far = c.loop-place.invariant in
+    let hop = c.look_at-hop.result in
+    let is_hop = c.look_at-hop.ensures.value in
+    elim c.match-arrive_before.branch [
+      | in-Some z ↦
+          (let got = z.in-Some.ensures.some in
+          rw z.least-is (record {
+            counted = omega (arith, so_far.counted, c.look_at-hop.ensures.counted);
+            looked = omega (arith, so_far.looked, c.look_at-hop.ensures.counted);
+            some_looks = λ less. omega (arith, so_far.looked, c.look_at-hop.ensures.counted);
+            later = omega (arith, (hop_arrives task.request.margin t z.in-Some.arrival hop got.0).sum);
+            upper = omega (arith, so_far.upper, got.1);
+            sound = λ less open'.
+                (pass.number, pass_takes task c.requires.task u c.args.to t pass z.in-Some.arrival hop (c.requires.link.each i pass here) c.look_at-hop.ensures.receiver is_hop open' (allowed_by task u pass.number c.is_excluded.result c.is_excluded.ensures c.if-is_excluded.false) got.0);
+            full = λ k x w b less at s. elim (last_or_before k i less) [
+              | inl before ↦ omega (arith, so_far.full k x w b before at s, got.1)
+              | inr same ↦
+                  (let step = step_of_hop task c.requires.task pass.number hop is_hop u t w b (step_at task passes u t i k pass x w b here at same s) in
+                  omega (arith, same_some (sym got.0 ∙ step.1)))
+            ];
+          }))
+      | in_default z ↦
+          rw z.least-is (record {
+            counted = omega (arith, so_far.counted, c.look_at-hop.ensures.counted);
+            looked = omega (arith, so_far.looked, c.look_at-hop.ensures.counted);
+            some_looks = λ less. omega (arith, so_far.looked, c.look_at-hop.ensures.counted);
+            later = so_far.later;
+            upper = so_far.upper;
+            sound = so_far.sound;
+            full = λ k x w b less at s. elim (last_or_before k i less) [
+              | inl before ↦ so_far.full k x w b before at s
+              | inr same ↦
+                  (let step = step_of_hop task c.requires.task pass.number hop is_hop u t w b (step_at task passes u t i k pass x w b here at same s) in
+                  z.in_default.ensures.none b step.1)
+            ];
+          })
+    ]
+
+pub returns-clause-full : goal.returns-clause-full
+returns-clause-full g c = λ n w b has s.
+    let passes = c.args.passes.now in
+    c.loop-place.invariant.full has.0 has.1 w b (omega (arith, slice_get_within passes has.0 has.1 has.2, c.loop-place-test.false)) has.2 (step_over c.args.self.now passes n c.args.node c.args.at w b has s)

@@ -1,0 +1,79 @@
+use Rattle.std.proofs.Common.{◌≡◌, ◌-◌, ◌<◌, ◌≤◌, inl, inr, Some, length, slice_index_or, slice_get, sym, ◌∙◌, arith}
+use Rattle.std.proofs.lemmas.Option.{slice_get-get_or}
+use Rattle.std.proofs.lemmas.Bool.{cases_lt, cases_eq}
+use Rattle.sabr_search.proofs.PlanFacts.{hop_at_window}
+use Rattle.sabr_search.proofs.Forward.{step_of_hop}
+use Rattle.sabr_search.proofs.OverLinks.{no_pass, least_before_small, starts_late, none_later, pass_takes, step_at, step_over}
+use Rattle.sabr_search.proofs.task.Task.leave_over.Goals as goal
+
+pub loop-back-init : goal.loop-back-init
+loop-back-init g c = record {
+  counted = omega arith;
+  lower = omega arith;
+  sound = λ t from less. absurd (omega (arith, from, less));
+  full = λ k x t w b le at after s less.
+      absurd (omega (arith, less, c.begun-end.ensures.late k x (omega (arith, le)) at, (starts_late c.args.self.now c.requires.task c.args.node c.args.to c.args.passes.now c.requires.link t k x w b at s).0));
+}
+
+pub leaves_no_later-requires-clause-light : goal.leaves_no_later-requires-clause-light
+leaves_no_later-requires-clause-light g c =
+    let passes = c.args.passes.now in
+    let i = c.begun-end.result - 1 - c.loop-back.back in
+    least_before_small c.args.self.now c.requires.task c.args.node c.args.to passes c.requires.link i (slice_index_or passes i no_pass) (slice_get-get_or passes i no_pass (omega (arith, c.loop-back-test.true, c.begun-end.ensures.within)))
+
+pub returns-then-leaves_no_later-clause-full : goal.returns-then-leaves_no_later-clause-full
+returns-then-leaves_no_later-clause-full g c = λ n t w b has after s less.
+    let task = c.args.self.now in
+    let passes = c.args.passes.now in
+    let i = c.begun-end.result - 1 - c.loop-back.back in
+    let step = step_over task passes n c.args.node t w b has s in
+    elim (cases_lt i has.0) [
+      | inl above ↦ c.loop-back.invariant.full has.0 has.1 t w b (omega (arith, above, c.loop-back-test.true)) has.2 after step less
+      | inr below ↦
+          none_later task c.requires.task c.args.node c.args.to passes c.requires.link c.loop-back.last c.args.since c.args.before i (slice_index_or passes i no_pass) (slice_get-get_or passes i no_pass (omega (arith, c.loop-back-test.true, c.begun-end.ensures.within)))
+          (c.leaves_no_later.ensures c.if-leaves_no_later.true) has.0 has.1 t w b below has.2 after step less
+    ]
+
+pub look_at-hop-requires-clause-pass : goal.look_at-hop-requires-clause-pass
+look_at-hop-requires-clause-pass g c =
+    let passes = c.args.passes.now in
+    let i = c.begun-end.result - 1 - c.loop-back.back in
+    c.requires.link.each i (slice_index_or passes i no_pass) (slice_get-get_or passes i no_pass (omega (arith, c.loop-back-test.true, c.begun-end.ensures.within)))
+
+pub leave_before-requires-clause-window : goal.leave_before-requires-clause-window
+leave_before-requires-clause-window g c = hop_at_window c.args.self.now c.requires.task _ c.look_at-hop.result c.look_at-hop.ensures.value
+
+pub loop-back-preserved : goal.loop-back-preserved
+loop-back-preserved g c =
+    let task = c.args.self.now in
+    let passes = c.args.passes.now in
+    let i = c.begun-end.result - 1 - c.loop-back.back in
+    let u = c.args.node in
+    let pass = slice_index_or passes i no_pass in
+    let here : slice_get passes i ≡ Some pass = slice_get-get_or passes i no_pass (omega (arith, c.loop-back-test.true, c.begun-end.ensures.within)) in
+    let so_far = c.loop-back.invariant in
+    let hop = c.look_at-hop.result in
+    let is_hop = c.look_at-hop.ensures.value in
+    record {
+      counted = omega (arith, so_far.counted, c.look_at-hop.ensures.counted);
+      lower = omega (arith, so_far.lower, c.max-last.ensures);
+      sound = λ t from less. elim (cases_lt t c.loop-back.last) [
+        | inl before ↦ so_far.sound t from before
+        | inr behind ↦
+            (let kept = c.leave_before.ensures.kept t (omega (arith, c.max-last.ensures, less, behind)) in
+            (kept.0, kept.2, λ open'. (pass.number, pass_takes task c.requires.task u c.args.to t pass kept.0 hop (c.requires.link.each i pass here) c.look_at-hop.ensures.receiver is_hop open' (λ same. absurd (c.requires.other same)) kept.1)))
+      ];
+      full = λ k x t w b le at after s less. elim (cases_eq k i) [
+        | inl same ↦
+            (let step = step_of_hop task c.requires.task pass.number hop is_hop u t w b (step_at task passes u t i k pass x w b here at same s) in
+            elim (cases_lt t c.leave_before.result) [
+              | inl before ↦ omega (arith, c.max-last.ensures, before)
+              | inr behind ↦ absurd (omega (arith, less, c.leave_before.ensures.missed t b behind step.1))
+            ])
+        | inr other ↦ omega (arith, c.max-last.ensures, so_far.full k x t w b (omega (arith, le, other, c.loop-back-test.true)) at after s less)
+      ];
+    }
+
+pub returns-clause-full : goal.returns-clause-full
+returns-clause-full g c = λ n t w b has after s less.
+    c.loop-back.invariant.full has.0 has.1 t w b (omega (arith, c.loop-back-test.false)) has.2 after (step_over c.args.self.now c.args.passes.now n c.args.node t w b has s) less

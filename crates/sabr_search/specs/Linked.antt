@@ -1,0 +1,45 @@
+-- The links that a search walks at one node: the contacts that it sends, by receiver, as passes.
+use Rattle.std.specs.Prelude.{◌≡◌, ℕ, ◌+◌, ◌-◌, ◌<◌, ◌≤◌, List, length, take, drop, slice_get}
+use Rattle.std.specs.declared.option.Option.TheVariants.{Some}
+use Rattle.sabr_model.specs.declared.contact.Contact.{Contact}
+use Rattle.sabr_model.specs.declared.link.Pass.{Pass}
+use Rattle.sabr_model.specs.declared.link.Link.{Link}
+use Rattle.sabr_model.specs.Plan.{contact_named}
+use Rattle.sabr_model.specs.Light.{light_of}
+use Rattle.sabr_model.specs.Links.{IsBefore}
+use Rattle.sabr_search.specs.Task.{SearchTask, Takes}
+use Rattle.sabr_search.specs.Steps.{degree}
+
+-- the pass is a standing contact with a light time, from the node at place u to the node at place w
+pub record IsPassAt (task : SearchTask) (u w : ℕ) (x : Pass) : Type 0 where
+  pub contact : Contact
+  pub named : contact_named task.plan x.number ≡ Some contact
+  pub sender : slice_get task.table u ≡ Some contact.from
+  pub receiver : slice_get task.table w ≡ Some contact.to
+  pub start : x.start ≡ contact.start
+  pub end : x.end ≡ contact.end
+  pub light : light_of task.plan contact ≡ Some x.light
+
+-- passes from the node at place u to the node at place w, by start, each within the bounds that stand beside the others
+pub record IsLinkAt (task : SearchTask) (u w : ℕ) (passes : List Pass) : Type 0 where
+  pub each : (k : ℕ) (x : Pass) → slice_get passes k ≡ Some x → IsPassAt task u w x
+  pub kept : (i k : ℕ) (x y : Pass) → i ≤ k → slice_get passes i ≡ Some x → slice_get passes k ≡ Some y → IsBefore x y
+
+-- one of the passes has the number
+abbrev pub HasNumber : List Pass → ℕ → Type 0
+HasNumber passes n = (k : ℕ) × (x : Pass) × (slice_get passes k ≡ Some x) × (x.number ≡ n)
+
+-- the passes at the places of the link
+abbrev pub passes_of : List Pass → Link → List Pass
+passes_of passes l = take (l.end - l.first) (drop l.first passes)
+
+-- the links of the node at place u lie one behind the other, every step from there is over a pass of one of them, and
+-- there are no more passes than the node has contacts
+pub record AreLinksAt (task : SearchTask) (u : ℕ) (links : List Link) (passes : List Pass) : Type 0 where
+  pub receivers : (j : ℕ) (l : Link) → slice_get links j ≡ Some l → l.receiver < length task.table
+  pub ordered : (j : ℕ) (l : Link) → slice_get links j ≡ Some l → l.first ≤ l.end
+  pub within : (j : ℕ) (l : Link) → slice_get links j ≡ Some l → l.end ≤ length passes
+  pub each : (j : ℕ) (l : Link) → slice_get links j ≡ Some l → IsLinkAt task u l.receiver (passes_of passes l)
+  pub in_row : (j : ℕ) (l m : Link) → slice_get links j ≡ Some l → slice_get links (j + 1) ≡ Some m → l.end ≤ m.first
+  pub whole : (n t w b : ℕ) → Takes task n u t w b → (j : ℕ) × (l : Link) × (slice_get links j ≡ Some l) × HasNumber (passes_of passes l) n
+  pub few : length passes ≤ degree task u

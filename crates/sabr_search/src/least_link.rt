@@ -1,0 +1,65 @@
+//! The least number of a link that arrives in time.
+
+ghost use Rattle.std.specs.Prelude.{◌≡◌, ◌⊎◌, ℕ, ◌+◌, ◌^◌, ◌≤◌, ◌<◌, Some, IfSome, false, length, slice_index_or};
+ghost use Rattle.sabr_search.specs.Task.{IsTask, Takes};
+ghost use Rattle.sabr_search.specs.Picks.{IsAtMost};
+ghost use Rattle.sabr_search.specs.Linked.{IsLinkAt, HasNumber};
+
+use crate::looks::Looks;
+use crate::over_link::first_open;
+use crate::pick::{Step, is_at_most};
+use crate::task::Task;
+use sabr_model::Pass;
+use std::alloc::Allocator;
+
+impl<'a, A: Allocator + Copy> Task<'a, A> {
+    /// The step of least number over a link for what is at its sender at `at`, that arrives before `before` and whose
+    /// number is less than that of `least`; where there is none, `least`.
+    pub fn least_over(
+        &self,
+        looks: &mut Looks,
+        node: usize,
+        to: usize,
+        passes: &[Pass],
+        at: u64,
+        before: u64,
+        least: Option<Step>,
+    ) -> Option<Step>
+        requires task { IsTask self.now }
+        requires link { IsLinkAt self.now node to passes.now }
+        requires few { looks.old.count + length passes.now ≤ 2 ^ 62 }
+        ensures looks { looks.new.count ≤ looks.old.count + length passes.now }
+        ensures lower { (n : ℕ) → IsAtMost least n → IsAtMost result n }
+        ensures sound { (result ≡ least) ⊎ IfSome result (λ s. (s.node ≡ to) × (s.at < before) × (slice_index_or self.now.shut to false ≡ false → Takes self.now s.number node at to s.at)) }
+        ensures full { (n w b : ℕ) → HasNumber passes.now n → Takes self.now n node at w b → b < before → IsAtMost result n }
+    {
+        if at >= before {
+            return least;
+        }
+        let mut chosen = least;
+        for place in first_open(self, node, to, passes, at)..passes.len() {
+            let pass = &passes[place];
+            if self.comes_late(pass, at, before) {
+                return chosen;
+            }
+            if is_at_most(chosen, pass.least_number_behind) {
+                return chosen;
+            }
+            if is_at_most(chosen, pass.number) {
+                continue;
+            }
+            let hop = self.look_at(looks, node, to, pass);
+            if self.is_excluded(node, pass.number) {
+                continue;
+            }
+            if let Some(arrival) = self.arrive_before(at, &hop, before) {
+                chosen = Some(Step {
+                    number: pass.number,
+                    node: to,
+                    at: arrival,
+                });
+            }
+        }
+        chosen
+    }
+}

@@ -1,0 +1,78 @@
+//! The last second at which a link can be left in time, from its last passes backward.
+
+ghost use Rattle.std.specs.Prelude.{◌≡◌, ◌≢◌, ◌⊎◌, ℕ, ◌+◌, ◌^◌, ◌≤◌, ◌<◌, max, IsTrue, false, Some, length, slice_get, slice_index_or};
+ghost use Rattle.sabr_model.specs.declared.link.Pass.{Pass};
+ghost use Rattle.sabr_model.specs.Arrival.{cost};
+ghost use Rattle.sabr_search.specs.Task.{IsTask, Takes};
+ghost use Rattle.sabr_search.specs.Linked.{IsLinkAt, HasNumber};
+
+use crate::looks::Looks;
+use crate::task::Task;
+use sabr_model::Pass;
+use std::alloc::Allocator;
+
+/// How many passes of a link start before `before`: they are those in front.
+fn begun<A: Allocator + Copy>(
+    _task: &Task<'_, A>,
+    _node: usize,
+    _to: usize,
+    passes: &[Pass],
+    before: u64,
+) -> usize
+    requires task { IsTask _task.now }
+    requires link { IsLinkAt _task.now _node _to passes.now }
+    ensures within { result ≤ length passes.now }
+    ensures late { (k : ℕ) (x : Pass) → result ≤ k → slice_get passes.now k ≡ Some x → before ≤ x.start }
+{
+    passes.partition_point(|pass| pass.start < before)
+}
+
+impl<'a, A: Allocator + Copy> Task<'a, A> {
+    /// Whether no one who is at the sender at `since` or later, and at `latest` or later, arrives before `before` over
+    /// this pass or one in front of it.
+    fn leaves_no_later(&self, pass: &Pass, since: u64, before: u64, latest: u64) -> bool
+        requires task { IsTask self.now }
+        requires light { pass.now.least_light_before ≤ 1000000 }
+        ensures { IsTrue result → (pass.now.latest_end ≤ max latest since) ⊎ (before ≤ latest + cost self.now.request.margin pass.now.least_light_before) }
+    {
+        if pass.latest_end <= latest.max(since) || before <= latest {
+            return true;
+        }
+        before - latest <= self.cost(pass.least_light_before)
+    }
+
+    /// The first second from which on nothing leaves over a link and arrives before `before`, where that is later than
+    /// `latest`, and else `latest`; of what is at the sender before `since` nothing is said. It takes a halving and as
+    /// many looks as passes come in question.
+    pub fn leave_over(
+        &self,
+        looks: &mut Looks,
+        node: usize,
+        to: usize,
+        passes: &[Pass],
+        since: u64,
+        before: u64,
+        latest: u64,
+    ) -> u64
+        requires task { IsTask self.now }
+        requires link { IsLinkAt self.now node to passes.now }
+        requires other { node ≢ self.now.start }
+        requires few { looks.old.count + length passes.now ≤ 2 ^ 62 }
+        ensures looks { looks.new.count ≤ looks.old.count + length passes.now }
+        ensures lower { latest ≤ result }
+        ensures sound { (t : ℕ) → latest ≤ t → t < result → (b : ℕ) × (b < before) × (slice_index_or self.now.shut to false ≡ false → (n : ℕ) × Takes self.now n node t to b) }
+        ensures full { (n t w b : ℕ) → HasNumber passes.now n → since ≤ t → Takes self.now n node t w b → b < before → t < result }
+    {
+        let mut last = latest;
+        let end = begun(self, node, to, passes, before);
+        for back in 0..end {
+            let pass = &passes[end - 1 - back];
+            if self.leaves_no_later(pass, since, before, last) {
+                return last;
+            }
+            let hop = self.look_at(looks, node, to, pass);
+            last = last.max(self.leave_before(&hop, before));
+        }
+        last
+    }
+}

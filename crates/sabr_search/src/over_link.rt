@@ -1,0 +1,106 @@
+//! The arrival over a whole link: halving and a few looks in place of one look for each of its contacts.
+
+ghost use Rattle.std.specs.Prelude.{◌≡◌, ℕ, ◌+◌, ◌^◌, ◌≤◌, ◌<◌, max, IsTrue, false, Some, length, slice_get, slice_index_or};
+ghost use Rattle.sabr_model.specs.declared.link.Pass.{Pass};
+ghost use Rattle.sabr_model.specs.Arrival.{cost};
+ghost use Rattle.sabr_search.specs.Hops.{IsSmall};
+ghost use Rattle.sabr_search.specs.Task.{IsTask, Takes};
+ghost use Rattle.sabr_search.specs.Steps.{IsHopAt};
+ghost use Rattle.sabr_search.specs.Linked.{IsPassAt, IsLinkAt, HasNumber, passes_of};
+
+use crate::looks::Looks;
+use crate::task::Task;
+use sabr_model::{Hop, Link, Links, Pass};
+use std::alloc::Allocator;
+
+/// The passes of a link.
+pub fn link_passes<'a>(links: Links<'a>, link: &Link) -> &'a [Pass]
+    requires ordered { link.now.first ≤ link.now.end }
+    requires within { link.now.end ≤ length links.passes.now }
+    ensures { result.now ≡ passes_of links.entry.passes.now link.now }
+{
+    &links.passes[link.first..link.end]
+}
+
+/// How many passes from the front of a link have ended by `at`; those behind may have ended as well.
+pub fn first_open<A: Allocator + Copy>(
+    _task: &Task<'_, A>,
+    _node: usize,
+    _to: usize,
+    passes: &[Pass],
+    at: u64,
+) -> usize
+    requires task { IsTask _task.now }
+    requires link { IsLinkAt _task.now _node _to passes.now }
+    ensures within { result ≤ length passes.now }
+    ensures ended { (k : ℕ) (x : Pass) → k < result → slice_get passes.now k ≡ Some x → x.end ≤ at }
+{
+    passes.partition_point(|pass| pass.latest_end <= at)
+}
+
+impl<'a, A: Allocator + Copy> Task<'a, A> {
+    /// The record of a pass.
+    pub fn look_at(&self, looks: &mut Looks, _node: usize, to: usize, pass: &Pass) -> Hop
+        requires pass { IsPassAt self.now _node to pass.now }
+        requires task { IsTask self.now }
+        requires few { looks.old.count < 2 ^ 62 }
+        ensures counted { looks.new.count ≡ looks.old.count + 1 }
+        ensures value { IsHopAt self.now pass.now.number result }
+        ensures small { IsSmall result }
+        ensures receiver { result.receiver ≡ to }
+    {
+        looks.look_at(pass, to)
+    }
+
+    /// Whether what is at the sender at `at` arrives at `before` or later over this pass and over each behind it.
+    pub fn comes_late(&self, pass: &Pass, at: u64, before: u64) -> bool
+        requires task { IsTask self.now }
+        requires light { pass.now.least_light_behind ≤ 1000000 }
+        ensures { IsTrue result → before ≤ max at pass.now.start + cost self.now.request.margin pass.now.least_light_behind }
+    {
+        let sent = at.max(pass.start);
+        sent >= before || self.cost(pass.least_light_behind) >= before - sent
+    }
+
+    /// The least arrival over a link of what is at its sender at `at`, where it is before `before`, and else `before`.
+    /// It takes a halving and as many looks as passes come in question, mostly two.
+    pub fn arrive_over(
+        &self,
+        looks: &mut Looks,
+        node: usize,
+        to: usize,
+        passes: &[Pass],
+        at: u64,
+        before: u64,
+    ) -> u64
+        requires task { IsTask self.now }
+        requires link { IsLinkAt self.now node to passes.now }
+        requires few { looks.old.count + length passes.now ≤ 2 ^ 62 }
+        ensures looks { looks.new.count ≤ looks.old.count + length passes.now }
+        ensures looked { looks.old.count ≤ looks.new.count }
+        ensures some_looks { result < before → looks.old.count < looks.new.count }
+        ensures upper { result ≤ before }
+        ensures later { result < before → at ≤ result }
+        ensures sound { result < before → slice_index_or self.now.shut to false ≡ false → (n : ℕ) × Takes self.now n node at to result }
+        ensures full { (n w b : ℕ) → HasNumber passes.now n → Takes self.now n node at w b → result ≤ b }
+    {
+        if at >= before {
+            return before;
+        }
+        let mut least = before;
+        for place in first_open(self, node, to, passes, at)..passes.len() {
+            let pass = &passes[place];
+            if self.comes_late(pass, at, least) {
+                return least;
+            }
+            let hop = self.look_at(looks, node, to, pass);
+            if self.is_excluded(node, pass.number) {
+                continue;
+            }
+            if let Some(arrival) = self.arrive_before(at, &hop, least) {
+                least = arrival;
+            }
+        }
+        least
+    }
+}
