@@ -1,4 +1,4 @@
-use Rattle.std.proofs.Common.{◌≡◌, ℕ, List, map, sym, ◌∙◌, ap}
+use Rattle.std.proofs.Common.{ℕ, List, map, ◌∙◌, ap}
 use Rattle.std.specs.Prelude.{is_some}
 use Rattle.sabr_model.specs.Arrival.{RouteRequest}
 use Rattle.sabr_model.specs.Plan.{TabledPlan}
