@@ -1,9 +1,8 @@
 -- The state that the tree stands for once its least route is given is the one that the step names.
-use Rattle.std.proofs.Common.{◌≡◌, ℕ, zero, suc, ◌+◌, ◌-◌, ◌<◌, ◌≤◌, Bool, true, false, List, [], ◌∷◌, ◌++◌, map, length, take, drop, get_or, refl, sym, ap, subst, ◌∙◌, ◌⊎◌, inl, inr, arith, true≢false, Option, Some, None, append_assoc, length-append}
+use Rattle.std.proofs.Common.{◌≡◌, ℕ, suc, ◌+◌, ◌<◌, Bool, true, false, List, [], ◌∷◌, ◌++◌, map, length, take, drop, refl, sym, ap, subst, ◌∙◌, inl, inr, arith, true≢false, Option, Some, None, append_assoc, length-append}
 use Rattle.std.specs.Prelude.{slice_get}
 use Rattle.std.specs.Option.{option_map}
 use Rattle.std.specs.Ordering.{nat_cmp, is_lt}
-use Rattle.std.specs.declared.cmp.Ordering.{Ordering}
 use Rattle.std.specs.declared.cmp.Ordering.TheVariants.{Less, Equal, Greater}
 use Rattle.std.proofs.lemmas.Cmp.{nat_list_cmp_total}
 use Rattle.std.proofs.lemmas.List.{take-append-drop}
@@ -16,16 +15,16 @@ use Rattle.sabr_model.specs.Record.{RouteRecord, record_of}
 use Rattle.sabr_frontier.specs.declared.tree.NodeId.{NodeId}
 use Rattle.sabr_frontier.specs.declared.tree.Node.{Node}
 use Rattle.sabr_frontier.specs.Rising.{has}
-use Rattle.sabr_frontier.specs.Tree.{tree, numbers_after}
-use Rattle.sabr_frontier.specs.State.{PartState, State, pair_of, Member, leaves}
+use Rattle.sabr_frontier.specs.Tree.{tree}
+use Rattle.sabr_frontier.specs.State.{PartState, pair_of, Member, leaves}
 use Rattle.sabr_frontier.specs.Step.{carry, parts_after, given, fresh}
 use Rattle.sabr_frontier.specs.Shape.{Shape, shown, part_at, part_of, prefix_of, front_of, contacts_in, numbers_of}
-use Rattle.sabr_frontier.specs.Undo.{modify, front, last_item}
+use Rattle.sabr_frontier.specs.Undo.{modify, last_item}
 use Rattle.sabr_frontier.specs.Best.{best_of}
 use Rattle.sabr_frontier.specs.Taking.{passing, stands_before, nodes_then, widened, wide_of, fresh_nodes, ids_from, with_block, divided}
 use Rattle.sabr_frontier.specs.Sound.{IsTree, IsLent}
 use Rattle.sabr_frontier.specs.Queue.{InPairs, IsBefore}
-use Rattle.sabr_frontier.proofs.Rising.{turned, true_or_false}
+use Rattle.sabr_frontier.proofs.Rising.{turned}
 use Rattle.sabr_frontier.proofs.Beginnings.{lists_exact, number_after-snoc}
 use Rattle.sabr_frontier.proofs.Members.{Member-map, Member-map_cases, Member-append_left, Member-append_right, Less-apart}
 use Rattle.sabr_frontier.proofs.Closed.{tree_has}

@@ -1,5 +1,5 @@
 -- The first that passes a test.
-use Rattle.std.proofs.Common.{◌≡◌, Bool, true, false, cond, List, [], ◌∷◌, refl, sym, ap, ◌∙◌, inl, inr, Option, Some, None, true≢false}
+use Rattle.std.proofs.Common.{◌≡◌, Bool, true, false, cond, List, [], ◌∷◌, refl, sym, ap, ◌∙◌, inl, inr, Some, None, true≢false}
 use Rattle.std.specs.List.{find}
 use Rattle.sabr_frontier.specs.State.{Member}
 

@@ -1,10 +1,10 @@
 -- What giving the least route of a sound tree is, whatever stands last in its queue.
-use Rattle.std.proofs.Common.{◌≡◌, ℕ, suc, ◌+◌, ◌-◌, ◌<◌, ◌≤◌, true, false, List, [], ◌∷◌, ◌++◌, map, length, take, drop, refl, sym, ap, subst, ◌∙◌, inl, inr, arith, Option, Some, None, length-drop, length-append}
+use Rattle.std.proofs.Common.{◌≡◌, ℕ, suc, ◌+◌, ◌-◌, ◌<◌, ◌≤◌, List, [], ◌∷◌, ◌++◌, length, take, drop, refl, sym, ap, subst, ◌∙◌, arith, Option, Some, None, length-drop, length-append}
 use Rattle.std.specs.Prelude.{slice_get, is_some}
 use Rattle.std.specs.Option.{option_map, option_and_then}
 use Rattle.sabr_model.specs.Plan.{ContactPlan, IsPlan}
 use Rattle.sabr_model.specs.Arrival.{RouteRequest}
-use Rattle.sabr_model.specs.Route.{is_route, by_key}
+use Rattle.sabr_model.specs.Route.{is_route}
 use Rattle.sabr_model.specs.Parts.{least_in}
 use Rattle.sabr_model.specs.Record.{RouteRecord, record_of}
 use Rattle.sabr_model.proofs.Listed.{key_total}
@@ -12,11 +12,10 @@ use Rattle.sabr_model.proofs.Routes.{route_facts}
 use Rattle.sabr_frontier.specs.declared.tree.NodeId.{NodeId}
 use Rattle.sabr_frontier.specs.declared.tree.Node.{Node}
 use Rattle.sabr_frontier.specs.State.{PartState, Member}
-use Rattle.sabr_frontier.specs.Step.{step_of, given, least_carried}
+use Rattle.sabr_frontier.specs.Step.{step_of}
 use Rattle.sabr_frontier.specs.Listing.{one_step, next_route, searches_for}
-use Rattle.sabr_frontier.specs.Shape.{Shape, shown, part_at, part_of, numbers_of, route_at, route_of}
+use Rattle.sabr_frontier.specs.Shape.{Shape, shown, part_at, part_of, numbers_of, route_at}
 use Rattle.sabr_frontier.specs.Undo.{last_item, undone, CanUndo}
-use Rattle.sabr_frontier.specs.Best.{best_of}
 use Rattle.sabr_frontier.specs.Taking.{divided, taken, taken_last, taken_node, taken_route, least_route, new_count, hops_from, hops_behind, hops_of, fresh_nodes}
 use Rattle.sabr_frontier.specs.Sound.{IsTree}
 use Rattle.sabr_frontier.proofs.Members.{Member-map_cases}

@@ -1,27 +1,26 @@
 -- The laws of the frontier, from what holds for any notion of route.
-use Rattle.std.proofs.Common.{◌≡◌, ℕ, zero, suc, ◌+◌, ◌<◌, ◌≤◌, Bool, true, false, cond, ◌||◌, not, ltb, List, [], ◌∷◌, ◌++◌, map, take, drop, length, refl, sym, ap, subst, ◌∙◌, ◌⊎◌, inl, inr, arith, Option, Some, None, true≢false}
+use Rattle.std.proofs.Common.{◌≡◌, ℕ, zero, suc, ◌+◌, ◌<◌, ◌≤◌, Bool, true, false, ltb, List, [], ◌∷◌, ◌++◌, map, take, drop, length, refl, sym, ap, subst, ◌∙◌, ◌⊎◌, inl, inr, arith, Some, None, true≢false}
 use Rattle.std.specs.Prelude.{Contains, is_some, slice_get}
 use Rattle.std.proofs.lemmas.Bool.{false_from_ne_true, ltb-true, lt-ltb}
-use Rattle.std.proofs.lemmas.Cmp.{nat_list_cmp_total}
-use Rattle.std.specs.Ordering.{is_lt, nat_cmp}
+use Rattle.std.specs.Ordering.{is_lt}
 use Rattle.std.specs.declared.cmp.Ordering.{Ordering}
 use Rattle.std.specs.declared.cmp.Ordering.TheVariants.{Less, Equal, Greater}
 use Rattle.sabr_model.specs.Order.{by_numbers}
 use Rattle.sabr_model.specs.Plan.{ContactPlan, IsPlan}
 use Rattle.sabr_model.specs.Arrival.{RouteRequest}
-use Rattle.sabr_model.specs.Route.{is_route, is_path, is_prefix, by_key, before}
-use Rattle.sabr_model.specs.Listing.{routes, page_of}
+use Rattle.sabr_model.specs.Route.{is_route, is_path, is_prefix, by_key}
+use Rattle.sabr_model.specs.Listing.{routes}
 use Rattle.sabr_model.specs.Parts.{goes_on, least_in}
 use Rattle.sabr_model.proofs.Members.{in_from_Contains, Contains-from_in}
 use Rattle.sabr_model.proofs.Listed.{key_total}
 use Rattle.sabr_model.proofs.Prefixes.{empty_is_prefix}
 use Rattle.sabr_frontier.specs.Rising.{has}
 use Rattle.sabr_frontier.specs.Tree.{tree, numbers_after}
-use Rattle.sabr_frontier.specs.State.{PartState, State, pair_of, Member, leaves}
+use Rattle.sabr_frontier.specs.State.{State, pair_of, Member}
 use Rattle.sabr_frontier.specs.Formed.{Within}
-use Rattle.sabr_frontier.specs.Step.{least_carried, step_of, full, state_of}
-use Rattle.sabr_frontier.specs.Listing.{state_at, leaves_in, IsState, next_route, one_step, given_first, steps}
-use Rattle.sabr_frontier.specs.Laws.{IsDivided, PartsDivide, CarriesLeast, LeavesComeFirst, IsTold, StatesAreTold, StepsFollowRoutes, StepsFollow}
+use Rattle.sabr_frontier.specs.Step.{step_of, state_of}
+use Rattle.sabr_frontier.specs.Listing.{state_at, leaves_in, next_route, one_step, given_first, steps}
+use Rattle.sabr_frontier.specs.Laws.{PartsDivide, StatesAreTold, StepsFollow}
 use Rattle.sabr_frontier.proofs.Rising.{true_or_false}
 use Rattle.sabr_frontier.proofs.Trees.{In}
 use Rattle.sabr_frontier.proofs.Closed.{In_Member, Member_In, tree_has, has_tree}

@@ -1,5 +1,5 @@
 -- The list of all routes and the least of a part, as the frontier uses them.
-use Rattle.std.proofs.Common.{◌≡◌, ℕ, Bool, true, false, cond, ◌&&◌, ◌||◌, not, eqb, List, [], ◌∷◌, refl, sym, ap, subst, ◌∙◌, inl, inr, Option, Some, None, true≢false}
+use Rattle.std.proofs.Common.{◌≡◌, ℕ, true, false, ◌||◌, not, eqb, List, [], ◌∷◌, refl, sym, ap, ◌∙◌, inl, inr, Some, None, true≢false}
 use Rattle.std.proofs.lemmas.Bool.{not-true, not_from_false}
 use Rattle.std.proofs.lemmas.Bool.Decides.{nat_tests}
 use Rattle.std.proofs.Common.{arith}
@@ -17,7 +17,7 @@ use Rattle.sabr_model.specs.Listing.{routes}
 use Rattle.sabr_model.specs.Parts.{number_after, goes_on, least_in}
 use Rattle.sabr_model.proofs.Members.{IsIn, in_from_Contains, Contains-from_in}
 use Rattle.sabr_model.proofs.Least as model
-use Rattle.sabr_model.proofs.Listed.{key_total, key_tells}
+use Rattle.sabr_model.proofs.Listed.{key_tells}
 use Rattle.sabr_model.proofs.RoutesListed.{routes_are_listed}
 use Rattle.sabr_frontier.specs.Rising.{has, Below, Rises, IsExact}
 use Rattle.sabr_frontier.specs.State.{Member}

@@ -1,5 +1,5 @@
 -- Steps from any well-formed state give routes that are new.
-use Rattle.std.proofs.Common.{◌≡◌, ℕ, zero, suc, ◌+◌, ◌<◌, ◌≤◌, true, false, cond, List, [], ◌∷◌, map, length, refl, sym, ap, subst, ◌∙◌, ◌⊎◌, inl, inr, arith, true≢false, Option, Some, None}
+use Rattle.std.proofs.Common.{◌≡◌, ℕ, zero, suc, true, false, cond, List, [], ◌∷◌, length, refl, sym, ap, subst, ◌∙◌, ◌⊎◌, inl, inr, arith, true≢false, Some, None}
 use Rattle.std.specs.Ordering.{is_lt}
 use Rattle.sabr_model.specs.Order.{put_in, by_numbers}
 use Rattle.sabr_model.specs.Plan.{ContactPlan, IsPlan}
@@ -7,15 +7,14 @@ use Rattle.sabr_model.specs.Arrival.{RouteRequest}
 use Rattle.sabr_model.specs.Route.{is_route, is_path, is_prefix, by_key}
 use Rattle.sabr_model.specs.Parts.{least_in}
 use Rattle.sabr_model.proofs.Prefixes.{empty_is_prefix}
-use Rattle.sabr_frontier.specs.Rising.{has}
-use Rattle.sabr_frontier.specs.State.{PartState, State, pair_of, Member, leaves}
+use Rattle.sabr_frontier.specs.State.{PartState, State, Member}
 use Rattle.sabr_frontier.specs.Step.{better, least_carried, given, step_of}
 use Rattle.sabr_frontier.specs.Listing.{IsState, leaves_in, next_route, one_step, steps}
 use Rattle.std.specs.declared.cmp.Ordering.{Ordering}
 use Rattle.sabr_frontier.specs.Formed.{Within}
 use Rattle.sabr_frontier.specs.Queue.{InPairs}
 use Rattle.sabr_frontier.specs.Fresh.{GivesNewRoutes}
-use Rattle.sabr_frontier.proofs.Trees.{In, In-put_in, put_in-In}
+use Rattle.sabr_frontier.proofs.Trees.{In-put_in, put_in-In}
 use Rattle.sabr_frontier.proofs.Closed.{In_Member, Member_In}
 use Rattle.sabr_frontier.proofs.Formed.{given_new, leaves_after, formed_after}
 use Rattle.sabr_frontier.proofs.Paths.{route_filled, routes_apart, route_chains, route_fits}

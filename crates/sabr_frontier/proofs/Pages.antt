@@ -1,6 +1,6 @@
 -- Steps of a tree, one after another, and the trees before them.
 use Rattle.std.proofs.lemmas.Bool.Decides.{nat_tests}
-use Rattle.std.proofs.Common.{◌≡◌, ℕ, zero, suc, ◌+◌, ◌-◌, ◌<◌, ◌≤◌, Bool, true, false, not, nat_eq, reverse, ◌⊎◌, inl, inr, List, [], ◌∷◌, ◌++◌, map, length, refl, sym, ap, subst, ◌∙◌, arith, Option, Some, None, append_assoc, length-append}
+use Rattle.std.proofs.Common.{◌≡◌, ℕ, zero, suc, ◌+◌, ◌-◌, ◌<◌, ◌≤◌, Bool, true, false, not, nat_eq, reverse, ◌⊎◌, inl, inr, List, [], ◌∷◌, ◌++◌, map, length, refl, sym, ap, subst, ◌∙◌, arith, Some, None, append_assoc}
 use Rattle.sabr_model.specs.Plan.{ContactPlan, IsPlan}
 use Rattle.sabr_model.specs.Arrival.{RouteRequest}
 use Rattle.sabr_model.specs.Record.{RouteRecord, record_of}
@@ -9,10 +9,10 @@ use Rattle.std.specs.Prelude.{is_some}
 use Rattle.std.proofs.lemmas.List.{reverse-append}
 use Rattle.sabr_frontier.specs.Listing.{one_step, next_route, given_first, steps, searches_for, searches_in}
 use Rattle.sabr_frontier.specs.Shape.{Shape, shown}
-use Rattle.sabr_frontier.specs.Undo.{CanUndo, CanUndoTimes, undone, undone_times}
-use Rattle.sabr_frontier.specs.Taking.{taken, least_route, new_count}
+use Rattle.sabr_frontier.specs.Undo.{CanUndoTimes, undone, undone_times}
+use Rattle.sabr_frontier.specs.Taking.{taken, new_count}
 use Rattle.sabr_frontier.specs.Sound.{IsTree}
-use Rattle.sabr_frontier.specs.Session.{IsSoundFor, IsSound, AreStarts, tree_before, former_of}
+use Rattle.sabr_frontier.specs.Session.{IsSoundFor, IsSound, tree_before, former_of}
 use Rattle.sabr_frontier.proofs.Giving.{IsGiven, is_given, nothing_carried, nothing_given}
 use Rattle.sabr_frontier.proofs.Undoing.{entries_undone}
 

@@ -1,53 +1,46 @@
 -- What holds of a sound tree whose queue isn't empty, before its least route is given.
-use Rattle.std.proofs.Common.{◌≡◌, ℕ, zero, suc, ◌+◌, ◌-◌, ◌<◌, ◌≤◌, Bool, true, false, nat_eq, List, [], ◌∷◌, ◌++◌, map, length, take, drop, get_or, refl, sym, ap, subst, ◌∙◌, ◌⊎◌, inl, inr, arith, true≢false, Option, Some, None, append_assoc, length-append}
+use Rattle.std.proofs.Common.{◌≡◌, ℕ, ◌-◌, ◌<◌, true, false, nat_eq, List, [], ◌∷◌, ◌++◌, map, length, refl, sym, ap, subst, ◌∙◌, inl, inr, arith, true≢false, Option, Some, None}
 use Rattle.std.specs.Prelude.{slice_get, is_some}
 use Rattle.std.specs.Option.{option_map, option_and_then}
 use Rattle.std.specs.List.{find}
 use Rattle.std.specs.Option.{option_map_or}
 use Rattle.std.proofs.lemmas.Cmp.{tied_itself}
 use Rattle.std.specs.Ordering.{nat_cmp, is_lt, is_eq}
-use Rattle.std.specs.declared.cmp.Ordering.{Ordering}
-use Rattle.std.specs.declared.cmp.Ordering.TheVariants.{Less, Equal, Greater}
 use Rattle.std.proofs.lemmas.Bool.Decides.{nat_tests}
 use Rattle.std.proofs.lemmas.Cmp.{nat_list_cmp_total}
-use Rattle.std.proofs.lemmas.List.{take-append-drop}
-use Rattle.sabr_model.specs.Order.{put_in, by_numbers, same_numbers}
+use Rattle.sabr_model.specs.Order.{by_numbers, same_numbers}
 use Rattle.sabr_model.specs.Plan.{ContactPlan}
 use Rattle.sabr_model.specs.Arrival.{RouteRequest}
 use Rattle.sabr_model.specs.Route.{is_route, is_path, is_prefix, by_key}
-use Rattle.sabr_model.specs.Parts.{number_after}
 use Rattle.sabr_model.specs.Record.{RouteRecord, record_of, by_record}
 use Rattle.sabr_model.proofs.Least.{record_order}
 use Rattle.sabr_model.proofs.Listed.{key_total}
 use Rattle.sabr_frontier.specs.declared.tree.NodeId.{NodeId}
 use Rattle.sabr_frontier.specs.declared.tree.Node.{Node}
 use Rattle.sabr_frontier.specs.Rising.{has, Rises}
-use Rattle.sabr_frontier.specs.Tree.{tree, numbers_after}
-use Rattle.sabr_frontier.specs.State.{PartState, State, pair_of, Member, leaves}
+use Rattle.sabr_frontier.specs.Tree.{numbers_after}
+use Rattle.sabr_frontier.specs.State.{PartState, pair_of, Member, leaves}
 use Rattle.sabr_frontier.specs.Formed.{Within}
-use Rattle.sabr_frontier.specs.Step.{least_carried}
 use Rattle.sabr_frontier.specs.Listing.{next_route, carries_it, hops_past, searches_for}
 use Rattle.sabr_frontier.specs.Shape.{Shape, shown, part_at, part_of, prefix_of, numbers_of, route_at, route_of}
 use Rattle.sabr_frontier.specs.Undo.{modify, last_item, front}
 use Rattle.sabr_frontier.specs.Queue.{InPairs, IsBefore, IsAtOrBehind, IsNotBetter}
-use Rattle.sabr_frontier.specs.Taking.{passing, stands_before, nodes_then, widened}
+use Rattle.sabr_frontier.specs.Taking.{nodes_then, widened}
 use Rattle.sabr_frontier.specs.Sound.{IsTree, IsDividable, AreApart}
 use Rattle.sabr_frontier.proofs.Found.{found_is, none_found}
-use Rattle.sabr_frontier.proofs.Rising.{turned, true_or_false, is_equal}
-use Rattle.sabr_frontier.proofs.Beginnings.{lists_exact, number_after-split, number_after-snoc}
+use Rattle.sabr_frontier.proofs.Rising.{is_equal}
+use Rattle.sabr_frontier.proofs.Beginnings.{lists_exact, number_after-split}
 use Rattle.sabr_frontier.proofs.Members.{Member-map, Member-map_cases, Member-append_left, Member-append_right, Less-apart}
 use Rattle.sabr_frontier.proofs.Closed.{tree_has, leaves_has}
 use Rattle.sabr_frontier.proofs.Trees.{Listed}
 use Rattle.sabr_frontier.proofs.Parting.{in_one_part}
 use Rattle.sabr_frontier.proofs.Paths.{routes_apart}
 use Rattle.sabr_frontier.proofs.Leaves.{closed_tree}
-use Rattle.sabr_frontier.proofs.Division.{begins_less, earlier_excludes}
 use Rattle.sabr_frontier.proofs.NextPlace.{least_carried_is, not_less_itself}
 use Rattle.sabr_frontier.proofs.Listed.{by_key_exact}
 use Rattle.sabr_frontier.proofs.Ends.{length-modify}
-use Rattle.sabr_frontier.proofs.Partition.{front_passes, back_fails, pairs_from_rises}
-use Rattle.sabr_frontier.proofs.Orders.{earlier_prefix, less_from_test}
-use Rattle.sabr_frontier.proofs.Nodes.{get_within, get_Member, get_front, get_other, Member_split, member_cut, member_taken, member_dropped, pair_across, pairs_front, pairs_weaker, same_node, last_split}
+use Rattle.sabr_frontier.proofs.Partition.{pairs_from_rises}
+use Rattle.sabr_frontier.proofs.Nodes.{get_within, get_Member, get_front, get_other, pair_across, pairs_front, pairs_weaker, last_split}
 use Rattle.sabr_frontier.proofs.Splits.{IsCut, cut_at, prefix_length}
 
 ne_from_test : (a b : ℕ) → nat_eq a b ≡ false → a ≡ b → ⊥

@@ -1,25 +1,22 @@
 -- The tree before any route is given is sound, and stands for the first state.
-use Rattle.std.proofs.Common.{◌≡◌, ℕ, zero, suc, ◌+◌, ◌<◌, ◌≤◌, true, false, cond, List, [], ◌∷◌, map, length, take, refl, sym, ap, subst, ◌∙◌, inl, inr, arith, true≢false, Option, Some, None}
+use Rattle.std.proofs.Common.{◌≡◌, ℕ, zero, suc, ◌<◌, true, List, [], ◌∷◌, map, refl, sym, ap, subst, ◌∙◌, inl, inr, arith, true≢false, Option, Some, None}
 use Rattle.std.specs.Prelude.{slice_get, is_some}
 use Rattle.std.specs.Option.{option_map}
 use Rattle.sabr_model.specs.Plan.{ContactPlan, IsPlan}
 use Rattle.sabr_model.specs.Arrival.{RouteRequest}
 use Rattle.sabr_model.specs.Route.{is_route, is_path, is_prefix}
-use Rattle.sabr_model.specs.Listing.{routes}
 use Rattle.sabr_model.specs.Parts.{least_in}
 use Rattle.sabr_model.specs.Record.{RouteRecord, record_of}
 use Rattle.sabr_model.proofs.Prefixes.{empty_is_prefix}
 use Rattle.sabr_frontier.specs.declared.tree.NodeId.{NodeId}
 use Rattle.sabr_frontier.specs.declared.tree.Node.{Node}
-use Rattle.sabr_frontier.specs.State.{State, PartState, Member}
-use Rattle.sabr_frontier.specs.Step.{state_of}
+use Rattle.sabr_frontier.specs.State.{Member}
 use Rattle.sabr_frontier.specs.Listing.{IsState, state_at}
 use Rattle.sabr_frontier.specs.Shape.{Shape, shown, part_at, numbers_of, route_at}
 use Rattle.sabr_frontier.specs.Best.{best_of}
-use Rattle.sabr_frontier.specs.Queue.{InPairs, IsAtOrBehind}
-use Rattle.sabr_frontier.specs.Sound.{IsTree, AreApart}
+use Rattle.sabr_frontier.specs.Sound.{IsTree}
 use Rattle.sabr_frontier.specs.Root.{root, first_id}
-use Rattle.sabr_frontier.specs.Session.{told_part, PartTold}
+use Rattle.sabr_frontier.specs.Session.{told_part}
 use Rattle.sabr_frontier.specs.Views.{told_at, told_node}
 use Rattle.sabr_frontier.proofs.Formed.{formed_start}
 use Rattle.sabr_frontier.proofs.Paths.{route_filled, routes_apart, route_chains, route_fits}

@@ -1,6 +1,6 @@
 -- Worked states and steps, by computation.
 use Rattle.std.specs.Prelude.{◌≡◌, [], ◌∷◌}
-use Rattle.std.proofs.Common.{refl, ap, ◌∙◌, sym}
+use Rattle.std.proofs.Common.{refl}
 use Rattle.sabr_model.specs.Listing.{routes, candidates, lists_of_length}
 use Rattle.sabr_model.specs.Route.{is_route, is_path}
 use Rattle.sabr_model.specs.Parts.{least_in}

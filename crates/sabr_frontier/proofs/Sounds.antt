@@ -1,32 +1,26 @@
 -- A sound tree stays sound where its least route is given, and the undo of that gives the tree back.
-use Rattle.std.proofs.Common.{◌≡◌, ℕ, zero, suc, ◌+◌, ◌-◌, ◌<◌, ◌≤◌, Bool, true, false, cond, ◌&&◌, not, nat_lt, nat_eq, filter, List, [], ◌∷◌, ◌++◌, map, length, take, drop, get_or, refl, sym, ap, subst, ◌∙◌, ◌⊎◌, inl, inr, arith, true≢false, Option, Some, None, append_assoc, length-append, slice_index}
+use Rattle.std.proofs.Common.{◌≡◌, ℕ, zero, suc, ◌+◌, ◌<◌, ◌≤◌, Bool, true, false, cond, ◌&&◌, not, nat_lt, nat_eq, filter, List, [], ◌∷◌, ◌++◌, length, take, drop, refl, sym, ap, subst, ◌∙◌, ◌⊎◌, inl, inr, arith, true≢false, Option, Some, None, append_assoc, length-append, slice_index}
 use Rattle.std.specs.Prelude.{slice_get, is_some, slice_index_or}
-use Rattle.std.specs.Option.{option_map, option_and_then}
-use Rattle.std.specs.Ordering.{nat_cmp}
+use Rattle.std.specs.Option.{option_map}
 use Rattle.std.proofs.lemmas.Bool.{cases_eq, cases_lt}
 use Rattle.std.proofs.lemmas.List.{take-append-drop}
 use Rattle.std.proofs.lemmas.Option.{get_or_from_slice_get}
 use Rattle.std.proofs.lemmas.Bool.Decides.{nat_tests}
-use Rattle.sabr_model.specs.Order.{put_in}
 use Rattle.sabr_model.specs.Plan.{ContactPlan, IsPlan}
 use Rattle.sabr_model.specs.Arrival.{RouteRequest}
-use Rattle.sabr_model.specs.Route.{is_route, is_path, is_prefix, by_key}
+use Rattle.sabr_model.specs.Route.{is_route, is_path, is_prefix}
 use Rattle.sabr_model.specs.Parts.{least_in}
 use Rattle.sabr_model.specs.Record.{RouteRecord, record_of}
 use Rattle.sabr_model.proofs.Prefixes.{empty_is_prefix}
 use Rattle.sabr_frontier.specs.declared.tree.NodeId.{NodeId}
 use Rattle.sabr_frontier.specs.declared.tree.Node.{Node}
-use Rattle.sabr_frontier.specs.declared.tree.Entry.{Entry}
-use Rattle.sabr_frontier.specs.Rising.{has}
-use Rattle.sabr_frontier.specs.State.{State, Member}
-use Rattle.sabr_frontier.specs.Formed.{IsWellFormed, Within}
-use Rattle.sabr_frontier.specs.Step.{given}
-use Rattle.sabr_frontier.specs.Listing.{IsState, one_step}
-use Rattle.sabr_frontier.specs.Shape.{Shape, shown, route_at, route_of}
-use Rattle.sabr_frontier.specs.Undo.{modify, front, last_item, undone, others, without, CanUndo, IsLonger}
+use Rattle.sabr_frontier.specs.State.{Member}
+use Rattle.sabr_frontier.specs.Listing.{IsState}
+use Rattle.sabr_frontier.specs.Shape.{Shape, shown, route_at}
+use Rattle.sabr_frontier.specs.Undo.{modify, front, last_item, undone, without, CanUndo}
 use Rattle.sabr_frontier.specs.Best.{best_of}
-use Rattle.sabr_frontier.specs.Queue.{InPairs, IsAtOrBehind}
-use Rattle.sabr_frontier.specs.Taking.{put_behind, beats, enqueued, enqueued_by, enqueued_all, passing, stands_before, nodes_then, widened, wide_of, fresh_nodes, ids_from, with_block, divided}
+use Rattle.sabr_frontier.specs.Queue.{InPairs}
+use Rattle.sabr_frontier.specs.Taking.{put_behind, beats, enqueued, enqueued_by, enqueued_all, passing, stands_before, widened, wide_of, fresh_nodes, ids_from, divided}
 use Rattle.sabr_frontier.specs.Sound.{IsTree, IsLent, AreApart}
 use Rattle.sabr_frontier.proofs.Members.{Member-append_left, Member-append_right, Member-append_cases}
 use Rattle.sabr_frontier.proofs.Formed.{formed_after}
@@ -36,9 +30,9 @@ use Rattle.sabr_frontier.proofs.Listed.{least_some}
 use Rattle.sabr_frontier.proofs.Ends.{length-modify, last_item_push}
 use Rattle.sabr_frontier.proofs.Queues.{put_behind_cases, put_behind_has, enqueued_all_falls}
 use Rattle.sabr_frontier.proofs.Takes.{Passes, filter_all, take_front, undone-after}
-use Rattle.sabr_frontier.proofs.Nodes.{get_within, within_get, get_Member, get_front, get_at_end, get_same, modify_cases, member_cut, member_taken, member_dropped, pairs_front, same_node, ids_cases, ids_has}
+use Rattle.sabr_frontier.proofs.Nodes.{get_within, get_Member, get_at_end, get_same, modify_cases, member_cut, member_taken, member_dropped, pairs_front, same_node, ids_cases, ids_has}
 use Rattle.sabr_frontier.proofs.Splits.{lent_stable}
-use Rattle.sabr_frontier.proofs.Refined.{queue_is, node_within, node_queued, rest_other, rest_queued, rest_within, kept, kept_route, rest_order, here, here_in, inside, cut, dividable, next_is, carried_there, route_there}
+use Rattle.sabr_frontier.proofs.Refined.{queue_is, node_within, rest_other, rest_queued, rest_within, kept_route, rest_order, here, here_in, cut, dividable, carried_there}
 use Rattle.sabr_frontier.proofs.Divided.{shown_divided}
 
 -- ---- who is in a queue

@@ -1,10 +1,9 @@
 -- A route cut behind a prefix.
-use Rattle.std.proofs.Common.{◌≡◌, ℕ, zero, suc, ◌+◌, ◌<◌, ◌≤◌, List, [], ◌∷◌, ◌++◌, length, take, drop, get_or, refl, sym, ap, subst, ◌∙◌, ◌⊎◌, inl, inr, arith, Option, Some, None, length-append}
+use Rattle.std.proofs.Common.{◌≡◌, ℕ, suc, ◌+◌, ◌<◌, List, [], ◌∷◌, ◌++◌, length, take, drop, get_or, refl, sym, ap, ◌∙◌, inl, inr, arith, Option, Some, None, length-append}
 use Rattle.std.specs.Prelude.{slice_get}
-use Rattle.std.specs.Option.{option_map}
 use Rattle.sabr_model.specs.Record.{RouteRecord}
 use Rattle.sabr_frontier.specs.declared.tree.Node.{Node}
-use Rattle.sabr_frontier.specs.Shape.{front_of, prefix_of, part_of}
+use Rattle.sabr_frontier.specs.Shape.{front_of, prefix_of}
 use Rattle.sabr_frontier.specs.Sound.{IsLent}
 use Rattle.sabr_frontier.proofs.Fronts.{length-front}
 use Rattle.sabr_frontier.proofs.Nodes.{get_front, get_within}

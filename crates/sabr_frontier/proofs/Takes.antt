@@ -1,5 +1,5 @@
 -- Taking a route and undoing it give back the tree, on the nose.
-use Rattle.std.proofs.Common.{◌≡◌, ℕ, ◌+◌, ◌-◌, ◌<◌, ◌≤◌, zero, suc, Bool, true, false, cond, ◌&&◌, not, nat_lt, nat_eq, List, [], ◌∷◌, ◌++◌, length, filter, take, drop, get_or, Option, Some, None, refl, sym, ap, subst, ◌∙◌, arith, append_assoc, length-append, slice_index, insert, take-append-drop, All}
+use Rattle.std.proofs.Common.{◌≡◌, ℕ, ◌≤◌, zero, suc, Bool, true, false, cond, ◌&&◌, not, nat_lt, nat_eq, List, [], ◌∷◌, ◌++◌, length, filter, take, drop, Option, Some, refl, sym, ap, ◌∙◌, arith, slice_index, insert, take-append-drop}
 use Rattle.std.specs.Prelude.{slice_get}
 use Rattle.std.proofs.lemmas.Bool.Decides.{nat_tests}
 use Rattle.std.proofs.lemmas.List.Elements.{filter-append}
@@ -8,7 +8,7 @@ use Rattle.sabr_frontier.specs.declared.tree.Node.{Node}
 use Rattle.sabr_model.specs.Record.{RouteRecord}
 use Rattle.sabr_frontier.specs.declared.tree.Entry.{Entry}
 use Rattle.sabr_frontier.specs.Shape.{Shape}
-use Rattle.sabr_frontier.specs.Undo.{modify, given_back, others, undone, undone_by, last_item, front, without}
+use Rattle.sabr_frontier.specs.Undo.{modify, given_back, others, undone, undone_by, without}
 use Rattle.sabr_frontier.specs.Taking.{ids_from, with_block}
 use Rattle.sabr_frontier.proofs.Ends.{last_item_push, front_push, length-modify}
 

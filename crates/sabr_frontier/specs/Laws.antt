@@ -1,9 +1,8 @@
 -- Laws of the frontier: how the parts divide the routes, and how states and steps follow the list of all routes.
-use Rattle.std.specs.Prelude.{◌≡◌, ℕ, ◌+◌, ◌≤◌, nat_lt, false, is_some, IsTrue, IsFalse, ◌⊎◌, Contains, List, length, map, slice_get, Option, Some}
-use Rattle.std.specs.declared.cmp.Ordering.TheVariants.{Less}
+use Rattle.std.specs.Prelude.{◌≡◌, ℕ, ◌+◌, ◌≤◌, nat_lt, is_some, IsTrue, IsFalse, ◌⊎◌, Contains, List, length, map, slice_get, Some}
 use Rattle.sabr_model.specs.Plan.{ContactPlan, IsPlan}
 use Rattle.sabr_model.specs.Arrival.{RouteRequest}
-use Rattle.sabr_model.specs.Route.{is_route, by_key, before}
+use Rattle.sabr_model.specs.Route.{is_route, before}
 use Rattle.sabr_model.specs.Listing.{routes, page_of}
 use Rattle.sabr_model.specs.Parts.{goes_on, least_in}
 use Rattle.sabr_frontier.specs.Tree.{tree}

@@ -1,5 +1,5 @@
 -- What is ready before the tree changes.
-use Rattle.std.specs.Prelude.{◌≡◌, ℕ, ◌+◌, take, drop, length, List, Some, slice_get}
+use Rattle.std.specs.Prelude.{◌≡◌, ◌+◌, take, drop, length, Some, slice_get}
 use Rattle.sabr_model.specs.Plan.{ContactPlan}
 use Rattle.sabr_model.specs.Arrival.{RouteRequest}
 use Rattle.sabr_model.specs.Record.{RouteRecord}

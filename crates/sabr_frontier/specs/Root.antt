@@ -1,8 +1,7 @@
 -- The tree before any route is given.
-use Rattle.std.specs.Prelude.{ℕ, is_some, List, [], ◌∷◌, Option, None, if◌then◌else◌}
+use Rattle.std.specs.Prelude.{is_some, [], ◌∷◌, Option, None, if◌then◌else◌}
 use Rattle.sabr_model.specs.Record.{RouteRecord}
 use Rattle.sabr_frontier.specs.declared.tree.NodeId.{NodeId}
-use Rattle.sabr_frontier.specs.declared.tree.Node.{Node}
 use Rattle.sabr_frontier.specs.Shape.{Shape}
 
 -- the first node

@@ -1,5 +1,5 @@
 -- What a tree is made of, and the state that it stands for.
-use Rattle.std.specs.Prelude.{◌≡◌, ℕ, List, [], map, length, take, Option, Some, None, slice_get}
+use Rattle.std.specs.Prelude.{ℕ, List, [], map, length, take, Option, Some, None, slice_get}
 use Rattle.std.specs.Option.{option_map, option_and_then}
 use Rattle.sabr_model.specs.Record.{RouteRecord}
 use Rattle.sabr_frontier.specs.declared.tree.NodeId.{NodeId}

@@ -1,5 +1,5 @@
 -- When a tree stands for a well-formed state, and its queue for what its parts carry.
-use Rattle.std.specs.Prelude.{◌≡◌, ℕ, ◌<◌, ◌≤◌, true, false, nat_eq, is_some, ◌⊎◌, List, length, Some, slice_get, slice_index, IsTrue}
+use Rattle.std.specs.Prelude.{◌≡◌, ◌<◌, ◌≤◌, true, false, nat_eq, is_some, ◌⊎◌, List, length, Some, slice_get, slice_index, IsTrue}
 use Rattle.std.specs.Ordering.{nat_cmp}
 use Rattle.sabr_model.specs.Plan.{ContactPlan}
 use Rattle.sabr_model.specs.Arrival.{RouteRequest}

@@ -1,5 +1,5 @@
 -- What the views of the parts lend.
-use Rattle.std.specs.Prelude.{ℕ, List, [], map, Option, Some, None, slice_get}
+use Rattle.std.specs.Prelude.{List, [], map, Option, Some, None, slice_get}
 use Rattle.std.specs.Option.{option_copied}
 use Rattle.sabr_model.specs.Record.{RouteRecord}
 use Rattle.sabr_frontier.specs.declared.tree.Node.{Node}

@@ -1,4 +1,4 @@
-use Rattle.std.proofs.Common.{◌≡◌, take}
+use Rattle.std.proofs.Common.{take}
 use Rattle.sabr_frontier.proofs.Paths.{route_fits}
 use Rattle.sabr_frontier.proofs.Fronts.{number_after-take}
 use Rattle.sabr_frontier.proofs.divide.fresh_node.Goals as goal

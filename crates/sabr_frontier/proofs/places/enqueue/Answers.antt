@@ -1,4 +1,4 @@
-use Rattle.std.proofs.Common.{◌≡◌, List, insert, ap, sym, ◌∙◌}
+use Rattle.std.proofs.Common.{insert, ap, ◌∙◌}
 use Rattle.sabr_frontier.specs.declared.tree.NodeId.{NodeId}
 use Rattle.sabr_frontier.specs.Shape.{route_at}
 use Rattle.sabr_frontier.specs.Taking.{beats, enqueued_by, passing}

@@ -1,5 +1,4 @@
-use Rattle.std.proofs.Common.{◌≡◌, ◌∷◌, ◌-◌, ◌+◌, ℕ, suc, length, arith, ap, sym, subst, ◌∙◌}
-use Rattle.sabr_frontier.specs.declared.tree.NodeId.{NodeId}
+use Rattle.std.proofs.Common.{◌≡◌, ◌∷◌, ◌-◌, ◌+◌, suc, length, arith, ap, sym, subst, ◌∙◌}
 use Rattle.sabr_frontier.specs.Queue.{InPairs, IsAtOrBehind}
 use Rattle.sabr_frontier.specs.Taking.{enqueued_all, ids_from}
 use Rattle.sabr_frontier.proofs.Queues.{enqueued_falls}

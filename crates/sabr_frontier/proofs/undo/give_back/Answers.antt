@@ -1,5 +1,4 @@
 use Rattle.std.proofs.Common.{arith, ℕ, List, ◌≡◌, ap, ◌∙◌, set, Some, slice_index}
-use Rattle.sabr_frontier.specs.declared.tree.Node.{Node}
 use Rattle.sabr_frontier.specs.Shape.{numbers_of}
 use Rattle.sabr_frontier.specs.Undo.{given_back, without}
 use Rattle.sabr_frontier.proofs.Ends.{set-modify}

@@ -1,6 +1,6 @@
-use Rattle.std.proofs.Common.{◌≡◌, ◌-◌, ◌<◌, ◌≤◌, ℕ, List, length, reverse, arith, ap, sym, subst, ◌∙◌}
+use Rattle.std.proofs.Common.{◌-◌, ◌<◌, length, reverse, arith, ap, sym, subst, ◌∙◌}
 use Rattle.sabr_frontier.specs.Shape.{Shape, shape_of}
-use Rattle.sabr_frontier.specs.Session.{AreStarts, IsSound, tree_before}
+use Rattle.sabr_frontier.specs.Session.{AreStarts, IsSound}
 use Rattle.sabr_frontier.proofs.Pages.{sound_undos, sound_back, last_first}
 use Rattle.sabr_frontier.proofs.session.Session.back.Goals as goal
 

@@ -1,4 +1,4 @@
-use Rattle.std.proofs.Common.{◌≡◌, ◌<◌, ℕ, List, length, reverse, arith, ap, sym, ◌∙◌, not, nat_eq}
+use Rattle.std.proofs.Common.{◌≡◌, length, reverse, arith, ap, sym, ◌∙◌}
 use Rattle.std.proofs.lemmas.List.{length-reverse}
 use Rattle.std.proofs.lemmas.Bool.Decides.{nat_tests}
 use Rattle.sabr_frontier.specs.Shape.{shape_of}

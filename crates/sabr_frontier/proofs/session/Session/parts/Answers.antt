@@ -1,9 +1,9 @@
-use Rattle.std.proofs.Common.{◌≡◌, length, map, ap, ◌∙◌}
+use Rattle.std.proofs.Common.{length, map, ap, ◌∙◌}
 use Rattle.sabr_frontier.specs.Shape.{shape_of}
 use Rattle.sabr_frontier.specs.Session.{Seen, told_part}
 use Rattle.sabr_frontier.specs.Views.{told_at}
 use Rattle.sabr_frontier.proofs.Pages.{sound_tree}
-use Rattle.sabr_frontier.proofs.Roots.{told_all, root_is_tree, shown_root}
+use Rattle.sabr_frontier.proofs.Roots.{told_all}
 use Rattle.sabr_frontier.proofs.session.Session.parts.Goals as goal
 
 pub returns : goal.returns

@@ -1,7 +1,7 @@
-use Rattle.std.proofs.Common.{◌≡◌, [], ◌∷◌, length, reverse, arith, ap, sym, subst, refl, ◌∙◌}
+use Rattle.std.proofs.Common.{◌≡◌, [], length, reverse, ap, sym, subst, ◌∙◌}
 use Rattle.sabr_model.proofs.Prefixes.{empty_is_prefix}
 use Rattle.sabr_frontier.specs.Shape.{Shape, shape_of, shown}
-use Rattle.sabr_frontier.specs.Session.{AreStarts, IsSound, Seen, former_of}
+use Rattle.sabr_frontier.specs.Session.{AreStarts, IsSound, former_of}
 use Rattle.sabr_frontier.specs.Root.{root}
 use Rattle.sabr_frontier.specs.Best.{best_of}
 use Rattle.sabr_frontier.proofs.Roots.{root_is_tree, shown_root}

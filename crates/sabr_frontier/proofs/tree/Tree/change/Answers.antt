@@ -1,11 +1,10 @@
-use Rattle.std.proofs.Common.{◌≡◌, ◌-◌, ◌++◌, ◌∷◌, [], ℕ, List, length, take, arith, ap, sym, subst, ◌∙◌, Some, length-append, length-take, vec_len}
+use Rattle.std.proofs.Common.{◌≡◌, ◌-◌, ◌++◌, ◌∷◌, [], length, arith, ap, sym, subst, ◌∙◌, Some, length-take, vec_len}
 use Rattle.sabr_model.specs.Record.{RouteRecord}
 use Rattle.sabr_frontier.specs.declared.tree.NodeId.{NodeId}
-use Rattle.sabr_frontier.specs.declared.tree.Node.{Node}
 use Rattle.sabr_frontier.specs.Undo.{front}
 use Rattle.sabr_frontier.specs.Queue.{InPairs, IsAtOrBehind}
-use Rattle.sabr_frontier.specs.Taking.{nodes_then, widened, enqueued, enqueued_all, ids_from, with_block}
-use Rattle.sabr_frontier.proofs.Ends.{length-modify, vec_front}
+use Rattle.sabr_frontier.specs.Taking.{nodes_then, enqueued, enqueued_all, ids_from, with_block}
+use Rattle.sabr_frontier.proofs.Ends.{vec_front}
 use Rattle.sabr_frontier.proofs.Queues.{enqueued_falls}
 use Rattle.sabr_frontier.proofs.tree.Tree.change.Goals as goal
 

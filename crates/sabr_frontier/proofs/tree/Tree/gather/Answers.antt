@@ -1,4 +1,4 @@
-use Rattle.std.proofs.Common.{◌≡◌, ◌-◌, ◌+◌, ◌<◌, ◌++◌, ◌∷◌, [], ℕ, suc, List, length, arith, ap, sym, subst, ◌∙◌, inr, Option, zero-add}
+use Rattle.std.proofs.Common.{◌≡◌, ◌-◌, ◌+◌, ◌<◌, ◌++◌, ◌∷◌, [], suc, length, arith, ap, sym, subst, ◌∙◌, inr, Option, zero-add}
 use Rattle.std.specs.Prelude.{IfSome}
 use Rattle.sabr_model.specs.Record.{RouteRecord}
 use Rattle.sabr_frontier.specs.Shape.{Shape, shape_of, shown}

@@ -1,4 +1,4 @@
-use Rattle.std.proofs.Common.{◌≡◌, ◌+◌, ◌≤◌, ◌<◌, ℕ, List, length, take, drop, arith, ap, sym, subst, ◌∙◌, Some, true, length-take-le, slice_index}
+use Rattle.std.proofs.Common.{◌≡◌, ◌+◌, ◌≤◌, ℕ, List, length, take, drop, arith, ap, sym, subst, ◌∙◌, true, length-take-le, slice_index}
 use Rattle.std.specs.Ordering.{nat_cmp}
 use Rattle.sabr_model.specs.Route.{is_route}
 use Rattle.sabr_model.specs.Record.{RouteRecord}

@@ -1,15 +1,14 @@
-use Rattle.std.proofs.Common.{◌≡◌, ◌<◌, ◌≤◌, ◌+◌, ◌++◌, ◌∷◌, [], ℕ, List, length, take, arith, ap, sym, subst, refl, ◌∙◌, Some, Option}
+use Rattle.std.proofs.Common.{◌≡◌, ◌+◌, ◌++◌, ◌∷◌, [], length, take, arith, ap, sym, subst, refl, ◌∙◌, Option}
 use Rattle.std.specs.Prelude.{IfSome, IsSome}
 use Rattle.sabr_model.specs.Record.{RouteRecord}
-use Rattle.sabr_frontier.specs.declared.tree.NodeId.{NodeId}
 use Rattle.sabr_frontier.specs.declared.tree.Node.{Node}
 use Rattle.sabr_frontier.specs.Shape.{Shape, shape_of, route_at}
 use Rattle.sabr_frontier.specs.Best.{best_of}
 use Rattle.sabr_frontier.specs.Undo.{last_item, front}
 use Rattle.sabr_frontier.specs.Queue.{InPairs, IsAtOrBehind}
-use Rattle.sabr_frontier.specs.Taking.{nodes_then, divided_by, passing, stands_before}
+use Rattle.sabr_frontier.specs.Taking.{nodes_then, divided_by, stands_before}
 use Rattle.sabr_frontier.proofs.Refined.{index_order, node_within, standing, dividable, rest_order, route_there}
-use Rattle.sabr_frontier.proofs.Giving.{taken_is, least_is, count_is, new_nodes, is_given}
+use Rattle.sabr_frontier.proofs.Giving.{taken_is, least_is, count_is, new_nodes}
 use Rattle.sabr_frontier.proofs.Partition.{passing-le}
 use Rattle.sabr_frontier.proofs.tree.Tree.take.Goals as goal
 

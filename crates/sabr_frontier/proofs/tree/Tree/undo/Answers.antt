@@ -1,6 +1,5 @@
 use Rattle.std.proofs.Common.{arith, List, length, ◌<◌, ◌≤◌, ◌≡◌, ◌++◌, ◌∷◌, [], ap, ◌∙◌, sym, subst, Some, take}
 use Rattle.sabr_frontier.specs.declared.tree.Entry.{Entry}
-use Rattle.sabr_frontier.specs.declared.tree.Node.{Node}
 use Rattle.sabr_frontier.specs.declared.tree.NodeId.{NodeId}
 use Rattle.sabr_model.specs.Record.{RouteRecord}
 use Rattle.sabr_frontier.specs.Shape.{shape_of}

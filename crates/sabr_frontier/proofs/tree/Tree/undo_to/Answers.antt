@@ -1,5 +1,5 @@
 use Rattle.std.proofs.Common.{arith, ℕ, length, ◌<◌, ◌-◌, ◌≡◌, ap, ◌∙◌, sym, subst}
-use Rattle.sabr_frontier.specs.Shape.{Shape, shape_of}
+use Rattle.sabr_frontier.specs.Shape.{shape_of}
 use Rattle.sabr_frontier.specs.Undo.{CanUndoTimes, undone, undone_times}
 use Rattle.sabr_frontier.proofs.Undoing.{entries, entries_undone, can_undo_first, undone_first}
 use Rattle.sabr_frontier.proofs.tree.Tree.undo_to.Goals as goal
