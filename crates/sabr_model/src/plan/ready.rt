@@ -22,7 +22,7 @@ impl<A: Allocator + Copy> Plan<A> {
     /// Makes the plan ready for searches: from then on, until the plan changes, they find what they read of a contact in one
     /// step. The plan stays as it is; where memory is short searches answer the same, but take longer.
     ///
-    /// It takes a step for each contact, and a halving or two of the ranges.
+    /// It takes a halving or two of the ranges for each contact, and sorts the contacts of each node.
     pub fn settle(&mut self) -> Result<(), NoMemory>
         ensures { self.new ≡ self.old }
     {
