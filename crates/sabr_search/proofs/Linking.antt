@@ -1,8 +1,8 @@
 -- The links that a plan gives for a node are those of a search, and what bounds their passes.
-use Rattle.std.proofs.Common.{◌≡◌, ℕ, ◌+◌, ◌-◌, ◌*◌, ◌<◌, ◌≤◌, max, Bool, true, false, cond, eqb, List, [], ◌∷◌, length, map, take, drop, get_or, slice_get, refl, sym, ap, ◌∙◌, arith}
+use Rattle.std.proofs.Common.{◌≡◌, ℕ, ◌+◌, ◌-◌, ◌*◌, ◌<◌, ◌≤◌, true, false, cond, eqb, List, [], ◌∷◌, length, map, take, drop, get_or, slice_get, refl, sym, ap, ◌∙◌, arith}
 use Rattle.std.specs.List.{count_by, filter}
 use Rattle.std.specs.declared.option.Option.TheVariants.{Some}
-use Rattle.std.proofs.lemmas.Bool.{cases_Bool, eqb-true, eq-eqb}
+use Rattle.std.proofs.lemmas.Bool.{eqb-true, eq-eqb}
 use Rattle.std.proofs.lemmas.List.{length-take, length-drop, get_or-take, get_or-drop}
 use Rattle.std.proofs.lemmas.List.Sums.{sum_by-cons}
 use Rattle.std.proofs.lemmas.Option.{slice_get-get_or, slice_get_within, get_or_from_slice_get}
@@ -10,15 +10,13 @@ use Rattle.std.proofs.Math.Nat.{mul-le-mul}
 use Rattle.sabr_model.specs.declared.contact.Contact.{Contact}
 use Rattle.sabr_model.specs.declared.link.Pass.{Pass}
 use Rattle.sabr_model.specs.declared.link.Link.{Link}
-use Rattle.sabr_model.specs.Plan.{TabledPlan}
 use Rattle.sabr_model.specs.Arrival.{cost}
 use Rattle.sabr_model.specs.Table.{sent_by}
 use Rattle.sabr_model.specs.Links.{AreLinksOf, IsLinkOf, IsPassOf}
-use Rattle.sabr_search.specs.Task.{SearchTask, IsTask, Takes}
-use Rattle.sabr_search.specs.Steps.{place_in, senders, degree}
-use Rattle.sabr_search.specs.Linked.{IsPassAt, IsLinkAt, HasNumber, passes_of, AreLinksAt}
+use Rattle.sabr_search.specs.Task.{SearchTask, IsTask}
+use Rattle.sabr_search.specs.Steps.{place_in}
+use Rattle.sabr_search.specs.Linked.{IsPassAt, IsLinkAt, passes_of, AreLinksAt}
 use Rattle.sabr_search.proofs.Arrivals.{arrival_parts}
-use Rattle.sabr_search.proofs.PlanFacts.{light_small}
 use Rattle.sabr_search.proofs.StepLists.{place_is}
 
 same_some : {X : Type 0} {x y : X} → Some x ≡ Some y → x ≡ y

@@ -1,4 +1,4 @@
-use Rattle.std.proofs.Common.{◌≡◌, ◌≤◌, inl, inr, arith}
+use Rattle.std.proofs.Common.{arith}
 use Rattle.sabr_search.proofs.Forward.{known_later, known_old}
 use Rattle.sabr_search.proofs.OverLinks.{over_pass, step_over}
 use Rattle.sabr_search.proofs.settling.Settling.take_link.Goals as goal

@@ -1,8 +1,8 @@
-use Rattle.std.proofs.Common.{◌≡◌, ◌<◌, ◌≤◌, inl, inr, Some, length, slice_index_or, slice_get, refl, sym, ◌∙◌, arith}
+use Rattle.std.proofs.Common.{◌≡◌, inl, inr, Some, slice_index_or, slice_get, refl, arith}
 use Rattle.std.proofs.lemmas.Option.{slice_get-get_or, slice_get_within}
 use Rattle.std.proofs.lemmas.Bool.{cases_lt}
 use Rattle.sabr_search.proofs.Forward.{step_of_hop, allowed_by, excluded_by, last_or_before}
-use Rattle.sabr_search.proofs.OverLinks.{same_some, no_pass, none_ended, least_light_small, starts_late, late_over, pass_takes, step_at, step_over, same_number, at_most_more}
+use Rattle.sabr_search.proofs.OverLinks.{no_pass, none_ended, least_light_small, starts_late, late_over, pass_takes, step_at, step_over, same_number, at_most_more}
 use Rattle.sabr_search.proofs.task.Task.least_over.Goals as goal
 use Rattle.sabr_search.proofs.task.Task.least_over.Goals.{in-Some, in_default}
 

@@ -4,9 +4,6 @@ use Rattle.std.specs.declared.option.Option.{Option}
 use Rattle.std.specs.declared.option.Option.TheVariants.{None}
 use Rattle.std.proofs.lemmas.Option.{slice_get-get_or}
 use Rattle.sabr_model.specs.declared.link.Links.{Links}
-use Rattle.sabr_model.specs.Links.{AreLinksOf}
-use Rattle.sabr_search.specs.Task.{SearchTask, IsTask}
-use Rattle.sabr_search.specs.Linked.{AreLinksAt}
 use Rattle.sabr_search.proofs.Linking.{links_at}
 use Rattle.sabr_search.proofs.task.Task.links.Goals as goal
 
