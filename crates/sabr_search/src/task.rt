@@ -211,13 +211,26 @@ pub fn never_falls(numbers: &[u32]) -> bool
     numbers.is_sorted()
 }
 
+/// Whether the number stands where it does if the list runs from its first number on without a gap.
+fn stands_in_row(numbers: &[u32], number: u32) -> bool
+    ensures { IsTrue result → Contains numbers.now number }
+{
+    if numbers.is_empty() || number < numbers[0] {
+        return false;
+    }
+    match numbers.get((number - numbers[0]) as usize) {
+        Some(there) => *there == number,
+        None => false,
+    }
+}
+
 /// Whether the number is in the list, of which the caller has asked whether it never falls.
 fn is_among(numbers: &[u32], in_order: bool, number: u32) -> bool
     requires { IsTrue in_order → IsNonDecreasing numbers.now }
     ensures { IsTrue result ↔ Contains numbers.now number }
 {
     if in_order {
-        numbers.binary_search(&number).is_ok()
+        stands_in_row(numbers, number) || numbers.binary_search(&number).is_ok()
     } else {
         numbers.contains(&number)
     }
