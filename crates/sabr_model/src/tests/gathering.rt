@@ -1,5 +1,7 @@
 //! Gathered ranges: more than a short list holds, in no order, as a plan that adds them one by one has them.
 
+ghost use Rattle.std.specs.Prelude.{◌<◌, ◌≤◌};
+
 use super::BEGIN;
 use crate::{AddFault, GatheredRanges, Plan};
 use ration::Ration;
@@ -10,8 +12,11 @@ use std::test::*;
 const COUNT: u64 = 601;
 
 /// The nodes and the start of a range, for each place below `COUNT` another, in no order.
-fn scattered(place: u64) -> (u64, u64, u64) {
-    let number = place * 233 % COUNT;
+fn scattered(place: u64) -> (u64, u64, u64)
+    ensures nodes { (0 < result.0) × (0 < result.1) }
+    ensures start { result.2 ≤ 1893462010 }
+{
+    let number = place.wrapping_mul(233) % COUNT;
     (1 + number % 3, 4 + number % 5, BEGIN + number * 10)
 }
 
