@@ -18,7 +18,8 @@ pub fn link_nodes<A: Allocator + Copy>(
     plan: &Plan<A>,
 ) -> Result<Vec<NodeLinks<A>, A>, AllocError>
     requires { IsPlan plan.now.plan }
-    ensures { IfOk result (λ v. AreLinked plan.now v.items) }
+    ensures linked { IfOk result (λ v. AreLinked plan.now v.items) }
+    ensures as_many { IfOk result (λ v. length v.items ≡ length plan.now.table) }
 {
     let mut linked = Vec::new(alloc);
     let count = plan.nodes();
