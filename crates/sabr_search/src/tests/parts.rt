@@ -239,10 +239,21 @@ fn served<A: Allocator + Copy, B: Fresh<A>>(
 #[test]
 fn one_finder_answers_over_two_plans(rt: HostRuntime) -> Result<(), Fail> {
     let ration = Ration::new(rt.alloc(), 0);
-    let a = worked_a(&ration).ok().ok_or("plan")?;
-    let c = worked_c(&ration).ok().ok_or("plan")?;
-    assert_eq!(rt; served::<_, Layered<&Ration>>(&ration, &a, &c, false), 23);
-    assert_eq!(rt; served::<_, Settled<&Ration>>(&ration, &c, &a, true), 23);
+    let mut a = worked_a(&ration).ok().ok_or("plan")?;
+    let mut c = worked_c(&ration).ok().ok_or("plan")?;
+    for is_ready in [false, true] {
+        assert_eq!(rt;
+            served::<_, Layered<&Ration>>(&ration, &a, &c, false),
+            23,
+            "ready: {is_ready}"
+        );
+        assert_eq!(rt;
+            served::<_, Settled<&Ration>>(&ration, &c, &a, true),
+            23,
+            "ready: {is_ready}"
+        );
+        assert!(rt; a.plan.settle().is_ok() && c.plan.settle().is_ok());
+    }
     Ok(())
 }
 
@@ -272,7 +283,8 @@ fn refused<A: Allocator + Copy, B: Fresh<A>>(
 fn each_growth_is_refused_in_turn(rt: HostRuntime) -> Result<(), Fail> {
     let ration = Ration::new(rt.alloc(), 0);
     let a = worked_a(&ration).ok().ok_or("plan")?;
-    let c = worked_c(&ration).ok().ok_or("plan")?;
+    let mut c = worked_c(&ration).ok().ok_or("plan")?;
+    assert!(rt; c.plan.settle().is_ok());
     for worked in [&a, &c] {
         let (growths, told) = refused::<_, Layered<&Ration>>(&ration, &ration, worked);
         assert!(rt; growths > 4);
