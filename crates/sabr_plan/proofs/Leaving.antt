@@ -1,7 +1,6 @@
 -- A change of a plan, as its call answers it.
-use Rattle.std.proofs.Common.{◌≡◌, ℕ, ◌⊎◌, Bool, true, false, inl, inr, refl, sym, ap, ◌∙◌, Option, Some, None, Result, Ok, Err, OnOk, IfErr, IsOk, IsTrue, is_some, ok_or, ◌↔◌}
+use Rattle.std.proofs.Common.{◌≡◌, ℕ, ◌⊎◌, Bool, true, false, inl, inr, refl, sym, ap, ◌∙◌, Option, Some, None, Result, Ok, Err, OnOk, is_some, ok_or}
 use Rattle.std.specs.Result.{IsOkUnless}
-use Rattle.std.proofs.lemmas.Bool.{false≢true}
 use Rattle.sabr_model.specs.Plan.{ContactPlan}
 use Rattle.sabr_model.specs.declared.fault.AddFault.{AddFault}
 use Rattle.sabr_model.specs.declared.fault.AddFault.TheVariants as add
