@@ -52,20 +52,6 @@ def best_of(words, repeats, most_seconds):
     return best
 
 
-def asked(given):
-    """Each plan with its nodes and time."""
-    for path in given.files:
-        ends = [mine or own for mine, own in zip((given.source, given.destination, given.at), listing.asked_in(path))]
-        if None in ends:
-            raise SystemExit(f"searching.py: {path} has no line '# ask FROM TO TIME': give --from, --to and --at")
-        yield path, *ends
-    if given.questions is not None:
-        with open(given.questions, encoding="ascii") as file:
-            for one in json.load(file):
-                path = os.path.join(os.path.dirname(given.questions), one["plan"])
-                yield path, str(one["from"]), str(one["to"]), one["at"]
-
-
 def cells(told):
     if isinstance(told, str):
         return [told, "-", "-", "-"]
@@ -90,11 +76,7 @@ def is_good(row):
 def read_words():
     words = argparse.ArgumentParser(description=__doc__, formatter_class=argparse.RawDescriptionHelpFormatter)
     words.add_argument("program", nargs="?", default=BUILT)
-    words.add_argument("--plan", dest="files", action="append", default=[])
-    words.add_argument("--questions", metavar="FILE")
-    words.add_argument("--from", dest="source")
-    words.add_argument("--to", dest="destination")
-    words.add_argument("--at")
+    listing.add_questions(words)
     words.add_argument("--count", type=int, default=100, help="how many routes the page has")
     words.add_argument("--finders", type=lambda text: text.split(","), default=["layered", "settled"])
     words.add_argument("--repeats", type=int, default=5, help="how often each run is timed; the best is told")
@@ -111,7 +93,7 @@ def main():
     heads = [head for finder in given.finders for head in (f"{finder} first ms", "looks", "page ms", "looks")]
     widths = measure.print_head(["plan            ", "routes", "searches", *heads])
     rows, all_good = [], True
-    for path, *ends in asked(given):
+    for path, ends in listing.asked(given):
         row = row_of(given, path, ends)
         all_good = all_good and is_good(row)
         name = os.path.splitext(os.path.basename(path))[0]
