@@ -1,8 +1,10 @@
 //! What `check` tells of small plans, each worked out by hand. The digests were taken with another program.
 
+use crate::check_run::run_check;
 use crate::status::Status;
 use crate::tests::plans::{PLAN_A, PLAN_B, REFERENCE};
 use crate::tests::running::{run_line, run_over};
+use pieces::{End, LimitedWriter, PieceReader};
 use std::test::Fail;
 
 /// A plan in two parts, and what `check` tells of it.
@@ -92,6 +94,24 @@ fn plans_are_told(rt: HostRuntime) -> Result<(), Fail> {
         assert_eq!(rt; outcome.status, Status::Done, "{}", row.text);
         assert_eq!(rt; outcome.out.held(), row.text.as_bytes(), "{}", row.text);
         assert_eq!(rt; outcome.err.held(), b"".as_slice(), "{}", row.text);
+    }
+    Ok(())
+}
+
+#[test]
+fn plans_in_pieces_are_told_alike(rt: HostRuntime) -> Result<(), Fail> {
+    for row in &ROWS {
+        let (base, more) = (row.base, row.more);
+        let plan = format!(in rt.alloc(); "{base}{more}")?;
+        for piece in [1usize, 7, 4096] {
+            let mut reader = PieceReader::new(plan.as_bytes(), piece.max(1), End::Ended);
+            let mut out = LimitedWriter::new(rt.alloc(), 4096, 4096);
+            let mut err = LimitedWriter::new(rt.alloc(), 4096, 4096);
+            let status = run_check(rt.alloc(), &mut reader, &mut out, &mut err);
+            assert_eq!(rt; status, Status::Done, "{}", row.text);
+            assert_eq!(rt; out.held(), row.text.as_bytes(), "{}", row.text);
+            assert_eq!(rt; err.held(), b"".as_slice(), "{}", row.text);
+        }
     }
     Ok(())
 }
