@@ -35,7 +35,7 @@ use Rattle.sabr_frontier.proofs.Queues.{put_behind_cases, put_behind_has, enqueu
 use Rattle.sabr_frontier.proofs.Takes.{Passes, filter_all, take_front, undone-after}
 use Rattle.sabr_frontier.proofs.Nodes.{get_within, get_Member, get_at_end, get_same, modify_cases, member_cut, member_taken, member_dropped, pairs_front, same_node, ids_cases, ids_has}
 use Rattle.sabr_frontier.proofs.Splits.{lent_stable}
-use Rattle.sabr_frontier.proofs.Refined.{queue_is, node_within, rest_other, rest_queued, rest_within, kept_route, rest_order, here, here_in, inside, cut, dividable, carried_there, record_is}
+use Rattle.sabr_frontier.proofs.Refined.{queue_is, node_within, rest_other, rest_queued, rest_within, kept_route, rest_order, here, here_in, cut, dividable, carried_there, record_is}
 use Rattle.sabr_frontier.proofs.Divided.{shown_divided}
 
 -- ---- who is in a queue

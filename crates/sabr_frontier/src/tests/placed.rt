@@ -33,12 +33,12 @@ fn places<B: BestOf<A>, A: Allocator + Copy>(
             return false;
         }
     }
-    while session.back() {
-        if session.certify() != Ok(true) {
+    for place in (0..states.len().saturating_sub(1)).rev() {
+        if !session.back() || !is_placed(session, states, place) {
             return false;
         }
     }
-    is_placed(session, states, 0)
+    true
 }
 
 // With both finders.

@@ -1,8 +1,7 @@
-use Rattle.std.proofs.Common.{◌≡◌, ◌+◌, ◌<◌, ◌⊎◌, ℕ, inl, inr, true, false, List, refl, sym, ap, subst, ◌∙◌, true≢false, arith, length, Option, Some}
-use Rattle.std.specs.Prelude.{slice_get, IsTrue}
+use Rattle.std.proofs.Common.{◌≡◌, inl, inr, List, refl, sym, ap, subst, ◌∙◌, true≢false, arith, length, Some}
+use Rattle.std.specs.Prelude.{slice_get}
 use Rattle.std.proofs.lemmas.Bool.{cases_lt}
 use Rattle.sabr_model.specs.Route.{is_prefix}
-use Rattle.sabr_model.specs.Record.{RouteRecord}
 use Rattle.sabr_frontier.specs.declared.tree.Node.{Node}
 use Rattle.sabr_frontier.specs.Best.{best_of}
 use Rattle.sabr_frontier.specs.Shape.{shape_of, prefix_of}
