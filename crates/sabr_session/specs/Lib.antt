@@ -1,3 +1,5 @@
 pub mod Gathering
 pub mod SpacedNumbers
 pub mod ReportText
+pub mod SessionText
+pub mod SessionRows
