@@ -3,3 +3,5 @@ pub mod SpacedNumbers
 pub mod ReportText
 pub mod SessionText
 pub mod SessionRows
+pub mod SessionWords
+pub mod SessionLines

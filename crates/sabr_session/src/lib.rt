@@ -1,10 +1,17 @@
 //! The texts of a session: the report of a page.
 #![tactic(auto)]
 
+mod first_lines;
+mod listed;
+mod node_list;
+mod number;
 mod numbers;
+mod part_line;
 mod report;
+mod request_line;
 #[cfg(test)]
 mod tests;
 mod text_buffer;
+mod words;
 
 pub use report::{write_report, write_route};
