@@ -5,3 +5,5 @@ pub mod SessionText
 pub mod SessionRows
 pub mod SessionWords
 pub mod SessionLines
+pub mod SessionRead
+pub mod SessionFed

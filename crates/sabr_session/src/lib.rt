@@ -9,9 +9,11 @@ mod numbers;
 mod part_line;
 mod report;
 mod request_line;
+mod session_fault;
 #[cfg(test)]
 mod tests;
 mod text_buffer;
 mod words;
 
 pub use report::{write_report, write_route};
+pub use session_fault::SessionFault;
