@@ -1,3 +1,9 @@
 pub mod Gathering
 pub mod SpacedNumbers
 pub mod ReportText
+pub mod SessionText
+pub mod SessionRows
+pub mod SessionWords
+pub mod SessionLines
+pub mod SessionRead
+pub mod SessionFed

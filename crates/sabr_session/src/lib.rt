@@ -1,12 +1,21 @@
-//! The texts of a session: the report of a page; and what texts are gathered in.
+//! The texts of a session: the report of a page, the lines of a session text; and what texts are gathered in.
 #![tactic(auto)]
 
+mod first_lines;
+mod listed;
+mod node_list;
+mod number;
 mod numbers;
+mod part_line;
 mod report;
+mod request_line;
+mod session_fault;
 #[cfg(test)]
 mod tests;
 mod text_buffer;
+mod words;
 
 pub use numbers::{put_number, put_time};
 pub use report::{put_route_line, write_report, write_route};
+pub use session_fault::SessionFault;
 pub use text_buffer::TextBuffer;

@@ -1,0 +1,30 @@
+-- The three lists of a part, one after the other.
+use Rattle.std.proofs.Common.{◌≡◌, ℕ, List, [], refl}
+use Rattle.std.specs.declared.option.Option.TheVariants.{Some, None}
+use Rattle.sabr_session.specs.SessionWords.{list_within, contacts_of, before_slash, after_slash}
+use Rattle.sabr_session.specs.SessionLines.{carried_of, lists_of}
+
+-- no words are no list
+pub no_words : contacts_of [] ≡ None
+unfolding list_within
+no_words = refl
+
+pub bad_prefix : (ws : List (List ℕ)) → contacts_of (before_slash ws) ≡ None → lists_of ws ≡ None
+unfolding lists_of
+bad_prefix ws e = rw e refl
+
+pub bad_excluded : (ws us : List (List ℕ)) (p : List ℕ) → contacts_of (before_slash ws) ≡ Some p → us ≡ after_slash ws
+    → contacts_of (before_slash us) ≡ None → lists_of ws ≡ None
+unfolding lists_of
+bad_excluded ws us p e behind x = rw (e, ← behind, x) refl
+
+pub bad_route : (ws us vs : List (List ℕ)) (p x : List ℕ) → contacts_of (before_slash ws) ≡ Some p → us ≡ after_slash ws
+    → contacts_of (before_slash us) ≡ Some x → vs ≡ after_slash us → contacts_of vs ≡ None → lists_of ws ≡ None
+unfolding lists_of
+bad_route ws us vs p x e behind f beyond r = rw (e, ← behind, f, ← beyond, r) refl
+
+pub three_lists : (ws us vs : List (List ℕ)) (p x r : List ℕ) → contacts_of (before_slash ws) ≡ Some p → us ≡ after_slash ws
+    → contacts_of (before_slash us) ≡ Some x → vs ≡ after_slash us → contacts_of vs ≡ Some r
+    → lists_of ws ≡ Some (record { prefix = p; excluded = x; carried = carried_of r })
+unfolding lists_of
+three_lists ws us vs p x r e behind f beyond l = rw (e, ← behind, f, ← beyond, l) refl

@@ -1,0 +1,75 @@
+-- Lists of numbers, as far as they are read.
+use Rattle.std.proofs.Common.{◌≡◌, ℕ, ◌<◌, ◌≤◌, eqb, leb, ltb, cond, ◌&&◌, true, false, List, [], ◌∷◌, ◌++◌, length, map, option_map, refl, sym, ap, ◌∙◌, arith, append-nil, append_assoc, length-append}
+use Rattle.std.proofs.lemmas.Bool.{le-leb}
+use Rattle.std.proofs.lemmas.Bool.Decides.{nat_tests}
+use Rattle.std.proofs.Math.Bool.{and-false}
+use Rattle.std.specs.declared.option.Option.{Option}
+use Rattle.std.specs.declared.option.Option.TheVariants.{Some, None}
+use Rattle.sabr_session.specs.SessionWords.{all_of, counted}
+
+-- what the rest gives, behind what was read
+abbrev pub behind : List ℕ → Option (List ℕ) → Option (List ℕ)
+behind so_far rest = option_map (λ tail. so_far ++ tail) rest
+
+-- nothing read yet
+pub behind-nil : (rest : Option (List ℕ)) → rest ≡ behind [] rest
+behind-nil None = refl
+behind-nil (Some ns) = refl
+
+next : (so_far : List ℕ) (n : ℕ) (rest : Option (List ℕ)) → behind so_far (option_map (λ ns. n ∷ ns) rest) ≡ behind (so_far ++ n ∷ []) rest
+next so_far n None = refl
+next so_far n (Some ns) = ap Some (sym (append_assoc so_far (n ∷ []) ns))
+
+-- a word with a value goes to what was read
+pub behind-on : (f : List ℕ → Option ℕ) (so_far : List ℕ) (whole : Option (List ℕ)) (ps qs : List (List ℕ)) (p : List ℕ) (n : ℕ)
+    → whole ≡ behind so_far (all_of (map f ps)) → ps ≡ p ∷ qs → f p ≡ Some n → whole ≡ behind (so_far ++ n ∷ []) (all_of (map f qs))
+behind-on f so_far whole ps qs p n w e is =
+    w ∙ ap (λ xs. behind so_far (all_of (map f xs))) e ∙ ap (λ v. behind so_far (all_of (v ∷ map f qs))) is ∙ next so_far n (all_of (map f qs))
+
+-- a word without a value
+pub behind-bad : (f : List ℕ → Option ℕ) (so_far : List ℕ) (whole : Option (List ℕ)) (ps qs : List (List ℕ)) (p : List ℕ)
+    → whole ≡ behind so_far (all_of (map f ps)) → ps ≡ p ∷ qs → f p ≡ None → whole ≡ None
+behind-bad f so_far whole ps qs p w e is =
+    w ∙ ap (λ xs. behind so_far (all_of (map f xs))) e ∙ ap (λ v. behind so_far (all_of (v ∷ map f qs))) is
+
+-- no word is left
+pub behind-end : (f : List ℕ → Option ℕ) (so_far : List ℕ) (whole : Option (List ℕ)) (ps : List (List ℕ))
+    → whole ≡ behind so_far (all_of (map f ps)) → ps ≡ [] → whole ≡ Some so_far
+behind-end f so_far whole ps w e = w ∙ ap (λ xs. behind so_far (all_of (map f xs))) e ∙ ap Some (append-nil so_far)
+
+above : (a b : ℕ) → b < a → leb a b ≡ false
+above a b h = grind (arith, nat_tests)
+
+some : (a : ℕ) → 0 < a → ltb 0 a ≡ true
+some a h = grind (arith, nat_tests)
+
+full : (most : ℕ) (so_far : List ℕ) (n : ℕ) (rest : Option (List ℕ)) → length so_far ≡ most → counted most (behind (so_far ++ n ∷ []) rest) ≡ None
+full most so_far n None h = refl
+full most so_far n (Some ns) h =
+    let all : List ℕ = (so_far ++ n ∷ []) ++ ns in
+    let more : most < length all = omega (arith, length-append (so_far ++ n ∷ []) ns, length-append so_far (n ∷ []), h) in
+    ap (λ t. cond (ltb 0 (length all) && t) (Some all) None) (above (length all) most more)
+    ∙ ap (λ t. cond t (Some all) None) (and-false (ltb 0 (length all)))
+
+-- one more behind the most
+pub behind-full : (f : List ℕ → Option ℕ) (most : ℕ) (so_far : List ℕ) (whole : Option (List ℕ)) (ps qs : List (List ℕ)) (p : List ℕ) (n : ℕ)
+    → whole ≡ behind so_far (all_of (map f ps)) → ps ≡ p ∷ qs → f p ≡ Some n → length so_far ≡ most → counted most whole ≡ None
+behind-full f most so_far whole ps qs p n w e is h = ap (counted most) (behind-on f so_far whole ps qs p n w e is) ∙ full most so_far n (all_of (map f qs)) h
+
+-- one or more, and not too many
+pub counted-some : (most : ℕ) (found : Option (List ℕ)) (ns : List ℕ) → found ≡ Some ns → 0 < length ns → length ns ≤ most → counted most found ≡ Some ns
+counted-some most found ns e a b =
+    ap (counted most) e ∙ ap (λ t. cond (t && leb (length ns) most) (Some ns) None) (some (length ns) a)
+    ∙ ap (λ t. cond t (Some ns) None) (le-leb (length ns) most b)
+
+-- none
+pub counted-none : (most : ℕ) (found : Option (List ℕ)) (ns : List ℕ) → found ≡ Some ns → length ns ≡ 0 → counted most found ≡ None
+counted-none most found [] e h = ap (counted most) e
+counted-none most found (n ∷ ns) e h = absurd (omega arith)
+
+-- a length that is told to be 0, or not to be
+pub no_length : (a : ℕ) → eqb a 0 ≡ true → a ≡ 0
+no_length a e = grind (arith, nat_tests)
+
+pub some_length : (a : ℕ) → eqb a 0 ≡ false → 0 < a
+some_length a e = grind (arith, nat_tests)

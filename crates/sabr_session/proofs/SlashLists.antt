@@ -1,0 +1,95 @@
+-- The words up to a `/`, and those behind it.
+use Rattle.std.proofs.Common.{◌≡◌, ℕ, ◌<◌, arith, Bool, true, false, List, [], ◌∷◌, map, option_map, refl, sym, ap, ◌∙◌}
+use Rattle.std.specs.List.{list_any}
+use Rattle.std.specs.Prelude.{codes}
+use Rattle.std.specs.Str.{bytes_eq}
+use Rattle.std.specs.Str.Parse.{IsNumeral}
+use Rattle.std.proofs.lemmas.Fmt.{decimal_is_IsNumeral}
+use Rattle.std.proofs.lemmas.Slice.Eq.{bytes_eq-Decides}
+use Rattle.std.specs.declared.option.Option.{Option}
+use Rattle.std.specs.declared.option.Option.TheVariants.{Some, None}
+use Rattle.sabr_session.proofs.WithinBounds.{number_within-unspelled}
+use Rattle.sabr_session.specs.SessionWords.{number_within, all_of, counted, is_dash, list_within, contacts_of, is_slash, before_slash, after_slash}
+
+-- another word comes first
+pub before-on : (w : List ℕ) (ws : List (List ℕ)) → is_slash w ≡ false → before_slash (w ∷ ws) ≡ w ∷ before_slash ws
+before-on w ws e = rw e refl
+
+pub after-on : (w : List ℕ) (ws : List (List ℕ)) → is_slash w ≡ false → after_slash (w ∷ ws) ≡ after_slash ws
+after-on w ws e = rw e refl
+
+pub has-on : (w : List ℕ) (ws : List (List ℕ)) → is_slash w ≡ false → list_any is_slash (w ∷ ws) ≡ list_any is_slash ws
+has-on w ws e = rw e refl
+
+-- the word `/` comes first
+pub before-stop : (w : List ℕ) (ws : List (List ℕ)) → is_slash w ≡ true → before_slash (w ∷ ws) ≡ []
+before-stop w ws e = rw e refl
+
+pub after-stop : (w : List ℕ) (ws : List (List ℕ)) → is_slash w ≡ true → after_slash (w ∷ ws) ≡ ws
+after-stop w ws e = rw e refl
+
+pub has-stop : (w : List ℕ) (ws : List (List ℕ)) → is_slash w ≡ true → list_any is_slash (w ∷ ws) ≡ true
+has-stop w ws e = rw e refl
+
+-- without `/` all words stand before it
+pub before-all : (ws : List (List ℕ)) → list_any is_slash ws ≡ false → before_slash ws ≡ ws
+before-all [] e = refl
+before-all (w ∷ ws) e = by_first (is_slash w) refl (before-all ws)
+  where
+    by_first : (b : Bool) → is_slash w ≡ b → (list_any is_slash ws ≡ false → before_slash ws ≡ ws) → before_slash (w ∷ ws) ≡ w ∷ ws
+    by_first true is rest =
+        let no : true ≡ false = sym (has-stop w ws is) ∙ e in
+        absurd cc
+    by_first false is rest = before-on w ws is ∙ ap (λ vs. w ∷ vs) (rest (sym (has-on w ws is) ∙ e))
+
+-- `/` is no number
+no_number : (low high : ℕ) → high < 18446744073709551616 → number_within low high (codes "/") ≡ None
+no_number low high h =
+    number_within-unspelled 18446744073709551616 low high (codes "/") h (λ n small e. no_digit (rw (← e) at ((decimal_is_IsNumeral n small).0)))
+  where
+    no_digit : IsNumeral 10 (codes "/") → ⊥
+    no_digit numeral = omega (arith, numeral.1.0)
+
+unnumbered : (low high : ℕ) (ws : List (List ℕ)) → high < 18446744073709551616 → list_any is_slash ws ≡ true → all_of (map (number_within low high) ws) ≡ None
+unnumbered low high [] h e = absurd cc
+unnumbered low high (w ∷ ws) h e = by_first (is_slash w) refl (unnumbered low high ws h)
+  where
+    behind_one : (o : Option ℕ) (os : List (Option ℕ)) → all_of os ≡ None → all_of (o ∷ os) ≡ None
+    behind_one None os none = refl
+    behind_one (Some n) os none = ap (λ f. option_map (λ ns. n ∷ ns) f) none
+
+    by_first : (b : Bool) → is_slash w ≡ b → (list_any is_slash ws ≡ true → all_of (map (number_within low high) ws) ≡ None) → all_of (map (number_within low high) (w ∷ ws)) ≡ None
+    by_first true is rest =
+        let same : w ≡ codes "/" = (bytes_eq-Decides w (codes "/")).0 is in
+        ap (λ v. all_of (number_within low high v ∷ map (number_within low high) ws)) same
+        ∙ ap (λ o. all_of (o ∷ map (number_within low high) ws)) (no_number low high h)
+    by_first false is rest = behind_one (number_within low high w) (map (number_within low high) ws) (rest (sym (has-on w ws is) ∙ e))
+
+-- a list with `/` in it is not `-`
+undashed : (ws : List (List ℕ)) → list_any is_slash ws ≡ true → is_dash ws ≡ false
+undashed [] e = refl
+undashed (w ∷ v ∷ ws) e = refl
+undashed (w ∷ []) e = by_first (is_slash w) refl
+  where
+    by_first : (b : Bool) → is_slash w ≡ b → is_dash (w ∷ []) ≡ false
+    by_first true is =
+        let same : w ≡ codes "/" = (bytes_eq-Decides w (codes "/")).0 is in
+        ap (λ u. bytes_eq u (codes "-")) same
+    by_first false is =
+        let no : false ≡ true = sym (has-on w [] is) ∙ e in
+        absurd cc
+
+-- so it is refused
+pub slash_refused : (ws : List (List ℕ)) → list_any is_slash ws ≡ true → contacts_of ws ≡ None
+unfolding list_within
+slash_refused ws e = rw (undashed ws e) (ap (counted 20000) (unnumbered 1 4294967295 ws (omega arith) e))
+
+-- `-` alone
+pub dashed : (ws : List (List ℕ)) → is_dash ws ≡ true → contacts_of ws ≡ Some []
+unfolding list_within
+dashed ws e = rw e refl
+
+-- or numbers
+pub numbered : (ws : List (List ℕ)) (r : Option (List ℕ)) → is_dash ws ≡ false → counted 20000 (all_of (map (number_within 1 4294967295) ws)) ≡ r → contacts_of ws ≡ r
+unfolding list_within
+numbered ws r e c = rw e c

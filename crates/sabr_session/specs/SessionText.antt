@@ -1,0 +1,82 @@
+-- Session text: the one spelling of a plan's digest, of a request and of a state of its listing, in each version.
+use Rattle.std.specs.Prelude.{◌≡◌, ℕ, ◌≤◌, List, [], ◌∷◌, ◌++◌, length, decimal, codes, flat_map, unwrap_or}
+use Rattle.std.specs.List.{concat}
+use Rattle.hex.specs.Hex.{encode_lower}
+use Rattle.sha2.specs.Sha256.{sha256}
+use Rattle.sabr_model.specs.Plan.{ContactPlan}
+use Rattle.sabr_model.specs.Arrival.{RouteRequest}
+use Rattle.sabr_model.specs.Asking.{unlimited}
+use Rattle.sabr_plan.specs.Times.{time_text_of}
+use Rattle.sabr_plan.specs.Canonical.{canonical_text}
+use Rattle.sabr_frontier.specs.State.{PartState, State}
+use Rattle.sabr_frontier.specs.Listing.{state_at}
+use Rattle.sabr_session.specs.SpacedNumbers.{list_text}
+
+-- a plan's digest, 32 numbers: SHA-256 of its canonical text
+abbrev pub digest_of : ContactPlan → List ℕ
+digest_of p = sha256 (canonical_text p)
+
+-- `plan H`, H having two digits `0` to `9` and `a` to `f` for each number of the digest
+abbrev pub plan_line : List ℕ → List ℕ
+plan_line h = concat (codes "plan " ∷ encode_lower h ∷ codes "\n" ∷ [])
+
+-- `request FROM TO AT PPM HOPS / NODES`
+abbrev pub request_line : RouteRequest → List ℕ
+request_line r = concat (
+    codes "request " ∷ decimal r.source
+    ∷ codes " " ∷ decimal r.destination
+    ∷ codes " " ∷ time_text_of r.at
+    ∷ codes " " ∷ decimal r.margin
+    ∷ codes " " ∷ decimal r.max_hops
+    ∷ codes " / " ∷ list_text r.avoided ∷ codes "\n" ∷ []
+    )
+
+-- `request FROM TO AT PPM`, the line of a request without limits in version 1
+abbrev pub old_request_line : RouteRequest → List ℕ
+old_request_line r = concat (
+    codes "request " ∷ decimal r.source
+    ∷ codes " " ∷ decimal r.destination
+    ∷ codes " " ∷ time_text_of r.at
+    ∷ codes " " ∷ decimal r.margin ∷ codes "\n" ∷ []
+    )
+
+-- `part PREFIX / EXCLUDED / ROUTE`
+abbrev pub part_line : PartState → List ℕ
+part_line t = concat (
+    codes "part " ∷ list_text t.prefix
+    ∷ codes " / " ∷ list_text t.excluded
+    ∷ codes " / " ∷ list_text (unwrap_or t.carried []) ∷ codes "\n" ∷ []
+    )
+
+-- `emitted N`, `last LIST`, `parts M`, the lines of the parts, and `end`
+abbrev pub state_lines : State → List ℕ
+state_lines s = concat (
+    codes "emitted " ∷ decimal s.emitted
+    ∷ codes "\nlast " ∷ list_text s.last
+    ∷ codes "\nparts " ∷ decimal (length s.parts)
+    ∷ codes "\n" ∷ flat_map part_line s.parts ∷ codes "end\n" ∷ []
+    )
+
+-- the text of a digest, a request and a state, in version 2
+unfoldable pub text_of : List ℕ → RouteRequest → State → List ℕ
+text_of h r s = codes "cgr-session 2\n" ++ (plan_line h ++ (request_line r ++ state_lines s))
+
+-- the same in version 1, for a request without limits
+unfoldable pub old_text_of : List ℕ → RouteRequest → State → List ℕ
+old_text_of h r s = codes "cgr-session 1\n" ++ (plan_line h ++ (old_request_line r ++ state_lines s))
+
+-- a state has a text where its number of parts is at most the greatest that can stand there
+abbrev pub HasText : State → Type 0
+HasText s = length s.parts ≤ 18446744073709551615
+
+-- a request without limits
+abbrev pub IsUnlimited : RouteRequest → Type 0
+IsUnlimited r = r ≡ unlimited r.source r.destination r.at r.margin
+
+-- the text of the place i in the list of all routes
+abbrev pub session_text : ContactPlan → RouteRequest → ℕ → List ℕ
+session_text p r i = text_of (digest_of p) r (state_at p r i)
+
+-- the same in version 1
+abbrev pub old_session_text : ContactPlan → RouteRequest → ℕ → List ℕ
+old_session_text p r i = old_text_of (digest_of p) r (state_at p r i)

@@ -1,0 +1,68 @@
+-- What the words of a session text spell.
+use Rattle.std.specs.Prelude.{ℕ, ◌==◌, nat_lt, nat_le, ◌&&◌, Bool, false, List, [], ◌∷◌, length, codes, decimal, option_map, option_and_then, map, if◌then◌else◌}
+use Rattle.std.specs.List.{slice_split}
+use Rattle.std.specs.Str.{bytes_eq}
+use Rattle.std.specs.Str.Parse.{digits_value}
+use Rattle.std.specs.declared.option.Option.{Option}
+use Rattle.std.specs.declared.option.Option.TheVariants.{Some, None}
+
+-- the number that the text spells, decimal without a sign or leading zero, where it lies within these bounds
+unfoldable pub number_within : ℕ → ℕ → List ℕ → Option ℕ
+number_within low high text =
+    let n = digits_value 10 text in
+    if bytes_eq text (decimal n) && nat_le low n && nat_le n high then Some n else None
+
+-- a space parts words
+abbrev pub is_space : ℕ → Bool
+is_space b = b == 32
+
+-- the words of a text, parted by single spaces; an empty text has one empty word
+unfoldable pub words_of : List ℕ → List (List ℕ)
+words_of text = slice_split is_space text
+
+-- the words behind a space, if there is one
+abbrev pub words_behind : Option (List ℕ) → List (List ℕ)
+words_behind None = []
+words_behind (Some text) = words_of text
+
+-- the values of all, where each has one
+abbrev pub all_of : List (Option ℕ) → Option (List ℕ)
+all_of [] = Some []
+all_of (None ∷ os) = None
+all_of (Some n ∷ os) = option_map (λ ns. n ∷ ns) (all_of os)
+
+-- one or more, and at most so many
+abbrev pub counted : ℕ → Option (List ℕ) → Option (List ℕ)
+counted most found = option_and_then (λ ns. if nat_lt 0 (length ns) && nat_le (length ns) most then Some ns else None) found
+
+-- the one word `-`
+abbrev pub is_dash : List (List ℕ) → Bool
+is_dash [] = false
+is_dash (w ∷ []) = bytes_eq w (codes "-")
+is_dash (w ∷ v ∷ ws) = false
+
+-- a list: `-` for the empty one, or numbers within these bounds, one or more and at most so many
+unfoldable pub list_within : ℕ → ℕ → ℕ → List (List ℕ) → Option (List ℕ)
+list_within most low high words = if is_dash words then Some [] else counted most (all_of (map (number_within low high) words))
+
+-- a list of contact numbers
+abbrev pub contacts_of : List (List ℕ) → Option (List ℕ)
+contacts_of words = list_within 20000 1 4294967295 words
+
+-- a list of nodes
+abbrev pub nodes_of : List (List ℕ) → Option (List ℕ)
+nodes_of words = list_within 16 0 18446744073709551615 words
+
+-- the word `/`, which parts lists
+abbrev pub is_slash : List ℕ → Bool
+is_slash word = bytes_eq word (codes "/")
+
+-- the words before the first `/`
+abbrev pub before_slash : List (List ℕ) → List (List ℕ)
+before_slash [] = []
+before_slash (w ∷ ws) = if is_slash w then [] else w ∷ before_slash ws
+
+-- the words behind the first `/`, if there is one
+abbrev pub after_slash : List (List ℕ) → List (List ℕ)
+after_slash [] = []
+after_slash (w ∷ ws) = if is_slash w then ws else after_slash ws

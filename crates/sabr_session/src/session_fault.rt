@@ -1,0 +1,35 @@
+//! Why a session text is refused.
+
+use thiserror::Error;
+
+/// The first fault of a session text. Lines are counted from 1.
+#[derive(Clone, Copy, Debug, PartialEq, Eq, Error)]
+pub enum SessionFault {
+    /// The first line isn't that of a session text, or is missing or unfinished.
+    #[error("the first line is not that of a session text")]
+    BadHeader,
+    /// Another line isn't spelled as it has to be, or is missing or unfinished, or stands behind the last.
+    #[error("line {0} is not spelled as it has to be")]
+    BadLine(u128),
+    /// The text was written over another plan.
+    #[error("the text was written over another plan")]
+    OtherPlan,
+    /// The values of line 3 make no request.
+    #[error("the request is refused")]
+    BadRequest,
+    /// The parts aren't closed: they aren't those that are left once some routes were given.
+    #[error("the parts are not closed")]
+    NotClosed,
+    /// A part carries a list that is no route of it.
+    #[error("line {0} carries a list that is no route of its part")]
+    BadRoute(u128),
+    /// The parts are closed, and the count isn't that of their leaves, or the last route isn't one of them.
+    #[error("the count or the last route is wrong")]
+    BadCount,
+    /// The reader failed.
+    #[error("reading failed")]
+    Read,
+    /// Memory was refused.
+    #[error("out of memory")]
+    NoMemory,
+}
