@@ -113,10 +113,10 @@ fn refused_judgements_change_nothing(rt: HostRuntime) -> Result<(), Fail> {
     let ration = Ration::new(rt.alloc(), 0);
     let plan = PLAN_A.plan(&ration).ok().ok_or("plan")?;
     let refused = refused_in_turn(&ration, &ration, &plan, &LISTED_A[..2], &STATES_A);
-    assert!(rt; refused.is_some_and(|count| count > 5), "plan A");
+    assert!(rt; refused.is_some_and(|count| count > 0), "plan A");
     ration.refuse(0);
     let plan = PLAN_C.plan(&ration).ok().ok_or("plan")?;
     let refused = refused_in_turn(&ration, &ration, &plan, &LISTED_C[..3], &STATES_C);
-    assert!(rt; refused.is_some_and(|count| count > 5), "plan C");
+    assert!(rt; refused.is_some_and(|count| count > 0), "plan C");
     Ok(())
 }
