@@ -4,6 +4,7 @@ pub mod Table
 pub mod Tabled
 pub mod Links
 pub mod Linking
+pub mod Incoming
 pub mod Ready
 pub mod Adding
 pub mod Gathering

@@ -1,5 +1,6 @@
 -- A node's links: its standing contacts with a light time by receiver, and by start on each link.
-use Rattle.std.specs.Prelude.{◌≡◌, ℕ, ◌+◌, ◌<◌, ◌≤◌, List, length, slice_get}
+use Rattle.std.specs.Prelude.{◌≡◌, ℕ, ◌+◌, ◌<◌, ◌≤◌, ◌==◌, List, length, map, slice_get}
+use Rattle.std.specs.List.{sum_by, filter}
 use Rattle.std.specs.declared.option.Option.TheVariants.{Some}
 use Rattle.sabr_model.specs.declared.contact.Contact.{Contact}
 use Rattle.sabr_model.specs.declared.link.Pass.{Pass}
@@ -44,3 +45,27 @@ pub record AreLinksOf (p : TabledPlan) (node : ℕ) (links : List Link) (passes 
   pub whole : (n t : ℕ) (c : Contact) → contact_named p.plan n ≡ Some c → c.from ≡ node → light_of p.plan c ≡ Some t
       → (j k : ℕ) × (l : Link) × (x : Pass) × (slice_get links j ≡ Some l) × (l.first ≤ k) × (k < l.end) × (slice_get passes k ≡ Some x) × (x.number ≡ n)
   pub few : length passes ≤ length (sent_by p.plan.contacts node)
+
+-- the numbers of the contacts that a node receives
+abbrev pub received_by : List Contact → ℕ → List ℕ
+received_by contacts node = map (λ c. c.number) (filter (λ c. node == c.to) contacts)
+
+-- a link as its receiver sees it: the index of its sender in the table, and its passes
+pub record SentLink : Type 0 where
+  pub sender : ℕ
+  pub passes : List Pass
+
+-- the passes go from the link's sender to the node, by start, each within the bounds that stand beside the others
+pub record IsLinkTo (p : TabledPlan) (node : ℕ) (s : SentLink) : Type 0 where
+  pub from : ℕ
+  pub at : slice_get p.table s.sender ≡ Some from
+  pub each : (k : ℕ) (x : Pass) → slice_get s.passes k ≡ Some x → IsPassOf p from node x
+  pub kept : (i k : ℕ) (x y : Pass) → i ≤ k → slice_get s.passes i ≡ Some x → slice_get s.passes k ≡ Some y → IsBefore x y
+
+-- The links are those to the node: each standing contact to it that has a light time is a pass of one of them, and
+-- together they have no more passes than the node receives contacts.
+pub record AreLinksTo (p : TabledPlan) (node : ℕ) (links : List SentLink) : Type 0 where
+  pub each : (j : ℕ) (s : SentLink) → slice_get links j ≡ Some s → IsLinkTo p node s
+  pub whole : (n t : ℕ) (c : Contact) → contact_named p.plan n ≡ Some c → c.to ≡ node → light_of p.plan c ≡ Some t
+      → (j k : ℕ) × (s : SentLink) × (x : Pass) × (slice_get links j ≡ Some s) × (slice_get s.passes k ≡ Some x) × (x.number ≡ n)
+  pub few : sum_by (λ s. length s.passes) links ≤ length (received_by p.plan.contacts node)

@@ -24,6 +24,7 @@ pub use arriving::arrive;
 pub use gathered_ranges::GatheredRanges;
 use indexmap::IndexMap;
 use linked::NodeLinks;
+pub use linked::Senders;
 use std::alloc::{Allocator, Global};
 use std::marker::Model;
 
