@@ -20,7 +20,10 @@ pub mod Tabled
 pub mod RangeKeys
 pub mod Gathers
 pub mod ReadyLemmas
+pub mod Different
 pub mod LinkLemmas
+pub mod Chains
+pub mod SenderLemmas
 pub mod Openings
 pub mod PlanLemmas
 pub mod Rises

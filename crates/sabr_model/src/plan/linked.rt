@@ -2,6 +2,8 @@
 
 mod bounds;
 mod building;
+mod chains;
+pub mod incoming;
 mod rows;
 pub mod senders;
 
@@ -11,6 +13,7 @@ ghost use Rattle.sabr_model.specs.Links.{AreLinksOf, AreLinksTo};
 use super::Plan;
 use crate::link::{Link, Links, Pass};
 pub use building::link_nodes;
+pub use incoming::{IncomingLinks, incoming_links};
 pub use senders::Senders;
 use std::alloc::Allocator;
 
@@ -44,7 +47,10 @@ impl<A: Allocator + Copy> Plan<A> {
         requires { index < length self.now.table }
         ensures { IfSome result (λ s. (node : ℕ) → slice_get self.now.table index ≡ Some node → AreLinksTo self.now node s) }
     {
-        let _ = index;
-        None
+        if !self.settled {
+            return None;
+        }
+        let incoming = self.incoming.of(index)?;
+        Some(Senders::over(incoming, &self.linked))
     }
 }

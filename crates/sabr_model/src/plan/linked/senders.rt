@@ -1,7 +1,7 @@
 //! The links to a node, as a search reads them that goes backward.
 
 ghost use Rattle.std.specs.Prelude.{◌≡◌, ◌<◌, Some, length, slice_get};
-ghost use Rattle.sabr_model.specs.Incoming.{passes_over, passes_at, passes_named, LiesOver, LieOver, AllLieOver};
+ghost use Rattle.sabr_model.specs.Incoming.{links_named, passes_over, passes_at, passes_named, LiesOver, LieOver, AllLieOver};
 
 use super::NodeLinks;
 use crate::link::{Link, Pass, Sender};
@@ -35,6 +35,14 @@ impl<'a, A: Allocator + Copy> Model for Senders<'a, A> {
 }
 
 impl<'a, A: Allocator + Copy> Senders<'a, A> {
+    /// The links that are named among those of all nodes.
+    pub(super) fn over(incoming: &'a [Incoming], linked: &'a [NodeLinks<A>]) -> Senders<'a, A>
+        requires { AllLieOver linked.now }
+        ensures { result ≡ links_named linked.now incoming.now }
+    {
+        Senders { incoming, linked }
+    }
+
     /// How many links lead to the node.
     pub fn len(&self) -> usize
         ensures { result ≡ length self.now }
