@@ -4,3 +4,5 @@ pub mod ListedNumbers
 pub mod TextsInTurn
 pub mod SpelledTimes
 pub mod SessionPages
+mod Explained
+mod HopLine

@@ -62,7 +62,7 @@ cost_bound margin l hm hl =
     omega arith
 
 -- an arrival comes at most 2000000 seconds behind the greatest time
-arrival_bound : (p : ContactPlan) (r : RouteRequest) (t u : ℕ) (c : Contact) → IsPlan p → r.margin ≤ 1000000 → c.end ≤ last_time
+pub arrival_bound : (p : ContactPlan) (r : RouteRequest) (t u : ℕ) (c : Contact) → IsPlan p → r.margin ≤ 1000000 → c.end ≤ last_time
     → arrival p r t c ≡ Some u → u ≤ last_time + 2000000
 arrival_bound p r t u c h hm he e = at (nat_lt (max t c.start) c.end) refl (light_of p c) refl e
   where
@@ -77,7 +77,7 @@ arrival_bound p r t u c h hm he e = at (nat_lt (max t c.start) c.end) refl (ligh
         omega (arith, costs)
 
 -- so does an arrival over several contacts, from a time that doesn't
-after_bound : (p : ContactPlan) (r : RouteRequest) (t d : ℕ) (s : List ℕ) → IsPlan p → r.margin ≤ 1000000 → t ≤ last_time + 2000000
+pub after_bound : (p : ContactPlan) (r : RouteRequest) (t d : ℕ) (s : List ℕ) → IsPlan p → r.margin ≤ 1000000 → t ≤ last_time + 2000000
     → arrival_after p r t s ≡ Some d → d ≤ last_time + 2000000
 after_bound p r t d [] h hm ht e = let same : t ≡ d = cc in omega arith
 after_bound p r t d (n ∷ s) h hm ht e = named (contact_named p n) refl (λ u hu later. after_bound p r u d s h hm hu later) e

@@ -1,5 +1,5 @@
 -- What a run leaves on its writers, over the plan that reading gave.
-use Rattle.std.specs.Prelude.{◌≡◌, ℕ, nat_lt, List, Result, Ok, Err, Option, map, length}
+use Rattle.std.specs.Prelude.{◌≡◌, ℕ, nat_lt, Bool, List, Result, Ok, Err, Option, map, length, if◌then◌else◌}
 use Rattle.sabr_model.specs.Plan.{ContactPlan, TabledPlan}
 use Rattle.sabr_model.specs.Arrival.{RouteRequest}
 use Rattle.sabr_model.specs.Listing.{routes, page_of}
@@ -36,7 +36,12 @@ abbrev pub status_at : Result (Unit {0}) Failure → Status
 status_at (Ok _) = status.Done
 status_at (Err f) = status_of f
 
+-- the status of a run that ended with yes or no
+abbrev pub status_of_answer : Result Bool Failure → Status
+status_of_answer (Ok answer) = if answer then status.Done else status.No
+status_of_answer (Err f) = status_of f
+
 -- nothing is told of a run that did what it was asked, and else its failure's message
-abbrev pub TellsEnd : Result (Unit {0}) Failure → Option (List ℕ) → ℕ → Option (List ℕ) → ℕ → Type 0
+abbrev pub TellsEnd : {A : Type 0} → Result A Failure → Option (List ℕ) → ℕ → Option (List ℕ) → ℕ → Type 0
 TellsEnd (Ok _) old before new after = Untouched old before new after
 TellsEnd (Err f) old before new after = TellsText old before (message_text f) new after

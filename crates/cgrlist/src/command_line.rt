@@ -31,12 +31,18 @@ fn check<'a>(alloc: Global) -> Result<Command<'a>, AllocError> {
     Command::new(alloc, "check").arg(required(alloc, "plan"))
 }
 
+fn explain<'a>(alloc: Global) -> Result<Command<'a>, AllocError> {
+    let plan = Command::new(alloc, "explain").arg(required(alloc, "plan"))?;
+    with_request(alloc, plan)?.arg(required(alloc, "contacts"))
+}
+
 fn program<'a>(alloc: Global) -> Result<Command<'a>, AllocError> {
     Command::new(alloc, "cgrlist")
         .no_binary_name(true)
         .subcommand_required(true)
         .subcommand(first(alloc)?)?
-        .subcommand(check(alloc)?)
+        .subcommand(check(alloc)?)?
+        .subcommand(explain(alloc)?)
 }
 
 /// What the words behind the program's name say. A call for help is a refusal, too, with the help as its text.

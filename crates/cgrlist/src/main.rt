@@ -1,17 +1,23 @@
 //! The program `cgrlist`: lists the routes of a contact plan, best first.
 #![tactic(auto)]
 
+mod accepted;
 mod check_run;
 mod check_text;
 mod command_line;
+mod ending_line;
+mod explain_run;
+mod explanation;
 mod failure;
 mod first_page;
 mod first_piece;
+mod hop_lines;
 mod lists;
 mod messages;
 mod number;
 mod program;
 mod request_words;
+mod rows;
 mod runs;
 mod status;
 #[cfg(test)]

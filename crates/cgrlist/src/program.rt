@@ -2,6 +2,7 @@
 
 use crate::check_run::run_check;
 use crate::command_line::parsed;
+use crate::explain_run::run_explain;
 use crate::failure::Failure;
 use crate::messages::tell;
 use crate::runs::run_first;
@@ -81,6 +82,7 @@ fn run_command<R: Files + AllocGlobal, O: Write, E: Write>(
     match matches.subcommand() {
         Some(("first", values)) => run_first_words(rt, values, out, err),
         Some(("check", values)) => run_check_words(rt, values, out, err),
+        Some(("explain", values)) => run_explain_words(rt, values, out, err),
         _ => Status::Usage,
     }
 }
@@ -113,6 +115,25 @@ fn run_check_words<R: Files + AllocGlobal, O: Write, E: Write>(
 ) -> Status {
     match open_plan(rt, matches) {
         Ok(mut plan) => run_check(rt.alloc(), &mut plan, out, err),
+        Err(failure) => tell(err, failure),
+    }
+}
+
+// Explains the contacts that the words name, over the plan that they name.
+fn run_explain_words<R: Files + AllocGlobal, O: Write, E: Write>(
+    rt: &R,
+    matches: &ArgMatches<'_>,
+    out: &mut O,
+    err: &mut E,
+) -> Status {
+    let values = match read_values(rt.alloc(), "explain", matches) {
+        Ok(values) => values,
+        Err(fault) => return tell(err, Failure::of_values(fault)),
+    };
+    let request = values.request.unwrap();
+    let contacts = values.contacts.as_slice();
+    match open_plan(rt, matches) {
+        Ok(mut plan) => run_explain(rt.alloc(), &mut plan, request, contacts, out, err),
         Err(failure) => tell(err, failure),
     }
 }

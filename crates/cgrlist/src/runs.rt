@@ -1,8 +1,7 @@
 //! The runs of the program, over readers and writers.
 
 ghost use Rattle.std.specs.Prelude.{◌≡◌, ◌≤◌, ◌<◌, ◌+◌, ◌^◌, ℕ, All, Result, length};
-ghost use Rattle.sabr_model.specs.Plan.{IsPlan, TabledPlan};
-ghost use Rattle.sabr_model.specs.Asking.{IsRequest};
+ghost use Rattle.sabr_model.specs.Plan.{TabledPlan};
 ghost use Rattle.sabr_model.specs.Devices.{WritesText};
 ghost use Rattle.sabr_plan.specs.PlanRead.{ReadsPlan};
 ghost use Rattle.sabr_plan.specs.declared.fault.PlanFault.{PlanFault};
@@ -10,6 +9,7 @@ ghost use Rattle.sabr_session.specs.ReportText.{HasSpelledTimes, report_text};
 ghost use Rattle.cgrlist.specs.declared.failure.Failure.{Failure};
 ghost use Rattle.cgrlist.specs.Runs.{first_report, WritesFirst, TellsEnd, status_at};
 
+use crate::accepted::{is_within_limits, obeys_rules};
 use crate::failure::Failure;
 use crate::first_page::{Page, first_page};
 use crate::messages::tell;
@@ -18,20 +18,6 @@ use sabr_model::{Plan, Read, Request, Write, WriteFault};
 use sabr_plan::read_plan;
 use sabr_session::write_report;
 use std::alloc::Allocator;
-
-// Every plan obeys the rules of contact plans.
-fn obeys_rules<A: Allocator + Copy>(plan: &Plan<A>)
-    ensures { IsPlan plan.now.plan }
-{
-    plan.contacts();
-}
-
-// Every request is within its limits.
-fn is_within_limits(request: &Request)
-    ensures { IsRequest request.now }
-{
-    request.from();
-}
 
 // Writes and flushes the report of a page.
 fn write_page<O: Write, A: Allocator + Copy>(

@@ -2,6 +2,7 @@
 
 mod checks;
 mod devices;
+mod explanations;
 mod listings;
 mod plans;
 mod refusals;

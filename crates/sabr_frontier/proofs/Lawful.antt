@@ -63,7 +63,7 @@ parts_divide p r S routes_given s is =
 
 -- ---- what a well-formed state tells
 
-less_is : (o : Ordering) → is_lt o ≡ true → o ≡ Less
+pub less_is : (o : Ordering) → is_lt o ≡ true → o ≡ Less
 less_is Less e = refl
 less_is Equal e = absurd (true≢false (sym e))
 less_is Greater e = absurd (true≢false (sym e))

@@ -33,3 +33,5 @@ pub mod Giving
 pub mod Pages
 pub mod Roots
 pub mod NewRoutes
+pub mod Placed
+pub mod Verdicts

@@ -22,7 +22,7 @@ use Rattle.sabr_frontier.proofs.Listed.{least_some}
 use Rattle.sabr_frontier.proofs.Pages.{steps_stop, steps_go, steps_none}
 
 -- what is least is carried by some part
-carrier : (cmp : List ℕ → List ℕ → Ordering) (parts : List PartState) (x : List ℕ) → least_carried cmp parts ≡ Some x → (u : PartState) × Member u parts × (u.carried ≡ Some x)
+pub carrier : (cmp : List ℕ → List ℕ → Ordering) (parts : List PartState) (x : List ℕ) → least_carried cmp parts ≡ Some x → (u : PartState) × Member u parts × (u.carried ≡ Some x)
 carrier cmp [] x e = absurd cc
 carrier cmp (u ∷ parts) x e = elim u.carried as (λ o. u.carried ≡ o → better cmp o (least_carried cmp parts) ≡ Some x → (v : PartState) × Member v (u ∷ parts) × (v.carried ≡ Some x)) [
   | None ↦ λ _ h. let w = carrier cmp parts x h in (w.0, inr w.1, w.2)

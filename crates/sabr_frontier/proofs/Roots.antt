@@ -11,7 +11,7 @@ use Rattle.sabr_model.proofs.Prefixes.{empty_is_prefix}
 use Rattle.sabr_frontier.specs.declared.tree.NodeId.{NodeId}
 use Rattle.sabr_frontier.specs.declared.tree.Node.{Node}
 use Rattle.sabr_frontier.specs.State.{Member}
-use Rattle.sabr_frontier.specs.Listing.{IsState, state_at}
+use Rattle.sabr_frontier.specs.Listing.{IsState, leaves_in, state_at}
 use Rattle.sabr_frontier.specs.Shape.{Shape, shown, part_at, numbers_of, route_at}
 use Rattle.sabr_frontier.specs.Best.{best_of}
 use Rattle.sabr_frontier.specs.Sound.{IsTree}
@@ -38,13 +38,14 @@ first_only : (id : NodeId) → id.0 < 1 → id ≡ first_id
 first_only id l = same_node id first_id (omega arith)
 
 module _ (A : Type 0) (p : ContactPlan) (r : RouteRequest) (good : IsPlan p) where
-  root_parts : (found : Option RouteRecord) → ((x : RouteRecord) → found ≡ Some x → x ≡ record_of p r x.contacts) → IsState p r (shown (root {A = A} found)) → IsTree p r (root {A = A} found)
-  root_parts None told formed = record {
+  root_parts : (found : Option RouteRecord) → ((x : RouteRecord) → found ≡ Some x → x ≡ record_of p r x.contacts) → IsState p r (shown (root {A = A} found)) → leaves_in p r (shown (root {A = A} found)) ≡ [] → IsTree p r (root {A = A} found)
+  root_parts None told formed none = record {
     formed = formed;
     known = λ id m. elim m [ inl e ↦ (let a : id.0 ≡ 0 = ap (λ (z : NodeId). z.0) e in omega arith) | inr z ↦ absurd z ];
     listed = λ id l. inl (first_only id l);
     lent = λ n m. elim m [ inl e ↦ inl (ap (λ (z : Node A). z.length) e) | inr z ↦ absurd z ];
     records = λ n x m e. elim m [ inl h ↦ told x (sym (ap (λ (z : Node A). z.route) h) ∙ e) | inr z ↦ absurd z ];
+    given = record { counted = λ x m. absurd m; recorded = λ s m. subst (Member s) none m };
     queued = λ id m. absurd m;
     waiting = λ id h. absurd (none_there id.0 h);
     falls = tt;
@@ -55,12 +56,13 @@ module _ (A : Type 0) (p : ContactPlan) (r : RouteRequest) (good : IsPlan p) whe
       none_there : (n : ℕ) → is_some (route_at (root {A = A} None).nodes (record { 0 = n })) ≡ true → ⊥
       none_there zero h = true≢false (sym h)
       none_there (suc n) h = true≢false (sym h)
-  root_parts (Some x) told formed = record {
+  root_parts (Some x) told formed none = record {
     formed = formed;
     known = λ id m. elim m [ inl e ↦ (let a : id.0 ≡ 0 = ap (λ (z : NodeId). z.0) e in omega arith) | inr z ↦ absurd z ];
     listed = λ id l. inl (first_only id l);
     lent = λ n m. elim m [ inl e ↦ inl (ap (λ (z : Node A). z.length) e) | inr z ↦ absurd z ];
     records = λ n y m e. elim m [ inl h ↦ told y (sym (ap (λ (z : Node A). z.route) h) ∙ e) | inr z ↦ absurd z ];
+    given = record { counted = λ y m. absurd m; recorded = λ s m. subst (Member s) none m };
     queued = λ id m. elim m [ inl e ↦ ap (λ z. is_some (route_at (root {A = A} (Some x)).nodes z)) e | inr z ↦ absurd z ];
     waiting = λ id h. inl (first_there id h);
     falls = ((λ y m. absurd m), tt);
@@ -76,12 +78,12 @@ module _ (A : Type 0) (p : ContactPlan) (r : RouteRequest) (good : IsPlan p) whe
           at (suc n) h = absurd (true≢false (sym h))
 
   pub root_is_tree : IsTree p r (root {A = A} (best_of p r [] []))
-  root_is_tree = root_parts (best_of p r [] []) (best_is p r [] []) (subst (IsState p r) (sym (shown_root A p r)) (first_formed p r good))
+  root_is_tree = root_parts (best_of p r [] []) (best_is p r [] []) (subst (IsState p r) (sym (shown_root A p r)) (first_formed p r good)) refl
 
 -- ---- what is told of the parts
 
 module _ {A : Type 0} (p : ContactPlan) (r : RouteRequest) (t : Shape A) (is : IsTree p r t) where
-  told_route : (n : Node A) (o : Option RouteRecord) → Member n t.nodes → n.route ≡ o → o ≡ option_map (record_of p r) (option_map numbers_of o)
+  pub told_route : (n : Node A) (o : Option RouteRecord) → Member n t.nodes → n.route ≡ o → o ≡ option_map (record_of p r) (option_map numbers_of o)
   told_route n None m e = refl
   told_route n (Some x) m e = ap Some (is.records n x m e)
 

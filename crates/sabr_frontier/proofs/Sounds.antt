@@ -6,6 +6,7 @@ use Rattle.std.proofs.lemmas.Bool.{cases_eq, cases_lt}
 use Rattle.std.proofs.lemmas.List.{take-append-drop}
 use Rattle.std.proofs.lemmas.Option.{get_or_from_slice_get}
 use Rattle.std.proofs.lemmas.Bool.Decides.{nat_tests}
+use Rattle.sabr_model.specs.Order.{put_in, by_numbers}
 use Rattle.sabr_model.specs.Plan.{ContactPlan, IsPlan}
 use Rattle.sabr_model.specs.Arrival.{RouteRequest}
 use Rattle.sabr_model.specs.Route.{is_route, is_path, is_prefix}
@@ -15,15 +16,17 @@ use Rattle.sabr_model.proofs.Prefixes.{empty_is_prefix}
 use Rattle.sabr_frontier.specs.declared.tree.NodeId.{NodeId}
 use Rattle.sabr_frontier.specs.declared.tree.Node.{Node}
 use Rattle.sabr_frontier.specs.State.{Member}
-use Rattle.sabr_frontier.specs.Listing.{IsState}
+use Rattle.sabr_frontier.specs.Listing.{IsState, leaves_in}
 use Rattle.sabr_frontier.specs.Shape.{Shape, shown, route_at}
 use Rattle.sabr_frontier.specs.Undo.{modify, front, last_item, undone, without, CanUndo}
 use Rattle.sabr_frontier.specs.Best.{best_of}
 use Rattle.sabr_frontier.specs.Queue.{InPairs}
 use Rattle.sabr_frontier.specs.Taking.{put_behind, beats, enqueued, enqueued_by, enqueued_all, passing, stands_before, widened, wide_of, fresh_nodes, ids_from, divided}
-use Rattle.sabr_frontier.specs.Sound.{IsTree, IsLent, AreApart}
+use Rattle.sabr_frontier.specs.Sound.{IsTree, IsLent, AreApart, AreGiven}
 use Rattle.sabr_frontier.proofs.Members.{Member-append_left, Member-append_right, Member-append_cases}
-use Rattle.sabr_frontier.proofs.Formed.{formed_after}
+use Rattle.sabr_frontier.proofs.Trees.{In-put_in, put_in-In}
+use Rattle.sabr_frontier.proofs.Closed.{In_Member, Member_In}
+use Rattle.sabr_frontier.proofs.Formed.{formed_after, leaves_after}
 use Rattle.sabr_frontier.proofs.Forget.{forget-put_in}
 use Rattle.sabr_frontier.proofs.Paths.{route_filled, routes_apart, route_chains, route_fits}
 use Rattle.sabr_frontier.proofs.Listed.{least_some}
@@ -32,7 +35,7 @@ use Rattle.sabr_frontier.proofs.Queues.{put_behind_cases, put_behind_has, enqueu
 use Rattle.sabr_frontier.proofs.Takes.{Passes, filter_all, take_front, undone-after}
 use Rattle.sabr_frontier.proofs.Nodes.{get_within, get_Member, get_at_end, get_same, modify_cases, member_cut, member_taken, member_dropped, pairs_front, same_node, ids_cases, ids_has}
 use Rattle.sabr_frontier.proofs.Splits.{lent_stable}
-use Rattle.sabr_frontier.proofs.Refined.{queue_is, node_within, rest_other, rest_queued, rest_within, kept_route, rest_order, here, here_in, cut, dividable, carried_there}
+use Rattle.sabr_frontier.proofs.Refined.{queue_is, node_within, rest_other, rest_queued, rest_within, kept_route, rest_order, here, here_in, cut, dividable, carried_there, record_is}
 use Rattle.sabr_frontier.proofs.Divided.{shown_divided}
 
 -- ---- who is in a queue
@@ -190,6 +193,29 @@ module _ {A : Type 0} (p : ContactPlan) (r : RouteRequest) (good : IsPlan p) (t 
       (formed_after (is_route p r) (is_path p r) (is_prefix p r) (routes_apart p r) (route_filled p r) (route_chains p r) (route_fits p r) (empty_is_prefix p r) (least_in p r)
       (λ q X u e. let w = least_some p r good q X u e in (w.0, w.1)) (shown t) is.formed (here p r t is node last n x stands carries) s (here_in p r t is node last n x stands carries) refl)
 
+  leaves_then : leaves_in p r (shown D) ≡ put_in by_numbers s (leaves_in p r (shown t))
+  leaves_then = ap (leaves_in p r) (shown_divided p r t is node last n x stands carries)
+      ∙ leaves_after (is_route p r) (is_path p r) (is_prefix p r) (routes_apart p r) (route_filled p r) (route_chains p r) (route_fits p r) (empty_is_prefix p r) (least_in p r)
+      (λ q X u e. let w = least_some p r good q X u e in (w.0, w.1)) (shown t) is.formed (here p r t is node last n x stands carries) s (here_in p r t is node last n x stands carries) refl
+
+  leaf_then : (l : List ℕ) → (l ≡ s) ⊎ Member l (leaves_in p r (shown t)) → Member l (leaves_in p r (shown D))
+  leaf_then l m = subst (Member l) (sym leaves_then) (Member_In l (put_in by_numbers s (leaves_in p r (shown t))) (put_in-In l s (leaves_in p r (shown t)) (elim m [ inl e ↦ inl e | inr k ↦ inr (In_Member l (leaves_in p r (shown t)) k) ])))
+
+  given_then : AreGiven p r D
+  given_then = record {
+    counted = λ z m. elim (Member-append_cases z t.leaves (x ∷ []) m) [
+      | inl a ↦ (let w = is.given.counted z a in (w.0, leaf_then z.contacts (inr w.1)))
+      | inr a ↦ elim a [
+        | inl e ↦ (e ∙ record_is p r t is node last n x stands carries ∙ ap (λ (k : RouteRecord). record_of p r k.contacts) (sym e), leaf_then z.contacts (inl (ap (λ (k : RouteRecord). k.contacts) e)))
+        | inr b ↦ absurd b
+      ]
+    ];
+    recorded = λ l m. elim (In-put_in l s (leaves_in p r (shown t)) (In_Member l (put_in by_numbers s (leaves_in p r (shown t))) (subst (Member l) leaves_then m))) [
+      | inl e ↦ Member-append_right (record_of p r l) t.leaves (x ∷ []) (inl (ap (record_of p r) e ∙ sym (record_is p r t is node last n x stands carries)))
+      | inr a ↦ Member-append_left (record_of p r l) t.leaves (x ∷ []) (is.given.recorded l (Member_In l (leaves_in p r (shown t)) a))
+    ];
+  }
+
   index_cases : (id : NodeId) → Member id D.index → Member id t.index ⊎ Member id ids
   index_cases id m = elim (Member-append_cases id (take k t.index ++ ids) (drop k t.index) m) [
     | inl a ↦ elim (Member-append_cases id (take k t.index) ids a) [ inl b ↦ inl (member_taken k id t.index b) | inr b ↦ inr b ]
@@ -258,6 +284,7 @@ module _ {A : Type 0} (p : ContactPlan) (r : RouteRequest) (good : IsPlan p) (t 
       ]
       | inr a ↦ fresh_records p r (length t.leaves) q0 (drop (n.length + 1) s) k z a e
     ];
+    given = given_then;
     queued = λ id m. elim (queue_cases id m) [
       | inl w ↦ w.1
       | inr a ↦ ap is_some (kept_route p r t is node last wide found new id (rest_within p r t is node last id a) (rest_other p r t is node last id a)) ∙ is.queued id (rest_queued p r t is node last id a)

@@ -1,5 +1,5 @@
 -- When a tree stands for a well-formed state, and its queue for what its parts carry.
-use Rattle.std.specs.Prelude.{◌≡◌, ◌<◌, ◌≤◌, true, false, nat_eq, is_some, ◌⊎◌, List, length, Some, slice_get, slice_index, IsTrue}
+use Rattle.std.specs.Prelude.{◌≡◌, ℕ, ◌<◌, ◌≤◌, true, false, nat_eq, is_some, ◌⊎◌, List, length, Some, slice_get, slice_index, IsTrue}
 use Rattle.std.specs.Ordering.{nat_cmp}
 use Rattle.sabr_model.specs.Plan.{ContactPlan}
 use Rattle.sabr_model.specs.Arrival.{RouteRequest}
@@ -9,7 +9,7 @@ use Rattle.sabr_frontier.specs.declared.tree.NodeId.{NodeId}
 use Rattle.sabr_frontier.specs.declared.tree.Node.{Node}
 use Rattle.sabr_frontier.specs.Rising.{has, Rises}
 use Rattle.sabr_frontier.specs.State.{Member}
-use Rattle.sabr_frontier.specs.Listing.{IsState}
+use Rattle.sabr_frontier.specs.Listing.{IsState, leaves_in}
 use Rattle.sabr_frontier.specs.Shape.{Shape, shown, route_at}
 use Rattle.sabr_frontier.specs.Queue.{InPairs, IsAtOrBehind}
 
@@ -21,12 +21,18 @@ IsLent leaves n = (n.length ≡ 0) ⊎ ((x : RouteRecord) × (slice_get leaves n
 abbrev pub AreApart : NodeId → NodeId → Type 0
 AreApart a b = nat_eq a.0 b.0 ≡ false
 
+-- the leaves are the records of the routes that the state counts as given
+pub record AreGiven {A : Type 0} (p : ContactPlan) (r : RouteRequest) (t : Shape A) : Type 0 where
+  pub counted : (x : RouteRecord) → Member x t.leaves → (x ≡ record_of p r x.contacts) × Member x.contacts (leaves_in p r (shown t))
+  pub recorded : (s : List ℕ) → Member s (leaves_in p r (shown t)) → Member (record_of p r s) t.leaves
+
 pub record IsTree {A : Type 0} (p : ContactPlan) (r : RouteRequest) (t : Shape A) : Type 0 where
   pub formed : IsState p r (shown t)
   pub known : (id : NodeId) → Member id t.index → id.0 < length t.nodes
   pub listed : (id : NodeId) → id.0 < length t.nodes → Member id t.index
   pub lent : (n : Node A) → Member n t.nodes → IsLent t.leaves n
   pub records : (n : Node A) (x : RouteRecord) → Member n t.nodes → n.route ≡ Some x → x ≡ record_of p r x.contacts
+  pub given : AreGiven p r t
   pub queued : (id : NodeId) → Member id t.queue → is_some (route_at t.nodes id) ≡ true
   pub waiting : (id : NodeId) → is_some (route_at t.nodes id) ≡ true → Member id t.queue
   pub falls : InPairs (IsAtOrBehind t.nodes) t.queue

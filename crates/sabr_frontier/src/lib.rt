@@ -1,6 +1,7 @@
 //! Parts of a listing of routes, divided as routes are given.
 #![tactic(auto)]
 
+mod certify;
 mod change;
 mod divide;
 mod excluded;

@@ -137,6 +137,21 @@ impl<'p, B: BestOf<A>, A: Allocator + Copy> Session<'p, B, A> {
         true
     }
 
+    /// Whether the state is that of the place `emitted` in the listing: whether the routes that it counts as given
+    /// are the first of them, and each part carries its least route. All is shown as before, whatever is answered.
+    /// It takes a search for each part, and a pass over the routes given.
+    ///
+    /// # Errors
+    ///
+    /// [`NoMemory`] where a growth was refused.
+    pub fn certify(&mut self) -> Result<bool, NoMemory>
+        ensures same { self.new ≡ self.old }
+        ensures ok { IfOk result (λ yes. IsTrue yes ↔ (self.old.state ≡ state_at self.old.plan.plan self.old.request self.old.state.emitted)) }
+    {
+        self.tree
+            .is_placed(self.plan, &self.request, &mut self.finder)
+    }
+
     /// Whether there is a page to take back: one that gave routes and wasn't taken back yet.
     pub fn can_back(&self) -> bool
         ensures { IsTrue result ↔ (0 < length self.now.former) }

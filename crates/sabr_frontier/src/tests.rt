@@ -3,6 +3,7 @@
 mod counts;
 mod listings;
 mod memory;
+mod placed;
 mod plans;
 mod states;
 

@@ -19,6 +19,8 @@ pub mod RangeLemmas
 pub mod Tabled
 pub mod RangeKeys
 pub mod Gathers
+pub mod TablesMade
+pub mod GatheredOpenings
 pub mod ReadyLemmas
 pub mod Different
 pub mod LinkLemmas

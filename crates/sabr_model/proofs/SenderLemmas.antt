@@ -195,8 +195,7 @@ module _ {A : Type 0} (p : TabledPlan) (linked : List (NodeLinks A)) (are : AreL
       let there : slice_get a.h.node_links.passes.items b.place ≡ Some b.x = ap (λ (s : NodeLinks A). slice_get s.passes.items b.place) nodes ∙ b.there in
       let link_there : slice_get ls f.link ≡ Some b.h.link = ap (λ (s : NodeLinks A). slice_get s.links.items f.link) nodes ∙ b.h.link_at in
       let place : a.place ≡ b.place = number_once a.h.node_links.passes.items a.place b.place a.x b.x links.once a.there there (a.number ∙ sym b.number) in
-      let ordered = λ (j : ℕ) (l : Link) (e : slice_get ls j ≡ Some l). (links.each j l e).ordered in
-      (
+      let ordered = λ (j : ℕ) (l : Link) (e : slice_get ls j ≡ Some l). (links.each j l e).ordered in (
         senders,
         elim (cases_eq e.link f.link) [
           | inl same ↦ same
@@ -254,7 +253,8 @@ module _ {A : Type 0} (p : TabledPlan) (linked : List (NodeLinks A)) (are : AreL
         ap (λ (ns : List ℕ). length ns) (flat_map-cons (λ (f : Incoming). numbers_of (passes_named linked f)) e es),
         length-append (numbers_of (passes_named linked e)) (all_numbers linked es),
         length-map (passes_named linked e) (λ (x : Pass). x.number),
-        as_many es)
+        as_many es,
+      )
 
   pub links_to : (es : List Incoming) → AreIncoming linked to es → AreLinksTo p node (links_named linked es)
   links_to es incoming =
@@ -283,8 +283,7 @@ module _ {A : Type 0} (p : TabledPlan) (linked : List (NodeLinks A)) (are : AreL
                   let node_at : slice_get linked e.sender ≡ Some w.0 = ap (slice_get linked) found.3 ∙ w.2 in
                   let link_at : slice_get w.0.links.items e.link ≡ Some l = ap (slice_get w.0.links.items) found.4 ∙ f.4 in
                   let passes : passes_named linked e ≡ passes_over w.0.passes.items l =
-                  ap (λ (o : Option (NodeLinks A)). option_map_or (λ s. passes_at s e.link) o []) node_at ∙ ap (λ (o : Option Link). option_map_or (passes_over w.0.passes.items) o []) link_at in
-                  (
+                  ap (λ (o : Option (NodeLinks A)). option_map_or (λ s. passes_at s e.link) o []) node_at ∙ ap (λ (o : Option Link). option_map_or (passes_over w.0.passes.items) o []) link_at in (
                     found.0,
                     f.1 - l.first,
                     record { sender = e.sender; passes = passes_named linked e },

@@ -1,12 +1,23 @@
--- Ranges that are gathered in any order: most in their places, and the latest beside them.
-use Rattle.std.specs.Prelude.{◌≡◌, false, List, [], ◌∷◌, map}
+-- Contacts that are gathered with what no two of them share; and ranges that are gathered in any order, most in their
+-- places, and the latest beside them.
+use Rattle.std.specs.Prelude.{◌≡◌, ℕ, false, List, [], ◌∷◌, map}
 use Rattle.std.specs.List.{list_any, AllByRecursion}
 use Rattle.std.specs.List.Sorted.{IsStrictlySortedBy}
 use Rattle.std.specs.declared.cmp.Ordering.{Ordering}
+use Rattle.sabr_model.specs.declared.contact.Contact.{Contact}
 use Rattle.sabr_model.specs.declared.contact.Range.{Range}
+use Rattle.sabr_model.specs.declared.opening.Opening.{Opening}
 use Rattle.sabr_model.specs.Order.{by_numbers, put_in}
 use Rattle.sabr_model.specs.Plan.{ContactPlan, IsPlan, IsWindow, overlap, range_key}
 use Rattle.sabr_model.specs.Adding.{by_range_key}
+
+-- contacts alone and the greatest number given, as a plan without ranges
+abbrev pub plan_of_contacts : List Contact → ℕ → ContactPlan
+plan_of_contacts contacts greatest = record { contacts = contacts; ranges = []; greatest = greatest }
+
+-- the sender, the receiver and the start of each contact
+abbrev pub openings_of : List Contact → List Opening
+openings_of contacts = map (λ c. record { from = c.from; to = c.to; start = c.start }) contacts
 
 -- elements put into a list, one after the other
 abbrev pub put_all : {X : Type 0} → (X → X → Ordering) → List X → List X → List X

@@ -10,11 +10,13 @@ mod laws;
 mod link;
 mod node_table;
 mod numbers;
+mod opening;
 mod plan;
 mod request;
 mod route;
 mod rows;
 mod sent;
+mod tabling;
 #[cfg(test)]
 mod tests;
 
@@ -26,7 +28,7 @@ pub use hop::Hop;
 pub use laws::{candidates_hold_each_once, faults_tell_routes, law1, law2, law3};
 pub use link::{Link, Links, Pass, Sender};
 pub use numbers::Numbers;
-pub use plan::{GatheredRanges, Plan, Senders, arrive};
+pub use plan::{GatheredContacts, GatheredRanges, Plan, Senders, arrive};
 pub use request::Request;
 pub use route::Route;
 pub use rows::{

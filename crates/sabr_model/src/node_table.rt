@@ -46,7 +46,7 @@ fn add_number<A: Allocator + Copy>(
 }
 
 /// Makes sure that the node is in the table.
-fn add_node<A: Allocator + Copy>(
+pub fn add_node<A: Allocator + Copy>(
     alloc: A,
     table: &mut NodeTable<A>,
     node: u64,

@@ -4,6 +4,8 @@ mod add_contact;
 mod add_range;
 mod arriving;
 mod delete;
+mod gathered;
+mod gathered_contacts;
 mod gathered_ranges;
 mod light;
 mod linked;
@@ -13,7 +15,6 @@ pub mod places;
 mod ranges;
 mod ready;
 mod views;
-mod with_ranges;
 
 ghost use Rattle.std.specs.Prelude.{◌≡◌, []};
 
@@ -21,10 +22,11 @@ use crate::contact::{Contact, Range};
 use crate::hop::Hop;
 use crate::node_table::NodeTable;
 pub use arriving::arrive;
+pub use gathered_contacts::GatheredContacts;
 pub use gathered_ranges::GatheredRanges;
 use indexmap::IndexMap;
-use linked::{IncomingLinks, NodeLinks};
 pub use linked::Senders;
+use linked::{IncomingLinks, NodeLinks};
 use std::alloc::{Allocator, Global};
 use std::marker::Model;
 

@@ -9,14 +9,15 @@ ghost use Rattle.sabr_plan.specs.declared.command.Target.TheVariants as target;
 
 use crate::command::{Addition, Command, Deletion, Target, line_command};
 use crate::fault::PlanKind;
-use sabr_model::{AddFault, GatheredRanges, NoMemory, Plan};
+use sabr_model::{AddFault, GatheredContacts, GatheredRanges, NoMemory, Plan};
 use std::alloc::Allocator;
 use std::marker::Model;
 
-/// A plan, whose ranges are gathered beside it, and the time that relative times are counted from.
+/// The gathered contacts and ranges of a plan, and the time that relative times are counted from.
 #[derive(Drop)]
 pub struct PlanReading<A: Allocator + Copy> {
-    plan: Plan<A>,
+    alloc: A,
+    contacts: GatheredContacts<A>,
     ranges: GatheredRanges<A>,
     reference: Option<u64>,
 }
@@ -26,7 +27,7 @@ impl<A: Allocator + Copy> Model for PlanReading<A> {
 
     ghost Value = { Reading };
 
-    ghost view = { λ r. record { plan = record { contacts = r.plan.plan.contacts; ranges = r.ranges; greatest = r.plan.plan.greatest }; reference = r.reference } };
+    ghost view = { λ r. record { plan = record { contacts = r.contacts.contacts; ranges = r.ranges; greatest = r.contacts.greatest }; reference = r.reference } };
 }
 
 /// A refusal of the plan, as a kind of bad line.
@@ -52,7 +53,8 @@ impl<A: Allocator + Copy> PlanReading<A> {
         ensures { result ≡ nothing_read }
     {
         PlanReading {
-            plan: Plan::new(alloc),
+            alloc,
+            contacts: GatheredContacts::new(alloc),
             ranges: GatheredRanges::new(alloc),
             reference: None,
         }
@@ -63,11 +65,12 @@ impl<A: Allocator + Copy> PlanReading<A> {
         ensures { IfOk result (λ p. p.plan ≡ self.plan) }
     {
         let PlanReading {
-            plan,
+            alloc,
+            contacts,
             ranges,
             reference: _,
         } = self;
-        plan.with_ranges(ranges)
+        Plan::gathered(alloc, contacts, ranges)
     }
 
     /// Reads a line without its LF, and does what it says.
@@ -101,8 +104,8 @@ impl<A: Allocator + Copy> PlanReading<A> {
         ensures { Leaves (obeyed self.old (Add target.Contact a)) result self.new }
     {
         match self
-            .plan
-            .add_contact(a.first, a.second, a.start, a.end, a.value)
+            .contacts
+            .add(a.first, a.second, a.start, a.end, a.value)
         {
             Ok(_) => Ok(()),
             Err(fault) => Err(kind_of(fault)),
@@ -123,7 +126,7 @@ impl<A: Allocator + Copy> PlanReading<A> {
     fn delete_contact(&mut self, d: Deletion) -> Result<(), PlanKind>
         ensures { Leaves (obeyed self.old (Delete target.Contact d)) result self.new }
     {
-        match self.plan.delete_contact(d.first, d.second, d.start) {
+        match self.contacts.delete(d.first, d.second, d.start) {
             Ok(_) => Ok(()),
             Err(fault) => Err(kind_of(fault)),
         }

@@ -1,4 +1,4 @@
-//! The texts of a session: the report of a page.
+//! The texts of a session: the report of a page; and what texts are gathered in.
 #![tactic(auto)]
 
 mod numbers;
@@ -7,4 +7,6 @@ mod report;
 mod tests;
 mod text_buffer;
 
-pub use report::{write_report, write_route};
+pub use numbers::{put_number, put_time};
+pub use report::{put_route_line, write_report, write_route};
+pub use text_buffer::TextBuffer;

@@ -22,8 +22,13 @@ pub(crate) fn put_count<W: Write>(
     text.put(writer, digits.format(count).as_bytes())
 }
 
-/// Puts the label, and the number behind it.
-pub(crate) fn put_number<W: Write>(
+/// Puts the label, and the number behind it in decimal digits.
+///
+/// # Errors
+///
+/// [`WriteFault`] where the writer failed. Then a beginning of the bytes held, the label and the digits was
+/// written.
+pub fn put_number<W: Write>(
     text: &mut TextBuffer,
     writer: &mut W,
     label: &[u8],
@@ -36,8 +41,14 @@ pub(crate) fn put_number<W: Write>(
     text.put(writer, digits.format(number).as_bytes())
 }
 
-/// Puts the label, and the time behind it.
-pub(crate) fn put_time<W: Write>(
+/// Puts the label, and behind it the time of a second since 1970-01-01T00:00:00Z, up to the end of the year
+/// 9999, as `yyyy/mm/dd-hh:mm:ss`.
+///
+/// # Errors
+///
+/// [`WriteFault`] where the writer failed. Then a beginning of the bytes held, the label and the time was
+/// written.
+pub fn put_time<W: Write>(
     text: &mut TextBuffer,
     writer: &mut W,
     label: &[u8],
@@ -51,7 +62,7 @@ pub(crate) fn put_time<W: Write>(
 }
 
 /// Puts each number behind a space.
-pub(crate) fn put_numbers<W: Write>(
+pub fn put_numbers<W: Write>(
     text: &mut TextBuffer,
     writer: &mut W,
     numbers: &[u32],

@@ -1,6 +1,6 @@
 //! The report of a page.
 
-ghost use Rattle.std.specs.Prelude.{◌≡◌, ℕ, ◌+◌, ◌^◌, ◌<◌, All, length};
+ghost use Rattle.std.specs.Prelude.{◌≡◌, ℕ, ◌+◌, ◌^◌, ◌<◌, ◌≤◌, All, length};
 ghost use Rattle.sabr_model.specs.Devices.{WritesText};
 ghost use Rattle.sabr_session.specs.Gathering.{Gathers};
 ghost use Rattle.sabr_session.specs.ReportText.{HasSpelledTimes, route_line, report_line, report_lines, last_line, report_text};
@@ -87,12 +87,41 @@ fn put_route<W: Write, A: Allocator + Copy>(
     requires { HasSpelledTimes route.now }
     ensures { Gathers (W.contents writer.old) (W.failures writer.old) text.old (route_line route.now) result (W.contents writer.new) (W.failures writer.new) text.new }
 {
-    put_time(text, writer, b"delivery ", route.delivery)?;
-    put_number(text, writer, b" hops ", route.contacts.len() as u64)?;
-    put_number(text, writer, b" entry ", route.entry)?;
-    put_time(text, writer, b" until ", route.until)?;
+    let contacts = route.contacts.as_slice();
+    put_route_line(
+        text,
+        writer,
+        contacts,
+        route.delivery,
+        route.until,
+        route.entry,
+    )
+}
+
+/// Puts the line of a route, given by the numbers of its contacts, its best-case delivery time, its
+/// termination time and its entry node. Both times are seconds since 1970-01-01T00:00:00Z, up to the end of
+/// the year 9999.
+///
+/// # Errors
+///
+/// [`WriteFault`] where the writer failed. Then a beginning of the bytes held and the line was written.
+pub fn put_route_line<W: Write>(
+    text: &mut TextBuffer,
+    writer: &mut W,
+    contacts: &[u32],
+    delivery: u64,
+    until: u64,
+    entry: u64,
+) -> Result<(), WriteFault>
+    requires { (delivery ≤ 253402300799) × (until ≤ 253402300799) }
+    ensures { Gathers (W.contents writer.old) (W.failures writer.old) text.old (route_line (record { contacts = contacts.now; delivery = delivery; until = until; entry = entry })) result (W.contents writer.new) (W.failures writer.new) text.new }
+{
+    put_time(text, writer, b"delivery ", delivery)?;
+    put_number(text, writer, b" hops ", contacts.len() as u64)?;
+    put_number(text, writer, b" entry ", entry)?;
+    put_time(text, writer, b" until ", until)?;
     text.put(writer, b" contacts")?;
-    put_numbers(text, writer, route.contacts.as_slice())?;
+    put_numbers(text, writer, contacts)?;
     text.put(writer, b"\n")
 }
 

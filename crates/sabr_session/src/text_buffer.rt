@@ -12,7 +12,7 @@ const CAPACITY: usize = 4096;
 
 /// The bytes of a text that its writer was not handed yet. It takes no memory beyond its array.
 #[derive(Drop)]
-pub(crate) struct TextBuffer {
+pub struct TextBuffer {
     bytes: [u8; CAPACITY],
     len: usize,
 }
@@ -29,7 +29,7 @@ impl Model for TextBuffer {
 
 impl TextBuffer {
     /// No bytes yet.
-    pub(crate) fn new() -> TextBuffer
+    pub fn new() -> TextBuffer
         ensures { result ≡ [] }
     {
         TextBuffer {
@@ -39,7 +39,11 @@ impl TextBuffer {
     }
 
     /// Puts the text behind the bytes held. What doesn't fit makes way first, or goes to the writer itself.
-    pub(crate) fn put<W: Write>(&mut self, writer: &mut W, text: &[u8]) -> Result<(), WriteFault>
+    ///
+    /// # Errors
+    ///
+    /// [`WriteFault`] where the writer failed. Then a beginning of the bytes held and the text was written.
+    pub fn put<W: Write>(&mut self, writer: &mut W, text: &[u8]) -> Result<(), WriteFault>
         ensures { Gathers (W.contents writer.old) (W.failures writer.old) self.old text.now result (W.contents writer.new) (W.failures writer.new) self.new }
     {
         if text.len() > CAPACITY - self.len {
@@ -52,8 +56,12 @@ impl TextBuffer {
         Ok(())
     }
 
-    /// Hands all the bytes held to the writer.
-    pub(crate) fn send<W: Write>(&mut self, writer: &mut W) -> Result<(), WriteFault>
+    /// Hands all the bytes held to the writer, and doesn't flush.
+    ///
+    /// # Errors
+    ///
+    /// [`WriteFault`] where the writer failed. Then a beginning of them was written.
+    pub fn send<W: Write>(&mut self, writer: &mut W) -> Result<(), WriteFault>
         ensures text { WritesText (W.contents writer.old) (W.failures writer.old) self.old result (W.contents writer.new) (W.failures writer.new) }
         ensures empty { OnOk result (self.new ≡ []) }
     {

@@ -1,6 +1,7 @@
 //! Runs over readers, writers and an allocator that fail at each place in turn.
 
 use crate::check_run::run_check;
+use crate::explain_run::run_explain;
 use crate::runs::run_first;
 use crate::status::Status;
 use crate::tests::plans::{MORE_OF_C, PLAN_A, PLAN_B};
@@ -23,6 +24,11 @@ nodes 3\n\
 without light 0\n\
 digest 141332fc8a469d56442d0323b136f9e5ff2f4859004f96653cdeb76015a2a51f\n";
 
+const EXPLANATION_OF_A: &[u8] = b"\
+hop 1 contact 1 from 1 to 2 send 2030/01/01-00:00:00 arrive 2030/01/01-00:00:10\n\
+hop 2 contact 2 from 2 to 3 send 2030/01/01-00:00:20 arrive 2030/01/01-00:00:25\n\
+delivery 2030/01/01-00:00:25 hops 2 entry 2 until 2030/01/01-00:01:00 contacts 1 2\n";
+
 // From node 1 to node 3 at the reference of the plans.
 fn request() -> Request {
     Request::new(1, 3, 1893456000, 0).unwrap()
@@ -37,10 +43,16 @@ enum Run {
     FirstThree,
     /// Tells what the plan holds.
     Check,
+    /// Explains the route of contacts 1 and 2.
+    Explain,
 }
 
 /// Runs, and what each writes over plan A.
-const RUNS: [(Run, &[u8]); 2] = [(Run::FirstTwo, FIRST_OF_A), (Run::Check, CHECK_OF_A)];
+const RUNS: [(Run, &[u8]); 3] = [
+    (Run::FirstTwo, FIRST_OF_A),
+    (Run::Check, CHECK_OF_A),
+    (Run::Explain, EXPLANATION_OF_A),
+];
 
 impl Run {
     fn over<A: Allocator + Copy>(
@@ -54,6 +66,7 @@ impl Run {
             Run::FirstTwo => run_first(alloc, plan, request(), 2, out, err),
             Run::FirstThree => run_first(alloc, plan, request(), 3, out, err),
             Run::Check => run_check(alloc, plan, out, err),
+            Run::Explain => run_explain(alloc, plan, request(), &[1, 2], out, err),
         }
     }
 }
@@ -151,7 +164,7 @@ fn refused_in_turn<R: Abort + AllocGlobal>(rt: &R, run: Run, plan: &str) -> Resu
 #[test]
 fn refused_memory_is_told(rt: HostRuntime) -> Result<(), Fail> {
     let plan_c = format!(in rt.alloc(); "{PLAN_B}{MORE_OF_C}")?;
-    for run in [Run::FirstThree, Run::Check] {
+    for run in [Run::FirstThree, Run::Check, Run::Explain] {
         refused_in_turn(&rt, run, PLAN_A)?;
         refused_in_turn(&rt, run, plan_c.as_str())?;
     }

@@ -15,15 +15,6 @@ use crate::node_table::forget_contact;
 use std::alloc::Allocator;
 
 impl<A: Allocator + Copy> Plan<A> {
-    /// The standing contact with this sender, receiver and start.
-    fn contact_of_opening(&self, from: u64, to: u64, start: u64) -> Option<&Contact>
-        ensures { option_copied result ≡ find (opens from to start) self.now.plan.contacts }
-    {
-        self.contacts
-            .iter()
-            .find(|c| from == c.from && to == c.to && start == c.start)
-    }
-
     /// Deletes the contact with this sender, receiver and start, and answers its number, which is not given again.
     ///
     /// `NothingToDelete` where no such contact stands; then the plan stays as it was. It takes no memory.
@@ -32,7 +23,7 @@ impl<A: Allocator + Copy> Plan<A> {
         ensures ok { OnOk result (self.new.plan ≡ without_contact self.old.plan from to start) }
         ensures err { OnErr result (self.new ≡ self.old) }
     {
-        let Some(contact) = self.contact_of_opening(from, to, start) else {
+        let Some(contact) = contact_of_opening(&self.contacts, from, to, start) else {
             return Err(AddFault::NothingToDelete);
         };
         let contact = *contact;
@@ -67,4 +58,13 @@ impl<A: Allocator + Copy> Plan<A> {
             .iter()
             .any(|r| one == r.one && other == r.other && start == r.start)
     }
+}
+
+/// The contact with this sender, receiver and start.
+pub fn contact_of_opening(contacts: &[Contact], from: u64, to: u64, start: u64) -> Option<&Contact>
+    ensures { option_copied result ≡ find (opens from to start) contacts.now }
+{
+    contacts
+        .iter()
+        .find(|c| from == c.from && to == c.to && start == c.start)
 }

@@ -3,7 +3,7 @@
 ghost use Rattle.std.specs.Prelude.{◌<◌, ◌≤◌};
 
 use super::BEGIN;
-use crate::{AddFault, GatheredRanges, Plan};
+use crate::{AddFault, GatheredContacts, GatheredRanges, Plan};
 use ration::Ration;
 use std::alloc::Allocator;
 use std::test::*;
@@ -51,8 +51,7 @@ fn gathers_as_a_plan_does(rt: HostRuntime) -> Result<(), Fail> {
         );
         assert_eq!(rt; plan.delete_range(one, other, start), Ok(()), "at {place}");
     }
-    let taken = Plan::new(rt.alloc())
-        .with_ranges(ranges)
+    let taken = Plan::gathered(rt.alloc(), GatheredContacts::new(rt.alloc()), ranges)
         .ok()
         .ok_or("taken")?;
     assert_eq!(rt; taken.ranges(), plan.ranges());
@@ -73,7 +72,8 @@ fn each_growth_is_refused(rt: HostRuntime) -> Result<(), Fail> {
         assert_eq!(rt; fault, Some(AddFault::NoMemory), "at {number}");
     }
     ration.refuse(1);
-    let taken = Plan::new(&ration).with_ranges(whole.ok().ok_or("gathered")?);
+    let none = GatheredContacts::new(&ration);
+    let taken = Plan::gathered(&ration, none, whole.ok().ok_or("gathered")?);
     assert!(rt; taken.is_err());
     ration.refuse(0);
     Ok(())

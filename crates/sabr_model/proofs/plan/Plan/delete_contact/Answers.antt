@@ -10,8 +10,8 @@ use Rattle.sabr_model.proofs.plan.Plan.delete_contact.Goals as goal
 pub forget_contact-requires : goal.forget_contact-requires
 forget_contact-requires g c =
     let cs = c.self.inside.contacts.items in
-    let found : find (opens c.args.from c.args.to c.args.start) cs ≡ Some c.in-Some.contact.now = ap (λ (p : TabledPlan). find (opens c.args.from c.args.to c.args.start) p.plan.contacts) c.self.view_is ∙ sym c.in-Some.ensures in
-    rw c.deref.ensures.value
+    let found : find (opens c.args.from c.args.to c.args.start) cs ≡ Some c.in-Some.contact.now = ap (find (opens c.args.from c.args.to c.args.start)) (sym c.deref.ensures.value) ∙ sym c.in-Some.ensures in
+    rw c.deref-2.ensures.value
     (record {
       numbered = c.self.invariant.0.numbers_rise;
       stands = found_by_number 0 (opens c.args.from c.args.to c.args.start) cs c.in-Some.contact.now c.self.invariant.0.numbers_rise found;
@@ -24,7 +24,7 @@ invariant_of-self g c =
     let kept = filter_same _ (λ (d : Contact). not (eqb d.number c.in-Some.contact.now.number)) _ (λ d b f' k. search rules) _ _ c.retain.ensures.filtered in
     rw kept (
       IsPlan-fewer_contacts p (λ d. not (eqb d.number c.in-Some.contact.now.number)) c.self.invariant.0,
-      rw c.deref.ensures.value at c.forget_contact.ensures,
+      rw c.deref-2.ensures.value at c.forget_contact.ensures,
       not_ready _ _ _,
     )
 
@@ -33,7 +33,7 @@ returns-clause-ok g c =
     let p : ContactPlan = record { contacts = c.self.inside.contacts.items; ranges = c.self.inside.ranges.items; greatest = c.self.inside.greatest } in
     let kept = filter_same _ (λ (d : Contact). not (eqb d.number c.in-Some.contact.now.number)) _ (λ d b f' k. search rules) _ _ c.retain.ensures.filtered in
     let cs = c.self.inside.contacts.items in
-    let found : find (opens c.args.from c.args.to c.args.start) cs ≡ Some c.in-Some.contact.now = ap (λ (q : TabledPlan). find (opens c.args.from c.args.to c.args.start) q.plan.contacts) c.self.view_is ∙ sym c.in-Some.ensures in
+    let found : find (opens c.args.from c.args.to c.args.start) cs ≡ Some c.in-Some.contact.now = ap (find (opens c.args.from c.args.to c.args.start)) (sym c.deref.ensures.value) ∙ sym c.in-Some.ensures in
     ap (λ (xs : List Contact). let q : ContactPlan = record { contacts = xs; ranges = c.self.inside.ranges.items; greatest = c.self.inside.greatest } in q)
     (kept ∙ sym (without_opening p c.args.from c.args.to c.args.start c.in-Some.contact.now c.self.invariant.0 found))
     ∙ ap (λ (q : TabledPlan). without_contact q.plan c.args.from c.args.to c.args.start) c.self.view_is

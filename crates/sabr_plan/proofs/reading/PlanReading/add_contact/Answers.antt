@@ -1,4 +1,4 @@
--- The plan takes the contact or refuses it.
+-- The gathered contacts take the contact or refuse it.
 use Rattle.std.proofs.Common.{ap}
 use Rattle.std.proofs.lemmas.Result.{on_ok_weaker}
 use Rattle.sabr_model.specs.Plan.{ContactPlan}
@@ -11,12 +11,12 @@ use Rattle.sabr_plan.proofs.reading.PlanReading.add_contact.Goals.{in-Ok, in-Err
 pub returns : goal.returns
 unfolding obeyed
 returns g c =
-    let q = c.self.inside.plan.plan in
+    let q = c.self.inside.contacts in
     let of : ContactPlan → ContactPlan = λ p. record { contacts = p.contacts; ranges = c.self.inside.ranges; greatest = p.greatest } in
     let p = of q in
     let a = c.args.a in
-    let is : IsAnswered (contact_refusal p a.first a.second a.start a.end) c.add_contact.result (with_contact p (next_contact p a.first a.second a.start a.end a.value)) (of c.add_contact.new.self.plan) = record { refused = c.add_contact.ensures.refused; accepted = c.add_contact.ensures.accepted; ok = on_ok_weaker c.add_contact.result (λ e. ap of e) c.add_contact.ensures.ok } in
-    elim c.match-add_contact.branch [
-      | in-Ok w ↦ rw (← c.self.view_is, w.result-is) (changed_ok _ c.self.inside.reference c.add_contact.result _ _ _ is w.in-Ok.is)
-      | in-Err w ↦ rw (← c.self.view_is, w.result-is, w.kind_of.ensures) (changed_err _ c.self.inside.reference c.add_contact.result _ _ _ is w.in-Err.is)
+    let is : IsAnswered (contact_refusal p a.first a.second a.start a.end) c.add.result (with_contact p (next_contact p a.first a.second a.start a.end a.value)) (of c.add.new.self) = record { refused = c.add.ensures.refused; accepted = c.add.ensures.accepted; ok = on_ok_weaker c.add.result (λ e. ap of e) c.add.ensures.ok } in
+    elim c.match-add.branch [
+      | in-Ok w ↦ rw (← c.self.view_is, w.result-is) (changed_ok _ c.self.inside.reference c.add.result _ _ _ is w.in-Ok.is)
+      | in-Err w ↦ rw (← c.self.view_is, w.result-is, w.kind_of.ensures) (changed_err _ c.self.inside.reference c.add.result _ _ _ is w.in-Err.is)
     ]

@@ -12,7 +12,7 @@ use Rattle.sabr_plan.proofs.reading.PlanReading.add_range.Goals.{in-Ok, in-Err}
 pub returns : goal.returns
 unfolding obeyed
 returns g c =
-    let q = c.self.inside.plan.plan in
+    let q = c.self.inside.contacts in
     let of : List Range → ContactPlan = λ rs. record { contacts = q.contacts; ranges = rs; greatest = q.greatest } in
     let p = of c.self.inside.ranges in
     let a = c.args.a in

@@ -1,4 +1,4 @@
--- The plan gives the contact up or has none.
+-- The gathered contacts give the contact up or have none.
 use Rattle.std.proofs.Common.{ap}
 use Rattle.std.proofs.lemmas.Result.{on_ok_weaker}
 use Rattle.sabr_model.specs.Plan.{ContactPlan}
@@ -11,12 +11,12 @@ use Rattle.sabr_plan.proofs.reading.PlanReading.delete_contact.Goals.{in-Ok, in-
 pub returns : goal.returns
 unfolding obeyed
 returns g c =
-    let q = c.self.inside.plan.plan in
+    let q = c.self.inside.contacts in
     let of : ContactPlan → ContactPlan = λ p. record { contacts = p.contacts; ranges = c.self.inside.ranges; greatest = p.greatest } in
     let p = of q in
     let d = c.args.d in
-    let is = contact_deleted (number_of_opening p d.first d.second d.start) c.delete_contact.result (without_contact p d.first d.second d.start) (of c.delete_contact.new.self.plan) c.delete_contact.ensures.value (on_ok_weaker c.delete_contact.result (λ e. ap of e) c.delete_contact.ensures.ok) in
-    elim c.match-delete_contact.branch [
-      | in-Ok w ↦ rw (← c.self.view_is, w.result-is) (changed_ok _ c.self.inside.reference c.delete_contact.result _ _ _ is w.in-Ok.is)
-      | in-Err w ↦ rw (← c.self.view_is, w.result-is, w.kind_of.ensures) (changed_err _ c.self.inside.reference c.delete_contact.result _ _ _ is w.in-Err.is)
+    let is = contact_deleted (number_of_opening p d.first d.second d.start) c.delete.result (without_contact p d.first d.second d.start) (of c.delete.new.self) c.delete.ensures.value (on_ok_weaker c.delete.result (λ e. ap of e) c.delete.ensures.ok) in
+    elim c.match-delete.branch [
+      | in-Ok w ↦ rw (← c.self.view_is, w.result-is) (changed_ok _ c.self.inside.reference c.delete.result _ _ _ is w.in-Ok.is)
+      | in-Err w ↦ rw (← c.self.view_is, w.result-is, w.kind_of.ensures) (changed_err _ c.self.inside.reference c.delete.result _ _ _ is w.in-Err.is)
     ]

@@ -13,7 +13,7 @@ use Rattle.sabr_plan.proofs.reading.PlanReading.delete_range.Goals.{in-Ok, in-Er
 pub returns : goal.returns
 unfolding obeyed
 returns g c =
-    let q = c.self.inside.plan.plan in
+    let q = c.self.inside.contacts in
     let of : List Range → ContactPlan = λ rs. record { contacts = q.contacts; ranges = rs; greatest = q.greatest } in
     let p = of c.self.inside.ranges in
     let d = c.args.d in

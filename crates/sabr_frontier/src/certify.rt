@@ -1,0 +1,107 @@
+//! Whether a tree stands for the state of the place that it counts.
+
+ghost use Rattle.std.specs.Prelude.{◌≡◌, ◌↔◌, slice_get, IfOk, IsTrue};
+ghost use Rattle.std.specs.List.{list_any};
+ghost use Rattle.std.specs.Option.{option_and_then, option_copied};
+ghost use Rattle.std.specs.Ordering.{is_lt};
+ghost use Rattle.sabr_model.specs.Plan.{IsPlan};
+ghost use Rattle.sabr_model.specs.Record.{by_record};
+ghost use Rattle.sabr_frontier.specs.Laws.{CarriesLeast};
+ghost use Rattle.sabr_frontier.specs.Listing.{state_at};
+ghost use Rattle.sabr_frontier.specs.Shape.{shape_of, shown};
+ghost use Rattle.sabr_frontier.specs.Sound.{IsTree};
+ghost use Rattle.sabr_frontier.specs.Taking.{least_route};
+
+use crate::finder::ask;
+use crate::places::{carried, prefix};
+use crate::tree::Tree;
+use sabr_model::{NoMemory, Plan, Request, Route};
+use sabr_search::BestOf;
+use std::alloc::Allocator;
+use std::cmp::Ordering;
+
+/// Whether a route is below another.
+fn is_below<A: Allocator + Copy>(route: &Route<A>, other: &Route<A>) -> bool
+    ensures { result ≡ is_lt (by_record route.now other.now) }
+{
+    route.cmp(other) == Ordering::Less
+}
+
+/// Whether both are there and are told alike, or neither is there.
+fn is_same<A: Allocator + Copy>(one: &Option<Route<A>>, other: &Option<Route<A>>) -> bool
+    ensures { IsTrue result ↔ (one.now ≡ other.now) }
+{
+    match (one, other) {
+        (Some(one), Some(other)) => one.cmp(other) == Ordering::Equal,
+        (None, None) => true,
+        _ => false,
+    }
+}
+
+/// Whether one of the routes is above this one.
+fn is_passed<A: Allocator + Copy>(route: &Route<A>, routes: &[Route<A>]) -> bool
+    ensures { result ≡ list_any (λ x. is_lt (by_record route.now x)) routes.now }
+{
+    routes.iter().any(|other| is_below(route, other))
+}
+
+impl<A: Allocator + Copy> Tree<A> {
+    /// The last route given, none where none was.
+    fn last_given(&self) -> Option<&Route<A>>
+        ensures { option_copied result ≡ option_and_then (slice_get self.now.leaves.items) self.now.last }
+    {
+        self.leaves.get(self.last?)
+    }
+
+    /// The least route that a node carries.
+    fn next_carried(&self) -> Option<&Route<A>>
+        ensures { option_copied result ≡ least_route (shape_of self.now) }
+    {
+        carried(self.nodes.as_slice(), *self.queue.last()?)
+    }
+
+    /// Whether each part carries its least route: one search for each. It needs the memory of a search.
+    fn carries_least<B: BestOf<A>>(
+        &self,
+        plan: &Plan<A>,
+        request: &Request,
+        finder: &mut B,
+    ) -> Result<bool, NoMemory>
+        requires { IsTree plan.now.plan request.now (shape_of self.now) }
+        ensures { IfOk result (λ yes. IsTrue yes ↔ CarriesLeast plan.now.plan request.now (shown (shape_of self.now))) }
+    {
+        for node in self.nodes.iter() {
+            let front = prefix(self.leaves.as_slice(), node);
+            let found = ask(finder, plan, request, front, node.excluded.as_slice())?;
+            if !is_same(&found, &node.route) {
+                return Ok(false);
+            }
+        }
+        Ok(true)
+    }
+
+    /// Whether the state is that of the place that it counts: no route given is above the last one, that is below
+    /// all that is carried, and each part carries its least route (law 5).
+    pub fn is_placed<B: BestOf<A>>(
+        &self,
+        plan: &Plan<A>,
+        request: &Request,
+        finder: &mut B,
+    ) -> Result<bool, NoMemory>
+        requires plan { IsPlan plan.now.plan }
+        requires tree { IsTree plan.now.plan request.now (shape_of self.now) }
+        ensures { IfOk result (λ yes. IsTrue yes ↔ (shown (shape_of self.now) ≡ state_at plan.now.plan request.now (shown (shape_of self.now)).emitted)) }
+    {
+        if let Some(last) = self.last_given() {
+            if is_passed(last, self.leaves.as_slice()) {
+                return Ok(false);
+            }
+            if let Some(next) = self.next_carried() {
+                if !is_below(last, next) {
+                    return Ok(false);
+                }
+            }
+        }
+        self.carries_least(plan, request, finder)
+    }
+}

@@ -1,0 +1,40 @@
+//! A plan that is made of gathered contacts and ranges.
+
+ghost use Rattle.std.specs.Prelude.{◌≡◌, IfOk};
+
+use super::Plan;
+use super::gathered_contacts::GatheredContacts;
+use super::gathered_ranges::GatheredRanges;
+use super::linked::IncomingLinks;
+use crate::fault::NoMemory;
+use crate::tabling::table_of;
+use std::alloc::Allocator;
+
+impl<A: Allocator + Copy> Plan<A> {
+    /// The plan of these contacts and ranges; `NoMemory` where memory for its tables is refused.
+    ///
+    /// It puts the contacts in order of their start once, and takes some steps for each contact and range.
+    pub fn gathered(
+        alloc: A,
+        contacts: GatheredContacts<A>,
+        ranges: GatheredRanges<A>,
+    ) -> Result<Plan<A>, NoMemory>
+        ensures { IfOk result (λ p. p.plan ≡ record { contacts = contacts.contacts; ranges = ranges; greatest = contacts.greatest }) }
+    {
+        let (contacts, greatest) = contacts.into_contacts();
+        let ranges = ranges.into_ranges()?;
+        let table = table_of(alloc, &contacts)?;
+        Ok(Plan {
+            alloc,
+            contacts,
+            ranges,
+            table,
+            greatest,
+            hops: Vec::new(alloc),
+            longest: Vec::new(alloc),
+            linked: Vec::new(alloc),
+            incoming: IncomingLinks::new(alloc),
+            settled: false,
+        })
+    }
+}

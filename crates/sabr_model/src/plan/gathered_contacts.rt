@@ -1,0 +1,169 @@
+//! Contacts that are gathered one by one, for a plan that takes them all at once.
+
+ghost use Rattle.std.specs.Prelude.{◌≡◌, ℕ, ◌<◌, ◌≤◌, ◌+◌, [], None, Some, Err, IfOk, OnOk, OnErr, IsOkUnless, ok_or};
+ghost use Rattle.std.specs.List.{list_any};
+ghost use Rattle.sabr_model.specs.Plan.{last_time, opens, IsPlan};
+ghost use Rattle.sabr_model.specs.declared.fault.AddFault.{AddFault};
+ghost use Rattle.sabr_model.specs.declared.fault.AddFault.TheVariants.{NoMemory, NothingToDelete};
+ghost use Rattle.sabr_model.specs.Adding.{next_contact, contact_refusal, with_contact, number_of_opening, without_contact};
+
+use super::delete::contact_of_opening;
+use crate::contact::Contact;
+use crate::fault::AddFault;
+use crate::opening::Opening;
+use indexmap::IndexSet;
+use std::alloc::{AllocError, Allocator, Global};
+use std::hash::{BuildHasherDefault, FoldHasher};
+use std::marker::Model;
+
+/// Contacts that obey the rules of a plan's contacts, by number, and the greatest number that was given.
+///
+/// What no two of them share stands in a set beside them, so that a duplicate is found in one step.
+#[derive(Drop)]
+pub struct GatheredContacts<A: Allocator + Copy = Global> {
+    contacts: Vec<Contact, A>,
+    openings: IndexSet<Opening, BuildHasherDefault<FoldHasher>, A>,
+    greatest: u32,
+}
+
+impl<A: Allocator + Copy> Model for GatheredContacts<A> {
+    ghost use Rattle.std.specs.Prelude.{◌≡◌};
+    ghost use Rattle.sabr_model.specs.Plan.{ContactPlan, IsPlan};
+    ghost use Rattle.sabr_model.specs.Gathering.{plan_of_contacts, openings_of};
+
+    ghost Value = { ContactPlan };
+
+    ghost view = { λ g. plan_of_contacts g.contacts.items g.greatest };
+
+    ghost invariant = { λ g. IsPlan (plan_of_contacts g.contacts.items g.greatest) × (g.openings.keys ≡ openings_of g.contacts.items) };
+}
+
+impl<A: Allocator + Copy> GatheredContacts<A> {
+    /// No contact. It takes no memory.
+    pub fn new(alloc: A) -> GatheredContacts<A>
+        ensures { result ≡ record { contacts = []; ranges = []; greatest = 0 } }
+    {
+        GatheredContacts {
+            contacts: Vec::new(alloc),
+            openings: IndexSet::new(alloc),
+            greatest: 0,
+        }
+    }
+
+    /// Adds a contact, as `Plan::add_contact` does, and answers its number: nodes, times in seconds, rate in bytes per second,
+    /// and the same refusals. It takes one step.
+    pub fn add(
+        &mut self,
+        from: u64,
+        to: u64,
+        start: u64,
+        end: u64,
+        rate: u64,
+    ) -> Result<u32, AddFault>
+        requires from { 0 < from }
+        requires to { 0 < to }
+        requires end { end ≤ last_time }
+        ensures refused { (f : AddFault) → contact_refusal self.old from to start end ≡ Some f → result ≡ Err f }
+        ensures accepted { contact_refusal self.old from to start end ≡ None → IsOkUnless result NoMemory }
+        ensures number { IfOk result (λ n. n ≡ self.old.greatest + 1) }
+        ensures ok { OnOk result (self.new ≡ with_contact self.old (next_contact self.old from to start end rate)) }
+        ensures err { OnErr result (self.new ≡ self.old) }
+    {
+        if let Some(fault) = self.refusal(from, to, start, end) {
+            return Err(fault);
+        }
+        self.put(from, to, start, end, rate)
+            .map_err(|_| AddFault::NoMemory)
+    }
+
+    /// Why a contact would be refused, unless memory is short.
+    fn refusal(&self, from: u64, to: u64, start: u64, end: u64) -> Option<AddFault>
+        ensures { result ≡ contact_refusal self.now from to start end }
+    {
+        if start >= end {
+            Some(AddFault::EmptyWindow)
+        } else if from == to {
+            Some(AddFault::SelfPair)
+        } else if self.has_opening(from, to, start) {
+            Some(AddFault::DuplicateContact)
+        } else if self.greatest >= 20000 {
+            Some(AddFault::TooMany)
+        } else {
+            None
+        }
+    }
+
+    /// Whether one of the contacts has this sender, receiver and start.
+    fn has_opening(&self, from: u64, to: u64, start: u64) -> bool
+        ensures { result ≡ list_any (opens from to start) self.now.contacts }
+    {
+        let opening = Opening { from, to, start };
+        self.openings.contains(&opening)
+    }
+
+    /// Adds a contact that is not refused.
+    fn put(
+        &mut self,
+        from: u64,
+        to: u64,
+        start: u64,
+        end: u64,
+        rate: u64,
+    ) -> Result<u32, AllocError>
+        requires from { 0 < from }
+        requires to { 0 < to }
+        requires end { end ≤ last_time }
+        requires accepted { contact_refusal self.old from to start end ≡ None }
+        ensures number { IfOk result (λ n. n ≡ self.old.greatest + 1) }
+        ensures ok { OnOk result (self.new ≡ with_contact self.old (next_contact self.old from to start end rate)) }
+        ensures err { OnErr result (self.new ≡ self.old) }
+    {
+        let number = self.greatest + 1;
+        self.contacts.reserve(1)?;
+        self.openings.insert(Opening { from, to, start })?;
+        self.contacts.push_reserved(Contact {
+            number,
+            from,
+            to,
+            start,
+            end,
+            rate,
+        });
+        self.greatest = number;
+        Ok(number)
+    }
+
+    /// Deletes the contact with this sender, receiver and start, and answers its number, which is not given again.
+    ///
+    /// `NothingToDelete` where there is no such contact; then the contacts stay as they were. It takes no memory.
+    pub fn delete(&mut self, from: u64, to: u64, start: u64) -> Result<u32, AddFault>
+        ensures value { result ≡ ok_or (number_of_opening self.old from to start) NothingToDelete }
+        ensures ok { OnOk result (self.new ≡ without_contact self.old from to start) }
+        ensures err { OnErr result (self.new ≡ self.old) }
+    {
+        let Some(contact) = contact_of_opening(&self.contacts, from, to, start) else {
+            return Err(AddFault::NothingToDelete);
+        };
+        let number = contact.number;
+        self.openings
+            .retain(|o| !(from == o.from && to == o.to && start == o.start));
+        self.contacts
+            .retain(|c| !(from == c.from && to == c.to && start == c.start));
+        Ok(number)
+    }
+
+    /// The contacts by number, and the greatest number that was given. It takes no memory.
+    pub fn into_contacts(self) -> (Vec<Contact, A>, u32)
+        ensures contacts { result.0.items ≡ self.contacts }
+        ensures greatest { result.1 ≡ self.greatest }
+        ensures alone { self.ranges ≡ [] }
+        ensures rules { IsPlan self }
+    {
+        let GatheredContacts {
+            contacts,
+            openings: _,
+            greatest,
+        } = self;
+        (contacts, greatest)
+    }
+}
