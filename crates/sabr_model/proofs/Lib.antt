@@ -22,7 +22,10 @@ pub mod Gathers
 pub mod TablesMade
 pub mod GatheredOpenings
 pub mod ReadyLemmas
+pub mod Different
 pub mod LinkLemmas
+pub mod Chains
+pub mod SenderLemmas
 pub mod Openings
 pub mod PlanLemmas
 pub mod Rises

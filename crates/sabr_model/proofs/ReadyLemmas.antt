@@ -10,6 +10,7 @@ use Rattle.indexmap.specs.IndexMap.{IndexMap, keys}
 use Rattle.sabr_model.specs.declared.contact.Contact.{Contact}
 use Rattle.sabr_model.specs.declared.hop.Hop.{Hop}
 use Rattle.sabr_model.specs.declared.plan.linked.NodeLinks.{NodeLinks}
+use Rattle.sabr_model.specs.declared.plan.linked.senders.Incoming.{Incoming}
 use Rattle.sabr_model.specs.declared.sent.Sent.{Sent}
 use Rattle.sabr_model.specs.Plan.{ContactPlan, TabledPlan, contact_named, has, are_different}
 use Rattle.sabr_model.specs.Table.{ends_of, IsTableOf}
@@ -19,8 +20,8 @@ use Rattle.sabr_model.proofs.TableLemmas.{has_node}
 use Rattle.sabr_model.proofs.Without.{ends_of_found}
 
 -- a plan that is not settled promises nothing
-pub not_ready : {A : Type 0} {linked : List (NodeLinks A)} (p : TabledPlan) (hops : List Hop) (longest : List ℕ) → IsReady false p hops longest linked
-not_ready p hops longest = record { hops = λ e. absurd cc; longest = λ e. absurd cc; links = λ e. absurd cc }
+pub not_ready : {A : Type 0} {linked : List (NodeLinks A)} {starts : List ℕ} {named : List Incoming} (p : TabledPlan) (hops : List Hop) (longest : List ℕ) → IsReady false p hops longest linked starts named
+not_ready p hops longest = record { hops = λ e. absurd cc; longest = λ e. absurd cc; links = λ e. absurd cc; senders = λ e. absurd cc }
 
 -- each receiver is one of the nodes
 receiver_there : (cs : List Contact) (k : ℕ) (d : Contact) → k < length cs → has (get_or cs k d).to (ends_of cs) ≡ true
@@ -88,7 +89,7 @@ ended_by p table longest k node n at c none here named from early =
     omega (arith, bound, ends, starts, start, early)
 
 -- fewer of different numbers are different
-different_drop : (k : ℕ) (xs : List ℕ) → are_different xs ≡ true → are_different (drop k xs) ≡ true
+pub different_drop : (k : ℕ) (xs : List ℕ) → are_different xs ≡ true → are_different (drop k xs) ≡ true
 different_drop zero xs d = d
 different_drop (suc k) [] d = d
 different_drop (suc k) (x ∷ xs) d = different_drop k xs (and_parts (not (has x xs)) (are_different xs) d).1
@@ -116,7 +117,7 @@ open_behind p q at ys first h within ended =
     }
 
 -- to take as many as there are is to take all
-take_enough : {X : Type 0} (n : ℕ) (xs : List X) → length xs ≤ n → take n xs ≡ xs
+pub take_enough : {X : Type 0} (n : ℕ) (xs : List X) → length xs ≤ n → take n xs ≡ xs
 take_enough zero [] le = refl
 take_enough zero (x ∷ xs) le = absurd (omega arith)
 take_enough (suc n) [] le = refl

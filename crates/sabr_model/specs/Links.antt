@@ -1,10 +1,11 @@
 -- A node's links: its standing contacts with a light time by receiver, and by start on each link.
-use Rattle.std.specs.Prelude.{◌≡◌, ℕ, ◌+◌, ◌<◌, ◌≤◌, List, length, slice_get}
+use Rattle.std.specs.Prelude.{IsTrue, ◌≡◌, ℕ, ◌+◌, ◌<◌, ◌≤◌, ◌==◌, List, length, map, slice_get}
+use Rattle.std.specs.List.{sum_by, filter}
 use Rattle.std.specs.declared.option.Option.TheVariants.{Some}
 use Rattle.sabr_model.specs.declared.contact.Contact.{Contact}
 use Rattle.sabr_model.specs.declared.link.Pass.{Pass}
 use Rattle.sabr_model.specs.declared.link.Link.{Link}
-use Rattle.sabr_model.specs.Plan.{TabledPlan, contact_named}
+use Rattle.sabr_model.specs.Plan.{TabledPlan, contact_named, are_different}
 use Rattle.sabr_model.specs.Light.{light_of}
 use Rattle.sabr_model.specs.Table.{sent_by}
 
@@ -36,11 +37,40 @@ pub record IsLinkOf (p : TabledPlan) (node : ℕ) (passes : List Pass) (l : Link
   pub each : (k : ℕ) (x : Pass) → l.first ≤ k → k < l.end → slice_get passes k ≡ Some x → IsPassOf p node to x
   pub kept : (i k : ℕ) (x y : Pass) → l.first ≤ i → i ≤ k → k < l.end → slice_get passes i ≡ Some x → slice_get passes k ≡ Some y → IsBefore x y
 
+-- the numbers of passes
+abbrev pub numbers_of : List Pass → List ℕ
+numbers_of passes = map (λ x. x.number) passes
+
 -- The links are the node's: each lies behind the one before it, each standing contact of the node that has a light time
--- is a pass of one of them, and there are no more passes than the node has contacts.
+-- is a pass of one of them, no contact stands there twice, and there are no more passes than the node has contacts.
 pub record AreLinksOf (p : TabledPlan) (node : ℕ) (links : List Link) (passes : List Pass) : Type 0 where
   pub each : (j : ℕ) (l : Link) → slice_get links j ≡ Some l → IsLinkOf p node passes l
   pub in_row : (j : ℕ) (l m : Link) → slice_get links j ≡ Some l → slice_get links (j + 1) ≡ Some m → l.end ≤ m.first
   pub whole : (n t : ℕ) (c : Contact) → contact_named p.plan n ≡ Some c → c.from ≡ node → light_of p.plan c ≡ Some t
       → (j k : ℕ) × (l : Link) × (x : Pass) × (slice_get links j ≡ Some l) × (l.first ≤ k) × (k < l.end) × (slice_get passes k ≡ Some x) × (x.number ≡ n)
+  pub once : IsTrue (are_different (numbers_of passes))
   pub few : length passes ≤ length (sent_by p.plan.contacts node)
+
+-- the numbers of the contacts that a node receives
+abbrev pub received_by : List Contact → ℕ → List ℕ
+received_by contacts node = map (λ c. c.number) (filter (λ c. node == c.to) contacts)
+
+-- a link as its receiver sees it: the index of its sender in the table, and its passes
+pub record SentLink : Type 0 where
+  pub sender : ℕ
+  pub passes : List Pass
+
+-- the passes go from the link's sender to the node, by start, each within the bounds that stand beside the others
+pub record IsLinkTo (p : TabledPlan) (node : ℕ) (s : SentLink) : Type 0 where
+  pub from : ℕ
+  pub at : slice_get p.table s.sender ≡ Some from
+  pub each : (k : ℕ) (x : Pass) → slice_get s.passes k ≡ Some x → IsPassOf p from node x
+  pub kept : (i k : ℕ) (x y : Pass) → i ≤ k → slice_get s.passes i ≡ Some x → slice_get s.passes k ≡ Some y → IsBefore x y
+
+-- The links are those to the node: each standing contact to it that has a light time is a pass of one of them, and
+-- together they have no more passes than the node receives contacts.
+pub record AreLinksTo (p : TabledPlan) (node : ℕ) (links : List SentLink) : Type 0 where
+  pub each : (j : ℕ) (s : SentLink) → slice_get links j ≡ Some s → IsLinkTo p node s
+  pub whole : (n t : ℕ) (c : Contact) → contact_named p.plan n ≡ Some c → c.to ≡ node → light_of p.plan c ≡ Some t
+      → (j k : ℕ) × (s : SentLink) × (x : Pass) × (slice_get links j ≡ Some s) × (slice_get s.passes k ≡ Some x) × (x.number ≡ n)
+  pub few : sum_by (λ s. length s.passes) links ≤ length (received_by p.plan.contacts node)

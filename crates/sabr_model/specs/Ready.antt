@@ -6,9 +6,11 @@ use Rattle.std.specs.declared.option.Option.TheVariants.{Some}
 use Rattle.sabr_model.specs.declared.contact.Contact.{Contact}
 use Rattle.sabr_model.specs.declared.hop.Hop.{Hop}
 use Rattle.sabr_model.specs.declared.plan.linked.NodeLinks.{NodeLinks}
+use Rattle.sabr_model.specs.declared.plan.linked.senders.Incoming.{Incoming}
 use Rattle.sabr_model.specs.Plan.{TabledPlan}
 use Rattle.sabr_model.specs.Tabled.{IsHopOf}
 use Rattle.sabr_model.specs.Linking.{AreLinked}
+use Rattle.sabr_model.specs.Incoming.{AreSenders}
 
 -- beside each contact stands its hop
 pub record AreHops (p : TabledPlan) (contacts : List Contact) (hops : List Hop) : Type 0 where
@@ -22,10 +24,11 @@ NoneLastsLonger table contacts longest =
     → (slice_index_or contacts i d).end ≤ (slice_index_or contacts i d).start + slice_index longest k
 
 -- where the plan is settled, all of it is right
-pub record IsReady {A : Type 0} (settled : Bool) (p : TabledPlan) (kept_hops : List Hop) (kept_longest : List ℕ) (linked : List (NodeLinks A)) : Type 0 where
+pub record IsReady {A : Type 0} (settled : Bool) (p : TabledPlan) (kept_hops : List Hop) (kept_longest : List ℕ) (linked : List (NodeLinks A)) (starts : List ℕ) (named : List Incoming) : Type 0 where
   pub hops : settled ≡ true → AreHops p p.plan.contacts kept_hops
   pub longest : settled ≡ true → NoneLastsLonger p.table p.plan.contacts kept_longest
   pub links : settled ≡ true → AreLinked p linked
+  pub senders : settled ≡ true → AreSenders p linked starts named
 
 -- the start of the contact of a number
 abbrev pub start_among : List Contact → ℕ → ℕ

@@ -26,9 +26,9 @@ pub use fault::{AddFault, HopFault, NoMemory, RequestError};
 pub use following::follow;
 pub use hop::Hop;
 pub use laws::{candidates_hold_each_once, faults_tell_routes, law1, law2, law3};
-pub use link::{Link, Links, Pass};
+pub use link::{Link, Links, Pass, Sender};
 pub use numbers::Numbers;
-pub use plan::{GatheredContacts, GatheredRanges, Plan, arrive};
+pub use plan::{GatheredContacts, GatheredRanges, Plan, Senders, arrive};
 pub use request::Request;
 pub use route::Route;
 pub use rows::{

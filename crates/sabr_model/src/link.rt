@@ -41,3 +41,10 @@ pub struct Links<'a> {
     pub links: &'a [Link],
     pub passes: &'a [Pass],
 }
+
+/// A link as its receiver sees it: the index of its sender in the table of nodes, and its passes by start.
+#[derive(Clone, Copy)]
+pub struct Sender<'a> {
+    pub node: usize,
+    pub passes: &'a [Pass],
+}

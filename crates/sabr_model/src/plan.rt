@@ -25,7 +25,8 @@ pub use arriving::arrive;
 pub use gathered_contacts::GatheredContacts;
 pub use gathered_ranges::GatheredRanges;
 use indexmap::IndexMap;
-use linked::NodeLinks;
+pub use linked::Senders;
+use linked::{IncomingLinks, NodeLinks};
 use std::alloc::{Allocator, Global};
 use std::marker::Model;
 
@@ -42,6 +43,7 @@ pub struct Plan<A: Allocator + Copy = Global> {
     hops: Vec<Hop, A>,
     longest: Vec<u64, A>,
     linked: Vec<NodeLinks<A>, A>,
+    incoming: IncomingLinks<A>,
     settled: bool,
 }
 
@@ -55,7 +57,7 @@ impl<A: Allocator + Copy> Model for Plan<A> {
 
     ghost view = { λ a. record { plan = record { contacts = a.contacts.items; ranges = a.ranges.items; greatest = a.greatest }; table = keys a.table } };
 
-    ghost invariant = { λ a. IsPlan (record { contacts = a.contacts.items; ranges = a.ranges.items; greatest = a.greatest }) × IsTableOf a.contacts.items a.table × IsReady a.settled (record { plan = record { contacts = a.contacts.items; ranges = a.ranges.items; greatest = a.greatest }; table = keys a.table }) a.hops.items a.longest.items a.linked.items };
+    ghost invariant = { λ a. IsPlan (record { contacts = a.contacts.items; ranges = a.ranges.items; greatest = a.greatest }) × IsTableOf a.contacts.items a.table × IsReady a.settled (record { plan = record { contacts = a.contacts.items; ranges = a.ranges.items; greatest = a.greatest }; table = keys a.table }) a.hops.items a.longest.items a.linked.items a.incoming.starts.items a.incoming.named.items };
 }
 
 impl<A: Allocator + Copy> Plan<A> {
@@ -72,6 +74,7 @@ impl<A: Allocator + Copy> Plan<A> {
             hops: Vec::new(alloc),
             longest: Vec::new(alloc),
             linked: Vec::new(alloc),
+            incoming: IncomingLinks::new(alloc),
             settled: false,
         }
     }

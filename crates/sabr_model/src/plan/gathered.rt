@@ -5,6 +5,7 @@ ghost use Rattle.std.specs.Prelude.{◌≡◌, IfOk};
 use super::Plan;
 use super::gathered_contacts::GatheredContacts;
 use super::gathered_ranges::GatheredRanges;
+use super::linked::IncomingLinks;
 use crate::fault::NoMemory;
 use crate::tabling::table_of;
 use std::alloc::Allocator;
@@ -32,6 +33,7 @@ impl<A: Allocator + Copy> Plan<A> {
             hops: Vec::new(alloc),
             longest: Vec::new(alloc),
             linked: Vec::new(alloc),
+            incoming: IncomingLinks::new(alloc),
             settled: false,
         })
     }

@@ -2,14 +2,19 @@
 
 mod bounds;
 mod building;
+mod chains;
+pub mod incoming;
 mod rows;
+pub mod senders;
 
 ghost use Rattle.std.specs.Prelude.{◌≡◌, ◌<◌, ℕ, Some, IfSome, length, slice_get};
-ghost use Rattle.sabr_model.specs.Links.{AreLinksOf};
+ghost use Rattle.sabr_model.specs.Links.{AreLinksOf, AreLinksTo};
 
 use super::Plan;
 use crate::link::{Link, Links, Pass};
 pub use building::link_nodes;
+pub use incoming::{IncomingLinks, incoming_links};
+pub use senders::Senders;
 use std::alloc::Allocator;
 
 /// What a settled plan keeps of one node: its links, and the passes over which they lie.
@@ -35,5 +40,17 @@ impl<A: Allocator + Copy> Plan<A> {
             }),
             None => None,
         }
+    }
+
+    /// The links to the node at an index of the table, each with its sender; none where the plan isn't settled.
+    pub fn senders(&self, index: usize) -> Option<Senders<'_, A>>
+        requires { index < length self.now.table }
+        ensures { IfSome result (λ s. (node : ℕ) → slice_get self.now.table index ≡ Some node → AreLinksTo self.now node s) }
+    {
+        if !self.settled {
+            return None;
+        }
+        let incoming = self.incoming.of(index)?;
+        Some(Senders::over(incoming, &self.linked))
     }
 }

@@ -11,7 +11,7 @@ ghost use Rattle.sabr_model.specs.Ready.{AreHops, NoneLastsLonger};
 
 use super::Plan;
 use super::light::light_of_contact;
-use super::linked::link_nodes;
+use super::linked::{incoming_links, link_nodes};
 use crate::contact::{Contact, Range};
 use crate::fault::NoMemory;
 use crate::hop::Hop;
@@ -28,10 +28,14 @@ impl<A: Allocator + Copy> Plan<A> {
     {
         self.settled = false;
         self.linked.clear();
+        self.incoming.forget();
         fill_hops(&mut self.hops, &self.contacts, &self.ranges, &self.table)?;
         fill_longest(&mut self.longest, &self.contacts, &self.table)?;
         self.settled = true;
-        self.linked = link_nodes(self.alloc, self)?;
+        let linked = link_nodes(self.alloc, self)?;
+        let incoming = incoming_links(self.alloc, &linked)?;
+        self.linked = linked;
+        self.incoming = incoming;
         Ok(())
     }
 }

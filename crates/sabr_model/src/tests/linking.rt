@@ -64,3 +64,28 @@ fn a_settled_plan_tells_its_links(rt: HostRuntime) -> Result<(), Fail> {
     );
     Ok(())
 }
+
+/// The links of the plan above, and one more contact to 2, from 4, which one of the ranges lights both ways.
+fn plan_of_two_senders<A: Allocator + Copy>(alloc: A) -> Result<Plan<A>, AddFault> {
+    let mut plan = plan_of_links(alloc)?;
+    plan.add_range(2, 4, BEGIN, BEGIN + 30, 2)?;
+    plan.add_contact(4, 2, BEGIN + 7, BEGIN + 9, 1000)?;
+    Ok(plan)
+}
+
+#[test]
+fn a_settled_plan_tells_its_senders(rt: HostRuntime) -> Result<(), Fail> {
+    let mut plan = plan_of_two_senders(rt.alloc()).ok().ok_or("plan")?;
+    assert!(rt; plan.senders(1).is_none());
+    assert!(rt; plan.settle().is_ok());
+    assert_eq!(rt; plan.senders(0).ok_or("senders of 1")?.len(), 0);
+    let told = plan.senders(1).ok_or("senders of 2")?;
+    assert_eq!(rt; told.len(), 2);
+    for place in 0..told.len() {
+        let sender = told.at(place);
+        let passes = if sender.node == 0 { 3 } else { 1 };
+        assert_eq!(rt; sender.passes.len(), passes);
+        assert!(rt; sender.node == 0 || (sender.node == 2 && sender.passes[0].number == 6));
+    }
+    Ok(())
+}

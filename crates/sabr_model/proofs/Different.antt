@@ -1,0 +1,120 @@
+-- Numbers that differ, in parts of lists and in lists put together; the numbers of passes.
+use Rattle.std.proofs.Common.{◌≡◌, ℕ, zero, suc, ◌+◌, ◌-◌, ◌<◌, ◌≤◌, true, false, not, ◌||◌, eqb, List, [], ◌∷◌, ◌++◌, length, get_or, map, take, drop, refl, sym, ap, subst, ◌∙◌, inl, inr, arith, length-drop}
+use Rattle.std.specs.Prelude.{slice_get, Some, IsPermutation, nat_eq, Contains}
+use Rattle.std.specs.Option.{option_map}
+use Rattle.std.specs.Cmp.{nat_eq_equiv}
+use Rattle.std.proofs.lemmas.Bool.{and_parts, and_from, or_cases, or_left, or_right, eqb-true, eq-eqb, not-true, not_from_false, both_ways, false_from_ne_true}
+use Rattle.std.proofs.lemmas.List.{get_or-drop, get_or-take, length-take, take-append-drop, drop-map}
+use Rattle.std.specs.List.{take-map}
+use Rattle.std.proofs.lemmas.List.Folds.{list_any-append}
+use Rattle.std.proofs.lemmas.List.Sorted.{IsPermutation-map}
+use Rattle.std.proofs.lemmas.Option.{slice_get-map, slice_get_within, slice_get-get_or, get_or_from_slice_get}
+use Rattle.indexmap.proofs.MapLemmas.{distinct_permutation}
+use Rattle.sabr_model.specs.declared.link.Pass.{Pass}
+use Rattle.sabr_model.specs.Plan.{has, are_different}
+use Rattle.sabr_model.specs.Links.{numbers_of}
+use Rattle.sabr_model.specs.Linking.{AreSamePasses}
+use Rattle.sabr_model.proofs.Listed.{distinct_from_different}
+use Rattle.sabr_model.proofs.Tabled.{place_one, different_from_distinct}
+use Rattle.sabr_model.proofs.ReadyLemmas.{different_drop}
+
+-- ---- lists put together
+
+-- two lists of different numbers, and none in both
+pub different_append : (xs ys : List ℕ) → are_different xs ≡ true → are_different ys ≡ true → ((n : ℕ) → has n xs ≡ true → has n ys ≡ true → ⊥) → are_different (xs ++ ys) ≡ true
+different_append [] ys a b apart = b
+different_append (x ∷ xs) ys a b apart =
+    let p = and_parts (not (has x xs)) (are_different xs) a in
+    let here : has x (x ∷ xs) ≡ true = or_left (eqb x x) (has x xs) (eq-eqb x x refl) in
+    let none_behind : has x ys ≡ false = false_from_ne_true (has x ys) (λ t. apart x here t) in
+    let none : has x (xs ++ ys) ≡ false = list_any-append (eqb x) xs ys ∙ ap (λ b. b || has x ys) (not-true (has x xs) p.0) ∙ none_behind in
+    and_from (not (has x (xs ++ ys))) (are_different (xs ++ ys)) (not_from_false (has x (xs ++ ys)) none)
+    (different_append xs ys p.1 b (λ n in_xs in_ys. apart n (or_right (eqb n x) (has n xs) in_xs) in_ys))
+
+-- the front of a list of different numbers
+pub different_front : (xs ys : List ℕ) → are_different (xs ++ ys) ≡ true → are_different xs ≡ true
+different_front [] ys d = refl
+different_front (x ∷ xs) ys d =
+    let p = and_parts (not (has x (xs ++ ys))) (are_different (xs ++ ys)) d in
+    let none : has x xs ≡ false = false_from_ne_true (has x xs) (λ t. both_ways (has x (xs ++ ys)) (not-true (has x (xs ++ ys)) p.0) (list_any-append (eqb x) xs ys ∙ or_left (has x xs) (has x ys) t)) in
+    and_from (not (has x xs)) (are_different xs) (not_from_false (has x xs) none) (different_front xs ys p.1)
+
+-- its last number stands nowhere else
+pub different_last : (xs : List ℕ) (n : ℕ) → are_different (xs ++ n ∷ []) ≡ true → has n xs ≡ true → ⊥
+different_last [] n d h = absurd cc
+different_last (x ∷ xs) n d h =
+    let p = and_parts (not (has x (xs ++ n ∷ []))) (are_different (xs ++ n ∷ [])) d in
+    elim (or_cases (eqb n x) (has n xs) h) [
+      | inl here ↦
+          let same : n ≡ x = eqb-true n x here in
+          let there : has x (xs ++ n ∷ []) ≡ true = list_any-append (eqb x) xs (n ∷ []) ∙ or_right (has x xs) (has x (n ∷ [])) (or_left (eqb x n) false (eq-eqb x n (sym same))) in
+          both_ways (has x (xs ++ n ∷ [])) (not-true (has x (xs ++ n ∷ [])) p.0) there
+      | inr later ↦ different_last xs n p.1 later
+    ]
+
+-- a part of a list of different numbers
+pub different_part : (n k : ℕ) (xs : List ℕ) → are_different xs ≡ true → are_different (take n (drop k xs)) ≡ true
+different_part n k xs d =
+    different_front (take n (drop k xs)) (drop n (drop k xs)) (subst (λ (ys : List ℕ). are_different ys ≡ true) (sym (take-append-drop n (drop k xs))) (different_drop k xs d))
+
+-- ---- parts of a list
+
+-- what stands in a part stands in the list
+pub part_at : {X : Type 0} (xs : List X) (first n k : ℕ) (x : X) → slice_get (take n (drop first xs)) k ≡ Some x → (k < n) × (slice_get xs (first + k) ≡ Some x)
+part_at xs first n k x h =
+    let within : k < length (take n (drop first xs)) = slice_get_within (take n (drop first xs)) k x h in
+    let less : k < n = omega (arith, within, length-take n (drop first xs)) in (
+      less,
+      slice_get-get_or xs (first + k) x (omega (arith, within, length-take n (drop first xs), length-drop first xs))
+          ∙ ap Some (sym (get_or-drop first xs k x) ∙ sym (get_or-take n (drop first xs) k x less) ∙ get_or_from_slice_get (take n (drop first xs)) k x x h),
+    )
+
+-- and the other way round
+pub part_has : {X : Type 0} (xs : List X) (first end p : ℕ) (x : X) → first ≤ p → p < end → end ≤ length xs → slice_get xs p ≡ Some x → slice_get (take (end - first) (drop first xs)) (p - first) ≡ Some x
+part_has xs first end p x after before within h =
+    let back : first + (p - first) ≡ p = omega arith in
+    slice_get-get_or (take (end - first) (drop first xs)) (p - first) x (omega (arith, length-take (end - first) (drop first xs), length-drop first xs))
+    ∙ ap Some (get_or-take (end - first) (drop first xs) (p - first) x (omega arith) ∙ get_or-drop first xs (p - first) x ∙ ap (λ q. get_or xs q x) back ∙ get_or_from_slice_get xs p x x h)
+
+-- ---- the numbers of passes
+
+-- a number stands where its pass does
+pub number_at : (xs : List Pass) (k : ℕ) (x : Pass) → slice_get xs k ≡ Some x → slice_get (numbers_of xs) k ≡ Some x.number
+number_at xs k x at = slice_get-map (λ (y : Pass). y.number) xs k ∙ ap (option_map (λ (y : Pass). y.number)) at
+
+-- a number's pass
+pub pass_of_number : (n : ℕ) (xs : List Pass) → has n (numbers_of xs) ≡ true → (k : ℕ) × (x : Pass) × (slice_get xs k ≡ Some x) × (x.number ≡ n)
+pass_of_number n [] h = absurd cc
+pass_of_number n (x ∷ xs) h =
+    elim (or_cases (eqb n x.number) (has n (numbers_of xs)) h) [
+      | inl here ↦ (0, x, refl, sym (eqb-true n x.number here))
+      | inr later ↦ let w = pass_of_number n xs later in (suc w.0, w.1, w.2, w.3)
+    ]
+
+-- where the numbers differ, one stands at one place
+pub number_once : (xs : List Pass) (i k : ℕ) (x y : Pass) → are_different (numbers_of xs) ≡ true → slice_get xs i ≡ Some x → slice_get xs k ≡ Some y → x.number ≡ y.number → i ≡ k
+number_once xs i k x y d at_i at_k same = place_one (numbers_of xs) i k x.number d (number_at xs i x at_i) (number_at xs k y at_k ∙ ap Some (sym same))
+
+-- the same passes have the same numbers
+numbers_same : (xs ys : List Pass) → AreSamePasses xs ys → numbers_of xs ≡ numbers_of ys
+numbers_same [] [] s = refl
+numbers_same [] (y ∷ ys) s = absurd (let many = s.as_many in omega (arith, many))
+numbers_same (x ∷ xs) [] s = absurd (let many = s.as_many in omega (arith, many))
+numbers_same (x ∷ xs) (y ∷ ys) s =
+    let rest : AreSamePasses xs ys = record { as_many = (let many = s.as_many in omega (arith, many)); each = λ k d. s.each (suc k) d } in
+    let head : x.number ≡ y.number = sym (s.each 0 x).number in
+    ap (λ n. n ∷ numbers_of xs) head ∙ ap (λ ns. y.number ∷ ns) (numbers_same xs ys rest)
+
+-- numbers that differ still do where the passes were put in order and bounded
+pub different_then : (made sorted first ready : List Pass) → IsPermutation made sorted → AreSamePasses sorted first → AreSamePasses first ready → are_different (numbers_of made) ≡ true → are_different (numbers_of ready) ≡ true
+different_then made sorted first ready moved same same_too d =
+    let moved_numbers : IsPermutation (numbers_of made) (numbers_of sorted) = IsPermutation-map (λ (x : Pass). x.number) made sorted moved in
+    let sorted_differ : are_different (numbers_of sorted) ≡ true =
+    different_from_distinct (numbers_of sorted) (distinct_permutation nat_eq_equiv (numbers_of made) (numbers_of sorted) moved_numbers (distinct_from_different (numbers_of made) d)) in
+    subst (λ (ns : List ℕ). are_different ns ≡ true) (numbers_same sorted first same ∙ numbers_same first ready same_too) sorted_differ
+
+-- the numbers of a part of passes
+pub numbers_part : (n k : ℕ) (xs : List Pass) → are_different (numbers_of xs) ≡ true → are_different (numbers_of (take n (drop k xs))) ≡ true
+numbers_part n k xs d =
+    let same : take n (drop k (numbers_of xs)) ≡ numbers_of (take n (drop k xs)) = ap (take n) (drop-map (λ (x : Pass). x.number) k xs) ∙ take-map (λ (x : Pass). x.number) n (drop k xs) in
+    subst (λ (ns : List ℕ). are_different ns ≡ true) same (different_part n k (numbers_of xs) d)

@@ -1,0 +1,8 @@
+use Rattle.std.proofs.Common.{◌≡◌, length, subst, arith}
+use Rattle.sabr_model.specs.Incoming.{AreChained}
+use Rattle.sabr_model.proofs.plan.linked.chains.chain_links.Goals as goal
+
+pub returns-clause-chained : goal.returns-clause-chained
+returns-clause-chained g c =
+    let all : c.loop-sender.sender ≡ length c.args.linked.now = omega (arith, c.loop-sender-test.false, c.loop-sender.auto) in
+    subst (λ k. AreChained c.args.linked.now c.loop-sender.chained.items k 0) all c.loop-sender.invariant.chained

@@ -1,0 +1,99 @@
+//! The links to a node, as a search reads them that goes backward.
+
+ghost use Rattle.std.specs.Prelude.{◌≡◌, ◌<◌, Some, length, slice_get};
+ghost use Rattle.sabr_model.specs.Incoming.{links_named, passes_over, passes_at, passes_named, LiesOver, LieOver, AllLieOver};
+
+use super::NodeLinks;
+use crate::link::{Link, Pass, Sender};
+use std::alloc::{Allocator, Global};
+use std::marker::Model;
+
+/// A link by the index of its sender in the table of nodes, and its place among the sender's links.
+#[derive(Clone, Copy)]
+pub struct Incoming {
+    pub sender: u32,
+    pub link: u32,
+}
+
+/// The links to one node, each with its sender.
+#[derive(Drop)]
+pub struct Senders<'a, A: Allocator + Copy = Global> {
+    incoming: &'a [Incoming],
+    linked: &'a [NodeLinks<A>],
+}
+
+impl<'a, A: Allocator + Copy> Model for Senders<'a, A> {
+    ghost use Rattle.std.specs.Prelude.{List};
+    ghost use Rattle.sabr_model.specs.Links.{SentLink};
+    ghost use Rattle.sabr_model.specs.Incoming.{AllLieOver, links_named};
+
+    ghost Value = { List SentLink };
+
+    ghost view = { λ a. links_named a.linked.now a.incoming.now };
+
+    ghost invariant = { λ a. AllLieOver a.linked.now };
+}
+
+impl<'a, A: Allocator + Copy> Senders<'a, A> {
+    /// The links that are named among those of all nodes.
+    pub(super) fn over(incoming: &'a [Incoming], linked: &'a [NodeLinks<A>]) -> Senders<'a, A>
+        requires { AllLieOver linked.now }
+        ensures { result ≡ links_named linked.now incoming.now }
+    {
+        Senders { incoming, linked }
+    }
+
+    /// How many links lead to the node.
+    pub fn len(&self) -> usize
+        ensures { result ≡ length self.now }
+    {
+        self.incoming.len()
+    }
+
+    /// The link at a place.
+    pub fn at(&self, place: usize) -> Sender<'a>
+        requires { place < length self.now }
+        ensures { slice_get self.now place ≡ Some (record { sender = result.node; passes = result.passes.now }) }
+    {
+        match self.incoming.get(place) {
+            Some(named) => Sender {
+                node: named.sender as usize,
+                passes: passes_named(self.linked, *named),
+            },
+            None => Sender {
+                node: 0,
+                passes: &[],
+            },
+        }
+    }
+}
+
+/// The passes of the link that is named.
+fn passes_named<A: Allocator + Copy>(linked: &[NodeLinks<A>], named: Incoming) -> &[Pass]
+    requires { AllLieOver linked.now }
+    ensures { result.now ≡ passes_named linked.now named }
+{
+    match linked.get(named.sender as usize) {
+        Some(node) => passes_at(node, named.link as usize),
+        None => &[],
+    }
+}
+
+/// The passes of the link at a place among a node's links.
+fn passes_at<A: Allocator + Copy>(node: &NodeLinks<A>, place: usize) -> &[Pass]
+    requires { LieOver node.now }
+    ensures { result.now ≡ passes_at node.now place }
+{
+    match node.links.get(place) {
+        Some(link) => passes_over(&node.passes, link),
+        None => &[],
+    }
+}
+
+/// The passes over which a link lies.
+fn passes_over<'a>(passes: &'a [Pass], link: &Link) -> &'a [Pass]
+    requires { LiesOver passes.now link.now }
+    ensures { result.now ≡ passes_over passes.now link.now }
+{
+    &passes[link.first..link.end]
+}
