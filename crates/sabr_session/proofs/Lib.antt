@@ -2,3 +2,6 @@ pub mod Gathering
 pub mod SpacedNumbers
 mod RouteLine
 mod ReportLines
+mod Pieces
+mod SessionPieces
+mod SessionRowProofs

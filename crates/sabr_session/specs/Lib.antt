@@ -3,3 +3,4 @@ pub mod SpacedNumbers
 pub mod ReportText
 pub mod SessionText
 pub mod SessionRows
+pub mod SessionPieces

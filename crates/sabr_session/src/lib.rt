@@ -1,10 +1,15 @@
-//! The texts of a session: the report of a page.
+//! The texts of a session: its own text, and the report of a page.
 #![tactic(auto)]
 
+mod lists;
 mod numbers;
 mod report;
+mod rows;
+mod session_writing;
 #[cfg(test)]
 mod tests;
 mod text_buffer;
 
 pub use report::{write_report, write_route};
+pub use rows::texts_of_plan_a;
+pub use session_writing::write_session;
