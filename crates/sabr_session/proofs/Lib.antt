@@ -5,3 +5,5 @@ mod ReportLines
 mod Pieces
 mod SessionPieces
 mod SessionRowProofs
+mod Spellings
+mod TextsApart
