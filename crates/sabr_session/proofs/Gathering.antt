@@ -68,3 +68,9 @@ WritesText-stopped_gathering P a c k n j xs (Err _) is p = p
 pub Gathered-sent : {A E : Type 0} (a b c : Option (List ℕ)) (k m n : ℕ) (i xs : List ℕ) (r : Result A E)
     → Gathered a k [] xs b m i → WritesText b m i r c n → WritesText a k xs r c n
 Gathered-sent a b c k m n i xs r (sent, e, p) q = rw e (WritesText-after a b c k m n sent i r p q)
+
+-- the writer failed in a text
+pub WritesText-stopped : {A E : Type 0} (P : E → Type 0) (a c : Option (List ℕ)) (k n : ℕ) (xs : List ℕ) (r : Result A E)
+    → IsErrAnd r P → WrittenInPart a k xs c n → WritesText a k xs r c n
+WritesText-stopped P a c k n xs (Ok _) bad p = absurd bad
+WritesText-stopped P a c k n xs (Err _) is p = p

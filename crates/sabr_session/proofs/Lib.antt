@@ -8,3 +8,8 @@ mod ReadNumbers
 mod SlashLists
 mod Labels
 mod PartWords
+mod Pieces
+mod SessionPieces
+mod SessionRowProofs
+mod Spellings
+mod TextsApart

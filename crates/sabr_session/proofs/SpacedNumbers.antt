@@ -2,7 +2,7 @@
 use Rattle.std.proofs.Common.{◌≡◌, ℕ, ◌<◌, List, [], ◌∷◌, ◌++◌, refl, ap, ◌∙◌, sym, append_assoc, append-nil, suc, get_or, take, drop, length, decimal, drop-cons}
 use Rattle.std.proofs.Math.Seq.{take-suc}
 use Rattle.std.proofs.lemmas.List.{take-append-drop}
-use Rattle.sabr_session.specs.SpacedNumbers.{spaced_behind}
+use Rattle.sabr_session.specs.SpacedNumbers.{spaced_behind, list_text}
 
 -- two lists in turn
 pub spaced_behind-append : (xs ys : List ℕ) → spaced_behind (xs ++ ys) ≡ spaced_behind xs ++ spaced_behind ys
@@ -22,3 +22,7 @@ pub spaced_behind-take : (xs : List ℕ) (i d : ℕ) → i < length xs
 spaced_behind-take xs i d h =
     ap spaced_behind (take-suc xs i d h) ∙ spaced_behind-append (take i xs) (get_or xs i d ∷ [])
     ∙ ap (λ ys. spaced_behind (take i xs) ++ ys) (append-nil (32 ∷ decimal (get_or xs i d)))
+
+-- a list that isn't empty, behind a label
+pub list_text-behind : (label xs : List ℕ) (x : ℕ) (rest : List ℕ) → xs ≡ x ∷ rest → label ++ list_text xs ≡ (label ++ decimal x) ++ spaced_behind rest
+list_text-behind label xs x rest is = ap (λ ys. label ++ list_text ys) is ∙ sym (append_assoc label (decimal x) (spaced_behind rest))

@@ -1,15 +1,19 @@
-//! The texts of a session: the report of a page, the lines of a session text; and what texts are gathered in.
+//! The texts of a session: its own text and the report of a page, the lines of a session text, and what texts are
+//! gathered in.
 #![tactic(auto)]
 
 mod first_lines;
 mod listed;
+mod lists;
 mod node_list;
 mod number;
 mod numbers;
 mod part_line;
 mod report;
 mod request_line;
+mod rows;
 mod session_fault;
+mod session_writing;
 #[cfg(test)]
 mod tests;
 mod text_buffer;
@@ -17,5 +21,7 @@ mod words;
 
 pub use numbers::{put_number, put_time};
 pub use report::{put_route_line, write_report, write_route};
+pub use rows::texts_of_plan_a;
 pub use session_fault::SessionFault;
+pub use session_writing::write_session;
 pub use text_buffer::TextBuffer;
