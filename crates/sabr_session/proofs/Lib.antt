@@ -8,3 +8,4 @@ mod ReadNumbers
 mod SlashLists
 mod Labels
 mod PartWords
+pub mod SessionOutcomes

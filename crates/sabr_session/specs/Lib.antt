@@ -7,3 +7,4 @@ pub mod SessionWords
 pub mod SessionLines
 pub mod SessionRead
 pub mod SessionFed
+pub mod SessionLeaving

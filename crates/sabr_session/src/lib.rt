@@ -2,6 +2,8 @@
 #![tactic(auto)]
 
 mod first_lines;
+mod head;
+mod held_line;
 mod listed;
 mod node_list;
 mod number;
