@@ -13,3 +13,4 @@ mod SessionPieces
 mod SessionRowProofs
 mod Spellings
 mod TextsApart
+pub mod SessionOutcomes

@@ -8,3 +8,4 @@ pub mod SessionLines
 pub mod SessionRead
 pub mod SessionFed
 pub mod SessionPieces
+pub mod SessionLeaving

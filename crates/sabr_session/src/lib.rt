@@ -3,6 +3,8 @@
 #![tactic(auto)]
 
 mod first_lines;
+mod head;
+mod held_line;
 mod listed;
 mod lists;
 mod node_list;

@@ -15,7 +15,7 @@ use sabr_plan::parse_time;
 const MOST_VALUE: u64 = 4294967295;
 
 /// The hops of a request without limits.
-const MOST_HOPS: u64 = 20000;
+const MOST_HOPS: u32 = 20000;
 
 /// The values of a request's line, which may be refused.
 #[derive(Drop)]
@@ -23,8 +23,8 @@ pub(crate) struct RequestValues {
     pub(crate) from: u64,
     pub(crate) to: u64,
     pub(crate) at: u64,
-    pub(crate) margin_ppm: u64,
-    pub(crate) max_hops: u64,
+    pub(crate) margin_ppm: u32,
+    pub(crate) max_hops: u32,
     pub(crate) avoid: NodeList,
 }
 
@@ -45,7 +45,7 @@ fn four_of(
     to: &[u8],
     time: &[u8],
     margin: &[u8],
-    max_hops: u64,
+    max_hops: u32,
     avoid: NodeList,
 ) -> Option<RequestValues>
     ensures { result ≡ four_of from.now to.now time.now margin.now max_hops avoid }
@@ -53,7 +53,7 @@ fn four_of(
     let from = number_within(from, 0, u64::MAX)?;
     let to = number_within(to, 0, u64::MAX)?;
     let at = parse_time(time)?;
-    let margin_ppm = number_within(margin, 0, MOST_VALUE)?;
+    let margin_ppm = number_within(margin, 0, MOST_VALUE)? as u32;
     Some(RequestValues {
         from,
         to,
@@ -89,7 +89,7 @@ fn limited_of(text: &[u8]) -> Option<RequestValues>
         return None;
     };
     let avoid = nodes_of(nodes)?;
-    let max_hops = number_within(hops, 0, MOST_VALUE)?;
+    let max_hops = number_within(hops, 0, MOST_VALUE)? as u32;
     four_of(from, to, time, margin, max_hops, avoid)
 }
 

@@ -1,0 +1,75 @@
+//! The line of a session text that isn't complete yet.
+
+ghost use Rattle.std.specs.Prelude.{◌≡◌, ◌≤◌, ◌+◌, ◌++◌, [], length, IsTrue, OnOk, OnErr};
+ghost use Rattle.sabr_plan.specs.Words.{is_one_line};
+
+use sabr_model::NoMemory;
+use std::alloc::Allocator;
+use std::marker::Model;
+
+/// The most bytes of a line without its LF.
+pub(crate) const MOST_BYTES: usize = 660008;
+
+/// At most 660008 bytes without LF. Contracts see the bytes.
+#[derive(Drop)]
+pub(crate) struct HeldLine<A: Allocator + Copy> {
+    bytes: Vec<u8, A>,
+}
+
+impl<A: Allocator + Copy> Model for HeldLine<A> {
+    ghost use Rattle.std.specs.Prelude.{List, ℕ, ◌≤◌, length, IsTrue};
+    ghost use Rattle.sabr_plan.specs.Words.{is_one_line};
+
+    ghost Value = { List ℕ };
+
+    ghost view = { λ h. h.bytes.items };
+
+    ghost invariant = { λ h. (length h.bytes.items ≤ 660008) × IsTrue (is_one_line h.bytes.items) };
+}
+
+impl<A: Allocator + Copy> HeldLine<A> {
+    /// Without a byte. It takes no memory.
+    pub(crate) fn new(alloc: A) -> HeldLine<A>
+        ensures { result ≡ [] }
+    {
+        HeldLine {
+            bytes: Vec::new(alloc),
+        }
+    }
+
+    /// The bytes.
+    pub(crate) fn as_slice(&self) -> &[u8]
+        ensures value { result.now ≡ self.now }
+        ensures line { IsTrue (is_one_line self.now) }
+        ensures limit { length self.now ≤ 660008 }
+    {
+        self.bytes.as_slice()
+    }
+
+    /// How many bytes there are.
+    pub(crate) fn len(&self) -> usize
+        ensures value { result ≡ length self.now }
+        ensures limit { result ≤ 660008 }
+        ensures line { IsTrue (is_one_line self.now) }
+    {
+        self.bytes.len()
+    }
+
+    /// Puts more bytes behind these.
+    pub(crate) fn append(&mut self, more: &[u8]) -> Result<(), NoMemory>
+        requires room { length self.old + length more.now ≤ 660008 }
+        requires line { IsTrue (is_one_line more.now) }
+        ensures ok { OnOk result (self.new ≡ self.old ++ more.now) }
+        ensures err { OnErr result (self.new ≡ self.old) }
+    {
+        self.bytes.extend_from_slice(more)?;
+        Ok(())
+    }
+
+    /// Forgets the bytes, and keeps their room.
+    pub(crate) fn clear(&mut self)
+        ensures { self.new ≡ [] }
+    {
+        self.bytes.clear();
+    }
+}
