@@ -184,6 +184,11 @@ pub deleted_or_not : {U E : Type 0} (r : Result U E) (t : Range → Bool) (all p
 deleted_or_not (Ok u) t all placed_then h a b = rw a (all_placed (filter t all) (IsPlan-fewer_ranges (plan_of_ranges all) t h))
 deleted_or_not (Err e) t all placed_then h a b = rw b (all_placed all h)
 
+-- what is left where all went among others, or didn't for want of memory
+pub left_or_not : {U E : Type 0} (r : Result U E) (all placed_then : List Range) → IsPlan (plan_of_ranges all) → OnOk r (placed_then ≡ []) → OnErr r (placed_then ≡ all) → AreGathered placed_then []
+left_or_not (Ok u) all placed_then h a b = rw a (all_placed [] IsPlan-empty)
+left_or_not (Err e) all placed_then h a b = rw b (all_placed all h)
+
 -- one is false where both together are
 or_false : (a b : Bool) → (a || b) ≡ false → (a ≡ false) × (b ≡ false)
 or_false true b e = absurd cc
@@ -218,6 +223,13 @@ module _ (placed late : List Range) (h : AreGathered placed late) (r : Range) (a
     all_obey = subst (λ rs. IsPlan (plan_of_ranges rs)) (sym put_among_all) (IsPlan-range (plan_of_ranges (gathered placed late)) r h.all_obey one other ends light accept);
     are_apart = all_put by_range_key (λ s. list_any (overlap s) placed ≡ false) r late news.1 h.are_apart;
   }
+
+-- a range that goes among the latest, or doesn't for want of memory
+pub put_or_not : {U E : Type 0} (result : Result U E) (r : Range) (placed late late_then : List Range) → AreGathered placed late → range_refusal (plan_of_ranges (gathered placed late)) r ≡ None → IsNode r.one → IsNode r.other → r.end ≤ last_time → r.light ≤ 1000000
+    → OnOk result (late_then ≡ put_in by_range_key r late) → OnErr result (late_then ≡ late)
+    → AreGathered placed late_then × OnOk result (gathered placed late_then ≡ put_in by_range_key r (gathered placed late)) × OnErr result (gathered placed late_then ≡ gathered placed late)
+put_or_not (Ok u) r placed late late_then h accept one other ends light a b = rw a (gathered_more placed late h r accept one other ends light, put_among_all placed late h r accept, tt)
+put_or_not (Err e) r placed late late_then h accept one other ends light a b = rw b (h, tt, refl)
 
 -- ---- merging
 

@@ -7,6 +7,7 @@ mod delete;
 mod gathered;
 mod gathered_contacts;
 mod gathered_ranges;
+mod late_ranges;
 mod light;
 mod linked;
 mod merging;

@@ -8,13 +8,13 @@ use ration::Ration;
 use std::alloc::Allocator;
 use std::test::*;
 
-/// How many ranges: some short lists, and a begun one.
-const COUNT: u64 = 601;
+/// How many ranges: some short lists, a long one, and a begun one.
+const COUNT: u64 = 1201;
 
 /// The nodes and the start of a range, for each place below `COUNT` another, in no order.
 fn scattered(place: u64) -> (u64, u64, u64)
     ensures nodes { (0 < result.0) × (0 < result.1) }
-    ensures start { result.2 ≤ 1893462010 }
+    ensures start { result.2 ≤ 1893468000 }
 {
     let number = place.wrapping_mul(233) % COUNT;
     (1 + number % 3, 4 + number % 5, BEGIN + number * 10)

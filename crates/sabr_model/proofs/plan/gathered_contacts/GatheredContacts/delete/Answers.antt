@@ -1,5 +1,5 @@
 -- The contact goes, and its opening.
-use Rattle.std.proofs.Common.{◌≡◌, ◌∙◌, ◌&&◌, ap, not, eqb, rules, filter, List}
+use Rattle.std.proofs.Common.{◌∙◌, ◌&&◌, ap, not, eqb, rules, filter, List}
 use Rattle.std.proofs.lemmas.Fn.{filter_same}
 use Rattle.sabr_model.specs.declared.contact.Contact.{Contact}
 use Rattle.sabr_model.specs.declared.opening.Opening.{Opening}

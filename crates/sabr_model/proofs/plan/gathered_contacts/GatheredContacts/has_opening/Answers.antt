@@ -1,4 +1,4 @@
-use Rattle.std.proofs.Common.{◌≡◌, ap, ◌∙◌, ◌&&◌, eqb, List}
+use Rattle.std.proofs.Common.{ap, ◌∙◌, ◌&&◌, eqb, List}
 use Rattle.std.specs.List.{list_any}
 use Rattle.sabr_model.specs.declared.opening.Opening.{Opening}
 use Rattle.sabr_model.specs.Plan.{ContactPlan, opens}
