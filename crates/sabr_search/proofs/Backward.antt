@@ -8,7 +8,7 @@ use Rattle.std.proofs.lemmas.Option.{slice_get-get_or, slice_get_within, get_or_
 use Rattle.sabr_search.specs.declared.layers.Reached.{Reached}
 use Rattle.sabr_search.specs.declared.layers.Best.{Best}
 use Rattle.sabr_search.specs.Ways.{Leads}
-use Rattle.sabr_search.specs.Layers.{IsTable, IsLayered}
+use Rattle.sabr_search.specs.Layers.{IsTable, AreExact}
 use Rattle.sabr_search.specs.Task.{SearchTask, Takes, IsTask}
 use Rattle.sabr_search.specs.Lists.{IsPlaced}
 use Rattle.sabr_search.specs.Made.{Entry}
@@ -21,7 +21,7 @@ use Rattle.sabr_search.specs.Hops.{hop_arrival}
 use Rattle.sabr_search.specs.Lists.{nodes_between}
 use Rattle.sabr_search.proofs.Between.{between_at, between_more, sent_more}
 use Rattle.sabr_search.proofs.Forward.{hop_takes}
-use Rattle.sabr_search.proofs.HopLayers.{admits_by, layered_more}
+use Rattle.sabr_search.proofs.HopLayers.{admits_by, exact_more}
 use Rattle.sabr_search.proofs.Bridge.{takes_timely}
 
 -- the node where a way of some hops ends is open
@@ -78,9 +78,6 @@ module _ (task : SearchTask) (is : IsTask task) (best : Best) (hop : ℕ) (bound
   entry_some : (h v a x : ℕ) → Entry bounds reached0 h v a x → (y : ℕ) × Entry bounds reached h v a y
   entry_some h v a x e = let s = shape_at (slice_get reached0 e.0) (slice_get reached e.0) (sym (retimed.shape e.0)) (record { node = v; arrival = a; deadline = x }) e.3 in (s.0, (e.0, e.1, e.2, s.1))
 
-  entry_back : (h v a x : ℕ) → Entry bounds reached h v a x → (y : ℕ) × Entry bounds reached0 h v a y
-  entry_back h v a x e = let s = shape_at (slice_get reached e.0) (slice_get reached0 e.0) (retimed.shape e.0) (record { node = v; arrival = a; deadline = x }) e.3 in (s.0, (e.0, e.1, e.2, s.1))
-
   pub in_time_to : (h w b : ℕ) → (h ≡ hop → ⊥) → h ≤ best.hops → IsInTime task best bounds reached0 h w b → IsInTime task best bounds reached h w b
   in_time_to h w b other le (inl end) = inl end
   in_time_to h w b other le (inr e) = inr (e.0, e.1, entry_to h w e.0 e.1 other le e.2, e.3)
@@ -89,10 +86,12 @@ module _ (task : SearchTask) (is : IsTask task) (best : Best) (hop : ℕ) (bound
   in_time_from h w b other le (inl end) = inl end
   in_time_from h w b other le (inr e) = inr (e.0, e.1, entry_from h w e.0 e.1 other le e.2, e.3)
 
-  layered' : IsLayered (Takes task) (Entry bounds reached) task.start task.at task.goal best.hops best.delivery
-  layered' = layered_more (Takes task) (Entry bounds reached0) (Entry bounds reached) task.start task.at task.goal best.hops best.delivery timed.layered entry_some
-      (λ h v a x e. timed.layered.real h v a (entry_back h v a x e).0 (entry_back h v a x e).1)
-      (λ v a x e. timed.layered.last v a x (entry_from best.hops v a x (λ same. omega arith) (omega arith) e))
+  exact' : AreExact (Takes task) (Entry bounds reached) task.start task.at task.goal best.hops best.delivery
+  exact' = exact_more (Takes task) (Entry bounds reached0) (Entry bounds reached) task.start task.at task.goal best.hops best.delivery timed.exact entry_some
+      (λ v a x e. timed.exact.last v a x (entry_from best.hops v a x (λ same. omega arith) (omega arith) e))
+
+  unshut' : (h p : ℕ) (e : Reached) → 0 < h → slice_index bounds h ≤ p → p < slice_index bounds (h + 1) → slice_get reached p ≡ Some e → slice_index_or task.shut e.node false ≡ false
+  unshut' h p e some above below at = let s = shape_at (slice_get reached p) (slice_get reached0 p) (retimed.shape p) e at in timed.unshut h p (record { node = e.node; arrival = e.arrival; deadline = s.0 }) some above below s.1
 
   tables' : (h : ℕ) → hop + 1 ≤ h → h < best.hops → IsTable (Takes task) (Entry bounds reached) task.goal best.hops best.delivery h
   tables' h le less =
@@ -151,7 +150,8 @@ module _ (task : SearchTask) (is : IsTask task) (best : Best) (hop : ℕ) (bound
     inside = inside';
     other = other';
     apart = apart';
-    layered = layered';
+    unshut = unshut';
+    exact = exact';
     tables = tables';
     early = timed.early;
   }
@@ -183,7 +183,8 @@ timed_more task is best hop bounds place reached0 reached i timed early set done
       inside = kept.inside;
       other = kept.other;
       apart = kept.apart;
-      layered = kept.layered;
+      unshut = kept.unshut;
+      exact = kept.exact;
       early = kept.early;
       tables = λ h le less. elim (cases_eq h hop) [
         | inr other ↦ kept.tables h (omega arith) less
@@ -313,7 +314,8 @@ timed_place task best from bounds place0 place reached timed many placed = recor
   inside = timed.inside;
   other = timed.other;
   apart = timed.apart;
-  layered = timed.layered;
+  unshut = timed.unshut;
+  exact = timed.exact;
   tables = timed.tables;
   early = timed.early;
 }
@@ -322,9 +324,7 @@ timed_place task best from bounds place0 place reached timed many placed = recor
 
 -- no entry behind the first layer is the start's
 pub entry_open : (task : SearchTask) (best : Best) (from hop : ℕ) (bounds place : List ℕ) (reached : List Reached) → AreTimed task best from bounds place reached → 0 < hop → (p : ℕ) (e : Reached) → slice_index bounds hop ≤ p → p < slice_index bounds (hop + 1) → slice_get reached p ≡ Some e → slice_index_or task.shut e.node false ≡ false
-entry_open task best from hop bounds place reached timed some p e above below at =
-    let way = timed.layered.real hop e.node e.arrival e.deadline (p, above, below, at) in
-    way_open task way.0 task.start task.at e.node e.arrival way.2 (omega (arith, way.1))
+entry_open task best from hop bounds place reached timed some p e above below at = timed.unshut hop p e some above below at
 
 pub not_start : (task : SearchTask) → IsTask task → (k : ℕ) → slice_index_or task.shut k false ≡ false → k ≡ task.start → ⊥
 not_start task is k unshut same = both_ways (slice_index_or task.shut task.start false) (rw same at unshut) is.start_shut
@@ -383,7 +383,7 @@ set_more task is best hop bounds place reached0 reached i timed early set above 
 -- whoever is in time at a node is there by the delivery
 pub in_time_by : (task : SearchTask) → IsTask task → (best : Best) (hop : ℕ) (bounds place : List ℕ) (reached : List Reached) → AreTimed task best hop bounds place reached → hop ≤ best.hops → (w b : ℕ) → IsInTime task best bounds reached hop w b → b ≤ best.delivery
 in_time_by task is best hop bounds place reached timed le w b admits =
-    admits_by (Takes task) (takes_timely task is.nodes) (Entry bounds reached) task.start task.at task.goal best.hops best.delivery timed.layered (best.hops - hop) hop w b (λ j above below. timed.tables j above below) (omega arith) admits
+    admits_by (Takes task) (takes_timely task is.nodes) (Entry bounds reached) task.start task.at task.goal best.hops best.delivery timed.exact (best.hops - hop) hop w b (λ j above below. timed.tables j above below) (omega arith) admits
 
 -- and the node is open
 pub in_time_open : (task : SearchTask) → IsTask task → (best : Best) (hop : ℕ) (bounds place : List ℕ) (reached : List Reached) → AreTimed task best hop bounds place reached → 0 < hop → (w b : ℕ) → IsInTime task best bounds reached hop w b → slice_index_or task.shut w false ≡ false

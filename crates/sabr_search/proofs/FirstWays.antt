@@ -13,6 +13,8 @@ use Rattle.sabr_search.specs.Task.{SearchTask, Takes, IsTask, never}
 use Rattle.sabr_search.specs.Steps.{senders, degree}
 use Rattle.sabr_search.specs.Made.{AreOpened}
 use Rattle.sabr_search.specs.Settling.{sent_by_settled, IsQueue, AreSettling, IsFallen, AreSettledTaken, AreSettled, IsFirstWay}
+use Rattle.sabr_search.specs.Late.{AreArrivals}
+use Rattle.sabr_search.proofs.Ways.{Leads-later}
 use Rattle.sabr_search.proofs.Settles.{settled_before}
 use Rattle.sabr_search.proofs.Counts.{settled_more}
 use Rattle.sabr_search.proofs.Bridge.{takes_timely}
@@ -140,6 +142,30 @@ module _ (task : SearchTask) (is : IsTask task) (settled : List Bool) (arrival :
             | inl late ↦ late
             | inr waits ↦ omega (arith, waits.2, stop (record { at = waits.1; hops = waits.3.0; node = waits.0 }) waits.3.1)
           ]
+
+  -- each way comes to a node no sooner than the arrival that is known there, or than the delivery
+  reached_by : ((f : Event) → Contains queue f → best.delivery ≤ f.at) → (ns : List ℕ) (u s v t : ℕ) → slice_index_or settled u false ≡ true → slice_index arrival u ≤ s → Leads (Takes task) u s ns v t → (best.delivery ≤ t) ⊎ (slice_index arrival v ≤ t)
+  reached_by stop [] u s v t on by way = inr (omega (arith, ap (slice_index arrival) way.0, way.1))
+  reached_by stop (n ∷ ns) u s v t on by way =
+      let timely = takes_timely task is.nodes in
+      let first = timely.earlier n u s way.0 way.1 (slice_index arrival u) way.2 by in
+      let after : way.1 ≤ t = Leads-later (Takes task) timely ns way.0 way.1 v t way.3 in
+      elim (steps_taken u (slice_index arrival u) n way.0 first.0 (on, refl) first.2) [
+        | inl late ↦ inl (omega (arith, late, first.1, after))
+        | inr found ↦ elim found [
+          | inl settled_is ↦ reached_by stop ns way.0 way.1 v t settled_is.2.0 (omega (arith, settled_is.1, settled_is.2.1, first.1)) way.3
+          | inr waits ↦ inl (omega (arith, stop (record { at = waits.0; hops = waits.2.0; node = way.0 }) waits.2.1, waits.1, first.1, after))
+        ]
+      ]
+
+  pub arrivals_found : ((f : Event) → Contains queue f → best.delivery ≤ f.at) → AreArrivals task arrival best.delivery
+  arrivals_found stop = record {
+    flags = omega (arith, was.flags, is.as_many);
+    least = λ ns v t some way. elim (reached_by stop ns task.start task.at v t was.start_settled (omega (arith, was.start_reached)) way) [
+      | inl late ↦ omega (arith, late)
+      | inr by ↦ omega (arith, by)
+    ];
+  }
 
 -- an event of a settled node goes
 pub settled_stale : (task : SearchTask) (settled : List Bool) (arrival : List ℕ) (queue queue' : List Event) (best : Best) → AreSettled task settled arrival queue best → IsQueue task settled arrival queue' → AreSettled task settled arrival queue' best

@@ -15,11 +15,11 @@ use Rattle.sabr_search.specs.Made.{Entry, AreLayers}
 use Rattle.sabr_search.specs.Deadlines.{IsInTime, AreTimed}
 use Rattle.sabr_search.specs.Picks.{IsAtMost, IsLeastStep, IsPicked, IsLeastWay}
 use Rattle.sabr_search.proofs.Ways.{Leads-append}
-use Rattle.sabr_search.proofs.HopLayers.{rest_of}
+use Rattle.sabr_search.proofs.HopLayers.{rest_of, exact_of}
 use Rattle.sabr_search.proofs.Picks.{first_admitted, least_from_front}
 use Rattle.sabr_search.proofs.Bridge.{takes_timely}
 use Rattle.sabr_search.proofs.Forward.{last_or_before}
-use Rattle.sabr_search.proofs.Backward.{bounds_rise}
+use Rattle.sabr_search.proofs.Backward.{bounds_rise, way_open}
 use Rattle.sabr_search.proofs.StepLists.{senders_length}
 
 -- there is a way on of this many hops to the goal by the delivery
@@ -42,7 +42,7 @@ front_none task best bounds place reached h timed = record {
   many = refl;
   way = (refl, refl);
   front = λ ns e len way late. tt;
-  on = record { rest = timed.layered.way.0; e = best.delivery; many = omega (arith, timed.layered.way.1); by = omega arith; way = timed.layered.way.2 };
+  on = record { rest = timed.exact.way.0; e = best.delivery; many = omega (arith, timed.exact.way.1); by = omega arith; way = timed.exact.way.2 };
 }
 
 module _ (task : SearchTask) (is : IsTask task) (best : Best) (bounds place : List ℕ) (reached : List Reached) (timed : AreTimed task best 1 bounds place reached) (hop : ℕ) (less : hop < best.hops) (chosen : List ℕ) (u t : ℕ) (front : IsFront task best hop chosen u t) where
@@ -54,19 +54,19 @@ module _ (task : SearchTask) (is : IsTask task) (best : Best) (bounds place : Li
         | [] ↦ λ many way. omega arith
         | n ∷ zs ↦ λ many way.
             none n way.0 way.1 way.2
-            (rw front.many at (first_admitted (Takes task) (takes_timely task is.nodes) (Entry bounds reached) task.start task.at task.goal best.hops best.delivery timed.layered (λ h above below. timed.tables h above below) chosen u t n zs on.e front.way way on.by (omega (arith, front.many))))
+            (rw front.many at (first_admitted (Takes task) (takes_timely task is.nodes) (Entry bounds reached) task.start task.at task.goal best.hops best.delivery timed.exact (λ h above below. timed.tables h above below) chosen u t n zs on.e front.way way on.by (omega (arith, front.many))))
       ] on.many on.way
 
   -- the step of least number goes on in front
   pub front_more : (s : Step) → IsLeastStep task best bounds reached (hop + 1) u t s → IsFront task best (hop + 1) (chosen ++ s.number ∷ []) s.node s.at
   front_more s least =
       let timely = takes_timely task is.nodes in
-      let rest = rest_of (Takes task) timely (Entry bounds reached) task.start task.at task.goal best.hops best.delivery timed.layered (best.hops - (hop + 1)) (hop + 1) s.node s.at (λ j above below. timed.tables j (omega arith) below) (omega arith) least.in_time in
+      let rest = rest_of (Takes task) timely (Entry bounds reached) task.start task.at task.goal best.hops best.delivery timed.exact (best.hops - (hop + 1)) (hop + 1) s.node s.at (λ j above below. timed.tables j (omega arith) below) (omega arith) least.in_time in
       record {
         many = omega (arith, length-append chosen (s.number ∷ []), front.many);
         way = Leads-append (Takes task) timely chosen (s.number ∷ []) task.start task.at u t s.node s.at front.way (s.node, s.at, least.step, (refl, refl));
         front = λ ns e len way late.
-            least_from_front (Takes task) timely (Entry bounds reached) task.start task.at task.goal best.hops best.delivery timed.layered (λ h above below. timed.tables h above below) chosen u t s.number front.way
+            least_from_front (Takes task) timely (Entry bounds reached) task.start task.at task.goal best.hops best.delivery timed.exact (λ h above below. timed.tables h above below) chosen u t s.number front.way
             (λ y w b step admits. least.least y w b step (rw front.many at admits)) ns e len (omega (arith, front.many)) way late (front.front ns e len way late);
         on = record { rest = rest.0; e = rest.1; many = rest.2; by = rest.3; way = rest.4 };
       }
@@ -131,7 +131,8 @@ timed_later task best from hop bounds place reached le timed = record {
   inside = timed.inside;
   other = timed.other;
   apart = timed.apart;
-  layered = timed.layered;
+  unshut = timed.unshut;
+  exact = timed.exact;
   early = timed.early;
   tables = λ h above below. timed.tables h (omega arith) below;
 }
@@ -157,7 +158,10 @@ timed_made task is ceiling hop bounds arrival place reached best made some low =
             inside = λ p e at. omega (arith, is.as_many, ap (λ (y : Reached). y.node) (read p e at), made.lists.inside p e (slice_get_within reached p e at));
             other = λ p e at. subst (λ (y : Reached). y.node ≢ task.goal) (read p e at) (made.lists.other p e (slice_get_within reached p e at));
             apart = λ h p q e f le. made.apart h p q e f (omega (arith, found.1));
-            layered = found.3;
+            unshut = λ h p e some above below at.
+                (let way = made.real h e.node e.arrival e.deadline (p, above, below, at) in
+                way_open task way.0 task.start task.at e.node e.arrival way.2 (omega (arith, way.1)));
+            exact = exact_of (Takes task) (takes_timely task is.nodes) (Entry bounds reached) task.start task.at task.goal best.hops best.delivery found.3;
             tables = λ h above below. absurd (omega arith);
             early = omega (arith, found.2);
           })

@@ -23,6 +23,10 @@ pub mod Entering
 pub mod Law
 pub mod Queues
 pub mod FirstWays
+pub mod LateLayers
+pub mod LateLists
+pub mod LateMade
+pub mod Turned
 pub mod Shortness
 pub mod FirstLimits
 pub mod Cuts

@@ -11,11 +11,12 @@ use Rattle.sabr_model.specs.declared.contact.Contact.{Contact}
 use Rattle.sabr_model.specs.declared.link.Pass.{Pass}
 use Rattle.sabr_model.specs.declared.link.Link.{Link}
 use Rattle.sabr_model.specs.Arrival.{cost}
+use Rattle.sabr_model.specs.Plan.{contact_named}
 use Rattle.sabr_model.specs.Table.{sent_by}
-use Rattle.sabr_model.specs.Links.{AreLinksOf, IsLinkOf, IsPassOf}
+use Rattle.sabr_model.specs.Links.{AreLinksOf, IsLinkOf, IsPassOf, SentLink, AreLinksTo}
 use Rattle.sabr_search.specs.Task.{SearchTask, IsTask}
 use Rattle.sabr_search.specs.Steps.{place_in}
-use Rattle.sabr_search.specs.Linked.{IsPassAt, IsLinkAt, passes_of, AreLinksAt}
+use Rattle.sabr_search.specs.Linked.{IsPassAt, IsLinkAt, passes_of, AreLinksAt, AreSendersAt}
 use Rattle.sabr_search.proofs.Arrivals.{arrival_parts}
 use Rattle.sabr_search.proofs.StepLists.{place_is}
 
@@ -94,6 +95,30 @@ module _ (task : SearchTask) (is : IsTask task) (u node : ℕ) (at : slice_get t
         (j, l, p.4, (k - l.first, x, part_has passes l.first l.end k x p.5 p.6 (of.each j l p.4).within p.7, p.8)));
     few = omega (arith, of.few, sent_few task.table u node (place_is task.plan task.table is.nodes u node at) task.plan.contacts);
   }
+
+-- what a plan says of the links to a node, of a search
+pub senders_at : (task : SearchTask) → IsTask task → (w node : ℕ) → slice_get task.table w ≡ Some node → (links : List SentLink) → AreLinksTo (record { plan = task.plan; table = task.table }) node links → AreSendersAt task w links
+senders_at task is w node here links of = record {
+  senders = λ j l h. slice_get_within task.table l.sender (of.each j l h).from (of.each j l h).at;
+  each = λ j l h.
+      (let link = of.each j l h in
+      record {
+        each = λ k x at. pass_at task is l.sender link.from link.at node w x here (link.each k x at);
+        kept = link.kept;
+      });
+  whole = λ n u t b s.
+      (let a = arrival_parts task.plan task.request t s.contact b s.arrives in
+      let to : s.contact.to ≡ node = same_some (sym s.receiver ∙ here) in
+      let p = of.whole n a.light s.contact s.named to a.in_force in
+      let k = p.1 in
+      let l = p.2 in
+      let x = p.3 in
+      let link = of.each p.0 l p.4 in
+      let pass = link.each k x p.5 in
+      let same : pass.contact ≡ s.contact = same_some (sym pass.named ∙ ap (contact_named task.plan) p.6 ∙ s.named) in
+      let from : s.contact.from ≡ link.from = ap (λ (c : Contact). c.from) (sym same) ∙ pass.sender in
+      (p.0, l, p.4, is.nodes.apart l.sender u link.from link.at (s.sender ∙ ap Some from), (k, x, p.5, p.6)));
+}
 
 -- a lighter contact costs no more
 pub cost_rises : (margin l m : ℕ) → l ≤ m → cost margin l ≤ cost margin m

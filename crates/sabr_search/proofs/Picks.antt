@@ -1,6 +1,6 @@
 use Rattle.std.proofs.Common.{◌≡◌, ◌⊎◌, inl, inr, ℕ, ◌+◌, ◌<◌, ◌≤◌, List, [], ◌∷◌, ◌++◌, length, refl, ap, arith, length-append}
 use Rattle.sabr_search.specs.Ways.{StepRelation, Leads, IsTimely}
-use Rattle.sabr_search.specs.Layers.{Entries, Admits, AreTables, IsLayered}
+use Rattle.sabr_search.specs.Layers.{Entries, Admits, AreTables, AreExact}
 use Rattle.sabr_search.specs.Front.{IsNotAfter}
 use Rattle.sabr_search.proofs.Ways.{Leads-append, Leads-split, Leads-later, Leads-earlier, Leads-one}
 use Rattle.sabr_search.proofs.HopLayers.{admitted}
@@ -18,14 +18,14 @@ not_after_more (x ∷ xs) (y ∷ ys) n (inl lower) less least = inl lower
 not_after_more (x ∷ xs) (y ∷ ys) n (inr same) less least =
     inr (same.0, not_after_more xs ys n same.1 (omega (arith, less)) (λ z zs e. least z zs (rw (same.0, e) refl)))
 
-module _ (T : StepRelation) (timely : IsTimely T) (E : Entries) (start at goal r d : ℕ) (layered : IsLayered T E start at goal r d) (tables : AreTables T E goal r d) where
+module _ (T : StepRelation) (timely : IsTimely T) (E : Entries) (start at goal r d : ℕ) (layers : AreExact T E start at goal r d) (tables : AreTables T E goal r d) where
   -- the first contact of a rest in time is one that the deadlines admit
   pub first_admitted : (chosen : List ℕ) (u t n : ℕ) (zs : List ℕ) (e : ℕ) → Leads T start at chosen u t → (on : Leads T u t (n ∷ zs) goal e) → e ≤ d → (length chosen + 1) + length zs ≡ r →
       Admits E goal r d ((length chosen + 1)) on.0 on.1
   first_admitted chosen u t n zs e there on late sum =
       let next : Leads T start at (chosen ++ n ∷ []) on.0 on.1 = Leads-append T timely chosen (n ∷ []) start at u t on.0 on.1 there (on.0, on.1, on.2, (refl, refl)) in
       let longer : length (chosen ++ n ∷ []) ≡ (length chosen + 1) = omega (arith, length-append chosen (n ∷ [])) in
-      rw longer at (admitted T timely E start at goal r d layered tables zs (chosen ++ n ∷ []) on.0 on.1 e next on.3 late (omega arith) (omega arith))
+      rw longer at (admitted T timely E start at goal r d layers tables zs (chosen ++ n ∷ []) on.0 on.1 e next on.3 late (omega arith) (omega arith))
 
   -- the least admitted number keeps the order with every way of that key
   pub least_from_front : (chosen : List ℕ) (u t n : ℕ) → Leads T start at chosen u t →

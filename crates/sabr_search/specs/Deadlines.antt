@@ -1,9 +1,9 @@
 -- Deadlines of the entries of hop layers: the first second at which it is too late for the rest of a way.
-use Rattle.std.specs.Prelude.{◌≡◌, ◌≢◌, ℕ, ◌+◌, ◌≤◌, ◌<◌, List, length, slice_get, slice_index}
+use Rattle.std.specs.Prelude.{◌≡◌, ◌≢◌, ℕ, ◌+◌, ◌≤◌, ◌<◌, List, length, false, slice_get, slice_index, slice_index_or}
 use Rattle.std.specs.declared.option.Option.TheVariants.{Some}
 use Rattle.sabr_search.specs.declared.layers.Reached.{Reached}
 use Rattle.sabr_search.specs.declared.layers.Best.{Best}
-use Rattle.sabr_search.specs.Layers.{Admits, IsTable, IsLayered}
+use Rattle.sabr_search.specs.Layers.{Admits, IsTable, AreExact}
 use Rattle.sabr_search.specs.Task.{SearchTask, Takes, never}
 use Rattle.sabr_search.specs.Lists.{IsPlaced}
 use Rattle.sabr_search.specs.Made.{Entry}
@@ -34,6 +34,7 @@ pub record AreTimed (task : SearchTask) (best : Best) (hop : ℕ) (bounds place 
   pub inside : (p : ℕ) (e : Reached) → slice_get reached p ≡ Some e → e.node < length task.table
   pub other : (p : ℕ) (e : Reached) → slice_get reached p ≡ Some e → e.node ≢ task.goal
   pub apart : (h p q : ℕ) (e f : Reached) → h ≤ best.hops → slice_index bounds h ≤ p → slice_index bounds h ≤ q → p < slice_index bounds (h + 1) → q < slice_index bounds (h + 1) → slice_get reached p ≡ Some e → slice_get reached q ≡ Some f → e.node ≡ f.node → p ≡ q
-  pub layered : IsLayered (Takes task) (Entry bounds reached) task.start task.at task.goal best.hops best.delivery
+  pub unshut : (h p : ℕ) (e : Reached) → 0 < h → slice_index bounds h ≤ p → p < slice_index bounds (h + 1) → slice_get reached p ≡ Some e → slice_index_or task.shut e.node false ≡ false
+  pub exact : AreExact (Takes task) (Entry bounds reached) task.start task.at task.goal best.hops best.delivery
   pub tables : (h : ℕ) → hop ≤ h → h < best.hops → IsTable (Takes task) (Entry bounds reached) task.goal best.hops best.delivery h
   pub early : best.delivery < never

@@ -36,5 +36,17 @@ pub record IsLayered (T : StepRelation) (E : Entries) (start at goal r d : ℕ) 
   -- the last layer has no deadlines yet
   pub last : (v a x : ℕ) → E r v a x → x ≡ 0
 
+-- what deadlines stand on where delivery d is found with r hops
+pub record AreExact (T : StepRelation) (E : Entries) (start at goal r d : ℕ) : Type 0 where
+  -- there is such a way
+  pub way : (ns : List ℕ) × (length ns ≡ r) × Leads T start at ns goal d
+  -- fewer hops come later
+  pub fewest : (ns : List ℕ) (e : ℕ) → length ns < r → Leads T start at ns goal e → d < e
+  -- a node that a way of r hops passes in time has an entry of just that layer
+  pub exact : (xs ys : List ℕ) (v t e : ℕ) → Leads T start at xs v t → Leads T v t ys goal e → e ≤ d → length xs + length ys ≡ r → 0 < length xs → 0 < length ys →
+      (a : ℕ) × (x : ℕ) × (a ≤ t) × E (length xs) v a x
+  -- the last layer has no deadlines yet
+  pub last : (v a x : ℕ) → E r v a x → x ≡ 0
+
 abbrev pub AreTables : StepRelation → Entries → ℕ → ℕ → ℕ → Type 0
 AreTables T E goal r d = (h : ℕ) → 0 < h → h < r → IsTable T E goal r d h

@@ -7,6 +7,7 @@ pub mod Steps
 pub mod Linked
 pub mod Lists
 pub mod Made
+pub mod Late
 pub mod Settling
 pub mod Limits
 pub mod Deadlines

@@ -6,7 +6,7 @@ use Rattle.sabr_model.specs.declared.link.Pass.{Pass}
 use Rattle.sabr_model.specs.declared.link.Link.{Link}
 use Rattle.sabr_model.specs.Plan.{contact_named}
 use Rattle.sabr_model.specs.Light.{light_of}
-use Rattle.sabr_model.specs.Links.{IsBefore}
+use Rattle.sabr_model.specs.Links.{IsBefore, SentLink}
 use Rattle.sabr_search.specs.Task.{SearchTask, Takes}
 use Rattle.sabr_search.specs.Steps.{degree}
 
@@ -43,3 +43,9 @@ pub record AreLinksAt (task : SearchTask) (u : ℕ) (links : List Link) (passes 
   pub in_row : (j : ℕ) (l m : Link) → slice_get links j ≡ Some l → slice_get links (j + 1) ≡ Some m → l.end ≤ m.first
   pub whole : (n t w b : ℕ) → Takes task n u t w b → (j : ℕ) × (l : Link) × (slice_get links j ≡ Some l) × HasNumber (passes_of passes l) n
   pub few : length passes ≤ degree task u
+
+-- the links to the node at place w: each goes from its sender to there, and every step to there is over a pass of one of them
+pub record AreSendersAt (task : SearchTask) (w : ℕ) (links : List SentLink) : Type 0 where
+  pub senders : (j : ℕ) (s : SentLink) → slice_get links j ≡ Some s → s.sender < length task.table
+  pub each : (j : ℕ) (s : SentLink) → slice_get links j ≡ Some s → IsLinkAt task s.sender w s.passes
+  pub whole : (n u t b : ℕ) → Takes task n u t w b → (j : ℕ) × (s : SentLink) × (slice_get links j ≡ Some s) × (s.sender ≡ u) × HasNumber s.passes n

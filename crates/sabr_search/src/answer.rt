@@ -6,10 +6,12 @@ ghost use Rattle.sabr_model.specs.Plan.{contact_named};
 ghost use Rattle.sabr_model.specs.Route.{until_of, entry_of};
 ghost use Rattle.sabr_search.specs.Ways.{Leads};
 ghost use Rattle.sabr_search.specs.Task.{IsTask, IsBehind, Takes, never};
-ghost use Rattle.sabr_search.specs.Picks.{IsLeastWay};
+ghost use Rattle.sabr_search.specs.Picks.{IsLeastWay, IsPicked};
+ghost use Rattle.sabr_search.specs.Deadlines.{AreTimed};
+ghost use Rattle.sabr_search.specs.Late.{AreArrivals};
 ghost use Rattle.sabr_search.specs.Told.{hops_told, IsTold};
 
-use crate::layers::{Layers, Limits};
+use crate::layers::{Best, Layers, Limits};
 use crate::looks::Looks;
 use crate::task::Task;
 use sabr_model::{NoMemory, Numbers, Route};
@@ -81,5 +83,75 @@ impl<A: Allocator + Copy> Layers<A> {
         self.set_deadlines(task, looks, best);
         let contacts = self.pick(alloc, task, looks, best, prefix)?;
         Ok(Some(record(task, looks, contacts, best.delivery)))
+    }
+
+    /// The least route behind the prefix with the best delivery and hops, for which deadlines are set.
+    fn finish(
+        &mut self,
+        alloc: A,
+        task: &Task<'_, A>,
+        looks: &mut Looks,
+        best: Best,
+        prefix: &[u32],
+    ) -> Result<Route<A>, NoMemory>
+        requires task { IsTask task.now }
+        requires behind { IsBehind task.now prefix.now }
+        requires few { looks.old.count + best.hops * length task.now.plan.contacts + length prefix.now + best.hops ≤ 2 ^ 62 }
+        requires many { length prefix.now + best.hops < 2 ^ 32 }
+        requires some { 0 < best.hops }
+        requires timed { AreTimed task.now best 1 self.old.bounds.items self.old.place.items self.old.reached.items }
+        requires least { (ns : List ℕ) (e : ℕ) → Leads (Takes task.now) task.now.start task.now.at ns task.now.goal e → best.delivery ≤ e }
+        ensures err_looks { OnErr result (looks.new.count ≤ looks.old.count + best.hops * length task.now.plan.contacts) }
+        ensures ok_looks { IfOk result (λ route. looks.new.count ≤ looks.old.count + best.hops * length task.now.plan.contacts + length route.contacts) }
+        ensures counted { IfOk result (λ route. length route.contacts ≤ looks.new.count) }
+        ensures delivery { IfOk result (λ route. route.delivery ≡ best.delivery) }
+        ensures hops { IfOk result (λ route. length route.contacts ≡ length prefix.now + best.hops) }
+        ensures picked { IfOk result (λ route. (s : List ℕ) × (route.contacts ≡ prefix.now ++ s) × IsPicked task.now best s × IsTold task.now.plan route) }
+    {
+        let contacts = self.pick(alloc, task, looks, best, prefix)?;
+        Ok(record(task, looks, contacts, best.delivery))
+    }
+
+    /// The least route behind the prefix within the limits that a first way leaves: by layers made backward from the goal
+    /// where its hops are allowed, and else, or where that takes too many looks, by layers made forward.
+    pub fn answer_by(
+        &mut self,
+        alloc: A,
+        task: &Task<'_, A>,
+        looks: &mut Looks,
+        prefix: &[u32],
+        limits: Limits,
+        arrival: &[u64],
+        first: Best,
+    ) -> Result<Option<Route<A>>, NoMemory>
+        requires task { IsTask task.now }
+        requires behind { IsBehind task.now prefix.now }
+        requires looked { looks.old.count ≤ 2 * length task.now.plan.contacts }
+        requires few { 2 * length task.now.plan.contacts + 3 * (limits.hops * length task.now.plan.contacts) + length prefix.now + limits.hops ≤ 2 ^ 62 }
+        requires many { length prefix.now + limits.hops < 2 ^ 32 }
+        requires sooner { limits.lower < limits.ceiling }
+        requires ceiling { limits.ceiling ≤ never }
+        requires lower { limits.lower ≡ first.delivery }
+        requires arrivals { AreArrivals task.now arrival.now first.delivery }
+        requires least { (ns : List ℕ) (e : ℕ) → Leads (Takes task.now) task.now.start task.now.at ns task.now.goal e → first.delivery ≤ e }
+        ensures none { IfOk result (λ o. IfNone o ((ns : List ℕ) (e : ℕ) → length ns ≤ limits.hops → Leads (Takes task.now) task.now.start task.now.at ns task.now.goal e → limits.ceiling ≤ e)) }
+        ensures some { IfOk result (λ o. IfSome o (λ route. (s : List ℕ) × (route.contacts ≡ prefix.now ++ s) × IsLeastWay task.now limits.hops limits.ceiling s route.delivery × IsTold task.now.plan route)) }
+        ensures err_looks { OnErr result (looks.new.count ≤ 2 * length task.now.plan.contacts + 3 * (limits.hops * length task.now.plan.contacts)) }
+        ensures ok_looks { IfOk result (λ o. looks.new.count ≤ 2 * length task.now.plan.contacts + 3 * (limits.hops * length task.now.plan.contacts) + hops_told o) }
+        ensures stopped { IfOk result (λ o. IfSome o (λ route. route.delivery ≤ limits.lower → looks.new.count ≤ 2 * length task.now.plan.contacts + 3 * ((length route.contacts - length prefix.now) * length task.now.plan.contacts) + length route.contacts)) }
+        ensures counted { IfOk result (λ o. hops_told o ≤ looks.new.count) }
+    {
+        if limits.hops != first.hops {
+            let forward = self.answer(alloc, task, looks, prefix, limits)?;
+            return Ok(forward);
+        }
+        let most = task.two_passes();
+        let backward = self.from_goal(task, looks, arrival, first, most)?;
+        let Some(best) = backward else {
+            let forward = self.answer(alloc, task, looks, prefix, limits)?;
+            return Ok(forward);
+        };
+        let route = self.finish(alloc, task, looks, best, prefix)?;
+        Ok(Some(route))
     }
 }

@@ -58,13 +58,16 @@ pub fn open_nodes<A: Allocator + Copy>(
 }
 
 /// By node the least arrival so far and the place of an entry, or 0; the entries, layer by layer, the first being the
-/// start; and where each layer begins.
+/// start; and where each layer begins. Layers that are made backward keep by node from when on it is too late so far,
+/// and where each of them begins.
 #[derive(Drop)]
 pub struct Layers<A: Allocator + Copy> {
     pub arrival: Vec<u64, A>,
     pub place: Vec<usize, A>,
     pub reached: Vec<Reached, A>,
     pub bounds: Vec<usize, A>,
+    pub late: Vec<u64, A>,
+    pub ends: Vec<usize, A>,
 }
 
 impl<A: Allocator + Copy> Layers<A> {
@@ -75,6 +78,8 @@ impl<A: Allocator + Copy> Layers<A> {
             place: Vec::new(alloc),
             reached: Vec::new(alloc),
             bounds: Vec::new(alloc),
+            late: Vec::new(alloc),
+            ends: Vec::new(alloc),
         }
     }
 

@@ -6,6 +6,7 @@ mod best;
 mod deadlines;
 mod enter;
 mod fitting;
+mod from_goal;
 mod layered;
 mod layers;
 mod least_link;

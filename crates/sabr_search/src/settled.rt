@@ -43,7 +43,7 @@ fn least_route<A: Allocator + Copy>(
         return Ok(None);
     }
     let limits = limits_of(max_hops, prefix.len(), first);
-    layers.answer(alloc, task, looks, prefix, limits)
+    layers.answer_by(alloc, task, looks, prefix, limits, &settling.arrival, first)
 }
 
 /// A finder that settles nodes in order of their arrival up to the first delivery, and then makes only as many hop layers

@@ -8,6 +8,7 @@ ghost use Rattle.sabr_search.specs.Hops.{hop_arrival, IsSmall};
 ghost use Rattle.sabr_search.specs.Lists.{IsKnown};
 ghost use Rattle.sabr_search.specs.Ways.{Leads};
 ghost use Rattle.sabr_search.specs.Made.{AreOpened};
+ghost use Rattle.sabr_search.specs.Late.{AreArrivals};
 ghost use Rattle.sabr_search.specs.Settling.{settled_count, IsWayTo, IsFirstWay, AreSettling, IsFallen, AreSettledTaken};
 
 use crate::layers::{Best, NEVER, open_nodes};
@@ -21,7 +22,7 @@ use std::alloc::Allocator;
 /// By node the least arrival so far and whether it is settled; and the arrivals that wait.
 #[derive(Drop)]
 pub struct Settling<A: Allocator + Copy> {
-    arrival: Vec<u64, A>,
+    pub arrival: Vec<u64, A>,
     settled: Vec<bool, A>,
     queue: Queue<A>,
 }
@@ -291,6 +292,7 @@ impl<A: Allocator + Copy> Settling<A> {
         requires few { looks.old.count + length task.now.plan.contacts ≤ 2 ^ 62 }
         ensures looks { looks.new.count ≤ looks.old.count + length task.now.plan.contacts }
         ensures first { IfOk result (IsFirstWay task.now) }
+        ensures arrivals { IfOk result (λ best. AreArrivals task.now self.new.arrival.items best.delivery) }
     {
         self.first_events(task)?;
         let start = Event {

@@ -1,6 +1,6 @@
 //! What does not change during a search, and the arrival over one contact.
 
-ghost use Rattle.std.specs.Prelude.{◌≡◌, ◌↔◌, Contains, ◌==◌, ◌&&◌, ℕ, ◌≤◌, ◌<◌, ◌+◌, ◌^◌, None, Some, MatchOption, IfSome, IfNone, IsTrue, length, slice_get};
+ghost use Rattle.std.specs.Prelude.{◌≡◌, ◌↔◌, Contains, ◌==◌, ◌&&◌, ℕ, ◌≤◌, ◌<◌, ◌+◌, ◌*◌, ◌^◌, None, Some, MatchOption, IfSome, IfNone, IsTrue, length, slice_get};
 ghost use Rattle.std.specs.List.Sorted.{IsNonDecreasing};
 ghost use Rattle.sabr_model.specs.Arrival.{cost};
 ghost use Rattle.sabr_model.specs.Plan.{has};
@@ -8,11 +8,11 @@ ghost use Rattle.sabr_model.specs.Plan.{contact_named};
 ghost use Rattle.sabr_search.specs.Hops.{hop_arrival, IsSmall};
 ghost use Rattle.sabr_search.specs.Task.{IsTask};
 ghost use Rattle.sabr_search.specs.Steps.{AreSteps, IsHopAt};
-ghost use Rattle.sabr_search.specs.Linked.{AreLinksAt};
+ghost use Rattle.sabr_search.specs.Linked.{AreLinksAt, AreSendersAt};
 
 use crate::looks::Looks;
 use crate::pick::Standing;
-use sabr_model::{Hop, Links, Plan, Request};
+use sabr_model::{Hop, Links, Plan, Request, Senders};
 use std::alloc::Allocator;
 use std::marker::Model;
 
@@ -83,6 +83,15 @@ impl<'a, A: Allocator + Copy> Task<'a, A> {
         self.plan.links(node)
     }
 
+    /// The links to a node, on which every step to there is; none where the plan isn't settled.
+    pub fn senders(&self, node: usize) -> Option<Senders<'_, A>>
+        requires task { IsTask self.now }
+        requires node { node < length self.now.table }
+        ensures { IfSome result (λ s. AreSendersAt self.now node s) }
+    {
+        self.plan.senders(node)
+    }
+
     /// The record of a contact.
     pub fn look(&self, looks: &mut Looks, number: u32) -> Option<Hop>
         requires task { IsTask self.now }
@@ -128,6 +137,15 @@ impl<'a, A: Allocator + Copy> Task<'a, A> {
         ensures { result.now ≡ self.now.shut }
     {
         self.shut
+    }
+
+    /// As many looks as two passes over all contacts take.
+    pub fn two_passes(&self) -> u64
+        requires task { IsTask self.now }
+        ensures value { result ≡ 2 * length self.now.plan.contacts }
+        ensures limit { result ≤ 2 ^ 62 }
+    {
+        2 * self.plan.contacts().len() as u64
     }
 
     /// Whether a route may not take this number behind the prefix.

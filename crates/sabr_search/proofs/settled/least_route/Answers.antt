@@ -40,8 +40,8 @@ limits_of-limits-requires-clause-fits g c =
     let facts = prefix_facts c.args.task.now.plan c.args.task.now.request c.args.prefix.now c.requires.fits in
     omega (arith, facts.within, c.requires.hops)
 
-pub answer-requires-clause-few : goal.answer-requires-clause-few
-answer-requires-clause-few g c =
+pub answer_by-requires-clause-few : goal.answer_by-requires-clause-few
+answer_by-requires-clause-few g c =
     let task = c.args.task.now in
     let facts = prefix_facts task.plan task.request c.args.prefix.now c.requires.fits in
     let contacts = contacts_few task.plan c.requires.task.plan in
@@ -51,8 +51,8 @@ answer-requires-clause-few g c =
     let product : c.limits_of-limits.result.hops * length task.plan.contacts ≤ 40000 * 20000 = mul-le-mul hops contacts in
     omega (arith, c.requires.few, c.run.ensures.looks, contacts, product, hops, prefix_few task.plan task.request c.args.prefix.now facts)
 
-pub answer-requires-clause-many : goal.answer-requires-clause-many
-answer-requires-clause-many g c =
+pub answer_by-requires-clause-many : goal.answer_by-requires-clause-many
+answer_by-requires-clause-many g c =
     let task = c.args.task.now in
     let facts = prefix_facts task.plan task.request c.args.prefix.now c.requires.fits in
     let limits : AreLimits task.request.max_hops (length c.args.prefix.now) c.in_ok-first.first c.limits_of-limits.result = rw c.requires.hops at c.limits_of-limits.ensures in
@@ -65,7 +65,7 @@ returns-clause-least g c =
     let facts = prefix_facts task.plan task.request c.args.prefix.now c.requires.fits in
     let limits : AreLimits task.request.max_hops (length c.args.prefix.now) c.in_ok-first.first c.limits_of-limits.result = rw c.requires.hops at c.limits_of-limits.ensures in
     least_told task c.requires.task c.args.prefix.now c.requires.behind facts c.in_ok-first.first c.in_ok-first.ensures.first (omega arith) c.limits_of-limits.result limits
-    c.answer.result c.answer.ensures.none c.answer.ensures.some
+    c.answer_by.result c.answer_by.ensures.none c.answer_by.ensures.some
 
 pub returns-clause-bound : goal.returns-clause-bound
 returns-clause-bound g c =
@@ -73,8 +73,8 @@ returns-clause-bound g c =
     let facts = prefix_facts task.plan task.request c.args.prefix.now c.requires.fits in
     let limits : AreLimits task.request.max_hops (length c.args.prefix.now) c.in_ok-first.first c.limits_of-limits.result = rw c.requires.hops at c.limits_of-limits.ensures in
     bound_told task c.requires.task c.args.prefix.now c.requires.behind facts c.in_ok-first.first c.in_ok-first.ensures.first (omega arith) c.limits_of-limits.result limits
-    c.run.new.looks.count c.answer.new.looks.count c.answer.result c.answer.ensures.some c.answer.ensures.err_looks c.answer.ensures.ok_looks
-    (omega (arith, c.requires.few, c.run.ensures.looks, prefix_few task.plan task.request c.args.prefix.now facts))
+    (2 * length task.plan.contacts) c.answer_by.new.looks.count c.answer_by.result c.answer_by.ensures.some c.answer_by.ensures.err_looks c.answer_by.ensures.ok_looks
+    (omega arith)
 
 pub returns-clause-cut : goal.returns-clause-cut
 returns-clause-cut g c =
@@ -83,5 +83,11 @@ returns-clause-cut g c =
     let limits : AreLimits task.request.max_hops (length c.args.prefix.now) c.in_ok-first.first c.limits_of-limits.result = rw c.requires.hops at c.limits_of-limits.ensures in
     rw c.requires.hops
     (cut_told task c.requires.task c.args.prefix.now c.requires.behind facts c.in_ok-first.first c.in_ok-first.ensures.first (omega arith) c.limits_of-limits.result limits
-    c.run.new.looks.count c.answer.new.looks.count c.answer.result c.answer.ensures.none c.answer.ensures.some c.answer.ensures.stopped
-    (omega (arith, c.requires.few, c.run.ensures.looks, prefix_few task.plan task.request c.args.prefix.now facts)))
+    (2 * length task.plan.contacts) c.answer_by.new.looks.count c.answer_by.result c.answer_by.ensures.none c.answer_by.ensures.some c.answer_by.ensures.stopped
+    (omega arith))
+
+pub answer_by-requires-clause-looked : goal.answer_by-requires-clause-looked
+answer_by-requires-clause-looked g c =
+    let task = c.args.task.now in
+    let facts = prefix_facts task.plan task.request c.args.prefix.now c.requires.fits in
+    omega (arith, c.requires.few, c.run.ensures.looks, prefix_few task.plan task.request c.args.prefix.now facts)

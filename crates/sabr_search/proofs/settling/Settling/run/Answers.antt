@@ -2,7 +2,7 @@ use Rattle.std.proofs.Common.{◌≡◌, suc, ◌<◌, length, slice_index_or, f
 use Rattle.std.proofs.lemmas.List.Sorted.{length_permutation}
 use Rattle.sabr_search.specs.Task.{never}
 use Rattle.sabr_search.proofs.Queues.{head_inside, head_real, head_few, head_arrives, waits_later, queue_stale}
-use Rattle.sabr_search.proofs.FirstWays.{first_counted, first_settled, next_most, next_state, next_counted, next_settled, settled_stale, first_way, read_flag}
+use Rattle.sabr_search.proofs.FirstWays.{first_counted, first_settled, next_most, next_state, next_counted, next_settled, settled_stale, first_way, arrivals_found, read_flag}
 use Rattle.sabr_search.proofs.settling.Settling.run.Goals as goal
 
 pub loop-event-init : goal.loop-event-init
@@ -106,4 +106,15 @@ returns-then-event-best-clause-first g c =
 pub returns-clause-first : goal.returns-clause-first
 returns-clause-first g c =
     first_way c.args.task.now c.requires.task _ _ _ c.loop-event.best c.loop-event.invariant.settled
+    (λ f there. (let none = rw c.in_default.ensures.none at there in absurd (omega (arith, none.1))))
+
+pub returns-then-event-best-clause-arrivals : goal.returns-then-event-best-clause-arrivals
+returns-then-event-best-clause-arrivals g c =
+    let was = c.loop-event.invariant.settled in
+    arrivals_found c.args.task.now c.requires.task _ _ _ c.loop-event.best was
+    (λ f there. omega (arith, c.if-event-best.true, waits_later _ _ _ _ _ c.in-Some.event was.queue_is c.in-Some.ensures.moved c.in-Some.ensures.first f there))
+
+pub returns-clause-arrivals : goal.returns-clause-arrivals
+returns-clause-arrivals g c =
+    arrivals_found c.args.task.now c.requires.task _ _ _ c.loop-event.best c.loop-event.invariant.settled
     (λ f there. (let none = rw c.in_default.ensures.none at there in absurd (omega (arith, none.1))))

@@ -1,0 +1,43 @@
+use Rattle.std.proofs.Common.{◌≡◌, ℕ, ◌+◌, ◌++◌, [], ◌∷◌, Some, length, take, slice_index, sym, ap, ◌∙◌, arith}
+use Rattle.sabr_search.proofs.Between.{read_at}
+use Rattle.sabr_search.proofs.LateMade.{late_first, late_next, met_at, take_whole}
+use Rattle.sabr_search.proofs.layers.Layers.make_back.Goals as goal
+
+pub loop-left-init : goal.loop-left-init
+loop-left-init g c =
+    let first = c.in_ok-first_back.ensures in
+    record {
+      counted = c.requires.few;
+      made = late_first c.args.task.now c.requires.task c.args.arrival.now c.args.first.delivery _ _ _ _ first.ends first.reached first.place first.late;
+    }
+
+pub returns-then-met-clause-met : goal.returns-then-met-clause-met
+returns-then-met-clause-met g c =
+    let task = c.args.task.now in
+    let left = c.loop-left.left in
+    let old = c.loop-left.self in
+    let next = c.next_back.new.self in
+    let made = c.loop-left.invariant.made in
+    let met = c.in_ok-told.ensures.met (c.in-Some.is ∙ ap Some c.if-met.true) in
+    let same_ends : next.ends.items ≡ old.ends.items = ap (λ v. v.items) c.next_back.ensures.ends in
+    let end : c.index-end.result.now ≡ slice_index next.ends.items (left + 1) = read_at next.ends.items (left + 1) c.index-end.result.now (omega (arith, ap length same_ends, made.many)) c.index-end.ensures in
+    let cut : c.truncate.new.self.items ≡ old.reached.items =
+    c.truncate.ensures.items ∙ ap (λ k. take k next.reached.items) (end ∙ ap (λ xs. slice_index xs (left + 1)) same_ends) ∙ c.in_ok-told.ensures.kept
+    ∙ ap (λ k. take k old.reached.items) made.last_end ∙ take_whole old.reached.items in
+    rw (same_ends, cut) (met_at task left old.ends.items old.reached.items met.0 met.1 met.2 met.3 met.4)
+
+pub loop-left-preserved : goal.loop-left-preserved
+loop-left-preserved g c =
+    let task = c.args.task.now in
+    let left = c.loop-left.left in
+    let old = c.loop-left.self in
+    let next = c.next_back.new.self in
+    let one = c.in_ok-told.ensures in
+    let same_ends : next.ends.items ≡ old.ends.items = ap (λ v. v.items) c.next_back.ensures.ends in
+    let many : c.len-end.result ≡ length next.reached.items = omega (arith, c.len-end.ensures, next.reached.ok.0) in
+    record {
+      counted = c.next_back.ensures.looks;
+      made = late_next task c.requires.task c.args.arrival.now c.args.first.delivery left old.ends.items old.late.items old.place.items old.reached.items c.loop-left.invariant.made
+          c.push.new.self.items next.late.items next.place.items next.reached.items one.lists one.kept (one.told (c.in-Some.is ∙ ap Some c.if-met.false))
+          (c.in_ok-push.ensures.items ∙ ap (λ xs. xs ++ c.len-end.result ∷ []) same_ends ∙ ap (λ k. old.ends.items ++ k ∷ []) many);
+    }

@@ -1,0 +1,42 @@
+use Rattle.std.proofs.Common.{◌≡◌, ◌-◌, ℕ, ◌+◌, ◌<◌, ◌≤◌, min, length, slice_index, sym, ap, ◌∙◌, arith}
+use Rattle.std.proofs.lemmas.Option.{slice_get_within}
+use Rattle.sabr_search.specs.Task.{Takes}
+use Rattle.sabr_search.specs.Late.{soonest, InTimeFor}
+use Rattle.sabr_search.proofs.Between.{read_at}
+use Rattle.sabr_search.proofs.Bridge.{takes_timely}
+use Rattle.sabr_search.proofs.LateLists.{late_noted, sound_back, set_here}
+use Rattle.sabr_search.proofs.layers.Layers.take_back.Goals as goal
+use Rattle.sabr_search.proofs.layers.Layers.take_back.Goals.{then-last-latest-via-then-last-latest, then-last-latest-via-else-last-latest+then-last-since}
+
+pub returns-then-last-latest-clause-told : goal.returns-then-last-latest-clause-told
+returns-then-last-latest-clause-told g c = λ n t w b has s less soon.
+    let latest : c.index-latest.result.now ≡ slice_index c.args.self.now.late.items c.args.from.node = read_at c.args.self.now.late.items c.args.from.node c.index-latest.result.now (omega (arith, c.requires.node, c.requires.lists.many)) c.index-latest.ensures in
+    let sooner : t < c.leave_over-last.result = c.leave_over-last.ensures.full n t w b has (omega (arith, soon, c.soonest_at-since.ensures)) s less in
+    elim c.then-last-latest.branch [
+      | then-last-latest-via-then-last-latest z ↦ omega (arith, sooner, latest, z.if-last-latest.true)
+      | then-last-latest-via-else-last-latest+then-last-since z ↦ absurd (omega (arith, sooner, soon, c.soonest_at-since.ensures, z.if-last-since.true))
+    ]
+
+pub returns-clause-lists : goal.returns-clause-lists
+returns-clause-lists g c =
+    let latest : c.index-latest.result.now ≡ slice_index c.args.self.now.late.items c.args.from.node = read_at c.args.self.now.late.items c.args.from.node c.index-latest.result.now (omega (arith, c.requires.node, c.requires.lists.many)) c.index-latest.ensures in
+    rw c.in_ok-note_late.ensures.late
+    ((late_noted c.args.task.now c.args.arrival.now c.args.delivery c.args._first c.args.begin c.args.self.now.late.items c.args.self.now.place.items c.args.self.now.reached.items c.requires.lists
+    c.args.from.node c.soonest_at-since.result c.leave_over-last.result c.requires.node c.requires.unshut c.requires.inner c.soonest_at-since.ensures (omega (arith, latest, c.if-last-latest.false))
+    (sound_back c.args.task.now c.requires.task c.args.from.node c.args.to c.index-latest.result.now c.leave_over-last.result c.args.before c.args._first c.args.begin c.args.self.now.reached.items
+    (λ t from less. c.leave_over-last.ensures.sound t from less) c.if-last-latest.false c.requires.receiver c.requires.given)
+    _ _ c.in_ok-note_late.ensures.noted).0)
+
+pub returns-clause-kept : goal.returns-clause-kept
+returns-clause-kept g c =
+    let latest : c.index-latest.result.now ≡ slice_index c.args.self.now.late.items c.args.from.node = read_at c.args.self.now.late.items c.args.from.node c.index-latest.result.now (omega (arith, c.requires.node, c.requires.lists.many)) c.index-latest.ensures in
+    (late_noted c.args.task.now c.args.arrival.now c.args.delivery c.args._first c.args.begin c.args.self.now.late.items c.args.self.now.place.items c.args.self.now.reached.items c.requires.lists
+    c.args.from.node c.soonest_at-since.result c.leave_over-last.result c.requires.node c.requires.unshut c.requires.inner c.soonest_at-since.ensures (omega (arith, latest, c.if-last-latest.false))
+    (sound_back c.args.task.now c.requires.task c.args.from.node c.args.to c.index-latest.result.now c.leave_over-last.result c.args.before c.args._first c.args.begin c.args.self.now.reached.items
+    (λ t from less. c.leave_over-last.ensures.sound t from less) c.if-last-latest.false c.requires.receiver c.requires.given)
+    _ _ c.in_ok-note_late.ensures.noted).1
+
+pub returns-clause-told : goal.returns-clause-told
+returns-clause-told g c = λ n t w b has s less soon.
+    let task = c.args.task.now in
+    rw c.in_ok-note_late.ensures.late (omega (arith, set_here c.args.self.now.late.items c.args.from.node c.leave_over-last.result (omega (arith, c.requires.node, c.requires.lists.many)), c.leave_over-last.ensures.full n t w b has (omega (arith, soon, c.soonest_at-since.ensures)) s less))

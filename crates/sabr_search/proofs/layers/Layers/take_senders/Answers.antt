@@ -1,0 +1,38 @@
+use Rattle.std.proofs.Common.{◌≡◌, ℕ, ◌+◌, ◌<◌, ◌≤◌, inl, inr, Some, length, slice_get, sym, ap, ◌∙◌, arith}
+use Rattle.std.proofs.lemmas.Option.{slice_get_within}
+use Rattle.sabr_model.specs.Links.{SentLink}
+use Rattle.sabr_search.proofs.Forward.{last_or_before}
+use Rattle.sabr_search.proofs.OverLinks.{same_some}
+use Rattle.sabr_search.proofs.LateLists.{in_time_kept, told_rises}
+use Rattle.sabr_search.proofs.layers.Layers.take_senders.Goals as goal
+
+pub take_sender-requires-clause-link : goal.take_sender-requires-clause-link
+take_sender-requires-clause-link g c = c.in-Some.ensures.each c.loop-place.place (record { sender = c.at-from.result.node; passes = c.at-from.result.passes.now }) c.at-from.ensures
+
+pub take_sender-requires-clause-given : goal.take_sender-requires-clause-given
+take_sender-requires-clause-given g c = λ b less.
+    in_time_kept c.args.first c.args.begin c.loop-place.self.reached.items c.args.self.now.reached.items c.loop-place.invariant.kept c.args.to.node b (c.requires.given b less)
+
+pub loop-place-preserved : goal.loop-place-preserved
+loop-place-preserved g c =
+    let task = c.args.task.now in
+    let so_far = c.loop-place.invariant in
+    let one = c.in_ok-met.ensures in
+    record {
+      ends = c.take_sender.ensures.ends ∙ so_far.ends;
+      counted = omega (arith, so_far.counted, c.take_sender.ensures.looks, c.if-from-most.false);
+      lists = one.lists;
+      kept = one.kept ∙ so_far.kept;
+      rises = λ k. omega (arith, so_far.rises k, one.rises k);
+      told = λ j s n t w b less at has step by. elim (last_or_before j c.loop-place.place less) [
+        | inl before ↦ told_rises task c.args.arrival.now c.args.delivery _ _ s.sender t one.rises (so_far.told j s n t w b before at has step by)
+        | inr same ↦
+            (let is : s ≡ record { sender = c.at-from.result.node; passes = c.at-from.result.passes.now } = same_some (sym at ∙ ap (slice_get c.in-Some.senders) same ∙ c.at-from.ensures) in
+            rw is (one.told c.if-met.false n t w b (rw is at has) (rw is at step) by))
+      ];
+    }
+
+pub returns-clause-told : goal.returns-clause-told
+returns-clause-told g c = λ same n u t b step by.
+    let on = c.in-Some.ensures.whole n u t b step in
+    rw (← on.3) (c.loop-place.invariant.told on.0 on.1 n t c.args.to.node b (omega (arith, slice_get_within c.in-Some.senders on.0 on.1 on.2, c.loop-place-test.false, c.len-place-end.ensures)) on.2 on.4 (rw (← on.3) at step) by)

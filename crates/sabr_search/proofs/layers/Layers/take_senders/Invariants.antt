@@ -1,0 +1,16 @@
+use Rattle.std.proofs.Common.{◌≡◌, ℕ, ◌<◌, ◌≤◌, Some, length, take, slice_get, slice_index}
+use Rattle.sabr_model.specs.Links.{SentLink}
+use Rattle.sabr_search.specs.Task.{Takes}
+use Rattle.sabr_search.specs.Linked.{HasNumber}
+use Rattle.sabr_search.specs.Late.{AreLate, IsToldLate}
+use Rattle.sabr_search.proofs.layers.Layers.take_senders.Given as goal
+
+abbrev pub invariant-loop-place : goal.invariant-loop-place
+invariant-loop-place g l = record {
+  ends : l.self.ends ≡ l.fn.self.ends;
+  counted : l.looks.count ≤ l.most;
+  lists : AreLate l.task l.arrival l.delivery l.first l.begin l.self.late.items l.self.place.items l.self.reached.items;
+  kept : take l.begin l.self.reached.items ≡ take l.begin l.fn.self.reached.items;
+  rises : (k : ℕ) → slice_index l.fn.self.late.items k ≤ slice_index l.self.late.items k;
+  told : (j : ℕ) (s : SentLink) (n t w b : ℕ) → j < l.place → slice_get l.senders j ≡ Some s → HasNumber s.passes n → Takes l.task n s.sender t w b → b < l.to.deadline → IsToldLate l.task l.arrival l.delivery l.self.late.items s.sender t;
+}

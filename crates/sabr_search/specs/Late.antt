@@ -1,0 +1,87 @@
+-- Layers made backward from the goal: by node from when on it is too late so far, and the entries, layer by layer, the
+-- goal's first.
+use Rattle.std.specs.Prelude.{◌≡◌, ◌≢◌, ◌⊎◌, ℕ, ◌+◌, ◌≤◌, ◌<◌, min, List, [], ◌∷◌, ◌++◌, length, false, slice_get, slice_set, slice_index, slice_index_or}
+use Rattle.std.specs.declared.option.Option.TheVariants.{Some}
+use Rattle.sabr_search.specs.declared.layers.Reached.{Reached}
+use Rattle.sabr_search.specs.declared.layers.Best.{Best}
+use Rattle.sabr_search.specs.Ways.{Leads}
+use Rattle.sabr_search.specs.Layers.{Entries}
+use Rattle.sabr_search.specs.Task.{SearchTask, Takes}
+use Rattle.sabr_search.specs.Made.{Entry}
+
+-- when the first of all ways may be at a node: at the least arrival that was found, or when the search stopped
+abbrev pub soonest : List ℕ → ℕ → ℕ → ℕ
+soonest since d u = min (slice_index since u) d
+
+-- no way comes to a node sooner than that
+pub record AreArrivals (task : SearchTask) (since : List ℕ) (d : ℕ) : Type 0 where
+  pub flags : length since ≡ length task.table
+  pub least : (ns : List ℕ) (v t : ℕ) → 0 < length ns → Leads (Takes task) task.start task.at ns v t → soonest since d v ≤ t
+
+-- whoever is at node w at second b is in time for an entry at the places from `first` to before `begin`
+abbrev pub InTimeFor : List Reached → ℕ → ℕ → ℕ → ℕ → Type 0
+InTimeFor reached first begin w b = (p : ℕ) × (e : Reached) × (first ≤ p) × (p < begin) × (slice_get reached p ≡ Some e) × (e.node ≡ w) × (b < e.deadline)
+
+-- an entry behind the goal's: of another open node, from its soonest second on, too late no later than the node is
+pub record IsLateEntry (task : SearchTask) (since : List ℕ) (d : ℕ) (late : List ℕ) (e : Reached) : Type 0 where
+  pub inside : e.node < length task.table
+  pub unshut : slice_index_or task.shut e.node false ≡ false
+  pub other : e.node ≢ task.goal
+  pub soon : e.arrival ≡ soonest since d e.node
+  pub by : e.deadline ≤ slice_index late e.node
+
+-- the lists while the layer that begins at `begin` is made from the entries from `first` on
+pub record AreLate (task : SearchTask) (since : List ℕ) (d first begin : ℕ) (late place : List ℕ) (reached : List Reached) : Type 0 where
+  pub flags : length place ≡ length task.table
+  pub many : length late ≡ length task.table
+  pub within : (k : ℕ) → k < length task.table → slice_index place k < length reached
+  pub own : (k : ℕ) (e : Reached) → k < length task.table → 0 < slice_index place k → slice_get reached (slice_index place k) ≡ Some e → e.node ≡ k
+  pub later : 0 < begin
+  pub begins : begin ≤ length reached
+  pub top : (v : ℕ) → v < length task.table → 0 < slice_index late v → (a : ℕ) × (slice_get reached (slice_index place v) ≡ Some (record { node = v; arrival = a; deadline = slice_index late v }))
+  pub each : (p : ℕ) (e : Reached) → 0 < p → slice_get reached p ≡ Some e → IsLateEntry task since d late e
+  pub rising : (p q : ℕ) (e f : Reached) → 0 < p → p < q → slice_get reached p ≡ Some e → slice_get reached q ≡ Some f → e.node ≡ f.node → e.deadline < f.deadline
+  pub once : (p : ℕ) (e : Reached) → begin ≤ p → slice_get reached p ≡ Some e → slice_index place e.node ≡ p
+  pub sound : (p : ℕ) (e : Reached) (t : ℕ) → begin ≤ p → slice_get reached p ≡ Some e → t < e.deadline → (n : ℕ) × (w : ℕ) × (b : ℕ) × Takes task n e.node t w b × InTimeFor reached first begin w b
+
+-- node u is too late from x on: its entry in the layer that begins at `begin` says so, or a new one does
+abbrev pub IsNotedLate : List ℕ → List Reached → ℕ → ℕ → ℕ → ℕ → List ℕ → List Reached → Type 0
+IsNotedLate place reached begin u a x place' reached' =
+    ((begin ≤ slice_index place u) × (place' ≡ place) × (reached' ≡ slice_set reached (slice_index place u) (record { node = u; arrival = a; deadline = x })))
+    ⊎ ((slice_index place u < begin) × (place' ≡ slice_set place u (length reached)) × (reached' ≡ reached ++ record { node = u; arrival = a; deadline = x } ∷ []))
+
+-- what a step from node u at t to where there still is time leaves: it is not from the start in time, and else u is not too late
+abbrev pub IsToldLate : SearchTask → List ℕ → ℕ → List ℕ → ℕ → ℕ → Type 0
+IsToldLate task since d late u t = (u ≡ task.start → task.at ≤ t → ⊥) × (slice_index_or task.shut u false ≡ false → u ≢ task.goal → soonest since d u ≤ t → t < slice_index late u)
+
+-- so for each step to an entry at the places from `first` to before `begin`
+abbrev pub AreTold : SearchTask → List ℕ → ℕ → List Reached → ℕ → ℕ → List ℕ → Type 0
+AreTold task since d reached first begin late = (p : ℕ) (e : Reached) (n u t b : ℕ) → first ≤ p → p < begin → slice_get reached p ≡ Some e → Takes task n u t e.node b → b < e.deadline → IsToldLate task since d late u t
+
+-- the same by the layers up to the one behind j
+abbrev pub IsToldBy : SearchTask → List ℕ → ℕ → Entries → ℕ → ℕ → ℕ → Type 0
+IsToldBy task since d E j u t = (u ≡ task.start → task.at ≤ t → ⊥) × (slice_index_or task.shut u false ≡ false → u ≢ task.goal → soonest since d u ≤ t → (i : ℕ) × (a : ℕ) × (x : ℕ) × (i ≤ j + 1) × E i u a x × (t < x))
+
+-- the layers up to `left` hops from the goal
+pub record AreLateLayers (task : SearchTask) (since : List ℕ) (d left : ℕ) (ends late place : List ℕ) (reached : List Reached) : Type 0 where
+  pub lists : AreLate task since d (slice_index ends left) (slice_index ends (left + 1)) late place reached
+  pub many : length ends ≡ left + 2
+  pub first_end : slice_index ends 0 ≡ 0
+  pub second_end : slice_index ends 1 ≡ 1
+  pub rising : (j : ℕ) → j ≤ left → slice_index ends j ≤ slice_index ends (j + 1)
+  pub last_end : slice_index ends (left + 1) ≡ length reached
+  pub goal_first : (a : ℕ) × (slice_get reached 0 ≡ Some (record { node = task.goal; arrival = a; deadline = d + 1 }))
+  pub apart : (h p q : ℕ) (e f : Reached) → h ≤ left → slice_index ends h ≤ p → slice_index ends h ≤ q → p < slice_index ends (h + 1) → q < slice_index ends (h + 1) → slice_get reached p ≡ Some e → slice_get reached q ≡ Some f → e.node ≡ f.node → p ≡ q
+  pub sound : (h v a x t : ℕ) → h < left → Entry ends reached (h + 1) v a x → t < x → (n : ℕ) × (w : ℕ) × (b : ℕ) × (c : ℕ) × (y : ℕ) × Takes task n v t w b × Entry ends reached h w c y × (b < y)
+  pub taken : (j w a x n u t b : ℕ) → j < left → Entry ends reached j w a x → b < x → Takes task n u t w b → IsToldBy task since d (Entry ends reached) j u t
+
+-- the start is in time for an entry of the last layer
+pub record IsMet (task : SearchTask) (left : ℕ) (ends : List ℕ) (reached : List Reached) : Type 0 where
+  pub n : ℕ
+  pub w : ℕ
+  pub b : ℕ
+  pub a : ℕ
+  pub x : ℕ
+  pub step : Takes task n task.start task.at w b
+  pub entry : Entry ends reached left w a x
+  pub in_time : b < x

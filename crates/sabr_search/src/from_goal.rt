@@ -1,0 +1,374 @@
+//! Hop layers made backward from the goal, once the first delivery is known: by number of hops the nodes from which so
+//! many lead to the goal by then, where fewer don't from as late on.
+
+ghost use Rattle.std.specs.Prelude.{◌≡◌, ◌≢◌, ℕ, ◌+◌, ◌^◌, ◌≤◌, ◌<◌, min, take, length, true, false, IsTrue, slice_get, slice_index, slice_index_or, slice_set, Some, None, OnOk, IfOk, IfSome, List, [], ◌∷◌, ◌++◌, ◌-◌, replicate, reverse};
+ghost use Rattle.sabr_search.specs.Task.{IsTask, Takes, never};
+ghost use Rattle.sabr_search.specs.Linked.{IsLinkAt, HasNumber};
+ghost use Rattle.sabr_search.specs.Late.{soonest, InTimeFor, AreLate, IsNotedLate, IsToldLate, AreTold, AreArrivals, AreLateLayers, IsMet};
+ghost use Rattle.sabr_search.specs.Ways.{Leads};
+ghost use Rattle.sabr_search.specs.Deadlines.{AreTimed};
+
+use crate::layers::{Best, Layers, Reached};
+use crate::looks::Looks;
+use crate::task::Task;
+use sabr_model::{NoMemory, Sender};
+use std::alloc::Allocator;
+
+/// When the first of all ways may be at a node: at its least arrival, or at the first delivery, where the search stopped.
+pub fn soonest_at(arrival: &[u64], delivery: u64, node: usize) -> u64
+    requires { node < length arrival.now }
+    ensures { result ≡ soonest arrival.now delivery node }
+{
+    arrival[node].min(delivery)
+}
+
+impl<A: Allocator + Copy> Layers<A> {
+    /// Notes from when on it is too late at a node, in the layer that begins at `begin`, once for each node.
+    fn note_late(&mut self, entry: Reached, begin: usize) -> Result<(), NoMemory>
+        requires place { entry.node < length self.old.place.items }
+        requires late { entry.node < length self.old.late.items }
+        requires placed { slice_index self.old.place.items entry.node < length self.old.reached.items }
+        ensures ends { self.new.ends ≡ self.old.ends }
+        ensures late { OnOk result (self.new.late.items ≡ slice_set self.old.late.items entry.node entry.deadline) }
+        ensures noted { OnOk result (IsNotedLate self.old.place.items self.old.reached.items begin entry.node entry.arrival entry.deadline self.new.place.items self.new.reached.items) }
+    {
+        let at = self.place[entry.node];
+        if at >= begin {
+            self.reached[at] = entry;
+        } else {
+            let end = self.reached.len();
+            self.reached.push(entry)?;
+            self.place[entry.node] = end;
+        }
+        self.late[entry.node] = entry.deadline;
+        Ok(())
+    }
+
+    /// Takes one link from an open node to one that is left in time before `before`.
+    fn take_back(
+        &mut self,
+        task: &Task<'_, A>,
+        looks: &mut Looks,
+        arrival: &[u64],
+        delivery: u64,
+        from: Sender<'_>,
+        to: usize,
+        before: u64,
+        _first: usize,
+        begin: usize,
+    ) -> Result<(), NoMemory>
+        requires task { IsTask task.now }
+        requires link { IsLinkAt task.now from.node to from.passes.now }
+        requires node { from.node < length task.now.table }
+        requires other { from.node ≢ task.now.start }
+        requires inner { from.node ≢ task.now.goal }
+        requires unshut { slice_index_or task.now.shut from.node false ≡ false }
+        requires receiver { slice_index_or task.now.shut to false ≡ false }
+        requires arrivals { length arrival.now ≡ length task.now.table }
+        requires few { looks.old.count + length from.passes.now ≤ 2 ^ 62 }
+        requires given { (b : ℕ) → b < before → InTimeFor self.old.reached.items _first begin to b }
+        requires lists { AreLate task.now arrival.now delivery _first begin self.old.late.items self.old.place.items self.old.reached.items }
+        ensures ends { self.new.ends ≡ self.old.ends }
+        ensures looks { looks.new.count ≤ looks.old.count + length from.entry.passes.now }
+        ensures lists { OnOk result (AreLate task.now arrival.now delivery _first begin self.new.late.items self.new.place.items self.new.reached.items) }
+        ensures kept { OnOk result (take begin self.new.reached.items ≡ take begin self.old.reached.items) }
+        ensures rises { OnOk result ((k : ℕ) → slice_index self.old.late.items k ≤ slice_index self.new.late.items k) }
+        ensures told { OnOk result ((n t w b : ℕ) → HasNumber from.entry.passes.now n → Takes task.now n from.entry.node t w b → b < before → soonest arrival.now delivery from.entry.node ≤ t → t < slice_index self.new.late.items from.entry.node) }
+    {
+        let latest = self.late[from.node];
+        if before <= latest {
+            return Ok(());
+        }
+        let since = soonest_at(arrival, delivery, from.node);
+        let last = task.leave_over(looks, from.node, to, from.passes, since, before, latest);
+        if last <= latest || last <= since {
+            return Ok(());
+        }
+        let entry = Reached {
+            node: from.node,
+            arrival: since,
+            deadline: last,
+        };
+        self.note_late(entry, begin)?;
+        Ok(())
+    }
+
+    /// Takes one link to a node that is left in time before `before`; tells whether the start is in time for it.
+    fn take_sender(
+        &mut self,
+        task: &Task<'_, A>,
+        looks: &mut Looks,
+        arrival: &[u64],
+        delivery: u64,
+        from: Sender<'_>,
+        to: usize,
+        before: u64,
+        first: usize,
+        begin: usize,
+    ) -> Result<bool, NoMemory>
+        requires task { IsTask task.now }
+        requires link { IsLinkAt task.now from.node to from.passes.now }
+        requires node { from.node < length task.now.table }
+        requires receiver { slice_index_or task.now.shut to false ≡ false }
+        requires arrivals { length arrival.now ≡ length task.now.table }
+        requires few { looks.old.count + length from.passes.now ≤ 2 ^ 62 }
+        requires given { (b : ℕ) → b < before → InTimeFor self.old.reached.items first begin to b }
+        requires lists { AreLate task.now arrival.now delivery first begin self.old.late.items self.old.place.items self.old.reached.items }
+        ensures ends { self.new.ends ≡ self.old.ends }
+        ensures looks { looks.new.count ≤ looks.old.count + length from.entry.passes.now }
+        ensures lists { OnOk result (AreLate task.now arrival.now delivery first begin self.new.late.items self.new.place.items self.new.reached.items) }
+        ensures kept { OnOk result (take begin self.new.reached.items ≡ take begin self.old.reached.items) }
+        ensures rises { OnOk result ((k : ℕ) → slice_index self.old.late.items k ≤ slice_index self.new.late.items k) }
+        ensures met { IfOk result (λ met. IsTrue met → (n : ℕ) × (b : ℕ) × Takes task.now n task.now.start task.now.at to b × (b < before)) }
+        ensures told { IfOk result (λ met. met ≡ false → (n t w b : ℕ) → HasNumber from.entry.passes.now n → Takes task.now n from.entry.node t w b → b < before → IsToldLate task.now arrival.now delivery self.new.late.items from.entry.node t) }
+    {
+        if from.node == task.start() {
+            let at = task.arrive_over(looks, from.node, to, from.passes, task.at(), before);
+            return Ok(at < before);
+        }
+        if from.node == task.goal() {
+            return Ok(false);
+        }
+        if task.shut()[from.node] {
+            return Ok(false);
+        }
+        self.take_back(
+            task, looks, arrival, delivery, from, to, before, first, begin,
+        )?;
+        Ok(false)
+    }
+
+    /// Takes every link to the node of an entry; tells whether the start is in time for it, or nothing where the plan
+    /// isn't settled, or more than `most` looks might be needed.
+    fn take_senders(
+        &mut self,
+        task: &Task<'_, A>,
+        looks: &mut Looks,
+        arrival: &[u64],
+        delivery: u64,
+        to: Reached,
+        first: usize,
+        begin: usize,
+        most: u64,
+    ) -> Result<Option<bool>, NoMemory>
+        requires task { IsTask task.now }
+        requires node { to.node < length task.now.table }
+        requires receiver { slice_index_or task.now.shut to.node false ≡ false }
+        requires arrivals { length arrival.now ≡ length task.now.table }
+        requires few { looks.old.count ≤ most }
+        requires most { most ≤ 2 ^ 62 }
+        requires given { (b : ℕ) → b < to.deadline → InTimeFor self.old.reached.items first begin to.node b }
+        requires lists { AreLate task.now arrival.now delivery first begin self.old.late.items self.old.place.items self.old.reached.items }
+        ensures ends { self.new.ends ≡ self.old.ends }
+        ensures looks { looks.new.count ≤ most }
+        ensures lists { OnOk result (AreLate task.now arrival.now delivery first begin self.new.late.items self.new.place.items self.new.reached.items) }
+        ensures kept { OnOk result (take begin self.new.reached.items ≡ take begin self.old.reached.items) }
+        ensures rises { OnOk result ((k : ℕ) → slice_index self.old.late.items k ≤ slice_index self.new.late.items k) }
+        ensures met { IfOk result (λ o. o ≡ Some true → (n : ℕ) × (b : ℕ) × Takes task.now n task.now.start task.now.at to.node b × (b < to.deadline)) }
+        ensures told { IfOk result (λ o. o ≡ Some false → (n u t b : ℕ) → Takes task.now n u t to.node b → b < to.deadline → IsToldLate task.now arrival.now delivery self.new.late.items u t) }
+    {
+        let Some(senders) = task.senders(to.node) else {
+            return Ok(None);
+        };
+        for place in 0..senders.len() {
+            let from = senders.at(place);
+            if from.passes.len() as u64 > most - looks.count {
+                return Ok(None);
+            }
+            let met = self.take_sender(
+                task,
+                looks,
+                arrival,
+                delivery,
+                from,
+                to.node,
+                to.deadline,
+                first,
+                begin,
+            )?;
+            if met {
+                return Ok(Some(true));
+            }
+        }
+        Ok(Some(false))
+    }
+
+    /// Makes the layer in front of layer `left`; tells whether the start is in time for an entry of `left`, or nothing
+    /// as `take_senders` does.
+    fn next_back(
+        &mut self,
+        task: &Task<'_, A>,
+        looks: &mut Looks,
+        arrival: &[u64],
+        delivery: u64,
+        left: usize,
+        most: u64,
+    ) -> Result<Option<bool>, NoMemory>
+        requires task { IsTask task.now }
+        requires arrivals { length arrival.now ≡ length task.now.table }
+        requires few { looks.old.count ≤ most }
+        requires most { most ≤ 2 ^ 62 }
+        requires bounded { left + 1 < length self.old.ends.items }
+        requires goal { IfSome (slice_get self.old.reached.items 0) (λ e. e.node ≡ task.now.goal) }
+        requires lists { AreLate task.now arrival.now delivery (slice_index self.old.ends.items left) (slice_index self.old.ends.items (left + 1)) self.old.late.items self.old.place.items self.old.reached.items }
+        ensures ends { self.new.ends ≡ self.old.ends }
+        ensures looks { looks.new.count ≤ most }
+        ensures lists { OnOk result (AreLate task.now arrival.now delivery (slice_index self.old.ends.items left) (slice_index self.old.ends.items (left + 1)) self.new.late.items self.new.place.items self.new.reached.items) }
+        ensures kept { OnOk result (take (slice_index self.old.ends.items (left + 1)) self.new.reached.items ≡ take (slice_index self.old.ends.items (left + 1)) self.old.reached.items) }
+        ensures met { IfOk result (λ o. o ≡ Some true → (n : ℕ) × (w : ℕ) × (b : ℕ) × Takes task.now n task.now.start task.now.at w b × InTimeFor self.old.reached.items (slice_index self.old.ends.items left) (slice_index self.old.ends.items (left + 1)) w b) }
+        ensures told { IfOk result (λ o. o ≡ Some false → AreTold task.now arrival.now delivery self.old.reached.items (slice_index self.old.ends.items left) (slice_index self.old.ends.items (left + 1)) self.new.late.items) }
+    {
+        let first = self.ends[left];
+        let begin = self.ends[left + 1];
+        for place in first..begin {
+            let to = self.reached[place];
+            let told = self.take_senders(task, looks, arrival, delivery, to, first, begin, most)?;
+            let Some(met) = told else {
+                return Ok(None);
+            };
+            if met {
+                return Ok(Some(true));
+            }
+        }
+        Ok(Some(false))
+    }
+
+    /// Layer 0: the goal alone.
+    fn first_back(&mut self, task: &Task<'_, A>, delivery: u64) -> Result<(), NoMemory>
+        requires task { IsTask task.now }
+        requires early { delivery < never }
+        ensures ends { OnOk result (self.new.ends.items ≡ 0 ∷ 1 ∷ []) }
+        ensures reached { OnOk result (self.new.reached.items ≡ record { node = task.now.goal; arrival = delivery; deadline = delivery + 1 } ∷ []) }
+        ensures place { OnOk result (self.new.place.items ≡ replicate (length task.now.shut) 0) }
+        ensures late { OnOk result (self.new.late.items ≡ replicate (length task.now.shut) 0) }
+    {
+        self.place.clear();
+        self.place.resize(task.shut().len(), 0)?;
+        self.late.clear();
+        self.late.resize(task.shut().len(), 0)?;
+        self.reached.clear();
+        self.reached.push(Reached {
+            node: task.goal(),
+            arrival: delivery,
+            deadline: delivery + 1,
+        })?;
+        self.ends.clear();
+        self.ends.push(0)?;
+        self.ends.push(1)?;
+        Ok(())
+    }
+
+    /// Layers backward from the goal, until the start is in time for one: answers how many hops that one is from the
+    /// goal. None where the plan isn't settled, or more than `most` looks might be needed.
+    fn make_back(
+        &mut self,
+        task: &Task<'_, A>,
+        looks: &mut Looks,
+        arrival: &[u64],
+        first: Best,
+        most: u64,
+    ) -> Result<Option<usize>, NoMemory>
+        requires task { IsTask task.now }
+        requires arrivals { length arrival.now ≡ length task.now.table }
+        requires early { first.delivery < never }
+        requires few { looks.old.count ≤ most }
+        requires most { most ≤ 2 ^ 62 }
+        ensures looks { looks.new.count ≤ most }
+        ensures within { IfOk result (λ o. IfSome o (λ left. left < first.hops)) }
+        ensures made { IfOk result (λ o. IfSome o (λ left. (late place : List ℕ) × AreLateLayers task.now arrival.now first.delivery left self.new.ends.items late place self.new.reached.items)) }
+        ensures met { IfOk result (λ o. IfSome o (λ left. IsMet task.now left self.new.ends.items self.new.reached.items)) }
+    {
+        self.first_back(task, first.delivery)?;
+        for left in 0..first.hops {
+            let told = self.next_back(task, looks, arrival, first.delivery, left, most)?;
+            let Some(met) = told else {
+                return Ok(None);
+            };
+            if met {
+                let end = self.ends[left + 1];
+                self.reached.truncate(end);
+                return Ok(Some(left));
+            }
+            let end = self.reached.len();
+            self.ends.push(end)?;
+        }
+        Ok(None)
+    }
+
+    /// Turns the entries that were made backward round; the start takes the goal's place and stands in front as well.
+    fn turn_entries(&mut self, task: &Task<'_, A>) -> Result<(), NoMemory>
+        requires task { IsTask task.now }
+        requires some { 0 < length self.old.reached.items }
+        ensures ends { self.new.ends ≡ self.old.ends }
+        ensures reached { OnOk result (self.new.reached.items ≡ reverse (slice_set self.old.reached.items 0 (record { node = task.now.start; arrival = task.now.at; deadline = 0 }) ++ record { node = task.now.start; arrival = task.now.at; deadline = 0 } ∷ [])) }
+        ensures place { OnOk result (self.new.place.items ≡ replicate (length task.now.shut) 0) }
+    {
+        let start = Reached {
+            node: task.start(),
+            arrival: task.at(),
+            deadline: 0,
+        };
+        self.reached[0] = start;
+        self.reached.push(start)?;
+        self.reached.reverse();
+        self.place.clear();
+        self.place.resize(task.shut().len(), 0)?;
+        Ok(())
+    }
+
+    /// Where the layers begin once their entries are turned round.
+    fn turn_bounds(&mut self, left: usize) -> Result<(), NoMemory>
+        requires many { length self.old.ends.items ≡ left + 2 }
+        requires below { (j : ℕ) → slice_index self.old.ends.items j ≤ length self.old.reached.items }
+        requires some { 0 < length self.old.reached.items }
+        ensures reached { self.new.reached ≡ self.old.reached }
+        ensures place { self.new.place ≡ self.old.place }
+        ensures many { OnOk result (length self.new.bounds.items ≡ left + 3) }
+        ensures first { OnOk result (slice_index self.new.bounds.items 0 ≡ 0) }
+        ensures inner { OnOk result ((h : ℕ) → h ≤ left → slice_index self.new.bounds.items (h + 1) ≡ length self.old.reached.items - slice_index self.old.ends.items (left + 1 - h)) }
+        ensures last { OnOk result (slice_index self.new.bounds.items (left + 2) ≡ length self.old.reached.items - 1) }
+    {
+        let all = self.reached.len();
+        self.bounds.clear();
+        self.bounds.push(0)?;
+        for hop in 0..left + 1 {
+            let end = self.ends[left + 1 - hop];
+            self.bounds.push(all - end)?;
+        }
+        self.bounds.push(all - 1)?;
+        Ok(())
+    }
+
+    /// Layers with deadlines for the first delivery, made backward from the goal: answers the delivery and the hops. None
+    /// where the plan isn't settled, or more than `most` looks might be needed.
+    pub fn from_goal(
+        &mut self,
+        task: &Task<'_, A>,
+        looks: &mut Looks,
+        arrival: &[u64],
+        first: Best,
+        most: u64,
+    ) -> Result<Option<Best>, NoMemory>
+        requires task { IsTask task.now }
+        requires arrivals { AreArrivals task.now arrival.now first.delivery }
+        requires early { first.delivery < never }
+        requires least { (ns : List ℕ) (e : ℕ) → Leads (Takes task.now) task.now.start task.now.at ns task.now.goal e → first.delivery ≤ e }
+        requires few { looks.old.count ≤ most }
+        requires most { most ≤ 2 ^ 62 }
+        ensures looks { looks.new.count ≤ most }
+        ensures delivery { IfOk result (λ o. IfSome o (λ best. best.delivery ≡ first.delivery)) }
+        ensures within { IfOk result (λ o. IfSome o (λ best. (0 < best.hops) × (best.hops ≤ first.hops))) }
+        ensures timed { IfOk result (λ o. IfSome o (λ best. AreTimed task.now best 1 self.new.bounds.items self.new.place.items self.new.reached.items)) }
+    {
+        let made = self.make_back(task, looks, arrival, first, most)?;
+        let Some(left) = made else {
+            return Ok(None);
+        };
+        self.turn_entries(task)?;
+        self.turn_bounds(left)?;
+        Ok(Some(Best {
+            delivery: first.delivery,
+            hops: left + 1,
+        }))
+    }
+}
