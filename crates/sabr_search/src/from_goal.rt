@@ -76,10 +76,11 @@ impl<A: Allocator + Copy> Layers<A> {
         ensures told { OnOk result ((n t w b : ℕ) → HasNumber from.entry.passes.now n → Takes task.now n from.entry.node t w b → b < before → soonest arrival.now delivery from.entry.node ≤ t → t < slice_index self.new.late.items from.entry.node) }
     {
         let latest = self.late[from.node];
-        if before <= latest {
+        let since = soonest_at(arrival, delivery, from.node);
+        let least = latest.max(since);
+        if before <= least {
             return Ok(());
         }
-        let since = soonest_at(arrival, delivery, from.node);
         let last = task.leave_over(looks, from.node, to, from.passes, since, before, latest);
         if last <= latest || last <= since {
             return Ok(());

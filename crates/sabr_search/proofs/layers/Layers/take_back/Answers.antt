@@ -17,6 +17,12 @@ returns-then-last-latest-clause-told g c = λ n t w b has s less soon.
       | then-last-latest-via-else-last-latest+then-last-since z ↦ absurd (omega (arith, sooner, soon, c.soonest_at-since.ensures, z.if-last-since.true))
     ]
 
+pub returns-then-before-least-clause-told : goal.returns-then-before-least-clause-told
+returns-then-before-least-clause-told g c = λ n t w b has s less soon.
+    let latest : c.index-latest.result.now ≡ slice_index c.args.self.now.late.items c.args.from.node = read_at c.args.self.now.late.items c.args.from.node c.index-latest.result.now (omega (arith, c.requires.node, c.requires.lists.many)) c.index-latest.ensures in
+    let after : t ≤ b = (takes_timely c.args.task.now c.requires.task.nodes).later n c.args.from.node t w b s in
+    omega (arith, after, less, soon, latest, c.soonest_at-since.ensures, c.if-before-least.true, c.max-least.ensures)
+
 pub returns-clause-lists : goal.returns-clause-lists
 returns-clause-lists g c =
     let latest : c.index-latest.result.now ≡ slice_index c.args.self.now.late.items c.args.from.node = read_at c.args.self.now.late.items c.args.from.node c.index-latest.result.now (omega (arith, c.requires.node, c.requires.lists.many)) c.index-latest.ensures in
