@@ -3,6 +3,8 @@
 ghost use Rattle.std.specs.Prelude.{◌≤◌, All, IfOk};
 ghost use Rattle.sabr_session.specs.ReportText.{HasSpelledTimes};
 
+mod lines;
+
 use crate::{write_report, write_route};
 use pieces::LimitedWriter;
 use sabr_model::{Numbers, Route};
