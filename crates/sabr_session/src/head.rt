@@ -1,6 +1,6 @@
 //! The first six lines of a session text.
 
-ghost use Rattle.std.specs.Prelude.{◌≡◌, ◌≢◌, MatchResult, MatchOption, IfErr, Ok, Err};
+ghost use Rattle.std.specs.Prelude.{◌≡◌, MatchResult, OnErr, Ok, Err};
 ghost use Rattle.std.specs.Str.{bytes_eq};
 ghost use Rattle.hex.specs.Hex.{encode_lower};
 ghost use Rattle.sabr_session.specs.SessionRead.{nothing_said, asked, header_said, digest_said, request_said, emitted_said, last_said, count_said};
@@ -14,12 +14,11 @@ use sabr_model::{Numbers, Request};
 use std::alloc::Allocator;
 use std::marker::Model;
 
-/// What the first six lines say. What none of them has said is 0 or empty.
+/// What the first six lines say but for the request. What none of them has said is 0 or empty.
 #[derive(Drop)]
 pub(crate) struct Head<A: Allocator + Copy> {
     alloc: A,
     version: Version,
-    request: Option<Request>,
     emitted: u128,
     last: Numbers<A>,
     count: u64,
@@ -27,13 +26,12 @@ pub(crate) struct Head<A: Allocator + Copy> {
 
 impl<A: Allocator + Copy> Model for Head<A> {
     ghost use Rattle.std.specs.Prelude.{[]};
-    ghost use Rattle.std.specs.Option.{option_map_or};
     ghost use Rattle.sabr_model.specs.Asking.{unlimited};
     ghost use Rattle.sabr_session.specs.SessionRead.{Said};
 
     ghost Value = { Said };
 
-    ghost view = { λ h. record { version = h.version; request = option_map_or (λ r. r) h.request (unlimited 0 0 0 0); emitted = h.emitted; last_route = h.last; count = h.count; parts = [] } };
+    ghost view = { λ h. record { version = h.version; request = unlimited 0 0 0 0; emitted = h.emitted; last_route = h.last; count = h.count; parts = [] } };
 }
 
 /// Whether the digits are those of the digest.
@@ -66,7 +64,6 @@ impl<A: Allocator + Copy> Head<A> {
         Head {
             alloc,
             version: Version::Two,
-            request: None,
             emitted: 0,
             last: Numbers::new(Vec::new(alloc)),
             count: 0,
@@ -74,8 +71,9 @@ impl<A: Allocator + Copy> Head<A> {
     }
 
     /// Takes in line 1.
-    pub(crate) fn header(&mut self, line: &[u8]) -> Result<(), SessionFault>
-        ensures { Leaves (header_said self.old line.now) result self.new }
+    pub(crate) fn read_header(&mut self, line: &[u8]) -> Result<(), SessionFault>
+        ensures value { Leaves (header_said self.old line.now) result self.new }
+        ensures refused { OnErr result (self.new ≡ self.old) }
     {
         let Some(version) = header_of(line) else {
             return Err(SessionFault::BadHeader);
@@ -85,8 +83,9 @@ impl<A: Allocator + Copy> Head<A> {
     }
 
     /// Takes in line 2, over a plan of this digest.
-    pub(crate) fn digest(&mut self, digest: &[u8; 32], line: &[u8]) -> Result<(), SessionFault>
-        ensures { Leaves (digest_said digest.now self.old line.now) result self.new }
+    pub(crate) fn read_digest(&mut self, digest: &[u8; 32], line: &[u8]) -> Result<(), SessionFault>
+        ensures value { Leaves (digest_said digest.now self.old line.now) result self.new }
+        ensures refused { OnErr result (self.new ≡ self.old) }
     {
         let Some(digits) = digest_named(line) else {
             return Err(SessionFault::BadLine(2));
@@ -97,21 +96,20 @@ impl<A: Allocator + Copy> Head<A> {
         Ok(())
     }
 
-    /// Takes in line 3.
-    pub(crate) fn request(&mut self, line: &[u8]) -> Result<(), SessionFault>
-        ensures { Leaves (request_said self.old line.now) result self.new }
+    /// The request of line 3.
+    pub(crate) fn read_request(&self, line: &[u8]) -> Result<Request, SessionFault>
+        ensures { MatchResult result (λ r. request_said self.now line.now ≡ Ok (record self.now { request = r })) (λ f. request_said self.now line.now ≡ Err f) }
     {
         let Some(values) = request_of(self.version, line) else {
             return Err(SessionFault::BadLine(3));
         };
-        let request = asked(&values)?;
-        self.request = Some(request);
-        Ok(())
+        asked(&values)
     }
 
     /// Takes in line 4.
-    pub(crate) fn emitted(&mut self, line: &[u8]) -> Result<(), SessionFault>
-        ensures { Leaves (emitted_said self.old line.now) result self.new }
+    pub(crate) fn read_emitted(&mut self, line: &[u8]) -> Result<(), SessionFault>
+        ensures value { Leaves (emitted_said self.old line.now) result self.new }
+        ensures refused { OnErr result (self.new ≡ self.old) }
     {
         let Some(emitted) = emitted_of(line) else {
             return Err(SessionFault::BadLine(4));
@@ -121,8 +119,9 @@ impl<A: Allocator + Copy> Head<A> {
     }
 
     /// Takes in line 5.
-    pub(crate) fn last(&mut self, line: &[u8]) -> Result<(), SessionFault>
-        ensures { Leaves (last_said self.old line.now) result self.new }
+    pub(crate) fn read_last(&mut self, line: &[u8]) -> Result<(), SessionFault>
+        ensures value { Leaves (last_said self.old line.now) result self.new }
+        ensures refused { OnErr result (self.new ≡ self.old) }
     {
         let Ok(listed) = last_listed(self.alloc, line) else {
             return Err(SessionFault::NoMemory);
@@ -135,13 +134,35 @@ impl<A: Allocator + Copy> Head<A> {
     }
 
     /// Takes in line 6.
-    pub(crate) fn count(&mut self, line: &[u8]) -> Result<(), SessionFault>
-        ensures { Leaves (count_said self.old line.now) result self.new }
+    pub(crate) fn read_count(&mut self, line: &[u8]) -> Result<(), SessionFault>
+        ensures value { Leaves (count_said self.old line.now) result self.new }
+        ensures refused { OnErr result (self.new ≡ self.old) }
     {
         let Some(count) = count_of(line) else {
             return Err(SessionFault::BadLine(6));
         };
         self.count = count;
         Ok(())
+    }
+
+    /// How many routes were given.
+    pub(crate) fn emitted(&self) -> u128
+        ensures { result ≡ self.now.emitted }
+    {
+        self.emitted
+    }
+
+    /// The last route given.
+    pub(crate) fn last(&self) -> &[u32]
+        ensures { result.now ≡ self.now.last_route }
+    {
+        self.last.as_slice()
+    }
+
+    /// How many parts there are to be.
+    pub(crate) fn count(&self) -> u64
+        ensures { result ≡ self.now.count }
+    {
+        self.count
     }
 }

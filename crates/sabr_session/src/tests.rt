@@ -1,4 +1,5 @@
 //! What no contract says: texts written over small plans, which were worked out by hand.
 
+mod lines;
 mod reports;
 mod sessions;
