@@ -7,3 +7,4 @@ mod SessionPieces
 mod SessionRowProofs
 mod Spellings
 mod TextsApart
+mod ShortStates

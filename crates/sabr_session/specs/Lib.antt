@@ -4,3 +4,4 @@ pub mod ReportText
 pub mod SessionText
 pub mod SessionRows
 pub mod SessionPieces
+pub mod TextLaws
