@@ -14,3 +14,4 @@ mod SessionRowProofs
 mod Spellings
 mod TextsApart
 pub mod SessionOutcomes
+mod ShortStates

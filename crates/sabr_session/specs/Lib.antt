@@ -9,3 +9,4 @@ pub mod SessionRead
 pub mod SessionFed
 pub mod SessionPieces
 pub mod SessionLeaving
+pub mod TextLaws

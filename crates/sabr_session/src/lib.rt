@@ -19,6 +19,7 @@ mod session_writing;
 #[cfg(test)]
 mod tests;
 mod text_buffer;
+mod text_laws;
 mod words;
 
 pub use numbers::{put_number, put_time};
@@ -26,4 +27,5 @@ pub use report::{put_route_line, write_report, write_route};
 pub use rows::texts_of_plan_a;
 pub use session_fault::SessionFault;
 pub use session_writing::write_session;
+pub use text_laws::texts_are_apart;
 pub use text_buffer::TextBuffer;
