@@ -6,3 +6,4 @@ pub mod CheckText
 pub mod Followed
 pub mod Explanation
 pub mod ExplanationRows
+pub mod SessionRuns

@@ -1,12 +1,13 @@
 //! Why a run ended early.
 
 ghost use Rattle.std.specs.Prelude.{◌≡◌};
-ghost use Rattle.cgrlist.specs.Messages.{status_of, failure_of_plan, failure_of_values};
+ghost use Rattle.cgrlist.specs.Messages.{status_of, failure_of_plan, failure_of_session, failure_of_values};
 
 use crate::status::Status;
 use crate::value_fault::ValueFault;
 use crate::value_name::ValueName;
 use sabr_plan::{PlanFault, PlanKind};
+use sabr_session::SessionFault;
 
 /// Why a run ended early. Each has a message and a status.
 #[derive(Clone, Copy, Debug, PartialEq, Eq)]
@@ -19,10 +20,18 @@ pub enum Failure {
     BadAvoid,
     /// The plan's file can't be opened.
     CannotOpenPlan,
+    /// The old session's file can't be opened.
+    CannotOpenSession,
+    /// The new session's file can't be made.
+    CannotMakeSession,
     /// A line of the plan is bad.
     PlanLine(PlanFault),
     /// The plan's reader failed.
     PlanRead,
+    /// The session's text is refused.
+    Session(SessionFault),
+    /// The session's reader failed.
+    SessionRead,
     /// A writer failed.
     Write,
     /// Memory was refused.
@@ -38,6 +47,17 @@ impl Failure {
             PlanKind::Read => Failure::PlanRead,
             PlanKind::NoMemory => Failure::NoMemory,
             _ => Failure::PlanLine(fault),
+        }
+    }
+
+    /// The failure that a refused session is.
+    pub fn of_session(fault: SessionFault) -> Failure
+        ensures { result ≡ failure_of_session fault }
+    {
+        match fault {
+            SessionFault::Read => Failure::SessionRead,
+            SessionFault::NoMemory => Failure::NoMemory,
+            _ => Failure::Session(fault),
         }
     }
 
@@ -60,7 +80,11 @@ impl Failure {
         match self {
             Failure::BadValue(_) | Failure::SameNode | Failure::BadAvoid => Status::Usage,
             Failure::PlanLine(_) => Status::Plan,
-            Failure::CannotOpenPlan | Failure::PlanRead | Failure::Write => Status::Io,
+            Failure::Session(_) => Status::Session,
+            Failure::CannotOpenPlan | Failure::CannotOpenSession | Failure::CannotMakeSession => {
+                Status::Io
+            }
+            Failure::PlanRead | Failure::SessionRead | Failure::Write => Status::Io,
             Failure::NoMemory => Status::Memory,
         }
     }

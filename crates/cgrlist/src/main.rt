@@ -2,6 +2,7 @@
 #![tactic(auto)]
 
 mod accepted;
+mod answer;
 mod check_run;
 mod check_text;
 mod command_line;

@@ -3,13 +3,14 @@
 ghost use Rattle.std.specs.Prelude.{◌≡◌, map};
 ghost use Rattle.std.specs.List.{concat};
 ghost use Rattle.sabr_model.specs.Devices.{WritesText};
-ghost use Rattle.cgrlist.specs.Messages.{kind_text, message_text, status_of, TellsText};
+ghost use Rattle.cgrlist.specs.Messages.{kind_text, session_kind_text, session_line, session_message, message_text, status_of, TellsText};
 
 use crate::failure::Failure;
 use crate::status::Status;
 use itoa::Buffer;
 use sabr_model::{Write, WriteFault, write_text};
 use sabr_plan::{PlanFault, PlanKind};
+use sabr_session::SessionFault;
 
 fn kind_text(kind: PlanKind) -> &'static str
     ensures { result.now ≡ kind_text kind }
@@ -53,6 +54,43 @@ fn write_plan_line<W: Write>(writer: &mut W, fault: PlanFault) -> Result<(), Wri
     write_texts(writer, &["cgrlist: plan line ", line, ": ", kind, "\n"])
 }
 
+fn session_kind_text(fault: SessionFault) -> &'static str
+    ensures { result.now ≡ session_kind_text fault }
+{
+    match fault {
+        SessionFault::BadHeader => "BadHeader",
+        SessionFault::BadLine(_) => "BadLine",
+        SessionFault::OtherPlan => "OtherPlan",
+        SessionFault::BadRequest => "BadRequest",
+        SessionFault::NotClosed => "NotClosed",
+        SessionFault::BadRoute(_) => "BadRoute",
+        SessionFault::BadCount => "BadCount",
+        SessionFault::Read => "Read",
+        SessionFault::NoMemory => "NoMemory",
+    }
+}
+
+fn session_line(fault: SessionFault) -> Option<u128>
+    ensures { result ≡ session_line fault }
+{
+    match fault {
+        SessionFault::BadLine(line) | SessionFault::BadRoute(line) => Some(line),
+        _ => None,
+    }
+}
+
+fn write_session_fault<W: Write>(writer: &mut W, fault: SessionFault) -> Result<(), WriteFault>
+    ensures { WritesText (W.contents writer.old) (W.failures writer.old) (session_message fault) result (W.contents writer.new) (W.failures writer.new) }
+{
+    let kind = session_kind_text(fault);
+    let Some(number) = session_line(fault) else {
+        return write_texts(writer, &["cgrlist: session: ", kind, "\n"]);
+    };
+    let mut buffer = Buffer::new();
+    let line = buffer.format(number);
+    write_texts(writer, &["cgrlist: session line ", line, ": ", kind, "\n"])
+}
+
 fn write_message<W: Write>(writer: &mut W, failure: Failure) -> Result<(), WriteFault>
     ensures { WritesText (W.contents writer.old) (W.failures writer.old) (message_text failure) result (W.contents writer.new) (W.failures writer.new) }
 {
@@ -61,8 +99,14 @@ fn write_message<W: Write>(writer: &mut W, failure: Failure) -> Result<(), Write
         Failure::SameNode => write_text(writer, b"cgrlist: request: SameNode\n"),
         Failure::BadAvoid => write_text(writer, b"cgrlist: request: BadAvoid\n"),
         Failure::CannotOpenPlan => write_text(writer, b"cgrlist: cannot open the plan\n"),
+        Failure::CannotOpenSession => write_text(writer, b"cgrlist: cannot open the session\n"),
+        Failure::CannotMakeSession => {
+            write_text(writer, b"cgrlist: cannot make the session file\n")
+        }
         Failure::PlanLine(fault) => write_plan_line(writer, fault),
         Failure::PlanRead => write_text(writer, b"cgrlist: plan: read failed\n"),
+        Failure::Session(fault) => write_session_fault(writer, fault),
+        Failure::SessionRead => write_text(writer, b"cgrlist: session: read failed\n"),
         Failure::Write => write_text(writer, b"cgrlist: write failed\n"),
         Failure::NoMemory => write_text(writer, b"cgrlist: no memory\n"),
     }

@@ -4,6 +4,7 @@ mod checks;
 mod devices;
 mod explanations;
 mod listings;
+mod messages;
 mod plans;
 mod refusals;
 mod running;

@@ -17,3 +17,12 @@ returns-in-Write g c = rw c.in-Write.is c.write_text-in-Write.ensures
 
 pub returns-in-NoMemory : goal.returns-in-NoMemory
 returns-in-NoMemory g c = rw c.in-NoMemory.is c.write_text-in-NoMemory.ensures
+
+pub returns-in-CannotOpenSession : goal.returns-in-CannotOpenSession
+returns-in-CannotOpenSession g c = rw c.in-CannotOpenSession.is c.write_text-in-CannotOpenSession.ensures
+
+pub returns-in-CannotMakeSession : goal.returns-in-CannotMakeSession
+returns-in-CannotMakeSession g c = rw c.in-CannotMakeSession.is c.write_text-in-CannotMakeSession.ensures
+
+pub returns-in-SessionRead : goal.returns-in-SessionRead
+returns-in-SessionRead g c = rw c.in-SessionRead.is c.write_text-in-SessionRead.ensures
