@@ -8,6 +8,7 @@ use sabr_session::SessionFault;
 use std::test::Fail;
 
 /// A failure, the message behind the program's name, and the status.
+#[derive(Clone, Copy)]
 struct Row {
     failure: Failure,
     message: &'static str,
