@@ -1,6 +1,6 @@
 -- What comes of a session text, one piece after the other.
-use Rattle.std.proofs.Common.{◌≡◌, ◌≢◌, ℕ, suc, ◌+◌, ◌<◌, Bool, true, false, ◌&&◌, ◌||◌, not, eqb, ltb, List, [], ◌∷◌, ◌++◌, length, refl, sym, ap, ◌∙◌, arith, append_assoc, append-nil, length-append, Result, Ok, Err}
-use borrow.Author.Tests.{lt-ltb, le-ltb, ltb-true, ltb-false}
+use Rattle.std.proofs.Common.{◌≡◌, ℕ, suc, ◌+◌, ◌<◌, Bool, true, false, ◌&&◌, ◌||◌, not, eqb, ltb, List, [], ◌∷◌, ◌++◌, length, refl, sym, ap, ◌∙◌, arith, append_assoc, append-nil, length-append, Result, Ok, Err}
+use borrow.Author.Tests.{lt-ltb, ltb-true, ltb-false}
 use Rattle.std.proofs.lemmas.Bool.Decides.{nat_tests}
 use Rattle.std.proofs.lemmas.List.Folds.{list_all-append}
 use Rattle.std.specs.Prelude.{if◌then◌else◌}
@@ -10,7 +10,7 @@ use Rattle.sabr_plan.specs.Words.{TextLines, is_one_line, has_bytes, lines_of}
 use Rattle.sabr_plan.proofs.Lines.{in_front, lines_of-front, lines_of-one, lines_of-line}
 use Rattle.sabr_session.specs.declared.session_fault.SessionFault.{SessionFault}
 use Rattle.sabr_session.specs.declared.session_fault.SessionFault.TheVariants as fault
-use Rattle.sabr_session.specs.SessionRead.{Said, nothing_said, misspelled, line_said, read_line, read_lines, is_behind, last_line, end_said, said_of}
+use Rattle.sabr_session.specs.SessionRead.{Said, nothing_said, misspelled, line_said, read_line, read_lines, is_behind, last_line, said_of}
 use Rattle.sabr_session.specs.SessionFed.{SessionFed, nothing_fed, outcome}
 
 -- a step after two steps

@@ -1,5 +1,5 @@
 -- A session text that is read in pieces: what was read so far, and what comes of the text.
-use Rattle.std.specs.Prelude.{◌≡◌, ◌≢◌, ℕ, ◌+◌, Bool, false, List, [], ◌++◌, length, Result, Ok, Err, ◌⊎◌}
+use Rattle.std.specs.Prelude.{◌≡◌, ◌≢◌, ℕ, ◌+◌, Bool, List, [], ◌++◌, length, Result, Ok, Err, ◌⊎◌}
 use Rattle.sabr_model.specs.Plan.{ContactPlan}
 use Rattle.sabr_plan.specs.Steps.{and_then}
 use Rattle.sabr_plan.specs.Words.{lines_of}
