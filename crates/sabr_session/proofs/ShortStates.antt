@@ -80,7 +80,7 @@ module _ (p : ContactPlan) (r : RouteRequest) (good : IsPlan p) where
     excluded_low : (t : PartState) → Member t s.parts → AreLow t.excluded
     excluded_low t m =
         low_from t.excluded (λ x k.
-          (low_back t.prefix (x ∷ []) (path_low (t.prefix ++ x ∷ []) (is.closed.below t.prefix t.excluded x (Member-map pair_of t s.parts m) (Number_has x t.excluded k)).0)).0)
+        (low_back t.prefix (x ∷ []) (path_low (t.prefix ++ x ∷ []) (is.closed.below t.prefix t.excluded x (Member-map pair_of t s.parts m) (Number_has x t.excluded k)).0)).0)
 
     carried_short : (t : PartState) → Member t s.parts → (o : Option (List ℕ)) → t.carried ≡ o → AreShort (unwrap_or o [])
     carried_short t m None e = tt
