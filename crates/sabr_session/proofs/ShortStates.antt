@@ -1,7 +1,7 @@
 -- The numbers of accepted requests and of well-formed states over a plan have at most 64 digits.
-use Rattle.std.proofs.Common.{◌≡◌, ℕ, ◌+◌, ◌*◌, ◌<◌, ◌≤◌, ◌^◌, Bool, true, false, cond, ◌⊎◌, inl, inr, List, [], ◌∷◌, ◌++◌, map, filter, length, refl, sym, ap, subst, ◌∙◌, arith, Option, Some, None, is_some, unwrap_or}
+use Rattle.std.proofs.Common.{◌≡◌, ℕ, ◌+◌, ◌*◌, ◌<◌, ◌≤◌, ◌^◌, Bool, true, false, cond, ◌⊎◌, inl, inr, List, [], ◌∷◌, ◌++◌, map, filter, length, refl, sym, subst, arith, Option, Some, None, is_some, unwrap_or}
 use Rattle.std.specs.List.{AllByRecursion, flat_map}
-use Rattle.std.specs.Ordering.{nat_cmp, MatchOrdering}
+use Rattle.std.specs.Ordering.{nat_cmp}
 use Rattle.std.specs.declared.cmp.Ordering.TheVariants.{Less, Equal, Greater}
 use Rattle.std.proofs.lemmas.Bool.{and_parts}
 use Rattle.std.proofs.lemmas.Cmp.{ranked}
@@ -17,10 +17,9 @@ use Rattle.sabr_model.proofs.Begins.{first_hop}
 use Rattle.sabr_model.proofs.Listed.{named_is}
 use Rattle.sabr_model.proofs.Paths.{path_facts}
 use Rattle.sabr_model.proofs.Routes.{route_facts}
-use Rattle.sabr_frontier.specs.Rising.{has, Below, Rises}
+use Rattle.sabr_frontier.specs.Rising.{has, Rises}
 use Rattle.sabr_frontier.specs.Tree.{set_of}
 use Rattle.sabr_frontier.specs.State.{PartState, State, pair_of, Member, leaves_of, leaves}
-use Rattle.sabr_frontier.specs.Formed.{IsWellFormed}
 use Rattle.sabr_frontier.specs.Listing.{IsState}
 use Rattle.sabr_frontier.proofs.Closed.{Number_has, leaves_has}
 use Rattle.sabr_frontier.proofs.Members.{Member-map}
@@ -81,7 +80,7 @@ module _ (p : ContactPlan) (r : RouteRequest) (good : IsPlan p) where
     excluded_low : (t : PartState) → Member t s.parts → AreLow t.excluded
     excluded_low t m =
         low_from t.excluded (λ x k.
-          (low_back t.prefix (x ∷ []) (path_low (t.prefix ++ x ∷ []) (is.closed.below t.prefix t.excluded x (Member-map pair_of t s.parts m) (Number_has x t.excluded k)).0)).0)
+        (low_back t.prefix (x ∷ []) (path_low (t.prefix ++ x ∷ []) (is.closed.below t.prefix t.excluded x (Member-map pair_of t s.parts m) (Number_has x t.excluded k)).0)).0)
 
     carried_short : (t : PartState) → Member t s.parts → (o : Option (List ℕ)) → t.carried ≡ o → AreShort (unwrap_or o [])
     carried_short t m None e = tt

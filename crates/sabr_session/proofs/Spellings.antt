@@ -106,7 +106,7 @@ spaced_parted (x ∷ xs) [] u v s t p q e =
 spaced_parted (x ∷ xs) (y ∷ ys) u v s t p q e =
     let behind : (decimal x ++ spaced_behind xs) ++ u ≡ (decimal y ++ spaced_behind ys) ++ v = cc in
     let first = number_parted x y (spaced_behind xs ++ u) (spaced_behind ys ++ v) s.0 t.0 (spaced_stops xs u p) (spaced_stops ys v q)
-          (sym (append_assoc (decimal x) (spaced_behind xs) u) ∙ behind ∙ append_assoc (decimal y) (spaced_behind ys) v) in
+    (sym (append_assoc (decimal x) (spaced_behind xs) u) ∙ behind ∙ append_assoc (decimal y) (spaced_behind ys) v) in
     let rest = spaced_parted xs ys u v s.1 t.1 p q first.1 in
     (ap (λ z. z ∷ xs) first.0 ∙ ap (λ zs. y ∷ zs) rest.0, rest.1)
 
@@ -119,7 +119,7 @@ list_parted (x ∷ xs) [] u v s t p q e =
     absurd (not_numeric (decimal x) (spaced_behind xs ++ u) 45 v (decimal_is_numeric x s.0) (omega arith) (sym (append_assoc (decimal x) (spaced_behind xs) u) ∙ e))
 list_parted (x ∷ xs) (y ∷ ys) u v s t p q e =
     let first = number_parted x y (spaced_behind xs ++ u) (spaced_behind ys ++ v) s.0 t.0 (spaced_stops xs u p) (spaced_stops ys v q)
-          (sym (append_assoc (decimal x) (spaced_behind xs) u) ∙ e ∙ append_assoc (decimal y) (spaced_behind ys) v) in
+    (sym (append_assoc (decimal x) (spaced_behind xs) u) ∙ e ∙ append_assoc (decimal y) (spaced_behind ys) v) in
     let rest = spaced_parted xs ys u v s.1 t.1 p q first.1 in
     (ap (λ z. z ∷ xs) first.0 ∙ ap (λ zs. y ∷ zs) rest.0, rest.1)
 

@@ -64,12 +64,12 @@ asked_parted : (r q : RouteRequest) (c d : ℕ) (u v : List ℕ) → RequestIsSh
     → asked_onto r (c ∷ u) ≡ asked_onto q (d ∷ v) → IsSameAsked r q × (c ∷ u ≡ d ∷ v)
 asked_parted r q c d u v a b h k e =
     let source = number_parted r.source q.source (codes " " ++ (decimal r.destination ++ (codes " " ++ (time_text_of r.at ++ (codes " " ++ (decimal r.margin ++ (c ∷ u)))))))
-          (codes " " ++ (decimal q.destination ++ (codes " " ++ (time_text_of q.at ++ (codes " " ++ (decimal q.margin ++ (d ∷ v))))))) a.source b.source (omega arith) (omega arith) e in
+    (codes " " ++ (decimal q.destination ++ (codes " " ++ (time_text_of q.at ++ (codes " " ++ (decimal q.margin ++ (d ∷ v))))))) a.source b.source (omega arith) (omega arith) e in
     let destination = number_parted r.destination q.destination (codes " " ++ (time_text_of r.at ++ (codes " " ++ (decimal r.margin ++ (c ∷ u)))))
-          (codes " " ++ (time_text_of q.at ++ (codes " " ++ (decimal q.margin ++ (d ∷ v))))) a.destination b.destination (omega arith) (omega arith)
-          (append_cancel_left (codes " ") _ _ source.1) in
+    (codes " " ++ (time_text_of q.at ++ (codes " " ++ (decimal q.margin ++ (d ∷ v))))) a.destination b.destination (omega arith) (omega arith)
+    (append_cancel_left (codes " ") _ _ source.1) in
     let time = time_parted r.at q.at (codes " " ++ (decimal r.margin ++ (c ∷ u))) (codes " " ++ (decimal q.margin ++ (d ∷ v))) a.time b.time
-          (append_cancel_left (codes " ") _ _ destination.1) in
+    (append_cancel_left (codes " ") _ _ destination.1) in
     let margin = number_parted r.margin q.margin (c ∷ u) (d ∷ v) a.margin b.margin h k (append_cancel_left (codes " ") _ _ time.1) in
     ((source.0, destination.0, time.0, margin.0), margin.1)
 
@@ -82,9 +82,9 @@ request_parted r q u v a b e =
     let hops = number_parted r.max_hops q.max_hops (behind_hops r u) (behind_hops q v) a.hops b.hops (omega arith) (omega arith) (append_cancel_left (codes " ") _ _ asked.1) in
     let nodes = list_parted r.avoided q.avoided (codes "\n" ++ u) (codes "\n" ++ v) a.nodes b.nodes (u, inl refl) (v, inl refl) (append_cancel_left (codes " / ") _ _ hops.1) in
     let same : ◌≡◌ {A = RouteRequest}
-          (record { source = r.source; destination = r.destination; at = r.at; margin = r.margin; max_hops = r.max_hops; avoided = r.avoided })
-          (record { source = q.source; destination = q.destination; at = q.at; margin = q.margin; max_hops = q.max_hops; avoided = q.avoided })
-        = rw (asked.0.0, asked.0.1, asked.0.2, asked.0.3, hops.0, nodes.0) refl in
+    (record { source = r.source; destination = r.destination; at = r.at; margin = r.margin; max_hops = r.max_hops; avoided = r.avoided })
+    (record { source = q.source; destination = q.destination; at = q.at; margin = q.margin; max_hops = q.max_hops; avoided = q.avoided })
+    = rw (asked.0.0, asked.0.1, asked.0.2, asked.0.3, hops.0, nodes.0) refl in
     (same, append_cancel_left (codes "\n") u v nodes.1)
 
 -- the routes of parts, `-` for none
@@ -111,7 +111,7 @@ part_parted t s u v a b e =
     let least = list_parted (unwrap_or t.carried []) (unwrap_or s.carried []) (codes "\n" ++ u) (codes "\n" ++ v) a.least b.least (u, inl refl) (v, inl refl) (append_cancel_left (codes " / ") _ _ shut.1) in
     let route = same_carried t.carried s.carried a.longer b.longer least.0 in
     let same : ◌≡◌ {A = PartState} (record { prefix = t.prefix; excluded = t.excluded; carried = t.carried }) (record { prefix = s.prefix; excluded = s.excluded; carried = s.carried })
-        = rw (front.0, shut.0, route) refl in
+    = rw (front.0, shut.0, route) refl in
     (same, append_cancel_left (codes "\n") u v least.1)
 
 first_byte : List ℕ → ℕ
@@ -148,7 +148,7 @@ state_parted s t a b e =
     let count = number_parted (length s.parts) (length t.parts) (behind_count s) (behind_count t) a.count b.count (omega arith) (omega arith) (append_cancel_left (codes "\nparts ") _ _ latest.1) in
     let each = lines_parted s.parts t.parts a.each b.each (append_cancel_left (codes "\n") _ _ count.1) in
     let same : ◌≡◌ {A = State} (record { emitted = s.emitted; last = s.last; parts = s.parts }) (record { emitted = t.emitted; last = t.last; parts = t.parts })
-        = rw (given.0, latest.0, each) refl in
+    = rw (given.0, latest.0, each) refl in
     same
 
 -- texts in version 2
