@@ -10,6 +10,11 @@ pub mod NextPlace
 pub mod Certified
 pub mod Formed
 pub mod Owed
+pub mod GoesOn
+pub mod Answering
+pub mod Judges
+pub mod PartRefusals
+pub mod Loads
 pub mod Forget
 pub mod Paths
 pub mod Listed

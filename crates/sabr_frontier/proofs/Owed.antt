@@ -8,6 +8,7 @@ use Rattle.sabr_model.specs.Parts.{number_after}
 use Rattle.sabr_frontier.specs.Rising.{has, Below, Rises}
 use Rattle.sabr_frontier.specs.State.{Member}
 use Rattle.sabr_frontier.specs.Formed.{IsClosed, InOrder}
+use Rattle.sabr_frontier.specs.Owing.{Owing, onward, IsGood, Owes}
 use Rattle.sabr_frontier.proofs.Rising.{true_or_false}
 use Rattle.sabr_frontier.proofs.Beginnings.{number_after-of_snoc, number_after-nil, number_after-split}
 use Rattle.sabr_frontier.proofs.Members.{Member-map, Member-map_cases, Member-filter, Member-filter_cases, Member-append_left, Member-append_right, Member-append_cases, Below-member, Less-apart}
@@ -15,46 +16,30 @@ use Rattle.sabr_frontier.proofs.Closed.{Number_has, has_Number}
 use Rattle.sabr_frontier.proofs.Leaves.{Pairs}
 use Rattle.sabr_frontier.proofs.Division.{begins_less, above_longer}
 
-abbrev pub Owing : Type 0
-Owing = List (List ℕ)
-
 module _ (route chain : List ℕ → Bool) where
-  -- the prefixes that a pair asks for: an excluded number that makes no route
-  abbrev pub onward : List ℕ × List ℕ → Owing
-  onward e = filter (λ q. not (route q)) (map (λ x. e.0 ++ x ∷ []) e.1)
-
-  pub record IsGood (e : List ℕ × List ℕ) : Type 0 where
-    pub busy : (e.0 ≡ []) ⊎ ((x : ℕ) × (has nat_cmp x e.1 ≡ true))
-    pub chains : (x : ℕ) → has nat_cmp x e.1 ≡ true → chain (e.0 ++ x ∷ []) ≡ true
-
-  -- from these owed the pairs lead to those owed
-  abbrev pub Owes : Owing → Pairs → Owing → Type 0
-  Owes os [] end = os ≡ end
-  Owes os (e ∷ T) end = (rest : Owing) × (os ≡ e.0 ∷ rest) × IsGood e × Owes (onward e ++ rest) T end
-
   -- one pair more
-  pub Owes-push : (T : Pairs) (os mid end : Owing) (e : List ℕ × List ℕ) → Owes os T mid → Owes mid (e ∷ []) end → Owes os (T ++ e ∷ []) end
-  Owes-push [] os mid end e a b = subst (λ z. Owes z (e ∷ []) end) (sym a) b
-  Owes-push (f ∷ T) os mid end e a b = (a.0, a.1, a.2, Owes-push T (onward f ++ a.0) mid end e a.3 b)
+  pub Owes-push : (T : Pairs) (os mid end : Owing) (e : List ℕ × List ℕ) → Owes route chain os T mid → Owes route chain mid (e ∷ []) end → Owes route chain os (T ++ e ∷ []) end
+  Owes-push [] os mid end e a b = subst (λ z. Owes route chain z (e ∷ []) end) (sym a) b
+  Owes-push (f ∷ T) os mid end e a b = (a.0, a.1, a.2, Owes-push T (onward route chain f ++ a.0) mid end e a.3 b)
 
-  pub Owes-front : (T : Pairs) (os end : Owing) (e : List ℕ × List ℕ) → Owes os (T ++ e ∷ []) end → (mid : Owing) × Owes os T mid × Owes mid (e ∷ []) end
+  pub Owes-front : (T : Pairs) (os end : Owing) (e : List ℕ × List ℕ) → Owes route chain os (T ++ e ∷ []) end → (mid : Owing) × Owes route chain os T mid × Owes route chain mid (e ∷ []) end
   Owes-front [] os end e a = (os, refl, a)
-  Owes-front (f ∷ T) os end e a = let w = Owes-front T (onward f ++ a.0) end e a.3 in (w.0, (a.0, a.1, a.2, w.1), w.2)
+  Owes-front (f ∷ T) os end e a = let w = Owes-front T (onward route chain f ++ a.0) end e a.3 in (w.0, (a.0, a.1, a.2, w.1), w.2)
 
   -- at most one list is owed
-  pub Owes-one : (T : Pairs) (os a b : Owing) → Owes os T a → Owes os T b → a ≡ b
+  pub Owes-one : (T : Pairs) (os a b : Owing) → Owes route chain os T a → Owes route chain os T b → a ≡ b
   Owes-one [] os a b p q = sym p ∙ q
   Owes-one (e ∷ T) os a b p q =
       let same : p.0 ≡ q.0 = let h : e.0 ∷ p.0 ≡ e.0 ∷ q.0 = sym p.1 ∙ q.1 in cc in
-      Owes-one T (onward e ++ p.0) a b p.3 (subst (λ z. Owes (onward e ++ z) T b) (sym same) q.3)
+      Owes-one T (onward route chain e ++ p.0) a b p.3 (subst (λ z. Owes route chain (onward route chain e ++ z) T b) (sym same) q.3)
 
-  onward_cases : (o : List ℕ) (e : List ℕ × List ℕ) → Member o (onward e) → (x : ℕ) × (o ≡ e.0 ++ x ∷ []) × (has nat_cmp x e.1 ≡ true) × (route o ≡ false)
+  onward_cases : (o : List ℕ) (e : List ℕ × List ℕ) → Member o (onward route chain e) → (x : ℕ) × (o ≡ e.0 ++ x ∷ []) × (has nat_cmp x e.1 ≡ true) × (route o ≡ false)
   onward_cases o e m =
       let f = Member-filter_cases (λ q. not (route q)) o (map (λ x. e.0 ++ x ∷ []) e.1) m in
       let v = Member-map_cases (λ x. e.0 ++ x ∷ []) o e.1 f.1 in
       (v.0, v.1, Number_has v.0 e.1 v.2, elim (route o) as (λ b. not b ≡ true → b ≡ false) [ true ↦ λ h. absurd (true≢false (sym h)) | false ↦ λ _. refl ] f.0)
 
-  onward_has : (o : List ℕ) (x : ℕ) (e : List ℕ × List ℕ) → o ≡ e.0 ++ x ∷ [] → has nat_cmp x e.1 ≡ true → route o ≡ false → Member o (onward e)
+  onward_has : (o : List ℕ) (x : ℕ) (e : List ℕ × List ℕ) → o ≡ e.0 ++ x ∷ [] → has nat_cmp x e.1 ≡ true → route o ≡ false → Member o (onward route chain e)
   onward_has o x e is h out = Member-filter (λ q. not (route q)) o (map (λ x. e.0 ++ x ∷ []) e.1) (ap not out) (subst (λ z. Member z (map (λ x. e.0 ++ x ∷ []) e.1)) (sym is) (Member-map (λ x. e.0 ++ x ∷ []) x e.1 (has_Number x e.1 h)))
 
 module _ (route chain fits : List ℕ → Bool) (fits_nil : fits [] ≡ true)

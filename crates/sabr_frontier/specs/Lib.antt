@@ -2,6 +2,7 @@ pub mod Rising
 pub mod Tree
 pub mod State
 pub mod Formed
+pub mod Owing
 pub mod Step
 pub mod Listing
 pub mod Shape
@@ -16,5 +17,7 @@ pub mod Session
 pub mod Views
 pub mod Root
 pub mod Fresh
+pub mod Loading
+pub mod Holding
 pub mod Laws
 pub mod Rows

@@ -1,14 +1,20 @@
 //! Parts of a listing of routes, divided as routes are given.
 #![tactic(auto)]
 
+mod carrying;
 mod certify;
 mod change;
 mod divide;
 mod excluded;
 mod finder;
 mod gather;
+mod held;
+mod judge;
 mod laws;
+mod load_fault;
+mod loader;
 mod places;
+mod record;
 mod root;
 mod rows;
 mod session;
@@ -20,6 +26,8 @@ mod undo;
 mod views;
 
 pub use laws::{law4, law5, law6};
+pub use load_fault::LoadFault;
+pub use loader::Loader;
 pub use rows::{states_of_plan_a, states_of_plan_c, steps_of_plan_a};
 pub use session::Session;
 pub use views::{PartView, Parts};

@@ -5,6 +5,9 @@ ghost use Rattle.sabr_model.specs.Record.{record_of};
 ghost use Rattle.sabr_frontier.specs.Fresh.{GivesNewRoutes};
 ghost use Rattle.sabr_frontier.specs.Listing.{next_route, searches_in, state_at, steps};
 ghost use Rattle.sabr_frontier.specs.Session.{former_then, told_part};
+ghost use Rattle.sabr_frontier.specs.Shape.{shape_of, shown};
+ghost use Rattle.sabr_frontier.specs.Sound.{IsTree};
+ghost use Rattle.sabr_frontier.specs.Undo.{IsRoomy};
 ghost use Rattle.sabr_frontier.specs.Views.{told_left};
 
 use crate::finder::ask;
@@ -67,6 +70,33 @@ impl<'p, B: BestOf<A>, A: Allocator + Copy> Session<'p, B, A> {
             pages: Vec::new(alloc),
             searches: 1,
         })
+    }
+
+    /// A session over a tree that no page has changed.
+    pub(crate) fn of_tree(
+        alloc: A,
+        plan: &'p Plan<A>,
+        request: Request,
+        finder: B,
+        tree: Tree<A>,
+    ) -> Session<'p, B, A>
+        requires sound { IsTree plan.now.plan request (shape_of tree) }
+        requires fresh { tree.journal.items ≡ [] }
+        requires room { IsRoomy tree }
+        ensures { result ≡ record { plan = plan.now; request = request; state = shown (shape_of tree); former = []; searches = 0 } }
+    {
+        // contracts learn here that the plan and the request keep their rules
+        let _ = plan.contacts();
+        let _ = request.max_hops();
+        Session {
+            alloc,
+            plan,
+            request,
+            finder,
+            tree,
+            pages: Vec::new(alloc),
+            searches: 0,
+        }
     }
 
     /// The next `count` routes, at most 10000, or all that are left if they are fewer. They come by key: by

@@ -2,6 +2,7 @@
 
 mod counts;
 mod listings;
+mod loading;
 mod memory;
 mod placed;
 mod plans;

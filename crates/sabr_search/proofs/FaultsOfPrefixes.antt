@@ -53,7 +53,7 @@ faults_are_no_end p r q (n ∷ s) h =
     ] refl h
 
 -- numbers whose end alone is wrong make a path
-wrong_end_is_path : (p : ContactPlan) (r : RouteRequest) (s : List ℕ) → fault_of p r s ≡ Some WrongEnd → IsTrue (is_path p r s)
+pub wrong_end_is_path : (p : ContactPlan) (r : RouteRequest) (s : List ℕ) → fault_of p r s ≡ Some WrongEnd → IsTrue (is_path p r s)
 wrong_end_is_path p r [] h = absurd cc
 wrong_end_is_path p r (n ∷ s) h =
     elim (first_fault p r [] (n ∷ s)) as (λ o. first_fault p r [] (n ∷ s) ≡ o → fault_or o (cond (ends_at p r (n ∷ s)) None (Some WrongEnd)) ≡ Some WrongEnd → IsTrue (is_path p r (n ∷ s))) [
@@ -69,7 +69,7 @@ wrong_end_tells p r s f node entered h wrong same tells =
     let passes : entered ≡ has r.destination (receivers p s) = tells ∙ ap (λ x. has x (receivers p s)) same in
     ap not passes ∙ ap (λ b. b && not (has r.destination (receivers p s))) (sym path)
 
-end_or_none : (b : Bool) (f : HopFault) → cond b None (Some WrongEnd) ≡ Some f → f ≡ WrongEnd
+pub end_or_none : (b : Bool) (f : HopFault) → cond b None (Some WrongEnd) ≡ Some f → f ≡ WrongEnd
 end_or_none true f h = absurd cc
 end_or_none false f h = cc
 

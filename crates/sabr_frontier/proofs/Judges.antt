@@ -1,0 +1,113 @@
+-- What a prefix leads to with its excluded numbers, one number after another.
+use Rattle.std.proofs.Common.{◌≡◌, ℕ, zero, suc, ◌+◌, ◌<◌, ◌≤◌, Bool, true, false, cond, not, List, [], ◌∷◌, ◌++◌, map, filter, take, get_or, length, refl, sym, ap, subst, ◌∙◌, ◌⊎◌, inl, inr, arith, true≢false, Some, None}
+use Rattle.std.specs.Prelude.{IsTrue, IfOk, IfSome, IfNone, Ok, Err, Result, Option, unwrap_or, ◌==◌}
+use Rattle.std.proofs.lemmas.Bool.Decides.{nat_tests}
+use Rattle.std.specs.Ordering.{nat_cmp}
+use Rattle.std.proofs.lemmas.Bool.{false_from_ne_true}
+use Rattle.std.proofs.lemmas.Cmp.{nat_cmp_total}
+use Rattle.std.proofs.lemmas.List.{take_more, take_all}
+use Rattle.std.proofs.lemmas.List.Elements.{filter-append}
+use Rattle.sabr_model.specs.declared.fault.HopFault.{HopFault}
+use Rattle.sabr_model.specs.declared.fault.HopFault.TheVariants.{WrongEnd}
+use Rattle.sabr_model.specs.Plan.{ContactPlan}
+use Rattle.sabr_model.specs.Arrival.{RouteRequest, arrival_after}
+use Rattle.sabr_model.specs.Route.{is_path, is_route, ends_at, until_of, entry_of}
+use Rattle.sabr_model.specs.Record.{RouteRecord, record_of}
+use Rattle.sabr_model.specs.Fault.{fault_of, fault_or}
+use Rattle.sabr_model.proofs.Faults.{fault_is_no_route, path_is_good}
+use Rattle.sabr_model.proofs.Paths.{route_is_path}
+use Rattle.sabr_search.proofs.FaultsOfPrefixes.{end_or_none, wrong_end_is_path}
+use Rattle.sabr_frontier.specs.declared.judge.Judged.{Judged}
+use Rattle.sabr_frontier.specs.Rising.{has}
+use Rattle.sabr_frontier.specs.State.{leaves_of}
+use Rattle.sabr_frontier.specs.Owing.{onward}
+use Rattle.sabr_frontier.specs.Holding.{AllGoOn, Holding, IsJudged, IsVerdict, is_due, onward_of, routes_of}
+use Rattle.sabr_frontier.proofs.Rising.{has-append, has_itself, or_cases}
+use Rattle.sabr_frontier.proofs.Beginnings.{numbers_exact}
+use Rattle.sabr_frontier.proofs.Members.{Member-append_right}
+use Rattle.sabr_frontier.proofs.Closed.{Number_has, has_Number}
+use Rattle.sabr_frontier.proofs.Division.{map-append}
+
+module _ (p : ContactPlan) (r : RouteRequest) where
+  -- ---- one list of numbers
+
+  -- a route
+  pub record_is : (s : List ℕ) (d : ℕ) → arrival_after p r r.at s ≡ Some d → record { contacts = s; delivery = d; until = until_of p s; entry = entry_of p s } ≡ record_of p r s
+  record_is s d e = ap (λ n. record { contacts = s; delivery = n; until = until_of p s; entry = entry_of p s }) (sym (ap (λ o. unwrap_or o 0) e))
+
+  pub route_alone : (s : List ℕ) → is_route p r s ≡ true → routes_of p r s ≡ s ∷ []
+  route_alone s h = ap (λ b. cond b (s ∷ []) []) h
+
+  pub route_not_onward : (s : List ℕ) → is_route p r s ≡ true → onward_of p r s ≡ []
+  route_not_onward s h = ap (λ b. cond (not b) (s ∷ []) []) h
+
+  -- a path that is no route
+  pub no_route_alone : (s : List ℕ) → is_route p r s ≡ false → routes_of p r s ≡ []
+  no_route_alone s h = ap (λ b. cond b (s ∷ []) []) h
+
+  pub onward_alone : (s : List ℕ) → is_route p r s ≡ false → onward_of p r s ≡ s ∷ []
+  onward_alone s h = ap (λ b. cond (not b) (s ∷ []) []) h
+
+  -- a list with another fault is no path
+  pub fault_is_no_path : (s : List ℕ) (f : HopFault) → 0 < length s → fault_of p r s ≡ Some f → (f ≡ WrongEnd → ⊥) → is_path p r s ≡ false
+  fault_is_no_path [] f some h other = absurd (omega arith)
+  fault_is_no_path (n ∷ s) f some h other = false_from_ne_true (is_path p r (n ∷ s)) (λ is.
+      other (end_or_none (ends_at p r (n ∷ s)) f (ap (λ o. fault_or o (cond (ends_at p r (n ∷ s)) None (Some WrongEnd))) (sym (path_is_good p r [] (n ∷ s) is)) ∙ h)))
+
+  -- ---- all of them
+
+  module _ (q X : List ℕ) (i : ℕ) (lt : i < length X) where
+    abbrev x : ℕ
+    x = get_or X i 0
+
+    more : take (i + 1) X ≡ take i X ++ x ∷ []
+    more = take_more X i 0 lt
+
+    leaves_more : leaves_of (is_route p r) (q, take (i + 1) X) ≡ leaves_of (is_route p r) (q, take i X) ++ routes_of p r (q ++ x ∷ [])
+    leaves_more = ap (λ Y. leaves_of (is_route p r) (q, Y)) more ∙ ap (filter (is_route p r)) (map-append (λ x. q ++ x ∷ []) (take i X) (x ∷ [])) ∙ filter-append (is_route p r) (map (λ x. q ++ x ∷ []) (take i X)) ((q ++ x ∷ []) ∷ [])
+
+    onward_more : onward (is_route p r) (is_path p r) (q, take (i + 1) X) ≡ onward (is_route p r) (is_path p r) (q, take i X) ++ onward_of p r (q ++ x ∷ [])
+    onward_more = ap (λ Y. onward (is_route p r) (is_path p r) (q, Y)) more ∙ ap (filter (λ q. not (is_route p r q))) (map-append (λ x. q ++ x ∷ []) (take i X) (x ∷ [])) ∙ filter-append (λ q. not (is_route p r q)) (map (λ x. q ++ x ∷ []) (take i X)) ((q ++ x ∷ []) ∷ [])
+
+    pub judged_more : {A : Type 0} (old new : Judged A) → IsJudged p r (q, take i X) old → new.leaves.items ≡ old.leaves.items ++ map (record_of p r) (routes_of p r (q ++ x ∷ [])) → new.onward.items ≡ old.onward.items ++ onward_of p r (q ++ x ∷ []) → IsJudged p r (q, take (i + 1) X) new
+    judged_more old new h a b = record {
+      leaves_are = a ∙ ap (λ z. z ++ map (record_of p r) (routes_of p r (q ++ x ∷ []))) h.leaves_are ∙ sym (map-append (record_of p r) (leaves_of (is_route p r) (q, take i X)) (routes_of p r (q ++ x ∷ []))) ∙ ap (map (record_of p r)) (sym leaves_more);
+      onward_are = b ∙ ap (λ z. z ++ onward_of p r (q ++ x ∷ [])) h.onward_are ∙ sym onward_more;
+    }
+
+    pub paths_more : AllGoOn p r (q, take i X) → is_path p r (q ++ x ∷ []) ≡ true → AllGoOn p r (q, take (i + 1) X)
+    paths_more h one y m = elim (or_cases (has nat_cmp y (take i X)) (has nat_cmp y (x ∷ [])) (sym (has-append nat_cmp_total y (take i X) (x ∷ [])) ∙ ap (has nat_cmp y) (sym more) ∙ m)) [
+      | inl k ↦ h y k
+      | inr k ↦ subst (λ z. is_path p r (q ++ z ∷ []) ≡ true) (sym (elim (has_Number y (x ∷ []) k) [ inl e ↦ e | inr z ↦ absurd z ])) one
+    ]
+
+  -- the number at a place is one of them
+  pub number_in : (X : List ℕ) (i : ℕ) → i < length X → has nat_cmp (get_or X i 0) X ≡ true
+  number_in X i lt = Number_has (get_or X i 0) X (at X i lt)
+    where
+      at : (X : List ℕ) (i : ℕ) → i < length X → Rattle.sabr_frontier.specs.State.Member (get_or X i 0) X
+      at [] i l = absurd (omega arith)
+      at (y ∷ X) zero l = inl refl
+      at (y ∷ X) (suc i) l = inr (at X i (omega (arith, l)))
+
+-- ---- the verdict
+
+pub some_number : (X : List ℕ) → (length X == 0) ≡ false → (x : ℕ) × (has nat_cmp x X ≡ true)
+some_number [] h = absurd (true≢false h)
+some_number (x ∷ X) h = (x, has_itself nat_cmp_total x X)
+
+pub empty_list : (q : List ℕ) → (length q == 0) ≡ true → q ≡ []
+empty_list [] h = refl
+empty_list (x ∷ q) h = absurd (true≢false (sym h ∙ more (length q)))
+  where
+    more : (n : ℕ) → (suc n == 0) ≡ false
+    more n = grind (arith, nat_tests)
+
+module _ {A : Type 0} (p : ContactPlan) (r : RouteRequest) (h : Holding A) (e : List ℕ × List ℕ) (sound : h.sound ≡ true) (due : is_due h e.0 ≡ true) (busy : (e.0 ≡ []) ⊎ ((x : ℕ) × (has nat_cmp x e.1 ≡ true))) where
+  verdict_of : (o : Option (Judged A)) → IfSome o (λ j. AllGoOn p r e × IsJudged p r e j) → IfNone o (AllGoOn p r e → ⊥) → IsVerdict p r h e o
+  verdict_of None some none = λ _ _ good. none good.chains
+  verdict_of (Some j) some none = (sound, due, record { busy = busy; chains = some.0 }, some.1)
+
+  pub verdict_from : {E : Type 0} (res : Result (Option (Judged A)) E) → IfOk res (λ o. IfSome o (λ j. AllGoOn p r e × IsJudged p r e j)) → IfOk res (λ o. IfNone o (AllGoOn p r e → ⊥)) → IfOk res (IsVerdict p r h e)
+  verdict_from (Ok o) some none = verdict_of o some none
+  verdict_from (Err f) some none = tt

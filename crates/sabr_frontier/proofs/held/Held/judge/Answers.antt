@@ -1,0 +1,17 @@
+use Rattle.std.proofs.Common.{◌≡◌, ◌⊎◌, ◌∙◌, ℕ, true, [], inl, inr, sym}
+use Rattle.std.specs.Ordering.{nat_cmp}
+use Rattle.sabr_frontier.specs.Rising.{has}
+use Rattle.sabr_frontier.specs.Holding.{holding_of}
+use Rattle.sabr_frontier.proofs.Judges.{empty_list, some_number, verdict_from}
+use Rattle.sabr_frontier.proofs.held.Held.judge.Goals as goal
+use Rattle.sabr_frontier.proofs.held.Held.judge.Goals.{else-not-is_empty-via-then-not-is_empty+else-is_empty, else-not-is_empty-via-else-not-is_empty}
+
+pub returns : goal.returns
+returns g c =
+    let q = c.args.prefix.now in
+    let X = c.args.excluded.now in
+    let busy : (q ≡ []) ⊎ ((x : ℕ) × (has nat_cmp x X ≡ true)) = elim c.else-not-is_empty.branch [
+      | else-not-is_empty-via-then-not-is_empty+else-is_empty w ↦ inr (some_number X (sym w.is_empty-then-not-is_empty.ensures ∙ w.if-is_empty.false))
+      | else-not-is_empty-via-else-not-is_empty w ↦ inl (empty_list q (sym c.is_empty.ensures ∙ w.if-not-is_empty.false))
+    ] in
+    verdict_from c.args.plan.now.plan c.args.request.now (holding_of c.args.self.now) (q, X) c.if-not-self.false (sym c.is_due.ensures ∙ c.if-not-is_due.false) busy c.judge.result c.judge.ensures.some c.judge.ensures.none

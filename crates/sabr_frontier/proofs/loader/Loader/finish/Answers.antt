@@ -1,0 +1,81 @@
+use Rattle.std.proofs.Common.{◌≡◌, [], ap, sym, subst, ◌∙◌}
+use Rattle.sabr_frontier.specs.Listing.{IsState}
+use Rattle.sabr_frontier.specs.Loading.{IsClosedState, IsCounted, Loaded, state_with}
+use Rattle.sabr_frontier.specs.Session.{Seen}
+use Rattle.sabr_frontier.specs.Shape.{shape_of, shown}
+use Rattle.sabr_frontier.specs.Sound.{IsTree}
+use Rattle.sabr_frontier.specs.Holding.{IsLastPlace, IsWrongLast, holding_of}
+use Rattle.sabr_frontier.proofs.Answering.{paid_closed, unpaid_open}
+use Rattle.sabr_frontier.proofs.Loads.{formed_then, loaded_is_tree, shown_then, wrong_count}
+use Rattle.sabr_frontier.proofs.loader.Loader.finish.Goals as goal
+
+pub returns-then-not-is_paid-clause-err : goal.returns-then-not-is_paid-clause-err
+returns-then-not-is_paid-clause-err g c =
+    let s = c.self.inside in
+    subst (λ (v : Loaded). IsClosedState v.plan.plan v.request (state_with v.parts c.args.emitted c.args.last.now) → ⊥) c.self.view_is
+    (unpaid_open s.plan.now.plan s.request (holding_of s.held) c.self.invariant.held (sym c.is_paid.ensures ∙ c.if-not-is_paid.true))
+
+pub returns-in_default-clause-err : goal.returns-in_default-clause-err
+returns-in_default-clause-err g c =
+    let s = c.self.inside in
+    let p = s.plan.now.plan in
+    let r = s.request in
+    let h = holding_of s.held in
+    let emitted = c.args.emitted in
+    let last = c.args.last.now in
+    let paid = sym c.is_paid.ensures ∙ c.if-not-is_paid.false in
+    let wrong = subst (λ xs. IsWrongLast xs emitted last) c.as_slice.ensures.value c.in_default.ensures.none in
+    subst (λ (v : Loaded). IsClosedState v.plan.plan v.request (state_with v.parts emitted last) × (IsCounted v.plan.plan v.request (state_with v.parts emitted last) → ⊥)) c.self.view_is
+    (paid_closed p r h c.self.invariant.held paid, wrong_count p r h c.self.invariant.held paid emitted last wrong)
+
+pub returns-in_default-into_tree-clause-err : goal.returns-in_default-into_tree-clause-err
+returns-in_default-into_tree-clause-err g c =
+    let s = c.self.inside in
+    let p = s.plan.now.plan in
+    let r = s.request in
+    let h = holding_of s.held in
+    let emitted = c.args.emitted in
+    let last = c.args.last.now in
+    let paid = sym c.is_paid.ensures ∙ c.if-not-is_paid.false in
+    let at = subst (λ xs. IsLastPlace xs emitted last c.in-Some.last) c.as_slice.ensures.value c.in-Some.ensures.some in
+    subst (λ (v : Loaded). IsState v.plan.plan v.request (state_with v.parts emitted last)) c.self.view_is
+    (formed_then p r h c.self.invariant.held paid emitted last c.in-Some.last at)
+
+pub of_tree-requires-clause-sound : goal.of_tree-requires-clause-sound
+of_tree-requires-clause-sound g c =
+    let s = c.self.inside in
+    let p = s.plan.now.plan in
+    let r = s.request in
+    let h = holding_of s.held in
+    let emitted = c.args.emitted in
+    let last = c.args.last.now in
+    let paid = sym c.is_paid.ensures ∙ c.if-not-is_paid.false in
+    let at = subst (λ xs. IsLastPlace xs emitted last c.in-Some.last) c.as_slice.ensures.value c.in-Some.ensures.some in
+    subst (IsTree p r) (sym c.in-Ok.ensures.shape) (loaded_is_tree p r h c.self.invariant.held paid emitted last c.in-Some.last at)
+
+pub returns-clause-ok : goal.returns-clause-ok
+returns-clause-ok g c =
+    let s = c.self.inside in
+    let p = s.plan.now.plan in
+    let r = s.request in
+    let h = holding_of s.held in
+    let emitted = c.args.emitted in
+    let last = c.args.last.now in
+    let paid = sym c.is_paid.ensures ∙ c.if-not-is_paid.false in
+    let at = subst (λ xs. IsLastPlace xs emitted last c.in-Some.last) c.as_slice.ensures.value c.in-Some.ensures.some in
+    let state = ap shown c.in-Ok.ensures.shape ∙ shown_then p r h c.self.invariant.held paid emitted last c.in-Some.last at in
+    let told : c.of_tree.result ≡ record { plan = s.plan.now; request = r; state = state_with (Rattle.sabr_frontier.specs.Holding.parts_in h) emitted last; former = []; searches = 0 } = c.of_tree.ensures ∙ (λ i. record { plan = s.plan.now; request = r; state = state i; former = []; searches = 0 }) in
+    subst (λ (v : Loaded). c.of_tree.result ≡ record { plan = v.plan; request = v.request; state = state_with v.parts emitted last; former = []; searches = 0 }) c.self.view_is told
+
+pub returns-clause-formed : goal.returns-clause-formed
+returns-clause-formed g c =
+    let s = c.self.inside in
+    let p = s.plan.now.plan in
+    let r = s.request in
+    let h = holding_of s.held in
+    let emitted = c.args.emitted in
+    let last = c.args.last.now in
+    let paid = sym c.is_paid.ensures ∙ c.if-not-is_paid.false in
+    let at = subst (λ xs. IsLastPlace xs emitted last c.in-Some.last) c.as_slice.ensures.value c.in-Some.ensures.some in
+    subst (λ (v : Loaded). IsState v.plan.plan v.request (state_with v.parts emitted last)) c.self.view_is
+    (formed_then p r h c.self.invariant.held paid emitted last c.in-Some.last at)

@@ -1,0 +1,17 @@
+use Rattle.std.proofs.Common.{◌≡◌, [], length, reverse, ap, sym, subst, ◌∙◌}
+use Rattle.sabr_frontier.specs.Shape.{shape_of}
+use Rattle.sabr_frontier.specs.Session.{AreStarts, IsSoundFor, former_of}
+use Rattle.sabr_frontier.proofs.session.Session.of_tree.Goals as goal
+
+pub invariant_of-result : goal.invariant_of-result
+invariant_of-result g c =
+    let p = c.args.plan.now.plan in
+    let r = c.args.request in
+    let none : length c.args.tree.journal.items ≡ 0 = ap length c.requires.fresh in
+    record {
+      rules = c.contacts.ensures.rules;
+      limits = c.max_hops.ensures.limits;
+      sound = subst (λ n. IsSoundFor p r n (shape_of c.args.tree)) (sym none) c.requires.sound;
+      starts = subst (λ z. AreStarts (reverse z) (length c.args.tree.journal.items)) (sym c.new.ensures.items) none;
+      room = c.requires.room;
+    }

@@ -1,0 +1,65 @@
+//! The route that a part is to carry.
+
+ghost use Rattle.std.specs.Prelude.{◌≡◌, true, false, Some, IfOk, IfErr, OnOk};
+ghost use Rattle.std.specs.Option.{option_copied, option_map};
+ghost use Rattle.sabr_model.specs.Plan.{has};
+ghost use Rattle.sabr_model.specs.Parts.{goes_on};
+ghost use Rattle.sabr_model.specs.Record.{record_of};
+ghost use Rattle.sabr_frontier.specs.Loading.{IsCarryFault, may_carry};
+
+use crate::load_fault::LoadFault;
+use crate::record::record;
+use sabr_model::{Plan, Request, Route, follow};
+use std::alloc::Allocator;
+
+// Whether the number is one of these.
+fn holds(numbers: &[u32], number: u32) -> bool
+    ensures { result ≡ has number numbers.now }
+{
+    numbers.iter().any(|other| number == *other)
+}
+
+/// Whether a list begins with the prefix, is longer, and takes none of the excluded numbers next.
+fn goes_on(prefix: &[u32], excluded: &[u32], numbers: &[u32]) -> bool
+    ensures { result ≡ goes_on prefix.now excluded.now numbers.now }
+{
+    let Some(rest) = numbers.strip_prefix(prefix) else {
+        return false;
+    };
+    let Some(next) = rest.first() else {
+        return false;
+    };
+    !holds(excluded, *next)
+}
+
+/// The record of what a part is to carry.
+///
+/// # Errors
+///
+/// [`LoadFault::BadRoute`] where it is no route of the part, else [`LoadFault::NoMemory`] where a growth was refused.
+pub fn carried<A: Allocator + Copy>(
+    alloc: A,
+    plan: &Plan<A>,
+    request: &Request,
+    prefix: &[u32],
+    excluded: &[u32],
+    route: Option<&[u32]>,
+) -> Result<Option<Route<A>>, LoadFault>
+    ensures ok { IfOk result (λ o. o ≡ option_map (record_of plan.now.plan request.now) (option_copied route.entry)) }
+    ensures may { OnOk result (may_carry plan.now.plan request.now (record { prefix = prefix.now; excluded = excluded.now; carried = option_copied route.entry }) ≡ true) }
+    ensures err { IfErr result (IsCarryFault (may_carry plan.now.plan request.now (record { prefix = prefix.now; excluded = excluded.now; carried = option_copied route.entry }))) }
+{
+    let Some(route) = route else {
+        return Ok(None);
+    };
+    if !goes_on(prefix, excluded, route) {
+        return Err(LoadFault::BadRoute);
+    }
+    let Ok(delivery) = follow(plan, request, route) else {
+        return Err(LoadFault::BadRoute);
+    };
+    let Ok(numbers) = Vec::from_slice(alloc, route) else {
+        return Err(LoadFault::NoMemory);
+    };
+    Ok(Some(record(plan, numbers, delivery)))
+}

@@ -1,0 +1,226 @@
+//! What a loader has gathered, and the tree that comes of it.
+
+ghost use Rattle.std.specs.Prelude.{◌≡◌, [], true, IfOk, IfSome, IfNone, OnOk, OnErr};
+ghost use Rattle.std.specs.Option.{option_map_or};
+ghost use Rattle.sabr_model.specs.Order.{numbers_before};
+ghost use Rattle.sabr_frontier.specs.Shape.{shape_of};
+ghost use Rattle.sabr_frontier.specs.Undo.{IsRoomy, last_item};
+ghost use Rattle.sabr_frontier.specs.Holding.{HasPlaces, HasPlacesFor, IsLastPlace, IsTakenIn, IsVerdict, IsWrongLast, answered_by, held_then, holding_of, is_due, is_paid, loaded_tree, nothing_held};
+
+use crate::excluded::Excluded;
+use crate::judge::{Judged, judge};
+use crate::places::{enqueue_from, insert_block};
+use crate::tree::{Node, Tree};
+use sabr_model::{NoMemory, Numbers, Plan, Request, Route};
+use std::alloc::{Allocator, Global};
+use std::cmp::Ordering;
+
+/// The prefixes of the parts, and their nodes; the leaves that the parts made; the prefixes that are to be parts, the
+/// least last; and whether each part so far was the least that was to come. Where one wasn't, the parts alone are kept.
+#[derive(Debug, Drop)]
+pub struct Held<A: Allocator + Copy = Global> {
+    pub prefixes: Vec<Numbers<A>, A>,
+    pub nodes: Vec<Node<A>, A>,
+    pub leaves: Vec<Route<A>, A>,
+    pub owed: Vec<Numbers<A>, A>,
+    pub sound: bool,
+}
+
+/// Where the last route is among the leaves, none inside where there is no leaf; none where the count or the last is
+/// wrong.
+pub fn last_place<A: Allocator + Copy>(
+    leaves: &[Route<A>],
+    emitted: u128,
+    last: &[u32],
+) -> Option<Option<usize>>
+    ensures some { IfSome result (IsLastPlace leaves.now emitted last.now) }
+    ensures none { IfNone result (IsWrongLast leaves.now emitted last.now) }
+{
+    if leaves.len() as u128 != emitted {
+        return None;
+    }
+    if leaves.is_empty() && last.is_empty() {
+        return Some(None);
+    }
+    for (i, leaf) in leaves.iter().enumerate() {
+        if leaf.contacts.as_slice() == last {
+            return Some(Some(i));
+        }
+    }
+    None
+}
+
+impl<A: Allocator + Copy> Held<A> {
+    /// Nothing. It takes no memory.
+    pub fn new(alloc: A) -> Held<A>
+        ensures { holding_of result ≡ nothing_held }
+    {
+        Held {
+            prefixes: Vec::new(alloc),
+            nodes: Vec::new(alloc),
+            leaves: Vec::new(alloc),
+            owed: Vec::new(alloc),
+            sound: true,
+        }
+    }
+
+    /// Whether a prefix comes behind the last.
+    pub fn comes_behind(&self, prefix: &[u32]) -> bool
+        ensures { result ≡ option_map_or (λ q. numbers_before q prefix.now) (last_item self.now.prefixes.items) true }
+    {
+        match self.prefixes.last() {
+            Some(last) => last.as_slice().cmp(prefix) == Ordering::Less,
+            None => true,
+        }
+    }
+
+    // Whether a prefix is the least that is to come.
+    fn is_due(&self, prefix: &[u32]) -> bool
+        ensures { result ≡ is_due (holding_of self.now) prefix.now }
+    {
+        if self.nodes.is_empty() {
+            return prefix.is_empty();
+        }
+        match self.owed.last() {
+            Some(owed) => prefix.cmp(owed.as_slice()) == Ordering::Equal,
+            None => false,
+        }
+    }
+
+    // What a part leads to, or none where it isn't the least that is to come, or one of its excluded numbers makes no
+    // path, or it excludes none and isn't the first.
+    fn judge(
+        &self,
+        alloc: A,
+        plan: &Plan<A>,
+        request: &Request,
+        prefix: &[u32],
+        excluded: &[u32],
+    ) -> Result<Option<Judged<A>>, NoMemory>
+        ensures { IfOk result (IsVerdict plan.now.plan request.now (holding_of self.now) (prefix.now, excluded.now)) }
+    {
+        if !self.sound || !self.is_due(prefix) {
+            return Ok(None);
+        }
+        if !prefix.is_empty() && excluded.is_empty() {
+            return Ok(None);
+        }
+        judge(alloc, plan, request, prefix, excluded)
+    }
+
+    // Makes room for a part and what it leads to.
+    fn reserve(&mut self, judged: &Option<Judged<A>>) -> Result<(), NoMemory>
+        ensures same { holding_of self.new ≡ holding_of self.old }
+        ensures ok { OnOk result (HasPlaces self.new judged.now) }
+    {
+        let (leaves, onward) = match judged {
+            Some(judged) => (judged.leaves.len(), judged.onward.len()),
+            None => (0, 0),
+        };
+        let Ok(()) = self.prefixes.reserve(1) else {
+            return Err(NoMemory);
+        };
+        let Ok(()) = self.nodes.reserve(1) else {
+            return Err(NoMemory);
+        };
+        let Ok(()) = self.leaves.reserve(leaves) else {
+            return Err(NoMemory);
+        };
+        match self.owed.reserve(onward) {
+            Ok(()) => Ok(()),
+            Err(_) => Err(NoMemory),
+        }
+    }
+
+    // Takes in what a part leads to, for which there is room.
+    fn answer(&mut self, judged: Option<Judged<A>>)
+        requires { HasPlacesFor self.old judged }
+        ensures { holding_of self.new ≡ answered_by (holding_of self.old) judged }
+    {
+        let Some(mut judged) = judged else {
+            self.sound = false;
+            return;
+        };
+        self.owed.pop();
+        judged.onward.reverse();
+        let appended = self.owed.append(&mut judged.onward);
+        let Ok(()) = appended else { unreachable!() };
+        let appended = self.leaves.append(&mut judged.leaves);
+        let Ok(()) = appended else { unreachable!() };
+    }
+
+    // Adds a part, and takes in what it leads to. What may be refused comes before the first change.
+    fn add(
+        &mut self,
+        prefix: Numbers<A>,
+        excluded: Excluded<A>,
+        route: Option<Route<A>>,
+        judged: Option<Judged<A>>,
+    ) -> Result<(), NoMemory>
+        ensures ok { OnOk result (holding_of self.new ≡ held_then (holding_of self.old) prefix excluded route judged) }
+        ensures err { OnErr result (holding_of self.new ≡ holding_of self.old) }
+    {
+        self.reserve(&judged)?;
+        self.nodes.push_reserved(Node {
+            leaf: self.leaves.len(),
+            length: prefix.len(),
+            excluded,
+            route,
+        });
+        self.prefixes.push_reserved(prefix);
+        self.answer(judged);
+        Ok(())
+    }
+
+    /// Takes in a part that comes behind the others, with the record of the route that it carries.
+    pub fn take_in(
+        &mut self,
+        alloc: A,
+        plan: &Plan<A>,
+        request: &Request,
+        prefix: &[u32],
+        excluded: &[u32],
+        route: Option<Route<A>>,
+    ) -> Result<(), NoMemory>
+        ensures ok { OnOk result (IsTakenIn plan.now.plan request.now (holding_of self.old) prefix.now excluded.now route (holding_of self.new)) }
+        ensures err { OnErr result (holding_of self.new ≡ holding_of self.old) }
+    {
+        let judged = self.judge(alloc, plan, request, prefix, excluded)?;
+        let Ok(numbers) = Vec::from_slice(alloc, prefix) else {
+            return Err(NoMemory);
+        };
+        let excluded = Excluded::of(alloc, excluded)?;
+        self.add(Numbers::new(numbers), excluded, route, judged)
+    }
+
+    /// Whether there is a part, each part was the least that was to come, and none is left to come.
+    pub fn is_paid(&self) -> bool
+        ensures { result ≡ is_paid (holding_of self.now) }
+    {
+        self.sound && !self.nodes.is_empty() && self.owed.is_empty()
+    }
+
+    /// The tree of the parts.
+    pub fn into_tree(self, alloc: A, last: Option<usize>) -> Result<Tree<A>, NoMemory>
+        ensures shape { IfOk result (λ t. shape_of t ≡ loaded_tree (holding_of self) last) }
+        ensures room { IfOk result IsRoomy }
+    {
+        let count = self.nodes.len();
+        let Ok(mut index) = Vec::with_capacity(alloc, count) else {
+            return Err(NoMemory);
+        };
+        let Ok(mut queue) = Vec::with_capacity(alloc, count) else {
+            return Err(NoMemory);
+        };
+        insert_block(&mut index, 0, 0, count);
+        enqueue_from(self.nodes.as_slice(), &mut queue, 0);
+        Ok(Tree {
+            nodes: self.nodes,
+            index,
+            queue,
+            leaves: self.leaves,
+            last,
+            journal: Vec::new(alloc),
+        })
+    }
+}

@@ -1,0 +1,91 @@
+//! What the numbers that a part excludes lead to: leaves, and prefixes that go on.
+
+ghost use Rattle.std.specs.Prelude.{◌≡◌, ◌<◌, true, ◌∷◌, ◌++◌, [], map, length, IfOk, IfSome, IfNone};
+ghost use Rattle.sabr_model.specs.Route.{is_path};
+ghost use Rattle.sabr_model.specs.Record.{record_of};
+ghost use Rattle.sabr_frontier.specs.Holding.{AllGoOn, IsJudged, onward_of, routes_of};
+
+use crate::record::record;
+use sabr_model::{HopFault, NoMemory, Numbers, Plan, Request, Route, follow};
+use std::alloc::{Allocator, Global};
+
+/// The routes that a prefix makes with its excluded numbers, and those with a number that make no route and go on.
+#[derive(Debug, Drop)]
+pub struct Judged<A: Allocator + Copy = Global> {
+    pub leaves: Vec<Route<A>, A>,
+    pub onward: Vec<Numbers<A>, A>,
+}
+
+// A prefix with one number more.
+fn longer<A: Allocator + Copy>(
+    alloc: A,
+    prefix: &[u32],
+    number: u32,
+) -> Result<Vec<u32, A>, NoMemory>
+    ensures { IfOk result (λ v. v.items ≡ prefix.now ++ number ∷ []) }
+{
+    let Ok(mut numbers) = Vec::from_slice(alloc, prefix) else {
+        return Err(NoMemory);
+    };
+    match numbers.push(number) {
+        Ok(()) => Ok(numbers),
+        Err(_) => Err(NoMemory),
+    }
+}
+
+impl<A: Allocator + Copy> Judged<A> {
+    // Puts a path behind the others of its kind; false where the numbers make none.
+    fn put(
+        &mut self,
+        plan: &Plan<A>,
+        request: &Request,
+        numbers: Vec<u32, A>,
+    ) -> Result<bool, NoMemory>
+        requires { 0 < length numbers.items }
+        ensures path { IfOk result (λ is. is ≡ is_path plan.now.plan request.now numbers.items) }
+        ensures leaves { IfOk result (λ is. is ≡ true → self.new.leaves.items ≡ self.old.leaves.items ++ map (record_of plan.now.plan request.now) (routes_of plan.now.plan request.now numbers.items)) }
+        ensures onward { IfOk result (λ is. is ≡ true → self.new.onward.items ≡ self.old.onward.items ++ onward_of plan.now.plan request.now numbers.items) }
+    {
+        match follow(plan, request, numbers.as_slice()) {
+            Ok(delivery) => {
+                let Ok(()) = self.leaves.push(record(plan, numbers, delivery)) else {
+                    return Err(NoMemory);
+                };
+                Ok(true)
+            }
+            Err(fault) => match fault {
+                HopFault::WrongEnd => {
+                    let Ok(()) = self.onward.push(Numbers::new(numbers)) else {
+                        return Err(NoMemory);
+                    };
+                    Ok(true)
+                }
+                _ => Ok(false),
+            },
+        }
+    }
+}
+
+/// What the excluded numbers of a prefix lead to, or none where one of them makes no path.
+pub fn judge<A: Allocator + Copy>(
+    alloc: A,
+    plan: &Plan<A>,
+    request: &Request,
+    prefix: &[u32],
+    excluded: &[u32],
+) -> Result<Option<Judged<A>>, NoMemory>
+    ensures some { IfOk result (λ o. IfSome o (λ j. AllGoOn plan.now.plan request.now (prefix.now, excluded.now) × IsJudged plan.now.plan request.now (prefix.now, excluded.now) j)) }
+    ensures none { IfOk result (λ o. IfNone o (AllGoOn plan.now.plan request.now (prefix.now, excluded.now) → ⊥)) }
+{
+    let mut judged = Judged {
+        leaves: Vec::new(alloc),
+        onward: Vec::new(alloc),
+    };
+    for number in excluded {
+        let numbers = longer(alloc, prefix, *number)?;
+        if !judged.put(plan, request, numbers)? {
+            return Ok(None);
+        }
+    }
+    Ok(Some(judged))
+}

@@ -1,0 +1,136 @@
+//! Loading a state, part by part, into a session.
+
+ghost use Rattle.std.specs.Prelude.{◌≡◌, [], Some, None, Err, IfOk, IfErr, OnOk, OnErr, IsOkUnless};
+ghost use Rattle.std.specs.Option.{option_copied};
+ghost use Rattle.sabr_frontier.specs.declared.load_fault.LoadFault.{LoadFault};
+ghost use Rattle.sabr_frontier.specs.declared.load_fault.LoadFault.TheVariants as load;
+ghost use Rattle.sabr_frontier.specs.Listing.{IsState};
+ghost use Rattle.sabr_frontier.specs.Loading.{IsRefusedBy, part_refusal, state_with, with_part};
+
+use crate::carrying::carried;
+use crate::excluded::rise;
+use crate::held::{Held, last_place};
+use crate::load_fault::LoadFault;
+use crate::session::Session;
+use sabr_model::{Plan, Request};
+use sabr_search::BestOf;
+use std::alloc::{Allocator, Global};
+use std::marker::Model;
+
+/// The parts of a state that is to become a session. No search is run: what a part carries is judged as a route of the
+/// part, and not as its least. Contracts see the plan, the request and the parts so far.
+#[derive(Drop)]
+pub struct Loader<'p, B: BestOf<A>, A: Allocator + Copy = Global> {
+    alloc: A,
+    plan: &'p Plan<A>,
+    request: Request,
+    finder: B,
+    held: Held<A>,
+}
+
+impl<'p, B: BestOf<A>, A: Allocator + Copy> Model for Loader<'p, B, A> {
+    ghost use Rattle.sabr_frontier.specs.Loading.{Loaded};
+    ghost use Rattle.sabr_frontier.specs.Holding.{IsLoader, loaded};
+
+    ghost Value = { Loaded };
+
+    ghost view = { λ l. loaded l.plan.now l.request l.held };
+
+    ghost invariant = { λ l. IsLoader l.plan.now l.request l.held };
+}
+
+impl<'p, B: BestOf<A>, A: Allocator + Copy> Loader<'p, B, A> {
+    /// A loader without a part. It takes no memory.
+    pub fn new(alloc: A, plan: &'p Plan<A>, request: Request, finder: B) -> Loader<'p, B, A>
+        ensures { result ≡ record { plan = plan.now; request = request; parts = [] } }
+    {
+        // contracts learn here that the plan and the request keep their rules
+        let _ = plan.contacts();
+        let _ = request.max_hops();
+        Loader {
+            alloc,
+            plan,
+            request,
+            finder,
+            held: Held::new(alloc),
+        }
+    }
+
+    /// Adds a part behind the others: its prefix, the numbers that it excludes, and the route that it carries, if any.
+    ///
+    /// Each excluded number is followed behind the prefix, and so is the carried route: the time grows with the square
+    /// of their hops.
+    ///
+    /// # Errors
+    ///
+    /// [`LoadFault::BadOrder`] where the excluded numbers don't rise strictly or the prefix isn't greater than the one
+    /// before, by its numbers from the front; else [`LoadFault::BadRoute`] where the carried list is no route that begins
+    /// with the prefix, is longer, and takes none of the excluded numbers next; else [`LoadFault::NoMemory`] where a
+    /// growth was refused. The loader is then as it was.
+    pub fn add_part(
+        &mut self,
+        prefix: &[u32],
+        excluded: &[u32],
+        route: Option<&[u32]>,
+    ) -> Result<(), LoadFault>
+        ensures refused { (f : LoadFault) → part_refusal self.old.plan.plan self.old.request self.old.parts (record { prefix = prefix.now; excluded = excluded.now; carried = option_copied route.entry }) ≡ Some f → result ≡ Err f }
+        ensures accepted { part_refusal self.old.plan.plan self.old.request self.old.parts (record { prefix = prefix.now; excluded = excluded.now; carried = option_copied route.entry }) ≡ None → IsOkUnless result load.NoMemory }
+        ensures ok { OnOk result (self.new ≡ with_part self.old (record { prefix = prefix.now; excluded = excluded.now; carried = option_copied route.entry })) }
+        ensures err { OnErr result (self.new ≡ self.old) }
+    {
+        if !rise(excluded) {
+            return Err(LoadFault::BadOrder);
+        }
+        if !self.held.comes_behind(prefix) {
+            return Err(LoadFault::BadOrder);
+        }
+        let route = match carried(
+            self.alloc,
+            self.plan,
+            &self.request,
+            prefix,
+            excluded,
+            route,
+        ) {
+            Ok(route) => route,
+            Err(fault) => return Err(fault),
+        };
+        let Ok(()) = self.held.take_in(
+            self.alloc,
+            self.plan,
+            &self.request,
+            prefix,
+            excluded,
+            route,
+        )
+        else {
+            return Err(LoadFault::NoMemory);
+        };
+        Ok(())
+    }
+
+    /// The session of the parts, of which `emitted` routes were given, `last` the last of them, empty where none was.
+    /// No page can be taken back, and no search was counted.
+    ///
+    /// # Errors
+    ///
+    /// [`LoadFault::NotClosed`] where the parts aren't closed; else [`LoadFault::BadCount`] where `emitted` isn't the
+    /// number of their leaves, or `last` isn't one of them, or isn't empty where there is none; else
+    /// [`LoadFault::NoMemory`] where a growth was refused. The loader is dropped with its finder.
+    pub fn finish(self, emitted: u128, last: &[u32]) -> Result<Session<'p, B, A>, LoadFault>
+        ensures ok { IfOk result (λ s. s ≡ record { plan = self.entry.plan; request = self.entry.request; state = state_with self.entry.parts emitted last.now; former = []; searches = 0 }) }
+        ensures formed { OnOk result (IsState self.entry.plan.plan self.entry.request (state_with self.entry.parts emitted last.now)) }
+        ensures err { IfErr result (IsRefusedBy self.entry.plan.plan self.entry.request (state_with self.entry.parts emitted last.now)) }
+    {
+        if !self.held.is_paid() {
+            return Err(LoadFault::NotClosed);
+        }
+        let Some(last) = last_place(self.held.leaves.as_slice(), emitted, last) else {
+            return Err(LoadFault::BadCount);
+        };
+        let Ok(tree) = self.held.into_tree(self.alloc, last) else {
+            return Err(LoadFault::NoMemory);
+        };
+        Ok(Session::of_tree(self.alloc, self.plan, self.request, self.finder, tree))
+    }
+}
