@@ -20,11 +20,11 @@ use Rattle.sabr_frontier.specs.Tree.{set_of}
 use Rattle.sabr_frontier.specs.State.{PartState, State, pair_of, Member, leaves, leaves_of}
 use Rattle.sabr_frontier.specs.Formed.{IsClosed, InOrder, IsWellFormed}
 use Rattle.sabr_frontier.specs.Owing.{Owing, onward, IsGood, Owes}
-use Rattle.sabr_frontier.specs.Listing.{IsState}
+use Rattle.sabr_frontier.specs.Listing.{IsState, leaves_in}
 use Rattle.sabr_frontier.specs.Loading.{IsCounted, state_with}
 use Rattle.sabr_frontier.specs.Shape.{Shape, front_of, given_at, numbers_of, part_at, part_of, prefix_of, route_at, shown}
 use Rattle.sabr_frontier.specs.Queue.{InPairs}
-use Rattle.sabr_frontier.specs.Sound.{AreApart, IsLent, IsTree}
+use Rattle.sabr_frontier.specs.Sound.{AreApart, AreGiven, IsLent, IsTree}
 use Rattle.sabr_frontier.specs.Taking.{enqueued_all, ids_from}
 use Rattle.sabr_frontier.specs.Holding.{Holding, AreLent, IsAnswered, IsGiven, IsHeld, IsLastPlace, IsWrongLast, is_paid, loaded_tree, pairs_in, part_for, parts_in, parts_of}
 use Rattle.sabr_frontier.proofs.Rising.{length-put_in, true_or_false}
@@ -235,6 +235,19 @@ module _ {A : Type 0} (p : ContactPlan) (r : RouteRequest) (h : Holding A) (held
   right_given last (inl w) = inl (w.0, empty_by_length h.leaves (count ∙ ap length w.1))
   right_given last (inr k) = inr (record_of p r last, subst (Member (record_of p r last)) (sym answered.leaves) (Member-map (record_of p r) last S (Member_In last S (set_of_has last S k))), refl)
 
+  -- each leaf is the record of a route that counts as given, and each such route has its record there
+  counted_in : (x : RouteRecord) → Member x h.leaves → (x ≡ record_of p r x.contacts) × Member x.contacts (leaves (is_route p r) T)
+  counted_in x m =
+      let v = Member-map_cases (record_of p r) x S (subst (Member x) answered.leaves m) in
+      let same : x.contacts ≡ v.0 = ap numbers_of v.1 in
+      (
+        v.1 ∙ ap (record_of p r) (sym same),
+        subst (λ z. Member z (leaves (is_route p r) T)) (sym same) (Member_In v.0 (leaves (is_route p r) T) (has_set_of v.0 S (In_Member v.0 S v.2))),
+      )
+
+  recorded_in : (s : List ℕ) → Member s (leaves (is_route p r) T) → Member (record_of p r s) h.leaves
+  recorded_in s m = subst (Member (record_of p r s)) (sym answered.leaves) (Member-map (record_of p r) s S (Member_In s S (set_of_has s S (In_Member s (leaves (is_route p r) T) m))))
+
   -- a wrong count or last
   pub wrong_count : (emitted : ℕ) (last : List ℕ) → IsWrongLast h.leaves emitted last → IsCounted p r (state_with (parts_in h) emitted last) → ⊥
   wrong_count emitted last wrong c = wrong (c.count ∙ sym count) (right_given last c.right)
@@ -258,6 +271,18 @@ module _ {A : Type 0} (p : ContactPlan) (r : RouteRequest) (h : Holding A) (held
     pub shown_then : shown t ≡ state_with (parts_in h) emitted last
     shown_then = let parts = parts_by_ids h.leaves [] h.nodes ∙ lent_all.0 in λ i. record { emitted = sym at.count i; last = at.is i; parts = parts i }
 
+    -- the leaves are the records of the routes that count as given
+    given_then : AreGiven p r t
+    given_then = record {
+      counted = λ x m.
+          let w = counted_in x m in
+          (w.0, subst (Member x.contacts) (sym same) w.1);
+      recorded = λ s m. recorded_in s (subst (Member s) same m);
+    }
+      where
+        same : leaves_in p r (shown t) ≡ leaves (is_route p r) T
+        same = ap (leaves_in p r) shown_then
+
     abbrev ids : List NodeId
     ids = ids_from 0 (length h.nodes)
 
@@ -271,6 +296,7 @@ module _ {A : Type 0} (p : ContactPlan) (r : RouteRequest) (h : Holding A) (held
       listed = λ id l. ids_has id 0 (length h.nodes) (omega arith) (omega (arith, l));
       lent = lent_all.1;
       records = held.records;
+      given = given_then;
       queued = λ id m. elim (all_cases h.nodes id ids [] m) [ inl w ↦ w.1 | inr z ↦ absurd z ];
       waiting = λ id k. all_has h.nodes id ids [] (inl (ids_has id 0 (length h.nodes) (omega arith) (let l = carries_within id k in omega (arith, l)), k));
       falls = enqueued_all_falls h.nodes ids [] tt;
