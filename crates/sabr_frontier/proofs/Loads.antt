@@ -239,8 +239,7 @@ module _ {A : Type 0} (p : ContactPlan) (r : RouteRequest) (h : Holding A) (held
   counted_in : (x : RouteRecord) → Member x h.leaves → (x ≡ record_of p r x.contacts) × Member x.contacts (leaves (is_route p r) T)
   counted_in x m =
       let v = Member-map_cases (record_of p r) x S (subst (Member x) answered.leaves m) in
-      let same : x.contacts ≡ v.0 = ap numbers_of v.1 in
-      (
+      let same : x.contacts ≡ v.0 = ap numbers_of v.1 in (
         v.1 ∙ ap (record_of p r) (sym same),
         subst (λ z. Member z (leaves (is_route p r) T)) (sym same) (Member_In v.0 (leaves (is_route p r) T) (has_set_of v.0 S (In_Member v.0 S v.2))),
       )
