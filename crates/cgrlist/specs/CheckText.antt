@@ -2,14 +2,13 @@
 use Rattle.std.specs.Prelude.{◌≡◌, ℕ, List, [], ◌∷◌, ◌++◌, codes, decimal, length, Result, Ok, Err, Option, is_none}
 use Rattle.std.specs.List.{concat, filter}
 use Rattle.hex.specs.Hex.{encode_lower}
-use Rattle.sha2.specs.Sha256.{sha256}
 use Rattle.sabr_model.specs.declared.contact.Contact.{Contact}
 use Rattle.sabr_model.specs.Plan.{ContactPlan, TabledPlan}
 use Rattle.sabr_model.specs.Light.{light_of}
 use Rattle.sabr_model.specs.Table.{node_count}
 use Rattle.sabr_model.specs.Devices.{Written, WrittenInPart}
 use Rattle.sabr_plan.specs.declared.fault.PlanFault.{PlanFault}
-use Rattle.sabr_plan.specs.Canonical.{canonical_text}
+use Rattle.sabr_plan.specs.Canonical.{digest_of}
 use Rattle.cgrlist.specs.declared.failure.Failure.{Failure}
 use Rattle.cgrlist.specs.declared.failure.Failure.TheVariants as failure
 use Rattle.cgrlist.specs.Messages.{failure_of_plan}
@@ -29,7 +28,7 @@ counts_text p =
 
 -- the digest of the plan's canonical text, as hex digits in lower case
 abbrev pub digest_digits : ContactPlan → List ℕ
-digest_digits p = encode_lower (sha256 (canonical_text p))
+digest_digits p = encode_lower (digest_of p)
 
 -- the lines of the counts, and that of the digest
 unfoldable pub check_text : ContactPlan → List ℕ

@@ -9,7 +9,8 @@ use Rattle.sabr_plan.specs.declared.fault.PlanFault.{PlanFault}
 use Rattle.sabr_frontier.specs.State.{State}
 use Rattle.sabr_frontier.specs.Listing.{state_at, steps, next_route}
 use Rattle.sabr_session.specs.ReportText.{report_text}
-use Rattle.sabr_session.specs.SessionText.{digest_of, text_of}
+use Rattle.sabr_plan.specs.Canonical.{digest_of}
+use Rattle.sabr_session.specs.SessionText.{text_of}
 use Rattle.sabr_session.specs.declared.session_fault.SessionFault.{SessionFault}
 use Rattle.cgrlist.specs.declared.failure.Failure.{Failure}
 use Rattle.cgrlist.specs.declared.failure.Failure.TheVariants as failure

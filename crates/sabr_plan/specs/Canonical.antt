@@ -1,6 +1,7 @@
--- The canonical text of a plan: what its digest is taken of.
+-- The canonical text of a plan, and its digest.
 use Rattle.std.specs.Prelude.{ℕ, List, [], ◌∷◌, ◌++◌, codes, decimal}
 use Rattle.std.specs.List.{flat_map}
+use Rattle.sha2.specs.Sha256.{sha256}
 use Rattle.sabr_model.specs.Plan.{ContactPlan}
 use Rattle.sabr_model.specs.declared.contact.Contact.{Contact}
 use Rattle.sabr_model.specs.declared.contact.Range.{Range}
@@ -25,3 +26,7 @@ range_line r = record_line 114 (r.one ∷ r.other ∷ r.start ∷ r.end ∷ r.li
 -- the standing contacts by number, and the standing ranges by pair of nodes and start
 unfoldable pub canonical_text : ContactPlan → List ℕ
 canonical_text p = codes "cgr-plan 1\n" ++ flat_map contact_line p.contacts ++ flat_map range_line p.ranges ++ codes "end\n"
+
+-- a plan's digest, 32 numbers: SHA-256 of its canonical text
+abbrev pub digest_of : ContactPlan → List ℕ
+digest_of p = sha256 (canonical_text p)

@@ -3,8 +3,7 @@
 ghost use Rattle.std.specs.Prelude.{◌≡◌, ◌++◌, List, ℕ};
 ghost use Rattle.std.specs.List.{flat_map};
 ghost use Rattle.sabr_model.specs.Devices.{WritesText};
-ghost use Rattle.sabr_plan.specs.Canonical.{contact_line, range_line, canonical_text};
-ghost use Rattle.sha2.specs.Sha256.{sha256};
+ghost use Rattle.sabr_plan.specs.Canonical.{contact_line, range_line, canonical_text, digest_of};
 ghost use Rattle.sha2.specs.Hashers.{Holds256};
 
 use crate::record_line::RecordLine;
@@ -57,7 +56,7 @@ fn write_ranges<W: Write>(ranges: &[Range], writer: &mut W) -> Result<(), WriteF
 
 /// The digest of a plan: SHA-256 of its canonical text, which is fed line by line. It takes no memory.
 pub fn digest<A: Allocator + Copy>(plan: &Plan<A>) -> [u8; 32]
-    ensures { result ≡ sha256 (canonical_text plan.now.plan) }
+    ensures { result ≡ digest_of plan.now.plan }
 {
     let mut hasher = Sha256::new();
     hasher.update(FIRST_LINE);

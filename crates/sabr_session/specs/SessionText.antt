@@ -2,19 +2,14 @@
 use Rattle.std.specs.Prelude.{◌≡◌, ℕ, ◌≤◌, List, [], ◌∷◌, ◌++◌, length, decimal, codes, flat_map, unwrap_or}
 use Rattle.std.specs.List.{concat}
 use Rattle.hex.specs.Hex.{encode_lower}
-use Rattle.sha2.specs.Sha256.{sha256}
 use Rattle.sabr_model.specs.Plan.{ContactPlan}
 use Rattle.sabr_model.specs.Arrival.{RouteRequest}
 use Rattle.sabr_model.specs.Asking.{unlimited}
 use Rattle.sabr_plan.specs.Times.{time_text_of}
-use Rattle.sabr_plan.specs.Canonical.{canonical_text}
+use Rattle.sabr_plan.specs.Canonical.{digest_of}
 use Rattle.sabr_frontier.specs.State.{PartState, State}
 use Rattle.sabr_frontier.specs.Listing.{state_at}
 use Rattle.sabr_session.specs.SpacedNumbers.{list_text}
-
--- a plan's digest, 32 numbers: SHA-256 of its canonical text
-abbrev pub digest_of : ContactPlan → List ℕ
-digest_of p = sha256 (canonical_text p)
 
 -- `plan H`, H having two digits `0` to `9` and `a` to `f` for each number of the digest
 abbrev pub plan_line : List ℕ → List ℕ

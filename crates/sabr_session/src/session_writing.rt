@@ -4,10 +4,11 @@ ghost use Rattle.std.specs.Prelude.{◌≡◌, [], flat_map, unwrap_or};
 ghost use Rattle.std.specs.List.{concat};
 ghost use Rattle.std.specs.Option.{option_map, option_copied};
 ghost use Rattle.sabr_model.specs.Devices.{WritesText};
+ghost use Rattle.sabr_plan.specs.Canonical.{digest_of};
 ghost use Rattle.sabr_frontier.specs.Shape.{numbers_of};
 ghost use Rattle.sabr_frontier.specs.Views.{told_of, told_left};
 ghost use Rattle.sabr_session.specs.Gathering.{Gathers};
-ghost use Rattle.sabr_session.specs.SessionText.{digest_of, plan_line, request_line, state_lines, text_of, HasText};
+ghost use Rattle.sabr_session.specs.SessionText.{plan_line, request_line, state_lines, text_of, HasText};
 ghost use Rattle.sabr_session.specs.SessionPieces.{asked_pieces, counts_pieces, told_line};
 
 use crate::lists::{put_list, put_nodes, put_pieces};

@@ -1,4 +1,5 @@
-use Rattle.sabr_session.specs.SessionText.{digest_of, text_of}
+use Rattle.sabr_plan.specs.Canonical.{digest_of}
+use Rattle.sabr_session.specs.SessionText.{text_of}
 use Rattle.sabr_session.proofs.Gathering.{Gathered-sent, WritesText-stopped}
 use Rattle.sabr_session.proofs.session_writing.write_session.Goals as goal
 
