@@ -15,3 +15,7 @@ mod Spellings
 mod TextsApart
 pub mod SessionOutcomes
 mod ShortStates
+mod StepsTaken
+mod WordsTold
+mod LinesTold
+pub mod TextsTold
