@@ -11,6 +11,7 @@ mod node_list;
 mod number;
 mod numbers;
 mod part_line;
+mod reading;
 mod report;
 mod request_line;
 mod rows;
@@ -23,6 +24,7 @@ mod text_laws;
 mod words;
 
 pub use numbers::{put_number, put_time};
+pub use reading::{SessionFeed, read_session};
 pub use report::{put_route_line, write_report, write_route};
 pub use rows::texts_of_plan_a;
 pub use session_fault::SessionFault;
