@@ -11,6 +11,10 @@ mod PartWords
 mod Pieces
 mod SessionPieces
 mod SessionRowProofs
+mod SpelledWords
+mod SpelledLines
+mod SpelledDigests
+mod SpelledHead
 mod Spellings
 mod TextsApart
 pub mod SessionOutcomes
