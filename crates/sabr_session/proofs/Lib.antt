@@ -15,6 +15,7 @@ mod SpelledWords
 mod SpelledLines
 mod SpelledDigests
 mod SpelledHead
+mod SpelledParts
 mod Spellings
 mod TextsApart
 pub mod SessionOutcomes

@@ -43,7 +43,7 @@ unfolding time_text_of
 time_word t = search rules
 
 -- a word, a space and a text
-word-apart : (w u : List ℕ) → IsWord w → words_of (w ++ 32 ∷ u) ≡ w ∷ words_of u
+pub word-apart : (w u : List ℕ) → IsWord w → words_of (w ++ 32 ∷ u) ≡ w ∷ words_of u
 word-apart w u h = words-apart w u ∙ ap (λ ws. ws ++ words_of u) (words-word w h)
 
 number-apart : (n : ℕ) (u : List ℕ) → n < 10 ^ 64 → words_of (decimal n ++ 32 ∷ u) ≡ decimal n ∷ words_of u

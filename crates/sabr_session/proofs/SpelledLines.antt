@@ -41,6 +41,15 @@ pub concat_line : (xs : List (List ℕ)) → AreLines xs → is_one_line (concat
 concat_line [] h = refl
 concat_line (x ∷ xs) h = line-append x (concat xs) h.0 (concat_line xs h.1)
 
+-- how long they are together
+abbrev pub lengths : List (List ℕ) → ℕ
+lengths [] = 0
+lengths (x ∷ xs) = length x + lengths xs
+
+pub length-concat : (xs : List (List ℕ)) → length (concat xs) ≡ lengths xs
+length-concat [] = refl
+length-concat (x ∷ xs) = let rest = length-concat xs in let both = length-append x (concat xs) in omega (arith, rest, both)
+
 no_lf : (b : ℕ) → 32 < b → eqb b 10 ≡ false
 no_lf b h = grind (arith, nat_tests)
 
