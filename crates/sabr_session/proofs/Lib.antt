@@ -11,6 +11,11 @@ mod PartWords
 mod Pieces
 mod SessionPieces
 mod SessionRowProofs
+mod SpelledWords
+mod SpelledLines
+mod SpelledDigests
+mod SpelledHead
+mod SpelledParts
 mod Spellings
 mod TextsApart
 pub mod SessionOutcomes
