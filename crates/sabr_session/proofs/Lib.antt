@@ -24,3 +24,4 @@ mod StepsTaken
 mod WordsTold
 mod LinesTold
 pub mod TextsTold
+pub mod Verified

@@ -63,15 +63,15 @@ part_read t h =
     let route : List ℕ = unwrap_or t.carried [] in
     let behind : List (List ℕ) = list_words t.excluded ++ codes "/" ∷ list_words route in
     let words : words_of (lists_text t.prefix t.excluded (list_text route)) ≡ list_words t.prefix ++ codes "/" ∷ behind =
-        list-apart t.prefix (list_text t.excluded ++ 32 ∷ (47 ∷ 32 ∷ list_text route)) h.prefix
-        ∙ ap (λ ws. list_words t.prefix ++ codes "/" ∷ ws) (list-apart t.excluded (list_text route) h.excluded)
-        ∙ ap (λ ws. list_words t.prefix ++ codes "/" ∷ (list_words t.excluded ++ codes "/" ∷ ws)) (contacts_words route h.route) in
+    list-apart t.prefix (list_text t.excluded ++ 32 ∷ (47 ∷ 32 ∷ list_text route)) h.prefix
+    ∙ ap (λ ws. list_words t.prefix ++ codes "/" ∷ ws) (list-apart t.excluded (list_text route) h.excluded)
+    ∙ ap (λ ws. list_words t.prefix ++ codes "/" ∷ (list_words t.excluded ++ codes "/" ∷ ws)) (contacts_words route h.route) in
     let lists = three_lists (list_words t.prefix ++ codes "/" ∷ behind) behind (list_words route) t.prefix t.excluded route
-        (ap contacts_of (before-list 1 4294967295 (omega arith) t.prefix behind h.prefix.within) ∙ contacts_read t.prefix h.prefix)
-        (sym (after-list 1 4294967295 (omega arith) t.prefix behind h.prefix.within))
-        (ap contacts_of (before-list 1 4294967295 (omega arith) t.excluded (list_words route) h.excluded.within) ∙ contacts_read t.excluded h.excluded)
-        (sym (after-list 1 4294967295 (omega arith) t.excluded (list_words route) h.excluded.within))
-        (contacts_read route h.route) in
+    (ap contacts_of (before-list 1 4294967295 (omega arith) t.prefix behind h.prefix.within) ∙ contacts_read t.prefix h.prefix)
+    (sym (after-list 1 4294967295 (omega arith) t.prefix behind h.prefix.within))
+    (ap contacts_of (before-list 1 4294967295 (omega arith) t.excluded (list_words route) h.excluded.within) ∙ contacts_read t.excluded h.excluded)
+    (sym (after-list 1 4294967295 (omega arith) t.excluded (list_words route) h.excluded.within))
+    (contacts_read route h.route) in
     rw (spelled_is t, label-there (codes "part ") (lists_text t.prefix t.excluded (list_text route)), words, lists, carried-back t.carried h.some_hop) refl
 
 pub part_line_is : (t : PartState) → PartIsTellable t → is_one_line (spelled_part t) ≡ true

@@ -21,6 +21,7 @@ mod session_writing;
 mod tests;
 mod text_buffer;
 mod text_laws;
+mod verifying;
 mod words;
 
 pub use numbers::{put_number, put_time};
@@ -31,3 +32,4 @@ pub use session_fault::SessionFault;
 pub use session_writing::write_session;
 pub use text_buffer::TextBuffer;
 pub use text_laws::texts_are_apart;
+pub use verifying::verify;
