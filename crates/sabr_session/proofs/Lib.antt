@@ -16,7 +16,7 @@ mod SpelledLines
 mod SpelledDigests
 mod SpelledHead
 mod SpelledParts
-mod Spellings
-mod TextsApart
 pub mod SessionOutcomes
 mod ShortStates
+mod TextsRead
+mod OneAnswer
