@@ -20,3 +20,7 @@ pub mod SessionOutcomes
 mod ShortStates
 mod TextsRead
 mod OneAnswer
+mod StepsTaken
+mod WordsTold
+mod LinesTold
+pub mod TextsTold
