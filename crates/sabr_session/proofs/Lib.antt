@@ -19,7 +19,7 @@ mod SpelledParts
 pub mod SessionOutcomes
 mod ShortStates
 mod TextsRead
-mod OneAnswer
+pub mod OneAnswer
 mod StepsTaken
 mod WordsTold
 mod LinesTold
