@@ -1,6 +1,7 @@
 //! Readers and writers whose contracts tell the bytes that move and how often they failed.
 
 mod count;
+mod flush_mark;
 mod std_device;
 mod text;
 mod traits;
