@@ -1,14 +1,14 @@
 //! Readers and writers of std, as devices.
 
-use crate::devices::count::FailureCount;
 use crate::devices::traits::{Failed, Read, Write};
+use crate::ghost_count::GhostCount;
 use std::io;
 
 /// A reader or writer of std, with the count of its failures. Every error of std's becomes `Failed`.
 #[derive(Drop)]
 pub struct Device<T> {
     inner: T,
-    failures: FailureCount,
+    failures: GhostCount,
 }
 
 impl<T> Device<T> {
@@ -16,7 +16,7 @@ impl<T> Device<T> {
     pub fn new(inner: T) -> Device<T> {
         Device {
             inner,
-            failures: FailureCount::new(),
+            failures: GhostCount::new(),
         }
     }
 }
