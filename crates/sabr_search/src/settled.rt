@@ -14,7 +14,7 @@ use crate::looks::Looks;
 use crate::part::Part;
 use crate::settling::Settling;
 use crate::task::Task;
-use sabr_model::{NoMemory, Plan, Request, Route};
+use sabr_model::{GhostCount, NoMemory, Plan, Request, Route};
 use std::alloc::{Allocator, Global};
 
 /// The least route behind the prefix: the first delivery says how many layers are needed, and what is too late.
@@ -58,12 +58,14 @@ pub struct Settled<A: Allocator + Copy = Global> {
     settling: Settling<A>,
     layers: Layers<A>,
     looks: Looks,
+    calls: GhostCount,
 }
 
 impl<A: Allocator + Copy> Settled<A> {
-    /// A finder that has taken no memory.
+    /// A finder that has taken no memory and was not called.
     pub fn new(alloc: A) -> Settled<A>
-        ensures { result.looks.count ≡ 0 }
+        ensures looks { result.looks.count ≡ 0 }
+        ensures calls { result.calls.count ≡ 0 }
     {
         Settled {
             alloc,
@@ -71,12 +73,15 @@ impl<A: Allocator + Copy> Settled<A> {
             settling: Settling::new(alloc),
             layers: Layers::new(alloc),
             looks: Looks::new(),
+            calls: GhostCount::new(),
         }
     }
 }
 
 impl<A: Allocator + Copy> BestOf<A> for Settled<A> {
     ghost looks_of = { λ f. f.looks.count };
+
+    ghost calls_of = { λ f. f.calls.count };
 
     fn best(
         &mut self,
@@ -88,8 +93,10 @@ impl<A: Allocator + Copy> BestOf<A> for Settled<A> {
         ensures least { IfOk result (IsLeast plan.now.plan request.now part.entry.prefix.now part.entry.excluded.now) }
         ensures bound { self.new.looks.count ≤ (3 * length plan.now.table + 1) * length plan.now.plan.contacts }
         ensures counted { IfOk result (λ answer. hops_told answer ≤ self.new.looks.count) }
+        ensures called { self.new.calls.count ≡ self.old.calls.count + 1 }
         ensures cut { IfOk result (λ answer. request.now.max_hops ≡ 20000 → self.new.looks.count ≤ (3 * (hops_told answer - length part.entry.prefix.now) + 3) * length plan.now.plan.contacts) }
     {
+        self.calls.add();
         self.looks = Looks::new();
         let _nodes = plan.nodes();
         let Some((standing, goal)) = enter(
