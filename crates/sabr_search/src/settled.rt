@@ -2,6 +2,7 @@
 
 ghost use Rattle.std.specs.Prelude.{◌≡◌, ◌≤◌, ◌+◌, ◌-◌, ◌*◌, IfOk, IsTrue, length};
 ghost use Rattle.sabr_model.specs.Route.{is_prefix};
+ghost use Rattle.sabr_model.specs.Table.{node_count};
 ghost use Rattle.sabr_search.specs.Part.{IsLeast};
 ghost use Rattle.sabr_search.specs.Task.{IsTask, IsBehind};
 ghost use Rattle.sabr_search.specs.Told.{hops_told};
@@ -91,7 +92,7 @@ impl<A: Allocator + Copy> BestOf<A> for Settled<A> {
     ) -> Result<Option<Route<A>>, NoMemory>
         requires fits { IsTrue (is_prefix plan.now.plan request.now part.prefix.now) }
         ensures least { IfOk result (IsLeast plan.now.plan request.now part.entry.prefix.now part.entry.excluded.now) }
-        ensures bound { self.new.looks.count ≤ (3 * length plan.now.table + 1) * length plan.now.plan.contacts }
+        ensures bound { self.new.looks.count ≤ (3 * node_count plan.now.plan.contacts + 1) * length plan.now.plan.contacts }
         ensures counted { IfOk result (λ answer. hops_told answer ≤ self.new.looks.count) }
         ensures called { self.new.calls.count ≡ self.old.calls.count + 1 }
         ensures cut { IfOk result (λ answer. request.now.max_hops ≡ 20000 → self.new.looks.count ≤ (3 * (hops_told answer - length part.entry.prefix.now) + 3) * length plan.now.plan.contacts) }
