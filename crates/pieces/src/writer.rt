@@ -2,7 +2,7 @@
 
 ghost use Rattle.std.specs.Prelude.{◌≡◌, Some, []};
 
-use sabr_model::{Failed, FailureCount, Write};
+use sabr_model::{Failed, GhostCount, Write};
 use std::alloc::{Allocator, Global};
 
 /// Takes bytes in pieces of a chosen size at most, up to a limit, and fails beyond it. It keeps what it took.
@@ -15,7 +15,7 @@ pub struct LimitedWriter<A: Allocator + Copy = Global> {
     piece: usize,
     flush_fails: bool,
     is_flushed: bool,
-    failures: FailureCount,
+    failures: GhostCount,
 }
 
 impl<A: Allocator + Copy> LimitedWriter<A> {
@@ -30,7 +30,7 @@ impl<A: Allocator + Copy> LimitedWriter<A> {
             piece,
             flush_fails: false,
             is_flushed: false,
-            failures: FailureCount::new(),
+            failures: GhostCount::new(),
         }
     }
 

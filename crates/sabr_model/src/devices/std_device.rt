@@ -2,9 +2,9 @@
 
 ghost use Rattle.std.specs.Prelude.{◌≡◌};
 
-use crate::devices::count::FailureCount;
 use crate::devices::flush_mark::FlushMark;
 use crate::devices::traits::{Failed, Read, Write};
+use crate::ghost_count::GhostCount;
 use std::io;
 
 /// A reader or writer of std, with the count of its failures and the mark of its flushes. Every error of std's
@@ -12,7 +12,7 @@ use std::io;
 #[derive(Drop)]
 pub struct Device<T> {
     inner: T,
-    failures: FailureCount,
+    failures: GhostCount,
     mark: FlushMark,
 }
 
@@ -24,7 +24,7 @@ impl<T> Device<T> {
     {
         Device {
             inner,
-            failures: FailureCount::new(),
+            failures: GhostCount::new(),
             mark: FlushMark::pending(),
         }
     }

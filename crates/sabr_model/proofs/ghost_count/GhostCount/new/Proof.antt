@@ -4,10 +4,10 @@ use mir.Val.{vstruct, vnil}
 use denote.Laws.{Is}
 use denote.Struct.Struct.{Struct, Struct-Makes}
 use denote.Struct.Owning.{shape}
-use Rattle.sabr_model.specs.contracts.devices.count.FailureCount.new as f
-use Rattle.sabr_model.proofs.devices.count.FailureCount.new.Statement.{statement}
-use Rattle.sabr_model.proofs.devices.count.FailureCount.new.Code as code
-use Rattle.sabr_model.specs.contracts.devices.count.FailureCount.{the_type}
+use Rattle.sabr_model.specs.contracts.ghost_count.GhostCount.new as f
+use Rattle.sabr_model.proofs.ghost_count.GhostCount.new.Statement.{statement}
+use Rattle.sabr_model.proofs.ghost_count.GhostCount.new.Code as code
+use Rattle.sabr_model.specs.contracts.ghost_count.GhostCount.{the_type}
 
 abbrev stayed : Stays f.ended.signature.params f.ended.kept
 stayed = tt
