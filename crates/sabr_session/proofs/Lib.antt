@@ -11,7 +11,12 @@ mod PartWords
 mod Pieces
 mod SessionPieces
 mod SessionRowProofs
-mod Spellings
-mod TextsApart
+mod SpelledWords
+mod SpelledLines
+mod SpelledDigests
+mod SpelledHead
+mod SpelledParts
 pub mod SessionOutcomes
 mod ShortStates
+mod TextsRead
+mod OneAnswer
