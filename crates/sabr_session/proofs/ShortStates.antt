@@ -171,9 +171,9 @@ module _ (p : ContactPlan) (r : RouteRequest) (good : IsPlan p) (s : State) (is 
     each = parts_short s.parts (part_short p r good s is);
   }
 
--- an accepted request whose avoided nodes are nodes
-pub request_is_short : (r : RouteRequest) → IsRequest r → AllByRecursion IsNode r.avoided → RequestIsShort r
-request_is_short r is nodes =
+-- an accepted request
+pub request_is_short : (r : RouteRequest) → IsRequest r → RequestIsShort r
+request_is_short r is =
     let source = is.source.1 in
     let destination = is.destination.1 in
     let time = is.time in
@@ -185,7 +185,7 @@ request_is_short r is nodes =
       time = omega (arith, time);
       margin = omega (arith, margin);
       hops = omega (arith, hops);
-      nodes = short r.avoided nodes;
+      nodes = short r.avoided is.nodes;
     }
   where
     short : (ns : List ℕ) → AllByRecursion IsNode ns → AreShort ns

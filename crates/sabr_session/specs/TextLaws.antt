@@ -1,16 +1,11 @@
 -- Laws of session texts.
 use Rattle.std.specs.Prelude.{◌≡◌, ℕ, List}
-use Rattle.std.specs.List.{AllByRecursion}
-use Rattle.sabr_model.specs.Plan.{ContactPlan, IsPlan, IsNode}
+use Rattle.sabr_model.specs.Plan.{ContactPlan, IsPlan}
 use Rattle.sabr_model.specs.Arrival.{RouteRequest}
 use Rattle.sabr_model.specs.Asking.{IsRequest}
 use Rattle.sabr_frontier.specs.State.{State}
 use Rattle.sabr_frontier.specs.Listing.{IsState}
 use Rattle.sabr_session.specs.SessionText.{text_of, old_text_of, HasText, IsUnlimited}
-
--- an accepted request: its avoided nodes are nodes, too
-abbrev pub IsAsked : RouteRequest → Type 0
-IsAsked r = IsRequest r × AllByRecursion IsNode r.avoided
 
 -- where two texts of a version are equal, so are their requests and their states
 pub record AreApart (h : List ℕ) (r q : RouteRequest) (s t : State) : Type 0 where
@@ -20,5 +15,5 @@ pub record AreApart (h : List ℕ) (r q : RouteRequest) (s t : State) : Type 0 w
 -- of accepted requests and well-formed states over a plan that have texts
 abbrev pub TextsAreApart : Type 0
 TextsAreApart =
-    (p : ContactPlan) (h : List ℕ) (r q : RouteRequest) (s t : State) → IsPlan p → IsAsked r → IsAsked q
+    (p : ContactPlan) (h : List ℕ) (r q : RouteRequest) (s t : State) → IsPlan p → IsRequest r → IsRequest q
     → IsState p r s → IsState p q t → HasText s → HasText t → AreApart h r q s t

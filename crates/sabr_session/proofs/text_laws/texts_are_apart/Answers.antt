@@ -4,8 +4,8 @@ use Rattle.sabr_session.proofs.text_laws.texts_are_apart.Goals as goal
 
 pub returns : goal.returns
 returns c = λ p h r q s t good asked other is is_other there also.
-    let one = request_is_short r asked.0 asked.1 in
-    let two = request_is_short q other.0 other.1 in
+    let one = request_is_short r asked in
+    let two = request_is_short q other in
     let first = state_is_short p r good s is there in
     let second = state_is_short p q good t is_other also in
     record {
