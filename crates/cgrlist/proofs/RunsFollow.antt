@@ -5,6 +5,7 @@ use Rattle.std.proofs.Math.Seq.{take-nil}
 use Rattle.std.proofs.lemmas.List.{drop-drop, length-take}
 use Rattle.sabr_model.specs.Plan.{ContactPlan, IsPlan}
 use Rattle.sabr_model.specs.Arrival.{RouteRequest}
+use Rattle.sabr_model.specs.Asking.{IsRequest}
 use Rattle.sabr_model.specs.Listing.{routes, page_of}
 use Rattle.sabr_plan.specs.Canonical.{digest_of}
 use Rattle.sabr_frontier.specs.State.{State}
@@ -13,7 +14,7 @@ use Rattle.sabr_frontier.proofs.Lawful.{steps_follow}
 use Rattle.sabr_frontier.proofs.PlacesFormed.{state_at_formed}
 use Rattle.sabr_session.specs.SessionText.{text_of, HasText, session_text, old_session_text}
 use Rattle.sabr_session.specs.SessionRead.{IsSessionOf}
-use Rattle.sabr_session.specs.TextLaws.{IsAsked, IsReadBack}
+use Rattle.sabr_session.specs.TextLaws.{IsReadBack}
 use Rattle.sabr_session.proofs.OneAnswer.{answers_once, is_read_back}
 use Rattle.cgrlist.specs.EveryRun.{Event, answered, refused, reread, unread, Beginning, started, from_text, LeadsTo, LeadOnTo, IsTextOfPlace, IsAt, BeginsWith, IsRun, asked_for, HaveTexts, FollowsListing, RunsFollow}
 
@@ -29,7 +30,7 @@ take_then (suc k) n (x ∷ xs) =
     let one : suc (k + n) ≡ suc k + n = omega arith in
     ap (λ ys. x ∷ ys) (take_then k n xs) ∙ ap (λ m. take m (x ∷ xs)) one
 
-module _ (p : ContactPlan) (r : RouteRequest) (good : IsPlan p) (asked : IsAsked r) where
+module _ (p : ContactPlan) (r : RouteRequest) (good : IsPlan p) (accepted : IsRequest r) where
   -- the place behind a page
   next_within : (i k : ℕ) → i ≤ length (routes p r) → i + length (page_of p r i k) ≤ length (routes p r)
   next_within i k h = omega (arith, length-take k (drop i (routes p r)), length-drop i (routes p r))
@@ -41,7 +42,7 @@ module _ (p : ContactPlan) (r : RouteRequest) (good : IsPlan p) (asked : IsAsked
 
   -- what is read of a text of a place
   read_back : (i : ℕ) → i ≤ length (routes p r) → HasText (state_at p r i) → IsReadBack p r (state_at p r i)
-  read_back i h there = is_read_back p good r (state_at p r i) (record { asked = asked; formed = state_at_formed p r good i h; there = there })
+  read_back i h there = is_read_back p good r (state_at p r i) (record { accepted = accepted; formed = state_at_formed p r good i h; there = there })
 
   same_place : (bytes : List ℕ) (x y : RouteRequest × State) → IsSessionOf p (digest_of p) bytes true (Ok x) → IsSessionOf p (digest_of p) bytes true (Ok y) → x ≡ y
   same_place bytes x y a b = let one = answers_once p (digest_of p) bytes true (Ok x) (Ok y) a b in cc

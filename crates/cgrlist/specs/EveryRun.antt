@@ -2,13 +2,13 @@
 use Rattle.std.specs.Prelude.{◌≡◌, ℕ, ◌+◌, ◌≤◌, nat_lt, true, is_some, ◌⊎◌, List, [], ◌∷◌, ◌++◌, length, Ok}
 use Rattle.sabr_model.specs.Plan.{ContactPlan, IsPlan}
 use Rattle.sabr_model.specs.Arrival.{RouteRequest}
+use Rattle.sabr_model.specs.Asking.{IsRequest}
 use Rattle.sabr_model.specs.Listing.{routes, page_of}
 use Rattle.sabr_plan.specs.Canonical.{digest_of}
 use Rattle.sabr_frontier.specs.State.{State}
 use Rattle.sabr_frontier.specs.Listing.{state_at, steps, next_route}
 use Rattle.sabr_session.specs.SessionText.{text_of, HasText, IsUnlimited, session_text, old_session_text}
 use Rattle.sabr_session.specs.SessionRead.{IsSessionOf}
-use Rattle.sabr_session.specs.TextLaws.{IsAsked}
 
 -- what happens to a session: a page of so many routes is answered; a page is refused; the session is written and its
 -- text is read; its text is not read, since memory is refused, and stays
@@ -87,4 +87,4 @@ pub record RunsFollow (p : ContactPlan) (r : RouteRequest) : Type 0 where
 
 -- over every accepted plan, for every accepted request
 abbrev pub EveryRunFollows : Type 0
-EveryRunFollows = (p : ContactPlan) (r : RouteRequest) → IsPlan p → IsAsked r → RunsFollow p r
+EveryRunFollows = (p : ContactPlan) (r : RouteRequest) → IsPlan p → IsRequest r → RunsFollow p r

@@ -48,8 +48,8 @@ module _ (p : ContactPlan) (good : IsPlan p) where
   -- a text is read to what it was written of
   pub is_read_back : (r : RouteRequest) (s : State) → CanBeTold p r s → IsReadBack p r s
   is_read_back r s h =
-      let request = request_is_tellable r h.asked.0 h.asked.1 in
-      let state = state_is_tellable p r good h.asked.0 s h.formed h.there in
+      let request = request_is_tellable r h.accepted in
+      let state = state_is_tellable p r good h.accepted s h.formed h.there in
       record {
         text = text_read p r s request state h.there h.formed;
         old = old_text_read p r s request state h.there h.formed;

@@ -228,9 +228,9 @@ module _ (p : ContactPlan) (r : RouteRequest) (good : IsPlan p) (asked : IsReque
     each = parts_are p r s.parts (part_is p r good asked s is);
   }
 
--- an accepted request whose avoided nodes are nodes
-pub request_is_tellable : (r : RouteRequest) → IsRequest r → AllByRecursion IsNode r.avoided → IsTellable r
-request_is_tellable r is nodes =
+-- an accepted request
+pub request_is_tellable : (r : RouteRequest) → IsRequest r → IsTellable r
+request_is_tellable r is =
     let some = leb (length r.avoided) 16 in
     let rises = rises_above 0 r.avoided in
     let source = not (has r.source r.avoided) in
@@ -238,7 +238,7 @@ request_is_tellable r is nodes =
     let a = and_parts (some && rises && source) destination is.avoids in
     let b = and_parts (some && rises) source a.0 in
     let c = and_parts some rises b.0 in
-    record { accepted = is; nodes = within r.avoided nodes; few = leb-true (length r.avoided) 16 c.0 }
+    record { accepted = is; nodes = within r.avoided is.nodes; few = leb-true (length r.avoided) 16 c.0 }
   where
     within : (ns : List ℕ) → AllByRecursion IsNode ns → AreWithin 0 18446744073709551615 ns
     within [] h = tt

@@ -1,7 +1,6 @@
 -- Laws of session texts.
 use Rattle.std.specs.Prelude.{◌≡◌, ℕ, Bool, true, List, Result, Ok}
-use Rattle.std.specs.List.{AllByRecursion}
-use Rattle.sabr_model.specs.Plan.{ContactPlan, IsPlan, IsNode}
+use Rattle.sabr_model.specs.Plan.{ContactPlan, IsPlan}
 use Rattle.sabr_model.specs.Arrival.{RouteRequest}
 use Rattle.sabr_model.specs.Asking.{IsRequest}
 use Rattle.sabr_plan.specs.Canonical.{digest_of}
@@ -11,13 +10,9 @@ use Rattle.sabr_session.specs.SessionText.{text_of, old_text_of, HasText, IsUnli
 use Rattle.sabr_session.specs.SessionRead.{IsSessionOf}
 use Rattle.sabr_session.specs.declared.session_fault.SessionFault.{SessionFault}
 
--- an accepted request: its avoided nodes are nodes, too
-abbrev pub IsAsked : RouteRequest → Type 0
-IsAsked r = IsRequest r × AllByRecursion IsNode r.avoided
-
 -- over a plan: an accepted request and a well-formed state that have a text
 pub record CanBeTold (p : ContactPlan) (r : RouteRequest) (s : State) : Type 0 where
-  pub asked : IsAsked r
+  pub accepted : IsRequest r
   pub formed : IsState p r s
   pub there : HasText s
 
