@@ -16,10 +16,10 @@ mod SpelledLines
 mod SpelledDigests
 mod SpelledHead
 mod SpelledParts
-mod Spellings
-mod TextsApart
 pub mod SessionOutcomes
 mod ShortStates
+mod TextsRead
+pub mod OneAnswer
 mod StepsTaken
 mod WordsTold
 mod LinesTold

@@ -1,10 +1,11 @@
 -- A digest's digits: there are 64, and each is one of a session text's.
-use Rattle.std.proofs.Common.{◌≡◌, ℕ, zero, suc, ◌+◌, ◌*◌, ◌/◌, ◌%◌, ◌<◌, ◌≤◌, Bool, true, false, ◌&&◌, ◌||◌, eqb, leb, List, [], ◌∷◌, ◌++◌, length, refl, sym, ap, ◌∙◌, arith}
+use Rattle.std.proofs.Common.{◌≡◌, ℕ, zero, suc, ◌*◌, ◌/◌, ◌%◌, ◌<◌, Bool, true, false, List, [], ◌∷◌, ◌++◌, length, refl, ap, ◌∙◌, arith}
 use Rattle.std.specs.Prelude.{slice_index}
 use Rattle.std.specs.Int.{w32, to_be_bytes}
 use Rattle.std.specs.List.{list_all}
 use Rattle.std.proofs.lemmas.Bool.{and_parts}
 use Rattle.std.proofs.lemmas.Bool.Decides.{nat_tests}
+use Rattle.std.proofs.lemmas.List.Folds.{list_all_at}
 use Rattle.hex.specs.Hex.{lower_digits, encode_with, encode_lower}
 use Rattle.sha2.specs.Sha256.{sha256, digest_bytes}
 use Rattle.sha2.proofs.Facts256.{length-sha256}
@@ -32,23 +33,11 @@ sha256_are m = digest_bytes_are _ 8
 
 -- a digit of the table
 a_digit : (k : ℕ) → k < 16 → is_digest_digit (slice_index lower_digits k) ≡ true
-a_digit zero l = refl
-a_digit (suc zero) l = refl
-a_digit (suc (suc zero)) l = refl
-a_digit (suc (suc (suc zero))) l = refl
-a_digit (suc (suc (suc (suc zero)))) l = refl
-a_digit (suc (suc (suc (suc (suc zero))))) l = refl
-a_digit (suc (suc (suc (suc (suc (suc zero)))))) l = refl
-a_digit (suc (suc (suc (suc (suc (suc (suc zero))))))) l = refl
-a_digit (suc (suc (suc (suc (suc (suc (suc (suc zero)))))))) l = refl
-a_digit (suc (suc (suc (suc (suc (suc (suc (suc (suc zero))))))))) l = refl
-a_digit (suc (suc (suc (suc (suc (suc (suc (suc (suc (suc zero)))))))))) l = refl
-a_digit (suc (suc (suc (suc (suc (suc (suc (suc (suc (suc (suc zero))))))))))) l = refl
-a_digit (suc (suc (suc (suc (suc (suc (suc (suc (suc (suc (suc (suc zero)))))))))))) l = refl
-a_digit (suc (suc (suc (suc (suc (suc (suc (suc (suc (suc (suc (suc (suc zero))))))))))))) l = refl
-a_digit (suc (suc (suc (suc (suc (suc (suc (suc (suc (suc (suc (suc (suc (suc zero)))))))))))))) l = refl
-a_digit (suc (suc (suc (suc (suc (suc (suc (suc (suc (suc (suc (suc (suc (suc (suc zero))))))))))))))) l = refl
-a_digit (suc (suc (suc (suc (suc (suc (suc (suc (suc (suc (suc (suc (suc (suc (suc (suc k)))))))))))))))) l = absurd (omega arith)
+a_digit k l = by_test (is_digest_digit (slice_index lower_digits k)) refl
+  where
+    by_test : (b : Bool) → is_digest_digit (slice_index lower_digits k) ≡ b → b ≡ true
+    by_test true e = refl
+    by_test false e = let none : true ≡ false = list_all_at is_digest_digit lower_digits k 0 l e in cc
 
 encoded_digits : (bs : List ℕ) → AreBytes bs → list_all is_digest_digit (encode_lower bs) ≡ true
 unfolding encode_with

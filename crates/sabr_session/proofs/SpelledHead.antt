@@ -1,21 +1,18 @@
 -- The first six lines of a session text, as they are spelled, say what they were written of.
-use Rattle.std.proofs.Common.{◌≡◌, ℕ, ◌+◌, ◌<◌, ◌≤◌, ◌^◌, Bool, true, false, cond, ◌&&◌, ◌||◌, not, eqb, ltb, leb, List, [], ◌∷◌, ◌++◌, length, take, drop, rules, refl, sym, ap, ◌∙◌, arith, append-nil, decimal, codes, Result, Ok, Err}
-use Rattle.std.specs.List.{AllByRecursion}
-use Rattle.std.specs.Str.{bytes_eq}
+use Rattle.std.proofs.Common.{◌≡◌, ℕ, ◌<◌, ◌≤◌, ◌^◌, true, false, eqb, ltb, List, [], ◌∷◌, ◌++◌, length, take, drop, rules, refl, sym, ap, ◌∙◌, arith, append-nil, decimal, codes, Ok}
 use Rattle.std.proofs.lemmas.Bool.Decides.{nat_tests}
-use Rattle.std.proofs.lemmas.Slice.Eq.{bytes_eq-Decides}
 use Rattle.std.specs.declared.option.Option.TheVariants.{Some, None}
 use Rattle.hex.specs.Hex.{encode_lower}
 use Rattle.sha2.specs.Sha256.{sha256}
 use Rattle.sabr_model.specs.Plan.{last_time}
 use Rattle.sabr_model.specs.Arrival.{RouteRequest}
-use Rattle.sabr_model.specs.Asking.{most_hops, most_margin, request_refusal, limit_refusal, may_avoid, unlimited, with_limits, IsRequest}
-use Rattle.sabr_plan.specs.Times.{time_of, time_text_of}
+use Rattle.sabr_model.specs.Asking.{most_hops, most_margin, request_refusal, limit_refusal, unlimited, IsRequest}
+use Rattle.sabr_plan.specs.Times.{time_text_of}
 use Rattle.sabr_plan.proofs.Seconds.{time_of-text}
 use Rattle.sabr_session.specs.SpacedNumbers.{list_text}
 use Rattle.sabr_session.specs.SessionText.{IsUnlimited}
 use Rattle.sabr_session.specs.SessionWords.{number_within, words_of, nodes_of, contacts_of}
-use Rattle.sabr_session.specs.SessionLines.{digest_named, request_of, emitted_of, last_listed, count_of, limited_of, unlimited_of, behind_label}
+use Rattle.sabr_session.specs.SessionLines.{digest_named, request_of, emitted_of, last_listed, count_of, behind_label}
 use Rattle.sabr_session.specs.SessionRead.{asked}
 use Rattle.sabr_session.specs.declared.first_lines.Version.TheVariants.{One, Two}
 use Rattle.sabr_session.specs.declared.request_line.RequestValues.{RequestValues}

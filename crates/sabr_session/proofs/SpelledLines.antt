@@ -1,5 +1,5 @@
 -- Lines of spelled pieces: they hold no LF, LF ends each, and lists are short.
-use Rattle.std.proofs.Common.{◌≡◌, ℕ, ◌+◌, ◌*◌, ◌<◌, ◌≤◌, ◌^◌, Bool, true, false, ◌&&◌, not, eqb, List, [], ◌∷◌, ◌++◌, length, refl, sym, ap, ◌∙◌, arith, append_assoc, append-nil, decimal, codes, length-append}
+use Rattle.std.proofs.Common.{◌≡◌, ℕ, ◌+◌, ◌*◌, ◌<◌, ◌≤◌, ◌^◌, true, false, not, eqb, List, [], ◌∷◌, ◌++◌, length, refl, sym, ap, ◌∙◌, arith, append_assoc, decimal, codes, length-append}
 use Rattle.std.specs.List.{concat}
 use Rattle.std.proofs.lemmas.Bool.Decides.{nat_tests}
 use Rattle.std.proofs.lemmas.Fmt.{length-decimal-le_wide}
@@ -33,7 +33,7 @@ lf_behind [] u = refl
 lf_behind (x ∷ xs) u =
     append_assoc x (concat (xs ++ codes "\n" ∷ [])) u ∙ ap (λ y. x ++ y) (lf_behind xs u) ∙ sym (append_assoc x (concat xs) (10 ∷ u))
 
-line-append : (u v : List ℕ) → is_one_line u ≡ true → is_one_line v ≡ true → is_one_line (u ++ v) ≡ true
+pub line-append : (u v : List ℕ) → is_one_line u ≡ true → is_one_line v ≡ true → is_one_line (u ++ v) ≡ true
 line-append u v h k = list_all-append (λ b. not (eqb b 10)) u v ∙ rw (h, k) refl
 
 -- pieces without LF

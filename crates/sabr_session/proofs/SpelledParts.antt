@@ -1,25 +1,23 @@
 -- The lines of parts, as they are spelled, say the parts in turn.
-use Rattle.std.proofs.Common.{◌≡◌, ℕ, ◌+◌, ◌<◌, ◌≤◌, Bool, true, false, cond, ◌&&◌, not, eqb, ltb, List, [], ◌∷◌, ◌++◌, map, length, refl, sym, ap, subst, ◌∙◌, arith, append-nil, append_assoc, length-append, codes, unwrap_or, Option, Some, None, Result, Ok, Err}
+use Rattle.std.proofs.Common.{◌≡◌, ℕ, ◌+◌, ◌<◌, ◌≤◌, true, false, eqb, ltb, List, [], ◌∷◌, ◌++◌, map, length, refl, sym, ap, subst, ◌∙◌, arith, append-nil, append_assoc, length-append, codes, unwrap_or, Option, Some, None, Ok}
 use Rattle.std.specs.List.{concat}
 use Rattle.std.specs.Option.{option_map_or}
-use Rattle.std.specs.Ordering.{nat_cmp, is_lt}
-use Rattle.std.specs.declared.cmp.Ordering.TheVariants.{Less}
+use Rattle.std.specs.Ordering.{is_lt}
 use Rattle.std.proofs.lemmas.Bool.Decides.{nat_tests}
 use Rattle.sabr_model.specs.Order.{by_numbers, numbers_before}
 use Rattle.sabr_model.specs.Plan.{ContactPlan}
 use Rattle.sabr_model.specs.Arrival.{RouteRequest}
 use Rattle.sabr_plan.specs.Words.{is_one_line}
-use Rattle.sabr_frontier.specs.Rising.{Rises, Below}
+use Rattle.sabr_frontier.specs.Rising.{Rises}
 use Rattle.sabr_frontier.specs.State.{PartState, pair_of}
 use Rattle.sabr_frontier.specs.Undo.{last_item, front}
 use Rattle.sabr_frontier.proofs.Nodes.{last_split}
 use Rattle.sabr_session.specs.SpacedNumbers.{list_text}
-use Rattle.sabr_session.specs.SessionWords.{words_of, contacts_of, before_slash, after_slash}
+use Rattle.sabr_session.specs.SessionWords.{words_of, contacts_of}
 use Rattle.sabr_session.specs.SessionLines.{carried_of, part_of}
-use Rattle.sabr_session.specs.SessionRead.{Said, misspelled, spelled_at, rise_strictly, comes_behind, may_carry, placed, part_said, line_said, read_line, read_lines}
-use Rattle.sabr_session.specs.declared.session_fault.SessionFault.{SessionFault}
+use Rattle.sabr_session.specs.SessionRead.{Said, rise_strictly, comes_behind, may_carry, line_said, read_lines}
 use Rattle.sabr_session.proofs.PartWords.{three_lists}
-use Rattle.sabr_session.proofs.SpelledWords.{list_words, words-apart, before-list, after-list}
+use Rattle.sabr_session.proofs.SpelledWords.{list_words, other_number, words-apart, before-list, after-list}
 use Rattle.sabr_session.proofs.SpelledLines.{concat_line, length-concat, list_line, list_length}
 use Rattle.sabr_session.proofs.SpelledHead.{IsContactList, label-there, contacts_words, contacts_read, word-apart}
 
@@ -127,13 +125,10 @@ abbrev pub ArePartsOf : ContactPlan → RouteRequest → List PartState → Type
 ArePartsOf p r [] = Unit {0}
 ArePartsOf p r (t ∷ ts) = IsPartOf p r t × ArePartsOf p r ts
 
-other_number : (n m : ℕ) → m < n → eqb n m ≡ false
-other_number n m less = grind (arith, nat_tests)
-
 not_before : (n m : ℕ) → m ≤ n → ltb n m ≡ false
 not_before n m le = grind (arith, nat_tests)
 
-is_before : (n m : ℕ) → n < m → ltb n m ≡ true
+pub is_before : (n m : ℕ) → n < m → ltb n m ≡ true
 is_before n m lt = grind (arith, nat_tests)
 
 same_number : (n m : ℕ) → n ≡ m → eqb n m ≡ true

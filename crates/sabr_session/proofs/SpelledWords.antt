@@ -1,13 +1,11 @@
 -- The words of what numbers, lists and times are spelled with.
-use Rattle.std.proofs.Common.{◌≡◌, ℕ, ◌+◌, ◌%◌, ◌<◌, ◌≤◌, ◌^◌, Bool, true, false, cond, ◌&&◌, not, eqb, List, [], ◌∷◌, ◌++◌, length, map, refl, sym, ap, ◌∙◌, arith, append-nil, decimal, codes, option_map}
-use Rattle.std.specs.List.{slice_split, onto_first, list_all}
+use Rattle.std.proofs.Common.{◌≡◌, ℕ, ◌+◌, ◌%◌, ◌<◌, ◌≤◌, ◌^◌, Bool, true, false, cond, eqb, List, [], ◌∷◌, ◌++◌, length, map, refl, ap, ◌∙◌, arith, append-nil, decimal, codes, option_map}
+use Rattle.std.specs.List.{slice_split, onto_first}
 use Rattle.std.specs.Str.{bytes_eq}
 use Rattle.std.proofs.lemmas.Bool.Decides.{nat_tests}
-use Rattle.std.proofs.lemmas.Fmt.{decimal_by_steps_wide, length-decimal-le_wide}
+use Rattle.std.proofs.lemmas.Fmt.{decimal_by_steps_wide}
 use Rattle.std.proofs.lemmas.List.Splits.{length-slice_split}
-use Rattle.std.proofs.lemmas.Slice.Eq.{bytes_eq-Decides}
-use Rattle.std.specs.declared.option.Option.{Option}
-use Rattle.std.specs.declared.option.Option.TheVariants.{Some, None}
+use Rattle.std.specs.declared.option.Option.TheVariants.{Some}
 use Rattle.sabr_session.specs.SpacedNumbers.{spaced_behind, list_text}
 use Rattle.sabr_session.specs.SessionWords.{number_within, is_space, words_of, all_of, counted, is_dash, list_within, is_slash, before_slash, after_slash}
 use Rattle.sabr_session.proofs.WithinBounds.{number_within-spelled_within}
@@ -50,13 +48,14 @@ numeric_is_word (d ∷ ds) h = (omega (arith, h.0), digits_are_word ds h.1)
 pub decimal_is_word : (n : ℕ) → n < 10 ^ 64 → IsWord (decimal n)
 decimal_is_word n h = numeric_is_word (decimal n) (decimal_is_numeric n h)
 
-other : (a b : ℕ) → b < a → eqb a b ≡ false
-other a b h = grind (arith, nat_tests)
+-- a number isn't a smaller one
+pub other_number : (a b : ℕ) → b < a → eqb a b ≡ false
+other_number a b h = grind (arith, nat_tests)
 
 -- a number isn't one byte before `0`
 numeric_apart : (ds : List ℕ) (c : ℕ) → IsNumeric ds → c < 48 → bytes_eq ds (c ∷ []) ≡ false
 numeric_apart [] c bad l = absurd bad
-numeric_apart (d ∷ ds) c is l = let first : eqb d c ≡ false = other d c (omega (arith, is.0)) in rw first refl
+numeric_apart (d ∷ ds) c is l = let first : eqb d c ≡ false = other_number d c (omega (arith, is.0)) in rw first refl
 
 pub not_dash : (n : ℕ) → n < 10 ^ 64 → bytes_eq (decimal n) (codes "-") ≡ false
 not_dash n h = numeric_apart (decimal n) 45 (decimal_is_numeric n h) (omega arith)
@@ -85,7 +84,7 @@ words-apart u v = split-apart u v
 split-word : (w : List ℕ) → IsWord w → slice_split is_space w ≡ w ∷ []
 split-word [] h = refl
 split-word (b ∷ w) h =
-    ap (λ (t : Bool). cond t ([] ∷ slice_split is_space w) (onto_first b (slice_split is_space w))) (other b 32 h.0)
+    ap (λ (t : Bool). cond t ([] ∷ slice_split is_space w) (onto_first b (slice_split is_space w))) (other_number b 32 h.0)
     ∙ ap (onto_first b) (split-word w h.1)
 
 -- a word

@@ -1,10 +1,10 @@
 -- The count grows by one. No memory is touched.
 use Rattle.sabr_model.proofs.CountWalks.{[], ◌∷◌, refl, proved, ftrue, flft, named, vunit, ‵, ◌⊛◌, ◌$◌, ◌∵◌, !, qed, done, move, keep, split, join, fsplit, fsplit3, fjoin, feq_i, suffices, frame, group, enter, of_opd, unit_lit, returns, alloc_all, pass_all, free_all, look_at, sets, MutRef, mut_vals, mut_Tells, plain, nothing, opens, closes, Stays, walk_of, says, stay_ref, Goes-ref, ends_at}
 use Rattle.std.proofs.Common.{◌+◌}
-use Rattle.sabr_model.specs.contracts.devices.count.FailureCount.add as f
-use Rattle.sabr_model.proofs.devices.count.FailureCount.add.Statement.{statement}
-use Rattle.sabr_model.proofs.devices.count.FailureCount.add.Code as code
-use Rattle.sabr_model.specs.contracts.devices.count.FailureCount.{the_row as R}
+use Rattle.sabr_model.specs.contracts.ghost_count.GhostCount.add as f
+use Rattle.sabr_model.proofs.ghost_count.GhostCount.add.Statement.{statement}
+use Rattle.sabr_model.proofs.ghost_count.GhostCount.add.Code as code
+use Rattle.sabr_model.specs.contracts.ghost_count.GhostCount.{the_row as R}
 
 abbrev stayed : Stays f.ended.signature.params f.ended.kept
 stayed = (stay_ref (0 ∷ []) tt (plain (λ _. R)), tt)

@@ -1,4 +1,4 @@
-//! The count of a device's failures.
+//! A count that proofs alone see: of a device's failures, of a finder's calls.
 
 ghost use Rattle.std.specs.Prelude.{◌≡◌, ℕ, ◌+◌};
 ghost use Rattle.std.specs.Borrow.{ftrue};
@@ -7,23 +7,23 @@ use std::marker::Model;
 
 /// A count that proofs alone see. It takes no bytes and has no greatest number.
 #[derive(Drop)]
-pub struct FailureCount {
+pub struct GhostCount {
     pub ghost count: { ℕ },
 }
 
-impl Model for FailureCount {
+impl Model for GhostCount {
     ghost also_owns = { λ _. ftrue };
 }
 
-impl FailureCount {
-    /// No failure so far.
-    pub fn new() -> FailureCount
+impl GhostCount {
+    /// Nothing counted so far.
+    pub fn new() -> GhostCount
         ensures { result.count ≡ 0 }
     {
-        FailureCount {}
+        GhostCount {}
     }
 
-    /// One failure more.
+    /// One more.
     pub fn add(&mut self)
         ensures { self.new.count ≡ self.old.count + 1 }
     {}

@@ -8,11 +8,11 @@ use Rattle.sabr_model.specs.Tabled.{IsHopNamed}
 use Rattle.sabr_search.specs.Hops.{IsSmall}
 use Rattle.sabr_search.proofs.PlanFacts.{hop_small}
 use Rattle.std.proofs.Common.{ℕ}
-use Rattle.sabr_search.proofs.looks.Looks.look.Goals as goal
+use Rattle.sabr_search.proofs.looks.Looks.hop.Goals as goal
 
 small : (p : TabledPlan) → IsPlan p.plan → (n : ℕ) (o : Option Hop) → MatchOption o (contact_named p.plan n ≡ None) (IsHopNamed p n) → IfSome o IsSmall
 small p good n None h = tt
 small p good n (Some hop) h = hop_small p good n hop h
 
 pub returns-clause-small : goal.returns-clause-small
-returns-clause-small g c = small c.args.plan.now c.requires.plan c.args.number c.hop.result c.hop.ensures
+returns-clause-small g c = small c.args.plan.now c.requires.plan c.look.result c.hop.result c.hop.ensures
