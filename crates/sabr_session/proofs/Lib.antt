@@ -13,5 +13,6 @@ mod SessionPieces
 mod SessionRowProofs
 mod Spellings
 mod TextsApart
+pub mod SaidLines
 pub mod SessionOutcomes
 mod ShortStates

@@ -1,6 +1,6 @@
 //! What the lines of a session text lead to: a loader, once there is a request.
 
-ghost use Rattle.std.specs.Prelude.{◌≡◌, [], true, false, None, IfOk, IfErr, OnOk, OnErr};
+ghost use Rattle.std.specs.Prelude.{◌≡◌, ◌≤◌, [], true, false, None, IfOk, IfErr, OnOk, OnErr};
 ghost use Rattle.std.specs.Option.{option_copied};
 ghost use Rattle.sabr_frontier.specs.Listing.{IsState};
 ghost use Rattle.sabr_frontier.specs.Loading.{IsRefusedBy, state_with};
@@ -59,16 +59,17 @@ impl<'p, B: BestOf<A>, A: Allocator + Copy> Stage<'p, B, A> {
     /// Takes in the request.
     pub(crate) fn begin(&mut self, request: Request)
         requires { self.old.has_request ≡ false }
-        ensures { self.new ≡ record { plan = self.old.plan; has_request = true; request = request; parts = [] } }
+        ensures { self.new ≡ record self.old { has_request = true; request = request } }
     {
         if let Some(finder) = self.finder.take() {
             self.loader = Some(Loader::new(self.alloc, self.plan, request, finder));
         }
     }
 
-    /// Takes in the line of a part, of this number.
+    /// Takes in the line of a part, which has this number.
     pub(crate) fn read_part(&mut self, number: u128, line: &[u8]) -> Result<(), SessionFault>
-        requires { self.old.has_request ≡ true }
+        requires request { self.old.has_request ≡ true }
+        requires number { 7 ≤ number }
         ensures value { Leaves (part_said self.old.plan.plan number (said_with nothing_said self.old) line.now) result (said_with nothing_said self.new) }
         ensures kept { (self.new.plan ≡ self.old.plan) × (self.new.has_request ≡ true) }
         ensures err { OnErr result (self.new ≡ self.old) }
