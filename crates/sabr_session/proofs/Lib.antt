@@ -14,5 +14,7 @@ mod SessionRowProofs
 mod Spellings
 mod TextsApart
 pub mod SaidLines
+pub mod NeverRead
+pub mod GoingOn
 pub mod SessionOutcomes
 mod ShortStates

@@ -115,7 +115,8 @@ impl<'p, B: BestOf<A>, A: Allocator + Copy> LinesRead<'p, B, A> {
 
     /// The number of the next line.
     pub(crate) fn next_number(&self) -> u128
-        ensures { result ≡ self.now.fed.lines + 1 }
+        ensures value { result ≡ self.now.fed.lines + 1 }
+        ensures limit { result ≤ 18446744073709551623 }
     {
         self.lines + 1
     }
@@ -132,7 +133,6 @@ impl<'p, B: BestOf<A>, A: Allocator + Copy> LinesRead<'p, B, A> {
         ensures value { Leaves (line_said self.old.plan.plan digest.now (self.old.fed.lines + 1) self.old.fed.said line.now) result self.new.fed.said }
         ensures plan { self.new.plan ≡ self.old.plan }
         ensures lines { OnOk result (self.new.fed.lines ≡ self.old.fed.lines + 1) }
-        ensures limit { self.new.fed.lines ≤ 18446744073709551622 }
     {
         let number = self.lines + 1;
         read_said(&mut self.head, &mut self.stage, digest, number, line)?;
@@ -142,7 +142,7 @@ impl<'p, B: BestOf<A>, A: Allocator + Copy> LinesRead<'p, B, A> {
 
     /// The session of all lines, behind `end`.
     pub(crate) fn into_session(self) -> Result<Session<'p, B, A>, SessionFault>
-        requires { is_behind (self.entry.fed.lines + 1) self.entry.fed.said ≡ true }
+        requires { is_behind (self.fed.lines + 1) self.fed.said ≡ true }
         ensures { IsSessionFrom self.entry.plan (Ok self.entry.fed.said) result }
     {
         let LinesRead {

@@ -109,12 +109,18 @@ impl<'p, B: BestOf<A>, A: Allocator + Copy> Stage<'p, B, A> {
         emitted: u128,
         last: &[u32],
     ) -> Result<Session<'p, B, A>, LoadFault>
-        requires { self.entry.has_request ≡ true }
+        requires { self.has_request ≡ true }
         ensures ok { IfOk result (λ s. s ≡ record { plan = self.entry.plan; request = self.entry.request; state = state_with self.entry.parts emitted last.now; former = []; searches = 0 }) }
         ensures formed { OnOk result (IsState self.entry.plan.plan self.entry.request (state_with self.entry.parts emitted last.now)) }
         ensures err { IfErr result (IsRefusedBy self.entry.plan.plan self.entry.request (state_with self.entry.parts emitted last.now)) }
     {
-        match self.loader {
+        let Stage {
+            alloc: _,
+            plan: _,
+            finder: _,
+            loader,
+        } = self;
+        match loader {
             Some(loader) => loader.finish(emitted, last),
             None => Err(LoadFault::NoMemory),
         }
