@@ -16,5 +16,6 @@ mod TextsApart
 pub mod SaidLines
 pub mod NeverRead
 pub mod GoingOn
+pub mod SessionGivenSoFar
 pub mod SessionOutcomes
 mod ShortStates
