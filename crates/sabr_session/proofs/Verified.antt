@@ -15,6 +15,7 @@ use Rattle.sabr_session.specs.SessionGiven.{ReadsSession, EndsText, BreaksText, 
 use Rattle.sabr_session.specs.Verifying.{IsSessionText, EndsVerified, BreaksVerified, RefusesVerified, VerifiesText}
 use Rattle.sabr_session.specs.declared.session_fault.SessionFault.{SessionFault}
 use Rattle.sabr_session.specs.declared.session_fault.SessionFault.TheVariants.{NotClosed, BadCount, Read, NoMemory}
+use Rattle.sabr_session.proofs.OneAnswer.{is_read_back}
 use Rattle.sabr_session.proofs.TextsTold.{IsTextOf, text_told}
 
 module _ (p : ContactPlan) (good : IsPlan p) where
@@ -41,7 +42,10 @@ module _ (p : ContactPlan) (good : IsPlan p) where
 
   -- a text of an accepted request and a well-formed state is read as these
   read_back : (bytes : List ℕ) (r : RouteRequest) (s : State) → IsRequest r → IsState p r s → HasText s → IsTextOf p (digest_of p) bytes r s → IsRead bytes r s
-  read_back bytes r s asked is there text = ?
+  read_back bytes r s asked is there text =
+      let back = is_read_back p good r s (record { accepted = asked; formed = is; there = there }) in
+      let reads : List ℕ → Type 0 = λ b. IsSessionOf p (digest_of p) b true (Ok (r, s)) in
+      is_read bytes r s (elim text [ | inl e ↦ subst reads (sym e) back.text | inr e ↦ subst reads (sym e.1) (back.old e.0) ])
 
   -- what is read as the state of its place is the text of it
   text_of_place : (bytes : List ℕ) (r : RouteRequest) (s : State) → IsSessionOf p (digest_of p) bytes true (Ok (r, s)) → IsRequest r → s ≡ state_at p r s.emitted → IsSessionText p bytes

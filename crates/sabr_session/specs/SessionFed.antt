@@ -1,11 +1,11 @@
 -- A session text that is read in pieces: what was read so far, and what comes of the text.
-use Rattle.std.specs.Prelude.{◌≡◌, ◌≢◌, ℕ, ◌+◌, ◌*◌, Bool, true, false, List, [], ◌++◌, length, Result, Ok, Err, ◌⊎◌}
+use Rattle.std.specs.Prelude.{◌≡◌, ◌≢◌, ℕ, ◌+◌, ◌*◌, nat_lt, ◌&&◌, ◌||◌, Bool, true, false, List, [], ◌++◌, length, Result, Ok, Err, ◌⊎◌}
 use Rattle.sabr_model.specs.Plan.{ContactPlan, TabledPlan}
 use Rattle.sabr_plan.specs.Canonical.{digest_of}
 use Rattle.sabr_plan.specs.Steps.{and_then}
-use Rattle.sabr_plan.specs.Words.{lines_of}
+use Rattle.sabr_plan.specs.Words.{has_bytes, lines_of}
 use Rattle.sabr_frontier.specs.Session.{Seen}
-use Rattle.sabr_session.specs.SessionRead.{Said, nothing_said, read_lines, last_line, ComesTo}
+use Rattle.sabr_session.specs.SessionRead.{Said, nothing_said, read_lines, is_behind, last_line, ComesTo}
 use Rattle.sabr_session.specs.declared.session_fault.SessionFault.{SessionFault}
 use Rattle.sabr_session.specs.declared.session_fault.SessionFault.TheVariants.{Read, NoMemory}
 
@@ -24,6 +24,10 @@ unfoldable pub outcome : ContactPlan → List ℕ → SessionFed → List ℕ �
 outcome p h s bytes ended =
     let text = lines_of (s.held ++ bytes) in
     and_then (read_lines p h (s.lines + 1) s.said text.ended) (last_line ended (s.lines + 1 + length text.ended) text.open_line)
+
+-- the beginning of line n that is refused whatever comes behind it: it has more than 660008 bytes, or a byte behind `end`
+abbrev pub is_bad_front : ℕ → Said → List ℕ → Bool
+is_bad_front n s front = (is_behind n s && has_bytes front) || nat_lt 660008 (length front)
 
 -- over a plan, what was fed of a text that wasn't refused
 pub record OpenText : Type 0 where

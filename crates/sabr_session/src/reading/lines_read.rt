@@ -1,7 +1,7 @@
 //! The lines of a session text that LF has ended.
 
-ghost use Rattle.std.specs.Prelude.{◌≡◌, ◌+◌, ◌≤◌, nat_lt, true, Ok, OnOk, OnErr};
-ghost use Rattle.sabr_session.specs.SessionRead.{is_behind, line_said};
+ghost use Rattle.std.specs.Prelude.{◌≡◌, ◌+◌, ◌≤◌, nat_lt, true, if◌then◌else◌, Ok, OnOk, OnErr};
+ghost use Rattle.sabr_session.specs.SessionRead.{end_said, is_behind, line_said, part_said};
 ghost use Rattle.sabr_session.specs.SessionFed.{opened_over, IsSessionFrom};
 ghost use Rattle.sabr_session.specs.SessionLeaving.{Leaves};
 ghost use Rattle.sabr_session.specs.SessionStage.{said_with};
@@ -56,21 +56,48 @@ fn read_said<'p, B: BestOf<A>, A: Allocator + Copy>(
     ensures head { OnErr result (head.new ≡ head.old) }
     ensures stage { OnErr result (stage.new ≡ stage.old) }
 {
+    if number == 1 {
+        head.read_header(line)
+    } else if number == 2 {
+        head.read_digest(digest, line)
+    } else if number == 3 {
+        let request = head.read_request(line)?;
+        stage.begin(request);
+        Ok(())
+    } else if number == 4 {
+        head.read_emitted(line)
+    } else if number == 5 {
+        head.read_last(line)
+    } else if number == 6 {
+        head.read_count(line)
+    } else {
+        read_other(head, stage, number, line)
+    }
+}
+
+/// Takes in a line of this number behind the first six.
+fn read_other<'p, B: BestOf<A>, A: Allocator + Copy>(
+    head: &Head<A>,
+    stage: &mut Stage<'p, B, A>,
+    number: u128,
+    line: &[u8],
+) -> Result<(), SessionFault>
+    requires request { stage.old.has_request ≡ true }
+    requires number { 7 ≤ number }
+    ensures value { Leaves (if nat_lt number (7 + head.now.count) then part_said stage.old.plan.plan number (said_with head.now stage.old) line.now else end_said number (said_with head.now stage.old) line.now) result (said_with head.now stage.new) }
+    ensures plan { stage.new.plan ≡ stage.old.plan }
+    ensures request { stage.new.has_request ≡ true }
+    ensures limit { OnOk result (number ≤ 18446744073709551622) }
+    ensures stage { OnErr result (stage.new ≡ stage.old) }
+{
     let end = OTHER_LINES + u128::from(head.count());
-    match number {
-        1 => head.read_header(line),
-        2 => head.read_digest(digest, line),
-        3 => {
-            let request = head.read_request(line)?;
-            stage.begin(request);
-            Ok(())
-        }
-        4 => head.read_emitted(line),
-        5 => head.read_last(line),
-        6 => head.read_count(line),
-        _ if number < end => stage.read_part(number, line),
-        _ if number == end && is_end(line) => Ok(()),
-        _ => Err(SessionFault::BadLine(number)),
+    if number < end {
+        return stage.read_part(number, line);
+    }
+    if number == end && is_end(line) {
+        Ok(())
+    } else {
+        Err(SessionFault::BadLine(number))
     }
 }
 
@@ -88,7 +115,8 @@ impl<'p, B: BestOf<A>, A: Allocator + Copy> LinesRead<'p, B, A> {
 
     /// The number of the next line.
     pub(crate) fn next_number(&self) -> u128
-        ensures { result ≡ self.now.fed.lines + 1 }
+        ensures value { result ≡ self.now.fed.lines + 1 }
+        ensures limit { result ≤ 18446744073709551623 }
     {
         self.lines + 1
     }
@@ -105,7 +133,6 @@ impl<'p, B: BestOf<A>, A: Allocator + Copy> LinesRead<'p, B, A> {
         ensures value { Leaves (line_said self.old.plan.plan digest.now (self.old.fed.lines + 1) self.old.fed.said line.now) result self.new.fed.said }
         ensures plan { self.new.plan ≡ self.old.plan }
         ensures lines { OnOk result (self.new.fed.lines ≡ self.old.fed.lines + 1) }
-        ensures limit { self.new.fed.lines ≤ 18446744073709551622 }
     {
         let number = self.lines + 1;
         read_said(&mut self.head, &mut self.stage, digest, number, line)?;
@@ -115,7 +142,7 @@ impl<'p, B: BestOf<A>, A: Allocator + Copy> LinesRead<'p, B, A> {
 
     /// The session of all lines, behind `end`.
     pub(crate) fn into_session(self) -> Result<Session<'p, B, A>, SessionFault>
-        requires { is_behind (self.entry.fed.lines + 1) self.entry.fed.said ≡ true }
+        requires { is_behind (self.fed.lines + 1) self.fed.said ≡ true }
         ensures { IsSessionFrom self.entry.plan (Ok self.entry.fed.said) result }
     {
         let LinesRead {

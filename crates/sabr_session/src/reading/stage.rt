@@ -1,6 +1,6 @@
 //! What the lines of a session text lead to: a loader, once there is a request.
 
-ghost use Rattle.std.specs.Prelude.{◌≡◌, [], true, false, None, IfOk, IfErr, OnOk, OnErr};
+ghost use Rattle.std.specs.Prelude.{◌≡◌, ◌≤◌, [], true, false, None, IfOk, IfErr, OnOk, OnErr};
 ghost use Rattle.std.specs.Option.{option_copied};
 ghost use Rattle.sabr_frontier.specs.Listing.{IsState};
 ghost use Rattle.sabr_frontier.specs.Loading.{IsRefusedBy, state_with};
@@ -59,16 +59,17 @@ impl<'p, B: BestOf<A>, A: Allocator + Copy> Stage<'p, B, A> {
     /// Takes in the request.
     pub(crate) fn begin(&mut self, request: Request)
         requires { self.old.has_request ≡ false }
-        ensures { self.new ≡ record { plan = self.old.plan; has_request = true; request = request; parts = [] } }
+        ensures { self.new ≡ record self.old { has_request = true; request = request } }
     {
         if let Some(finder) = self.finder.take() {
             self.loader = Some(Loader::new(self.alloc, self.plan, request, finder));
         }
     }
 
-    /// Takes in the line of a part, of this number.
+    /// Takes in the line of a part, which has this number.
     pub(crate) fn read_part(&mut self, number: u128, line: &[u8]) -> Result<(), SessionFault>
-        requires { self.old.has_request ≡ true }
+        requires request { self.old.has_request ≡ true }
+        requires number { 7 ≤ number }
         ensures value { Leaves (part_said self.old.plan.plan number (said_with nothing_said self.old) line.now) result (said_with nothing_said self.new) }
         ensures kept { (self.new.plan ≡ self.old.plan) × (self.new.has_request ≡ true) }
         ensures err { OnErr result (self.new ≡ self.old) }
@@ -108,12 +109,18 @@ impl<'p, B: BestOf<A>, A: Allocator + Copy> Stage<'p, B, A> {
         emitted: u128,
         last: &[u32],
     ) -> Result<Session<'p, B, A>, LoadFault>
-        requires { self.entry.has_request ≡ true }
+        requires { self.has_request ≡ true }
         ensures ok { IfOk result (λ s. s ≡ record { plan = self.entry.plan; request = self.entry.request; state = state_with self.entry.parts emitted last.now; former = []; searches = 0 }) }
         ensures formed { OnOk result (IsState self.entry.plan.plan self.entry.request (state_with self.entry.parts emitted last.now)) }
         ensures err { IfErr result (IsRefusedBy self.entry.plan.plan self.entry.request (state_with self.entry.parts emitted last.now)) }
     {
-        match self.loader {
+        let Stage {
+            alloc: _,
+            plan: _,
+            finder: _,
+            loader,
+        } = self;
+        match loader {
             Some(loader) => loader.finish(emitted, last),
             None => Err(LoadFault::NoMemory),
         }

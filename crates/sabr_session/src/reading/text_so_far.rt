@@ -1,11 +1,12 @@
 //! A session text that wasn't refused so far.
 
-ghost use Rattle.std.specs.Prelude.{◌≡◌, ◌+◌, ◌*◌, ◌<◌, ◌≤◌, [], ◌++◌, length, true, IsTrue, IfErr, OnOk, OnErr};
+ghost use Rattle.std.specs.Prelude.{◌≡◌, ◌+◌, ◌*◌, ◌<◌, ◌≤◌, [], ◌++◌, length, true, false, ◌⊎◌, IsTrue, IfErr, OnOk, OnErr};
 ghost use Rattle.sabr_plan.specs.Canonical.{digest_of};
 ghost use Rattle.sabr_plan.specs.Words.{is_one_line};
 ghost use Rattle.sabr_session.specs.SessionRead.{misspelled, read_line};
-ghost use Rattle.sabr_session.specs.SessionFed.{GoesOn, IsRefusedPiece, IsSessionFrom, opened_over, outcome_of, weight};
+ghost use Rattle.sabr_session.specs.SessionFed.{GoesOn, IsRefusedPiece, IsSessionFrom, is_bad_front, opened_over, outcome_of, weight};
 ghost use Rattle.sabr_session.specs.SessionLeaving.{Leaves};
+ghost use Rattle.sabr_session.specs.declared.session_fault.SessionFault.TheVariants as fault;
 
 use crate::held_line::{HeldLine, MOST_BYTES};
 use crate::reading::lines_read::LinesRead;
@@ -120,13 +121,18 @@ impl<'p, B: BestOf<A>, A: Allocator + Copy> TextSoFar<'p, B, A> {
     fn hold(&mut self, bytes: &[u8]) -> Result<(), SessionFault>
         requires { IsTrue (is_one_line bytes.now) }
         ensures ok { OnOk result (self.new ≡ record self.old { fed = record self.old.fed { held = self.old.fed.held ++ bytes.now } }) }
+        ensures bound { OnOk result (weight self.new < 660009 * 18446744073709551623) }
         ensures held { IsTrue (is_one_line self.old.fed.held) }
+        ensures fine { OnOk result (is_bad_front (self.old.fed.lines + 1) self.old.fed.said (self.old.fed.held ++ bytes.now) ≡ false) }
+        ensures err { IfErr result (λ f. (f ≡ fault.NoMemory) ⊎ ((f ≡ misspelled (self.old.fed.lines + 1)) × (is_bad_front (self.old.fed.lines + 1) self.old.fed.said (self.old.fed.held ++ bytes.now) ≡ true))) }
     {
+        let number = self.lines.next_number();
+        let room = MOST_BYTES - self.held.len();
         if bytes.is_empty() {
             return Ok(());
         }
-        if self.lines.has_end() || bytes.len() > MOST_BYTES - self.held.len() {
-            return Err(misspelled(self.lines.next_number()));
+        if self.lines.has_end() || bytes.len() > room {
+            return Err(misspelled(number));
         }
         let Ok(()) = self.held.append(bytes) else {
             return Err(SessionFault::NoMemory);
@@ -138,6 +144,8 @@ impl<'p, B: BestOf<A>, A: Allocator + Copy> TextSoFar<'p, B, A> {
     pub(crate) fn finish(self) -> Result<Session<'p, B, A>, SessionFault>
         ensures { IsSessionFrom self.entry.plan (outcome_of self.entry [] true) result }
     {
+        // contracts learn here that what is held is a line
+        let _ = self.held.len();
         if !self.lines.has_end() {
             return Err(misspelled(self.lines.next_number()));
         }
