@@ -3,10 +3,11 @@
 # that no failed step ends in a run of an old program. Its last line is 'N passed, M failed'.
 set -u
 
-script=$(dirname "$(readlink -f "$0")")/../cgrlist
+cd "$(dirname "$0")/.."
+source tests/expect.sh
+script=$PWD/cgrlist
 room=$(mktemp -d)
 trap 'rm -rf "$room"' EXIT
-passed=0 failed=0
 
 # Makes a clone with nothing built, in a folder whose name has a space, and a stub rt that tells two crates and
 # leaves a program behind.
@@ -47,16 +48,6 @@ builds() {
 touch_a_source() {
     find "$clone" -exec touch -h -d '2 hours ago' {} +
     touch "$clone/crates/low/src/lib.rt"
-}
-
-expect() {
-    local what=$1 wanted=$2 found=$3
-    if [ "$wanted" = "$found" ]; then
-        passed=$((passed + 1))
-    else
-        failed=$((failed + 1))
-        printf 'script: %s: wanted\n%s\nfound\n%s\n' "$what" "$wanted" "$found"
-    fi
 }
 
 expect_given_up() {
@@ -153,5 +144,4 @@ rm -rf "$clone/crates/cgrlist"
 call check
 expect_given_up 'no sources' "there are no sources in $clone/crates/cgrlist"
 
-echo "script: $passed passed, $failed failed"
-[ $failed = 0 ]
+finish script
