@@ -12,3 +12,4 @@ pub mod SessionGiven
 pub mod SessionPieces
 pub mod SessionLeaving
 pub mod TextLaws
+pub mod Verifying

@@ -21,6 +21,7 @@ mod session_writing;
 mod tests;
 mod text_buffer;
 mod text_laws;
+mod verifying;
 mod words;
 
 pub use numbers::{put_number, put_time};
@@ -30,4 +31,5 @@ pub use rows::texts_of_plan_a;
 pub use session_fault::SessionFault;
 pub use session_writing::write_session;
 pub use text_buffer::TextBuffer;
-pub use text_laws::texts_are_apart;
+pub use text_laws::{law7, one_answer};
+pub use verifying::verify;

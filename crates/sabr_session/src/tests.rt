@@ -4,3 +4,4 @@ mod lines;
 mod reading;
 mod reports;
 mod sessions;
+mod verifying;
