@@ -10,6 +10,7 @@ mod operand;
 mod read;
 mod reading;
 mod record_line;
+mod swift_line;
 #[cfg(test)]
 mod tests;
 mod time;
