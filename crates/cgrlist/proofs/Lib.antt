@@ -6,3 +6,4 @@ pub mod SpelledTimes
 pub mod SessionPages
 mod Explained
 mod HopLine
+mod RunsFollow

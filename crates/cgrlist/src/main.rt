@@ -7,6 +7,7 @@ mod check_run;
 mod check_text;
 mod command_line;
 mod ending_line;
+mod every_run;
 mod explain_run;
 mod explanation;
 mod failure;

@@ -1,6 +1,6 @@
 //! The runs of the program, over readers and writers.
 
-ghost use Rattle.std.specs.Prelude.{◌≡◌, ◌≤◌, ◌<◌, ◌+◌, ◌^◌, ℕ, All, Result, length};
+ghost use Rattle.std.specs.Prelude.{◌≡◌, ◌≤◌, ◌<◌, ◌+◌, ◌^◌, ℕ, All, Result, length, IfOk, IsTrue};
 ghost use Rattle.sabr_model.specs.Plan.{TabledPlan};
 ghost use Rattle.sabr_model.specs.Devices.{WritesText};
 ghost use Rattle.sabr_plan.specs.PlanRead.{ReadsPlan};
@@ -27,7 +27,8 @@ fn write_page<O: Write, A: Allocator + Copy>(
 ) -> Result<(), WriteFault>
     requires ranks { first_rank + length page.now.routes.items < 2 ^ 128 }
     requires times { All HasSpelledTimes page.now.routes.items }
-    ensures { WritesText (O.contents out.old) (O.failures out.old) (report_text page.now.routes.items first_rank page.now.more) result (O.contents out.new) (O.failures out.new) }
+    ensures text { WritesText (O.contents out.old) (O.failures out.old) (report_text page.now.routes.items first_rank page.now.more) result (O.contents out.new) (O.failures out.new) }
+    ensures flushed { IfOk result (λ _. IsTrue (O.flushed out.new)) }
 {
     write_report(page.routes.as_slice(), first_rank, page.more, out)?;
     let Ok(()) = out.flush() else {
@@ -45,7 +46,7 @@ fn write_first<O: Write, A: Allocator + Copy>(
     out: &mut O,
 ) -> Result<(), Failure>
     requires { count ≤ 10000 }
-    ensures { WritesFirst (Ok plan.now) request count result (O.contents out.old) (O.failures out.old) (O.contents out.new) (O.failures out.new) }
+    ensures { WritesFirst (Ok plan.now) request count result (O.contents out.old) (O.failures out.old) (O.contents out.new) (O.failures out.new) (O.flushed out.new) }
 {
     obeys_rules(plan);
     is_within_limits(&request);
@@ -69,7 +70,7 @@ fn read_and_write_first<P: Read, O: Write, A: Allocator + Copy>(
     requires { count ≤ 10000 }
     ensures { (planned : Result TabledPlan PlanFault)
         × ReadsPlan (P.remaining plan.old) (P.failures plan.old) planned (P.remaining plan.new) (P.failures plan.new)
-        × WritesFirst planned request count result (O.contents out.old) (O.failures out.old) (O.contents out.new) (O.failures out.new) }
+        × WritesFirst planned request count result (O.contents out.old) (O.failures out.old) (O.contents out.new) (O.failures out.new) (O.flushed out.new) }
 {
     match read_plan(alloc, plan) {
         Ok(plan) => write_first(alloc, &plan, request, count, out),
@@ -95,7 +96,7 @@ pub fn run_first<P: Read, O: Write, E: Write, A: Allocator + Copy>(
     requires { (1 ≤ count) × (count ≤ 10000) }
     ensures { (planned : Result TabledPlan PlanFault) × ((end : Result (Unit {0}) Failure)
         × ReadsPlan (P.remaining plan.old) (P.failures plan.old) planned (P.remaining plan.new) (P.failures plan.new)
-        × WritesFirst planned request count end (O.contents out.old) (O.failures out.old) (O.contents out.new) (O.failures out.new)
+        × WritesFirst planned request count end (O.contents out.old) (O.failures out.old) (O.contents out.new) (O.failures out.new) (O.flushed out.new)
         × TellsEnd end (E.contents err.old) (E.failures err.old) (E.contents err.new) (E.failures err.new)
         × (result ≡ status_at end)) }
 {

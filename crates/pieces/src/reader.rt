@@ -2,7 +2,7 @@
 
 ghost use Rattle.std.specs.Prelude.{◌≡◌, ◌<◌, ◌≤◌, Some, take, length};
 
-use sabr_model::{Failed, FailureCount, Read};
+use sabr_model::{Failed, GhostCount, Read};
 
 /// What a reader answers once it has given all its bytes.
 #[derive(Clone, Copy, Debug, PartialEq, Eq)]
@@ -19,7 +19,7 @@ pub struct PieceReader<'a> {
     bytes: &'a [u8],
     piece: usize,
     end: End,
-    failures: FailureCount,
+    failures: GhostCount,
     ghost gives: { 0 < piece },
 }
 
@@ -34,7 +34,7 @@ impl<'a> PieceReader<'a> {
             bytes,
             piece,
             end,
-            failures: FailureCount::new(),
+            failures: GhostCount::new(),
         }
     }
 

@@ -171,8 +171,8 @@ IsWrongLast leaves emitted last = emitted ≡ length leaves → IsGiven leaves l
 
 -- ---- the loader
 
-abbrev pub loaded : {A : Type 0} → TabledPlan → RouteRequest → Held A → Loaded
-loaded plan request held = record { plan = plan; request = request; parts = parts_in (holding_of held) }
+abbrev pub loaded : {A : Type 0} → TabledPlan → RouteRequest → Held A → ℕ → Loaded
+loaded plan request held calls = record { plan = plan; request = request; parts = parts_in (holding_of held); calls = calls }
 
 pub record IsLoader {A : Type 0} (plan : TabledPlan) (request : RouteRequest) (h : Held A) : Type 0 where
   pub rules : IsPlan plan.plan

@@ -15,11 +15,12 @@ use Rattle.sabr_frontier.specs.Formed.{IsClosed}
 use Rattle.sabr_frontier.specs.Listing.{IsState, leaves_in}
 use Rattle.sabr_frontier.specs.Undo.{last_item}
 
--- what callers see of a loader: the plan, the request, and the parts so far
+-- what callers see of a loader: the plan, the request, the parts so far, and how often the finder was called
 pub record Loaded : Type 0 where
   pub plan : TabledPlan
   pub request : RouteRequest
   pub parts : List PartState
+  pub calls : ℕ
 
 -- ---- a part more
 

@@ -12,13 +12,14 @@ use Rattle.sabr_frontier.specs.Undo.{CanUndo, IsRoomy, undone, undone_times}
 use Rattle.sabr_frontier.specs.Sound.{IsTree}
 
 -- what callers see: the plan and the request, the state, the states that can be gone back to, the latest first,
--- and how many searches the last call made
+-- how many searches the last call made, and how often the finder was called, by this session or before
 pub record Seen : Type 0 where
   pub plan : TabledPlan
   pub request : RouteRequest
   pub state : State
   pub former : List State
   pub searches : ℕ
+  pub calls : ℕ
 
 -- the tree is sound, and so is each of the n trees before it, to which undos lead
 abbrev pub IsSoundFor : {A : Type 0} → ContactPlan → RouteRequest → ℕ → Shape A → Type 0
@@ -44,8 +45,8 @@ abbrev pub former_of : {A : Type 0} → List ℕ → Shape A → List State
 former_of [] t = []
 former_of (s ∷ ss) t = shown (tree_before s t) ∷ former_of ss (tree_before s t)
 
-abbrev pub seen : {A : Type 0} → TabledPlan → RouteRequest → Tree A → List ℕ → ℕ → Seen
-seen plan request tree pages searches = record { plan = plan; request = request; state = shown (shape_of tree); former = former_of (reverse pages) (shape_of tree); searches = searches }
+abbrev pub seen : {A : Type 0} → TabledPlan → RouteRequest → Tree A → List ℕ → ℕ → ℕ → Seen
+seen plan request tree pages searches calls = record { plan = plan; request = request; state = shown (shape_of tree); former = former_of (reverse pages) (shape_of tree); searches = searches; calls = calls }
 
 pub record IsSession {A : Type 0} (plan : TabledPlan) (request : RouteRequest) (tree : Tree A) (pages : List ℕ) : Type 0 where
   pub rules : IsPlan plan.plan

@@ -1,6 +1,6 @@
 //! Whether a tree stands for the state of the place that it counts.
 
-ghost use Rattle.std.specs.Prelude.{◌≡◌, ◌↔◌, slice_get, IfOk, IsTrue};
+ghost use Rattle.std.specs.Prelude.{◌≡◌, ◌↔◌, ◌+◌, ◌≤◌, length, slice_get, IfOk, IsTrue};
 ghost use Rattle.std.specs.List.{list_any};
 ghost use Rattle.std.specs.Option.{option_and_then, option_copied};
 ghost use Rattle.std.specs.Ordering.{is_lt};
@@ -68,7 +68,8 @@ impl<A: Allocator + Copy> Tree<A> {
         finder: &mut B,
     ) -> Result<bool, NoMemory>
         requires { IsTree plan.now.plan request.now (shape_of self.now) }
-        ensures { IfOk result (λ yes. IsTrue yes ↔ CarriesLeast plan.now.plan request.now (shown (shape_of self.now))) }
+        ensures least { IfOk result (λ yes. IsTrue yes ↔ CarriesLeast plan.now.plan request.now (shown (shape_of self.now))) }
+        ensures called { B.calls_of finder.new ≤ B.calls_of finder.old + length self.now.nodes.items }
     {
         for node in self.nodes.iter() {
             let front = prefix(self.leaves.as_slice(), node);
@@ -90,7 +91,8 @@ impl<A: Allocator + Copy> Tree<A> {
     ) -> Result<bool, NoMemory>
         requires plan { IsPlan plan.now.plan }
         requires tree { IsTree plan.now.plan request.now (shape_of self.now) }
-        ensures { IfOk result (λ yes. IsTrue yes ↔ (shown (shape_of self.now) ≡ state_at plan.now.plan request.now (shown (shape_of self.now)).emitted)) }
+        ensures placed { IfOk result (λ yes. IsTrue yes ↔ (shown (shape_of self.now) ≡ state_at plan.now.plan request.now (shown (shape_of self.now)).emitted)) }
+        ensures called { B.calls_of finder.new ≤ B.calls_of finder.old + length self.now.nodes.items }
     {
         if let Some(last) = self.last_given() {
             if is_passed(last, self.leaves.as_slice()) {

@@ -1,6 +1,6 @@
 //! Dividing a part by the route that it carries: all that may be refused, before the tree changes.
 
-ghost use Rattle.std.specs.Prelude.{◌≡◌, ℕ, ◌+◌, ◌≤◌, ◌<◌, take, drop, slice_index, length, vec_len, false, [], ◌∷◌, IfOk, IsTrue};
+ghost use Rattle.std.specs.Prelude.{◌≡◌, ℕ, ◌+◌, ◌≤◌, ◌<◌, take, drop, slice_index, length, vec_len, false, [], ◌∷◌, IfOk, OnOk, IsTrue};
 ghost use Rattle.std.specs.Ordering.{nat_cmp};
 ghost use Rattle.sabr_model.specs.Route.{is_route};
 ghost use Rattle.sabr_frontier.specs.Rising.{has, Rises};
@@ -49,7 +49,8 @@ fn fresh_node<B: BestOf<A>, A: Allocator + Copy>(
 ) -> Result<Node<A>, NoMemory>
     requires route { IsTrue (is_route plan.now.plan request.now route.now) }
     requires longer { count < length route.now }
-    ensures { IfOk result (λ n. n ≡ record { leaf = leaf; length = count; excluded = slice_index route.now count ∷ []; route = best_of plan.now.plan request.now (take count route.now) (slice_index route.now count ∷ []) }) }
+    ensures node { IfOk result (λ n. n ≡ record { leaf = leaf; length = count; excluded = slice_index route.now count ∷ []; route = best_of plan.now.plan request.now (take count route.now) (slice_index route.now count ∷ []) }) }
+    ensures called { OnOk result (B.calls_of finder.new ≡ B.calls_of finder.old + 1) }
 {
     let excluded = Excluded::one(alloc, route[count])?;
     let found = ask(finder, plan, request, &route[..count], excluded.as_slice())?;
@@ -74,7 +75,8 @@ fn fresh_nodes<B: BestOf<A>, A: Allocator + Copy>(
 ) -> Result<Vec<Node<A>, A>, NoMemory>
     requires route { IsTrue (is_route plan.now.plan request.now route.now) }
     requires within { first ≤ length route.now }
-    ensures { IfOk result (λ v. v.items ≡ fresh_nodes (best_of plan.now.plan request.now) leaf (take first route.now) (drop first route.now)) }
+    ensures nodes { IfOk result (λ v. v.items ≡ fresh_nodes (best_of plan.now.plan request.now) leaf (take first route.now) (drop first route.now)) }
+    ensures called { IfOk result (λ v. B.calls_of finder.new ≡ B.calls_of finder.old + length v.items) }
 {
     let Ok(mut nodes) = Vec::with_capacity(alloc, route.len() - first) else {
         return Err(NoMemory);
@@ -104,6 +106,7 @@ pub fn divide<B: BestOf<A>, A: Allocator + Copy>(
     ensures wide { IfOk result (λ w. w.wide ≡ wide_of node.now route.now) }
     ensures found { IfOk result (λ w. w.found ≡ best_of plan.now.plan request.now (take node.now.length route.now) (wide_of node.now route.now)) }
     ensures fresh { IfOk result (λ w. w.fresh.items ≡ fresh_nodes (best_of plan.now.plan request.now) leaf (take (node.now.length + 1) route.now) (drop (node.now.length + 1) route.now)) }
+    ensures called { IfOk result (λ w. B.calls_of finder.new ≡ B.calls_of finder.old + (length w.fresh.items + 1)) }
 {
     let count = node.length;
     let wide = node.excluded.with(alloc, route[count])?;

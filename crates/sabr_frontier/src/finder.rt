@@ -1,6 +1,6 @@
 //! Asking a finder for the least route of a part.
 
-ghost use Rattle.std.specs.Prelude.{IfOk, IsTrue};
+ghost use Rattle.std.specs.Prelude.{◌≡◌, ◌+◌, IfOk, IsTrue};
 ghost use Rattle.sabr_model.specs.Route.{is_prefix};
 ghost use Rattle.sabr_frontier.specs.Best.{IsBest};
 
@@ -18,7 +18,8 @@ pub fn ask<B: BestOf<A>, A: Allocator + Copy>(
     excluded: &[u32],
 ) -> Result<Option<Route<A>>, NoMemory>
     requires { IsTrue (is_prefix plan.now.plan request.now prefix.now) }
-    ensures { IfOk result (IsBest plan.now.plan request.now prefix.now excluded.now) }
+    ensures best { IfOk result (IsBest plan.now.plan request.now prefix.now excluded.now) }
+    ensures called { B.calls_of finder.new ≡ B.calls_of finder.old + 1 }
 {
     finder.best(plan, request, Part { prefix, excluded })
 }

@@ -34,6 +34,7 @@ impl<A: Allocator + Copy> Tree<A> {
         ensures state { OnOk result (shown (shape_of self.new) ≡ (steps plan.now.plan request.now count (shown (shape_of self.old))).1) }
         ensures entries { OnOk result (length self.new.journal.items ≡ length self.old.journal.items + length (steps plan.now.plan request.now count (shown (shape_of self.old))).0) }
         ensures searches { IfOk result (λ n. n ≡ searches_in plan.now.plan request.now count (shown (shape_of self.old))) }
+        ensures called { IfOk result (λ n. B.calls_of finder.new ≡ B.calls_of finder.old + n) }
         ensures sound { IsSound plan.now.plan request.now (shape_of self.new) }
         ensures longer { length self.old.journal.items ≤ length self.new.journal.items }
         ensures back { tree_before (length self.old.journal.items) (shape_of self.new) ≡ shape_of self.old }

@@ -18,7 +18,8 @@ use std::alloc::{Allocator, Global};
 use std::marker::Model;
 
 /// The parts of a state that is to become a session. No search is run: what a part carries is judged as a route of the
-/// part, and not as its least. Contracts see the plan, the request and the parts so far.
+/// part, and not as its least. Contracts see the plan, the request, the parts so far, and how often the
+/// finder was called.
 #[derive(Drop)]
 pub struct Loader<'p, B: BestOf<A>, A: Allocator + Copy = Global> {
     alloc: A,
@@ -34,7 +35,7 @@ impl<'p, B: BestOf<A>, A: Allocator + Copy> Model for Loader<'p, B, A> {
 
     ghost Value = { Loaded };
 
-    ghost view = { λ l. loaded l.plan.now l.request l.held };
+    ghost view = { λ l. loaded l.plan.now l.request l.held (B.calls_of l.finder) };
 
     ghost invariant = { λ l. IsLoader l.plan.now l.request l.held };
 }
@@ -42,7 +43,7 @@ impl<'p, B: BestOf<A>, A: Allocator + Copy> Model for Loader<'p, B, A> {
 impl<'p, B: BestOf<A>, A: Allocator + Copy> Loader<'p, B, A> {
     /// A loader without a part. It takes no memory.
     pub fn new(alloc: A, plan: &'p Plan<A>, request: Request, finder: B) -> Loader<'p, B, A>
-        ensures { result ≡ record { plan = plan.now; request = request; parts = [] } }
+        ensures { result ≡ record { plan = plan.now; request = request; parts = []; calls = B.calls_of finder } }
     {
         // contracts learn here that the plan and the request keep their rules
         let _ = plan.contacts();
@@ -118,7 +119,7 @@ impl<'p, B: BestOf<A>, A: Allocator + Copy> Loader<'p, B, A> {
     /// number of their leaves, or `last` isn't one of them, or isn't empty where there is none; else
     /// [`LoadFault::NoMemory`] where a growth was refused. The loader is dropped with its finder.
     pub fn finish(self, emitted: u128, last: &[u32]) -> Result<Session<'p, B, A>, LoadFault>
-        ensures ok { IfOk result (λ s. s ≡ record { plan = self.entry.plan; request = self.entry.request; state = state_with self.entry.parts emitted last.now; former = []; searches = 0 }) }
+        ensures ok { IfOk result (λ s. s ≡ record { plan = self.entry.plan; request = self.entry.request; state = state_with self.entry.parts emitted last.now; former = []; searches = 0; calls = self.entry.calls }) }
         ensures formed { OnOk result (IsState self.entry.plan.plan self.entry.request (state_with self.entry.parts emitted last.now)) }
         ensures err { IfErr result (IsRefusedBy self.entry.plan.plan self.entry.request (state_with self.entry.parts emitted last.now)) }
     {

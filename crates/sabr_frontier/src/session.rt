@@ -20,7 +20,7 @@ use std::marker::Model;
 
 /// A listing of the routes of a plan for a request, as far as they were given: the parts that are left (Yen,
 /// Lawler), each with its least route. Contracts see the plan, the request, the state, the states that `back` leads
-/// to, the latest first, and the count of searches.
+/// to, the latest first, the count of searches, and how often the finder was called.
 #[derive(Drop)]
 pub struct Session<'p, B: BestOf<A>, A: Allocator + Copy = Global> {
     alloc: A,
@@ -37,7 +37,7 @@ impl<'p, B: BestOf<A>, A: Allocator + Copy> Model for Session<'p, B, A> {
 
     ghost Value = { Seen };
 
-    ghost view = { λ s. seen s.plan.now s.request s.tree s.pages.items s.searches };
+    ghost view = { λ s. seen s.plan.now s.request s.tree s.pages.items s.searches (B.calls_of s.finder) };
 
     ghost invariant = { λ s. IsSession s.plan.now s.request s.tree s.pages.items };
 }
@@ -54,7 +54,7 @@ impl<'p, B: BestOf<A>, A: Allocator + Copy> Session<'p, B, A> {
         request: Request,
         mut finder: B,
     ) -> Result<Session<'p, B, A>, NoMemory>
-        ensures { IfOk result (λ s. s ≡ record { plan = plan.now; request = request; state = state_at plan.now.plan request 0; former = []; searches = 1 }) }
+        ensures { IfOk result (λ s. s ≡ record { plan = plan.now; request = request; state = state_at plan.now.plan request 0; former = []; searches = 1; calls = B.calls_of finder + 1 }) }
     {
         // contracts learn here that the plan and the request keep their rules
         let _ = plan.contacts();
@@ -83,7 +83,7 @@ impl<'p, B: BestOf<A>, A: Allocator + Copy> Session<'p, B, A> {
         requires sound { IsTree plan.now.plan request (shape_of tree) }
         requires fresh { tree.journal.items ≡ [] }
         requires room { IsRoomy tree }
-        ensures { result ≡ record { plan = plan.now; request = request; state = shown (shape_of tree); former = []; searches = 0 } }
+        ensures { result ≡ record { plan = plan.now; request = request; state = shown (shape_of tree); former = []; searches = 0; calls = B.calls_of finder } }
     {
         // contracts learn here that the plan and the request keep their rules
         let _ = plan.contacts();
@@ -114,10 +114,11 @@ impl<'p, B: BestOf<A>, A: Allocator + Copy> Session<'p, B, A> {
         ensures state { OnOk result (self.new.state ≡ (steps self.old.plan.plan self.old.request count self.old.state).1) }
         ensures former { OnOk result (self.new.former ≡ former_then (steps self.old.plan.plan self.old.request count self.old.state).0 self.old.state self.old.former) }
         ensures searches { OnOk result (self.new.searches ≡ searches_in self.old.plan.plan self.old.request count self.old.state) }
+        ensures calls { OnOk result (self.new.calls ≡ self.old.calls + searches_in self.old.plan.plan self.old.request count self.old.state) }
         ensures plan { self.new.plan ≡ self.old.plan }
         ensures request { self.new.request ≡ self.old.request }
         ensures new_routes { GivesNewRoutes self.old.plan.plan self.old.request count self.old.state }
-        ensures err { OnErr result (self.new ≡ self.old) }
+        ensures err { OnErr result (self.new ≡ record self.old { calls = self.new.calls }) }
         ensures free { (count ≡ 0) ⊎ (next_route self.old.plan.plan self.old.request self.old.state ≡ None) → IsOk result }
     {
         let mut given = Vec::new(self.alloc);
@@ -156,6 +157,7 @@ impl<'p, B: BestOf<A>, A: Allocator + Copy> Session<'p, B, A> {
         ensures searches { IsTrue result → self.new.searches ≡ 0 }
         ensures plan { self.new.plan ≡ self.old.plan }
         ensures request { self.new.request ≡ self.old.request }
+        ensures calls { self.new.calls ≡ self.old.calls }
         ensures no { IsFalse result → self.new ≡ self.old }
         ensures none { IsFalse result → self.old.former ≡ [] }
     {
@@ -175,7 +177,8 @@ impl<'p, B: BestOf<A>, A: Allocator + Copy> Session<'p, B, A> {
     ///
     /// [`NoMemory`] where a growth was refused.
     pub fn certify(&mut self) -> Result<bool, NoMemory>
-        ensures same { self.new ≡ self.old }
+        ensures same { self.new ≡ record self.old { calls = self.new.calls } }
+        ensures calls { self.new.calls ≤ self.old.calls + length self.old.state.parts }
         ensures ok { IfOk result (λ yes. IsTrue yes ↔ (self.old.state ≡ state_at self.old.plan.plan self.old.request self.old.state.emitted)) }
     {
         self.tree

@@ -39,7 +39,8 @@ impl<A: Allocator + Copy> Tree<A> {
         requires carries { IsSome (route_at self.now.nodes.items node) }
         requires order { InPairs (IsBefore self.now.leaves.items self.now.nodes.items) self.now.index.items }
         requires dividable { CanDivide plan.now.plan request.now self.now.nodes.items node }
-        ensures { IfOk result (IsReady plan.now.plan request.now (shape_of self.now) node) }
+        ensures ready { IfOk result (IsReady plan.now.plan request.now (shape_of self.now) node) }
+        ensures called { IfOk result (λ w. B.calls_of finder.new ≡ B.calls_of finder.old + (length w.division.fresh.items + 1)) }
     {
         let part = &self.nodes[node.0];
         let Some(route) = &part.route else {
@@ -86,6 +87,7 @@ impl<A: Allocator + Copy> Tree<A> {
         ensures ok { OnOk result (shape_of self.new ≡ taken plan.now.plan request.now (shape_of self.old)) }
         ensures given { OnOk result (IfSome (least_route (shape_of self.old)) (λ x. given.new.items ≡ given.old.items ++ x ∷ [])) }
         ensures count { IfOk result (λ n. n ≡ new_count (shape_of self.old)) }
+        ensures called { IfOk result (λ n. B.calls_of finder.new ≡ B.calls_of finder.old + n) }
         ensures err { OnErr result (shape_of self.new ≡ shape_of self.old) }
         ensures room { IsRoomy self.new }
     {

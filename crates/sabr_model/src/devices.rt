@@ -1,11 +1,10 @@
 //! Readers and writers whose contracts tell the bytes that move and how often they failed.
 
-mod count;
+mod flush_mark;
 mod std_device;
 mod text;
 mod traits;
 
-pub use count::FailureCount;
 pub use std_device::Device;
 pub use text::{WriteFault, write_text};
 pub use traits::{Failed, Read, Write};

@@ -3,6 +3,7 @@
 ghost use Rattle.std.specs.Prelude.{◌≡◌, ℕ, ◌+◌, ◌*◌, ◌≤◌, IfOk, IsTrue, length};
 ghost use Rattle.sabr_search.specs.Part.{IsLeast};
 ghost use Rattle.sabr_model.specs.Route.{is_prefix};
+ghost use Rattle.sabr_model.specs.Table.{node_count};
 ghost use Rattle.sabr_search.specs.Told.{hops_told};
 
 use crate::part::Part;
@@ -11,7 +12,11 @@ use std::alloc::Allocator;
 
 /// A finder of the least route of a part of the routes.
 pub trait BestOf<A: Allocator + Copy>: Drop {
+    /// How many contact records the last call of `best` read.
     ghost looks_of: { Self → ℕ };
+
+    /// How often `best` was called, whether it answered or was refused.
+    ghost calls_of: { Self → ℕ };
 
     /// The least route of the part by key (delivery, number of hops, contact numbers), or none where the part has no
     /// route.
@@ -29,8 +34,9 @@ pub trait BestOf<A: Allocator + Copy>: Drop {
     ) -> Result<Option<Route<A>>, NoMemory>
         requires fits { IsTrue (is_prefix plan.now.plan request.now part.prefix.now) }
         ensures least { IfOk result (IsLeast plan.now.plan request.now part.entry.prefix.now part.entry.excluded.now) }
-        ensures bound { looks_of self.new ≤ (3 * length plan.now.table + 1) * length plan.now.plan.contacts }
-        ensures counted { IfOk result (λ answer. hops_told answer ≤ looks_of self.new) };
+        ensures bound { looks_of self.new ≤ (3 * node_count plan.now.plan.contacts + 1) * length plan.now.plan.contacts }
+        ensures counted { IfOk result (λ answer. hops_told answer ≤ looks_of self.new) }
+        ensures called { calls_of self.new ≡ calls_of self.old + 1 };
 
     /// How many times the last call of `best` read a contact's record, 0 before the first.
     fn looks(&self) -> u64

@@ -66,7 +66,7 @@ fn pass_prefix<A: Allocator + Copy>(
     };
     shut[source] = true;
     for number in prefix {
-        let Some(hop) = looks.look(plan, *number) else {
+        let Some(hop) = looks.hop(plan, *number) else {
             unreachable!();
         };
         let Some(at) = arrive_by_hop(request.margin_ppm(), standing.at, &hop) else {

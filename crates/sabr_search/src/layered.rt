@@ -8,7 +8,7 @@ use crate::layers::{Layers, Limits, NEVER};
 use crate::looks::Looks;
 use crate::part::Part;
 use crate::task::Task;
-use sabr_model::{NoMemory, Plan, Request, Route};
+use sabr_model::{GhostCount, NoMemory, Plan, Request, Route};
 use std::alloc::{Allocator, Global};
 
 /// A finder that makes hop layers forward, deadlines backward, and then picks the least numbers from the front.
@@ -21,18 +21,21 @@ pub struct Layered<A: Allocator + Copy = Global> {
     shut: Vec<bool, A>,
     layers: Layers<A>,
     looks: Looks,
+    calls: GhostCount,
 }
 
 impl<A: Allocator + Copy> Layered<A> {
-    /// A finder that has taken no memory.
+    /// A finder that has taken no memory and was not called.
     pub fn new(alloc: A) -> Layered<A>
-        ensures { result.looks.count ≡ 0 }
+        ensures looks { result.looks.count ≡ 0 }
+        ensures calls { result.calls.count ≡ 0 }
     {
         Layered {
             alloc,
             shut: Vec::new(alloc),
             layers: Layers::new(alloc),
             looks: Looks::new(),
+            calls: GhostCount::new(),
         }
     }
 }
@@ -40,12 +43,15 @@ impl<A: Allocator + Copy> Layered<A> {
 impl<A: Allocator + Copy> BestOf<A> for Layered<A> {
     ghost looks_of = { λ f. f.looks.count };
 
+    ghost calls_of = { λ f. f.calls.count };
+
     fn best(
         &mut self,
         plan: &Plan<A>,
         request: &Request,
         part: Part<'_>,
     ) -> Result<Option<Route<A>>, NoMemory> {
+        self.calls.add();
         self.looks = Looks::new();
         let Some((standing, goal)) = enter(
             &mut self.shut,

@@ -29,6 +29,7 @@ impl<'a, A: Allocator + Copy> Task<'a, A> {
         requires link { IsLinkAt self.now node to passes.now }
         requires few { looks.old.count + length passes.now ≤ 2 ^ 62 }
         ensures looks { looks.new.count ≤ looks.old.count + length passes.now }
+        ensures some_looks { (result ≡ least) ⊎ (looks.old.count < looks.new.count) }
         ensures lower { (n : ℕ) → IsAtMost least n → IsAtMost result n }
         ensures sound { (result ≡ least) ⊎ IfSome result (λ s. (s.node ≡ to) × (s.at < before) × (slice_index_or self.now.shut to false ≡ false → Takes self.now s.number node at to s.at)) }
         ensures full { (n w b : ℕ) → HasNumber passes.now n → Takes self.now n node at w b → b < before → IsAtMost result n }
@@ -38,7 +39,7 @@ impl<'a, A: Allocator + Copy> Task<'a, A> {
         }
         let mut chosen = least;
         for place in first_open(self, node, to, passes, at)..passes.len() {
-            let pass = &passes[place];
+            let pass = looks.look(&passes[place]);
             if self.comes_late(pass, at, before) {
                 return chosen;
             }
@@ -48,7 +49,7 @@ impl<'a, A: Allocator + Copy> Task<'a, A> {
             if is_at_most(chosen, pass.number) {
                 continue;
             }
-            let hop = self.look_at(looks, node, to, pass);
+            let hop = self.hop_over(node, to, pass);
             if self.is_excluded(node, pass.number) {
                 continue;
             }

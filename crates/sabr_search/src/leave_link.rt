@@ -11,7 +11,8 @@ use crate::task::Task;
 use sabr_model::Pass;
 use std::alloc::Allocator;
 
-/// How many passes of a link start before `before`: they are those in front.
+/// How many passes of a link start before `before`: they are those in front. A halving: it compares the starts as the
+/// keys by which a link's passes are in order.
 fn begun<A: Allocator + Copy>(
     _task: &Task<'_, A>,
     _node: usize,
@@ -59,6 +60,7 @@ impl<'a, A: Allocator + Copy> Task<'a, A> {
         requires other { node ≢ self.now.start }
         requires few { looks.old.count + length passes.now ≤ 2 ^ 62 }
         ensures looks { looks.new.count ≤ looks.old.count + length passes.now }
+        ensures some_looks { latest < result → looks.old.count < looks.new.count }
         ensures lower { latest ≤ result }
         ensures sound { (t : ℕ) → latest ≤ t → t < result → (b : ℕ) × (b < before) × (slice_index_or self.now.shut to false ≡ false → (n : ℕ) × Takes self.now n node t to b) }
         ensures full { (n t w b : ℕ) → HasNumber passes.now n → since ≤ t → Takes self.now n node t w b → b < before → t < result }
@@ -66,11 +68,11 @@ impl<'a, A: Allocator + Copy> Task<'a, A> {
         let mut last = latest;
         let end = begun(self, node, to, passes, before);
         for back in 0..end {
-            let pass = &passes[end - 1 - back];
+            let pass = looks.look(&passes[end - 1 - back]);
             if self.leaves_no_later(pass, since, before, last) {
                 return last;
             }
-            let hop = self.look_at(looks, node, to, pass);
+            let hop = self.hop_over(node, to, pass);
             last = last.max(self.leave_before(&hop, before));
         }
         last

@@ -22,7 +22,8 @@ pub fn link_passes<'a>(links: Links<'a>, link: &Link) -> &'a [Pass]
     &links.passes[link.first..link.end]
 }
 
-/// How many passes from the front of a link have ended by `at`; those behind may have ended as well.
+/// How many passes from the front of a link have ended by `at`; those behind may have ended as well. A halving: it
+/// compares the bounds that stand beside the passes.
 pub fn first_open<A: Allocator + Copy>(
     _task: &Task<'_, A>,
     _node: usize,
@@ -39,17 +40,20 @@ pub fn first_open<A: Allocator + Copy>(
 }
 
 impl<'a, A: Allocator + Copy> Task<'a, A> {
-    /// The record of a pass.
-    pub fn look_at(&self, looks: &mut Looks, _node: usize, to: usize, pass: &Pass) -> Hop
+    /// The record of a pass that was looked at.
+    pub fn hop_over(&self, _node: usize, to: usize, pass: &Pass) -> Hop
         requires pass { IsPassAt self.now _node to pass.now }
         requires task { IsTask self.now }
-        requires few { looks.old.count < 2 ^ 62 }
-        ensures counted { looks.new.count ≡ looks.old.count + 1 }
         ensures value { IsHopAt self.now pass.now.number result }
         ensures small { IsSmall result }
         ensures receiver { result.receiver ≡ to }
     {
-        looks.look_at(pass, to)
+        Hop {
+            start: pass.start,
+            end: pass.end,
+            receiver: to,
+            light: Some(pass.light),
+        }
     }
 
     /// Whether what is at the sender at `at` arrives at `before` or later over this pass and over each behind it.
@@ -89,11 +93,11 @@ impl<'a, A: Allocator + Copy> Task<'a, A> {
         }
         let mut least = before;
         for place in first_open(self, node, to, passes, at)..passes.len() {
-            let pass = &passes[place];
+            let pass = looks.look(&passes[place]);
             if self.comes_late(pass, at, least) {
                 return least;
             }
-            let hop = self.look_at(looks, node, to, pass);
+            let hop = self.hop_over(node, to, pass);
             if self.is_excluded(node, pass.number) {
                 continue;
             }

@@ -2,6 +2,7 @@
 
 ghost use Rattle.std.specs.Prelude.{◌≡◌, ◌≤◌, ◌+◌, ◌-◌, ◌*◌, IfOk, IsTrue, length};
 ghost use Rattle.sabr_model.specs.Route.{is_prefix};
+ghost use Rattle.sabr_model.specs.Table.{node_count};
 ghost use Rattle.sabr_search.specs.Part.{IsLeast};
 ghost use Rattle.sabr_search.specs.Task.{IsTask, IsBehind};
 ghost use Rattle.sabr_search.specs.Told.{hops_told};
@@ -14,7 +15,7 @@ use crate::looks::Looks;
 use crate::part::Part;
 use crate::settling::Settling;
 use crate::task::Task;
-use sabr_model::{NoMemory, Plan, Request, Route};
+use sabr_model::{GhostCount, NoMemory, Plan, Request, Route};
 use std::alloc::{Allocator, Global};
 
 /// The least route behind the prefix: the first delivery says how many layers are needed, and what is too late.
@@ -58,12 +59,14 @@ pub struct Settled<A: Allocator + Copy = Global> {
     settling: Settling<A>,
     layers: Layers<A>,
     looks: Looks,
+    calls: GhostCount,
 }
 
 impl<A: Allocator + Copy> Settled<A> {
-    /// A finder that has taken no memory.
+    /// A finder that has taken no memory and was not called.
     pub fn new(alloc: A) -> Settled<A>
-        ensures { result.looks.count ≡ 0 }
+        ensures looks { result.looks.count ≡ 0 }
+        ensures calls { result.calls.count ≡ 0 }
     {
         Settled {
             alloc,
@@ -71,12 +74,15 @@ impl<A: Allocator + Copy> Settled<A> {
             settling: Settling::new(alloc),
             layers: Layers::new(alloc),
             looks: Looks::new(),
+            calls: GhostCount::new(),
         }
     }
 }
 
 impl<A: Allocator + Copy> BestOf<A> for Settled<A> {
     ghost looks_of = { λ f. f.looks.count };
+
+    ghost calls_of = { λ f. f.calls.count };
 
     fn best(
         &mut self,
@@ -86,10 +92,12 @@ impl<A: Allocator + Copy> BestOf<A> for Settled<A> {
     ) -> Result<Option<Route<A>>, NoMemory>
         requires fits { IsTrue (is_prefix plan.now.plan request.now part.prefix.now) }
         ensures least { IfOk result (IsLeast plan.now.plan request.now part.entry.prefix.now part.entry.excluded.now) }
-        ensures bound { self.new.looks.count ≤ (3 * length plan.now.table + 1) * length plan.now.plan.contacts }
+        ensures bound { self.new.looks.count ≤ (3 * node_count plan.now.plan.contacts + 1) * length plan.now.plan.contacts }
         ensures counted { IfOk result (λ answer. hops_told answer ≤ self.new.looks.count) }
+        ensures called { self.new.calls.count ≡ self.old.calls.count + 1 }
         ensures cut { IfOk result (λ answer. request.now.max_hops ≡ 20000 → self.new.looks.count ≤ (3 * (hops_told answer - length part.entry.prefix.now) + 3) * length plan.now.plan.contacts) }
     {
+        self.calls.add();
         self.looks = Looks::new();
         let _nodes = plan.nodes();
         let Some((standing, goal)) = enter(

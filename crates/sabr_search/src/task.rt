@@ -100,7 +100,7 @@ impl<'a, A: Allocator + Copy> Task<'a, A> {
         ensures value { MatchOption result (contact_named self.now.plan number ≡ None) (IsHopAt self.now number) }
         ensures small { IfSome result IsSmall }
     {
-        looks.look(self.plan, number)
+        looks.hop(self.plan, number)
     }
 
     /// The node at a place of the table.

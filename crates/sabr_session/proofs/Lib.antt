@@ -11,7 +11,23 @@ mod PartWords
 mod Pieces
 mod SessionPieces
 mod SessionRowProofs
+mod SpelledWords
+mod SpelledLines
+mod SpelledDigests
+mod SpelledHead
+mod SpelledParts
 mod Spellings
 mod TextsApart
+pub mod SaidLines
+pub mod NeverRead
+pub mod GoingOn
+pub mod SessionGivenSoFar
 pub mod SessionOutcomes
 mod ShortStates
+mod TextsRead
+pub mod OneAnswer
+mod StepsTaken
+mod WordsTold
+mod LinesTold
+pub mod TextsTold
+pub mod Verified

@@ -78,6 +78,8 @@ impl<'s, R: Clock, B> Timed<'s, R, B> {
 impl<'s, R: Clock, A: Allocator + Copy, B: BestOf<A>> BestOf<A> for Timed<'s, R, B> {
     ghost looks_of = { λ timed. B.looks_of timed.finder };
 
+    ghost calls_of = { λ timed. B.calls_of timed.finder };
+
     fn best(
         &mut self,
         plan: &Plan<A>,

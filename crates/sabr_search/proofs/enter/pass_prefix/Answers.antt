@@ -65,7 +65,7 @@ loop-number-preserved g c =
     let at : c.in-Some-arrive_by_hop.at ≡ next.b = (let q : Some c.in-Some-arrive_by_hop.at ≡ Some next.b = sym c.in-Some-arrive_by_hop.is ∙ c.arrive_by_hop.ensures ∙ ap (λ m. hop_arrival m c.loop-number.standing.at c.in-Some.hop) margin ∙ a.1 in cc (q)) in
     let to : slice_get p.table c.in-Some.hop.receiver ≡ Some next.contact.to = hop.is.receiver ∙ ap (λ (d : Contact). Some d.to) a.0 in
     record {
-      counted = omega (arith, so_far.counted, c.look.ensures.counted);
+      counted = omega (arith, so_far.counted, c.hop.ensures.counted);
       node = (next.contact.to, to, next.on_chain);
       time = ap (λ t. arrival_after p.plan r t (drop (i + 1) prefix)) at ∙ next.on_time;
       shuts = shut_more p.plan p.table c.requires.nodes c.loop-number.shut.items (is_closed p.plan r (take i prefix)) (is_closed p.plan r (take (i + 1) prefix)) c.in-Some.hop.receiver next.contact.to so_far.shuts to (closed_more p.plan r prefix i n next.contact here next.named);

@@ -138,5 +138,5 @@ returns-clause-ok g c =
     let t : PartState = record { prefix = q; excluded = X; carried = option_copied c.args.route } in
     let w = c.in-Ok-take_in.ensures.ok in
     let parts = ap parts_in w.2 ∙ parts_then p r h c.self.invariant.held q X c.in-Ok.route (option_copied c.args.route) c.in-Ok.ensures.ok w.0 in
-    subst (λ (v : Loaded). loaded s.plan.now r c.take_in.new.self ≡ with_part v t) c.self.view_is
-    (λ i. record { plan = s.plan.now; request = r; parts = parts i })
+    subst (λ (v : Loaded). loaded s.plan.now r c.take_in.new.self (g.B.BestOf.calls_of s.finder) ≡ with_part v t) c.self.view_is
+    (λ i. record { plan = s.plan.now; request = r; parts = parts i; calls = g.B.BestOf.calls_of s.finder })

@@ -64,8 +64,8 @@ returns-clause-ok g c =
     let paid = sym c.is_paid.ensures ∙ c.if-not-is_paid.false in
     let at = subst (λ xs. IsLastPlace xs emitted last c.in-Some.last) c.as_slice.ensures.value c.in-Some.ensures.some in
     let state = ap shown c.in-Ok.ensures.shape ∙ shown_then p r h c.self.invariant.held paid emitted last c.in-Some.last at in
-    let told : c.of_tree.result ≡ record { plan = s.plan.now; request = r; state = state_with (Rattle.sabr_frontier.specs.Holding.parts_in h) emitted last; former = []; searches = 0 } = c.of_tree.ensures ∙ (λ i. record { plan = s.plan.now; request = r; state = state i; former = []; searches = 0 }) in
-    subst (λ (v : Loaded). c.of_tree.result ≡ record { plan = v.plan; request = v.request; state = state_with v.parts emitted last; former = []; searches = 0 }) c.self.view_is told
+    let told : c.of_tree.result ≡ record { plan = s.plan.now; request = r; state = state_with (Rattle.sabr_frontier.specs.Holding.parts_in h) emitted last; former = []; searches = 0; calls = g.B.BestOf.calls_of s.finder } = c.of_tree.ensures ∙ (λ i. record { plan = s.plan.now; request = r; state = state i; former = []; searches = 0; calls = g.B.BestOf.calls_of s.finder }) in
+    subst (λ (v : Loaded). c.of_tree.result ≡ record { plan = v.plan; request = v.request; state = state_with v.parts emitted last; former = []; searches = 0; calls = v.calls }) c.self.view_is told
 
 pub returns-clause-formed : goal.returns-clause-formed
 returns-clause-formed g c =

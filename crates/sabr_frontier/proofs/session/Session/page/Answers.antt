@@ -1,4 +1,4 @@
-use Rattle.std.proofs.Common.{◌≡◌, ◌-◌, ◌<◌, ◌⊎◌, inl, inr, ℕ, List, [], ◌∷◌, ◌++◌, map, length, reverse, arith, ap, sym, subst, ◌∙◌, None}
+use Rattle.std.proofs.Common.{◌≡◌, ◌+◌, ◌-◌, ◌<◌, ◌⊎◌, inl, inr, ℕ, List, [], ◌∷◌, ◌++◌, map, length, reverse, arith, ap, sym, subst, ◌∙◌, None}
 use Rattle.sabr_model.specs.Record.{record_of}
 use Rattle.sabr_frontier.specs.State.{State}
 use Rattle.sabr_frontier.specs.Listing.{next_route, searches_in, steps}
@@ -126,6 +126,18 @@ returns-then-count-eq0-clause-searches g c =
       | then-count-eq0-via-else-count-eq0+then-is_empty w ↦ inr (let z = none_there _ _ w.is_empty.ensures w.if-is_empty.true in omega (arith, z))
     ] in
     subst (λ (v : Seen). 0 ≡ searches_in v.plan.plan v.request k v.state) c.self.view_is (sym (counts_idle s.plan.now.plan s.request c.self.invariant.rules t c.self.invariant.sound k none))
+
+pub returns-then-count-eq0-clause-calls : goal.returns-then-count-eq0-clause-calls
+returns-then-count-eq0-clause-calls g c =
+    let s = c.self.inside in
+    let t = shape_of s.tree in
+    let k = c.args.count in
+    let none : (k ≡ 0) ⊎ (length t.queue ≡ 0) = elim c.then-count-eq0.branch [
+      | then-count-eq0-via-then-count-eq0 w ↦ inl (omega arith)
+      | then-count-eq0-via-else-count-eq0+then-is_empty w ↦ inr (let z = none_there _ _ w.is_empty.ensures w.if-is_empty.true in omega (arith, z))
+    ] in
+    let still = counts_idle s.plan.now.plan s.request c.self.invariant.rules t c.self.invariant.sound k none in
+    subst (λ (v : Seen). g.B.BestOf.calls_of s.finder ≡ v.calls + searches_in v.plan.plan v.request k v.state) c.self.view_is (omega (arith, still))
 
 pub returns-then-count-eq0-clause-new_routes : goal.returns-then-count-eq0-clause-new_routes
 returns-then-count-eq0-clause-new_routes g c =

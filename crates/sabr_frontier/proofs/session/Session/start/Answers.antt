@@ -14,7 +14,7 @@ pub invariant_of-result : goal.invariant_of-result
 invariant_of-result g c =
     let p = c.args.plan.now.plan in
     let r = c.args.request in
-    let same : shape_of c.in_ok-tree.tree ≡ root (best_of p r [] []) = c.in_ok-tree.ensures.shape ∙ ap root c.in_ok-found.ensures in
+    let same : shape_of c.in_ok-tree.tree ≡ root (best_of p r [] []) = c.in_ok-tree.ensures.shape ∙ ap root c.in_ok-found.ensures.best in
     record {
       rules = c.contacts.ensures.rules;
       limits = c.max_hops.ensures.limits;
@@ -27,7 +27,7 @@ pub returns : goal.returns
 returns g c =
     let p = c.args.plan.now.plan in
     let r = c.args.request in
-    let same : shape_of c.in_ok-tree.tree ≡ root (best_of p r [] []) = c.in_ok-tree.ensures.shape ∙ ap root c.in_ok-found.ensures in
+    let same : shape_of c.in_ok-tree.tree ≡ root (best_of p r [] []) = c.in_ok-tree.ensures.shape ∙ ap root c.in_ok-found.ensures.best in
     let state = ap shown same ∙ shown_root g.row.A.Denot p r in
     let former = ap (λ z. former_of (reverse z) (shape_of c.in_ok-tree.tree)) c.new.ensures.items in
-    λ i. record { plan = c.args.plan.now; request = r; state = state i; former = former i; searches = 1 }
+    λ i. record { plan = c.args.plan.now; request = r; state = state i; former = former i; searches = 1; calls = c.in_ok-found.ensures.called i }

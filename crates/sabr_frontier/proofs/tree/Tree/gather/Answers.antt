@@ -12,6 +12,7 @@ loop-init g c = record {
   way = at_first c.args.plan.now.plan c.args.request.now c.args.count (c.args.count - 0) (shape_of c.args.self.now) c.args.given.now.items (omega arith) c.requires.sound;
   room = c.requires.room;
   sum = (let e : c.args.count - 0 ≡ c.args.count = omega arith in ap (λ n. 0 + searches_in c.args.plan.now.plan c.args.request.now n (shown (shape_of c.args.self.now))) e ∙ zero-add _);
+  called = omega arith;
   few = omega arith;
 }
 
@@ -66,6 +67,7 @@ loop-preserved g c =
       sum = subst (λ (z : Shape g.row.A.Denot). (c.loop.searches + c.in_ok-searches.field-0) + searches_in p r (c.args.count - (c.loop.counter + 1)) (shown z) ≡ searches_in p r c.args.count (shown first)) (sym c.in_ok-searches.ensures.ok)
           (counts_on p r t step (c.args.count - (c.loop.counter + 1)) c.loop.searches c.in_ok-searches.field-0 (searches_in p r c.args.count (shown first)) c.in_ok-searches.ensures.count
           (subst (λ n. c.loop.searches + searches_in p r n (shown t) ≡ searches_in p r c.args.count (shown first)) left c.loop.invariant.sum));
+      called = omega (arith, c.in_ok-searches.ensures.called, c.loop.invariant.called);
       few = omega (arith, step.few, c.in_ok-searches.ensures.count, c.loop.invariant.few, c.requires.hops);
     }
 

@@ -8,8 +8,8 @@ use Rattle.sabr_frontier.proofs.Verdicts.{first_none, above_end, above_some, pas
 use Rattle.sabr_frontier.proofs.tree.Tree.is_placed.Goals as goal
 use Rattle.sabr_frontier.proofs.tree.Tree.is_placed.Goals.{in-Some+else-is_passed+in-Some-next_carried+else-not-is_below, in-Some+else-is_passed+in_default-next_carried, in_default}
 
-pub returns-then-is_passed : goal.returns-then-is_passed
-returns-then-is_passed g c =
+pub returns-then-is_passed-clause-placed : goal.returns-then-is_passed-clause-placed
+returns-then-is_passed-clause-placed g c =
     let p = c.args.plan.now.plan in
     let r = c.args.request.now in
     let t = shape_of c.args.self.now in
@@ -17,15 +17,15 @@ returns-then-is_passed g c =
     let found = sym (ap (list_any (λ y. is_lt (by_record x y))) c.as_slice.ensures.value) ∙ sym c.is_passed.ensures ∙ c.if-is_passed.true in
     refused p r c.requires.plan t c.requires.tree (passed p r c.requires.plan t c.requires.tree x (sym c.in-Some.ensures) found)
 
-pub returns-then-not-is_below : goal.returns-then-not-is_below
-returns-then-not-is_below g c =
+pub returns-then-not-is_below-clause-placed : goal.returns-then-not-is_below-clause-placed
+returns-then-not-is_below-clause-placed g c =
     let p = c.args.plan.now.plan in
     let r = c.args.request.now in
     let t = shape_of c.args.self.now in
     refused p r c.requires.plan t c.requires.tree (reached p r c.requires.plan t c.requires.tree c.in-Some.last.now c.in-Some-next_carried.next.now (sym c.in-Some.ensures) (sym c.in-Some-next_carried.ensures) (sym c.is_below.ensures ∙ c.if-not-is_below.true))
 
-pub returns : goal.returns
-returns g c =
+pub returns-clause-placed : goal.returns-clause-placed
+returns-clause-placed g c =
     let p = c.args.plan.now.plan in
     let r = c.args.request.now in
     let t = shape_of c.args.self.now in
@@ -40,4 +40,4 @@ returns g c =
           (sym w.in_default-next_carried.ensures)
       | in_default w ↦ first_none p r c.requires.plan t c.requires.tree (sym w.in_default.ensures)
     ] in
-    decided p r c.requires.plan t c.requires.tree c.carries_least.result first c.carries_least.ensures
+    decided p r c.requires.plan t c.requires.tree c.carries_least.result first c.carries_least.ensures.least

@@ -53,8 +53,8 @@ slice_bounds-index_place-end g c =
     let l : n.length + 1 ≤ length c.as_slice-numbers.result.now = omega (arith, d.longer, ap (length {A = ℕ}) numbers) in
     sym (length-take-le (n.length + 1) c.as_slice-numbers.result.now l)
 
-pub returns : goal.returns
-returns g c k z stands carries =
+pub returns-clause-ready : goal.returns-clause-ready
+returns-clause-ready g c k z stands carries =
     let t = shape_of c.args.self.now in
     let p = c.args.plan.now.plan in
     let r = c.args.request.now in

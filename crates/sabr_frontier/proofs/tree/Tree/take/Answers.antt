@@ -47,7 +47,7 @@ change-requires-clause-within g c =
     let t = shape_of c.args.self.now in
     let last = sym (c.in-Some.ensures.value ∙ ap last_item c.deref.ensures.value) in
     let w = standing c.args.plan.now.plan c.args.request.now t c.requires.tree c.in-Some.last.now last in
-    let ready = c.in_ok-prepared.ensures w.0 w.1 w.2 w.3 in
+    let ready = c.in_ok-prepared.ensures.ready w.0 w.1 w.2 w.3 in
     let l = passing-le (stands_before t.leaves t.nodes (take (w.0.length + 1) w.1.contacts)) t.index in
     omega (arith, ready.place, l, ap (λ (z : Shape _). length z.index) c.reserve-2.ensures.same)
 
@@ -80,7 +80,7 @@ returns-clause-ok g c =
     let node = c.in-Some.last.now in
     let last = sym (c.in-Some.ensures.value ∙ ap last_item c.deref.ensures.value) in
     let w = standing p r t c.requires.tree node last in
-    let ready = c.in_ok-prepared.ensures w.0 w.1 w.2 w.3 in
+    let ready = c.in_ok-prepared.ensures.ready w.0 w.1 w.2 w.3 in
     c.change.ensures.shape w.1 (ap (λ (z : Shape _). route_at z.nodes node) c.reserve-2.ensures.same ∙ route_there t.nodes node w.0 w.1 w.2 w.3)
     ∙ ap (λ (z : Shape _). divided_by z node w.1 place d.wide d.found d.fresh.items) c.reserve-2.ensures.same
     ∙ (λ i. divided_by t node w.1 (ready.place i) (ready.wide i) (ready.found i) (ready.fresh i))
@@ -92,7 +92,7 @@ returns-clause-given g c =
     let node = c.in-Some.last.now in
     let last = sym (c.in-Some.ensures.value ∙ ap last_item c.deref.ensures.value) in
     let w = standing c.args.plan.now.plan c.args.request.now t c.requires.tree node last in
-    let ready = c.in_ok-prepared.ensures w.0 w.1 w.2 w.3 in
+    let ready = c.in_ok-prepared.ensures.ready w.0 w.1 w.2 w.3 in
     subst (λ (o : Option RouteRecord). IfSome o (λ x. c.push_reserved.new.self.items ≡ c.args.given.now.items ++ x ∷ [])) (sym (least_is t node w.0 w.1 last w.2 w.3))
     (c.push_reserved.ensures.items ∙ (λ i. c.reserve.ensures.items i ++ ready.route i ∷ []))
 
@@ -104,6 +104,6 @@ returns-clause-count g c =
     let node = c.in-Some.last.now in
     let last = sym (c.in-Some.ensures.value ∙ ap last_item c.deref.ensures.value) in
     let w = standing p r t c.requires.tree node last in
-    let ready = c.in_ok-prepared.ensures w.0 w.1 w.2 w.3 in
+    let ready = c.in_ok-prepared.ensures.ready w.0 w.1 w.2 w.3 in
     let d = dividable p r t c.requires.tree node last w.0 w.1 w.2 w.3 in
     omega (arith, c.len-count.ensures, ap (length {A = Node g.row.A.Denot}) ready.fresh, new_nodes g.row.A.Denot (best_of p r) (length t.leaves) w.1.contacts w.0.length d.longer, count_is t node w.0 w.1 last w.2 w.3)

@@ -1,6 +1,7 @@
-use Rattle.std.proofs.Common.{◌≡◌, ◌-◌, length, ap, sym, ◌∙◌, min, arith}
+use Rattle.std.proofs.Common.{◌≡◌, ◌≤◌, ◌+◌, ◌-◌, ◌*◌, length, ap, sym, subst, ◌∙◌, min, arith}
 use Rattle.std.specs.Option.{option_map}
 use Rattle.sabr_model.specs.Record.{record_of}
+use Rattle.sabr_model.specs.Table.{node_count}
 use Rattle.sabr_search.proofs.Prefixes.{prefix_facts}
 use Rattle.sabr_search.proofs.Least.{none_is}
 use Rattle.sabr_search.specs.Task.{SearchTask, IsTask, IsBehind, never}
@@ -9,7 +10,7 @@ use Rattle.sabr_search.proofs.layered.LayeredBestOf.best.Goals as goal
 
 pub returns-in_err-standing-clause-bound : goal.returns-in_err-standing-clause-bound
 returns-in_err-standing-clause-bound g c =
-    prefix_looks c.args.plan.now.plan c.args.request.now c.args.part.prefix.now (prefix_facts c.args.plan.now.plan c.args.request.now c.args.part.prefix.now c.requires.fits) (length c.args.plan.now.table) c.enter.new.looks.count (omega (arith, c.enter.ensures.looks, c.new-self.ensures))
+    prefix_looks c.args.plan.now.plan c.args.request.now c.args.part.prefix.now (prefix_facts c.args.plan.now.plan c.args.request.now c.args.part.prefix.now c.requires.fits) (node_count c.args.plan.now.plan.contacts) c.enter.new.looks.count (omega (arith, c.enter.ensures.looks, c.new-self.ensures))
 
 pub returns-in_default-clause-least : goal.returns-in_default-clause-least
 returns-in_default-clause-least g c =
@@ -20,7 +21,7 @@ returns-in_default-clause-least g c =
 
 pub returns-in_default-clause-bound : goal.returns-in_default-clause-bound
 returns-in_default-clause-bound g c =
-    prefix_looks c.args.plan.now.plan c.args.request.now c.args.part.prefix.now (prefix_facts c.args.plan.now.plan c.args.request.now c.args.part.prefix.now c.requires.fits) (length c.args.plan.now.table) c.enter.new.looks.count (omega (arith, c.enter.ensures.looks, c.new-self.ensures))
+    prefix_looks c.args.plan.now.plan c.args.request.now c.args.part.prefix.now (prefix_facts c.args.plan.now.plan c.args.request.now c.args.part.prefix.now c.requires.fits) (node_count c.args.plan.now.plan.contacts) c.enter.new.looks.count (omega (arith, c.enter.ensures.looks, c.new-self.ensures))
 
 pub overflow_sub-left : goal.overflow_sub-left
 overflow_sub-left g c =
@@ -103,5 +104,6 @@ returns-clause-bound g c =
     let task : SearchTask = record { plan = p.plan; request = r; table = p.table; shut = c.enter.new.shut.items; excluded = c.args.part.excluded.now; start = c.in-Some.standing.node; goal = c.in-Some.goal; at = c.in-Some.standing.at } in
     let found = rw c.in-Some.is at c.in_ok-standing.ensures.some in
     let both : IsTask task × IsBehind task prefix = found c.args.part.excluded.now in
-    answer_looks task both.0 prefix both.1 facts c.min.result never c.enter.new.looks.count c.answer.new.looks.count (omega (arith, facts.within, c.min.ensures, c.max_hops.ensures.value)) (omega (arith, both.0.start_in, c.min.ensures, c.nodes.ensures.table)) (omega (arith, c.enter.ensures.looks, c.new-self.ensures)) c.answer.result
-    (rw c.new-task.ensures at c.answer.ensures.err_looks) (rw c.new-task.ensures at c.answer.ensures.ok_looks) (rw (c.new-task.ensures, c.deref.ensures.value) at c.answer.ensures.some)
+    subst (λ n. c.answer.new.looks.count ≤ (3 * n + 1) * length p.plan.contacts) (sym c.nodes.ensures.table ∙ c.nodes.ensures.value)
+    (answer_looks task both.0 prefix both.1 facts c.min.result never c.enter.new.looks.count c.answer.new.looks.count (omega (arith, facts.within, c.min.ensures, c.max_hops.ensures.value)) (omega (arith, both.0.start_in, c.min.ensures, c.nodes.ensures.table)) (omega (arith, c.enter.ensures.looks, c.new-self.ensures)) c.answer.result
+    (rw c.new-task.ensures at c.answer.ensures.err_looks) (rw c.new-task.ensures at c.answer.ensures.ok_looks) (rw (c.new-task.ensures, c.deref.ensures.value) at c.answer.ensures.some))

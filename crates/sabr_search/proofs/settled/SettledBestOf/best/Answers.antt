@@ -1,6 +1,7 @@
 use Rattle.std.proofs.Common.{length, sym, ap, arith}
 use Rattle.std.specs.Option.{option_map}
 use Rattle.sabr_model.specs.Record.{record_of}
+use Rattle.sabr_model.specs.Table.{node_count}
 use Rattle.sabr_search.specs.Task.{SearchTask, IsTask, IsBehind}
 use Rattle.sabr_search.proofs.Prefixes.{prefix_facts}
 use Rattle.sabr_search.proofs.Least.{none_is}
@@ -10,7 +11,7 @@ use Rattle.sabr_search.proofs.settled.SettledBestOf.best.Goals as goal
 
 pub returns-in_err-standing-clause-bound : goal.returns-in_err-standing-clause-bound
 returns-in_err-standing-clause-bound g c =
-    prefix_looks c.args.plan.now.plan c.args.request.now c.args.part.prefix.now (prefix_facts c.args.plan.now.plan c.args.request.now c.args.part.prefix.now c.requires.fits) (length c.args.plan.now.table) c.enter.new.looks.count (omega (arith, c.enter.ensures.looks, c.new-self.ensures))
+    prefix_looks c.args.plan.now.plan c.args.request.now c.args.part.prefix.now (prefix_facts c.args.plan.now.plan c.args.request.now c.args.part.prefix.now c.requires.fits) (node_count c.args.plan.now.plan.contacts) c.enter.new.looks.count (omega (arith, c.enter.ensures.looks, c.new-self.ensures))
 
 pub returns-in_default-clause-least : goal.returns-in_default-clause-least
 returns-in_default-clause-least g c =
@@ -21,7 +22,7 @@ returns-in_default-clause-least g c =
 
 pub returns-in_default-clause-bound : goal.returns-in_default-clause-bound
 returns-in_default-clause-bound g c =
-    prefix_looks c.args.plan.now.plan c.args.request.now c.args.part.prefix.now (prefix_facts c.args.plan.now.plan c.args.request.now c.args.part.prefix.now c.requires.fits) (length c.args.plan.now.table) c.enter.new.looks.count (omega (arith, c.enter.ensures.looks, c.new-self.ensures))
+    prefix_looks c.args.plan.now.plan c.args.request.now c.args.part.prefix.now (prefix_facts c.args.plan.now.plan c.args.request.now c.args.part.prefix.now c.requires.fits) (node_count c.args.plan.now.plan.contacts) c.enter.new.looks.count (omega (arith, c.enter.ensures.looks, c.new-self.ensures))
 
 pub returns-in_default-clause-cut : goal.returns-in_default-clause-cut
 returns-in_default-clause-cut g c = λ most.

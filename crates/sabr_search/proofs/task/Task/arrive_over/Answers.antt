@@ -1,6 +1,7 @@
-use Rattle.std.proofs.Common.{◌≡◌, inl, inr, Some, slice_index_or, slice_get, sym, ◌∙◌, arith}
+use Rattle.std.proofs.Common.{◌≡◌, inl, inr, Some, slice_index_or, slice_get, sym, ◌∙◌, arith, ap, Bor}
 use Rattle.std.proofs.lemmas.Option.{slice_get-get_or, slice_get_within}
 use Rattle.std.proofs.lemmas.Bool.{cases_lt}
+use Rattle.sabr_model.specs.declared.link.Pass.{Pass}
 use Rattle.sabr_search.proofs.PlanFacts.{hop_arrives}
 use Rattle.sabr_search.proofs.Forward.{step_of_hop, allowed_by, excluded_by, last_or_before}
 use Rattle.sabr_search.proofs.OverLinks.{same_some, no_pass, none_ended, least_light_small, late_over, pass_takes, step_at, step_over}
@@ -22,39 +23,45 @@ pub comes_late-requires-clause-light : goal.comes_late-requires-clause-light
 comes_late-requires-clause-light g c =
     let passes = c.args.passes.now in
     let i = c.loop-place.place in
-    least_light_small c.args.self.now c.requires.task c.args.node c.args.to passes c.requires.link i (slice_index_or passes i no_pass) (slice_get-get_or passes i no_pass c.loop-place-test.true)
+    let pass = c.look-pass.result.now in
+    let here : slice_get passes i ≡ Some pass = slice_get-get_or passes i no_pass c.loop-place-test.true ∙ ap (λ (z : Bor Pass). Some z.now) (sym c.look-pass.ensures.same) in
+    least_light_small c.args.self.now c.requires.task c.args.node c.args.to passes c.requires.link i pass here
 
 pub returns-then-comes_late-clause-full : goal.returns-then-comes_late-clause-full
 returns-then-comes_late-clause-full g c = λ n w b has s.
     let task = c.args.self.now in
     let passes = c.args.passes.now in
     let i = c.loop-place.place in
+    let pass = c.look-pass.result.now in
+    let here : slice_get passes i ≡ Some pass = slice_get-get_or passes i no_pass c.loop-place-test.true ∙ ap (λ (z : Bor Pass). Some z.now) (sym c.look-pass.ensures.same) in
     let step = step_over task passes n c.args.node c.args.at w b has s in
     elim (cases_lt has.0 i) [
       | inl before ↦ c.loop-place.invariant.full has.0 has.1 w b before has.2 step
       | inr behind ↦
-          late_over task c.requires.task c.args.node c.args.to passes c.requires.link c.args.at c.loop-place.least i (slice_index_or passes i no_pass) (slice_get-get_or passes i no_pass c.loop-place-test.true)
+          late_over task c.requires.task c.args.node c.args.to passes c.requires.link c.args.at c.loop-place.least i pass here
           (c.comes_late.ensures c.if-comes_late.true) has.0 has.1 w b behind has.2 step
     ]
 
-pub look_at-hop-requires-clause-pass : goal.look_at-hop-requires-clause-pass
-look_at-hop-requires-clause-pass g c =
+pub hop_over-hop-requires-clause-pass : goal.hop_over-hop-requires-clause-pass
+hop_over-hop-requires-clause-pass g c =
     let passes = c.args.passes.now in
     let i = c.loop-place.place in
-    c.requires.link.each i (slice_index_or passes i no_pass) (slice_get-get_or passes i no_pass c.loop-place-test.true)
+    let pass = c.look-pass.result.now in
+    let here : slice_get passes i ≡ Some pass = slice_get-get_or passes i no_pass c.loop-place-test.true ∙ ap (λ (z : Bor Pass). Some z.now) (sym c.look-pass.ensures.same) in
+    c.requires.link.each i pass here
 
 pub loop-place-preserved-then-is_excluded : goal.loop-place-preserved-then-is_excluded
 loop-place-preserved-then-is_excluded g c =
     let task = c.args.self.now in
     let passes = c.args.passes.now in
     let i = c.loop-place.place in
-    let pass = slice_index_or passes i no_pass in
-    let here : slice_get passes i ≡ Some pass = slice_get-get_or passes i no_pass c.loop-place-test.true in
+    let pass = c.look-pass.result.now in
+    let here : slice_get passes i ≡ Some pass = slice_get-get_or passes i no_pass c.loop-place-test.true ∙ ap (λ (z : Bor Pass). Some z.now) (sym c.look-pass.ensures.same) in
     let so_far = c.loop-place.invariant in
     record {
-      counted = omega (arith, so_far.counted, c.look_at-hop.ensures.counted);
-      looked = omega (arith, so_far.looked, c.look_at-hop.ensures.counted);
-      some_looks = λ less. omega (arith, so_far.looked, c.look_at-hop.ensures.counted);
+      counted = omega (arith, so_far.counted, c.look-pass.ensures.counted);
+      looked = omega (arith, so_far.looked, c.look-pass.ensures.counted);
+      some_looks = λ less. omega (arith, so_far.looked, c.look-pass.ensures.counted);
       later = so_far.later;
       upper = so_far.upper;
       sound = so_far.sound;
@@ -71,22 +78,22 @@ loop-place-preserved g c =
     let i = c.loop-place.place in
     let u = c.args.node in
     let t = c.args.at in
-    let pass = slice_index_or passes i no_pass in
-    let here : slice_get passes i ≡ Some pass = slice_get-get_or passes i no_pass c.loop-place-test.true in
+    let pass = c.look-pass.result.now in
+    let here : slice_get passes i ≡ Some pass = slice_get-get_or passes i no_pass c.loop-place-test.true ∙ ap (λ (z : Bor Pass). Some z.now) (sym c.look-pass.ensures.same) in
     let so_far = c.loop-place.invariant in
-    let hop = c.look_at-hop.result in
-    let is_hop = c.look_at-hop.ensures.value in
+    let hop = c.hop_over-hop.result in
+    let is_hop = c.hop_over-hop.ensures.value in
     elim c.match-arrive_before.branch [
       | in-Some z ↦
           (let got = z.in-Some.ensures.some in
           rw z.least-is (record {
-            counted = omega (arith, so_far.counted, c.look_at-hop.ensures.counted);
-            looked = omega (arith, so_far.looked, c.look_at-hop.ensures.counted);
-            some_looks = λ less. omega (arith, so_far.looked, c.look_at-hop.ensures.counted);
+            counted = omega (arith, so_far.counted, c.look-pass.ensures.counted);
+            looked = omega (arith, so_far.looked, c.look-pass.ensures.counted);
+            some_looks = λ less. omega (arith, so_far.looked, c.look-pass.ensures.counted);
             later = omega (arith, (hop_arrives task.request.margin t z.in-Some.arrival hop got.0).sum);
             upper = omega (arith, so_far.upper, got.1);
             sound = λ less open'.
-                (pass.number, pass_takes task c.requires.task u c.args.to t pass z.in-Some.arrival hop (c.requires.link.each i pass here) c.look_at-hop.ensures.receiver is_hop open' (allowed_by task u pass.number c.is_excluded.result c.is_excluded.ensures c.if-is_excluded.false) got.0);
+                (pass.number, pass_takes task c.requires.task u c.args.to t pass z.in-Some.arrival hop (c.requires.link.each i pass here) c.hop_over-hop.ensures.receiver is_hop open' (allowed_by task u pass.number c.is_excluded.result c.is_excluded.ensures c.if-is_excluded.false) got.0);
             full = λ k x w b less at s. elim (last_or_before k i less) [
               | inl before ↦ omega (arith, so_far.full k x w b before at s, got.1)
               | inr same ↦
@@ -96,9 +103,9 @@ loop-place-preserved g c =
           }))
       | in_default z ↦
           rw z.least-is (record {
-            counted = omega (arith, so_far.counted, c.look_at-hop.ensures.counted);
-            looked = omega (arith, so_far.looked, c.look_at-hop.ensures.counted);
-            some_looks = λ less. omega (arith, so_far.looked, c.look_at-hop.ensures.counted);
+            counted = omega (arith, so_far.counted, c.look-pass.ensures.counted);
+            looked = omega (arith, so_far.looked, c.look-pass.ensures.counted);
+            some_looks = λ less. omega (arith, so_far.looked, c.look-pass.ensures.counted);
             later = so_far.later;
             upper = so_far.upper;
             sound = so_far.sound;

@@ -1,6 +1,7 @@
-use Rattle.std.proofs.Common.{◌≡◌, inl, inr, Some, slice_index_or, slice_get, refl, arith}
+use Rattle.std.proofs.Common.{◌≡◌, inl, inr, Some, slice_index_or, slice_get, refl, arith, ap, sym, ◌∙◌, Bor}
 use Rattle.std.proofs.lemmas.Option.{slice_get-get_or, slice_get_within}
 use Rattle.std.proofs.lemmas.Bool.{cases_lt}
+use Rattle.sabr_model.specs.declared.link.Pass.{Pass}
 use Rattle.sabr_search.proofs.Forward.{step_of_hop, allowed_by, excluded_by, last_or_before}
 use Rattle.sabr_search.proofs.OverLinks.{no_pass, none_ended, least_light_small, starts_late, late_over, pass_takes, step_at, step_over, same_number, at_most_more}
 use Rattle.sabr_search.proofs.task.Task.least_over.Goals as goal
@@ -15,6 +16,8 @@ returns-then-at-before-clause-full g c = λ n w b has s less.
 pub loop-place-init : goal.loop-place-init
 loop-place-init g c = record {
   counted = omega arith;
+  looked = omega arith;
+  some_looks = inl refl;
   lower = λ n h. h;
   sound = inl refl;
   full = λ k x w b less at s early. absurd (none_ended c.args.self.now c.requires.task c.args.node c.args.to c.args.passes.now c.requires.link c.args.at k x w b at (c.first_open-place.ensures.ended k x less at) s);
@@ -24,18 +27,22 @@ pub comes_late-requires-clause-light : goal.comes_late-requires-clause-light
 comes_late-requires-clause-light g c =
     let passes = c.args.passes.now in
     let i = c.loop-place.place in
-    least_light_small c.args.self.now c.requires.task c.args.node c.args.to passes c.requires.link i (slice_index_or passes i no_pass) (slice_get-get_or passes i no_pass c.loop-place-test.true)
+    let pass = c.look-pass.result.now in
+    let here : slice_get passes i ≡ Some pass = slice_get-get_or passes i no_pass c.loop-place-test.true ∙ ap (λ (z : Bor Pass). Some z.now) (sym c.look-pass.ensures.same) in
+    least_light_small c.args.self.now c.requires.task c.args.node c.args.to passes c.requires.link i pass here
 
 pub returns-then-comes_late-clause-full : goal.returns-then-comes_late-clause-full
 returns-then-comes_late-clause-full g c = λ n w b has s early.
     let task = c.args.self.now in
     let passes = c.args.passes.now in
     let i = c.loop-place.place in
+    let pass = c.look-pass.result.now in
+    let here : slice_get passes i ≡ Some pass = slice_get-get_or passes i no_pass c.loop-place-test.true ∙ ap (λ (z : Bor Pass). Some z.now) (sym c.look-pass.ensures.same) in
     let step = step_over task passes n c.args.node c.args.at w b has s in
     rw (← has.3) (elim (cases_lt has.0 i) [
       | inl before ↦ c.loop-place.invariant.full has.0 has.1 w b before has.2 step early
       | inr behind ↦
-          (let late = late_over task c.requires.task c.args.node c.args.to passes c.requires.link c.args.at c.args.before i (slice_index_or passes i no_pass) (slice_get-get_or passes i no_pass c.loop-place-test.true)
+          (let late = late_over task c.requires.task c.args.node c.args.to passes c.requires.link c.args.at c.args.before i pass here
           (c.comes_late.ensures c.if-comes_late.true) has.0 has.1 w b behind has.2 step in
           absurd (omega (arith, late, early)))
     ])
@@ -45,29 +52,33 @@ returns-then-is_at_most-clause-full g c = λ n w b has s early.
     let task = c.args.self.now in
     let passes = c.args.passes.now in
     let i = c.loop-place.place in
-    let pass = slice_index_or passes i no_pass in
-    let here : slice_get passes i ≡ Some pass = slice_get-get_or passes i no_pass c.loop-place-test.true in
+    let pass = c.look-pass.result.now in
+    let here : slice_get passes i ≡ Some pass = slice_get-get_or passes i no_pass c.loop-place-test.true ∙ ap (λ (z : Bor Pass). Some z.now) (sym c.look-pass.ensures.same) in
     let step = step_over task passes n c.args.node c.args.at w b has s in
     rw (← has.3) (elim (cases_lt has.0 i) [
       | inl before ↦ c.loop-place.invariant.full has.0 has.1 w b before has.2 step early
       | inr behind ↦ at_most_more c.loop-place.chosen pass.least_number_behind has.1.number (c.requires.link.kept i has.0 pass has.1 behind here has.2).number_behind (c.is_at_most.ensures.at_most c.if-is_at_most.true)
     ])
 
-pub look_at-hop-requires-clause-pass : goal.look_at-hop-requires-clause-pass
-look_at-hop-requires-clause-pass g c =
+pub hop_over-hop-requires-clause-pass : goal.hop_over-hop-requires-clause-pass
+hop_over-hop-requires-clause-pass g c =
     let passes = c.args.passes.now in
     let i = c.loop-place.place in
-    c.requires.link.each i (slice_index_or passes i no_pass) (slice_get-get_or passes i no_pass c.loop-place-test.true)
+    let pass = c.look-pass.result.now in
+    let here : slice_get passes i ≡ Some pass = slice_get-get_or passes i no_pass c.loop-place-test.true ∙ ap (λ (z : Bor Pass). Some z.now) (sym c.look-pass.ensures.same) in
+    c.requires.link.each i pass here
 
 pub loop-place-preserved-then-is_at_most-2 : goal.loop-place-preserved-then-is_at_most-2
 loop-place-preserved-then-is_at_most-2 g c =
     let passes = c.args.passes.now in
     let i = c.loop-place.place in
-    let pass = slice_index_or passes i no_pass in
-    let here : slice_get passes i ≡ Some pass = slice_get-get_or passes i no_pass c.loop-place-test.true in
+    let pass = c.look-pass.result.now in
+    let here : slice_get passes i ≡ Some pass = slice_get-get_or passes i no_pass c.loop-place-test.true ∙ ap (λ (z : Bor Pass). Some z.now) (sym c.look-pass.ensures.same) in
     let so_far = c.loop-place.invariant in
     record {
-      counted = omega (arith, so_far.counted);
+      counted = omega (arith, so_far.counted, c.look-pass.ensures.counted);
+      looked = omega (arith, so_far.looked, c.look-pass.ensures.counted);
+      some_looks = inr (omega (arith, so_far.looked, c.look-pass.ensures.counted));
       lower = so_far.lower;
       sound = so_far.sound;
       full = λ k x w b less at s early. elim (last_or_before k i less) [
@@ -81,11 +92,13 @@ loop-place-preserved-then-is_excluded g c =
     let task = c.args.self.now in
     let passes = c.args.passes.now in
     let i = c.loop-place.place in
-    let pass = slice_index_or passes i no_pass in
-    let here : slice_get passes i ≡ Some pass = slice_get-get_or passes i no_pass c.loop-place-test.true in
+    let pass = c.look-pass.result.now in
+    let here : slice_get passes i ≡ Some pass = slice_get-get_or passes i no_pass c.loop-place-test.true ∙ ap (λ (z : Bor Pass). Some z.now) (sym c.look-pass.ensures.same) in
     let so_far = c.loop-place.invariant in
     record {
-      counted = omega (arith, so_far.counted, c.look_at-hop.ensures.counted);
+      counted = omega (arith, so_far.counted, c.look-pass.ensures.counted);
+      looked = omega (arith, so_far.looked, c.look-pass.ensures.counted);
+      some_looks = inr (omega (arith, so_far.looked, c.look-pass.ensures.counted));
       lower = so_far.lower;
       sound = so_far.sound;
       full = λ k x w b less at s early. elim (last_or_before k i less) [
@@ -101,18 +114,20 @@ loop-place-preserved g c =
     let i = c.loop-place.place in
     let u = c.args.node in
     let t = c.args.at in
-    let pass = slice_index_or passes i no_pass in
-    let here : slice_get passes i ≡ Some pass = slice_get-get_or passes i no_pass c.loop-place-test.true in
+    let pass = c.look-pass.result.now in
+    let here : slice_get passes i ≡ Some pass = slice_get-get_or passes i no_pass c.loop-place-test.true ∙ ap (λ (z : Bor Pass). Some z.now) (sym c.look-pass.ensures.same) in
     let so_far = c.loop-place.invariant in
-    let hop = c.look_at-hop.result in
-    let is_hop = c.look_at-hop.ensures.value in
+    let hop = c.hop_over-hop.result in
+    let is_hop = c.hop_over-hop.ensures.value in
     elim c.match-arrive_before.branch [
       | in-Some z ↦
           (let got = z.in-Some.ensures.some in
           rw z.chosen-is (record {
-            counted = omega (arith, so_far.counted, c.look_at-hop.ensures.counted);
+            counted = omega (arith, so_far.counted, c.look-pass.ensures.counted);
+            looked = omega (arith, so_far.looked, c.look-pass.ensures.counted);
+            some_looks = inr (omega (arith, so_far.looked, c.look-pass.ensures.counted));
             lower = λ n h. c.is_at_most-in-loop-place.ensures.above c.if-is_at_most-2.false n (so_far.lower n h);
-            sound = inr (refl, got.1, λ open'. pass_takes task c.requires.task u c.args.to t pass z.in-Some.arrival hop (c.requires.link.each i pass here) c.look_at-hop.ensures.receiver is_hop open' (allowed_by task u pass.number c.is_excluded.result c.is_excluded.ensures c.if-is_excluded.false) got.0);
+            sound = inr (refl, got.1, λ open'. pass_takes task c.requires.task u c.args.to t pass z.in-Some.arrival hop (c.requires.link.each i pass here) c.hop_over-hop.ensures.receiver is_hop open' (allowed_by task u pass.number c.is_excluded.result c.is_excluded.ensures c.if-is_excluded.false) got.0);
             full = λ k x w b less at s early. elim (last_or_before k i less) [
               | inl before ↦ c.is_at_most-in-loop-place.ensures.above c.if-is_at_most-2.false x.number (so_far.full k x w b before at s early)
               | inr same ↦ omega (arith, same_number passes i k pass x here at same)
@@ -120,7 +135,9 @@ loop-place-preserved g c =
           }))
       | in_default z ↦
           rw z.chosen-is (record {
-            counted = omega (arith, so_far.counted, c.look_at-hop.ensures.counted);
+            counted = omega (arith, so_far.counted, c.look-pass.ensures.counted);
+            looked = omega (arith, so_far.looked, c.look-pass.ensures.counted);
+            some_looks = inr (omega (arith, so_far.looked, c.look-pass.ensures.counted));
             lower = so_far.lower;
             sound = so_far.sound;
             full = λ k x w b less at s early. elim (last_or_before k i less) [
@@ -136,3 +153,12 @@ pub returns-clause-full : goal.returns-clause-full
 returns-clause-full g c = λ n w b has s early.
     let passes = c.args.passes.now in
     rw (← has.3) (c.loop-place.invariant.full has.0 has.1 w b (omega (arith, slice_get_within passes has.0 has.1 has.2, c.loop-place-test.false)) has.2 (step_over c.args.self.now passes n c.args.node c.args.at w b has s) early)
+
+pub returns-then-comes_late-clause-some_looks : goal.returns-then-comes_late-clause-some_looks
+returns-then-comes_late-clause-some_looks g c = inr (omega (arith, c.loop-place.invariant.looked, c.look-pass.ensures.counted))
+
+pub returns-then-is_at_most-clause-some_looks : goal.returns-then-is_at_most-clause-some_looks
+returns-then-is_at_most-clause-some_looks g c = inr (omega (arith, c.loop-place.invariant.looked, c.look-pass.ensures.counted))
+
+pub returns-clause-some_looks : goal.returns-clause-some_looks
+returns-clause-some_looks g c = c.loop-place.invariant.some_looks

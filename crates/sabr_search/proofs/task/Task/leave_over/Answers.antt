@@ -1,6 +1,7 @@
-use Rattle.std.proofs.Common.{◌≡◌, ◌-◌, inl, inr, Some, slice_index_or, slice_get, arith}
+use Rattle.std.proofs.Common.{◌≡◌, ◌-◌, inl, inr, Some, slice_index_or, slice_get, arith, ap, sym, ◌∙◌, Bor}
 use Rattle.std.proofs.lemmas.Option.{slice_get-get_or}
 use Rattle.std.proofs.lemmas.Bool.{cases_lt, cases_eq}
+use Rattle.sabr_model.specs.declared.link.Pass.{Pass}
 use Rattle.sabr_search.proofs.PlanFacts.{hop_at_window}
 use Rattle.sabr_search.proofs.Forward.{step_of_hop}
 use Rattle.sabr_search.proofs.OverLinks.{no_pass, least_before_small, starts_late, none_later, pass_takes, step_at, step_over}
@@ -9,6 +10,8 @@ use Rattle.sabr_search.proofs.task.Task.leave_over.Goals as goal
 pub loop-back-init : goal.loop-back-init
 loop-back-init g c = record {
   counted = omega arith;
+  looked = omega arith;
+  some_looks = λ later. absurd (omega (arith, later));
   lower = omega arith;
   sound = λ t from less. absurd (omega (arith, from, less));
   full = λ k x t w b le at after s less.
@@ -19,29 +22,35 @@ pub leaves_no_later-requires-clause-light : goal.leaves_no_later-requires-clause
 leaves_no_later-requires-clause-light g c =
     let passes = c.args.passes.now in
     let i = c.begun-end.result - 1 - c.loop-back.back in
-    least_before_small c.args.self.now c.requires.task c.args.node c.args.to passes c.requires.link i (slice_index_or passes i no_pass) (slice_get-get_or passes i no_pass (omega (arith, c.loop-back-test.true, c.begun-end.ensures.within)))
+    let pass = c.look-pass.result.now in
+    let here : slice_get passes i ≡ Some pass = slice_get-get_or passes i no_pass (omega (arith, c.loop-back-test.true, c.begun-end.ensures.within)) ∙ ap (λ (z : Bor Pass). Some z.now) (sym c.look-pass.ensures.same) in
+    least_before_small c.args.self.now c.requires.task c.args.node c.args.to passes c.requires.link i pass here
 
 pub returns-then-leaves_no_later-clause-full : goal.returns-then-leaves_no_later-clause-full
 returns-then-leaves_no_later-clause-full g c = λ n t w b has after s less.
     let task = c.args.self.now in
     let passes = c.args.passes.now in
     let i = c.begun-end.result - 1 - c.loop-back.back in
+    let pass = c.look-pass.result.now in
+    let here : slice_get passes i ≡ Some pass = slice_get-get_or passes i no_pass (omega (arith, c.loop-back-test.true, c.begun-end.ensures.within)) ∙ ap (λ (z : Bor Pass). Some z.now) (sym c.look-pass.ensures.same) in
     let step = step_over task passes n c.args.node t w b has s in
     elim (cases_lt i has.0) [
       | inl above ↦ c.loop-back.invariant.full has.0 has.1 t w b (omega (arith, above, c.loop-back-test.true)) has.2 after step less
       | inr below ↦
-          none_later task c.requires.task c.args.node c.args.to passes c.requires.link c.loop-back.last c.args.since c.args.before i (slice_index_or passes i no_pass) (slice_get-get_or passes i no_pass (omega (arith, c.loop-back-test.true, c.begun-end.ensures.within)))
+          none_later task c.requires.task c.args.node c.args.to passes c.requires.link c.loop-back.last c.args.since c.args.before i pass here
           (c.leaves_no_later.ensures c.if-leaves_no_later.true) has.0 has.1 t w b below has.2 after step less
     ]
 
-pub look_at-hop-requires-clause-pass : goal.look_at-hop-requires-clause-pass
-look_at-hop-requires-clause-pass g c =
+pub hop_over-hop-requires-clause-pass : goal.hop_over-hop-requires-clause-pass
+hop_over-hop-requires-clause-pass g c =
     let passes = c.args.passes.now in
     let i = c.begun-end.result - 1 - c.loop-back.back in
-    c.requires.link.each i (slice_index_or passes i no_pass) (slice_get-get_or passes i no_pass (omega (arith, c.loop-back-test.true, c.begun-end.ensures.within)))
+    let pass = c.look-pass.result.now in
+    let here : slice_get passes i ≡ Some pass = slice_get-get_or passes i no_pass (omega (arith, c.loop-back-test.true, c.begun-end.ensures.within)) ∙ ap (λ (z : Bor Pass). Some z.now) (sym c.look-pass.ensures.same) in
+    c.requires.link.each i pass here
 
 pub leave_before-requires-clause-window : goal.leave_before-requires-clause-window
-leave_before-requires-clause-window g c = hop_at_window c.args.self.now c.requires.task _ c.look_at-hop.result c.look_at-hop.ensures.value
+leave_before-requires-clause-window g c = hop_at_window c.args.self.now c.requires.task _ c.hop_over-hop.result c.hop_over-hop.ensures.value
 
 pub loop-back-preserved : goal.loop-back-preserved
 loop-back-preserved g c =
@@ -49,19 +58,21 @@ loop-back-preserved g c =
     let passes = c.args.passes.now in
     let i = c.begun-end.result - 1 - c.loop-back.back in
     let u = c.args.node in
-    let pass = slice_index_or passes i no_pass in
-    let here : slice_get passes i ≡ Some pass = slice_get-get_or passes i no_pass (omega (arith, c.loop-back-test.true, c.begun-end.ensures.within)) in
+    let pass = c.look-pass.result.now in
+    let here : slice_get passes i ≡ Some pass = slice_get-get_or passes i no_pass (omega (arith, c.loop-back-test.true, c.begun-end.ensures.within)) ∙ ap (λ (z : Bor Pass). Some z.now) (sym c.look-pass.ensures.same) in
     let so_far = c.loop-back.invariant in
-    let hop = c.look_at-hop.result in
-    let is_hop = c.look_at-hop.ensures.value in
+    let hop = c.hop_over-hop.result in
+    let is_hop = c.hop_over-hop.ensures.value in
     record {
-      counted = omega (arith, so_far.counted, c.look_at-hop.ensures.counted);
+      counted = omega (arith, so_far.counted, c.look-pass.ensures.counted);
+      looked = omega (arith, so_far.looked, c.look-pass.ensures.counted);
+      some_looks = λ later. omega (arith, so_far.looked, c.look-pass.ensures.counted);
       lower = omega (arith, so_far.lower, c.max-last.ensures);
       sound = λ t from less. elim (cases_lt t c.loop-back.last) [
         | inl before ↦ so_far.sound t from before
         | inr behind ↦
             (let kept = c.leave_before.ensures.kept t (omega (arith, c.max-last.ensures, less, behind)) in
-            (kept.0, kept.2, λ open'. (pass.number, pass_takes task c.requires.task u c.args.to t pass kept.0 hop (c.requires.link.each i pass here) c.look_at-hop.ensures.receiver is_hop open' (λ same. absurd (c.requires.other same)) kept.1)))
+            (kept.0, kept.2, λ open'. (pass.number, pass_takes task c.requires.task u c.args.to t pass kept.0 hop (c.requires.link.each i pass here) c.hop_over-hop.ensures.receiver is_hop open' (λ same. absurd (c.requires.other same)) kept.1)))
       ];
       full = λ k x t w b le at after s less. elim (cases_eq k i) [
         | inl same ↦
@@ -77,3 +88,9 @@ loop-back-preserved g c =
 pub returns-clause-full : goal.returns-clause-full
 returns-clause-full g c = λ n t w b has after s less.
     c.loop-back.invariant.full has.0 has.1 t w b (omega (arith, c.loop-back-test.false)) has.2 after (step_over c.args.self.now c.args.passes.now n c.args.node t w b has s) less
+
+pub returns-then-leaves_no_later-clause-some_looks : goal.returns-then-leaves_no_later-clause-some_looks
+returns-then-leaves_no_later-clause-some_looks g c = λ later. omega (arith, c.loop-back.invariant.looked, c.look-pass.ensures.counted)
+
+pub returns-clause-some_looks : goal.returns-clause-some_looks
+returns-clause-some_looks g c = c.loop-back.invariant.some_looks
