@@ -16,7 +16,7 @@ use Rattle.sabr_session.specs.SessionText.{text_of, HasText, session_text, old_s
 use Rattle.sabr_session.specs.SessionRead.{IsSessionOf}
 use Rattle.sabr_session.specs.TextLaws.{IsReadBack}
 use Rattle.sabr_session.proofs.OneAnswer.{answers_once, is_read_back}
-use Rattle.cgrlist.specs.EveryRun.{Event, answered, refused, reread, unread, Beginning, started, from_text, LeadsTo, LeadOnTo, IsTextOfPlace, IsAt, BeginsWith, IsRun, asked_for, HaveTexts, FollowsListing, RunsFollow}
+use Rattle.cgrlist.specs.EveryRun.{Event, answered, refused, reread, unread, Beginning, started, from_text, LeadsTo, EventsLeadTo, IsTextOfPlace, IsAt, BeginsWith, IsRun, asked_for, HaveTexts, FollowsListing, RunsFollow}
 
 -- ---- pages
 
@@ -73,7 +73,7 @@ module _ (p : ContactPlan) (r : RouteRequest) (good : IsPlan p) (accepted : IsRe
       subst (λ (l : List (List ℕ)). Stands i events l y) (sym same) h
 
   stands : (i : ℕ) → i ≤ length (routes p r) → (events : List Event) (given : List (List ℕ)) (y x : RouteRequest × State) → x ≡ (r, state_at p r i)
-      → LeadOnTo p events x given y → Stands i events given y
+      → EventsLeadTo p events x given y → Stands i events given y
   stands i h [] given y x at run =
       let none : length given ≡ 0 = ap length run.0 in
       let count : i ≡ i + length given = omega (arith, none) in
@@ -95,7 +95,7 @@ module _ (p : ContactPlan) (r : RouteRequest) (good : IsPlan p) (accepted : IsRe
 
   -- a run of these events
   runs_on : (i : ℕ) → i ≤ length (routes p r) → (events : List Event) (x : RouteRequest × State) → x ≡ (r, state_at p r i) → HaveTexts p r i events
-      → (given : List (List ℕ)) × (y : RouteRequest × State) × LeadOnTo p events x given y
+      → (given : List (List ℕ)) × (y : RouteRequest × State) × EventsLeadTo p events x given y
   runs_on i h [] x at texts = ([], x, (refl, refl))
   runs_on i h (answered k ∷ es) x at texts =
       let page = steps p x.0 k x.1 in
