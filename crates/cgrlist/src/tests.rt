@@ -3,6 +3,7 @@
 mod checks;
 mod devices;
 mod explanations;
+mod help;
 mod listings;
 mod messages;
 mod plans;

@@ -16,6 +16,12 @@ mod SpelledLines
 mod SpelledDigests
 mod SpelledHead
 mod SpelledParts
+mod Spellings
+mod TextsApart
+pub mod SaidLines
+pub mod NeverRead
+pub mod GoingOn
+pub mod SessionGivenSoFar
 pub mod SessionOutcomes
 mod ShortStates
 mod TextsRead
@@ -24,3 +30,4 @@ mod StepsTaken
 mod WordsTold
 mod LinesTold
 pub mod TextsTold
+pub mod Verified

@@ -13,7 +13,7 @@ use std::test::Fail;
 /// 2030-01-01T00:00:00Z.
 const BEGIN: u64 = 1893456000;
 
-const PLAN_A: &[u8] = b"\
+pub(super) const PLAN_A: &[u8] = b"\
 @ 2030/01/01-00:00:00\n\
 a range +0 +1000 1 2 10\n\
 a range +0 +1000 2 3 5\n\
