@@ -24,7 +24,7 @@ use Rattle.sabr_session.proofs.SpelledLines.{joined, AreLines, lines_of-joined, 
 use Rattle.sabr_session.proofs.SpelledDigests.{digest_length, digest_word}
 use Rattle.sabr_session.proofs.SpelledHead.{accepted_nodes, accepted_few, time_word, digest_read, emitted_read, count_read, last_read, request_text, old_request_text, request_read, old_request_read, asked_is, old_asked_is}
 use Rattle.sabr_session.proofs.SpelledParts.{part_pieces, spelled_part, part_line_is, ArePartsOf, is_before, read_on, parts_read}
-use Rattle.sabr_session.proofs.ShortStates.{StateIsRequest}
+use Rattle.sabr_session.proofs.ShortStates.{StateIsTellable}
 
 -- ---- the lines of a text
 
@@ -144,7 +144,7 @@ module _ (r : RouteRequest) (told : IsRequest r) where
 
 -- ---- the text is read
 
-module _ (p : ContactPlan) (r : RouteRequest) (s : State) (told : IsRequest r) (state : StateIsRequest p r s) (text : HasText s) (is : IsState p r s) where
+module _ (p : ContactPlan) (r : RouteRequest) (s : State) (told : IsRequest r) (state : StateIsTellable p r s) (text : HasText s) (is : IsState p r s) where
   -- what the first three lines say, and what all say
   asked_so : Version → Said
   asked_so v = record { version = v; request = r; emitted = 0; last_route = []; count = 0; parts = [] }
