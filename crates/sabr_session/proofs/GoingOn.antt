@@ -1,7 +1,5 @@
 -- A text that goes on with a piece, or that a piece ends.
-use Rattle.std.proofs.Common.{◌≡◌, ◌≢◌, ℕ, ◌+◌, ◌*◌, ◌<◌, ◌≤◌, ◌⊎◌, inl, inr, Bool, true, false, ◌&&◌, ◌||◌, not, eqb, ltb, List, [], ◌∷◌, ◌++◌, length, refl, sym, ap, ◌∙◌, arith, Result, Ok, Err, length-append}
-use borrow.Author.Tests.{lt-ltb, le-ltb}
-use Rattle.sabr_model.specs.Plan.{ContactPlan, TabledPlan}
+use Rattle.std.proofs.Common.{◌≡◌, ℕ, ◌+◌, ◌≤◌, ◌⊎◌, inl, inr, Bool, true, false, ◌&&◌, List, [], ◌∷◌, ◌++◌, length, refl, sym, ap, ◌∙◌, arith, Result, Ok, Err, length-append}
 use Rattle.sabr_plan.specs.Canonical.{digest_of}
 use Rattle.sabr_plan.specs.Words.{is_one_line, has_bytes}
 use Rattle.sabr_plan.proofs.Held.{one_line-append}

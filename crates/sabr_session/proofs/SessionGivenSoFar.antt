@@ -1,5 +1,5 @@
 -- What reading a session text leaves, call by call.
-use Rattle.std.proofs.Common.{◌≡◌, ◌≢◌, ℕ, ◌+◌, Bool, true, false, List, [], ◌++◌, ◌⊎◌, inl, inr, sym, ap, ◌∙◌, refl, append_assoc, append-nil, Option, Result, Ok, Err, IfErr}
+use Rattle.std.proofs.Common.{◌≡◌, ◌≢◌, ℕ, ◌+◌, Bool, true, false, List, [], ◌++◌, ◌⊎◌, inl, inr, sym, ap, ◌∙◌, refl, append_assoc, Option, Result, Ok, Err, IfErr}
 use Rattle.std.specs.Io.KnownBytes.{Consumes, IsAtEnd}
 use Rattle.sabr_model.specs.Plan.{TabledPlan}
 use Rattle.sabr_plan.specs.Canonical.{digest_of}
@@ -8,7 +8,7 @@ use Rattle.sabr_frontier.specs.Session.{Seen}
 use Rattle.sabr_session.specs.declared.session_fault.SessionFault.{SessionFault}
 use Rattle.sabr_session.specs.declared.session_fault.SessionFault.TheVariants as fault
 use Rattle.sabr_session.specs.SessionRead.{Said, ComesTo}
-use Rattle.sabr_session.specs.SessionFed.{OpenText, nothing_fed, opened_over, outcome_of, GoesOn, IsRefusedPiece, IsFed, IsFinished}
+use Rattle.sabr_session.specs.SessionFed.{OpenText, nothing_fed, opened_over, outcome_of, IsRefusedPiece, IsFed, IsFinished}
 use Rattle.sabr_session.specs.SessionGiven.{ReadsSession, said_over}
 use Rattle.sabr_session.proofs.SessionOutcomes.{said_of-outcome, outcome-read}
 use Rattle.sabr_session.proofs.NeverRead.{text_not_read}
