@@ -15,11 +15,12 @@ use Rattle.sabr_session.proofs.NeverRead.{misspelled_not, line_not_read}
 -- what stands before a piece and behind some of it, over one plan
 pub record HasTaken (old : OpenText) (piece : List ℕ) (t : OpenText) (rest : List ℕ) : Type 0 where
   pub plan : t.plan ≡ old.plan
+  pub calls : t.calls ≡ old.calls
   pub same : (more : List ℕ) (ended : Bool) → outcome old.plan.plan (digest_of old.plan.plan) old.fed (piece ++ more) ended ≡ outcome old.plan.plan (digest_of old.plan.plan) t.fed (rest ++ more) ended
   pub grows : weight old + length piece ≤ weight t + length rest
 
 pub nothing_taken : (t : OpenText) (piece : List ℕ) → HasTaken t piece t piece
-nothing_taken t piece = record { plan = refl; same = λ more ended. refl; grows = omega arith }
+nothing_taken t piece = record { plan = refl; calls = refl; same = λ more ended. refl; grows = omega arith }
 
 module _ (old : OpenText) (piece : List ℕ) (t : OpenText) (rest : List ℕ) (taken : HasTaken old piece t rest) (held : is_one_line t.fed.held ≡ true) where
   -- a line of the piece is refused
@@ -31,11 +32,12 @@ module _ (old : OpenText) (piece : List ℕ) (t : OpenText) (rest : List ℕ) (t
       inr (line_not_read _ _ _ _ _ f e, line_refused old.plan.plan (digest_of old.plan.plan) old.fed piece t.fed rest taken.same held front back one parted f e)
 
   -- or read
-  pub line_then_read : (front back : List ℕ) → is_one_line front ≡ true → rest ≡ front ++ 10 ∷ back → (new : OpenText) → new.plan ≡ t.plan
+  pub line_then_read : (front back : List ℕ) → is_one_line front ≡ true → rest ≡ front ++ 10 ∷ back → (new : OpenText) → new.plan ≡ t.plan → new.calls ≡ t.calls
       → read_line t.plan.plan (digest_of t.plan.plan) (t.fed.lines + 1) t.fed.said (t.fed.held ++ front) ≡ Ok new.fed.said
       → new.fed.lines ≡ t.fed.lines + 1 → new.fed.held ≡ [] → length t.fed.held + length front ≤ 660008 → HasTaken old piece new back
-  line_then_read front back one parted new plan is lines none short = record {
+  line_then_read front back one parted new plan calls is lines none short = record {
     plan = plan ∙ taken.plan;
+    calls = calls ∙ taken.calls;
     same = line_read old.plan.plan (digest_of old.plan.plan) old.fed piece t.fed rest taken.same held front back one parted new.fed (rw (← taken.plan) is) lines none;
     grows = omega (arith, taken.grows, lines, ap length none, ap length parted, length-append front (10 ∷ back));
   }
@@ -51,6 +53,7 @@ module _ (old : OpenText) (piece : List ℕ) (t : OpenText) (rest : List ℕ) (t
       let whole : is_one_line (t.fed.held ++ rest) ≡ true = one_line-append t.fed.held rest held one in
       record {
         plan = plan;
+        calls = ap (λ (t : OpenText). t.calls) is ∙ taken.calls;
         same = λ more ended. rest_held p h old.fed piece t.fed rest taken.same held new.fed fed more ended ∙ rw plan refl;
         fine = rw (plan, fed) (outcome-read p h (record t.fed { held = t.fed.held ++ rest }) whole good);
       }

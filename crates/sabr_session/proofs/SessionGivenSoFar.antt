@@ -1,5 +1,5 @@
 -- What reading a session text leaves, call by call.
-use Rattle.std.proofs.Common.{◌≡◌, ◌≢◌, ℕ, ◌+◌, Bool, true, false, List, [], ◌++◌, ◌⊎◌, inl, inr, sym, ap, ◌∙◌, refl, append_assoc, Option, Result, Ok, Err, IfErr}
+use Rattle.std.proofs.Common.{◌≡◌, ◌≢◌, ℕ, ◌+◌, Bool, true, false, List, [], ◌++◌, ◌⊎◌, inl, inr, sym, ap, ◌∙◌, refl, append_assoc, Option, Result, Ok, Err, IfOk, IfErr}
 use Rattle.std.specs.Io.KnownBytes.{Consumes, IsAtEnd}
 use Rattle.sabr_model.specs.Plan.{TabledPlan}
 use Rattle.sabr_plan.specs.Canonical.{digest_of}
@@ -14,46 +14,49 @@ use Rattle.sabr_session.proofs.SessionOutcomes.{said_of-outcome, outcome-read}
 use Rattle.sabr_session.proofs.NeverRead.{text_not_read}
 
 -- these bytes were read of a text over the plan that wasn't refused, and whatever comes behind them, it comes to the same
-pub record HasGiven (plan : TabledPlan) (old new : Option (List ℕ)) (t : OpenText) : Type 0 where
+pub record HasGiven (plan : TabledPlan) (calls : ℕ) (old new : Option (List ℕ)) (t : OpenText) : Type 0 where
   pub given : List ℕ
   pub consumed : Consumes old new given
   pub over : t.plan ≡ plan
+  pub counted : t.calls ≡ calls
   pub same : (more : List ℕ) (ended : Bool) → said_over plan (given ++ more) ended ≡ outcome_of t more ended
   pub fine : outcome_of t [] false ≡ Err fault.Read
 
 -- the text that a feed holds is such
-abbrev pub HasFed : TabledPlan → Option (List ℕ) → Option (List ℕ) → Result OpenText SessionFault → Type 0
-HasFed plan old new (Ok t) = HasGiven plan old new t
-HasFed plan old new (Err f) = ⊥
+abbrev pub HasFed : TabledPlan → ℕ → Option (List ℕ) → Option (List ℕ) → Result OpenText SessionFault → Type 0
+HasFed plan calls old new (Ok t) = HasGiven plan calls old new t
+HasFed plan calls old new (Err f) = ⊥
 
 -- nothing was read at first
-pub nothing_given : (plan : TabledPlan) (old : Option (List ℕ)) (feed : Result OpenText SessionFault) → feed ≡ Ok (opened_over plan) → HasFed plan old old feed
-nothing_given plan old feed is = rw is (record {
+pub nothing_given : (plan : TabledPlan) (calls : ℕ) (old : Option (List ℕ)) (feed : Result OpenText SessionFault) → feed ≡ Ok (opened_over plan calls) → HasFed plan calls old old feed
+nothing_given plan calls old feed is = rw is (record {
   given = [];
   consumed = Consumes-nil old;
   over = refl;
+  counted = refl;
   same = λ more ended. said_of-outcome plan.plan (digest_of plan.plan) more ended;
   fine = outcome-read plan.plan (digest_of plan.plan) nothing_fed refl refl;
 })
 
 -- a piece more
-pub piece_given : {U : Type 0} (plan : TabledPlan) (old mid new : Option (List ℕ)) (feed next : Result OpenText SessionFault) (piece : List ℕ) (u : U)
-    → HasFed plan old mid feed → Consumes mid new piece → IsFed {U = U} feed piece (Ok u) next → HasFed plan old new next
-piece_given plan old mid new (Err f) next piece u was consumed fed = absurd was
-piece_given plan old mid new (Ok t) (Err f) piece u was consumed fed = absurd fed
-piece_given plan old mid new (Ok t) (Ok s) piece u was consumed fed = record {
+pub piece_given : {U : Type 0} (plan : TabledPlan) (calls : ℕ) (old mid new : Option (List ℕ)) (feed next : Result OpenText SessionFault) (piece : List ℕ) (u : U)
+    → HasFed plan calls old mid feed → Consumes mid new piece → IsFed {U = U} feed piece (Ok u) next → HasFed plan calls old new next
+piece_given plan calls old mid new (Err f) next piece u was consumed fed = absurd was
+piece_given plan calls old mid new (Ok t) (Err f) piece u was consumed fed = absurd fed
+piece_given plan calls old mid new (Ok t) (Ok s) piece u was consumed fed = record {
   given = was.given ++ piece;
   consumed = Consumes-append old mid new was.given piece was.consumed consumed;
   over = fed.plan ∙ was.over;
+  counted = fed.calls ∙ was.counted;
   same = λ more ended. ap (λ bytes. said_over plan bytes ended) (append_assoc was.given piece more) ∙ was.same (piece ++ more) ended ∙ fed.same more ended;
   fine = fed.fine;
 }
 
 -- a piece is refused
-pub piece_refused : (plan : TabledPlan) (old mid new : Option (List ℕ)) (feed next : Result OpenText SessionFault) (piece : List ℕ) (before after : ℕ) (f : SessionFault)
-    → HasFed plan old mid feed → Consumes mid new piece → after ≡ before → IsFed {U = Unit {0}} feed piece (Err f) next → ReadsSession plan old before (Err f) new after
-piece_refused plan old mid new (Err g) next piece before after f was consumed fine fed = absurd was
-piece_refused plan old mid new (Ok t) next piece before after f was consumed fine fed = record {
+pub piece_refused : (plan : TabledPlan) (calls : ℕ) (old mid new : Option (List ℕ)) (feed next : Result OpenText SessionFault) (piece : List ℕ) (before after : ℕ) (f : SessionFault)
+    → HasFed plan calls old mid feed → Consumes mid new piece → after ≡ before → IsFed {U = Unit {0}} feed piece (Err f) next → ReadsSession plan old before (Err f) new after
+piece_refused plan calls old mid new (Err g) next piece before after f was consumed fine fed = absurd was
+piece_refused plan calls old mid new (Ok t) next piece before after f was consumed fine fed = record {
   given = was.given ++ piece;
   consumed = Consumes-append old mid new was.given piece was.consumed consumed;
   told = inr (inr (fine, for_good fed.1));
@@ -65,20 +68,27 @@ piece_refused plan old mid new (Ok t) next piece before after f was consumed fin
         inr (other, λ more ended. ap (λ bytes. said_over plan bytes ended) (append_assoc was.given piece more) ∙ was.same (piece ++ more) ended ∙ refused more ended)
 
 -- the reader ended
-pub reader_ended : (plan : TabledPlan) (old mid new : Option (List ℕ)) (feed : Result OpenText SessionFault) (before after : ℕ) (answer : Result Seen SessionFault)
-    → HasFed plan old mid feed → Consumes mid new [] → IsAtEnd new → after ≡ before → IsFinished feed answer → ReadsSession plan old before answer new after
-reader_ended plan old mid new (Err f) before after answer was consumed end fine finished = absurd was
-reader_ended plan old mid new (Ok t) before after answer was consumed end fine finished = record {
+pub reader_ended : (plan : TabledPlan) (calls : ℕ) (old mid new : Option (List ℕ)) (feed : Result OpenText SessionFault) (before after : ℕ) (answer : Result Seen SessionFault)
+    → HasFed plan calls old mid feed → Consumes mid new [] → IsAtEnd new → after ≡ before → IsFinished feed answer → ReadsSession plan old before answer new after
+reader_ended plan calls old mid new (Err f) before after answer was consumed end fine finished = absurd was
+reader_ended plan calls old mid new (Ok t) before after answer was consumed end fine finished = record {
   given = was.given ++ [];
   consumed = Consumes-append old mid new was.given [] was.consumed consumed;
   told = inl (end, fine, rw (was.same [] true, ← was.over) finished);
 }
 
+-- and the session's finder was called as often as the one handed in
+pub calls_kept : (plan : TabledPlan) (calls : ℕ) (old new : Option (List ℕ)) (feed : Result OpenText SessionFault) (answer : Result Seen SessionFault)
+    → HasFed plan calls old new feed → IfOk feed (λ t. IfOk answer (λ s. s.calls ≡ t.calls)) → IfOk answer (λ s. s.calls ≡ calls)
+calls_kept plan calls old new (Err f) answer was told = absurd was
+calls_kept plan calls old new (Ok t) (Err f) was told = tt
+calls_kept plan calls old new (Ok t) (Ok s) was told = told ∙ was.counted
+
 -- the reader failed
-pub reader_failed : (plan : TabledPlan) (old mid new : Option (List ℕ)) (feed : Result OpenText SessionFault) (before after : ℕ)
-    → HasFed plan old mid feed → Consumes mid new [] → after ≡ before + 1 → ReadsSession plan old before (Err fault.Read) new after
-reader_failed plan old mid new (Err f) before after was consumed failed = absurd was
-reader_failed plan old mid new (Ok t) before after was consumed failed = record {
+pub reader_failed : (plan : TabledPlan) (calls : ℕ) (old mid new : Option (List ℕ)) (feed : Result OpenText SessionFault) (before after : ℕ)
+    → HasFed plan calls old mid feed → Consumes mid new [] → after ≡ before + 1 → ReadsSession plan old before (Err fault.Read) new after
+reader_failed plan calls old mid new (Err f) before after was consumed failed = absurd was
+reader_failed plan calls old mid new (Ok t) before after was consumed failed = record {
   given = was.given ++ [];
   consumed = Consumes-append old mid new was.given [] was.consumed consumed;
   told = inr (inl (failed, refl, was.same [] false ∙ was.fine));

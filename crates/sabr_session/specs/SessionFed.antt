@@ -29,14 +29,15 @@ outcome p h s bytes ended =
 abbrev pub is_bad_front : ℕ → Said → List ℕ → Bool
 is_bad_front n s front = (is_behind n s && has_bytes front) || nat_lt 660008 (length front)
 
--- over a plan, what was fed of a text that wasn't refused
+-- over a plan, what was fed of a text that wasn't refused, and how often the finder was called that its session is to have
 pub record OpenText : Type 0 where
   pub plan : TabledPlan
+  pub calls : ℕ
   pub fed : SessionFed
 
 -- before the first piece, over a plan
-abbrev pub opened_over : TabledPlan → OpenText
-opened_over plan = record { plan = plan; fed = nothing_fed }
+abbrev pub opened_over : TabledPlan → ℕ → OpenText
+opened_over plan calls = record { plan = plan; calls = calls; fed = nothing_fed }
 
 -- what all lines come to say, with these bytes behind the text, over its plan
 abbrev pub outcome_of : OpenText → List ℕ → Bool → Result Said SessionFault
@@ -46,6 +47,7 @@ outcome_of t bytes ended = outcome t.plan.plan (digest_of t.plan.plan) t.fed byt
 -- that is what is told
 pub record GoesOn (old : OpenText) (piece : List ℕ) (new : OpenText) : Type 0 where
   pub plan : new.plan ≡ old.plan
+  pub calls : new.calls ≡ old.calls
   pub same : (more : List ℕ) (ended : Bool) → outcome_of old (piece ++ more) ended ≡ outcome_of new more ended
   pub fine : outcome_of new [] false ≡ Err Read
 
@@ -72,7 +74,7 @@ weight_of (Err f) = 0
 -- the session of what a text says, without former states or a search; or the text's fault, or want of memory
 abbrev pub IsSessionFrom : TabledPlan → Result Said SessionFault → Result Seen SessionFault → Type 0
 IsSessionFrom plan said (Ok s) =
-    (s ≡ record { plan = plan; request = s.request; state = s.state; former = []; searches = 0 }) × ComesTo plan.plan said (Ok (s.request, s.state))
+    (s ≡ record { plan = plan; request = s.request; state = s.state; former = []; searches = 0; calls = s.calls }) × ComesTo plan.plan said (Ok (s.request, s.state))
 IsSessionFrom plan said (Err f) = (f ≡ NoMemory) ⊎ ComesTo plan.plan said (Err f)
 
 -- the text has ended behind what was fed, or what refused it is told again

@@ -1,5 +1,5 @@
 -- What the lines of a session text lead to, from the request on.
-use Rattle.std.specs.Prelude.{◌≡◌, Bool, true, false, List, [], Option, Some, None}
+use Rattle.std.specs.Prelude.{◌≡◌, ℕ, Bool, true, false, List, [], Option, Some, None, unwrap_or}
 use Rattle.sabr_model.specs.Plan.{TabledPlan}
 use Rattle.sabr_model.specs.Arrival.{RouteRequest}
 use Rattle.sabr_model.specs.Asking.{unlimited}
@@ -7,17 +7,18 @@ use Rattle.sabr_frontier.specs.State.{PartState}
 use Rattle.sabr_frontier.specs.Loading.{Loaded}
 use Rattle.sabr_session.specs.SessionRead.{Said}
 
--- the plan; whether there is a request; the request, and the parts so far
+-- the plan; how often the finder was called; whether there is a request; the request, and the parts so far
 pub record Staged : Type 0 where
   pub plan : TabledPlan
+  pub calls : ℕ
   pub has_request : Bool
   pub request : RouteRequest
   pub parts : List PartState
 
--- before the request, and what a loader has
-abbrev pub staged : TabledPlan → Option Loaded → Staged
-staged plan None = record { plan = plan; has_request = false; request = unlimited 0 0 0 0; parts = [] }
-staged plan (Some l) = record { plan = plan; has_request = true; request = l.request; parts = l.parts }
+-- before the request, with a finder called so often, and what a loader has
+abbrev pub staged : TabledPlan → Option ℕ → Option Loaded → Staged
+staged plan calls None = record { plan = plan; calls = unwrap_or calls 0; has_request = false; request = unlimited 0 0 0 0; parts = [] }
+staged plan calls (Some l) = record { plan = plan; calls = l.calls; has_request = true; request = l.request; parts = l.parts }
 
 -- there is a finder, or a loader over the plan
 abbrev pub IsStage : {B : Type 0} → TabledPlan → Option B → Option Loaded → Type 0

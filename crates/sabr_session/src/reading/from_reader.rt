@@ -37,6 +37,7 @@ pub fn read_session<'p, R: Read, B: BestOf<A>, A: Allocator + Copy>(
     requires { digest.now ≡ digest_of plan.now.plan }
     ensures read { ReadsSession plan.now (R.remaining reader.old) (R.failures reader.old) result (R.remaining reader.new) (R.failures reader.new) }
     ensures failed { IfErr result (λ f. f ≡ fault.Read → R.failures reader.new ≡ R.failures reader.old + 1) }
+    ensures calls { IfOk result (λ s. s.calls ≡ B.calls_of finder) }
     ensures formed { IfOk result (λ s. IsState s.plan.plan s.request s.state) }
 {
     let mut buffer = [0u8; PIECE_BYTES];

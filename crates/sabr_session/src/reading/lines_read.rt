@@ -1,6 +1,6 @@
 //! The lines of a session text that LF has ended.
 
-ghost use Rattle.std.specs.Prelude.{◌≡◌, ◌+◌, ◌≤◌, nat_lt, true, if◌then◌else◌, Ok, OnOk, OnErr};
+ghost use Rattle.std.specs.Prelude.{◌≡◌, ◌+◌, ◌≤◌, nat_lt, true, if◌then◌else◌, Ok, IfOk, OnOk, OnErr};
 ghost use Rattle.sabr_session.specs.SessionRead.{end_said, is_behind, line_said, part_said};
 ghost use Rattle.sabr_session.specs.SessionFed.{opened_over, IsSessionFrom};
 ghost use Rattle.sabr_session.specs.SessionLeaving.{Leaves};
@@ -34,7 +34,7 @@ impl<'p, B: BestOf<A>, A: Allocator + Copy> Model for LinesRead<'p, B, A> {
 
     ghost Value = { OpenText };
 
-    ghost view = { λ l. record { plan = l.stage.plan; fed = record { lines = l.lines; said = said_with l.head l.stage; held = [] } } };
+    ghost view = { λ l. record { plan = l.stage.plan; calls = l.stage.calls; fed = record { lines = l.lines; said = said_with l.head l.stage; held = [] } } };
 
     ghost invariant = { λ l. (l.stage.has_request ≡ nat_lt 2 l.lines) × (l.lines ≤ 18446744073709551622) };
 }
@@ -51,6 +51,7 @@ fn read_said<'p, B: BestOf<A>, A: Allocator + Copy>(
     requires number { 1 ≤ number }
     ensures value { Leaves (line_said stage.old.plan.plan digest.now number (said_with head.old stage.old) line.now) result (said_with head.new stage.new) }
     ensures plan { stage.new.plan ≡ stage.old.plan }
+    ensures calls { stage.new.calls ≡ stage.old.calls }
     ensures request { OnOk result (stage.new.has_request ≡ nat_lt 2 number) }
     ensures limit { OnOk result (number ≤ 18446744073709551622) }
     ensures head { OnErr result (head.new ≡ head.old) }
@@ -86,6 +87,7 @@ fn read_other<'p, B: BestOf<A>, A: Allocator + Copy>(
     requires number { 7 ≤ number }
     ensures value { Leaves (if nat_lt number (7 + head.now.count) then part_said stage.old.plan.plan number (said_with head.now stage.old) line.now else end_said number (said_with head.now stage.old) line.now) result (said_with head.now stage.new) }
     ensures plan { stage.new.plan ≡ stage.old.plan }
+    ensures calls { stage.new.calls ≡ stage.old.calls }
     ensures request { stage.new.has_request ≡ true }
     ensures limit { OnOk result (number ≤ 18446744073709551622) }
     ensures stage { OnErr result (stage.new ≡ stage.old) }
@@ -104,7 +106,7 @@ fn read_other<'p, B: BestOf<A>, A: Allocator + Copy>(
 impl<'p, B: BestOf<A>, A: Allocator + Copy> LinesRead<'p, B, A> {
     /// Before the first line.
     pub(crate) fn new(alloc: A, plan: &'p Plan<A>, finder: B) -> LinesRead<'p, B, A>
-        ensures { result ≡ opened_over plan.now }
+        ensures { result ≡ opened_over plan.now (B.calls_of finder) }
     {
         LinesRead {
             lines: 0,
@@ -132,6 +134,7 @@ impl<'p, B: BestOf<A>, A: Allocator + Copy> LinesRead<'p, B, A> {
     pub(crate) fn read_line(&mut self, digest: &[u8; 32], line: &[u8]) -> Result<(), SessionFault>
         ensures value { Leaves (line_said self.old.plan.plan digest.now (self.old.fed.lines + 1) self.old.fed.said line.now) result self.new.fed.said }
         ensures plan { self.new.plan ≡ self.old.plan }
+        ensures calls { self.new.calls ≡ self.old.calls }
         ensures lines { OnOk result (self.new.fed.lines ≡ self.old.fed.lines + 1) }
     {
         let number = self.lines + 1;
@@ -143,7 +146,8 @@ impl<'p, B: BestOf<A>, A: Allocator + Copy> LinesRead<'p, B, A> {
     /// The session of all lines, behind `end`.
     pub(crate) fn into_session(self) -> Result<Session<'p, B, A>, SessionFault>
         requires { is_behind (self.fed.lines + 1) self.fed.said ≡ true }
-        ensures { IsSessionFrom self.entry.plan (Ok self.entry.fed.said) result }
+        ensures from { IsSessionFrom self.entry.plan (Ok self.entry.fed.said) result }
+        ensures calls { IfOk result (λ s. s.calls ≡ self.entry.calls) }
     {
         let LinesRead {
             lines: _,

@@ -35,7 +35,7 @@ impl<'p, B: BestOf<A>, A: Allocator + Copy> SessionFeed<'p, B, A> {
     /// Before the first piece. The digest is that of the plan. It takes no memory.
     pub fn new(alloc: A, plan: &'p Plan<A>, digest: &[u8; 32], finder: B) -> SessionFeed<'p, B, A>
         requires { digest.now ≡ digest_of plan.now.plan }
-        ensures { result ≡ Ok (opened_over plan.now) }
+        ensures { result ≡ Ok (opened_over plan.now (B.calls_of finder)) }
     {
         SessionFeed {
             text: Ok(TextSoFar::new(alloc, plan, digest, finder)),
@@ -80,6 +80,7 @@ impl<'p, B: BestOf<A>, A: Allocator + Copy> SessionFeed<'p, B, A> {
     /// [`NoMemory`](SessionFault::NoMemory) where a growth was refused. The finder is dropped.
     pub fn finish(self) -> Result<Session<'p, B, A>, SessionFault>
         ensures finished { IsFinished self.entry result }
+        ensures calls { IfOk self.entry (λ t. IfOk result (λ s. s.calls ≡ t.calls)) }
         ensures formed { IfOk result (λ s. IsState s.plan.plan s.request s.state) }
     {
         match self.text {

@@ -1,6 +1,6 @@
 //! What the lines of a session text lead to: a loader, once there is a request.
 
-ghost use Rattle.std.specs.Prelude.{◌≡◌, ◌≤◌, [], true, false, None, IfOk, IfErr, OnOk, OnErr};
+ghost use Rattle.std.specs.Prelude.{◌≡◌, ◌≤◌, [], true, false, Some, None, IfOk, IfErr, OnOk, OnErr};
 ghost use Rattle.std.specs.Option.{option_copied};
 ghost use Rattle.sabr_frontier.specs.Listing.{IsState};
 ghost use Rattle.sabr_frontier.specs.Loading.{IsRefusedBy, state_with};
@@ -27,11 +27,12 @@ pub(crate) struct Stage<'p, B: BestOf<A>, A: Allocator + Copy> {
 }
 
 impl<'p, B: BestOf<A>, A: Allocator + Copy> Model for Stage<'p, B, A> {
+    ghost use Rattle.std.specs.Prelude.{option_map};
     ghost use Rattle.sabr_session.specs.SessionStage.{Staged, staged, IsStage};
 
     ghost Value = { Staged };
 
-    ghost view = { λ s. staged s.plan.now s.loader };
+    ghost view = { λ s. staged s.plan.now (option_map B.calls_of s.finder) s.loader };
 
     ghost invariant = { λ s. IsStage s.plan.now s.finder s.loader };
 }
@@ -46,7 +47,7 @@ fn carried_of(list: &[u32]) -> Option<&[u32]>
 impl<'p, B: BestOf<A>, A: Allocator + Copy> Stage<'p, B, A> {
     /// Before the request.
     pub(crate) fn new(alloc: A, plan: &'p Plan<A>, finder: B) -> Stage<'p, B, A>
-        ensures { result ≡ staged plan.now None }
+        ensures { result ≡ staged plan.now (Some (B.calls_of finder)) None }
     {
         Stage {
             alloc,
@@ -71,7 +72,7 @@ impl<'p, B: BestOf<A>, A: Allocator + Copy> Stage<'p, B, A> {
         requires request { self.old.has_request ≡ true }
         requires number { 7 ≤ number }
         ensures value { Leaves (part_said self.old.plan.plan number (said_with nothing_said self.old) line.now) result (said_with nothing_said self.new) }
-        ensures kept { (self.new.plan ≡ self.old.plan) × (self.new.has_request ≡ true) }
+        ensures kept { (self.new.plan ≡ self.old.plan) × (self.new.calls ≡ self.old.calls) × (self.new.has_request ≡ true) }
         ensures err { OnErr result (self.new ≡ self.old) }
     {
         let Ok(found) = part_of(self.alloc, line) else {
@@ -87,7 +88,7 @@ impl<'p, B: BestOf<A>, A: Allocator + Copy> Stage<'p, B, A> {
     fn add_part(&mut self, number: u128, part: &PartLine<A>) -> Result<(), SessionFault>
         requires { self.old.has_request ≡ true }
         ensures value { Leaves (placed self.old.plan.plan number (said_with nothing_said self.old) (record { prefix = part.now.prefix; excluded = part.now.excluded; carried = carried_of part.now.route })) result (said_with nothing_said self.new) }
-        ensures kept { (self.new.plan ≡ self.old.plan) × (self.new.has_request ≡ true) }
+        ensures kept { (self.new.plan ≡ self.old.plan) × (self.new.calls ≡ self.old.calls) × (self.new.has_request ≡ true) }
         ensures err { OnErr result (self.new ≡ self.old) }
     {
         let Some(loader) = &mut self.loader else {
@@ -110,7 +111,7 @@ impl<'p, B: BestOf<A>, A: Allocator + Copy> Stage<'p, B, A> {
         last: &[u32],
     ) -> Result<Session<'p, B, A>, LoadFault>
         requires { self.has_request ≡ true }
-        ensures ok { IfOk result (λ s. s ≡ record { plan = self.entry.plan; request = self.entry.request; state = state_with self.entry.parts emitted last.now; former = []; searches = 0 }) }
+        ensures ok { IfOk result (λ s. s ≡ record { plan = self.entry.plan; request = self.entry.request; state = state_with self.entry.parts emitted last.now; former = []; searches = 0; calls = self.entry.calls }) }
         ensures formed { OnOk result (IsState self.entry.plan.plan self.entry.request (state_with self.entry.parts emitted last.now)) }
         ensures err { IfErr result (IsRefusedBy self.entry.plan.plan self.entry.request (state_with self.entry.parts emitted last.now)) }
     {

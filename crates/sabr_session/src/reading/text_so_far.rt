@@ -1,6 +1,6 @@
 //! A session text that wasn't refused so far.
 
-ghost use Rattle.std.specs.Prelude.{◌≡◌, ◌+◌, ◌*◌, ◌<◌, ◌≤◌, [], ◌++◌, length, true, false, ◌⊎◌, IsTrue, IfErr, OnOk, OnErr};
+ghost use Rattle.std.specs.Prelude.{◌≡◌, ◌+◌, ◌*◌, ◌<◌, ◌≤◌, [], ◌++◌, length, true, false, ◌⊎◌, IsTrue, IfOk, IfErr, OnOk, OnErr};
 ghost use Rattle.sabr_plan.specs.Canonical.{digest_of};
 ghost use Rattle.sabr_plan.specs.Words.{is_one_line};
 ghost use Rattle.sabr_session.specs.SessionRead.{misspelled, read_line};
@@ -35,7 +35,7 @@ impl<'p, B: BestOf<A>, A: Allocator + Copy> Model for TextSoFar<'p, B, A> {
 
     ghost Value = { OpenText };
 
-    ghost view = { λ t. record { plan = t.lines.plan; fed = record { lines = t.lines.fed.lines; said = t.lines.fed.said; held = t.held } } };
+    ghost view = { λ t. record { plan = t.lines.plan; calls = t.lines.calls; fed = record { lines = t.lines.fed.lines; said = t.lines.fed.said; held = t.held } } };
 
     ghost invariant = { λ t. (t.digest ≡ digest_of t.lines.plan.plan) × ((is_behind (t.lines.fed.lines + 1) t.lines.fed.said && has_bytes t.held) ≡ false) };
 }
@@ -60,7 +60,7 @@ impl<'p, B: BestOf<A>, A: Allocator + Copy> TextSoFar<'p, B, A> {
         finder: B,
     ) -> TextSoFar<'p, B, A>
         requires { digest.now ≡ digest_of plan.now.plan }
-        ensures { result ≡ opened_over plan.now }
+        ensures { result ≡ opened_over plan.now (B.calls_of finder) }
     {
         TextSoFar {
             digest: *digest,
@@ -98,6 +98,7 @@ impl<'p, B: BestOf<A>, A: Allocator + Copy> TextSoFar<'p, B, A> {
         requires { IsTrue (is_one_line back.now) }
         ensures value { Leaves (read_line self.old.plan.plan (digest_of self.old.plan.plan) (self.old.fed.lines + 1) self.old.fed.said (self.old.fed.held ++ back.now)) result self.new.fed.said }
         ensures plan { self.new.plan ≡ self.old.plan }
+        ensures calls { self.new.calls ≡ self.old.calls }
         ensures rest { OnOk result ((self.new.fed.lines ≡ self.old.fed.lines + 1) × (self.new.fed.held ≡ [])) }
         ensures fits { OnOk result (length self.old.fed.held + length back.now ≤ 660008) }
         ensures held { IsTrue (is_one_line self.old.fed.held) }
@@ -142,7 +143,8 @@ impl<'p, B: BestOf<A>, A: Allocator + Copy> TextSoFar<'p, B, A> {
 
     /// The session of the text, which has ended.
     pub(crate) fn finish(self) -> Result<Session<'p, B, A>, SessionFault>
-        ensures { IsSessionFrom self.entry.plan (outcome_of self.entry [] true) result }
+        ensures from { IsSessionFrom self.entry.plan (outcome_of self.entry [] true) result }
+        ensures calls { IfOk result (λ s. s.calls ≡ self.entry.calls) }
     {
         // contracts learn here that what is held is a line
         let _ = self.held.len();

@@ -5,7 +5,7 @@ use Rattle.sabr_session.proofs.reading.from_reader.read_session.Given as goal
 
 abbrev pub invariant-loop-feed : goal.invariant-loop-feed
 invariant-loop-feed g l = record {
-  given : HasFed l.plan (g.R.Read.remaining l.initial.reader) (g.R.Read.remaining l.reader) l.feed;
+  given : HasFed l.plan (g.B.BestOf.calls_of l.fn.finder) (g.R.Read.remaining l.initial.reader) (g.R.Read.remaining l.reader) l.feed;
   fine : g.R.Read.failures l.reader ≡ g.R.Read.failures l.initial.reader;
 }
 

@@ -32,7 +32,7 @@ loop-end-preserved g c =
     let all : take (length back - 1) (drop 1 back) ≡ drop 1 back = take_all (length back - 1) (drop 1 back) (omega (arith, length-drop 1 back)) in
     let cut = parted rest front back (take (length back - 1) (drop 1 back)) c.in-Some.end c.split_at.ensures.front c.split_at.ensures.back at.0 at.1 all in
     let one : is_one_line front ≡ true = rw c.split_at.ensures.front at.2 in
-    line_then_read c.args.self.now c.args.piece.now c.loop-end.self rest c.loop-end.invariant h.held front (take (length back - 1) (drop 1 back)) one cut c.end_line.new.self h.plan h.value h.rest.0 h.rest.1 h.fits
+    line_then_read c.args.self.now c.args.piece.now c.loop-end.self rest c.loop-end.invariant h.held front (take (length back - 1) (drop 1 back)) one cut c.end_line.new.self h.plan h.calls h.value h.rest.0 h.rest.1 h.fits
 
 both_ok : {A E P Q R : Type 0} (r : Result A E) → (P → Q → R) → OnOk r P → OnOk r Q → OnOk r R
 both_ok (Ok x) f p q = f p q
