@@ -37,6 +37,8 @@ expect 'as text' '           2030/01/01
   route 1  ####
 2 > 1           3========================
 route 1  delivery 2030/01/01-00:00:07  contacts 1' "$(tools/timeline --plan "$room/plan.txt" --explained "$room/routes.txt" --text --columns 67)"
+expect 'the links of the routes alone' '1 > 2' "$(tools/timeline --plan "$room/plan.txt" --explained "$room/routes.txt" --text --used |
+    grep -o '^. > .')"
 expect 'a row for each link' '2' "$(tools/timeline --plan "$room/plan.txt" | grep -c ' → .</text>')"
 expect 'nothing stands' '0' "$(tools/timeline --plan /dev/null >"$room/none.svg"; echo $?)"
 

@@ -10,7 +10,7 @@ room=$(mktemp -d)
 trap 'rm -rf "$room"' EXIT
 
 # Makes a clone with nothing built, in a folder whose name has a space, and a stub rt that tells two crates and
-# leaves a program behind.
+# leaves a program behind. The stub builds for SLOW seconds, and until standard error has told UNTIL.
 new_clone() {
     chmod -R u+w "$room" && rm -rf "${room:?}"/*
     clone="$room/a clone" out="$room/a clone/crates/cgrlist/out"
@@ -24,6 +24,10 @@ echo build >>"$ROOM/builds"
 echo 'rt: chose --jobs 2 for low'
 echo 'so far: 3 of 7 functions checked'
 sleep "${SLOW:-0}"
+for turn in $(seq 300); do
+    [ -n "${UNTIL:-}" ] && ! grep -q "$UNTIL" "$ROOM/told" || break
+    sleep 0.1
+done
 [ -z "${BROKEN:-}" ] || { echo 'fn low::f: not proved'; exit 1; }
 echo 'rt: chose --jobs 2 for cgrlist'
 printf '#!/bin/sh\nprintf "%%s|" program "$@"; echo; exit 3\n' >out/cgrlist
@@ -73,11 +77,13 @@ call check
 expect 'so is a source less' '3 3 program|check|' "$(builds) $status $said"
 
 new_clone
-SLOW=2 call check
-expect 'each crate has a line' $'cgrlist: proving low, 1 of 2' "$(head -n 1 <<<"$told")"
+UNTIL='proving low' call check
+expect 'each crate has a line' 'cgrlist: proving low, 1 of 2' "$(head -n 1 <<<"$told")"
 touch_a_source
 if python3 -c 'import pty' 2>/dev/null; then
-    shown=$(cd "$clone" && SLOW=2 PATH="$room/bin:$PATH" python3 -c 'import pty; pty.spawn(["./cgrlist", "check"])' </dev/null)
+    (cd "$clone" && UNTIL='3 of 7' PATH="$room/bin:$PATH" \
+        python3 -c 'import pty; pty.spawn(["./cgrlist", "check"])' </dev/null >"$room/told")
+    shown=$(cat "$room/told")
     expect 'a terminal has one line that changes' yes \
         "$([[ $shown == *$'\r\e[Kcgrlist: proving low, 1 of 2: 3 of 7 functions, 0 min'*$'\r\e[Kprogram|check|'* ]] && echo yes)"
     expect 'and no other' 1 "$(wc -l <<<"$shown")"

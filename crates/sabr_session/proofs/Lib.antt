@@ -16,8 +16,6 @@ mod SpelledLines
 mod SpelledDigests
 mod SpelledHead
 mod SpelledParts
-mod Spellings
-mod TextsApart
 pub mod SaidLines
 pub mod NeverRead
 pub mod GoingOn

@@ -1,5 +1,5 @@
 -- The texts of places are those that are read as a state of their place.
-use Rattle.std.proofs.Common.{◌≡◌, ℕ, ◌+◌, ◌<◌, ◌≤◌, Bool, true, false, ◌⊎◌, inl, inr, ◌↔◌, List, [], ◌∷◌, ◌++◌, length, refl, sym, subst, ap, ◌∙◌, arith, Option, Some, None, Result, Ok, Err}
+use Rattle.std.proofs.Common.{◌≡◌, ℕ, ◌+◌, Bool, true, false, ◌⊎◌, inl, inr, ◌↔◌, List, ◌++◌, refl, sym, subst, ap, ◌∙◌, Option, Result, Ok, Err}
 use Rattle.sabr_model.specs.Plan.{ContactPlan, TabledPlan, IsPlan}
 use Rattle.sabr_model.specs.Arrival.{RouteRequest}
 use Rattle.sabr_model.specs.Asking.{IsRequest}
@@ -8,13 +8,12 @@ use Rattle.sabr_frontier.specs.State.{State}
 use Rattle.sabr_frontier.specs.Listing.{IsState, state_at}
 use Rattle.sabr_frontier.specs.Session.{Seen}
 use Rattle.sabr_frontier.proofs.PlacesFormed.{emitted_at, place_within, state_at_formed}
-use Rattle.sabr_session.specs.SessionText.{text_of, old_text_of, HasText, IsUnlimited}
+use Rattle.sabr_session.specs.SessionText.{HasText}
 use Rattle.sabr_session.specs.SessionRead.{Said, said_of, state_of, ComesTo, IsSessionOf}
-use Rattle.sabr_session.specs.SessionFed.{IsSessionFrom}
 use Rattle.sabr_session.specs.SessionGiven.{ReadsSession, EndsText, BreaksText, RefusesText}
 use Rattle.sabr_session.specs.Verifying.{IsSessionText, EndsVerified, BreaksVerified, RefusesVerified, VerifiesText}
 use Rattle.sabr_session.specs.declared.session_fault.SessionFault.{SessionFault}
-use Rattle.sabr_session.specs.declared.session_fault.SessionFault.TheVariants.{NotClosed, BadCount, Read, NoMemory}
+use Rattle.sabr_session.specs.declared.session_fault.SessionFault.TheVariants.{Read, NoMemory}
 use Rattle.sabr_session.proofs.OneAnswer.{is_read_back}
 use Rattle.sabr_session.proofs.TextsTold.{IsTextOf, text_told}
 

@@ -1,5 +1,4 @@
 use Rattle.std.proofs.Common.{subst}
-use Rattle.sabr_model.specs.Arrival.{RouteRequest}
 use Rattle.sabr_model.specs.Asking.{IsRequest}
 use Rattle.sabr_session.proofs.Verified.{session_verified, fault_verified}
 use Rattle.sabr_session.proofs.verifying.verify.Goals as goal
