@@ -1,6 +1,6 @@
 -- Every run of a session follows the listing, and every list of events has a run.
-use Rattle.std.proofs.Common.{◌≡◌, ℕ, zero, suc, ◌+◌, ◌<◌, ◌≤◌, true, List, [], ◌∷◌, ◌++◌, length, take, drop, refl, sym, ap, subst, ◌∙◌, ◌⊎◌, inl, inr, arith, length-append, length-drop, append-nil, Ok}
-use Rattle.std.specs.Prelude.{is_some, nat_lt}
+use Rattle.std.proofs.Common.{◌≡◌, ℕ, zero, suc, ◌+◌, ◌≤◌, true, List, [], ◌∷◌, ◌++◌, length, take, drop, refl, sym, ap, subst, ◌∙◌, ◌⊎◌, inl, inr, arith, length-append, length-drop, Ok}
+use Rattle.std.specs.Prelude.{is_some}
 use Rattle.std.proofs.Math.Seq.{take-nil}
 use Rattle.std.proofs.lemmas.List.{drop-drop, length-take}
 use Rattle.sabr_model.specs.Plan.{ContactPlan, IsPlan}
@@ -12,11 +12,11 @@ use Rattle.sabr_frontier.specs.State.{State}
 use Rattle.sabr_frontier.specs.Listing.{state_at, steps, next_route}
 use Rattle.sabr_frontier.proofs.Lawful.{steps_follow}
 use Rattle.sabr_frontier.proofs.PlacesFormed.{state_at_formed}
-use Rattle.sabr_session.specs.SessionText.{text_of, HasText, session_text, old_session_text}
+use Rattle.sabr_session.specs.SessionText.{text_of, HasText, IsUnlimited, session_text, old_session_text}
 use Rattle.sabr_session.specs.SessionRead.{IsSessionOf}
 use Rattle.sabr_session.specs.TextLaws.{IsReadBack}
 use Rattle.sabr_session.proofs.OneAnswer.{answers_once, is_read_back}
-use Rattle.cgrlist.specs.EveryRun.{Event, answered, refused, reread, unread, Beginning, started, from_text, LeadsTo, LeadOnTo, IsTextOfPlace, IsAt, BeginsWith, IsRun, asked_for, HaveTexts, FollowsListing, RunsFollow}
+use Rattle.cgrlist.specs.EveryRun.{Event, answered, refused, reread, unread, Beginning, started, from_text, EventsLeadTo, IsAt, BeginsWith, IsRun, asked_for, HaveTexts, FollowsListing, RunsFollow}
 
 -- ---- pages
 
@@ -73,7 +73,7 @@ module _ (p : ContactPlan) (r : RouteRequest) (good : IsPlan p) (accepted : IsRe
       subst (λ (l : List (List ℕ)). Stands i events l y) (sym same) h
 
   stands : (i : ℕ) → i ≤ length (routes p r) → (events : List Event) (given : List (List ℕ)) (y x : RouteRequest × State) → x ≡ (r, state_at p r i)
-      → LeadOnTo p events x given y → Stands i events given y
+      → EventsLeadTo p events x given y → Stands i events given y
   stands i h [] given y x at run =
       let none : length given ≡ 0 = ap length run.0 in
       let count : i ≡ i + length given = omega (arith, none) in
@@ -95,7 +95,7 @@ module _ (p : ContactPlan) (r : RouteRequest) (good : IsPlan p) (accepted : IsRe
 
   -- a run of these events
   runs_on : (i : ℕ) → i ≤ length (routes p r) → (events : List Event) (x : RouteRequest × State) → x ≡ (r, state_at p r i) → HaveTexts p r i events
-      → (given : List (List ℕ)) × (y : RouteRequest × State) × LeadOnTo p events x given y
+      → (given : List (List ℕ)) × (y : RouteRequest × State) × EventsLeadTo p events x given y
   runs_on i h [] x at texts = ([], x, (refl, refl))
   runs_on i h (answered k ∷ es) x at texts =
       let page = steps p x.0 k x.1 in
@@ -114,17 +114,27 @@ module _ (p : ContactPlan) (r : RouteRequest) (good : IsPlan p) (accepted : IsRe
 
   -- ---- beginnings
 
+  -- the text of place i, or that in version 1
+  abbrev IsTextAt : RouteRequest × ℕ → List ℕ → Type 0
+  IsTextAt w bytes = (w.1 ≤ length (routes p w.0)) × HasText (state_at p w.0 w.1) × ((bytes ≡ session_text p w.0 w.1) ⊎ (IsUnlimited w.0 × (bytes ≡ old_session_text p w.0 w.1)))
+
+  text_at : (i : ℕ) (bytes : List ℕ) → IsAt p r i (from_text bytes) → IsTextAt (r, i) bytes
+  text_at i bytes (text, of_request, of_place) =
+      let same : ◌≡◌ {A = RouteRequest × ℕ} (text.request, text.place) (r, i) = λ j. (of_request j, of_place j) in
+      subst (λ (w : RouteRequest × ℕ). IsTextAt w bytes) same (text.within, text.there, text.spelled)
+
   -- a place of the listing
   at_place : (i : ℕ) (beginning : Beginning) → IsAt p r i beginning → i ≤ length (routes p r)
   at_place i started is = omega (arith, is)
-  at_place i (from_text bytes) is = is.within
+  at_place i (from_text bytes) is = (text_at i bytes is).0
 
   -- a text of a place is read to its state
-  text_begins : (i : ℕ) (bytes : List ℕ) → IsTextOfPlace p r i bytes → IsSessionOf p (digest_of p) bytes true (Ok (r, state_at p r i))
-  text_begins i bytes is = elim is.spelled [
-    | inl e ↦ subst (λ u. IsSessionOf p (digest_of p) u true (Ok (r, state_at p r i))) (sym e) (read_back i is.within is.there).text
-    | inr e ↦ subst (λ u. IsSessionOf p (digest_of p) u true (Ok (r, state_at p r i))) (sym e.1) ((read_back i is.within is.there).old e.0)
-  ]
+  text_begins : (i : ℕ) (bytes : List ℕ) → IsAt p r i (from_text bytes) → IsSessionOf p (digest_of p) bytes true (Ok (r, state_at p r i))
+  text_begins i bytes is =
+      let text = text_at i bytes is in
+      let back = read_back i text.0 text.1 in
+      let reads : List ℕ → Type 0 = λ u. IsSessionOf p (digest_of p) u true (Ok (r, state_at p r i)) in
+      elim text.2 [ inl e ↦ subst reads (sym e) back.text | inr e ↦ subst reads (sym e.1) (back.old e.0) ]
 
   begins : (i : ℕ) (beginning : Beginning) → IsAt p r i beginning → BeginsWith p r beginning (r, state_at p r i)
   begins i started is = ap (λ n. (r, state_at p r n)) is

@@ -1,5 +1,5 @@
 -- Runs of a session: what happens to it, where that leads, and what every run gives of the listing.
-use Rattle.std.specs.Prelude.{◌≡◌, ℕ, ◌+◌, ◌≤◌, nat_lt, true, is_some, ◌⊎◌, List, [], ◌∷◌, ◌++◌, length, Ok}
+use Rattle.std.specs.Prelude.{◌≡◌, ℕ, ◌+◌, nat_lt, true, is_some, List, [], ◌∷◌, ◌++◌, length, Ok}
 use Rattle.sabr_model.specs.Plan.{ContactPlan, IsPlan}
 use Rattle.sabr_model.specs.Arrival.{RouteRequest}
 use Rattle.sabr_model.specs.Asking.{IsRequest}
@@ -7,8 +7,9 @@ use Rattle.sabr_model.specs.Listing.{routes, page_of}
 use Rattle.sabr_plan.specs.Canonical.{digest_of}
 use Rattle.sabr_frontier.specs.State.{State}
 use Rattle.sabr_frontier.specs.Listing.{state_at, steps, next_route}
-use Rattle.sabr_session.specs.SessionText.{text_of, HasText, IsUnlimited, session_text, old_session_text}
+use Rattle.sabr_session.specs.SessionText.{text_of, HasText, session_text}
 use Rattle.sabr_session.specs.SessionRead.{IsSessionOf}
+use Rattle.sabr_session.specs.Verifying.{IsSessionText}
 
 -- what happens to a session: a page of so many routes is answered; a page is refused; the session is written and its
 -- text is read; its text is not read, since memory is refused, and stays
@@ -26,35 +27,30 @@ LeadsTo p reread x given y = (given ≡ []) × HasText x.1 × IsSessionOf p (dig
 LeadsTo p unread x given y = (given ≡ []) × (y ≡ x)
 
 -- where events lead, one after the other, and the routes of their pages, joined
-abbrev pub LeadOnTo : ContactPlan → List Event → RouteRequest × State → List (List ℕ) → RouteRequest × State → Type 0
-LeadOnTo p [] x given y = (given ≡ []) × (y ≡ x)
-LeadOnTo p (e ∷ es) x given y =
-    (first : List (List ℕ)) × (z : RouteRequest × State) × (rest : List (List ℕ)) × LeadsTo p e x first z × LeadOnTo p es z rest y × (given ≡ first ++ rest)
+abbrev pub EventsLeadTo : ContactPlan → List Event → RouteRequest × State → List (List ℕ) → RouteRequest × State → Type 0
+EventsLeadTo p [] x given y = (given ≡ []) × (y ≡ x)
+EventsLeadTo p (e ∷ es) x given y =
+    (first : List (List ℕ)) × (z : RouteRequest × State) × (rest : List (List ℕ)) × LeadsTo p e x first z × EventsLeadTo p es z rest y × (given ≡ first ++ rest)
 
--- how a run begins: with a session just started, or with what is read of a text
+-- how a run begins: with a session just started, or with the text of one
 pub data Beginning : Type 0 where
   started : Beginning
   from_text : List ℕ → Beginning
 
--- the text of the place i in the listing of the request, in version 1 only of a request without limits: what `verify` accepts
-pub record IsTextOfPlace (p : ContactPlan) (r : RouteRequest) (i : ℕ) (bytes : List ℕ) : Type 0 where
-  pub within : i ≤ length (routes p r)
-  pub there : HasText (state_at p r i)
-  pub spelled : (bytes ≡ session_text p r i) ⊎ (IsUnlimited r × (bytes ≡ old_session_text p r i))
-
--- a beginning at place i: place 0 for a session just started, and for a text the place that it is of
+-- the place of the listing at which a run begins: 0 for a session just started; for a text, which has to be one that
+-- verifying accepts, the place that it is of
 abbrev pub IsAt : ContactPlan → RouteRequest → ℕ → Beginning → Type 0
 IsAt p r i started = i ≡ 0
-IsAt p r i (from_text bytes) = IsTextOfPlace p r i bytes
+IsAt p r i (from_text bytes) = (text : IsSessionText p bytes) × (text.request ≡ r) × (text.place ≡ i)
 
--- the request and the state that a run begins with
+-- the request and the state that a run begins with: those of place 0, or those that are read of the text
 abbrev pub BeginsWith : ContactPlan → RouteRequest → Beginning → RouteRequest × State → Type 0
 BeginsWith p r started x = x ≡ (r, state_at p r 0)
 BeginsWith p r (from_text bytes) x = IsSessionOf p (digest_of p) bytes true (Ok x)
 
 -- a run: what it begins with, and where its events lead from there
 abbrev pub IsRun : ContactPlan → RouteRequest → Beginning → List Event → List (List ℕ) → RouteRequest × State → Type 0
-IsRun p r beginning events given y = (x : RouteRequest × State) × BeginsWith p r beginning x × LeadOnTo p events x given y
+IsRun p r beginning events given y = (x : RouteRequest × State) × BeginsWith p r beginning x × EventsLeadTo p events x given y
 
 -- how many routes the answered pages were asked for together
 abbrev pub asked_for : List Event → ℕ

@@ -2,13 +2,14 @@
 
 ghost use Rattle.cgrlist.specs.EveryRun.{EveryRunFollows};
 
-/// For every accepted plan, request and list of page sizes, whether the session is kept or written and read again
-/// between pages, the pages joined are the first routes of the list of all routes by delivery, then hops, then contact
-/// numbers; the session text is fixed by the number of routes given; a page refused for memory gives no route and
-/// changes nothing. So it is from a session just started, and from every text that was verified.
+/// Every run of a session follows the list of all routes. Whatever sizes its pages have, and wherever it went through
+/// its text on the way, its pages one behind the other are the next routes of the list, best first, none left out and
+/// none twice; how many routes it gave decides its text; and a page for which memory was refused gave nothing and left
+/// all as it was. A run begins with a session just started, or goes on from the place of a text that verifying accepts.
 ///
-/// A run is a list of events. Each beginning of it is a run, too, so this holds at every place of a run. Sizes of
-/// pages are any; the calls take 0 to 10000.
+/// Every list of events has a run, as long as the sessions that it writes have texts, which all in memory have. Each
+/// beginning of a list is a list of events, too, so this holds at every place of a run. Pages may have any size here;
+/// the calls take 0 to 10000.
 pub fn every_run()
     ensures { EveryRunFollows }
 {}

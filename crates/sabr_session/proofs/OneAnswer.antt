@@ -9,7 +9,7 @@ use Rattle.sabr_session.specs.SessionText.{plan_line, text_of, old_text_of}
 use Rattle.sabr_session.specs.SessionRead.{Said, said_of, Judges, ComesTo, IsSessionOf}
 use Rattle.sabr_session.specs.TextLaws.{CanBeTold, IsReadBack, AreApart}
 use Rattle.sabr_session.specs.declared.session_fault.SessionFault.{SessionFault}
-use Rattle.sabr_session.proofs.ShortStates.{request_is_tellable, state_is_tellable}
+use Rattle.sabr_session.proofs.ShortStates.{state_is_tellable}
 use Rattle.sabr_session.proofs.TextsRead.{text_read, old_text_read}
 
 -- lines without a fault come to one answer
@@ -48,11 +48,10 @@ module _ (p : ContactPlan) (good : IsPlan p) where
   -- a text is read to what it was written of
   pub is_read_back : (r : RouteRequest) (s : State) → CanBeTold p r s → IsReadBack p r s
   is_read_back r s h =
-      let request = request_is_tellable r h.accepted in
       let state = state_is_tellable p r good h.accepted s h.formed h.there in
       record {
-        text = text_read p r s request state h.there h.formed;
-        old = old_text_read p r s request state h.there h.formed;
+        text = text_read p r s h.accepted state h.there h.formed;
+        old = old_text_read p r s h.accepted state h.there h.formed;
       }
 
   same : (bytes other : List ℕ) (r q : RouteRequest) (s t : State) → bytes ≡ other → IsSessionOf p (digest_of p) bytes true (Ok (r, s)) → IsSessionOf p (digest_of p) other true (Ok (q, t)) → (r ≡ q) × (s ≡ t)

@@ -1,16 +1,16 @@
--- What a text tells of accepted requests and of well-formed states over a plan is within its bounds.
-use Rattle.std.proofs.Common.{◌≡◌, ℕ, ◌+◌, ◌*◌, ◌<◌, ◌≤◌, Bool, true, false, cond, ◌&&◌, leb, ltb, not, ◌⊎◌, inl, inr, List, [], ◌∷◌, ◌++◌, map, filter, length, refl, sym, subst, arith, Option, Some, None, is_some, unwrap_or}
+-- What a text tells of well-formed states over a plan is within its bounds.
+use Rattle.std.proofs.Common.{◌≡◌, ℕ, ◌+◌, ◌*◌, ◌<◌, ◌≤◌, Bool, true, false, cond, ltb, ◌⊎◌, inl, inr, List, [], ◌∷◌, ◌++◌, map, filter, length, refl, sym, subst, arith, Option, Some, None, is_some, unwrap_or}
 use Rattle.std.specs.List.{AllByRecursion, flat_map}
 use Rattle.std.specs.Option.{option_map_or}
 use Rattle.std.specs.Ordering.{nat_cmp}
 use Rattle.std.specs.declared.cmp.Ordering.TheVariants.{Less, Equal, Greater}
-use Rattle.std.proofs.lemmas.Bool.{and_parts, leb-true}
+use Rattle.std.proofs.lemmas.Bool.{and_parts}
 use Rattle.std.proofs.lemmas.Bool.Decides.{nat_tests}
 use Rattle.std.proofs.lemmas.Cmp.{ranked}
 use Rattle.std.proofs.lemmas.List.{length-append, length-map}
 use borrow.Author.Tests.{ltb-true}
 use Rattle.sabr_model.specs.declared.contact.Contact.{Contact}
-use Rattle.sabr_model.specs.Plan.{ContactPlan, IsPlan, IsNode, rises_above, has}
+use Rattle.sabr_model.specs.Plan.{ContactPlan, IsPlan, rises_above}
 use Rattle.sabr_model.specs.Arrival.{RouteRequest}
 use Rattle.sabr_model.specs.Asking.{IsRequest}
 use Rattle.sabr_model.specs.Order.{by_numbers, put_in}
@@ -33,7 +33,7 @@ use Rattle.sabr_frontier.proofs.Paths.{route_filled}
 use Rattle.sabr_session.specs.SessionText.{HasText}
 use Rattle.sabr_session.specs.SessionRead.{rise_strictly}
 use Rattle.sabr_session.proofs.SpelledWords.{AreWithin}
-use Rattle.sabr_session.proofs.SpelledHead.{IsContactList, IsTellable}
+use Rattle.sabr_session.proofs.SpelledHead.{IsContactList}
 use Rattle.sabr_session.proofs.SpelledParts.{PartIsTellable, IsPartOf, ArePartsOf}
 
 -- what a text tells of a state
@@ -227,19 +227,3 @@ module _ (p : ContactPlan) (r : RouteRequest) (good : IsPlan p) (asked : IsReque
     latest = latest_list p r good asked s is (elim is.right [ inl e ↦ inl e.0 | inr h ↦ inr h ]);
     each = parts_are p r s.parts (part_is p r good asked s is);
   }
-
--- an accepted request
-pub request_is_tellable : (r : RouteRequest) → IsRequest r → IsTellable r
-request_is_tellable r is =
-    let some = leb (length r.avoided) 16 in
-    let rises = rises_above 0 r.avoided in
-    let source = not (has r.source r.avoided) in
-    let destination = not (has r.destination r.avoided) in
-    let a = and_parts (some && rises && source) destination is.avoids in
-    let b = and_parts (some && rises) source a.0 in
-    let c = and_parts some rises b.0 in
-    record { accepted = is; nodes = within r.avoided is.nodes; few = leb-true (length r.avoided) 16 c.0 }
-  where
-    within : (ns : List ℕ) → AllByRecursion IsNode ns → AreWithin 0 18446744073709551615 ns
-    within [] h = tt
-    within (n ∷ ns) h = ((omega arith, omega (arith, h.0.1)), within ns h.1)

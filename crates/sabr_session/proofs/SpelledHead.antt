@@ -1,10 +1,12 @@
 -- The first six lines of a session text, as they are spelled, say what they were written of.
-use Rattle.std.proofs.Common.{◌≡◌, ℕ, ◌<◌, ◌≤◌, ◌^◌, true, false, eqb, ltb, List, [], ◌∷◌, ◌++◌, length, take, drop, rules, refl, sym, ap, ◌∙◌, arith, append-nil, decimal, codes, Ok}
+use Rattle.std.proofs.Common.{◌≡◌, ℕ, ◌<◌, ◌≤◌, ◌^◌, true, false, ◌&&◌, not, eqb, ltb, leb, List, [], ◌∷◌, ◌++◌, length, take, drop, rules, refl, sym, ap, ◌∙◌, arith, append-nil, decimal, codes, Ok}
+use Rattle.std.specs.List.{AllByRecursion}
+use Rattle.std.proofs.lemmas.Bool.{and_parts, leb-true}
 use Rattle.std.proofs.lemmas.Bool.Decides.{nat_tests}
 use Rattle.std.specs.declared.option.Option.TheVariants.{Some, None}
 use Rattle.hex.specs.Hex.{encode_lower}
 use Rattle.sha2.specs.Sha256.{sha256}
-use Rattle.sabr_model.specs.Plan.{last_time}
+use Rattle.sabr_model.specs.Plan.{IsNode, last_time, rises_above, has}
 use Rattle.sabr_model.specs.Arrival.{RouteRequest}
 use Rattle.sabr_model.specs.Asking.{most_hops, most_margin, request_refusal, limit_refusal, unlimited, IsRequest}
 use Rattle.sabr_plan.specs.Times.{time_text_of}
@@ -25,12 +27,6 @@ use Rattle.sabr_session.proofs.SpelledDigests.{digest_is}
 pub record IsContactList (ns : List ℕ) : Type 0 where
   pub within : AreWithin 1 4294967295 ns
   pub few : length ns ≤ 20000
-
--- what a text tells of a request
-pub record IsTellable (r : RouteRequest) : Type 0 where
-  pub accepted : IsRequest r
-  pub nodes : AreWithin 0 18446744073709551615 r.avoided
-  pub few : length r.avoided ≤ 16
 
 -- ---- words
 
@@ -109,18 +105,36 @@ some a h e = omega arith
 within : (high a : ℕ) → a ≤ high → ltb high a ≡ false
 within high a h = grind (arith, nat_tests)
 
-module _ (r : RouteRequest) (h : IsTellable r) where
+nodes_within : (ns : List ℕ) → AllByRecursion IsNode ns → AreWithin 0 18446744073709551615 ns
+nodes_within [] h = tt
+nodes_within (n ∷ ns) h = ((omega arith, omega (arith, h.0.1)), nodes_within ns h.1)
+
+-- the avoided nodes of an accepted request
+pub accepted_nodes : (r : RouteRequest) → IsRequest r → AreWithin 0 18446744073709551615 r.avoided
+accepted_nodes r h = nodes_within r.avoided h.nodes
+
+pub accepted_few : (r : RouteRequest) → IsRequest r → length r.avoided ≤ 16
+accepted_few r h =
+    let some = leb (length r.avoided) 16 in
+    let rises = rises_above 0 r.avoided in
+    let source = not (has r.source r.avoided) in
+    let destination = not (has r.destination r.avoided) in
+    let a = and_parts (some && rises && source) destination h.avoids in
+    let b = and_parts (some && rises) source a.0 in
+    leb-true (length r.avoided) 16 (and_parts some rises b.0).0
+
+module _ (r : RouteRequest) (h : IsRequest r) where
   source_short : r.source < 10 ^ 64
-  source_short = let b = h.accepted.source.1 in omega arith
+  source_short = let b = h.source.1 in omega arith
 
   destination_short : r.destination < 10 ^ 64
-  destination_short = let b = h.accepted.destination.1 in omega arith
+  destination_short = let b = h.destination.1 in omega arith
 
   margin_short : r.margin < 10 ^ 64
-  margin_short = let b = h.accepted.margin in omega arith
+  margin_short = let b = h.margin in omega arith
 
   hops_short : r.max_hops < 10 ^ 64
-  hops_short = let b = h.accepted.hops.1 in omega arith
+  hops_short = let b = h.hops.1 in omega arith
 
   three_apart : (u : List ℕ) → words_of (four_onto r u) ≡ decimal r.source ∷ decimal r.destination ∷ time_text_of r.at ∷ words_of (decimal r.margin ++ u)
   three_apart u =
@@ -135,7 +149,7 @@ module _ (r : RouteRequest) (h : IsTellable r) where
       number-apart r.margin (decimal r.max_hops ++ 32 ∷ (47 ∷ 32 ∷ list_text r.avoided)) margin_short
       ∙ ap (λ ws. decimal r.margin ∷ ws) (number-apart r.max_hops (47 ∷ 32 ∷ list_text r.avoided) hops_short)
       ∙ ap (λ ws. decimal r.margin ∷ decimal r.max_hops ∷ ws) (word-apart (codes "/") (list_text r.avoided) (omega arith, tt))
-      ∙ ap (λ ws. decimal r.margin ∷ decimal r.max_hops ∷ codes "/" ∷ ws) (words-list 0 18446744073709551615 (omega arith) r.avoided h.nodes)
+      ∙ ap (λ ws. decimal r.margin ∷ decimal r.max_hops ∷ codes "/" ∷ ws) (words-list 0 18446744073709551615 (omega arith) r.avoided (accepted_nodes r h))
       )
 
   old_request_words : words_of (old_request_text r) ≡ decimal r.source ∷ decimal r.destination ∷ time_text_of r.at ∷ decimal r.margin ∷ []
@@ -144,40 +158,40 @@ module _ (r : RouteRequest) (h : IsTellable r) where
       (ap words_of (append-nil (decimal r.margin)) ∙ words-word (decimal r.margin) (decimal_is_word r.margin margin_short))
 
   source_read : number_within 0 18446744073709551615 (decimal r.source) ≡ Some r.source
-  source_read = let b = h.accepted.source.1 in number_within-spelled_within 0 18446744073709551615 (decimal r.source) r.source source_short refl (omega arith) (omega arith)
+  source_read = let b = h.source.1 in number_within-spelled_within 0 18446744073709551615 (decimal r.source) r.source source_short refl (omega arith) (omega arith)
 
   destination_read : number_within 0 18446744073709551615 (decimal r.destination) ≡ Some r.destination
-  destination_read = let b = h.accepted.destination.1 in number_within-spelled_within 0 18446744073709551615 (decimal r.destination) r.destination destination_short refl (omega arith) (omega arith)
+  destination_read = let b = h.destination.1 in number_within-spelled_within 0 18446744073709551615 (decimal r.destination) r.destination destination_short refl (omega arith) (omega arith)
 
   margin_read : number_within 0 4294967295 (decimal r.margin) ≡ Some r.margin
-  margin_read = let b = h.accepted.margin in number_within-spelled_within 0 4294967295 (decimal r.margin) r.margin margin_short refl (omega arith) (omega arith)
+  margin_read = let b = h.margin in number_within-spelled_within 0 4294967295 (decimal r.margin) r.margin margin_short refl (omega arith) (omega arith)
 
   hops_read : number_within 0 4294967295 (decimal r.max_hops) ≡ Some r.max_hops
-  hops_read = let b = h.accepted.hops.1 in number_within-spelled_within 0 4294967295 (decimal r.max_hops) r.max_hops hops_short refl (omega arith) (omega arith)
+  hops_read = let b = h.hops.1 in number_within-spelled_within 0 4294967295 (decimal r.max_hops) r.max_hops hops_short refl (omega arith) (omega arith)
 
   nodes_read : nodes_of (list_words r.avoided) ≡ Some r.avoided
-  nodes_read = list-read 0 18446744073709551615 (omega arith) 16 r.avoided h.nodes h.few
+  nodes_read = list-read 0 18446744073709551615 (omega arith) 16 r.avoided (accepted_nodes r h) (accepted_few r h)
 
   pub request_read : request_of Two (codes "request " ++ request_text r) ≡ Some (values r r.max_hops r.avoided)
   unfolding request_of
-  request_read = rw (label-there (codes "request ") (request_text r), request_words, nodes_read, hops_read, source_read, destination_read, time_of-text r.at h.accepted.time, margin_read) refl
+  request_read = rw (label-there (codes "request ") (request_text r), request_words, nodes_read, hops_read, source_read, destination_read, time_of-text r.at h.time, margin_read) refl
 
   pub old_request_read : request_of One (codes "request " ++ old_request_text r) ≡ Some (values r 20000 [])
   unfolding request_of
-  old_request_read = rw (label-there (codes "request ") (old_request_text r), old_request_words, source_read, destination_read, time_of-text r.at h.accepted.time, margin_read) refl
+  old_request_read = rw (label-there (codes "request ") (old_request_text r), old_request_words, source_read, destination_read, time_of-text r.at h.time, margin_read) refl
 
   -- an accepted request is not refused
   unrefused : request_refusal r.source r.destination r.at r.margin ≡ None
   unrefused =
-      let apart : eqb r.source r.destination ≡ false = differ r.source r.destination h.accepted.apart in
-      let one : eqb r.source 0 ≡ false = differ r.source 0 (some r.source h.accepted.source.0) in
-      let other : eqb r.destination 0 ≡ false = differ r.destination 0 (some r.destination h.accepted.destination.0) in
-      rw (apart, one, other, within last_time r.at h.accepted.time, within most_margin r.margin h.accepted.margin) refl
+      let apart : eqb r.source r.destination ≡ false = differ r.source r.destination h.apart in
+      let one : eqb r.source 0 ≡ false = differ r.source 0 (some r.source h.source.0) in
+      let other : eqb r.destination 0 ≡ false = differ r.destination 0 (some r.destination h.destination.0) in
+      rw (apart, one, other, within last_time r.at h.time, within most_margin r.margin h.margin) refl
 
   unlimited_unrefused : limit_refusal (unlimited r.source r.destination r.at r.margin) r.max_hops r.avoided ≡ None
   unlimited_unrefused =
-      let hops : eqb r.max_hops 0 ≡ false = differ r.max_hops 0 (some r.max_hops h.accepted.hops.0) in
-      rw (hops, within most_hops r.max_hops h.accepted.hops.1, h.accepted.avoids) refl
+      let hops : eqb r.max_hops 0 ≡ false = differ r.max_hops 0 (some r.max_hops h.hops.0) in
+      rw (hops, within most_hops r.max_hops h.hops.1, h.avoids) refl
 
   pub asked_is : asked (values r r.max_hops r.avoided) ≡ Ok r
   asked_is = rw (unrefused, unlimited_unrefused) refl

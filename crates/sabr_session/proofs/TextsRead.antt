@@ -6,6 +6,7 @@ use Rattle.std.proofs.lemmas.List.{length-map}
 use Rattle.hex.specs.Hex.{encode_lower}
 use Rattle.sabr_model.specs.Plan.{ContactPlan}
 use Rattle.sabr_model.specs.Arrival.{RouteRequest}
+use Rattle.sabr_model.specs.Asking.{IsRequest}
 use Rattle.sabr_plan.specs.Canonical.{canonical_text, digest_of}
 use Rattle.sabr_plan.specs.Steps.{and_then}
 use Rattle.sabr_plan.specs.Times.{time_text_of}
@@ -21,7 +22,7 @@ use Rattle.sabr_session.proofs.WithinBounds.{same_text}
 use Rattle.sabr_session.proofs.SpelledWords.{decimal_is_word}
 use Rattle.sabr_session.proofs.SpelledLines.{joined, AreLines, lines_of-joined, lf_behind, line-append, concat_line, length-concat, word_line, list_line, list_length, nodes_length}
 use Rattle.sabr_session.proofs.SpelledDigests.{digest_length, digest_word}
-use Rattle.sabr_session.proofs.SpelledHead.{IsTellable, time_word, digest_read, emitted_read, count_read, last_read, request_text, old_request_text, request_read, old_request_read, asked_is, old_asked_is}
+use Rattle.sabr_session.proofs.SpelledHead.{accepted_nodes, accepted_few, time_word, digest_read, emitted_read, count_read, last_read, request_text, old_request_text, request_read, old_request_read, asked_is, old_asked_is}
 use Rattle.sabr_session.proofs.SpelledParts.{part_pieces, spelled_part, part_line_is, ArePartsOf, is_before, read_on, parts_read}
 use Rattle.sabr_session.proofs.ShortStates.{StateIsTellable}
 
@@ -92,18 +93,18 @@ parts_lines : (p : ContactPlan) (r : RouteRequest) (ts : List PartState) → Are
 parts_lines p r [] h = (refl, tt)
 parts_lines p r (t ∷ ts) h = (part_line_is t h.0.told, parts_lines p r ts h.1)
 
-module _ (r : RouteRequest) (told : IsTellable r) where
+module _ (r : RouteRequest) (told : IsRequest r) where
   source_within : r.source ≤ 340282366920938463463374607431768211455
-  source_within = let b = told.accepted.source.1 in omega arith
+  source_within = let b = told.source.1 in omega arith
 
   destination_within : r.destination ≤ 340282366920938463463374607431768211455
-  destination_within = let b = told.accepted.destination.1 in omega arith
+  destination_within = let b = told.destination.1 in omega arith
 
   margin_within : r.margin ≤ 340282366920938463463374607431768211455
-  margin_within = let b = told.accepted.margin in omega arith
+  margin_within = let b = told.margin in omega arith
 
   hops_within : r.max_hops ≤ 340282366920938463463374607431768211455
-  hops_within = let b = told.accepted.hops.1 in omega arith
+  hops_within = let b = told.hops.1 in omega arith
 
   time_length : length (time_text_of r.at) ≡ 19
   unfolding time_text_of
@@ -118,7 +119,7 @@ module _ (r : RouteRequest) (told : IsTellable r) where
   request_is_line =
       ap is_one_line (sym (request_spelled r))
       ∙ concat_line (request_pieces r)
-      (refl, (number_line r.source source_within, (refl, (number_line r.destination destination_within, (refl, (word_line (time_text_of r.at) (time_word r.at), (refl, (number_line r.margin margin_within, (refl, (number_line r.max_hops hops_within, (refl, (list_line 0 18446744073709551615 (omega arith) r.avoided told.nodes, tt))))))))))))
+      (refl, (number_line r.source source_within, (refl, (number_line r.destination destination_within, (refl, (word_line (time_text_of r.at) (time_word r.at), (refl, (number_line r.margin margin_within, (refl, (number_line r.max_hops hops_within, (refl, (list_line 0 18446744073709551615 (omega arith) r.avoided (accepted_nodes r told), tt))))))))))))
 
   old_request_length : length (codes "request " ++ old_request_text r) ≤ 660008
   old_request_length =
@@ -138,12 +139,12 @@ module _ (r : RouteRequest) (told : IsTellable r) where
       let c = number_length r.margin margin_within in
       let d = time_length in
       let e = number_length r.max_hops hops_within in
-      let f = nodes_length r.avoided told.nodes told.few in
+      let f = nodes_length r.avoided (accepted_nodes r told) (accepted_few r told) in
       omega (arith, same, whole, a, b, c, d, e, f)
 
 -- ---- the text is read
 
-module _ (p : ContactPlan) (r : RouteRequest) (s : State) (told : IsTellable r) (state : StateIsTellable p r s) (text : HasText s) (is : IsState p r s) where
+module _ (p : ContactPlan) (r : RouteRequest) (s : State) (told : IsRequest r) (state : StateIsTellable p r s) (text : HasText s) (is : IsState p r s) where
   -- what the first three lines say, and what all say
   asked_so : Version → Said
   asked_so v = record { version = v; request = r; emitted = 0; last_route = []; count = 0; parts = [] }
