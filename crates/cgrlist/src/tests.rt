@@ -8,3 +8,4 @@ mod messages;
 mod plans;
 mod refusals;
 mod running;
+mod statuses;
