@@ -20,6 +20,7 @@ pub mod SaidLines
 pub mod NeverRead
 pub mod GoingOn
 pub mod SessionGivenSoFar
+mod PiecesJoined
 pub mod SessionOutcomes
 mod ShortStates
 mod TextsRead

@@ -44,7 +44,7 @@ module _ (p : ContactPlan) (good : IsPlan p) where
   read_back bytes r s asked is there text =
       let back = is_read_back p good r s (record { accepted = asked; formed = is; there = there }) in
       let reads : List ℕ → Type 0 = λ b. IsSessionOf p (digest_of p) b true (Ok (r, s)) in
-      is_read bytes r s (elim text [ | inl e ↦ subst reads (sym e) back.text | inr e ↦ subst reads (sym e.1) (back.old e.0) ])
+      is_read bytes r s (elim text [ inl e ↦ subst reads (sym e) back.text | inr e ↦ subst reads (sym e.1) (back.old e.0) ])
 
   -- what is read as the state of its place is the text of it
   text_of_place : (bytes : List ℕ) (r : RouteRequest) (s : State) → IsSessionOf p (digest_of p) bytes true (Ok (r, s)) → IsRequest r → s ≡ state_at p r s.emitted → IsSessionText p bytes

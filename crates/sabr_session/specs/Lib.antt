@@ -9,6 +9,7 @@ pub mod SessionRead
 pub mod SessionFed
 pub mod SessionStage
 pub mod SessionGiven
+pub mod FedInTurn
 pub mod SessionPieces
 pub mod SessionLeaving
 pub mod TextLaws

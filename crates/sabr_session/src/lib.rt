@@ -31,5 +31,5 @@ pub use rows::texts_of_plan_a;
 pub use session_fault::SessionFault;
 pub use session_writing::write_session;
 pub use text_buffer::TextBuffer;
-pub use text_laws::{law7, one_answer};
+pub use text_laws::{law7, one_answer, pieces_are_one_text};
 pub use verifying::verify;

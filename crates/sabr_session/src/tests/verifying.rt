@@ -11,7 +11,7 @@ use std::alloc::{Allocator, Global};
 use std::test::Fail;
 
 /// The first three lines in each version, from 1 to 3 without limits.
-const HEADS: [&[u8]; 2] = [
+pub(super) const HEADS: [&[u8]; 2] = [
     b"cgr-session 2\n\
 plan 141332fc8a469d56442d0323b136f9e5ff2f4859004f96653cdeb76015a2a51f\n\
 request 1 3 2030/01/01-00:00:00 0 20000 / -\n",
@@ -20,7 +20,8 @@ plan 141332fc8a469d56442d0323b136f9e5ff2f4859004f96653cdeb76015a2a51f\n\
 request 1 3 2030/01/01-00:00:00 0\n",
 ];
 
-const AFTER_2: &[u8] = b"emitted 2\nlast 1 2\nparts 2\npart - / 1 / 3\npart 1 / 2 4 / -\nend\n";
+pub(super) const AFTER_2: &[u8] =
+    b"emitted 2\nlast 1 2\nparts 2\npart - / 1 / 3\npart 1 / 2 4 / -\nend\n";
 
 /// The lines behind the request, and whether they are those of a place.
 const ROWS: [(&[u8], bool); 11] = [
@@ -74,10 +75,10 @@ const ROWS: [(&[u8], bool); 11] = [
     ),
 ];
 
-const PIECES: [usize; 3] = [1, 2, 4096];
+pub(super) const PIECES: [usize; 3] = [1, 2, 4096];
 
 // Both behind one another.
-fn joined(alloc: Global, front: &[u8], back: &[u8]) -> Result<Vec<u8>, NoMemory> {
+pub(super) fn joined(alloc: Global, front: &[u8], back: &[u8]) -> Result<Vec<u8>, NoMemory> {
     let mut text = Vec::new(alloc);
     text.extend_from_slice(front)?;
     text.extend_from_slice(back)?;
