@@ -36,5 +36,5 @@ fn main(rt: HostRuntime) -> ExitCode {
     let mut out = Device::new(rt.stdout());
     let mut err = Device::new(rt.stderr());
     let status = run_arguments(&rt, &mut out, &mut err);
-    ExitCode::from(status as u8)
+    ExitCode::from(status.number())
 }

@@ -9,3 +9,4 @@ mod messages;
 mod plans;
 mod refusals;
 mod running;
+mod statuses;
