@@ -52,7 +52,7 @@ fn written<R: Files + Clock + AllocGlobal>(
     let mut session = Session::start(rt.alloc(), plan, request, Settled::new(rt.alloc())).ok()?;
     let routes = session.page(count.min(10000)).ok()?.len();
     let listing = nanoseconds_since(rt, begin);
-    let digest = digest(plan);
+    let digest = digest(session.plan());
     let mut writer = Device::new(fs::create(rt, path).ok()?);
     let begin = Instant::now(rt).ok()?;
     write_session(&session, &digest, &mut writer).ok()?;
