@@ -7,10 +7,13 @@ use Rattle.sabr_model.specs.Record.{record_of}
 use Rattle.sabr_model.specs.Devices.{Written, WrittenAndFlushed, WrittenInPart}
 use Rattle.sabr_plan.specs.declared.fault.PlanFault.{PlanFault}
 use Rattle.sabr_frontier.specs.State.{State}
+use Rattle.sabr_frontier.specs.Session.{Seen}
 use Rattle.sabr_frontier.specs.Listing.{state_at, steps, next_route}
 use Rattle.sabr_session.specs.ReportText.{report_text}
 use Rattle.sabr_plan.specs.Canonical.{digest_of}
 use Rattle.sabr_session.specs.SessionText.{text_of}
+use Rattle.sabr_session.specs.SessionGiven.{ReadsSession}
+use Rattle.sabr_session.specs.Verifying.{VerifiesText}
 use Rattle.sabr_session.specs.declared.session_fault.SessionFault.{SessionFault}
 use Rattle.cgrlist.specs.declared.failure.Failure.{Failure}
 use Rattle.cgrlist.specs.declared.failure.Failure.TheVariants as failure
@@ -53,6 +56,17 @@ WritesFirstPage (Ok p) r keep count end old before new after flushed old₁ befo
     WritesPage keep (first_report p.plan r count) (kept_text keep p.plan r (state_at p.plan r (length (page_of p.plan r 0 count)))) end
     old before new after flushed old₁ before₁ new₁ after₁ flushed₁
 
+-- the request and the state of an old session
+abbrev pub place_of : Result Seen SessionFault → Result (RouteRequest × State) SessionFault
+place_of (Ok s) = Ok (s.request, s.state)
+place_of (Err fault) = Err fault
+
+-- an old session is read over what reading the plan gave: where the plan was refused it isn't, and nothing is asked of
+-- the answer
+abbrev pub ReadsOldSession : Result TabledPlan PlanFault → Option (List ℕ) → ℕ → Result Seen SessionFault → Option (List ℕ) → ℕ → Type 0
+ReadsOldSession (Err fault) old before answer new after = Untouched old before new after
+ReadsOldSession (Ok p) old before answer new after = ReadsSession p old before answer new after
+
 -- what a next run leaves over what reading the plan and then the session gave: the report of the steps from that
 -- session's state, and the session of the state that they reach; nothing where either was refused, the plan first
 abbrev pub WritesNextPage : Result TabledPlan PlanFault → Result (RouteRequest × State) SessionFault → Bool → ℕ → Result (Unit {0}) Failure
@@ -76,6 +90,12 @@ WritesVerified (Err fault) end old before new after flushed = (end ≡ Err (fail
 WritesVerified (Ok answer) (Ok told) old before new after flushed = (told ≡ answer) × WrittenAndFlushed old before (answer_line answer) new after flushed
 WritesVerified (Ok answer) (Err failure.Write) old before new after flushed = WrittenInPart old before (answer_line answer) new after
 WritesVerified (Ok answer) (Err _) old before new after flushed = ⊥
+
+-- an old session is verified over what reading the plan gave: where the plan was refused it isn't read, and nothing is
+-- asked of the answer
+abbrev pub VerifiesOldSession : Result TabledPlan PlanFault → Option (List ℕ) → ℕ → Result Bool SessionFault → Option (List ℕ) → ℕ → Type 0
+VerifiesOldSession (Err fault) old before answer new after = Untouched old before new after
+VerifiesOldSession (Ok p) old before answer new after = VerifiesText p.plan old before answer new after
 
 -- what a verifying run leaves over what reading the plan and then verifying the session gave: nothing where the plan
 -- was refused

@@ -38,7 +38,7 @@ pub fn write_verified<O: Write>(
 {
     let answer = match verified {
         Ok(answer) => answer,
-        Err(fault) => return Err(Failure::of_session(fault)),
+        Err(fault) => return Err(Failure::from(fault)),
     };
     let Ok(()) = write_answer(answer, out) else {
         return Err(Failure::Write);

@@ -54,7 +54,7 @@ fn read_and_write_check<P: Read, O: Write, A: Allocator + Copy>(
 {
     match read_plan(alloc, plan) {
         Ok(plan) => write_check(&plan, out),
-        Err(fault) => Err(Failure::of_plan(fault)),
+        Err(fault) => Err(Failure::from(fault)),
     }
 }
 

@@ -59,6 +59,16 @@ fn count<'a>(alloc: Global) -> Arg<'a> {
     required(alloc, "count", "COUNT", "How many routes: 1 to 10000")
 }
 
+fn session<'a>(alloc: Global) -> Arg<'a> {
+    let help = "The session that a page left, written by --session-out";
+    required(alloc, "session", "FILE", help)
+}
+
+fn session_out<'a>(alloc: Global) -> Arg<'a> {
+    let help = "Where to leave the session behind the page: a file that isn't there";
+    option(alloc, "session-out", "FILE", help)
+}
+
 fn contacts<'a>(alloc: Global) -> Arg<'a> {
     let help = "Contacts in the order in which they are taken: numbers from 1 to 4294967295";
     required(alloc, "contacts", "NUMBER,NUMBER..", help)
@@ -75,16 +85,46 @@ fn with_request<'a>(alloc: Global, command: Command<'a>) -> Result<Command<'a>, 
         .arg(avoid(alloc))
 }
 
+// the words that say how long a page is, and where its session is kept
+fn with_page<'a>(alloc: Global, command: Command<'a>) -> Result<Command<'a>, AllocError> {
+    command.arg(count(alloc))?.arg(session_out(alloc))
+}
+
 fn first<'a>(alloc: Global) -> Result<Command<'a>, AllocError> {
     let command = Command::new(alloc, "first")
         .about("Lists the first routes, best first, and whether there are more")
         .after_help(
             "Examples:
   cgrlist first --plan plan.txt --from 31 --to 1 --at 2030/01/01-00:45:00 --count 5
-  cgrlist first --plan plan.txt --from 31 --to 1 --at 2030/01/01-00:45:00 --count 3 --avoid 12 --max-hops 4",
+  cgrlist first --plan plan.txt --from 31 --to 1 --at 2030/01/01-00:45:00 --count 3 --avoid 12 --max-hops 4
+  cgrlist first --plan plan.txt --from 31 --to 1 --at 2030/01/01-00:45:00 --count 5 --session-out page1",
         )
         .arg(plan(alloc))?;
-    with_request(alloc, command)?.arg(count(alloc))
+    with_page(alloc, with_request(alloc, command)?)
+}
+
+fn next<'a>(alloc: Global) -> Result<Command<'a>, AllocError> {
+    let command = Command::new(alloc, "next")
+        .about("Lists the routes that follow a session, best first, and whether there are more")
+        .after_help(
+            "Examples:
+  cgrlist next --plan plan.txt --session page1 --count 5
+  cgrlist next --plan plan.txt --session page1 --count 5 --session-out page2",
+        )
+        .arg(plan(alloc))?
+        .arg(session(alloc))?;
+    with_page(alloc, command)
+}
+
+fn verify<'a>(alloc: Global) -> Result<Command<'a>, AllocError> {
+    Command::new(alloc, "verify")
+        .about("Tells whether a session is one of the plan's, whoever wrote it")
+        .after_help(
+            "Examples:
+  cgrlist verify --plan plan.txt --session page1",
+        )
+        .arg(plan(alloc))?
+        .arg(session(alloc))
 }
 
 fn check<'a>(alloc: Global) -> Result<Command<'a>, AllocError> {
@@ -124,6 +164,8 @@ is refused, 5 a file can't be opened, read, made or written, 6 no memory. docs/c
         .no_binary_name(true)
         .subcommand_required(true)
         .subcommand(first(alloc)?)?
+        .subcommand(next(alloc)?)?
+        .subcommand(verify(alloc)?)?
         .subcommand(check(alloc)?)?
         .subcommand(explain(alloc)?)
 }

@@ -65,7 +65,7 @@ fn read_and_explain<P: Read, O: Write, A: Allocator + Copy>(
 {
     match read_plan(alloc, plan) {
         Ok(plan) => explain(&plan, request, contacts, out),
-        Err(fault) => Err(Failure::of_plan(fault)),
+        Err(fault) => Err(Failure::from(fault)),
     }
 }
 

@@ -8,7 +8,7 @@ ghost use Rattle.cgrlist.specs.Messages.{number_of};
 pub enum Status {
     /// The run did what it was asked.
     Done,
-    /// The answer is no: a refused explanation.
+    /// The answer is no: a refused explanation, or a session that is none of the plan's.
     No,
     /// The words of the command line were refused.
     Usage,
