@@ -9,4 +9,5 @@ mod least;
 mod plans;
 mod sessions;
 mod standing;
+mod texts;
 mod walks;

@@ -11,7 +11,7 @@ use Rattle.sabr_model.specs.Arrival.{RouteRequest}
 use Rattle.sabr_model.specs.Route.{delivery_of, is_route}
 use Rattle.sabr_model.specs.Record.{record_of}
 use Rattle.sabr_model.specs.Fault.{fault_at, fault_of}
-use Rattle.sabr_model.specs.Devices.{Written, WrittenInPart}
+use Rattle.sabr_model.specs.Devices.{WrittenAndFlushed, WrittenInPart}
 use Rattle.sabr_plan.specs.Times.{time_text_of}
 use Rattle.sabr_plan.specs.declared.fault.PlanFault.{PlanFault}
 use Rattle.sabr_session.specs.ReportText.{route_line}
@@ -67,11 +67,12 @@ ending_line p r s = option_map_or fault_line (fault_of p r s) (route_line (recor
 unfoldable pub explanation_text : ContactPlan → RouteRequest → List ℕ → List ℕ
 explanation_text p r s = hop_lines p r [] s ++ ending_line p r s
 
--- what an explanation writes over what reading gave: over a plan its text, and the answer is whether the list is a
--- route; or a beginning of it where the writer failed, and no memory is wanted; nothing where the plan was refused
+-- what an explanation writes over what reading gave: over a plan its text, whole and flushed, and the answer is
+-- whether the list is a route; or a beginning of it where the writer failed, and no memory is wanted; nothing where
+-- the plan was refused
 abbrev pub WritesExplanation : Result TabledPlan PlanFault → RouteRequest → List ℕ → Result Bool Failure
-    → Option (List ℕ) → ℕ → Option (List ℕ) → ℕ → Type 0
-WritesExplanation (Err fault) r s end old before new after = (end ≡ Err (failure_of_plan fault)) × Untouched old before new after
-WritesExplanation (Ok p) r s (Ok answer) old before new after = (answer ≡ is_route p.plan r s) × Written old before (explanation_text p.plan r s) new after
-WritesExplanation (Ok p) r s (Err failure.Write) old before new after = WrittenInPart old before (explanation_text p.plan r s) new after
-WritesExplanation (Ok p) r s (Err _) old before new after = ⊥
+    → Option (List ℕ) → ℕ → Option (List ℕ) → ℕ → Bool → Type 0
+WritesExplanation (Err fault) r s end old before new after flushed = (end ≡ Err (failure_of_plan fault)) × Untouched old before new after
+WritesExplanation (Ok p) r s (Ok answer) old before new after flushed = (answer ≡ is_route p.plan r s) × WrittenAndFlushed old before (explanation_text p.plan r s) new after flushed
+WritesExplanation (Ok p) r s (Err failure.Write) old before new after flushed = WrittenInPart old before (explanation_text p.plan r s) new after
+WritesExplanation (Ok p) r s (Err _) old before new after flushed = ⊥

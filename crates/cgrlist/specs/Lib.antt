@@ -7,3 +7,4 @@ pub mod Followed
 pub mod Explanation
 pub mod ExplanationRows
 pub mod SessionRuns
+pub mod EveryRun

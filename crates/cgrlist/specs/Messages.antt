@@ -1,4 +1,4 @@
--- What is told on standard error where a run ends early, and the status that it ends with.
+-- What is told on standard error where a run ends early, the status that it ends with, and the numbers of statuses.
 use Rattle.std.specs.Prelude.{ℕ, ◌⊎◌, List, [], ◌∷◌, Option, Some, None, decimal, codes}
 use Rattle.std.specs.List.{concat}
 use Rattle.std.specs.Option.{option_map_or}
@@ -112,6 +112,16 @@ status_of (failure.Session fault) = status.Session
 status_of failure.SessionRead = status.Io
 status_of failure.Write = status.Io
 status_of failure.NoMemory = status.Memory
+
+-- the program's exit status
+abbrev pub number_of : Status → ℕ
+number_of status.Done = 0
+number_of status.No = 1
+number_of status.Usage = 2
+number_of status.Plan = 3
+number_of status.Session = 4
+number_of status.Io = 5
+number_of status.Memory = 6
 
 -- the text was taken, or a beginning of it by a writer that failed
 abbrev pub TellsText : Option (List ℕ) → ℕ → List ℕ → Option (List ℕ) → ℕ → Type 0

@@ -1,17 +1,14 @@
 -- What a run leaves on its writers, over the plan that reading gave.
 use Rattle.std.specs.Prelude.{◌≡◌, ℕ, nat_lt, Bool, List, Result, Ok, Err, Option, map, length, if◌then◌else◌}
-use Rattle.sabr_model.specs.Plan.{ContactPlan, TabledPlan}
+use Rattle.sabr_model.specs.Plan.{ContactPlan}
 use Rattle.sabr_model.specs.Arrival.{RouteRequest}
 use Rattle.sabr_model.specs.Listing.{routes, page_of}
 use Rattle.sabr_model.specs.Record.{record_of}
-use Rattle.sabr_model.specs.Devices.{Written, WrittenInPart}
-use Rattle.sabr_plan.specs.declared.fault.PlanFault.{PlanFault}
 use Rattle.sabr_session.specs.ReportText.{report_text}
 use Rattle.cgrlist.specs.declared.status.Status.{Status}
 use Rattle.cgrlist.specs.declared.status.Status.TheVariants as status
 use Rattle.cgrlist.specs.declared.failure.Failure.{Failure}
-use Rattle.cgrlist.specs.declared.failure.Failure.TheVariants as failure
-use Rattle.cgrlist.specs.Messages.{failure_of_plan, message_text, status_of, TellsText}
+use Rattle.cgrlist.specs.Messages.{message_text, status_of, TellsText}
 
 -- the report of the first page, from rank 1, and whether the listing goes on behind it
 abbrev pub first_report : ContactPlan → RouteRequest → ℕ → List ℕ
@@ -20,16 +17,6 @@ first_report p r count = report_text (map (record_of p r) (page_of p r 0 count))
 -- nothing was written, and nothing failed
 abbrev pub Untouched : Option (List ℕ) → ℕ → Option (List ℕ) → ℕ → Type 0
 Untouched old before new after = (new ≡ old) × (after ≡ before)
-
--- what a first run writes over what reading gave: over a plan the report, or a beginning of it where the
--- writer failed; nothing where the plan or memory was refused
-abbrev pub WritesFirst : Result TabledPlan PlanFault → RouteRequest → ℕ → Result (Unit {0}) Failure
-    → Option (List ℕ) → ℕ → Option (List ℕ) → ℕ → Type 0
-WritesFirst (Err fault) r count end old before new after = (end ≡ Err (failure_of_plan fault)) × Untouched old before new after
-WritesFirst (Ok p) r count (Ok _) old before new after = Written old before (first_report p.plan r count) new after
-WritesFirst (Ok p) r count (Err failure.Write) old before new after = WrittenInPart old before (first_report p.plan r count) new after
-WritesFirst (Ok p) r count (Err failure.NoMemory) old before new after = Untouched old before new after
-WritesFirst (Ok p) r count (Err _) old before new after = ⊥
 
 -- the status of a run that ended so
 abbrev pub status_at : Result (Unit {0}) Failure → Status

@@ -1,5 +1,6 @@
 //! The line that tells whether a session was verified.
 
+ghost use Rattle.std.specs.Prelude.{IfOk, IsTrue};
 ghost use Rattle.sabr_model.specs.Devices.{WritesText};
 ghost use Rattle.cgrlist.specs.SessionRuns.{answer_line, WritesVerified};
 
@@ -9,7 +10,8 @@ use sabr_session::SessionFault;
 
 // Writes and flushes an answer as a line.
 fn write_answer<O: Write>(answer: bool, out: &mut O) -> Result<(), WriteFault>
-    ensures { WritesText (O.contents out.old) (O.failures out.old) (answer_line answer) result (O.contents out.new) (O.failures out.new) }
+    ensures text { WritesText (O.contents out.old) (O.failures out.old) (answer_line answer) result (O.contents out.new) (O.failures out.new) }
+    ensures flushed { IfOk result (λ _. IsTrue (O.flushed out.new)) }
 {
     if answer {
         write_text(out, b"yes\n")?;
@@ -32,11 +34,11 @@ pub fn write_verified<O: Write>(
     verified: Result<bool, SessionFault>,
     out: &mut O,
 ) -> Result<bool, Failure>
-    ensures { WritesVerified verified result (O.contents out.old) (O.failures out.old) (O.contents out.new) (O.failures out.new) }
+    ensures { WritesVerified verified result (O.contents out.old) (O.failures out.old) (O.contents out.new) (O.failures out.new) (O.flushed out.new) }
 {
     let answer = match verified {
         Ok(answer) => answer,
-        Err(fault) => return Err(Failure::of_session(fault)),
+        Err(fault) => return Err(Failure::from(fault)),
     };
     let Ok(()) = write_answer(answer, out) else {
         return Err(Failure::Write);

@@ -1,6 +1,6 @@
 //! The run that tells what a plan holds.
 
-ghost use Rattle.std.specs.Prelude.{◌≡◌, Result};
+ghost use Rattle.std.specs.Prelude.{◌≡◌, Result, IfOk, IsTrue};
 ghost use Rattle.sabr_model.specs.Plan.{TabledPlan};
 ghost use Rattle.sabr_model.specs.Devices.{WritesText};
 ghost use Rattle.sabr_plan.specs.PlanRead.{ReadsPlan};
@@ -22,7 +22,8 @@ fn write_and_flush<O: Write, A: Allocator + Copy>(
     plan: &Plan<A>,
     out: &mut O,
 ) -> Result<(), WriteFault>
-    ensures { WritesText (O.contents out.old) (O.failures out.old) (check_text plan.now.plan) result (O.contents out.new) (O.failures out.new) }
+    ensures text { WritesText (O.contents out.old) (O.failures out.old) (check_text plan.now.plan) result (O.contents out.new) (O.failures out.new) }
+    ensures flushed { IfOk result (λ _. IsTrue (O.flushed out.new)) }
 {
     write_check_text(plan, out)?;
     let Ok(()) = out.flush() else {
@@ -33,7 +34,7 @@ fn write_and_flush<O: Write, A: Allocator + Copy>(
 
 // Tells what a plan holds.
 fn write_check<O: Write, A: Allocator + Copy>(plan: &Plan<A>, out: &mut O) -> Result<(), Failure>
-    ensures { WritesCheck (Ok plan.now) result (O.contents out.old) (O.failures out.old) (O.contents out.new) (O.failures out.new) }
+    ensures { WritesCheck (Ok plan.now) result (O.contents out.old) (O.failures out.old) (O.contents out.new) (O.failures out.new) (O.flushed out.new) }
 {
     let Ok(()) = write_and_flush(plan, out) else {
         return Err(Failure::Write);
@@ -49,11 +50,11 @@ fn read_and_write_check<P: Read, O: Write, A: Allocator + Copy>(
 ) -> Result<(), Failure>
     ensures { (planned : Result TabledPlan PlanFault)
         × ReadsPlan (P.remaining plan.old) (P.failures plan.old) planned (P.remaining plan.new) (P.failures plan.new)
-        × WritesCheck planned result (O.contents out.old) (O.failures out.old) (O.contents out.new) (O.failures out.new) }
+        × WritesCheck planned result (O.contents out.old) (O.failures out.old) (O.contents out.new) (O.failures out.new) (O.flushed out.new) }
 {
     match read_plan(alloc, plan) {
         Ok(plan) => write_check(&plan, out),
-        Err(fault) => Err(Failure::of_plan(fault)),
+        Err(fault) => Err(Failure::from(fault)),
     }
 }
 
@@ -73,7 +74,7 @@ pub fn run_check<P: Read, O: Write, E: Write, A: Allocator + Copy>(
 ) -> Status
     ensures { (planned : Result TabledPlan PlanFault) × ((end : Result (Unit {0}) Failure)
         × ReadsPlan (P.remaining plan.old) (P.failures plan.old) planned (P.remaining plan.new) (P.failures plan.new)
-        × WritesCheck planned end (O.contents out.old) (O.failures out.old) (O.contents out.new) (O.failures out.new)
+        × WritesCheck planned end (O.contents out.old) (O.failures out.old) (O.contents out.new) (O.failures out.new) (O.flushed out.new)
         × TellsEnd end (E.contents err.old) (E.failures err.old) (E.contents err.new) (E.failures err.new)
         × (result ≡ status_at end)) }
 {

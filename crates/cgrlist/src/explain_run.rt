@@ -1,6 +1,6 @@
 //! The run that tells what a list of contacts does.
 
-ghost use Rattle.std.specs.Prelude.{◌≡◌, Bool, Result, IfOk};
+ghost use Rattle.std.specs.Prelude.{◌≡◌, Bool, Result, IfOk, IsTrue};
 ghost use Rattle.sabr_model.specs.Plan.{TabledPlan};
 ghost use Rattle.sabr_model.specs.Route.{is_route};
 ghost use Rattle.sabr_model.specs.Devices.{WritesText};
@@ -27,6 +27,7 @@ fn write_and_flush<O: Write, A: Allocator + Copy>(
 ) -> Result<bool, WriteFault>
     ensures text { WritesText (O.contents out.old) (O.failures out.old) (explanation_text plan.now.plan request.now contacts.now) result (O.contents out.new) (O.failures out.new) }
     ensures route { IfOk result (λ answer. answer ≡ is_route plan.now.plan request.now contacts.now) }
+    ensures flushed { IfOk result (λ _. IsTrue (O.flushed out.new)) }
 {
     let is_route = write_explanation(plan, request, contacts, out)?;
     let Ok(()) = out.flush() else {
@@ -42,7 +43,7 @@ fn explain<O: Write, A: Allocator + Copy>(
     contacts: &[u32],
     out: &mut O,
 ) -> Result<bool, Failure>
-    ensures { WritesExplanation (Ok plan.now) request.now contacts.now result (O.contents out.old) (O.failures out.old) (O.contents out.new) (O.failures out.new) }
+    ensures { WritesExplanation (Ok plan.now) request.now contacts.now result (O.contents out.old) (O.failures out.old) (O.contents out.new) (O.failures out.new) (O.flushed out.new) }
 {
     let Ok(is_route) = write_and_flush(plan, request, contacts, out) else {
         return Err(Failure::Write);
@@ -60,11 +61,11 @@ fn read_and_explain<P: Read, O: Write, A: Allocator + Copy>(
 ) -> Result<bool, Failure>
     ensures { (planned : Result TabledPlan PlanFault)
         × ReadsPlan (P.remaining plan.old) (P.failures plan.old) planned (P.remaining plan.new) (P.failures plan.new)
-        × WritesExplanation planned request.now contacts.now result (O.contents out.old) (O.failures out.old) (O.contents out.new) (O.failures out.new) }
+        × WritesExplanation planned request.now contacts.now result (O.contents out.old) (O.failures out.old) (O.contents out.new) (O.failures out.new) (O.flushed out.new) }
 {
     match read_plan(alloc, plan) {
         Ok(plan) => explain(&plan, request, contacts, out),
-        Err(fault) => Err(Failure::of_plan(fault)),
+        Err(fault) => Err(Failure::from(fault)),
     }
 }
 
@@ -87,7 +88,7 @@ pub fn run_explain<P: Read, O: Write, E: Write, A: Allocator + Copy>(
 ) -> Status
     ensures { (planned : Result TabledPlan PlanFault) × ((end : Result Bool Failure)
         × ReadsPlan (P.remaining plan.old) (P.failures plan.old) planned (P.remaining plan.new) (P.failures plan.new)
-        × WritesExplanation planned request contacts.now end (O.contents out.old) (O.failures out.old) (O.contents out.new) (O.failures out.new)
+        × WritesExplanation planned request contacts.now end (O.contents out.old) (O.failures out.old) (O.contents out.new) (O.failures out.new) (O.flushed out.new)
         × TellsEnd end (E.contents err.old) (E.failures err.old) (E.contents err.new) (E.failures err.new)
         × (result ≡ status_of_answer end)) }
 {

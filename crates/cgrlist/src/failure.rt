@@ -1,11 +1,13 @@
 //! Why a run ended early.
 
 ghost use Rattle.std.specs.Prelude.{◌≡◌};
+ghost use Rattle.cgrlist.specs.declared.failure.Failure.TheVariants as failure;
 ghost use Rattle.cgrlist.specs.Messages.{status_of, failure_of_plan, failure_of_session, failure_of_values};
 
 use crate::status::Status;
 use crate::value_fault::ValueFault;
 use crate::value_name::ValueName;
+use sabr_model::{NoMemory, WriteFault};
 use sabr_plan::{PlanFault, PlanKind};
 use sabr_session::SessionFault;
 
@@ -39,40 +41,6 @@ pub enum Failure {
 }
 
 impl Failure {
-    /// The failure that a refused plan is.
-    pub fn of_plan(fault: PlanFault) -> Failure
-        ensures { result ≡ failure_of_plan fault }
-    {
-        match fault.kind {
-            PlanKind::Read => Failure::PlanRead,
-            PlanKind::NoMemory => Failure::NoMemory,
-            _ => Failure::PlanLine(fault),
-        }
-    }
-
-    /// The failure that a refused session is.
-    pub fn of_session(fault: SessionFault) -> Failure
-        ensures { result ≡ failure_of_session fault }
-    {
-        match fault {
-            SessionFault::Read => Failure::SessionRead,
-            SessionFault::NoMemory => Failure::NoMemory,
-            _ => Failure::Session(fault),
-        }
-    }
-
-    /// The failure that refused values are.
-    pub fn of_values(fault: ValueFault) -> Failure
-        ensures { result ≡ failure_of_values fault }
-    {
-        match fault {
-            ValueFault::Bad(name) => Failure::BadValue(name),
-            ValueFault::SameNode => Failure::SameNode,
-            ValueFault::NoMemory => Failure::NoMemory,
-            ValueFault::BadAvoid => Failure::BadAvoid,
-        }
-    }
-
     /// The status that a run ends with.
     pub fn status(self) -> Status
         ensures { result ≡ status_of self }
@@ -87,5 +55,63 @@ impl Failure {
             Failure::PlanRead | Failure::SessionRead | Failure::Write => Status::Io,
             Failure::NoMemory => Status::Memory,
         }
+    }
+}
+
+/// The failure that a refused plan is.
+impl From<PlanFault> for Failure {
+    ghost from_gives = { λ fault e. e ≡ failure_of_plan fault };
+
+    fn from(fault: PlanFault) -> Failure {
+        match fault.kind {
+            PlanKind::Read => Failure::PlanRead,
+            PlanKind::NoMemory => Failure::NoMemory,
+            _ => Failure::PlanLine(fault),
+        }
+    }
+}
+
+/// The failure that a refused session is.
+impl From<SessionFault> for Failure {
+    ghost from_gives = { λ fault e. e ≡ failure_of_session fault };
+
+    fn from(fault: SessionFault) -> Failure {
+        match fault {
+            SessionFault::Read => Failure::SessionRead,
+            SessionFault::NoMemory => Failure::NoMemory,
+            _ => Failure::Session(fault),
+        }
+    }
+}
+
+/// The failure that refused values are.
+impl From<ValueFault> for Failure {
+    ghost from_gives = { λ fault e. e ≡ failure_of_values fault };
+
+    fn from(fault: ValueFault) -> Failure {
+        match fault {
+            ValueFault::Bad(name) => Failure::BadValue(name),
+            ValueFault::SameNode => Failure::SameNode,
+            ValueFault::NoMemory => Failure::NoMemory,
+            ValueFault::BadAvoid => Failure::BadAvoid,
+        }
+    }
+}
+
+/// A writer's failure.
+impl From<WriteFault> for Failure {
+    ghost from_gives = { λ _ e. e ≡ failure.Write };
+
+    fn from(_fault: WriteFault) -> Failure {
+        Failure::Write
+    }
+}
+
+/// Refused memory.
+impl From<NoMemory> for Failure {
+    ghost from_gives = { λ _ e. e ≡ failure.NoMemory };
+
+    fn from(_refused: NoMemory) -> Failure {
+        Failure::NoMemory
     }
 }

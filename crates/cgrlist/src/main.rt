@@ -6,26 +6,31 @@ mod answer;
 mod check_run;
 mod check_text;
 mod command_line;
+mod commands;
 mod ending_line;
+mod every_run;
 mod explain_run;
 mod explanation;
 mod failure;
-mod first_page;
+mod files;
 mod first_piece;
+mod first_run;
 mod hop_lines;
 mod lists;
 mod messages;
+mod next_run;
 mod number;
+mod pages;
 mod program;
 mod request_words;
 mod rows;
-mod runs;
 mod status;
 #[cfg(test)]
 mod tests;
 mod value_fault;
 mod value_name;
 mod values;
+mod verify_run;
 
 use program::run_arguments;
 use sabr_model::Device;
@@ -35,5 +40,5 @@ fn main(rt: HostRuntime) -> ExitCode {
     let mut out = Device::new(rt.stdout());
     let mut err = Device::new(rt.stderr());
     let status = run_arguments(&rt, &mut out, &mut err);
-    ExitCode::from(status as u8)
+    ExitCode::from(status.number())
 }

@@ -1,19 +1,16 @@
 //! The program: words, files and the runs over them.
 
-use crate::check_run::run_check;
 use crate::command_line::parsed;
-use crate::explain_run::run_explain;
+use crate::commands::{check, explain, first, next, verify};
 use crate::failure::Failure;
 use crate::messages::tell;
-use crate::runs::run_first;
 use crate::status::Status;
-use crate::values::read_values;
 use clap::error::ErrorKind;
 use clap::{ArgMatches, Error};
-use sabr_model::{Device, Write, write_text};
+use sabr_model::{Write, write_text};
 use std::alloc::Global;
 use std::rt::{Env, Files};
-use std::{env, fs, io};
+use std::{env, io};
 
 /// Runs the program over the words that it was started with.
 pub fn run_arguments<R: Env + Files + AllocGlobal, O: Write, E: Write>(
@@ -72,76 +69,23 @@ fn tell_usage<E: Write>(alloc: Global, refusal: &Error, err: &mut E) -> Status {
     Status::Usage
 }
 
-// Runs the command that the words name.
+// Runs the command that the words name, or tells why it couldn't begin.
 fn run_command<R: Files + AllocGlobal, O: Write, E: Write>(
     rt: &R,
     matches: &ArgMatches<'_>,
     out: &mut O,
     err: &mut E,
 ) -> Status {
-    match matches.subcommand() {
-        Some(("first", values)) => run_first_words(rt, values, out, err),
-        Some(("check", values)) => run_check_words(rt, values, out, err),
-        Some(("explain", values)) => run_explain_words(rt, values, out, err),
-        _ => Status::Usage,
-    }
-}
-
-// Lists the first routes of the plan that the words name.
-fn run_first_words<R: Files + AllocGlobal, O: Write, E: Write>(
-    rt: &R,
-    matches: &ArgMatches<'_>,
-    out: &mut O,
-    err: &mut E,
-) -> Status {
-    let values = match read_values(rt.alloc(), "first", matches) {
-        Ok(values) => values,
-        Err(fault) => return tell(err, Failure::of_values(fault)),
+    let run = match matches.subcommand() {
+        Some(("first", words)) => first(rt, words, out, err),
+        Some(("next", words)) => next(rt, words, out, err),
+        Some(("verify", words)) => verify(rt, words, out, err),
+        Some(("check", words)) => check(rt, words, out, err),
+        Some(("explain", words)) => explain(rt, words, out, err),
+        _ => Ok(Status::Usage),
     };
-    let request = values.request.unwrap();
-    let count = values.count.unwrap();
-    match open_plan(rt, matches) {
-        Ok(mut plan) => run_first(rt.alloc(), &mut plan, request, count, out, err),
+    match run {
+        Ok(status) => status,
         Err(failure) => tell(err, failure),
-    }
-}
-
-// Tells what the plan that the words name holds.
-fn run_check_words<R: Files + AllocGlobal, O: Write, E: Write>(
-    rt: &R,
-    matches: &ArgMatches<'_>,
-    out: &mut O,
-    err: &mut E,
-) -> Status {
-    match open_plan(rt, matches) {
-        Ok(mut plan) => run_check(rt.alloc(), &mut plan, out, err),
-        Err(failure) => tell(err, failure),
-    }
-}
-
-// Explains the contacts that the words name, over the plan that they name.
-fn run_explain_words<R: Files + AllocGlobal, O: Write, E: Write>(
-    rt: &R,
-    matches: &ArgMatches<'_>,
-    out: &mut O,
-    err: &mut E,
-) -> Status {
-    let values = match read_values(rt.alloc(), "explain", matches) {
-        Ok(values) => values,
-        Err(fault) => return tell(err, Failure::of_values(fault)),
-    };
-    let request = values.request.unwrap();
-    let contacts = values.contacts.as_slice();
-    match open_plan(rt, matches) {
-        Ok(mut plan) => run_explain(rt.alloc(), &mut plan, request, contacts, out, err),
-        Err(failure) => tell(err, failure),
-    }
-}
-
-// Opens the plan's file that the words name.
-fn open_plan<R: Files>(rt: &R, matches: &ArgMatches<'_>) -> Result<Device<R::File>, Failure> {
-    match fs::open(rt, matches.get_str("plan").unwrap_or("")) {
-        Ok(file) => Ok(Device::new(file)),
-        Err(_) => Err(Failure::CannotOpenPlan),
     }
 }

@@ -1,20 +1,40 @@
 //! How a run ended.
 
-/// How a run of the program ended. Its number is the program's exit status.
+ghost use Rattle.std.specs.Prelude.{◌≡◌};
+ghost use Rattle.cgrlist.specs.Messages.{number_of};
+
+/// How a run of the program ended.
 #[derive(Clone, Copy, Debug, PartialEq, Eq)]
 pub enum Status {
     /// The run did what it was asked.
-    Done = 0,
-    /// The answer is no: a refused explanation.
-    No = 1,
+    Done,
+    /// The answer is no: a refused explanation, or a session that is none of the plan's.
+    No,
     /// The words of the command line were refused.
-    Usage = 2,
+    Usage,
     /// The plan was refused.
-    Plan = 3,
+    Plan,
     /// The session was refused.
-    Session = 4,
+    Session,
     /// Input or output failed.
-    Io = 5,
+    Io,
     /// Memory was refused.
-    Memory = 6,
+    Memory,
+}
+
+impl Status {
+    /// The program's exit status.
+    pub fn number(self) -> u8
+        ensures { result ≡ number_of self }
+    {
+        match self {
+            Status::Done => 0,
+            Status::No => 1,
+            Status::Usage => 2,
+            Status::Plan => 3,
+            Status::Session => 4,
+            Status::Io => 5,
+            Status::Memory => 6,
+        }
+    }
 }

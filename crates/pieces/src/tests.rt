@@ -2,7 +2,30 @@
 
 use crate::{End, LimitedWriter, PieceReader};
 use sabr_model::{Device, Failed, Read, Write, write_text};
+use std::cell::Cell;
+use std::io::{self, BufWriter};
 use std::test::Fail;
+
+/// A writer of std that tells how many bytes it took, and fails at a flush where it is told to.
+#[derive(Drop)]
+struct Taking<'a> {
+    taken: &'a Cell<usize>,
+    flush_fails: bool,
+}
+
+impl<'a> io::Write for Taking<'a> {
+    fn write(&mut self, buf: &[u8]) -> io::Result<usize> {
+        self.taken.set(self.taken.get().saturating_add(buf.len()));
+        Ok(buf.len())
+    }
+
+    fn flush(&mut self) -> io::Result<()> {
+        if self.flush_fails {
+            return Err(io::Error::from(io::ErrorKind::TimedOut));
+        }
+        Ok(())
+    }
+}
 
 #[test]
 fn a_text_stops_where_its_writer_does(rt: HostRuntime) -> Result<(), Fail> {
@@ -12,11 +35,14 @@ fn a_text_stops_where_its_writer_does(rt: HostRuntime) -> Result<(), Fail> {
             let mut writer = LimitedWriter::new(rt.alloc(), limit, piece);
             assert_eq!(rt; write_text(&mut writer, text).is_ok(), limit == text.len());
             assert_eq!(rt; writer.held(), &text[..limit]);
+            assert!(rt; !writer.is_flushed());
             assert_eq!(rt; writer.flush(), Ok(()));
+            assert!(rt; writer.is_flushed());
         }
     }
     let mut writer = LimitedWriter::with_failing_flush(rt.alloc(), 9, 9);
     assert_eq!(rt; writer.flush(), Err(Failed));
+    assert!(rt; !writer.is_flushed());
     Ok(())
 }
 
@@ -45,5 +71,22 @@ fn readers_and_writers_of_std_are_devices(rt: HostRuntime) -> Result<(), Fail> {
     let mut writer = Device::new(Vec::new(rt.alloc()));
     assert!(rt; write_text(&mut writer, b"xyz").is_ok());
     assert_eq!(rt; writer.flush(), Ok(()));
+    Ok(())
+}
+
+#[test]
+fn a_flush_of_std_comes_and_can_fail(rt: HostRuntime) -> Result<(), Fail> {
+    for (flush_fails, answer) in [(false, Ok(())), (true, Err(Failed))] {
+        let taken = Cell::new(0);
+        let taking = Taking {
+            taken: &taken,
+            flush_fails,
+        };
+        let mut writer = Device::new(BufWriter::new(rt.alloc(), taking)?);
+        assert!(rt; write_text(&mut writer, b"xyz").is_ok());
+        assert_eq!(rt; taken.get(), 0);
+        assert_eq!(rt; writer.flush(), answer);
+        assert_eq!(rt; taken.get(), 3);
+    }
     Ok(())
 }

@@ -14,6 +14,7 @@ pub struct LimitedWriter<A: Allocator + Copy = Global> {
     limit: usize,
     piece: usize,
     flush_fails: bool,
+    is_flushed: bool,
     failures: GhostCount,
 }
 
@@ -28,6 +29,7 @@ impl<A: Allocator + Copy> LimitedWriter<A> {
             limit,
             piece,
             flush_fails: false,
+            is_flushed: false,
             failures: GhostCount::new(),
         }
     }
@@ -48,6 +50,13 @@ impl<A: Allocator + Copy> LimitedWriter<A> {
     {
         &self.held
     }
+
+    /// Whether it was flushed, and has taken nothing and failed at nothing since.
+    pub fn is_flushed(&self) -> bool
+        ensures { result ≡ self.now.is_flushed }
+    {
+        self.is_flushed
+    }
 }
 
 impl<A: Allocator + Copy> Write for LimitedWriter<A> {
@@ -55,7 +64,10 @@ impl<A: Allocator + Copy> Write for LimitedWriter<A> {
 
     ghost failures = { λ writer. writer.failures.count };
 
+    ghost flushed = { λ writer. writer.is_flushed };
+
     fn write(&mut self, buf: &[u8]) -> Result<usize, Failed> {
+        self.is_flushed = false;
         let room = self.limit.saturating_sub(self.held.len());
         let count = room.min(self.piece).min(buf.len());
         if count == 0 && !buf.is_empty() {
@@ -72,6 +84,7 @@ impl<A: Allocator + Copy> Write for LimitedWriter<A> {
     }
 
     fn flush(&mut self) -> Result<(), Failed> {
+        self.is_flushed = !self.flush_fails;
         if self.flush_fails {
             self.failures.add();
             return Err(Failed);

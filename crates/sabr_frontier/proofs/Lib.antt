@@ -38,5 +38,7 @@ pub mod Giving
 pub mod Pages
 pub mod Roots
 pub mod NewRoutes
+pub mod StandingPages
+pub mod PlacesFormed
 pub mod Placed
 pub mod Verdicts

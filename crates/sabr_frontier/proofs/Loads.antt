@@ -163,7 +163,7 @@ apart_length (s ∷ S) h =
     ] in
     length-put_in nat_list_cmp_total s (set_of S) new ∙ ap (λ n. n + 1) (apart_length S h.1) ∙ (let one : length S + 1 ≡ suc (length S) = omega arith in one)
 
-pairs_two : {X : Type 0} (Q : X → X → Type 0) (xs ys : List X) → InPairs Q xs → InPairs Q ys → ((a b : X) → Member a xs → Member b ys → Q a b) → InPairs Q (xs ++ ys)
+pub pairs_two : {X : Type 0} (Q : X → X → Type 0) (xs ys : List X) → InPairs Q xs → InPairs Q ys → ((a b : X) → Member a xs → Member b ys → Q a b) → InPairs Q (xs ++ ys)
 pairs_two Q [] ys h k f = k
 pairs_two Q (x ∷ xs) ys h k f = (
   (λ y m. elim (Member-append_cases y xs ys m) [ inl a ↦ h.0 y a | inr a ↦ f x y (inl refl) a ]),

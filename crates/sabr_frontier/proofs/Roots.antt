@@ -29,7 +29,7 @@ pub shown_root : (A : Type 0) (p : ContactPlan) (r : RouteRequest) → shown (ro
 unfolding state_at
 shown_root A p r = λ i. record { emitted = 0; last = []; parts = record { prefix = []; excluded = []; carried = best_numbers p r [] [] i } ∷ [] }
 
-first_formed : (p : ContactPlan) (r : RouteRequest) → IsPlan p → IsState p r (state_at p r 0)
+pub first_formed : (p : ContactPlan) (r : RouteRequest) → IsPlan p → IsState p r (state_at p r 0)
 unfolding state_at
 first_formed p r good = formed_start (is_route p r) (is_path p r) (is_prefix p r) (routes_apart p r) (route_filled p r) (route_chains p r) (route_fits p r) (empty_is_prefix p r) (least_in p r)
     (λ q X u e. let w = least_some p r good q X u e in (w.0, w.1))

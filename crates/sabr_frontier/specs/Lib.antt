@@ -17,6 +17,7 @@ pub mod Session
 pub mod Views
 pub mod Root
 pub mod Fresh
+pub mod Standing
 pub mod Loading
 pub mod Holding
 pub mod Laws

@@ -1,6 +1,7 @@
 //! Laws of the frontier, each the contract of a function that does nothing.
 
 ghost use Rattle.sabr_frontier.specs.Laws.{PartsDivide, StatesAreTold, StepsFollow};
+ghost use Rattle.sabr_frontier.specs.Standing.{PagesGiveNewRoutes};
 
 /// Every route was given or is in exactly one part of the tree of those given, never both.
 pub fn law4()
@@ -16,4 +17,10 @@ pub fn law5()
 /// From each place of the list, steps give the next routes and lead to the place behind them.
 pub fn law6()
     ensures { StepsFollow }
+{}
+
+/// From every well-formed state, be it that of a place of the list or not, pages give routes, none of them one that the
+/// state counts as given, and none twice among the pages that weren't taken back.
+pub fn pages_give_new_routes()
+    ensures { PagesGiveNewRoutes }
 {}

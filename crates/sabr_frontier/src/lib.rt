@@ -25,7 +25,7 @@ mod tree;
 mod undo;
 mod views;
 
-pub use laws::{law4, law5, law6};
+pub use laws::{law4, law5, law6, pages_give_new_routes};
 pub use load_fault::LoadFault;
 pub use loader::Loader;
 pub use rows::{states_of_plan_a, states_of_plan_c, steps_of_plan_a};

@@ -1,6 +1,6 @@
 //! A session over a listing of routes: the next routes a page at a time, and back.
 
-ghost use Rattle.std.specs.Prelude.{◌≡◌, ◌≢◌, ℕ, ◌+◌, ◌<◌, ◌≤◌, ◌⊎◌, ◌↔◌, ◌∷◌, ◌++◌, [], map, length, is_some, None, IfOk, OnOk, OnErr, IsOk, IsTrue, IsFalse};
+ghost use Rattle.std.specs.Prelude.{◌≡◌, ◌≢◌, ℕ, ◌+◌, ◌^◌, ◌<◌, ◌≤◌, ◌⊎◌, ◌↔◌, ◌∷◌, ◌++◌, [], map, length, is_some, None, IfOk, OnOk, OnErr, IsOk, IsTrue, IsFalse};
 ghost use Rattle.sabr_model.specs.Record.{record_of};
 ghost use Rattle.sabr_frontier.specs.Fresh.{GivesNewRoutes};
 ghost use Rattle.sabr_frontier.specs.Listing.{next_route, searches_in, state_at, steps};
@@ -194,7 +194,8 @@ impl<'p, B: BestOf<A>, A: Allocator + Copy> Session<'p, B, A> {
 
     /// How many routes were given and not taken back.
     pub fn emitted(&self) -> u128
-        ensures { result ≡ self.now.state.emitted }
+        ensures count { result ≡ self.now.state.emitted }
+        ensures bound { result < 2 ^ 64 }
     {
         self.tree.leaves.len() as u128
     }

@@ -1,4 +1,4 @@
--- The names that the walks of the ghost count cite.
+-- The names that the walks of ghost data cite.
 pub use Rattle.std.proofs.Common.{ℕ, List, [], ◌∷◌, refl}
 pub use Rattle.std.proofs.raw_atomic.Walks.{proved}
 pub use base.Fml.{ftrue, flft}

@@ -282,6 +282,7 @@ asks-plain =
       margin = omega arith;
       hops = search rules;
       avoids = refl;
+      nodes = search rules;
     }
 
 pub asks-at_60 : IsRequest (from_1_to_3_at 60)
@@ -294,6 +295,7 @@ asks-at_60 =
       margin = omega arith;
       hops = search rules;
       avoids = refl;
+      nodes = search rules;
     }
 
 pub asks-at_100 : IsRequest (from_1_to_3_at 100)
@@ -306,6 +308,7 @@ asks-at_100 =
       margin = omega arith;
       hops = search rules;
       avoids = refl;
+      nodes = search rules;
     }
 
 pub asks-one_hop : IsRequest (within_hops 1)
@@ -318,6 +321,7 @@ asks-one_hop =
       margin = omega arith;
       hops = search rules;
       avoids = refl;
+      nodes = search rules;
     }
 
 pub asks-two_hops : IsRequest (within_hops 2)
@@ -330,6 +334,7 @@ asks-two_hops =
       margin = omega arith;
       hops = search rules;
       avoids = refl;
+      nodes = search rules;
     }
 
 pub asks-without_2 : IsRequest (avoiding (2 ∷ []))
@@ -342,6 +347,7 @@ asks-without_2 =
       margin = omega arith;
       hops = search rules;
       avoids = refl;
+      nodes = search rules;
     }
 
 pub asks-without_4 : IsRequest (avoiding (4 ∷ []))
@@ -354,6 +360,7 @@ asks-without_4 =
       margin = omega arith;
       hops = search rules;
       avoids = refl;
+      nodes = search rules;
     }
 
 pub asks-to_2 : IsRequest (from_1_to_2_at 50)
@@ -366,6 +373,7 @@ asks-to_2 =
       margin = omega arith;
       hops = search rules;
       avoids = refl;
+      nodes = search rules;
     }
 
 pub asks-last_day : IsRequest on_the_last_day
@@ -378,4 +386,5 @@ asks-last_day =
       margin = omega arith;
       hops = search rules;
       avoids = refl;
+      nodes = search rules;
     }

@@ -1,5 +1,5 @@
 -- Which calls of a device are failures, and what a call leaves that writes a text.
-use Rattle.std.specs.Prelude.{◌≡◌, ℕ, ◌+◌, List, [], ◌∷◌, ◌++◌, Result, Ok, Err, Option, cond, eqb}
+use Rattle.std.specs.Prelude.{◌≡◌, ℕ, ◌+◌, Bool, IsTrue, List, [], ◌∷◌, ◌++◌, Result, Ok, Err, Option, cond, eqb}
 use Rattle.std.specs.Io.KnownBytes.{Appends}
 
 -- 1 for an error, 0 for an answer
@@ -24,6 +24,10 @@ AppendsBeginning old new text = (front : List ℕ) × ((back : List ℕ) × (tex
 -- all of the text was taken, and nothing failed
 abbrev pub Written : Option (List ℕ) → ℕ → List ℕ → Option (List ℕ) → ℕ → Type 0
 Written old before text new after = Appends old new text × (after ≡ before)
+
+-- all of the text was taken, nothing failed, and behind it all was flushed
+abbrev pub WrittenAndFlushed : Option (List ℕ) → ℕ → List ℕ → Option (List ℕ) → ℕ → Bool → Type 0
+WrittenAndFlushed old before text new after flushed = Written old before text new after × IsTrue flushed
 
 -- a beginning of the text was taken, and there is one failure more
 abbrev pub WrittenInPart : Option (List ℕ) → ℕ → List ℕ → Option (List ℕ) → ℕ → Type 0

@@ -1,5 +1,6 @@
 //! Readers and writers whose contracts tell the bytes that move and how often they failed.
 
+mod flush_mark;
 mod std_device;
 mod text;
 mod traits;

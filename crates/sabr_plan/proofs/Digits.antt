@@ -133,10 +133,14 @@ value_below (x ∷ xs) n all =
     let power : (n + 1) * 10 ^ suc (length xs) ≡ ((n + 1) * 10) * 10 ^ length xs = rw (pow-suc 10 (length xs)) (omega arith) in
     rw power (omega arith)
 
--- twelve digits make less than 2^64
-pub few_digits : (xs : List ℕ) → list_all is_digit xs ≡ true → length xs ≤ 12 → digits_value xs < 18446744073709551616
+-- nineteen digits make less than 2^64
+pub few_digits : (xs : List ℕ) → list_all is_digit xs ≡ true → length xs ≤ 19 → digits_value xs < 18446744073709551616
 unfolding digits_value
 few_digits xs all short =
     let below = value_below xs 0 all in
-    let power : 10 ^ length xs ≤ 10 ^ 12 = pow-le-pow_right (omega arith) short in
+    let power : 10 ^ length xs ≤ 10 ^ 19 = pow-le-pow_right (omega arith) short in
     omega arith
+
+-- so at most nineteen of them have a number
+pub small_digits : (xs : List ℕ) → 0 < length xs → list_all is_digit xs ≡ true → length xs ≤ 19 → small_value xs ≡ Some (digits_value xs)
+small_digits xs some all short = small_value_some xs some all (few_digits xs all short)

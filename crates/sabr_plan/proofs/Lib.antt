@@ -1,5 +1,6 @@
 pub mod Digits
 pub mod FirstWords
+pub mod PlainWords
 pub mod Days
 pub mod Dates
 pub mod Spelling

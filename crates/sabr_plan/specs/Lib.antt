@@ -3,6 +3,7 @@ pub mod Digits
 pub mod Times
 pub mod TimeShape
 pub mod Words
+pub mod PlainWords
 pub mod Operands
 pub mod Commands
 pub mod Reading

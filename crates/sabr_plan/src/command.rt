@@ -6,6 +6,7 @@ ghost use Rattle.sabr_plan.specs.Commands.{line_command, command_of, reference_o
 
 use crate::fault::PlanKind;
 use crate::operand::{absolute_time, both_of, node_of, time_at, value_of};
+use crate::swift_line::swift_addition;
 use crate::words::{five_words, is_comment, is_plain, is_word, next_word, one_word, three_words};
 
 /// What a command adds or takes out.
@@ -47,6 +48,9 @@ pub fn line_command(reference: Option<u64>, line: &[u8]) -> Result<Command, Plan
     ensures value { result ≡ line_command reference line.now }
     ensures bounds { IfOk result HasBounds }
 {
+    if let Some(command) = swift_addition(reference, line) {
+        return Ok(command);
+    }
     if is_comment(line) {
         return Ok(Command::Nothing);
     }

@@ -40,7 +40,7 @@ impl<A: Allocator + Copy> Model for PlanFeed<A> {
 }
 
 /// Where the first LF stands.
-fn line_end(text: &[u8]) -> Option<usize>
+pub fn line_end(text: &[u8]) -> Option<usize>
     ensures { MatchOption result (IsTrue (is_one_line text.now)) (λ end. (end < length text.now) × (slice_index text.now end ≡ 10) × IsTrue (is_one_line (take end text.now))) }
 {
     memchr(b'\n', text)

@@ -10,6 +10,7 @@ mod operand;
 mod read;
 mod reading;
 mod record_line;
+mod swift_line;
 #[cfg(test)]
 mod tests;
 mod time;
@@ -17,5 +18,6 @@ mod words;
 
 pub use canonical_text::{canonical, digest};
 pub use fault::{PlanFault, PlanKind};
+pub use feed::line_end;
 pub use read::read_plan;
 pub use time::{parse_time, time_text};

@@ -29,7 +29,7 @@ pub fn digits_value(word: &[u8]) -> Option<u64>
 }
 
 /// Whether there is more than one digit, and the first is `0`.
-fn leads_with_zero(word: &[u8]) -> bool
+pub fn leads_with_zero(word: &[u8]) -> bool
     ensures { result ≡ leads_with_zero word.now }
 {
     word.len() > 1 && word[0] == b'0'

@@ -20,7 +20,7 @@ fn relative_of(word: &[u8]) -> Option<u64>
 }
 
 /// That many seconds after the reference.
-fn after_reference(reference: Option<u64>, seconds: u64) -> Result<u64, PlanKind>
+pub fn after_reference(reference: Option<u64>, seconds: u64) -> Result<u64, PlanKind>
     ensures { result ≡ after_reference reference seconds }
 {
     let Some(reference) = reference else {
@@ -61,7 +61,7 @@ pub fn node_of(word: &[u8]) -> Result<u64, PlanKind>
 }
 
 /// The greatest rate of a contact, in bytes a second, and light time of a range, in seconds.
-fn greatest_value(target: Target) -> u64
+pub fn greatest_value(target: Target) -> u64
     ensures { result ≡ greatest_value target }
 {
     match target {

@@ -11,7 +11,22 @@ mod PartWords
 mod Pieces
 mod SessionPieces
 mod SessionRowProofs
-mod Spellings
-mod TextsApart
+mod SpelledWords
+mod SpelledLines
+mod SpelledDigests
+mod SpelledHead
+mod SpelledParts
+pub mod SaidLines
+pub mod NeverRead
+pub mod GoingOn
+pub mod SessionGivenSoFar
+mod PiecesJoined
 pub mod SessionOutcomes
 mod ShortStates
+mod TextsRead
+pub mod OneAnswer
+mod StepsTaken
+mod WordsTold
+mod LinesTold
+pub mod TextsTold
+pub mod Verified

@@ -11,7 +11,7 @@ use Rattle.sabr_plan.proofs.Lines.{in_front, lines_of-front, lines_of-one, lines
 use Rattle.sabr_session.specs.declared.session_fault.SessionFault.{SessionFault}
 use Rattle.sabr_session.specs.declared.session_fault.SessionFault.TheVariants as fault
 use Rattle.sabr_session.specs.SessionRead.{Said, nothing_said, misspelled, line_said, read_line, read_lines, is_behind, last_line, said_of}
-use Rattle.sabr_session.specs.SessionFed.{SessionFed, nothing_fed, outcome}
+use Rattle.sabr_session.specs.SessionFed.{SessionFed, nothing_fed, outcome, is_bad_front}
 
 -- a step after two steps
 and_then-and_then : {A B C E : Type 0} (r : Result A E) (f : A → Result B E) (g : B → Result C E) → and_then (and_then r f) g ≡ and_then r (λ x. and_then (f x) g)
@@ -76,10 +76,6 @@ module _ (p : ContactPlan) (h : List ℕ) where
   pub outcome-end : (s : SessionFed) (ended : Bool) → is_one_line s.held ≡ true → outcome p h s [] ended ≡ last_line ended (s.lines + 1) s.held s.said
   outcome-end s ended one =
       outcome-lines s [] ended ∙ ap (λ t. lines_outcome (s.lines + 1) s.said t ended) (ap lines_of (append-nil s.held) ∙ lines_of-one s.held one) ∙ lines_outcome-last (s.lines + 1) s.said s.held ended
-
-  -- the beginning of a line that is refused whatever comes behind it: it has more than 660008 bytes, or a byte behind `end`
-  abbrev pub is_bad_front : ℕ → Said → List ℕ → Bool
-  is_bad_front n s front = (is_behind n s && has_bytes front) || ltb 660008 (length front)
 
   -- what is bad stays bad
   bad_more : (n : ℕ) (s : Said) (front back : List ℕ) → is_bad_front n s front ≡ true → is_bad_front n s (front ++ back) ≡ true
@@ -199,5 +195,5 @@ module _ (p : ContactPlan) (h : List ℕ) (first : SessionFed) (piece : List ℕ
   rest_held new is more ended = same more ended ∙ outcome-held p h s rest more ended ∙ ap (λ t. outcome p h t more ended) (sym is)
 
   -- or refused
-  pub rest_refused : is_one_line rest ≡ true → is_bad_front p h (s.lines + 1) s.said (s.held ++ rest) ≡ true → (more : List ℕ) (ended : Bool) → outcome p h first (piece ++ more) ended ≡ Err (misspelled (s.lines + 1))
+  pub rest_refused : is_one_line rest ≡ true → is_bad_front (s.lines + 1) s.said (s.held ++ rest) ≡ true → (more : List ℕ) (ended : Bool) → outcome p h first (piece ++ more) ended ≡ Err (misspelled (s.lines + 1))
   rest_refused one bad more ended = same more ended ∙ outcome-refused p h s rest more ended held one bad

@@ -7,6 +7,10 @@ pub mod SessionWords
 pub mod SessionLines
 pub mod SessionRead
 pub mod SessionFed
+pub mod SessionStage
+pub mod SessionGiven
+pub mod FedInTurn
 pub mod SessionPieces
 pub mod SessionLeaving
 pub mod TextLaws
+pub mod Verifying

@@ -1,9 +1,11 @@
 -- A session text that is read in pieces: what was read so far, and what comes of the text.
-use Rattle.std.specs.Prelude.{◌≡◌, ◌≢◌, ℕ, ◌+◌, Bool, List, [], ◌++◌, length, Result, Ok, Err, ◌⊎◌}
-use Rattle.sabr_model.specs.Plan.{ContactPlan}
+use Rattle.std.specs.Prelude.{◌≡◌, ◌≢◌, ℕ, ◌+◌, ◌*◌, nat_lt, ◌&&◌, ◌||◌, Bool, true, false, List, [], ◌++◌, length, Result, Ok, Err, ◌⊎◌}
+use Rattle.sabr_model.specs.Plan.{ContactPlan, TabledPlan}
+use Rattle.sabr_plan.specs.Canonical.{digest_of}
 use Rattle.sabr_plan.specs.Steps.{and_then}
-use Rattle.sabr_plan.specs.Words.{lines_of}
-use Rattle.sabr_session.specs.SessionRead.{Said, nothing_said, read_lines, last_line}
+use Rattle.sabr_plan.specs.Words.{has_bytes, lines_of}
+use Rattle.sabr_frontier.specs.Session.{Seen}
+use Rattle.sabr_session.specs.SessionRead.{Said, nothing_said, read_lines, is_behind, last_line, ComesTo}
 use Rattle.sabr_session.specs.declared.session_fault.SessionFault.{SessionFault}
 use Rattle.sabr_session.specs.declared.session_fault.SessionFault.TheVariants.{Read, NoMemory}
 
@@ -23,7 +25,59 @@ outcome p h s bytes ended =
     let text = lines_of (s.held ++ bytes) in
     and_then (read_lines p h (s.lines + 1) s.said text.ended) (last_line ended (s.lines + 1 + length text.ended) text.open_line)
 
--- a piece was fed: whatever comes behind it, the text comes to the same
-abbrev pub IsFed : {U : Type 0} → ContactPlan → List ℕ → SessionFed → List ℕ → Result U SessionFault → SessionFed → Type 0
-IsFed p h old piece (Ok _) new = (more : List ℕ) (ended : Bool) → outcome p h old (piece ++ more) ended ≡ outcome p h new more ended
-IsFed p h old piece (Err f) new = (f ≡ NoMemory) ⊎ ((f ≢ Read) × ((more : List ℕ) (ended : Bool) → outcome p h old (piece ++ more) ended ≡ Err f))
+-- the beginning of line n that is refused whatever comes behind it: it has more than 660008 bytes, or a byte behind `end`
+abbrev pub is_bad_front : ℕ → Said → List ℕ → Bool
+is_bad_front n s front = (is_behind n s && has_bytes front) || nat_lt 660008 (length front)
+
+-- over a plan, what was fed of a text that wasn't refused, and how often the finder was called that its session is to have
+pub record OpenText : Type 0 where
+  pub plan : TabledPlan
+  pub calls : ℕ
+  pub fed : SessionFed
+
+-- before the first piece, over a plan
+abbrev pub opened_over : TabledPlan → ℕ → OpenText
+opened_over plan calls = record { plan = plan; calls = calls; fed = nothing_fed }
+
+-- what all lines come to say, with these bytes behind the text, over its plan
+abbrev pub outcome_of : OpenText → List ℕ → Bool → Result Said SessionFault
+outcome_of t bytes ended = outcome t.plan.plan (digest_of t.plan.plan) t.fed bytes ended
+
+-- a piece goes on with a text: whatever comes behind it, the text comes to the same, and where the reader fails there,
+-- that is what is told
+pub record GoesOn (old : OpenText) (piece : List ℕ) (new : OpenText) : Type 0 where
+  pub plan : new.plan ≡ old.plan
+  pub calls : new.calls ≡ old.calls
+  pub same : (more : List ℕ) (ended : Bool) → outcome_of old (piece ++ more) ended ≡ outcome_of new more ended
+  pub fine : outcome_of new [] false ≡ Err Read
+
+-- a piece is refused: for want of memory, or for this fault, whatever comes behind it
+abbrev pub IsRefusedPiece : OpenText → List ℕ → SessionFault → Type 0
+IsRefusedPiece t piece f = (f ≡ NoMemory) ⊎ ((f ≢ Read) × ((more : List ℕ) (ended : Bool) → outcome_of t (piece ++ more) ended ≡ Err f))
+
+-- a piece was fed to a text, or to what refused one: the text goes on, or is refused, and what refused it is told again
+abbrev pub IsFed : {U : Type 0} → Result OpenText SessionFault → List ℕ → Result U SessionFault → Result OpenText SessionFault → Type 0
+IsFed (Ok t) piece (Ok _) (Ok new) = GoesOn t piece new
+IsFed (Ok t) piece (Ok _) (Err g) = ⊥
+IsFed (Ok t) piece (Err f) new = (new ≡ Err f) × IsRefusedPiece t piece f
+IsFed (Err g) piece (Ok _) new = ⊥
+IsFed (Err g) piece (Err f) new = (f ≡ g) × (new ≡ Err g)
+
+-- it grows with each byte
+abbrev pub weight : OpenText → ℕ
+weight t = 660009 * t.fed.lines + length t.fed.held
+
+abbrev pub weight_of : Result OpenText SessionFault → ℕ
+weight_of (Ok t) = weight t
+weight_of (Err f) = 0
+
+-- the session of what a text says, without former states or a search; or the text's fault, or want of memory
+abbrev pub IsSessionFrom : TabledPlan → Result Said SessionFault → Result Seen SessionFault → Type 0
+IsSessionFrom plan said (Ok s) =
+    (s ≡ record { plan = plan; request = s.request; state = s.state; former = []; searches = 0; calls = s.calls }) × ComesTo plan.plan said (Ok (s.request, s.state))
+IsSessionFrom plan said (Err f) = (f ≡ NoMemory) ⊎ ComesTo plan.plan said (Err f)
+
+-- the text has ended behind what was fed, or what refused it is told again
+abbrev pub IsFinished : Result OpenText SessionFault → Result Seen SessionFault → Type 0
+IsFinished (Ok t) answer = IsSessionFrom t.plan (outcome_of t [] true) answer
+IsFinished (Err f) answer = answer ≡ Err f

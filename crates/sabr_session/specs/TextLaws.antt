@@ -1,24 +1,41 @@
 -- Laws of session texts.
-use Rattle.std.specs.Prelude.{◌≡◌, ℕ, List}
-use Rattle.std.specs.List.{AllByRecursion}
-use Rattle.sabr_model.specs.Plan.{ContactPlan, IsPlan, IsNode}
+use Rattle.std.specs.Prelude.{◌≡◌, ℕ, Bool, true, List, Result, Ok}
+use Rattle.sabr_model.specs.Plan.{ContactPlan, IsPlan}
 use Rattle.sabr_model.specs.Arrival.{RouteRequest}
 use Rattle.sabr_model.specs.Asking.{IsRequest}
+use Rattle.sabr_plan.specs.Canonical.{digest_of}
 use Rattle.sabr_frontier.specs.State.{State}
 use Rattle.sabr_frontier.specs.Listing.{IsState}
 use Rattle.sabr_session.specs.SessionText.{text_of, old_text_of, HasText, IsUnlimited}
+use Rattle.sabr_session.specs.SessionRead.{IsSessionOf}
+use Rattle.sabr_session.specs.declared.session_fault.SessionFault.{SessionFault}
 
--- an accepted request: its avoided nodes are nodes, too
-abbrev pub IsAsked : RouteRequest → Type 0
-IsAsked r = IsRequest r × AllByRecursion IsNode r.avoided
+-- over a plan: an accepted request and a well-formed state that have a text
+pub record CanBeTold (p : ContactPlan) (r : RouteRequest) (s : State) : Type 0 where
+  pub accepted : IsRequest r
+  pub formed : IsState p r s
+  pub there : HasText s
+
+-- their text is read to exactly this request and this state; and so is that in version 1 of a request without limits
+pub record IsReadBack (p : ContactPlan) (r : RouteRequest) (s : State) : Type 0 where
+  pub text : IsSessionOf p (digest_of p) (text_of (digest_of p) r s) true (Ok (r, s))
+  pub old : IsUnlimited r → IsSessionOf p (digest_of p) (old_text_of (digest_of p) r s) true (Ok (r, s))
 
 -- where two texts of a version are equal, so are their requests and their states
 pub record AreApart (h : List ℕ) (r q : RouteRequest) (s t : State) : Type 0 where
   pub text : text_of h r s ≡ text_of h q t → (r ≡ q) × (s ≡ t)
   pub old : IsUnlimited r → IsUnlimited q → old_text_of h r s ≡ old_text_of h q t → (r ≡ q) × (s ≡ t)
 
--- of accepted requests and well-formed states over a plan that have texts
-abbrev pub TextsAreApart : Type 0
-TextsAreApart =
-    (p : ContactPlan) (h : List ℕ) (r q : RouteRequest) (s t : State) → IsPlan p → IsAsked r → IsAsked q
-    → IsState p r s → IsState p q t → HasText s → HasText t → AreApart h r q s t
+-- the texts over a plan: each is read to what it was written of, and no two are alike
+pub record TextsTell (p : ContactPlan) : Type 0 where
+  pub read_back : (r : RouteRequest) (s : State) → CanBeTold p r s → IsReadBack p r s
+  pub apart : (h : List ℕ) (r q : RouteRequest) (s t : State) → CanBeTold p r s → CanBeTold p q t → AreApart h r q s t
+
+abbrev pub TextsTellSessions : Type 0
+TextsTellSessions = (p : ContactPlan) → IsPlan p → TextsTell p
+
+-- at most one answer is that of a text
+abbrev pub HasOneAnswer : Type 0
+HasOneAnswer =
+    (p : ContactPlan) (h bytes : List ℕ) (ended : Bool) (a b : Result (RouteRequest × State) SessionFault)
+    → IsSessionOf p h bytes ended a → IsSessionOf p h bytes ended b → a ≡ b

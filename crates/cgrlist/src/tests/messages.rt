@@ -18,7 +18,7 @@ struct Row {
 // A row of a fault of a session.
 fn refused(fault: SessionFault, message: &'static str, status: Status) -> Row {
     Row {
-        failure: Failure::of_session(fault),
+        failure: Failure::from(fault),
         message,
         status,
     }

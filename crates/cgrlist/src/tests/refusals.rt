@@ -225,7 +225,6 @@ fn words_of_no_command_are_refused(rt: HostRuntime) -> Result<(), Fail> {
         "first --plan p --from 1 --to 3 --count 1",
         "check",
         "check --plan p --from 1",
-        "--help",
     ] {
         let outcome = run_line(&rt, line)?;
         assert_eq!(rt; outcome.status, Status::Usage, "{line}");

@@ -1,22 +1,31 @@
 //! Readers and writers of std, as devices.
 
+ghost use Rattle.std.specs.Prelude.{◌≡◌};
+
+use crate::devices::flush_mark::FlushMark;
 use crate::devices::traits::{Failed, Read, Write};
 use crate::ghost_count::GhostCount;
 use std::io;
 
-/// A reader or writer of std, with the count of its failures. Every error of std's becomes `Failed`.
+/// A reader or writer of std, with the count of its failures and the mark of its flushes. Every error of std's
+/// becomes `Failed`.
 #[derive(Drop)]
 pub struct Device<T> {
     inner: T,
     failures: GhostCount,
+    mark: FlushMark,
 }
 
 impl<T> Device<T> {
-    /// The reader or writer as a device, with no failure so far.
-    pub fn new(inner: T) -> Device<T> {
+    /// The reader or writer as a device, with no failure and no flush so far.
+    pub fn new(inner: T) -> Device<T>
+        ensures inner { result.inner ≡ inner }
+        ensures failures { result.failures.count ≡ 0 }
+    {
         Device {
             inner,
             failures: GhostCount::new(),
+            mark: FlushMark::pending(),
         }
     }
 }
@@ -42,7 +51,10 @@ impl<T: io::Write> Write for Device<T> {
 
     ghost failures = { λ d. d.failures.count };
 
+    ghost flushed = { λ d. d.mark.flushed };
+
     fn write(&mut self, buf: &[u8]) -> Result<usize, Failed> {
+        self.mark = FlushMark::pending();
         match self.inner.write(buf) {
             Ok(count) => {
                 if count == 0 && !buf.is_empty() {
@@ -59,8 +71,12 @@ impl<T: io::Write> Write for Device<T> {
 
     fn flush(&mut self) -> Result<(), Failed> {
         match self.inner.flush() {
-            Ok(()) => Ok(()),
+            Ok(()) => {
+                self.mark = FlushMark::done();
+                Ok(())
+            }
             Err(_) => {
+                self.mark = FlushMark::pending();
                 self.failures.add();
                 Err(Failed)
             }

@@ -1,6 +1,6 @@
 //! The traits of a reader and of a writer.
 
-ghost use Rattle.std.specs.Prelude.{◌≡◌, ℕ, ◌+◌, ◌≤◌, List, Option, length, IfOk};
+ghost use Rattle.std.specs.Prelude.{◌≡◌, ℕ, ◌+◌, ◌≤◌, Bool, List, Option, length, IfOk, IsTrue};
 ghost use Rattle.std.specs.Io.KnownBytes.{Keeps, ReadConsumes, WriteAppends};
 ghost use Rattle.sabr_model.specs.Devices.{call_faults, write_faults};
 
@@ -29,13 +29,17 @@ pub trait Read {
 
 /// A writer of bytes.
 ///
-/// A contract sees the bytes that were taken, where the writer tells them, and the count of its failures.
+/// A contract sees the bytes that were taken, where the writer tells them, the count of its failures, and
+/// whether all that it took was flushed.
 pub trait Write {
     /// The bytes that were taken, where the writer tells them.
     ghost contents: { Self → Option (List ℕ) };
 
     /// How often the writer has failed.
     ghost failures: { Self → ℕ };
+
+    /// Whether all that was taken was flushed: known behind a `flush` that answered `Ok`, until the next call.
+    ghost flushed: { Self → Bool };
 
     /// Takes bytes from the front of the piece and answers how many.
     ///
@@ -49,5 +53,6 @@ pub trait Write {
     /// Hands on what the writer may still hold back. `Failed` counts as one failure.
     fn flush(&mut self) -> Result<(), Failed>
         ensures bytes { Keeps (contents self.old) (contents self.new) }
-        ensures count { failures self.new ≡ failures self.old + call_faults result };
+        ensures count { failures self.new ≡ failures self.old + call_faults result }
+        ensures mark { IfOk result (λ _. IsTrue (flushed self.new)) };
 }

@@ -13,7 +13,7 @@ use std::test::Fail;
 /// 2030-01-01T00:00:00Z.
 const BEGIN: u64 = 1893456000;
 
-const PLAN_A: &[u8] = b"\
+pub(super) const PLAN_A: &[u8] = b"\
 @ 2030/01/01-00:00:00\n\
 a range +0 +1000 1 2 10\n\
 a range +0 +1000 2 3 5\n\
@@ -23,7 +23,7 @@ a contact +20 +60 2 3 1000\n\
 a contact +50 +90 1 3 1000\n\
 a contact +0 +200 2 3 1000\n";
 
-const PLAN_C: &[u8] = b"\
+pub(super) const PLAN_C: &[u8] = b"\
 @ 2030/01/01-00:00:00\n\
 a range +0 +1000 1 2 0\n\
 a range +0 +1000 2 3 0\n\

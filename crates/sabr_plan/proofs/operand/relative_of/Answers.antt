@@ -15,7 +15,7 @@ use Rattle.sabr_plan.proofs.operand.relative_of.Goals as goal
 small : (digits : List ℕ) → length digits ≤ 12 → small_value digits ≡ cond (are_digits digits) (Some (digits_value digits)) None
 small digits short =
     (elim (are_digits digits) as (λ b. are_digits digits ≡ b → cond (b && ltb (digits_value digits) 18446744073709551616) (Some (digits_value digits)) None ≡ cond b (Some (digits_value digits)) None) [
-      | true ↦ λ e. rw (lt-ltb _ _ (few_digits digits (and_parts (ltb 0 (length digits)) (list_all is_digit digits) e).1 short)) refl
+      | true ↦ λ e. rw (lt-ltb _ _ (few_digits digits (and_parts (ltb 0 (length digits)) (list_all is_digit digits) e).1 (omega arith))) refl
       | false ↦ λ e. refl
     ]) refl
 

@@ -23,7 +23,7 @@ returns-in_err-put_count g c =
     let parts : List ℕ = codes "\nparts " ++ decimal (length s.parts) in
     let newline : List ℕ = codes "\n" in
     (Gathers-after _ _ _ _ _ _ _ _ _ label (given ++ (latest ++ (parts ++ newline))) _ c.in_ok-put.ensures
-    (Gathers-stopped _ _ _ _ _ _ _ given (latest ++ (parts ++ newline)) c.from_residual-in_err-put_count.result c.from_residual-in_err-put_count.ensures.1 (rw c.emitted.ensures at c.in_err-put_count.ensures)))
+    (Gathers-stopped _ _ _ _ _ _ _ given (latest ++ (parts ++ newline)) c.from_residual-in_err-put_count.result c.from_residual-in_err-put_count.ensures.1 (rw c.emitted.ensures.count at c.in_err-put_count.ensures)))
 
 pub returns-in_err-put_list : goal.returns-in_err-put_list
 returns-in_err-put_list g c =
@@ -34,7 +34,7 @@ returns-in_err-put_list g c =
     let parts : List ℕ = codes "\nparts " ++ decimal (length s.parts) in
     let newline : List ℕ = codes "\n" in
     (Gathers-after _ _ _ _ _ _ _ _ _ label (given ++ (latest ++ (parts ++ newline))) _ c.in_ok-put.ensures
-    (Gathers-after _ _ _ _ _ _ _ _ _ given (latest ++ (parts ++ newline)) _ (rw c.emitted.ensures at c.in_ok-put_count.ensures)
+    (Gathers-after _ _ _ _ _ _ _ _ _ given (latest ++ (parts ++ newline)) _ (rw c.emitted.ensures.count at c.in_ok-put_count.ensures)
     (Gathers-stopped _ _ _ _ _ _ _ latest (parts ++ newline) c.from_residual-in_err-put_list.result c.from_residual-in_err-put_list.ensures.1 (rw c.last.ensures at c.in_err-put_list.ensures))))
 
 pub returns-in_err-put_number : goal.returns-in_err-put_number
@@ -46,7 +46,7 @@ returns-in_err-put_number g c =
     let parts : List ℕ = codes "\nparts " ++ decimal (length s.parts) in
     let newline : List ℕ = codes "\n" in
     (Gathers-after _ _ _ _ _ _ _ _ _ label (given ++ (latest ++ (parts ++ newline))) _ c.in_ok-put.ensures
-    (Gathers-after _ _ _ _ _ _ _ _ _ given (latest ++ (parts ++ newline)) _ (rw c.emitted.ensures at c.in_ok-put_count.ensures)
+    (Gathers-after _ _ _ _ _ _ _ _ _ given (latest ++ (parts ++ newline)) _ (rw c.emitted.ensures.count at c.in_ok-put_count.ensures)
     (Gathers-after _ _ _ _ _ _ _ _ _ latest (parts ++ newline) _ (rw c.last.ensures at c.in_ok-put_list.ensures)
     (Gathers-stopped _ _ _ _ _ _ _ parts newline c.from_residual-in_err-put_number.result c.from_residual-in_err-put_number.ensures.1 (rw c.part_count.ensures at c.in_err-put_number.ensures)))))
 
@@ -59,7 +59,7 @@ returns g c =
     let parts : List ℕ = codes "\nparts " ++ decimal (length s.parts) in
     let newline : List ℕ = codes "\n" in
     (Gathers-after _ _ _ _ _ _ _ _ _ label (given ++ (latest ++ (parts ++ newline))) _ c.in_ok-put.ensures
-    (Gathers-after _ _ _ _ _ _ _ _ _ given (latest ++ (parts ++ newline)) _ (rw c.emitted.ensures at c.in_ok-put_count.ensures)
+    (Gathers-after _ _ _ _ _ _ _ _ _ given (latest ++ (parts ++ newline)) _ (rw c.emitted.ensures.count at c.in_ok-put_count.ensures)
     (Gathers-after _ _ _ _ _ _ _ _ _ latest (parts ++ newline) _ (rw c.last.ensures at c.in_ok-put_list.ensures)
     (Gathers-after _ _ _ _ _ _ _ _ _ parts newline _ (rw c.part_count.ensures at c.in_ok-put_number.ensures)
     c.put-2.ensures))))

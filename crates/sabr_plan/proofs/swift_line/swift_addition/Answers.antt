@@ -1,0 +1,28 @@
+-- An addition that is spelled plainly is what the words of its line say.
+use Rattle.std.proofs.Common.{◌≡◌, ℕ, List, Option, Ok, true, ◌++◌, refl, ap, ◌∙◌}
+use Rattle.std.specs.Prelude.{codes}
+use Rattle.std.specs.List.{list_all}
+use Rattle.std.proofs.lemmas.Bool.{and_parts}
+use Rattle.sabr_plan.specs.Words.{is_plain, words_of}
+use Rattle.sabr_plan.specs.PlainWords.{start_of, is_plain_from_space}
+use Rattle.sabr_plan.specs.Commands.{addition_of, line_command}
+use Rattle.sabr_plan.specs.declared.command.Addition.{Addition}
+use Rattle.sabr_plan.specs.declared.command.Command.TheVariants.{Add}
+use Rattle.sabr_plan.specs.declared.command.Target.{Target}
+use Rattle.sabr_plan.specs.declared.command.Target.TheVariants.{Contact, Range}
+use Rattle.sabr_plan.proofs.PlainWords.{commanded}
+use Rattle.sabr_plan.proofs.swift_line.swift_addition.Goals as goal
+
+said : (reference : Option ℕ) (target : Target) (text : List ℕ) (a : Addition) → addition_of reference target (words_of text) ≡ Ok (Add target a) → is_plain_from_space text ≡ true → line_command reference (start_of target ++ text) ≡ Ok (Add target a)
+unfolding line_command
+said reference Contact text a value plain =
+    let bytes : list_all is_plain text ≡ true = (and_parts _ _ plain).1 in
+    rw (bytes, commanded (codes "contact") text refl plain) value
+said reference Range text a value plain =
+    let bytes : list_all is_plain text ≡ true = (and_parts _ _ plain).1 in
+    rw (bytes, commanded (codes "range") text refl plain) value
+
+pub returns-clause-value : goal.returns-clause-value
+returns-clause-value c =
+    let h = c.in_ok-addition.ensures in
+    ap (line_command c.args.reference) c.in_ok-target.ensures ∙ said c.args.reference c.in_ok-target.target c.in_ok-target.text.now c.in_ok-addition.addition h.value h.plain

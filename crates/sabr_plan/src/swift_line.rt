@@ -1,0 +1,107 @@
+//! Additions that are spelled plainly, with single spaces and relative times, read in one pass. Of all other lines nothing is said.
+
+ghost use Rattle.std.specs.Prelude.{◌≡◌, ◌<◌, ◌≤◌, ◌++◌, Ok, Some, IfSome, IsTrue, length};
+ghost use Rattle.std.specs.List.{list_all};
+ghost use Rattle.sabr_model.specs.Plan.{last_time};
+ghost use Rattle.sabr_plan.specs.Digits.{is_digit, digits_value, number_between};
+ghost use Rattle.sabr_plan.specs.PlainWords.{start_of, is_plain_from_space, IsAhead};
+ghost use Rattle.sabr_plan.specs.Operands.{time_at, greatest_value};
+ghost use Rattle.sabr_plan.specs.Commands.{line_command, addition_of, HasBounds};
+ghost use Rattle.sabr_plan.specs.Words.{words_of};
+ghost use Rattle.sabr_plan.specs.declared.command.Command.TheVariants.{Add};
+
+use crate::command::{Addition, Command, Target};
+use crate::number::leads_with_zero;
+use crate::operand::{after_reference, greatest_value};
+
+/// The digits at the front of a text, at most 19, the number that they stand for, and what comes behind them.
+fn leading_digits(text: &[u8]) -> (u64, &[u8], &[u8])
+    ensures parts { text.now ≡ result.1.now ++ result.2.now }
+    ensures value { result.0 ≡ digits_value result.1.now }
+    ensures digits { IsTrue (list_all is_digit result.1.now) }
+    ensures most { length result.1.now ≤ 19 }
+{
+    let most = text.len().min(19);
+    let mut value: u64 = 0;
+    let mut count = 0;
+    while count < most && text[count].is_ascii_digit() {
+        value = value * 10 + (text[count] - b'0') as u64;
+        count += 1;
+    }
+    let (digits, rest) = text.split_at(count);
+    (value, digits, rest)
+}
+
+/// The number behind the space that a text begins with, and what comes behind it.
+#[inline(always)]
+fn number_ahead(low: u64, high: u64, text: &[u8]) -> Option<(u64, &[u8])>
+    ensures word { IfSome result (λ r. IsAhead (λ w. number_between low high w ≡ Some r.0) text.now r.1.now) }
+    ensures bounds { IfSome result (λ r. (low ≤ r.0) × (r.0 ≤ high)) }
+{
+    let behind = text.strip_prefix(b" ")?;
+    let (value, word, rest) = leading_digits(behind);
+    if word.is_empty() || leads_with_zero(word) || value < low || high < value {
+        return None;
+    }
+    Some((value, rest))
+}
+
+/// The relative time behind the space that a text begins with, and what comes behind it.
+fn time_ahead(reference: Option<u64>, text: &[u8]) -> Option<(u64, &[u8])>
+    ensures word { IfSome result (λ r. IsAhead (λ w. time_at reference w ≡ Ok r.0) text.now r.1.now) }
+    ensures bound { IfSome result (λ r. r.0 ≤ last_time) }
+{
+    let behind = text.strip_prefix(b" +")?;
+    let (seconds, digits, rest) = leading_digits(behind);
+    if digits.is_empty() || digits.len() > 12 {
+        return None;
+    }
+    let Ok(time) = after_reference(reference, seconds) else {
+        return None;
+    };
+    Some((time, rest))
+}
+
+/// What stands behind `a contact` or `a range`.
+fn operands_ahead(reference: Option<u64>, target: Target, text: &[u8]) -> Option<Addition>
+    ensures value { IfSome result (λ a. addition_of reference target (words_of text.now) ≡ Ok (Add target a)) }
+    ensures bounds { IfSome result (λ a. HasBounds (Add target a)) }
+    ensures plain { IfSome result (λ _. IsTrue (is_plain_from_space text.now)) }
+{
+    let (start, rest) = time_ahead(reference, text)?;
+    let (end, rest) = time_ahead(reference, rest)?;
+    let (first, rest) = number_ahead(1, u64::MAX, rest)?;
+    let (second, rest) = number_ahead(1, u64::MAX, rest)?;
+    let (value, rest) = number_ahead(0, greatest_value(target), rest)?;
+    if !rest.is_empty() {
+        return None;
+    }
+    Some(Addition {
+        start,
+        end,
+        first,
+        second,
+        value,
+    })
+}
+
+/// The target of an addition that a line begins with, and what comes behind it.
+fn target_ahead(line: &[u8]) -> Option<(Target, &[u8])>
+    ensures { IfSome result (λ r. line.now ≡ start_of r.0 ++ r.1.now) }
+{
+    if let Some(text) = line.strip_prefix(b"a contact") {
+        return Some((Target::Contact, text));
+    }
+    let text = line.strip_prefix(b"a range")?;
+    Some((Target::Range, text))
+}
+
+/// What a line says that is a plainly spelled addition. None for all other lines.
+pub fn swift_addition(reference: Option<u64>, line: &[u8]) -> Option<Command>
+    ensures value { IfSome result (λ c. line_command reference line.now ≡ Ok c) }
+    ensures bounds { IfSome result HasBounds }
+{
+    let (target, text) = target_ahead(line)?;
+    let addition = operands_ahead(reference, target, text)?;
+    Some(Command::Add(target, addition))
+}

@@ -1,0 +1,71 @@
+-- What pieces of a session text come to, fed one after the other.
+use Rattle.std.proofs.Common.{◌≡◌, ◌≢◌, ℕ, Bool, true, false, ◌⊎◌, inl, inr, List, [], ◌∷◌, ◌++◌, refl, sym, ap, ◌∙◌, append_assoc, append-nil, Result, Ok, Err}
+use Rattle.sabr_model.specs.Plan.{TabledPlan}
+use Rattle.sabr_plan.specs.Canonical.{digest_of}
+use Rattle.sabr_frontier.specs.Session.{Seen}
+use Rattle.sabr_session.specs.SessionFed.{OpenText, opened_over, outcome_of, IsFed, IsFinished, IsSessionFrom}
+use Rattle.sabr_session.specs.SessionGiven.{said_over}
+use Rattle.sabr_session.specs.FedInTurn.{AreFed, bytes_of, IsAnswerSoFar, PiecesAreOneText}
+use Rattle.sabr_session.specs.declared.session_fault.SessionFault.{SessionFault}
+use Rattle.sabr_session.specs.declared.session_fault.SessionFault.TheVariants as fault
+use Rattle.sabr_session.proofs.SessionOutcomes.{said_of-outcome}
+
+-- behind these bytes, what was fed comes to what they come to
+abbrev SoFar : TabledPlan → List ℕ → Result OpenText SessionFault → Type 0
+SoFar plan bytes (Ok t) = (t.plan ≡ plan) × ((more : List ℕ) (ended : Bool) → said_over plan (bytes ++ more) ended ≡ outcome_of t more ended)
+SoFar plan bytes (Err f) = (f ≡ fault.NoMemory) ⊎ ((f ≢ fault.Read) × ((more : List ℕ) (ended : Bool) → said_over plan (bytes ++ more) ended ≡ Err f))
+
+module _ (plan : TabledPlan) where
+  behind_all : (bytes : List ℕ) (ended : Bool) → said_over plan bytes ended ≡ said_over plan (bytes ++ []) ended
+  behind_all bytes ended = ap (λ b. said_over plan b ended) (sym (append-nil bytes))
+
+  regrouped : (bytes piece more : List ℕ) (ended : Bool) → said_over plan ((bytes ++ piece) ++ more) ended ≡ said_over plan (bytes ++ (piece ++ more)) ended
+  regrouped bytes piece more ended = ap (λ b. said_over plan b ended) (append_assoc bytes piece more)
+
+  -- a piece more
+  piece_fed : (bytes piece : List ℕ) (old new : Result OpenText SessionFault) (answer : Result (Unit {0}) SessionFault) → SoFar plan bytes old → IsFed old piece answer new → SoFar plan (bytes ++ piece) new × IsAnswerSoFar plan (bytes ++ piece) answer
+  piece_fed bytes piece (Ok t) (Ok s) (Ok u) so fed =
+      let same : (more : List ℕ) (ended : Bool) → said_over plan ((bytes ++ piece) ++ more) ended ≡ outcome_of s more ended = λ more ended. regrouped bytes piece more ended ∙ so.1 (piece ++ more) ended ∙ fed.same more ended in
+      ((fed.plan ∙ so.0, same), behind_all (bytes ++ piece) false ∙ same [] false ∙ fed.fine)
+  piece_fed bytes piece (Ok t) (Err g) (Ok u) so fed = absurd fed
+  piece_fed bytes piece (Ok t) (Ok s) (Err f) so fed = absurd cc
+  piece_fed bytes piece (Ok t) (Err g) (Err f) so fed = by_refusal fed.1
+    where
+      by_refusal : (f ≡ fault.NoMemory) ⊎ ((f ≢ fault.Read) × ((more : List ℕ) (ended : Bool) → outcome_of t (piece ++ more) ended ≡ Err f)) → SoFar plan (bytes ++ piece) (Err g) × IsAnswerSoFar plan (bytes ++ piece) (Err f)
+      by_refusal (inl memory) = let same : g ≡ f = (let e = fed.0 in cc) in (inl (same ∙ memory), inl memory)
+      by_refusal (inr (other, refused)) =
+          let same : g ≡ f = (let e = fed.0 in cc) in
+          let all : (more : List ℕ) (ended : Bool) → said_over plan ((bytes ++ piece) ++ more) ended ≡ Err f = λ more ended. regrouped bytes piece more ended ∙ so.1 (piece ++ more) ended ∙ refused more ended in
+          (inr (rw same other, rw same all), inr (other, behind_all (bytes ++ piece) false ∙ all [] false))
+  piece_fed bytes piece (Err g) new (Ok u) so fed = absurd fed
+  piece_fed bytes piece (Err g) (Ok s) (Err f) so fed = absurd cc
+  piece_fed bytes piece (Err g) (Err e) (Err f) so fed = by_refusal so
+    where
+      by_refusal : SoFar plan bytes (Err g) → SoFar plan (bytes ++ piece) (Err e) × IsAnswerSoFar plan (bytes ++ piece) (Err f)
+      by_refusal (inl memory) = let same : e ≡ g = (let is = fed.1 in cc) in (inl (same ∙ memory), inl (fed.0 ∙ memory))
+      by_refusal (inr (other, refused)) =
+          let same : e ≡ g = (let is = fed.1 in cc) in
+          let all : (more : List ℕ) (ended : Bool) → said_over plan ((bytes ++ piece) ++ more) ended ≡ Err g = λ more ended. regrouped bytes piece more ended ∙ refused (piece ++ more) ended in
+          (inr (rw same other, rw same all), inr (rw fed.0 other, behind_all (bytes ++ piece) false ∙ rw fed.0 (all [] false)))
+
+  -- one piece after the other
+  all_fed : (bytes : List ℕ) (fed : List (List ℕ × Result (Unit {0}) SessionFault)) (old new : Result OpenText SessionFault) → SoFar plan bytes old → AreFed old fed new → SoFar plan (bytes ++ bytes_of fed) new
+  all_fed bytes [] old new so are = rw (append-nil bytes, are) so
+  all_fed bytes (f ∷ fed) old new so (mid, first, rest) =
+      rw (← append_assoc bytes f.0 (bytes_of fed)) (all_fed (bytes ++ f.0) fed mid new (piece_fed bytes f.0 old mid f.1 so first).0 rest)
+
+  -- the end
+  ended_so : (bytes : List ℕ) (old : Result OpenText SessionFault) (answer : Result Seen SessionFault) → SoFar plan bytes old → IsFinished old answer → IsSessionFrom plan (said_over plan bytes true) answer
+  ended_so bytes (Ok t) answer so finished = rw (behind_all bytes true, so.1 [] true, ← so.0) finished
+  ended_so bytes (Err f) answer (inl memory) finished = rw finished (inl memory)
+  ended_so bytes (Err f) answer (inr (other, refused)) finished = rw (finished, behind_all bytes true, refused [] true) (inr refl)
+
+-- pieces are one text
+pub pieces_joined : PiecesAreOneText
+pieces_joined plan calls fed old are =
+    let start : SoFar plan [] (Ok (opened_over plan calls)) = (refl, λ more ended. said_of-outcome plan.plan (digest_of plan.plan) more ended) in
+    let so : SoFar plan (bytes_of fed) old = all_fed plan [] fed (Ok (opened_over plan calls)) old start are in
+    record {
+      piece = λ piece answer new is. (piece_fed plan (bytes_of fed) piece old new answer so is).1;
+      end = λ answer finished. ended_so plan (bytes_of fed) old answer so finished;
+    }

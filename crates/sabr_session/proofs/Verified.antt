@@ -1,0 +1,147 @@
+-- The texts of places are those that are read as a state of their place.
+use Rattle.std.proofs.Common.{◌≡◌, ℕ, ◌+◌, Bool, true, false, ◌⊎◌, inl, inr, ◌↔◌, List, ◌++◌, refl, sym, subst, ap, ◌∙◌, Option, Result, Ok, Err}
+use Rattle.sabr_model.specs.Plan.{ContactPlan, TabledPlan, IsPlan}
+use Rattle.sabr_model.specs.Arrival.{RouteRequest}
+use Rattle.sabr_model.specs.Asking.{IsRequest}
+use Rattle.sabr_plan.specs.Canonical.{digest_of}
+use Rattle.sabr_frontier.specs.State.{State}
+use Rattle.sabr_frontier.specs.Listing.{IsState, state_at}
+use Rattle.sabr_frontier.specs.Session.{Seen}
+use Rattle.sabr_frontier.proofs.PlacesFormed.{emitted_at, place_within, state_at_formed}
+use Rattle.sabr_session.specs.SessionText.{HasText}
+use Rattle.sabr_session.specs.SessionRead.{Said, said_of, state_of, ComesTo, IsSessionOf}
+use Rattle.sabr_session.specs.SessionGiven.{ReadsSession, EndsText, BreaksText, RefusesText}
+use Rattle.sabr_session.specs.Verifying.{IsSessionText, EndsVerified, BreaksVerified, RefusesVerified, VerifiesText}
+use Rattle.sabr_session.specs.declared.session_fault.SessionFault.{SessionFault}
+use Rattle.sabr_session.specs.declared.session_fault.SessionFault.TheVariants.{Read, NoMemory}
+use Rattle.sabr_session.proofs.OneAnswer.{is_read_back}
+use Rattle.sabr_session.proofs.TextsTold.{IsTextOf, text_told}
+
+module _ (p : ContactPlan) (good : IsPlan p) where
+  -- what the lines say of a text that is read
+  record IsRead (bytes : List ℕ) (r : RouteRequest) (s : State) : Type 0 where
+    pub said : Said
+    pub are : said_of p (digest_of p) bytes true ≡ Ok said
+    pub request : said.request ≡ r
+    pub state : state_of said ≡ s
+    pub formed : IsState p said.request (state_of said)
+
+  is_read : (bytes : List ℕ) (r : RouteRequest) (s : State) → IsSessionOf p (digest_of p) bytes true (Ok (r, s)) → IsRead bytes r s
+  is_read bytes r s h = by_said (said_of p (digest_of p) bytes true) refl h
+    where
+      by_said : (o : Result Said SessionFault) → said_of p (digest_of p) bytes true ≡ o → ComesTo p o (Ok (r, s)) → IsRead bytes r s
+      by_said (Err f) is h = absurd cc
+      by_said (Ok t) is h = record {
+        said = t;
+        are = is;
+        request = sym (ap (λ (x : RouteRequest × State). x.0) h.0);
+        state = sym (ap (λ (x : RouteRequest × State). x.1) h.0);
+        formed = h.1;
+      }
+
+  -- a text of an accepted request and a well-formed state is read as these
+  read_back : (bytes : List ℕ) (r : RouteRequest) (s : State) → IsRequest r → IsState p r s → HasText s → IsTextOf p (digest_of p) bytes r s → IsRead bytes r s
+  read_back bytes r s asked is there text =
+      let back = is_read_back p good r s (record { accepted = asked; formed = is; there = there }) in
+      let reads : List ℕ → Type 0 = λ b. IsSessionOf p (digest_of p) b true (Ok (r, s)) in
+      is_read bytes r s (elim text [ inl e ↦ subst reads (sym e) back.text | inr e ↦ subst reads (sym e.1) (back.old e.0) ])
+
+  -- what is read as the state of its place is the text of it
+  text_of_place : (bytes : List ℕ) (r : RouteRequest) (s : State) → IsSessionOf p (digest_of p) bytes true (Ok (r, s)) → IsRequest r → s ≡ state_at p r s.emitted → IsSessionText p bytes
+  text_of_place bytes r s h asked e =
+      let is = is_read bytes r s h in
+      let told = text_told p (digest_of p) bytes is.said is.are in
+      let text : IsTextOf p (digest_of p) bytes r s = subst (λ (u : State). IsTextOf p (digest_of p) bytes r u) is.state (subst (λ (q : RouteRequest). IsTextOf p (digest_of p) bytes q (state_of is.said)) is.request told.1) in
+      record {
+        request = r;
+        place = s.emitted;
+        accepted = asked;
+        within = place_within p r s e;
+        there = subst HasText (is.state ∙ e) told.0;
+        spelled = subst (λ (u : State). IsTextOf p (digest_of p) bytes r u) e text;
+      }
+
+  -- the text of a place is read as the state of it
+  place_read : (bytes : List ℕ) (x : IsSessionText p bytes) → IsRead bytes x.request (state_at p x.request x.place)
+  place_read bytes x = read_back bytes x.request (state_at p x.request x.place) x.accepted (state_at_formed p x.request good x.place x.within) x.there x.spelled
+
+  place_of_text : (bytes : List ℕ) (r : RouteRequest) (s : State) → IsSessionOf p (digest_of p) bytes true (Ok (r, s)) → IsSessionText p bytes → s ≡ state_at p r s.emitted
+  place_of_text bytes r s h x =
+      let is = is_read bytes r s h in
+      let back = place_read bytes x in
+      let same : is.said ≡ back.said = (let a = is.are in let b = back.are in cc) in
+      let request : r ≡ x.request = sym is.request ∙ ap (λ (t : Said). t.request) same ∙ back.request in
+      let state : s ≡ state_at p x.request x.place = sym is.state ∙ ap state_of same ∙ back.state in
+      let count : s.emitted ≡ x.place = ap (λ (t : State). t.emitted) state ∙ emitted_at p x.request x.place x.within in
+      state ∙ ap (λ (q : RouteRequest). state_at p q x.place) (sym request) ∙ ap (state_at p r) (sym count)
+
+  -- it isn't refused
+  place_accepted : (bytes : List ℕ) (f : SessionFault) → IsSessionText p bytes → ComesTo p (said_of p (digest_of p) bytes true) (Err f) → ⊥
+  place_accepted bytes f x h =
+      let back = place_read bytes x in
+      refused back.said back.formed (subst (λ (o : Result Said SessionFault). ComesTo p o (Err f)) back.are h)
+    where
+      refused : (t : Said) → IsState p t.request (state_of t) → ComesTo p (Ok t) (Err f) → ⊥
+      refused t formed (inl a) = a.1 formed.closed
+      refused t formed (inr b) = b.2 formed
+
+module _ (plan : TabledPlan) (good : IsPlan plan.plan) (old : Option (List ℕ)) (before : ℕ) (new : Option (List ℕ)) (after : ℕ) where
+  -- a session was read, and certified
+  pub session_verified : (s : Seen) → ReadsSession plan old before (Ok s) new after → IsRequest s.request → (said_yes : Bool) → (said_yes ≡ true ↔ s.state ≡ state_at s.plan.plan s.request s.state.emitted) → VerifiesText plan.plan old before (Ok said_yes) new after
+  session_verified s h asked said_yes placed = record { given = h.given; consumed = h.consumed; told = by_end h.told }
+    where
+      by_end : EndsText plan h.given before (Ok s) new after ⊎ (BreaksText plan h.given before (Ok s) after ⊎ RefusesText plan h.given before (Ok s) after)
+          → EndsVerified plan.plan h.given before (Ok said_yes) new after ⊎ (BreaksVerified before (Ok said_yes) after ⊎ RefusesVerified plan.plan h.given before (Ok said_yes) after)
+      by_end (inr (inl bad)) = absurd bad
+      by_end (inr (inr bad)) = absurd bad
+      by_end (inl e) =
+          let same : s.plan ≡ plan = ap (λ (t : Seen). t.plan) e.2.0 in
+          let there = λ (t : said_yes ≡ true). placed.0 t ∙ ap (λ (q : TabledPlan). state_at q.plan s.request s.state.emitted) same in
+          inl (
+            e.0,
+            e.1,
+            (
+              λ t. text_of_place plan.plan good h.given s.request s.state e.2.1 asked (there t),
+              λ x. placed.1 (place_of_text plan.plan good h.given s.request s.state e.2.1 x ∙ ap (λ (q : TabledPlan). state_at q.plan s.request s.state.emitted) (sym same)),
+            ),
+          )
+
+  -- and memory was refused for certifying it
+  pub session_refused : (s : Seen) → ReadsSession plan old before (Ok s) new after → VerifiesText plan.plan old before (Err NoMemory) new after
+  session_refused s h = record { given = h.given; consumed = h.consumed; told = by_end h.told }
+    where
+      by_end : EndsText plan h.given before (Ok s) new after ⊎ (BreaksText plan h.given before (Ok s) after ⊎ RefusesText plan h.given before (Ok s) after)
+          → EndsVerified plan.plan h.given before (Err NoMemory) new after ⊎ (BreaksVerified before (Err NoMemory) after ⊎ RefusesVerified plan.plan h.given before (Err NoMemory) after)
+      by_end (inl e) = inl (e.1, refl)
+      by_end (inr (inl bad)) = absurd bad
+      by_end (inr (inr bad)) = absurd bad
+
+  -- reading was refused
+  pub fault_verified : (f : SessionFault) → ReadsSession plan old before (Err f) new after → (f ≡ Read → ⊥) → (f ≡ NoMemory → ⊥) → VerifiesText plan.plan old before (Ok false) new after
+  fault_verified f h other known = record { given = h.given; consumed = h.consumed; told = by_end h.told }
+    where
+      by_end : EndsText plan h.given before (Err f) new after ⊎ (BreaksText plan h.given before (Err f) after ⊎ RefusesText plan h.given before (Err f) after)
+          → EndsVerified plan.plan h.given before (Ok false) new after ⊎ (BreaksVerified before (Ok false) after ⊎ RefusesVerified plan.plan h.given before (Ok false) after)
+      by_end (inl e) = elim e.2 [
+        | inl memory ↦ absurd (known memory)
+        | inr told ↦ inl (e.0, e.1, ((λ t. absurd cc), (λ x. absurd (place_accepted plan.plan good h.given f x told))))
+      ]
+      by_end (inr (inl e)) = absurd (other e.1)
+      by_end (inr (inr e)) = elim e.1 [
+        | inl memory ↦ absurd (known memory)
+        | inr told ↦ inr (inr (e.0, refl, (λ more x. place_accepted plan.plan good (h.given ++ more) f x (subst (λ (o : Result Said SessionFault). ComesTo plan.plan o (Err f)) (sym (told.1 more true)) refl))))
+      ]
+
+  -- the reader failed
+  pub read_verified : ReadsSession plan old before (Err Read) new after → after ≡ before + 1 → VerifiesText plan.plan old before (Err Read) new after
+  read_verified h failed = record { given = h.given; consumed = h.consumed; told = inr (inl (failed, refl)) }
+
+  -- memory was refused while reading
+  pub memory_verified : ReadsSession plan old before (Err NoMemory) new after → VerifiesText plan.plan old before (Err NoMemory) new after
+  memory_verified h = record { given = h.given; consumed = h.consumed; told = by_end h.told }
+    where
+      by_end : EndsText plan h.given before (Err NoMemory) new after ⊎ (BreaksText plan h.given before (Err NoMemory) after ⊎ RefusesText plan h.given before (Err NoMemory) after)
+          → EndsVerified plan.plan h.given before (Err NoMemory) new after ⊎ (BreaksVerified before (Err NoMemory) after ⊎ RefusesVerified plan.plan h.given before (Err NoMemory) after)
+      by_end (inl e) = inl (e.1, refl)
+      by_end (inr (inl e)) = absurd (let bad : ◌≡◌ {A = SessionFault} NoMemory Read = e.1 in cc)
+      by_end (inr (inr e)) = inr (inr (e.0, refl))

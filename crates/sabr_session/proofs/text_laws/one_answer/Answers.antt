@@ -1,0 +1,5 @@
+use Rattle.sabr_session.proofs.OneAnswer.{answers_once}
+use Rattle.sabr_session.proofs.text_laws.one_answer.Goals as goal
+
+pub returns : goal.returns
+returns c = answers_once

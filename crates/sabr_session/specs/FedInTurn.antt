@@ -1,0 +1,34 @@
+-- Pieces of a session text, fed one after the other, are one text.
+use Rattle.std.specs.Prelude.{◌≡◌, ◌≢◌, ℕ, Bool, true, false, List, [], ◌∷◌, ◌++◌, flat_map, Result, Ok, Err, ◌⊎◌}
+use Rattle.sabr_model.specs.Plan.{TabledPlan}
+use Rattle.sabr_frontier.specs.Session.{Seen}
+use Rattle.sabr_session.specs.SessionFed.{OpenText, opened_over, IsFed, IsFinished, IsSessionFrom}
+use Rattle.sabr_session.specs.SessionGiven.{said_over}
+use Rattle.sabr_session.specs.declared.session_fault.SessionFault.{SessionFault}
+use Rattle.sabr_session.specs.declared.session_fault.SessionFault.TheVariants.{Read, NoMemory}
+
+-- pieces and their answers: each was fed behind the one before it
+abbrev pub AreFed : Result OpenText SessionFault → List (List ℕ × Result (Unit {0}) SessionFault) → Result OpenText SessionFault → Type 0
+AreFed old [] new = new ≡ old
+AreFed old (fed ∷ more) new = (mid : Result OpenText SessionFault) × IsFed old fed.0 fed.1 mid × AreFed mid more new
+
+-- the bytes of the pieces
+abbrev pub bytes_of : List (List ℕ × Result (Unit {0}) SessionFault) → List ℕ
+bytes_of fed = flat_map (λ f. f.0) fed
+
+-- how a piece is answered where these are the bytes so far: Ok where Read would be told if the reader failed behind them,
+-- else the fault that would be, or want of memory
+abbrev pub IsAnswerSoFar : TabledPlan → List ℕ → Result (Unit {0}) SessionFault → Type 0
+IsAnswerSoFar plan bytes (Ok u) = said_over plan bytes false ≡ Err Read
+IsAnswerSoFar plan bytes (Err f) = (f ≡ NoMemory) ⊎ ((f ≢ Read) × (said_over plan bytes false ≡ Err f))
+
+-- behind these pieces, the next is answered by all bytes so far, and so is the end
+pub record IsOneText (plan : TabledPlan) (fed : List (List ℕ × Result (Unit {0}) SessionFault)) (old : Result OpenText SessionFault) : Type 0 where
+  pub piece : (piece : List ℕ) (answer : Result (Unit {0}) SessionFault) (new : Result OpenText SessionFault) → IsFed old piece answer new → IsAnswerSoFar plan (bytes_of fed ++ piece) answer
+  pub end : (answer : Result Seen SessionFault) → IsFinished old answer → IsSessionFrom plan (said_over plan (bytes_of fed) true) answer
+
+-- for whatever pieces
+abbrev pub PiecesAreOneText : Type 0
+PiecesAreOneText =
+    (plan : TabledPlan) (calls : ℕ) (fed : List (List ℕ × Result (Unit {0}) SessionFault)) (old : Result OpenText SessionFault)
+    → AreFed (Ok (opened_over plan calls)) fed old → IsOneText plan fed old

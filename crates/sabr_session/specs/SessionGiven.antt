@@ -1,0 +1,35 @@
+-- What reading a session text leaves.
+use Rattle.std.specs.Prelude.{◌≡◌, ◌≢◌, ℕ, ◌+◌, Bool, true, false, List, ◌++◌, Result, Ok, Err, Option, ◌⊎◌}
+use Rattle.std.specs.Io.KnownBytes.{Consumes, IsAtEnd}
+use Rattle.sabr_model.specs.Plan.{TabledPlan}
+use Rattle.sabr_plan.specs.Canonical.{digest_of}
+use Rattle.sabr_frontier.specs.Session.{Seen}
+use Rattle.sabr_session.specs.SessionRead.{Said, said_of}
+use Rattle.sabr_session.specs.SessionFed.{IsSessionFrom}
+use Rattle.sabr_session.specs.declared.session_fault.SessionFault.{SessionFault}
+use Rattle.sabr_session.specs.declared.session_fault.SessionFault.TheVariants.{Read, NoMemory}
+
+-- what the lines of these bytes say over the plan
+abbrev pub said_over : TabledPlan → List ℕ → Bool → Result Said SessionFault
+said_over plan bytes ended = said_of plan.plan (digest_of plan.plan) bytes ended
+
+-- the reader ended behind these bytes, and they are the text
+abbrev pub EndsText : TabledPlan → List ℕ → ℕ → Result Seen SessionFault → Option (List ℕ) → ℕ → Type 0
+EndsText plan given before answer new after = IsAtEnd new × (after ≡ before) × IsSessionFrom plan (said_over plan given true) answer
+
+-- the reader failed behind these bytes, which have no fault
+abbrev pub BreaksText : TabledPlan → List ℕ → ℕ → Result Seen SessionFault → ℕ → Type 0
+BreaksText plan given before (Ok s) after = ⊥
+BreaksText plan given before (Err f) after = (after ≡ before + 1) × (f ≡ Read) × (said_over plan given false ≡ Err f)
+
+-- these bytes are refused whatever comes behind them, or memory was
+abbrev pub RefusesText : TabledPlan → List ℕ → ℕ → Result Seen SessionFault → ℕ → Type 0
+RefusesText plan given before (Ok s) after = ⊥
+RefusesText plan given before (Err f) after =
+    (after ≡ before) × ((f ≡ NoMemory) ⊎ ((f ≢ Read) × ((more : List ℕ) (ended : Bool) → said_over plan (given ++ more) ended ≡ Err f)))
+
+-- these bytes were read, and the answer is that of their text
+pub record ReadsSession (plan : TabledPlan) (old : Option (List ℕ)) (before : ℕ) (answer : Result Seen SessionFault) (new : Option (List ℕ)) (after : ℕ) : Type 0 where
+  pub given : List ℕ
+  pub consumed : Consumes old new given
+  pub told : EndsText plan given before answer new after ⊎ (BreaksText plan given before answer after ⊎ RefusesText plan given before answer after)

@@ -1,0 +1,164 @@
+//! The lines of a session text that LF has ended.
+
+ghost use Rattle.std.specs.Prelude.{◌≡◌, ◌+◌, ◌≤◌, nat_lt, true, if◌then◌else◌, Ok, IfOk, OnOk, OnErr};
+ghost use Rattle.sabr_session.specs.SessionRead.{end_said, is_behind, line_said, part_said};
+ghost use Rattle.sabr_session.specs.SessionFed.{opened_over, IsSessionFrom};
+ghost use Rattle.sabr_session.specs.SessionLeaving.{Leaves};
+ghost use Rattle.sabr_session.specs.SessionStage.{said_with};
+
+use crate::first_lines::is_end;
+use crate::head::Head;
+use crate::reading::stage::Stage;
+use crate::session_fault::SessionFault;
+use sabr_frontier::{LoadFault, Session};
+use sabr_model::Plan;
+use sabr_search::BestOf;
+use std::alloc::Allocator;
+use std::marker::Model;
+
+/// How many lines stand before and behind those of the parts.
+const OTHER_LINES: u128 = 7;
+
+/// How many lines there are, and what they say. Contracts see a text of which no byte is held.
+#[derive(Drop)]
+pub(crate) struct LinesRead<'p, B: BestOf<A>, A: Allocator + Copy> {
+    lines: u128,
+    head: Head<A>,
+    stage: Stage<'p, B, A>,
+}
+
+impl<'p, B: BestOf<A>, A: Allocator + Copy> Model for LinesRead<'p, B, A> {
+    ghost use Rattle.std.specs.Prelude.{◌≡◌, ◌≤◌, nat_lt, []};
+    ghost use Rattle.sabr_session.specs.SessionFed.{OpenText};
+    ghost use Rattle.sabr_session.specs.SessionStage.{said_with};
+
+    ghost Value = { OpenText };
+
+    ghost view = { λ l. record { plan = l.stage.plan; calls = l.stage.calls; fed = record { lines = l.lines; said = said_with l.head l.stage; held = [] } } };
+
+    ghost invariant = { λ l. (l.stage.has_request ≡ nat_lt 2 l.lines) × (l.lines ≤ 18446744073709551622) };
+}
+
+/// Takes in a line of this number over a plan of this digest.
+fn read_said<'p, B: BestOf<A>, A: Allocator + Copy>(
+    head: &mut Head<A>,
+    stage: &mut Stage<'p, B, A>,
+    digest: &[u8; 32],
+    number: u128,
+    line: &[u8],
+) -> Result<(), SessionFault>
+    requires request { stage.old.has_request ≡ nat_lt 3 number }
+    requires number { 1 ≤ number }
+    ensures value { Leaves (line_said stage.old.plan.plan digest.now number (said_with head.old stage.old) line.now) result (said_with head.new stage.new) }
+    ensures plan { stage.new.plan ≡ stage.old.plan }
+    ensures calls { stage.new.calls ≡ stage.old.calls }
+    ensures request { OnOk result (stage.new.has_request ≡ nat_lt 2 number) }
+    ensures limit { OnOk result (number ≤ 18446744073709551622) }
+    ensures head { OnErr result (head.new ≡ head.old) }
+    ensures stage { OnErr result (stage.new ≡ stage.old) }
+{
+    if number == 1 {
+        head.read_header(line)
+    } else if number == 2 {
+        head.read_digest(digest, line)
+    } else if number == 3 {
+        let request = head.read_request(line)?;
+        stage.begin(request);
+        Ok(())
+    } else if number == 4 {
+        head.read_emitted(line)
+    } else if number == 5 {
+        head.read_last(line)
+    } else if number == 6 {
+        head.read_count(line)
+    } else {
+        read_other(head, stage, number, line)
+    }
+}
+
+/// Takes in a line of this number behind the first six.
+fn read_other<'p, B: BestOf<A>, A: Allocator + Copy>(
+    head: &Head<A>,
+    stage: &mut Stage<'p, B, A>,
+    number: u128,
+    line: &[u8],
+) -> Result<(), SessionFault>
+    requires request { stage.old.has_request ≡ true }
+    requires number { 7 ≤ number }
+    ensures value { Leaves (if nat_lt number (7 + head.now.count) then part_said stage.old.plan.plan number (said_with head.now stage.old) line.now else end_said number (said_with head.now stage.old) line.now) result (said_with head.now stage.new) }
+    ensures plan { stage.new.plan ≡ stage.old.plan }
+    ensures calls { stage.new.calls ≡ stage.old.calls }
+    ensures request { stage.new.has_request ≡ true }
+    ensures limit { OnOk result (number ≤ 18446744073709551622) }
+    ensures stage { OnErr result (stage.new ≡ stage.old) }
+{
+    let end = OTHER_LINES + u128::from(head.count());
+    if number < end {
+        return stage.read_part(number, line);
+    }
+    if number == end && is_end(line) {
+        Ok(())
+    } else {
+        Err(SessionFault::BadLine(number))
+    }
+}
+
+impl<'p, B: BestOf<A>, A: Allocator + Copy> LinesRead<'p, B, A> {
+    /// Before the first line.
+    pub(crate) fn new(alloc: A, plan: &'p Plan<A>, finder: B) -> LinesRead<'p, B, A>
+        ensures { result ≡ opened_over plan.now (B.calls_of finder) }
+    {
+        LinesRead {
+            lines: 0,
+            head: Head::new(alloc),
+            stage: Stage::new(alloc, plan, finder),
+        }
+    }
+
+    /// The number of the next line.
+    pub(crate) fn next_number(&self) -> u128
+        ensures value { result ≡ self.now.fed.lines + 1 }
+        ensures limit { result ≤ 18446744073709551623 }
+    {
+        self.lines + 1
+    }
+
+    /// Whether `end` was read.
+    pub(crate) fn has_end(&self) -> bool
+        ensures { result ≡ is_behind (self.now.fed.lines + 1) self.now.fed.said }
+    {
+        self.lines + 1 > OTHER_LINES + u128::from(self.head.count())
+    }
+
+    /// Takes in the next line, over a plan of this digest.
+    pub(crate) fn read_line(&mut self, digest: &[u8; 32], line: &[u8]) -> Result<(), SessionFault>
+        ensures value { Leaves (line_said self.old.plan.plan digest.now (self.old.fed.lines + 1) self.old.fed.said line.now) result self.new.fed.said }
+        ensures plan { self.new.plan ≡ self.old.plan }
+        ensures calls { self.new.calls ≡ self.old.calls }
+        ensures lines { OnOk result (self.new.fed.lines ≡ self.old.fed.lines + 1) }
+    {
+        let number = self.lines + 1;
+        read_said(&mut self.head, &mut self.stage, digest, number, line)?;
+        self.lines = number;
+        Ok(())
+    }
+
+    /// The session of all lines, behind `end`.
+    pub(crate) fn into_session(self) -> Result<Session<'p, B, A>, SessionFault>
+        requires { is_behind (self.fed.lines + 1) self.fed.said ≡ true }
+        ensures from { IsSessionFrom self.entry.plan (Ok self.entry.fed.said) result }
+        ensures calls { IfOk result (λ s. s.calls ≡ self.entry.calls) }
+    {
+        let LinesRead {
+            lines: _,
+            head,
+            stage,
+        } = self;
+        match stage.into_session(head.emitted(), head.last()) {
+            Ok(session) => Ok(session),
+            Err(LoadFault::NotClosed) => Err(SessionFault::NotClosed),
+            Err(LoadFault::BadCount) => Err(SessionFault::BadCount),
+            Err(_) => Err(SessionFault::NoMemory),
+        }
+    }
+}

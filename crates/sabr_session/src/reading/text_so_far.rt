@@ -1,0 +1,156 @@
+//! A session text that wasn't refused so far.
+
+ghost use Rattle.std.specs.Prelude.{◌≡◌, ◌+◌, ◌*◌, ◌<◌, ◌≤◌, [], ◌++◌, length, true, false, ◌⊎◌, IsTrue, IfOk, IfErr, OnOk, OnErr};
+ghost use Rattle.sabr_plan.specs.Canonical.{digest_of};
+ghost use Rattle.sabr_plan.specs.Words.{is_one_line};
+ghost use Rattle.sabr_session.specs.SessionRead.{misspelled, read_line};
+ghost use Rattle.sabr_session.specs.SessionFed.{GoesOn, IsRefusedPiece, IsSessionFrom, is_bad_front, opened_over, outcome_of, weight};
+ghost use Rattle.sabr_session.specs.SessionLeaving.{Leaves};
+ghost use Rattle.sabr_session.specs.declared.session_fault.SessionFault.TheVariants as fault;
+
+use crate::held_line::{HeldLine, MOST_BYTES};
+use crate::reading::lines_read::LinesRead;
+use crate::session_fault::SessionFault;
+use sabr_frontier::Session;
+use sabr_model::Plan;
+use sabr_plan::line_end;
+use sabr_search::BestOf;
+use std::alloc::Allocator;
+use std::marker::Model;
+
+/// The lines that LF has ended, and the line behind them.
+#[derive(Drop)]
+pub(crate) struct TextSoFar<'p, B: BestOf<A>, A: Allocator + Copy> {
+    digest: [u8; 32],
+    lines: LinesRead<'p, B, A>,
+    held: HeldLine<A>,
+}
+
+impl<'p, B: BestOf<A>, A: Allocator + Copy> Model for TextSoFar<'p, B, A> {
+    ghost use Rattle.std.specs.Prelude.{◌≡◌, ◌+◌, ◌&&◌, false};
+    ghost use Rattle.sabr_plan.specs.Canonical.{digest_of};
+    ghost use Rattle.sabr_plan.specs.Words.{has_bytes};
+    ghost use Rattle.sabr_session.specs.SessionRead.{is_behind};
+    ghost use Rattle.sabr_session.specs.SessionFed.{OpenText};
+
+    ghost Value = { OpenText };
+
+    ghost view = { λ t. record { plan = t.lines.plan; calls = t.lines.calls; fed = record { lines = t.lines.fed.lines; said = t.lines.fed.said; held = t.held } } };
+
+    ghost invariant = { λ t. (t.digest ≡ digest_of t.lines.plan.plan) × ((is_behind (t.lines.fed.lines + 1) t.lines.fed.said && has_bytes t.held) ≡ false) };
+}
+
+/// The fault of a line of this number that isn't spelled as it has to be.
+fn misspelled(number: u128) -> SessionFault
+    ensures { result ≡ misspelled number }
+{
+    if number == 1 {
+        SessionFault::BadHeader
+    } else {
+        SessionFault::BadLine(number)
+    }
+}
+
+impl<'p, B: BestOf<A>, A: Allocator + Copy> TextSoFar<'p, B, A> {
+    /// Before the first piece. It takes no memory.
+    pub(crate) fn new(
+        alloc: A,
+        plan: &'p Plan<A>,
+        digest: &[u8; 32],
+        finder: B,
+    ) -> TextSoFar<'p, B, A>
+        requires { digest.now ≡ digest_of plan.now.plan }
+        ensures { result ≡ opened_over plan.now (B.calls_of finder) }
+    {
+        TextSoFar {
+            digest: *digest,
+            lines: LinesRead::new(alloc, plan, finder),
+            held: HeldLine::new(alloc),
+        }
+    }
+
+    /// How many bytes of the line behind the last LF are held.
+    pub(crate) fn held(&self) -> usize
+        ensures value { result ≡ length self.now.fed.held }
+        ensures limit { result ≤ 660008 }
+    {
+        self.held.len()
+    }
+
+    /// Takes the next piece of the text.
+    pub(crate) fn take_in(&mut self, piece: &[u8]) -> Result<(), SessionFault>
+        ensures ok { OnOk result (GoesOn self.old piece.now self.new) }
+        ensures err { IfErr result (IsRefusedPiece self.old piece.now) }
+        ensures grows { OnOk result (weight self.old + length piece.now ≤ weight self.new) }
+        ensures bound { OnOk result (weight self.new < 660009 * 18446744073709551623) }
+    {
+        let mut rest = piece;
+        while let Some(end) = line_end(rest) {
+            let (front, back) = rest.split_at(end);
+            self.end_line(front)?;
+            rest = &back[1..];
+        }
+        self.hold(rest)
+    }
+
+    /// LF ends the line behind these bytes of it.
+    fn end_line(&mut self, back: &[u8]) -> Result<(), SessionFault>
+        requires { IsTrue (is_one_line back.now) }
+        ensures value { Leaves (read_line self.old.plan.plan (digest_of self.old.plan.plan) (self.old.fed.lines + 1) self.old.fed.said (self.old.fed.held ++ back.now)) result self.new.fed.said }
+        ensures plan { self.new.plan ≡ self.old.plan }
+        ensures calls { self.new.calls ≡ self.old.calls }
+        ensures rest { OnOk result ((self.new.fed.lines ≡ self.old.fed.lines + 1) × (self.new.fed.held ≡ [])) }
+        ensures fits { OnOk result (length self.old.fed.held + length back.now ≤ 660008) }
+        ensures held { IsTrue (is_one_line self.old.fed.held) }
+    {
+        let number = self.lines.next_number();
+        if back.len() > MOST_BYTES - self.held.len() {
+            return Err(misspelled(number));
+        }
+        if self.held.len() == 0 {
+            return self.lines.read_line(&self.digest, back);
+        }
+        let Ok(()) = self.held.append(back) else {
+            return Err(SessionFault::NoMemory);
+        };
+        let answer = self.lines.read_line(&self.digest, self.held.as_slice());
+        self.held.clear();
+        answer
+    }
+
+    /// Holds what comes behind the last LF of a piece.
+    fn hold(&mut self, bytes: &[u8]) -> Result<(), SessionFault>
+        requires { IsTrue (is_one_line bytes.now) }
+        ensures ok { OnOk result (self.new ≡ record self.old { fed = record self.old.fed { held = self.old.fed.held ++ bytes.now } }) }
+        ensures bound { OnOk result (weight self.new < 660009 * 18446744073709551623) }
+        ensures held { IsTrue (is_one_line self.old.fed.held) }
+        ensures fine { OnOk result (is_bad_front (self.old.fed.lines + 1) self.old.fed.said (self.old.fed.held ++ bytes.now) ≡ false) }
+        ensures err { IfErr result (λ f. (f ≡ fault.NoMemory) ⊎ ((f ≡ misspelled (self.old.fed.lines + 1)) × (is_bad_front (self.old.fed.lines + 1) self.old.fed.said (self.old.fed.held ++ bytes.now) ≡ true))) }
+    {
+        let number = self.lines.next_number();
+        let room = MOST_BYTES - self.held.len();
+        if bytes.is_empty() {
+            return Ok(());
+        }
+        if self.lines.has_end() || bytes.len() > room {
+            return Err(misspelled(number));
+        }
+        let Ok(()) = self.held.append(bytes) else {
+            return Err(SessionFault::NoMemory);
+        };
+        Ok(())
+    }
+
+    /// The session of the text, which has ended.
+    pub(crate) fn finish(self) -> Result<Session<'p, B, A>, SessionFault>
+        ensures from { IsSessionFrom self.entry.plan (outcome_of self.entry [] true) result }
+        ensures calls { IfOk result (λ s. s.calls ≡ self.entry.calls) }
+    {
+        // contracts learn here that what is held is a line
+        let _ = self.held.len();
+        if !self.lines.has_end() {
+            return Err(misspelled(self.lines.next_number()));
+        }
+        self.lines.into_session()
+    }
+}

@@ -1,0 +1,156 @@
+//! The program `session_bench`: times a listing and the text of its session: the writing, reading and verifying of it.
+#![tactic(auto)]
+
+use sabr_frontier::Session;
+use sabr_model::{Device, Plan, Request};
+use sabr_plan::{digest, parse_time, read_plan};
+use sabr_search::Settled;
+use sabr_session::{read_session, verify, write_session};
+use std::process::ExitCode;
+use std::rt::{Env, Files};
+use std::time::{Clock, Instant};
+use std::{env, fs};
+
+/// What was done, and the nanoseconds that it took without the reading of the plan.
+#[derive(Clone, Copy)]
+enum Told {
+    /// So many routes were listed, and then their session was written.
+    Written {
+        routes: usize,
+        listing: u64,
+        writing: u64,
+    },
+    /// A session of so many routes was read.
+    Read {
+        routes: u128,
+        reading: u64,
+    },
+    /// A text was verified.
+    Verified {
+        yes: bool,
+        verifying: u64,
+    },
+}
+
+// The nanoseconds since then; 0 where the clock fails.
+fn nanoseconds_since<R: Clock>(rt: &R, begin: Instant) -> u64 {
+    let Ok(passed) = begin.elapsed(rt) else {
+        return 0;
+    };
+    u64::try_from(passed.as_nanos()).unwrap_or(u64::MAX)
+}
+
+// Lists the first routes, and writes their session to a new file.
+fn written<R: Files + Clock + AllocGlobal>(
+    rt: &R,
+    plan: &Plan,
+    request: Request,
+    count: u32,
+    path: &str,
+) -> Option<Told> {
+    let begin = Instant::now(rt).ok()?;
+    let mut session = Session::start(rt.alloc(), plan, request, Settled::new(rt.alloc())).ok()?;
+    let routes = session.page(count.min(10000)).ok()?.len();
+    let listing = nanoseconds_since(rt, begin);
+    let digest = digest(session.plan());
+    let mut writer = Device::new(fs::create(rt, path).ok()?);
+    let begin = Instant::now(rt).ok()?;
+    write_session(&session, &digest, &mut writer).ok()?;
+    Some(Told::Written {
+        routes,
+        listing,
+        writing: nanoseconds_since(rt, begin),
+    })
+}
+
+// Reads a session's file.
+fn read_back<R: Files + Clock + AllocGlobal>(rt: &R, plan: &Plan, path: &str) -> Option<Told> {
+    let digest = digest(plan);
+    let mut reader = Device::new(fs::open(rt, path).ok()?);
+    let finder = Settled::new(rt.alloc());
+    let begin = Instant::now(rt).ok()?;
+    let session = read_session(rt.alloc(), &mut reader, plan, &digest, finder).ok()?;
+    let reading = nanoseconds_since(rt, begin);
+    Some(Told::Read {
+        routes: session.emitted(),
+        reading,
+    })
+}
+
+// Verifies a session's file.
+fn verified<R: Files + Clock + AllocGlobal>(rt: &R, plan: &Plan, path: &str) -> Option<Told> {
+    let digest = digest(plan);
+    let mut reader = Device::new(fs::open(rt, path).ok()?);
+    let finder = Settled::new(rt.alloc());
+    let begin = Instant::now(rt).ok()?;
+    let yes = verify(rt.alloc(), &mut reader, plan, &digest, finder).ok()?;
+    Some(Told::Verified {
+        yes,
+        verifying: nanoseconds_since(rt, begin),
+    })
+}
+
+// The plan of this file.
+fn plan_of<R: Files + AllocGlobal>(rt: &R, path: &str) -> Option<Plan> {
+    let file = fs::open(rt, path).ok()?;
+    read_plan(rt.alloc(), &mut Device::new(file)).ok()
+}
+
+// Reads the words, and does what they say.
+fn run<R: Env + Files + Clock + AllocGlobal>(rt: &R) -> Option<Told> {
+    let words = env::args(rt)
+        .ok()?
+        .skip(1)
+        .collect::<Vec<String>>(rt.alloc())
+        .ok()?;
+    match words.as_slice() {
+        [file, text, from, to, at, count] => {
+            let at = parse_time(at.as_bytes())?;
+            let request = Request::new(from.parse().ok()?, to.parse().ok()?, at, 0).ok()?;
+            let count = count.parse::<u32>().ok()?;
+            written(
+                rt,
+                &plan_of(rt, file.as_str())?,
+                request,
+                count,
+                text.as_str(),
+            )
+        }
+        [mode, file, text] => {
+            let plan = plan_of(rt, file.as_str())?;
+            match mode.as_str() {
+                "read" => read_back(rt, &plan, text.as_str()),
+                "verify" => verified(rt, &plan, text.as_str()),
+                _ => None,
+            }
+        }
+        _ => None,
+    }
+}
+
+fn main(rt: HostRuntime) -> ExitCode {
+    let Some(told) = run(&rt) else {
+        let _ = eprintln!(rt; "words: PLAN TEXT FROM TO TIME COUNT, or read|verify PLAN TEXT");
+        return ExitCode::from(2);
+    };
+    match told {
+        Told::Written {
+            routes,
+            listing,
+            writing,
+        } => {
+            let _ = println!(rt; "written {routes} routes");
+            let _ = eprintln!(rt; "listing {listing} ns, writing {writing} ns");
+        }
+        Told::Read { routes, reading } => {
+            let _ = println!(rt; "read {routes} routes");
+            let _ = eprintln!(rt; "reading {reading} ns");
+        }
+        Told::Verified { yes, verifying } => {
+            let answer = if yes { "yes" } else { "no" };
+            let _ = println!(rt; "{answer}");
+            let _ = eprintln!(rt; "verifying {verifying} ns");
+        }
+    }
+    ExitCode::SUCCESS
+}
