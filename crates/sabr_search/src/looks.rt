@@ -26,13 +26,13 @@ impl Looks {
     ///
     /// Searches read no record but behind this call, one for each use. The halvings of a link compare keys and bounds
     /// that the index keeps, and read no record.
-    pub fn look<T>(&mut self, leading: T) -> T
+    pub fn look<T>(&mut self, contact: T) -> T
         requires few { self.old.count < 2 ^ 62 }
         ensures counted { self.new.count ≡ self.old.count + 1 }
-        ensures same { result ≡ leading }
+        ensures same { result ≡ contact }
     {
         self.count += 1;
-        leading
+        contact
     }
 
     /// The record of a standing contact: one look.

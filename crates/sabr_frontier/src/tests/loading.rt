@@ -1,6 +1,6 @@
 //! States that are loaded part by part, and those that are refused.
 
-use super::plans::{LISTED_A, LISTED_C, Net, PLAN_A, PLAN_C, STATES_A, STATES_C};
+use super::plans::{LISTED_A, LISTED_C, Net, PLAN_A, PLAN_C, STATES_A, STATES_C, plan_d};
 use super::states::stands_at;
 use super::{Listed, Shown, State, asked, gives};
 use crate::{LoadFault, Loader, Session};
@@ -68,6 +68,31 @@ fn loaded_states_go_on_as_the_listing(rt: HostRuntime) -> Result<(), Fail> {
     let c = PLAN_C.plan(alloc).ok().ok_or("plan C")?;
     assert!(rt; resumes(alloc, &a, &STATES_A, &LISTED_A));
     assert!(rt; resumes(alloc, &c, &STATES_C, &LISTED_C));
+    Ok(())
+}
+
+#[test]
+fn a_state_of_three_hundred_and_one_parts_loads(rt: HostRuntime) -> Result<(), Fail> {
+    let plan = plan_d(rt.alloc()).ok().ok_or("plan")?;
+    let request = asked(0).ok_or("request")?;
+    let mut loader = Loader::new(rt.alloc(), &plan, request, Settled::new(rt.alloc()));
+    let mut given = Vec::new(rt.alloc());
+    for number in 1..=300u32 {
+        given.push(number)?;
+    }
+    assert!(rt; loader.add_part(&[], &given, Some(&[301, 1001])) == Ok(()));
+    for number in 1..=300u32 {
+        let added = loader.add_part(&[number], &[1001], Some(&[number, 1002]));
+        assert!(rt; added == Ok(()), "part of {number}");
+    }
+    let mut session = loader.finish(300, &[300, 1001])?;
+    assert_eq!(rt; session.part_count(), 301);
+    assert_eq!(rt; session.certify(), Ok(true));
+    let next = [
+        ([301, 1001].as_slice(), 2000, 5000, 2),
+        ([302, 1001].as_slice(), 2000, 5000, 2),
+    ];
+    assert!(rt; gives(&mut session, 2, &next));
     Ok(())
 }
 

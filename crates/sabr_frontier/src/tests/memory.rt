@@ -1,11 +1,11 @@
 //! Each growth refused in turn, and calls that take no memory.
 
-use super::plans::{LISTED_A, LISTED_C, Net, PLAN_A, PLAN_C, STATES_A, STATES_C};
+use super::plans::{LISTED_A, LISTED_C, Net, PLAN_A, PLAN_C, STATES_A, STATES_C, plan_d};
 use super::states::stands_at;
-use super::{BEGIN, Listed, State, gives, is_listed, started};
+use super::{Listed, State, gives, is_listed, started};
 use crate::Session;
 use ration::Ration;
-use sabr_model::{AddFault, Plan};
+use sabr_model::Plan;
 use sabr_search::{BestOf, Settled};
 use std::alloc::Allocator;
 use std::test::Fail;
@@ -228,24 +228,10 @@ fn backs_take_no_memory(rt: HostRuntime) -> Result<(), Fail> {
     Ok(())
 }
 
-// A thousand contacts from node 1 to node 2, and two from there to node 3.
-fn wide<A: Allocator + Copy>(alloc: A) -> Result<Plan<A>, AddFault> {
-    let mut plan = Plan::new(alloc);
-    plan.add_range(1, 2, BEGIN, BEGIN + 9000, 0)?;
-    plan.add_range(2, 3, BEGIN, BEGIN + 9000, 0)?;
-    for start in 1..=1000u64 {
-        plan.add_contact(1, 2, BEGIN + start, BEGIN + 5000, 1000)?;
-    }
-    plan.add_contact(2, 3, BEGIN + 2000, BEGIN + 5000, 1000)?;
-    plan.add_contact(2, 3, BEGIN + 2001, BEGIN + 5000, 1000)?;
-    Ok(plan)
-}
-
 #[test]
 fn a_route_from_a_thousand_parts_copies_no_part(rt: HostRuntime) -> Result<(), Fail> {
     let ration = Ration::new(rt.alloc(), 0);
-    let mut plan = wide(&ration).ok().ok_or("plan")?;
-    assert!(rt; plan.settle().is_ok());
+    let plan = plan_d(&ration).ok().ok_or("plan")?;
     let mut session = started(&ration, &plan, Settled::new(&ration)).ok_or("start")?;
     assert_eq!(rt; session.page(1000)?.len(), 1000);
     assert_eq!(rt; session.last(), [1000, 1001].as_slice());

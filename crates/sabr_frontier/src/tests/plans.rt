@@ -27,10 +27,15 @@ impl<'a> Net<'a> {
         for window in self.windows {
             add_window(&mut plan, window)?;
         }
-        match plan.settle() {
-            Ok(()) => Ok(plan),
-            Err(_) => Err(AddFault::NoMemory),
-        }
+        settled(plan)
+    }
+}
+
+// The plan, ready for searches.
+fn settled<A: Allocator + Copy>(mut plan: Plan<A>) -> Result<Plan<A>, AddFault> {
+    match plan.settle() {
+        Ok(()) => Ok(plan),
+        Err(_) => Err(AddFault::NoMemory),
     }
 }
 
@@ -127,6 +132,19 @@ pub const PLAN_C: Net<'static> = Net {
         (0, 100, 4, 2),
     ],
 };
+
+/// Plan D: a thousand contacts from node 1 to node 2, and two from there to node 3.
+pub fn plan_d<A: Allocator + Copy>(alloc: A) -> Result<Plan<A>, AddFault> {
+    let mut plan = Plan::new(alloc);
+    plan.add_range(1, 2, BEGIN, BEGIN + 9000, 0)?;
+    plan.add_range(2, 3, BEGIN, BEGIN + 9000, 0)?;
+    for start in 1..=1000u64 {
+        plan.add_contact(1, 2, BEGIN + start, BEGIN + 5000, 1000)?;
+    }
+    plan.add_contact(2, 3, BEGIN + 2000, BEGIN + 5000, 1000)?;
+    plan.add_contact(2, 3, BEGIN + 2001, BEGIN + 5000, 1000)?;
+    settled(plan)
+}
 
 /// The routes of plan A from node 1 to node 3.
 pub const LISTED_A: [Listed<'static>; 3] = [
