@@ -7,6 +7,7 @@ mod draws;
 mod finders;
 mod least;
 mod plans;
+mod refused;
 mod sessions;
 mod standing;
 mod texts;

@@ -12,7 +12,7 @@ use sabr_model::{Plan, Request, Route};
 use sabr_plan::digest;
 use sabr_search::{BestOf, Layered, Settled};
 use sabr_session::{SessionFault, read_session, verify, write_session};
-use std::alloc::Global;
+use std::alloc::{Allocator, Global};
 use std::test::Fail;
 
 /// The most bytes of a text here.
@@ -48,9 +48,10 @@ fn same_request(request: &Request) -> Result<Request, Wrong> {
     Ok(new.with_limits(request.max_hops(), request.avoided())?)
 }
 
-fn text_of<B: BestOf<Global>>(
+/// The text of a session.
+pub fn text_of<B: BestOf<A>, A: Allocator + Copy>(
     alloc: Global,
-    session: &Session<'_, B>,
+    session: &Session<'_, B, A>,
 ) -> Result<LimitedWriter, Wrong> {
     let digest = digest(session.plan());
     let mut writer = LimitedWriter::new(alloc, ROOM, ROOM);
@@ -156,7 +157,7 @@ impl<'p, 'l, B: Fresh> Passage<'p, 'l, B> {
             Err(_) => return Err(Wrong::Text),
         }
         self.former.clear();
-        Ok(())
+        self.has_its_text(alloc)
     }
 
     // Pages, steps back and passes through text as drawn, and then all that is left.
