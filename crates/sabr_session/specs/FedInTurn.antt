@@ -1,5 +1,5 @@
 -- Pieces of a session text, fed one after the other, are one text.
-use Rattle.std.specs.Prelude.{◌≡◌, ◌≢◌, ℕ, Bool, true, false, List, [], ◌∷◌, ◌++◌, flat_map, Result, Ok, Err, ◌⊎◌}
+use Rattle.std.specs.Prelude.{◌≡◌, ◌≢◌, ℕ, true, false, List, [], ◌∷◌, ◌++◌, flat_map, Result, Ok, Err, ◌⊎◌}
 use Rattle.sabr_model.specs.Plan.{TabledPlan}
 use Rattle.sabr_frontier.specs.Session.{Seen}
 use Rattle.sabr_session.specs.SessionFed.{OpenText, opened_over, IsFed, IsFinished, IsSessionFrom}
