@@ -22,6 +22,7 @@ pub mod Gathers
 pub mod TablesMade
 pub mod GatheredOpenings
 pub mod ReadyLemmas
+pub mod Stretches
 pub mod Different
 pub mod LinkLemmas
 pub mod Chains

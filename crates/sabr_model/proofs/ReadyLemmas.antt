@@ -32,7 +32,19 @@ receiver_there (c ∷ cs) (suc k) d lt =
     let to = (get_or cs k d).to in
     or_right (eqb to c.from) (eqb to c.to || has to (ends_of cs)) (or_right (eqb to c.to) (has to (ends_of cs)) (receiver_there cs k d (omega arith)))
 
--- each receiver is in the table
+-- and so is each sender
+sender_there : (cs : List Contact) (k : ℕ) (d : Contact) → k < length cs → has (get_or cs k d).from (ends_of cs) ≡ true
+sender_there [] k d lt = absurd (omega arith)
+sender_there (c ∷ cs) zero d lt = or_left (eqb c.from c.from) (eqb c.from c.to || has c.from (ends_of cs)) (eq-eqb c.from c.from refl)
+sender_there (c ∷ cs) (suc k) d lt =
+    let from = (get_or cs k d).from in
+    or_right (eqb from c.from) (eqb from c.to || has from (ends_of cs)) (or_right (eqb from c.to) (has from (ends_of cs)) (sender_there cs k d (omega arith)))
+
+-- each sender is in the table
+pub sender_in_table : {S A : Type 0} (cs : List Contact) (table : IndexMap ℕ (Sent A) S) → IsTableOf cs table → (k : ℕ) (d : Contact) → k < length cs → has (get_or cs k d).from (keys table) ≡ true
+sender_in_table cs table h k d lt = has_node cs table (get_or cs k d).from h ∙ sender_there cs k d lt
+
+-- and so is each receiver
 pub receiver_in_table : {S A : Type 0} (cs : List Contact) (table : IndexMap ℕ (Sent A) S) → IsTableOf cs table → (k : ℕ) (d : Contact) → k < length cs → has (get_or cs k d).to (keys table) ≡ true
 receiver_in_table cs table h k d lt = has_node cs table (get_or cs k d).to h ∙ receiver_there cs k d lt
 

@@ -7,6 +7,7 @@ pub mod Links
 pub mod Linking
 pub mod Incoming
 pub mod Ready
+pub mod Stretches
 pub mod Adding
 pub mod Gathering
 pub mod Light

@@ -4,6 +4,7 @@ mod add_contact;
 mod add_range;
 mod arriving;
 mod delete;
+mod ends;
 mod gathered;
 mod gathered_contacts;
 mod gathered_ranges;
@@ -15,6 +16,7 @@ mod nodes;
 pub mod places;
 mod ranges;
 mod ready;
+mod stretches;
 mod views;
 
 ghost use Rattle.std.specs.Prelude.{◌≡◌, []};

@@ -1,11 +1,13 @@
 //! The one-way light time in force at a contact's start.
 
-ghost use Rattle.std.specs.Prelude.{◌≡◌, ◌≤◌, [], IfSome};
+ghost use Rattle.std.specs.Prelude.{◌≡◌, ◌≤◌, [], IfSome, length};
 ghost use Rattle.sabr_model.specs.Light.{light_of};
 ghost use Rattle.sabr_model.specs.RangeOrder.{IsRangeList};
+ghost use Rattle.sabr_model.specs.Stretches.{IsStretchAmong};
 
 use super::Plan;
 use super::ranges::light_in_force;
+use super::stretches::{Stretch, light_in_stretch};
 use crate::contact::{Contact, Range};
 use std::alloc::Allocator;
 
@@ -31,6 +33,27 @@ pub fn light_of_contact(ranges: &[Range], contact: &Contact) -> Option<u32>
         Some(light) => Some(light),
         None if contact.from > contact.to => {
             light_in_force(ranges, contact.to, contact.from, contact.start)
+        }
+        None => None,
+    }
+}
+
+/// The light time that ranges give a contact, where those from its sender and from its receiver stand in these stretches.
+pub fn light_in_stretches(
+    ranges: &[Range],
+    of_sender: Stretch,
+    of_receiver: Stretch,
+    contact: &Contact,
+) -> Option<u32>
+    requires ranges { IsRangeList ranges.now }
+    requires sender { IsStretchAmong ranges.now (length ranges.now) contact.now.from of_sender }
+    requires receiver { IsStretchAmong ranges.now (length ranges.now) contact.now.to of_receiver }
+    ensures { result ≡ light_of (record { contacts = []; ranges = ranges.now; greatest = 0 }) contact.now }
+{
+    match light_in_stretch(ranges, of_sender, contact.from, contact.to, contact.start) {
+        Some(light) => Some(light),
+        None if contact.from > contact.to => {
+            light_in_stretch(ranges, of_receiver, contact.to, contact.from, contact.start)
         }
         None => None,
     }

@@ -1,0 +1,12 @@
+use Rattle.std.proofs.Common.{◌≡◌, ◌<◌, ℕ, length, slice_index_or}
+use Rattle.indexmap.specs.IndexMap.{keys}
+use Rattle.sabr_model.specs.declared.contact.Contact.{Contact}
+use Rattle.sabr_model.specs.declared.plan.ends.Ends.{Ends}
+use Rattle.sabr_model.specs.Stretches.{AreEndsOf}
+use Rattle.sabr_model.proofs.plan.ends.ends_of_contacts.Given as goal
+
+abbrev pub invariant-loop-contact : goal.invariant-loop-contact
+invariant-loop-contact g l = record {
+  as_many : length l.ends.items ≡ l.contact-index;
+  each : (k : ℕ) (d : Contact) (e : Ends) → k < l.contact-index → AreEndsOf (keys l.table) (slice_index_or l.contacts k d) (slice_index_or l.ends.items k e);
+}
