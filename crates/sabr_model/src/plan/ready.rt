@@ -32,17 +32,14 @@ impl<A: Allocator + Copy> Plan<A> {
         self.settled = false;
         self.linked.clear();
         self.incoming.forget();
-        let ends = ends_of_contacts(self.alloc, &self.contacts, &self.table)?;
-        let stretches = stretches_of(self.alloc, &self.ranges, &self.table)?;
-        fill_hops(
+        fill(
+            self.alloc,
             &mut self.hops,
+            &mut self.longest,
             &self.contacts,
-            &ends,
             &self.ranges,
-            &stretches,
             &self.table,
         )?;
-        fill_longest(&mut self.longest, &self.contacts, &ends, &self.table)?;
         self.settled = true;
         let linked = link_nodes(self.alloc, self)?;
         let incoming = incoming_links(self.alloc, &linked)?;
@@ -68,6 +65,30 @@ pub fn hop_of_contact<A: Allocator + Copy>(
         receiver: index_of(table, contact.to),
         light: light_of_contact(ranges, contact),
     }
+}
+
+/// Puts the hop of each contact beside it, and beside each node how long the longest of its contacts lasts.
+///
+/// What is looked up for both goes again before it returns.
+fn fill<A: Allocator + Copy>(
+    alloc: A,
+    hops: &mut Vec<Hop, A>,
+    longest: &mut Vec<u64, A>,
+    contacts: &[Contact],
+    ranges: &[Range],
+    table: &NodeTable<A>,
+) -> Result<(), AllocError>
+    requires ranges { IsRangeList ranges.now }
+    requires unique { IsUnique nat_eq table.now }
+    requires from { (k : ℕ) (d : Contact) → k < length contacts.now → IsTrue (has (slice_index_or contacts.now k d).from (keys table.now)) }
+    requires to { (k : ℕ) (d : Contact) → k < length contacts.now → IsTrue (has (slice_index_or contacts.now k d).to (keys table.now)) }
+    ensures hops { OnOk result (AreHops (record { plan = record { contacts = []; ranges = ranges.now; greatest = 0 }; table = keys table.now }) contacts.now hops.new.items) }
+    ensures longest { OnOk result (NoneLastsLonger (keys table.now) contacts.now longest.new.items) }
+{
+    let ends = ends_of_contacts(alloc, contacts, table)?;
+    let stretches = stretches_of(alloc, ranges, table)?;
+    fill_hops(hops, contacts, &ends, ranges, &stretches, table)?;
+    fill_longest(longest, contacts, &ends, table)
 }
 
 /// Puts the hop of each contact beside it.
