@@ -34,6 +34,7 @@ pub mod Found
 pub mod Refined
 pub mod Divided
 pub mod Sounds
+pub mod Filled
 pub mod Giving
 pub mod Pages
 pub mod Roots

@@ -41,7 +41,7 @@ use Rattle.sabr_frontier.proofs.Divided.{shown_divided}
 -- ---- who is in a queue
 
 module _ {A : Type 0} (nodes : List (Node A)) where
-  enqueued_cases : (z id : NodeId) (ids : List NodeId) → Member z (enqueued nodes id ids) → ((z ≡ id) × (is_some (route_at nodes id) ≡ true)) ⊎ Member z ids
+  pub enqueued_cases : (z id : NodeId) (ids : List NodeId) → Member z (enqueued nodes id ids) → ((z ≡ id) × (is_some (route_at nodes id) ≡ true)) ⊎ Member z ids
   enqueued_cases z id ids m = elim (route_at nodes id) as (λ o. Member z (enqueued_by nodes id o ids) → ((z ≡ id) × (is_some o ≡ true)) ⊎ Member z ids) [
     | None ↦ λ m. inr m
     | Some x ↦ λ m. elim (put_behind_cases (λ y. beats x (route_at nodes y)) z id ids m) [ inl e ↦ inl (e, refl) | inr k ↦ inr k ]

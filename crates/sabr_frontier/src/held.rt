@@ -9,7 +9,7 @@ ghost use Rattle.sabr_frontier.specs.Holding.{HasPlaces, HasPlacesFor, IsLastPla
 
 use crate::excluded::Excluded;
 use crate::judge::{Judged, judge};
-use crate::places::{enqueue_from, insert_block};
+use crate::places::{enqueue_each, insert_block};
 use crate::tree::{Node, Tree};
 use sabr_model::{NoMemory, Numbers, Plan, Request, Route};
 use std::alloc::{Allocator, Global};
@@ -213,7 +213,7 @@ impl<A: Allocator + Copy> Held<A> {
             return Err(NoMemory);
         };
         insert_block(&mut index, 0, 0, count);
-        enqueue_from(self.nodes.as_slice(), &mut queue, 0);
+        enqueue_each(self.nodes.as_slice(), &mut queue);
         Ok(Tree {
             nodes: self.nodes,
             index,

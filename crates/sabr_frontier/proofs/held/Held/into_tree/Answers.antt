@@ -1,4 +1,4 @@
-use Rattle.std.proofs.Common.{◌≡◌, ◌-◌, [], length, arith, ap, ◌∙◌}
+use Rattle.std.proofs.Common.{◌≡◌, [], length, arith, ◌∙◌}
 use Rattle.sabr_frontier.specs.Taking.{enqueued_all, ids_from, with_block}
 use Rattle.sabr_frontier.proofs.Fronts.{nil_right}
 use Rattle.sabr_frontier.proofs.held.Held.into_tree.Goals as goal
@@ -8,7 +8,6 @@ returns-clause-shape g c =
     let nodes = c.args.self.nodes.items in
     let count : c.len-count.result ≡ length nodes = omega (arith, c.len-count.ensures) in
     let index = c.insert_block.ensures ∙ (λ i. with_block 0 (ids_from 0 (count i)) (c.in-Ok.ensures.items i)) ∙ nil_right (ids_from 0 (length nodes)) in
-    let all : length nodes - 0 ≡ length nodes = omega arith in
     let value = c.as_slice.ensures.value in
-    let queue = c.enqueue_from.ensures.items ∙ (λ i. enqueued_all (value i) (ids_from 0 (length (value i) - 0)) (c.in-Ok-with_capacity.ensures.items i)) ∙ ap (λ n. enqueued_all nodes (ids_from 0 n) []) all in
+    let queue = c.enqueue_each.ensures.items ∙ (λ i. enqueued_all (value i) (ids_from 0 (length (value i))) []) in
     λ i. record { nodes = nodes; index = index i; queue = queue i; leaves = c.args.self.leaves.items; last = c.args.last; journal = c.new.ensures.items i }
