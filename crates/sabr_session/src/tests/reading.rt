@@ -104,7 +104,7 @@ const GREATEST_COUNT: &[u8] = b"emitted 2\nlast 1 2\nparts 18446744073709551615\
 part 1 / 2 4 / -\nend\n";
 
 /// The text over plan C once three routes were given.
-const TEXT_C: &[u8] = b"cgr-session 2\n\
+pub(super) const TEXT_C: &[u8] = b"cgr-session 2\n\
 plan 0ad9ab39b21b1100ccba6ac2c3a664a6fae8cf88210e317ce6a455a8bba0b245\n\
 request 1 3 2030/01/01-00:00:00 0 20000 / -\n\
 emitted 3\nlast 4 5\nparts 3\npart - / 1 3 4 / -\npart 1 / 2 / 1 6 5\npart 4 / 5 / 4 7 2\nend\n";

@@ -1,6 +1,7 @@
-//! Texts over plan A that are verified, in both versions: those of places, and those that a reader takes for sessions.
+//! Texts that are verified, in both versions: those of places, and those that a reader takes for sessions.
 
-use crate::tests::sessions::PLAN_A;
+use crate::tests::reading::TEXT_C;
+use crate::tests::sessions::{PLAN_A, PLAN_C};
 use crate::{SessionFault, verify};
 use pieces::{End, PieceReader};
 use ration::Ration;
@@ -145,9 +146,9 @@ fn no_to_texts_that_end_too_early(rt: HostRuntime) -> Result<(), Fail> {
 }
 
 // How many growths were refused, none where another answer came.
-fn refused_growths(alloc: Global, text: &[u8]) -> Option<u64> {
+fn refused_growths(alloc: Global, plan: &[u8], text: &[u8]) -> Option<u64> {
     let ration = Ration::new(alloc, 0);
-    let plan = read_plan(&ration, &mut Device::new(PLAN_A)).ok()?;
+    let plan = read_plan(&ration, &mut Device::new(plan)).ok()?;
     ration.refuse(0);
     let ample = answered(
         &ration,
@@ -181,9 +182,15 @@ fn refused_growths(alloc: Global, text: &[u8]) -> Option<u64> {
 
 #[test]
 fn each_growth_is_refused_in_turn(rt: HostRuntime) -> Result<(), Fail> {
-    for head in HEADS {
-        let text = joined(rt.alloc(), head, AFTER_2)?;
-        let refused = refused_growths(rt.alloc(), &text);
+    let text_a = joined(rt.alloc(), HEADS[0], AFTER_2)?;
+    let old_a = joined(rt.alloc(), HEADS[1], AFTER_2)?;
+    let texts = [
+        (PLAN_A, text_a.as_slice()),
+        (PLAN_A, old_a.as_slice()),
+        (PLAN_C, TEXT_C),
+    ];
+    for (plan, text) in texts {
+        let refused = refused_growths(rt.alloc(), plan, text);
         assert!(rt;
             refused.is_some_and(|count| count > 0),
             "refused {refused:?}"
