@@ -322,7 +322,7 @@ fn texts_that_are_cut_are_refused(rt: HostRuntime) -> Result<(), Fail> {
         let mut line = 1usize;
         for length in 0..bytes.len() {
             if length >= 14 {
-                line += usize::from(bytes[length - 1] == b'\n');
+                line = line.saturating_add(usize::from(bytes[length - 1] == b'\n'));
                 let message = format!(in rt.alloc(); "session line {line}: BadLine")?;
                 refused(&rt, PLAN_A, &bytes[..length], message.as_str())?;
             } else {
