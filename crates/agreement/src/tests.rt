@@ -7,8 +7,6 @@ mod draws;
 mod finders;
 mod least;
 mod plans;
-mod refused;
 mod sessions;
 mod standing;
-mod texts;
 mod walks;
