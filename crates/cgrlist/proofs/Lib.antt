@@ -1,4 +1,3 @@
-pub mod Numbers
 pub mod CommaPieces
 pub mod ListedNumbers
 pub mod TextsInTurn

@@ -14,7 +14,8 @@ use Rattle.cgrlist.specs.declared.value_name.ValueName.TheVariants.{From, To, At
 use Rattle.cgrlist.specs.declared.value_fault.ValueFault.{ValueFault}
 use Rattle.cgrlist.specs.declared.value_fault.ValueFault.TheVariants.{Bad, SameNode, BadAvoid}
 use Rattle.cgrlist.specs.declared.request_words.RequestWords.{RequestWords}
-use Rattle.cgrlist.specs.Words.{number_within, numbers_within, nodes_listed}
+use Rattle.cgrlist.specs.Words.{numbers_within, nodes_listed}
+use Rattle.sabr_plan.specs.Numbers.{number_within}
 
 -- the word of the command line that gives a value, without its two dashes
 abbrev pub name_text : ValueName → List ℕ

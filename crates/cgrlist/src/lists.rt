@@ -1,67 +1,12 @@
 //! Lists of numbers on the command line, parted by single commas.
 
-ghost use Rattle.std.specs.Prelude.{◌≡◌, ℕ, ◌≤◌, ◌+◌, ◌<◌, ◌∷◌, ◌++◌, [], List, None, Some, MatchResult, MatchOption, IfOk, IfSome, OnOk, length};
+ghost use Rattle.std.specs.Prelude.{◌≡◌, None, Some, MatchOption, IfOk};
 ghost use Rattle.cgrlist.specs.Words.{nodes_listed, numbers_within};
 
 use crate::first_piece::first_piece;
-use crate::number::number_within;
-use sabr_model::{NoMemory, Numbers};
+use sabr_model::{NoMemory, NodeList, Numbers};
+use sabr_plan::number_within;
 use std::alloc::Allocator;
-use std::marker::Model;
-
-/// The most nodes that a request avoids.
-const MOST_NODES: usize = 16;
-
-/// At most 16 nodes. It holds no memory.
-#[derive(Drop)]
-pub struct NodeList {
-    nodes: [u64; MOST_NODES],
-    count: usize,
-}
-
-impl Model for NodeList {
-    ghost use Rattle.std.specs.Prelude.{List, ℕ, take, ◌≤◌};
-
-    ghost Value = { List ℕ };
-
-    ghost view = { λ a. take a.count a.nodes };
-
-    ghost invariant = { λ a. a.count ≤ 16 };
-}
-
-impl NodeList {
-    /// Without a node.
-    pub fn new() -> NodeList
-        ensures { result ≡ [] }
-    {
-        NodeList {
-            nodes: [0; MOST_NODES],
-            count: 0,
-        }
-    }
-
-    /// The nodes.
-    pub fn as_slice(&self) -> &[u64]
-        ensures value { result.now ≡ self.now }
-        ensures limit { length self.now ≤ 16 }
-    {
-        &self.nodes[..self.count]
-    }
-
-    /// Puts a node behind the others, if there is room.
-    fn push(&mut self, node: u64) -> Option<()>
-        ensures pushed { IfSome result (λ _. self.new ≡ self.old ++ node ∷ []) }
-        ensures limit { IfSome result (λ _. length self.new ≤ 16) }
-        ensures full { result ≡ None → length self.old ≡ 16 }
-    {
-        if self.count == MOST_NODES {
-            return None;
-        }
-        self.nodes[self.count] = node;
-        self.count += 1;
-        Some(())
-    }
-}
 
 /// The nodes that the text lists, at most 16.
 pub fn nodes_listed(text: &[u8]) -> Option<NodeList>

@@ -19,7 +19,6 @@ mod hop_lines;
 mod lists;
 mod messages;
 mod next_run;
-mod number;
 mod pages;
 mod program;
 mod request_words;

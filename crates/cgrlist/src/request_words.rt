@@ -3,18 +3,18 @@
 ghost use Rattle.std.specs.Prelude.{◌≡◌, ℕ, ◌≤◌, [], List, Option, option_map, IfOk, IsErrOf};
 ghost use Rattle.clap.specs.Matches.{found_of};
 ghost use Rattle.sabr_plan.specs.Times.{time_of};
-ghost use Rattle.cgrlist.specs.Words.{number_within, nodes_listed};
+ghost use Rattle.cgrlist.specs.Words.{nodes_listed};
+ghost use Rattle.sabr_plan.specs.Numbers.{number_within};
 ghost use Rattle.cgrlist.specs.Values.{text_under, value_of, value_or, limits_of, request_words, request_of, IsInRange};
 ghost use Rattle.sabr_model.specs.Plan.{IsNode, last_time};
 ghost use Rattle.sabr_model.specs.Asking.{most_margin};
 
-use crate::lists::{NodeList, nodes_listed};
-use crate::number::number_within;
+use crate::lists::nodes_listed;
 use crate::value_fault::ValueFault;
 use crate::value_name::ValueName;
 use clap::ArgMatches;
-use sabr_model::Request;
-use sabr_plan::parse_time;
+use sabr_model::{NodeList, Request};
+use sabr_plan::{number_within, parse_time};
 
 /// What is asked for, word by word, each within its range.
 #[derive(Drop)]

@@ -1,6 +1,6 @@
 -- What is held stays in order and answered where a part comes behind the others, and is paid exactly where the parts are closed.
-use Rattle.std.proofs.Common.{◌≡◌, ℕ, zero, suc, ◌+◌, ◌<◌, Bool, true, false, cond, not, ◌&&◌, nat_lt, List, [], ◌∷◌, ◌++◌, map, filter, flat_map, reverse, length, refl, sym, ap, subst, ◌∙◌, ◌⊎◌, inl, inr, arith, true≢false, Option, Some, None, length-append}
-use Rattle.std.specs.Prelude.{slice_get, ◌==◌}
+use Rattle.std.proofs.Common.{◌≡◌, ℕ, zero, suc, ◌+◌, ◌<◌, Bool, true, false, cond, not, ◌&&◌, nat_lt, List, [], ◌∷◌, ◌++◌, map, flat_map, reverse, length, refl, sym, ap, subst, ◌∙◌, ◌⊎◌, inl, inr, arith, true≢false, Option, Some, None, length-append}
+use Rattle.std.specs.Prelude.{◌==◌}
 use Rattle.std.specs.Option.{option_map, option_map_or}
 use Rattle.std.specs.Ordering.{nat_cmp, is_lt, is_eq}
 use Rattle.std.specs.declared.cmp.Ordering.TheVariants.{Less}
@@ -18,7 +18,7 @@ use Rattle.sabr_model.specs.Record.{RouteRecord, record_of}
 use Rattle.sabr_model.proofs.Prefixes.{empty_is_prefix, prefix_goes_on}
 use Rattle.sabr_frontier.specs.declared.tree.Node.{Node}
 use Rattle.sabr_frontier.specs.declared.judge.Judged.{Judged}
-use Rattle.sabr_frontier.specs.Rising.{has, Below, Rises}
+use Rattle.sabr_frontier.specs.Rising.{Below, Rises}
 use Rattle.sabr_frontier.specs.State.{PartState, pair_of, Member, leaves_of}
 use Rattle.sabr_frontier.specs.Formed.{IsClosed, InOrder, Within}
 use Rattle.sabr_frontier.specs.Owing.{Owing, onward, IsGood, Owes}
@@ -28,9 +28,8 @@ use Rattle.sabr_frontier.specs.Undo.{last_item, front}
 use Rattle.sabr_frontier.specs.Holding.{Holding, AreLent, IsAnswered, IsHeld, IsJudged, IsVerdict, held_then, is_due, is_paid, node_for, nothing_held, owing, pairs_in, part_for, parts_in, parts_of}
 use Rattle.sabr_frontier.proofs.Rising.{true_or_false, Below-lower, is_equal}
 use Rattle.sabr_frontier.proofs.Beginnings.{lists_exact}
-use Rattle.sabr_frontier.proofs.Members.{Member-append_left, Member-append_right, Member-append_cases, Below-member}
+use Rattle.sabr_frontier.proofs.Members.{Member-append_right, Member-append_cases, Below-member}
 use Rattle.sabr_frontier.proofs.Division.{map-append}
-use Rattle.sabr_frontier.proofs.Leaves.{Pairs}
 use Rattle.sabr_frontier.proofs.Owed.{Owes-push, Owes-front, Owes-one, owes_closed, closed_owes}
 use Rattle.sabr_frontier.proofs.Listed.{goes_on_within}
 use Rattle.sabr_frontier.proofs.Nodes.{last_split, some_last}

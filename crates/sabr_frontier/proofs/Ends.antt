@@ -40,3 +40,27 @@ get_there (y ∷ xs) (suc i) x l e = get_there xs i x (omega arith) e
 -- what a pop leaves
 pub vec_front : {X A : Type 0} (v : Vec X A) → take (vec_len v - 1) v.items ≡ front v.items
 vec_front v = let e : vec_len v ≡ length v.items = omega arith in ap (λ n. take (n - 1) v.items) e
+
+-- one write behind another at one place
+pub modify_twice : {X : Type 0} (f g : X → X) (xs : List X) (i : ℕ) → modify g (modify f xs i) i ≡ modify (λ x. g (f x)) xs i
+modify_twice f g [] i = refl
+modify_twice f g (x ∷ xs) zero = refl
+modify_twice f g (x ∷ xs) (suc i) = ap (λ t. x ∷ t) (modify_twice f g xs i)
+
+-- a write that changes nothing there
+pub modify_back : {X : Type 0} (f : X → X) (xs : List X) (i : ℕ) (x : X) → slice_get xs i ≡ Some x → f x ≡ x → modify f xs i ≡ xs
+modify_back f [] i x e h = refl
+modify_back f (y ∷ xs) zero x e h = let same : y ≡ x = cc in ap (λ z. z ∷ xs) (ap f same ∙ h ∙ sym same)
+modify_back f (y ∷ xs) (suc i) x e h = ap (λ t. y ∷ t) (modify_back f xs i x e h)
+
+-- two writes of the same there
+pub modify_same : {X : Type 0} (f h : X → X) (xs : List X) (i : ℕ) (x : X) → slice_get xs i ≡ Some x → f x ≡ h x → modify f xs i ≡ modify h xs i
+modify_same f h [] i x e same = refl
+modify_same f h (y ∷ xs) zero x e same = let there : y ≡ x = cc in ap (λ z. z ∷ xs) (ap f there ∙ same ∙ ap h (sym there))
+modify_same f h (y ∷ xs) (suc i) x e same = ap (λ t. y ∷ t) (modify_same f h xs i x e same)
+
+-- what stands at a place within
+pub there : {X : Type 0} (xs : List X) (i : ℕ) → i < length xs → (x : X) × (slice_get xs i ≡ Some x)
+there [] i l = absurd (omega arith)
+there (x ∷ xs) zero l = (x, refl)
+there (x ∷ xs) (suc i) l = there xs i (omega arith)

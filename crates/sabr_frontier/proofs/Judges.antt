@@ -1,6 +1,6 @@
 -- What a prefix leads to with its excluded numbers, one number after another.
 use Rattle.std.proofs.Common.{◌≡◌, ℕ, zero, suc, ◌+◌, ◌<◌, ◌≤◌, Bool, true, false, cond, not, List, [], ◌∷◌, ◌++◌, map, filter, take, get_or, length, refl, sym, ap, subst, ◌∙◌, ◌⊎◌, inl, inr, arith, true≢false, Some, None}
-use Rattle.std.specs.Prelude.{IsTrue, IfOk, IfSome, IfNone, Ok, Err, Result, Option, unwrap_or, ◌==◌}
+use Rattle.std.specs.Prelude.{IsTrue, IfOk, IfErr, IfSome, IfNone, Ok, Err, Result, Option, unwrap_or, ◌==◌}
 use Rattle.std.proofs.lemmas.Bool.Decides.{nat_tests}
 use Rattle.std.specs.Ordering.{nat_cmp}
 use Rattle.std.proofs.lemmas.Bool.{false_from_ne_true}
@@ -13,7 +13,8 @@ use Rattle.sabr_model.specs.Plan.{ContactPlan}
 use Rattle.sabr_model.specs.Arrival.{RouteRequest, arrival_after}
 use Rattle.sabr_model.specs.Route.{is_path, is_route, ends_at, until_of, entry_of}
 use Rattle.sabr_model.specs.Record.{RouteRecord, record_of}
-use Rattle.sabr_model.specs.Fault.{fault_of, fault_or}
+use Rattle.sabr_model.specs.declared.following.Reached.{Reached}
+use Rattle.sabr_model.specs.Fault.{fault_of, fault_or, first_fault}
 use Rattle.sabr_model.proofs.Faults.{fault_is_no_route, path_is_good}
 use Rattle.sabr_model.proofs.Paths.{route_is_path}
 use Rattle.sabr_search.proofs.FaultsOfPrefixes.{end_or_none, wrong_end_is_path}
@@ -53,6 +54,11 @@ module _ (p : ContactPlan) (r : RouteRequest) where
   fault_is_no_path [] f some h other = absurd (omega arith)
   fault_is_no_path (n ∷ s) f some h other = false_from_ne_true (is_path p r (n ∷ s)) (λ is.
       other (end_or_none (ends_at p r (n ∷ s)) f (ap (λ o. fault_or o (cond (ends_at p r (n ∷ s)) None (Some WrongEnd))) (sym (path_is_good p r [] (n ∷ s) is)) ∙ h)))
+
+  -- a list that has a fault on the way is no path
+  pub faulty_front : (o : Result Reached HopFault) (s : List ℕ) → IfErr o (λ f. first_fault p r [] s ≡ Some f) → ((here : Reached) → o ≡ Ok here → ⊥) → is_path p r s ≡ true → ⊥
+  faulty_front (Ok here) s fault other path = other here refl
+  faulty_front (Err f) s fault other path = let none : first_fault p r [] s ≡ None = path_is_good p r [] s path in cc
 
   -- ---- all of them
 

@@ -29,6 +29,7 @@ pub mod Queues
 pub mod Blocks
 pub mod Takes
 pub mod Nodes
+pub mod Excluding
 pub mod Splits
 pub mod Found
 pub mod Refined

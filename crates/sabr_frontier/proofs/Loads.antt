@@ -1,5 +1,5 @@
 -- The tree of closed parts is sound, and stands for the state that they make.
-use Rattle.std.proofs.Common.{◌≡◌, ℕ, zero, suc, ◌+◌, ◌<◌, ◌≤◌, Bool, true, false, cond, not, List, [], ◌∷◌, ◌++◌, map, filter, flat_map, take, length, refl, sym, ap, subst, ◌∙◌, ◌⊎◌, inl, inr, arith, true≢false, Option, Some, None, append_assoc, length-append}
+use Rattle.std.proofs.Common.{◌≡◌, ℕ, suc, ◌+◌, ◌<◌, ◌≤◌, Bool, true, false, cond, not, List, [], ◌∷◌, ◌++◌, map, flat_map, take, length, refl, sym, ap, subst, ◌∙◌, ◌⊎◌, inl, inr, arith, true≢false, Option, Some, None, append_assoc, length-append}
 use Rattle.std.specs.Prelude.{slice_get, is_some}
 use Rattle.std.specs.Option.{option_map}
 use Rattle.std.specs.Ordering.{nat_cmp}
@@ -11,30 +11,29 @@ use Rattle.sabr_model.specs.Order.{by_numbers}
 use Rattle.sabr_model.specs.Parts.{number_after}
 use Rattle.sabr_model.specs.Plan.{ContactPlan}
 use Rattle.sabr_model.specs.Arrival.{RouteRequest}
-use Rattle.sabr_model.specs.Route.{is_path, is_prefix, is_route}
+use Rattle.sabr_model.specs.Route.{is_path, is_route}
 use Rattle.sabr_model.specs.Record.{RouteRecord, record_of}
 use Rattle.sabr_frontier.specs.declared.tree.NodeId.{NodeId}
 use Rattle.sabr_frontier.specs.declared.tree.Node.{Node}
-use Rattle.sabr_frontier.specs.Rising.{has, Below, Rises}
+use Rattle.sabr_frontier.specs.Rising.{has, Rises}
 use Rattle.sabr_frontier.specs.Tree.{set_of}
-use Rattle.sabr_frontier.specs.State.{PartState, State, pair_of, Member, leaves, leaves_of}
-use Rattle.sabr_frontier.specs.Formed.{IsClosed, InOrder, IsWellFormed}
-use Rattle.sabr_frontier.specs.Owing.{Owing, onward, IsGood, Owes}
+use Rattle.sabr_frontier.specs.State.{pair_of, Member, leaves, leaves_of}
+use Rattle.sabr_frontier.specs.Formed.{InOrder}
+use Rattle.sabr_frontier.specs.Owing.{Owing, onward, Owes}
 use Rattle.sabr_frontier.specs.Listing.{IsState, leaves_in}
 use Rattle.sabr_frontier.specs.Loading.{IsCounted, state_with}
-use Rattle.sabr_frontier.specs.Shape.{Shape, front_of, given_at, numbers_of, part_at, part_of, prefix_of, route_at, shown}
+use Rattle.sabr_frontier.specs.Shape.{Shape, front_of, numbers_of, part_at, part_of, prefix_of, route_at, shown}
 use Rattle.sabr_frontier.specs.Queue.{InPairs}
-use Rattle.sabr_frontier.specs.Sound.{AreApart, AreGiven, IsLent, IsTree}
-use Rattle.sabr_frontier.specs.Taking.{enqueued_all, ids_from}
-use Rattle.sabr_frontier.specs.Holding.{Holding, AreLent, IsAnswered, IsGiven, IsHeld, IsLastPlace, IsWrongLast, is_paid, loaded_tree, pairs_in, part_for, parts_in, parts_of}
+use Rattle.sabr_frontier.specs.Sound.{AreGiven, IsLent, IsTree}
+use Rattle.sabr_frontier.specs.Taking.{ids_from}
+use Rattle.sabr_frontier.specs.Holding.{Holding, AreLent, IsAnswered, IsGiven, IsHeld, IsLastPlace, IsWrongLast, is_paid, loaded_tree, pairs_in, parts_in, parts_of}
 use Rattle.sabr_frontier.proofs.Rising.{length-put_in, true_or_false}
-use Rattle.sabr_frontier.proofs.Trees.{In}
 use Rattle.sabr_frontier.proofs.Beginnings.{number_after-snoc, number_after-split, number_after-of_longer}
-use Rattle.sabr_frontier.proofs.Closed.{In_Member, Member_In, set_of_has, has_set_of, last_same, Number_has}
-use Rattle.sabr_frontier.proofs.Members.{Member-map, Member-map_cases, Member-filter_cases, Member-flat_map_cases, Member-append_left, Member-append_right, Member-append_cases, Below-member, Less-apart}
+use Rattle.sabr_frontier.proofs.Closed.{In_Member, Member_In, set_of_has, has_set_of, last_same}
+use Rattle.sabr_frontier.proofs.Members.{Member-map, Member-map_cases, Member-filter_cases, Member-flat_map_cases, Member-append_cases, Below-member, Less-apart}
 use Rattle.sabr_frontier.proofs.Division.{map-append}
 use Rattle.sabr_frontier.proofs.Leaves.{Pairs}
-use Rattle.sabr_frontier.proofs.Nodes.{get_within, get_Member, get_at_end, ids_cases, ids_has}
+use Rattle.sabr_frontier.proofs.Nodes.{get_within, get_at_end, ids_cases, ids_has}
 use Rattle.sabr_frontier.proofs.Refined.{carried_there}
 use Rattle.sabr_frontier.proofs.Queues.{enqueued_all_falls}
 use Rattle.sabr_frontier.proofs.Sounds.{all_cases, all_has, all_length, block_apart}

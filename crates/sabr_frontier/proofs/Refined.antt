@@ -26,7 +26,7 @@ use Rattle.sabr_frontier.specs.Shape.{Shape, shown, part_at, part_of, prefix_of,
 use Rattle.sabr_frontier.specs.Undo.{modify, last_item, front}
 use Rattle.sabr_frontier.specs.Queue.{InPairs, IsBefore, IsAtOrBehind, IsNotBetter}
 use Rattle.sabr_frontier.specs.Taking.{nodes_then, widened}
-use Rattle.sabr_frontier.specs.Sound.{IsTree, IsDividable, AreApart}
+use Rattle.sabr_frontier.specs.Sound.{IsTree, CanExclude, AreApart}
 use Rattle.sabr_frontier.proofs.Found.{found_is, none_found}
 use Rattle.sabr_frontier.proofs.Rising.{is_equal}
 use Rattle.sabr_frontier.proofs.Beginnings.{lists_exact, number_after-split}
@@ -134,9 +134,8 @@ module _ {A : Type 0} (p : ContactPlan) (r : RouteRequest) (t : Shape A) (is : I
           let w = number_after-split (prefix_of t.leaves n) x.contacts number inside.1.1 in
           (w.0, w.1, cut_at x.contacts (prefix_of t.leaves n) number w.0 n.length w.1 (prefix_length t.leaves n (is.lent n (get_Member t.nodes node.0 n stands))))
 
-      pub dividable : IsDividable p r n x
-      dividable = record {
-        route = inside.0;
+      pub can_exclude : CanExclude n x.contacts
+      can_exclude = record {
         longer = cut.2.inside;
         rises = is.formed.order.numbers (prefix_of t.leaves n) n.excluded (Member-map pair_of here parts here_in);
         absent = ap (λ z. has nat_cmp z n.excluded) cut.2.number ∙ inside.1.2;

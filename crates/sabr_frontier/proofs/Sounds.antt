@@ -35,7 +35,7 @@ use Rattle.sabr_frontier.proofs.Queues.{put_behind_cases, put_behind_has, enqueu
 use Rattle.sabr_frontier.proofs.Takes.{Passes, filter_all, take_front, undone-after}
 use Rattle.sabr_frontier.proofs.Nodes.{get_within, get_Member, get_at_end, get_same, modify_cases, member_cut, member_taken, member_dropped, pairs_front, same_node, ids_cases, ids_has}
 use Rattle.sabr_frontier.proofs.Splits.{lent_stable}
-use Rattle.sabr_frontier.proofs.Refined.{queue_is, node_within, rest_other, rest_queued, rest_within, kept_route, rest_order, here, here_in, cut, dividable, carried_there, record_is}
+use Rattle.sabr_frontier.proofs.Refined.{queue_is, node_within, rest_other, rest_queued, rest_within, kept_route, rest_order, here, here_in, cut, can_exclude, carried_there, record_is}
 use Rattle.sabr_frontier.proofs.Divided.{shown_divided}
 
 -- ---- who is in a queue
@@ -315,7 +315,7 @@ module _ {A : Type 0} (p : ContactPlan) (r : RouteRequest) (good : IsPlan p) (t 
   older = passes_from (λ (id : NodeId). nat_lt id.0 N && not (nat_eq id.0 node.0)) (front t.queue) (λ id m. other_test id.0 node.0 N (rest_within p r t is node last id m) (rest_other p r t is node last id m))
 
   forgets : without (slice_index s n.length) wide ≡ n.excluded
-  forgets = forget-put_in (slice_index s n.length) n.excluded (dividable p r t is node last n x stands carries).absent
+  forgets = forget-put_in (slice_index s n.length) n.excluded (can_exclude p r t is node last n x stands carries).absent
 
   pub undone_divided : undone D ≡ t
   undone_divided = undone-after t node n x (front t.queue) wide found new (passing (stands_before t.leaves t.nodes q0) t.index) D.queue stands carries forgets (queue_is p r t is node last)

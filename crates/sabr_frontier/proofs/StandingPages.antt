@@ -1,12 +1,12 @@
 -- The pages that stand since a well-formed state gave routes that are new.
-use Rattle.std.proofs.Common.{◌≡◌, ℕ, zero, suc, List, [], ◌∷◌, ◌++◌, flat_map, refl, sym, ap, subst, ◌∙◌, ◌⊎◌, inl, inr, true, Option, Some, None}
+use Rattle.std.proofs.Common.{◌≡◌, ℕ, zero, suc, List, [], ◌∷◌, flat_map, refl, sym, ap, subst, ◌∙◌, ◌⊎◌, inl, inr, true, Option, Some, None}
 use Rattle.sabr_model.specs.Plan.{ContactPlan, IsPlan}
 use Rattle.sabr_model.specs.Arrival.{RouteRequest}
 use Rattle.sabr_model.specs.Route.{is_route}
 use Rattle.sabr_frontier.specs.State.{State, Member}
 use Rattle.sabr_frontier.specs.Listing.{IsState, leaves_in, one_step, steps}
 use Rattle.sabr_frontier.specs.Queue.{InPairs}
-use Rattle.sabr_frontier.specs.Standing.{PageGiven, Standing, standing_at, page_then, paged, gone_back, after_calls, routes_given, StandsForNewRoutes, PagesGiveNewRoutes}
+use Rattle.sabr_frontier.specs.Standing.{PageGiven, Standing, standing_at, page_then, paged, gone_back, after_calls, StandsForNewRoutes, PagesGiveNewRoutes}
 use Rattle.sabr_frontier.proofs.Loads.{pairs_two}
 use Rattle.sabr_frontier.proofs.Members.{Member-append_cases}
 use Rattle.sabr_frontier.proofs.NewRoutes.{new_routes}

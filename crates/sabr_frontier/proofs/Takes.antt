@@ -10,7 +10,7 @@ use Rattle.sabr_frontier.specs.declared.tree.Entry.{Entry}
 use Rattle.sabr_frontier.specs.Shape.{Shape}
 use Rattle.sabr_frontier.specs.Undo.{modify, given_back, others, undone, undone_by, without}
 use Rattle.sabr_frontier.specs.Taking.{ids_from, with_block}
-use Rattle.sabr_frontier.proofs.Ends.{last_item_push, front_push, length-modify}
+use Rattle.sabr_frontier.proofs.Ends.{last_item_push, front_push, length-modify, modify_twice, modify_back}
 
 -- each passes
 abbrev pub Passes : {X : Type 0} → (X → Bool) → List X → Type 0
@@ -30,17 +30,6 @@ filter-insert p xs i x h =
 not_below : (f n c : ℕ) → c ≤ f → filter (λ (id : NodeId). nat_lt id.0 c) (ids_from f n) ≡ []
 not_below f zero c l = refl
 not_below f (suc n) c l = let no : nat_lt f c ≡ false = grind (arith, nat_tests) in ap (λ b. cond b (record { 0 = f } ∷ filter (λ (id : NodeId). nat_lt id.0 c) (ids_from (suc f) n)) (filter (λ (id : NodeId). nat_lt id.0 c) (ids_from (suc f) n))) no ∙ not_below (suc f) n c (omega arith)
-
-modify_twice : {X : Type 0} (f g : X → X) (xs : List X) (i : ℕ) → modify g (modify f xs i) i ≡ modify (λ x. g (f x)) xs i
-modify_twice f g [] i = refl
-modify_twice f g (x ∷ xs) zero = refl
-modify_twice f g (x ∷ xs) (suc i) = ap (λ t. x ∷ t) (modify_twice f g xs i)
-
--- a change that changes nothing there
-modify_back : {X : Type 0} (f : X → X) (xs : List X) (i : ℕ) (x : X) → slice_get xs i ≡ Some x → f x ≡ x → modify f xs i ≡ xs
-modify_back f [] i x e h = refl
-modify_back f (y ∷ xs) zero x e h = let same : y ≡ x = cc in ap (λ z. z ∷ xs) (ap f same ∙ h ∙ sym same)
-modify_back f (y ∷ xs) (suc i) x e h = ap (λ t. y ∷ t) (modify_back f xs i x e h)
 
 pub take_front : {X : Type 0} (xs ys : List X) (n : ℕ) → n ≡ length xs → take n (xs ++ ys) ≡ xs
 take_front [] ys zero e = refl

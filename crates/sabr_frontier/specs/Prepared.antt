@@ -1,23 +1,34 @@
--- What is ready before the tree changes.
-use Rattle.std.specs.Prelude.{◌≡◌, ◌+◌, take, drop, length, Some, slice_get}
-use Rattle.sabr_model.specs.Plan.{ContactPlan}
-use Rattle.sabr_model.specs.Arrival.{RouteRequest}
+-- What is ready before the tree changes, and the nodes while it does.
+use Rattle.std.specs.Prelude.{◌≡◌, ◌+◌, ◌-◌, ℕ, List, ◌++◌, take, length, Option, Some, slice_get, slice_index}
 use Rattle.sabr_model.specs.Record.{RouteRecord}
 use Rattle.sabr_frontier.specs.declared.tree.NodeId.{NodeId}
 use Rattle.sabr_frontier.specs.declared.tree.Node.{Node}
 use Rattle.sabr_frontier.specs.declared.take.Prepared.{Prepared}
 use Rattle.sabr_frontier.specs.Shape.{Shape}
-use Rattle.sabr_frontier.specs.Best.{best_of}
-use Rattle.sabr_frontier.specs.Taking.{fresh_nodes, passing, stands_before, wide_of}
+use Rattle.sabr_frontier.specs.Undo.{modify, without}
+use Rattle.sabr_frontier.specs.Taking.{passing, stands_before, wide_of}
 
--- for the node n with the route x: a copy of x, the place of the new nodes, and what the searches found
-pub record IsPrepared {A : Type 0} (p : ContactPlan) (r : RouteRequest) (t : Shape A) (n : Node A) (x : RouteRecord) (w : Prepared A) : Type 0 where
+-- for the node n with the route x: a copy of x, the place of the new nodes, and how many there will be
+pub record IsPrepared {A : Type 0} (t : Shape A) (n : Node A) (x : RouteRecord) (w : Prepared A) : Type 0 where
   pub route : w.route ≡ x
   pub place : w.place ≡ passing (stands_before t.leaves t.nodes (take (n.length + 1) x.contacts)) t.index
-  pub wide : w.division.wide ≡ wide_of n x.contacts
-  pub found : w.division.found ≡ best_of p r (take n.length x.contacts) (wide_of n x.contacts)
-  pub fresh : w.division.fresh.items ≡ fresh_nodes (best_of p r) (length t.leaves) (take (n.length + 1) x.contacts) (drop (n.length + 1) x.contacts)
+  pub count : w.count ≡ length x.contacts - (n.length + 1)
 
 -- wherever the node and its route are
-abbrev pub IsReady : {A : Type 0} → ContactPlan → RouteRequest → Shape A → NodeId → Prepared A → Type 0
-IsReady {A} p r t node w = (n : Node A) (x : RouteRecord) → slice_get t.nodes node.0 ≡ Some n → n.route ≡ Some x → IsPrepared p r t n x w
+abbrev pub IsReady : {A : Type 0} → Shape A → NodeId → Prepared A → Type 0
+IsReady {A} t node w = (n : Node A) (x : RouteRecord) → slice_get t.nodes node.0 ≡ Some n → n.route ≡ Some x → IsPrepared t n x w
+
+-- the node with the number behind its prefix in s among those that it excludes, and without it
+abbrev pub excluding : {A : Type 0} → List ℕ → Node A → Node A
+excluding s n = record n { excluded = wide_of n s }
+
+abbrev pub including : {A : Type 0} → List ℕ → Node A → Node A
+including s n = record n { excluded = without (slice_index s n.length) n.excluded }
+
+-- the node with what it carries then
+abbrev pub carrying : {A : Type 0} → Option RouteRecord → Node A → Node A
+carrying found n = record n { route = found }
+
+-- the nodes with what one of them carries then, and the new ones
+abbrev pub nodes_with : {A : Type 0} → List (Node A) → NodeId → Option RouteRecord → List (Node A) → List (Node A)
+nodes_with nodes node found fresh = modify (carrying found) nodes node.0 ++ fresh

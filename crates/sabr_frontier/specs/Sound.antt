@@ -1,9 +1,8 @@
 -- When a tree stands for a well-formed state, and its queue for what its parts carry.
-use Rattle.std.specs.Prelude.{◌≡◌, ℕ, ◌<◌, ◌≤◌, true, false, nat_eq, is_some, ◌⊎◌, List, length, Some, slice_get, slice_index, IsTrue}
+use Rattle.std.specs.Prelude.{◌≡◌, ℕ, ◌<◌, ◌≤◌, true, false, nat_eq, is_some, ◌⊎◌, List, length, Some, slice_get, slice_index}
 use Rattle.std.specs.Ordering.{nat_cmp}
 use Rattle.sabr_model.specs.Plan.{ContactPlan}
 use Rattle.sabr_model.specs.Arrival.{RouteRequest}
-use Rattle.sabr_model.specs.Route.{is_route}
 use Rattle.sabr_model.specs.Record.{RouteRecord, record_of}
 use Rattle.sabr_frontier.specs.declared.tree.NodeId.{NodeId}
 use Rattle.sabr_frontier.specs.declared.tree.Node.{Node}
@@ -39,14 +38,8 @@ pub record IsTree {A : Type 0} (p : ContactPlan) (r : RouteRequest) (t : Shape A
   pub once : InPairs AreApart t.queue
   pub short : length t.queue ≤ length t.nodes
 
--- a node can be divided by the route that it carries: a route that goes on behind the node's prefix with a
--- number that the node doesn't exclude
-pub record IsDividable {A : Type 0} (p : ContactPlan) (r : RouteRequest) (n : Node A) (x : RouteRecord) : Type 0 where
-  pub route : IsTrue (is_route p r x.contacts)
-  pub longer : n.length < length x.contacts
+-- the list goes on behind the node's prefix with a number that the node doesn't exclude
+pub record CanExclude {A : Type 0} (n : Node A) (s : List ℕ) : Type 0 where
+  pub longer : n.length < length s
   pub rises : Rises nat_cmp n.excluded
-  pub absent : has nat_cmp (slice_index x.contacts n.length) n.excluded ≡ false
-
--- wherever the node and its route are, it can be divided
-abbrev pub CanDivide : {A : Type 0} → ContactPlan → RouteRequest → List (Node A) → NodeId → Type 0
-CanDivide {A} p r nodes node = (n : Node A) (x : RouteRecord) → slice_get nodes node.0 ≡ Some n → n.route ≡ Some x → IsDividable p r n x
+  pub absent : has nat_cmp (slice_index s n.length) n.excluded ≡ false

@@ -73,18 +73,22 @@ widened wide found n = record n { excluded = wide; route = found }
 abbrev pub nodes_then : {A : Type 0} → List (Node A) → NodeId → List ℕ → Option RouteRecord → List (Node A) → List (Node A)
 nodes_then nodes node wide found fresh = modify (widened wide found) nodes node.0 ++ fresh
 
--- the tree once the node's route x is given, for what the searches found, with the new nodes at a place of the index
-abbrev pub divided_by : {A : Type 0} → Shape A → NodeId → RouteRecord → ℕ → List ℕ → Option RouteRecord → List (Node A) → Shape A
-divided_by t node x place wide found fresh =
-    let block = ids_from (length t.nodes) (length fresh) in
+-- the tree once the node's route x is given, with these nodes, of which so many new ones stand at a place of the index
+abbrev pub changed_by : {A : Type 0} → Shape A → NodeId → RouteRecord → ℕ → List (Node A) → ℕ → Shape A
+changed_by t node x place nodes count =
+    let block = ids_from (length t.nodes) count in
     record {
-      nodes = nodes_then t.nodes node wide found fresh;
+      nodes = nodes;
       index = with_block place block t.index;
-      queue = enqueued_all (nodes_then t.nodes node wide found fresh) (node ∷ block) (front t.queue);
+      queue = enqueued_all nodes (node ∷ block) (front t.queue);
       leaves = t.leaves ++ x ∷ [];
       last = Some (length t.leaves);
       journal = t.journal ++ record { node = node; nodes = length t.nodes; last = t.last } ∷ [];
     }
+
+-- that for what the searches found
+abbrev pub divided_by : {A : Type 0} → Shape A → NodeId → RouteRecord → ℕ → List ℕ → Option RouteRecord → List (Node A) → Shape A
+divided_by t node x place wide found fresh = changed_by t node x place (nodes_then t.nodes node wide found fresh) (length fresh)
 
 -- the numbers that the node excludes then, the front of the route that its new parts begin with, and the rest
 abbrev pub wide_of : {A : Type 0} → Node A → List ℕ → List ℕ

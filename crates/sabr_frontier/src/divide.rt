@@ -1,23 +1,23 @@
-//! Dividing a part by the route that it carries: all that may be refused, before the tree changes.
+//! Dividing a part by the route that it carries: the number that it excludes from then on, and all searches.
 
-ghost use Rattle.std.specs.Prelude.{◌≡◌, ℕ, ◌+◌, ◌≤◌, ◌<◌, take, drop, slice_index, length, vec_len, false, [], ◌∷◌, IfOk, OnOk, IsTrue};
-ghost use Rattle.std.specs.Ordering.{nat_cmp};
+ghost use Rattle.std.specs.Prelude.{◌≡◌, ℕ, ◌+◌, ◌≤◌, ◌<◌, take, drop, slice_index, slice_get, length, vec_len, vec_capacity, Some, [], ◌∷◌, IfOk, OnOk, OnErr, IsTrue};
 ghost use Rattle.sabr_model.specs.Route.{is_route};
-ghost use Rattle.sabr_frontier.specs.Rising.{has, Rises};
 ghost use Rattle.sabr_frontier.specs.Best.{best_of};
+ghost use Rattle.sabr_frontier.specs.Undo.{modify};
 ghost use Rattle.sabr_frontier.specs.Taking.{fresh_nodes, wide_of};
+ghost use Rattle.sabr_frontier.specs.Sound.{CanExclude};
+ghost use Rattle.sabr_frontier.specs.Prepared.{excluding, including};
 
 use crate::excluded::Excluded;
 use crate::finder::ask;
-use crate::tree::Node;
+use crate::tree::{Node, NodeId};
 use sabr_model::{NoMemory, Numbers, Plan, Request, Route};
 use sabr_search::BestOf;
 use std::alloc::{Allocator, Global};
 
-/// What a part and the new parts exclude and carry once its route is given.
+/// What a part carries once its route is given, and the new parts.
 #[derive(Debug, Drop)]
 pub struct Division<A: Allocator + Copy = Global> {
-    pub wide: Excluded<A>,
     pub found: Option<Route<A>>,
     pub fresh: Vec<Node<A>, A>,
 }
@@ -35,6 +35,13 @@ pub fn copied<A: Allocator + Copy>(alloc: A, route: &Route<A>) -> Result<Route<A
         }),
         Err(_) => Err(NoMemory),
     }
+}
+
+/// The numbers of a record.
+pub fn numbers<A: Allocator + Copy>(route: &Route<A>) -> &[u32]
+    ensures { result.now ≡ route.now.contacts }
+{
+    route.contacts.as_slice()
 }
 
 /// A node of a leaf, for the first `count` numbers of a route and its next number.
@@ -88,9 +95,9 @@ fn fresh_nodes<B: BestOf<A>, A: Allocator + Copy>(
     Ok(nodes)
 }
 
-/// Divides the part of a node by the route that it carries, a leaf of the number `leaf` from then on: one
-/// search for the part itself, and one for each new part.
-pub fn divide<B: BestOf<A>, A: Allocator + Copy>(
+/// What a node carries next, for the numbers that it excludes, and the new nodes of its route, a leaf of the number
+/// `leaf` from then on: one search for the node itself, and one for each new node.
+fn search<B: BestOf<A>, A: Allocator + Copy>(
     alloc: A,
     plan: &Plan<A>,
     request: &Request,
@@ -101,16 +108,83 @@ pub fn divide<B: BestOf<A>, A: Allocator + Copy>(
 ) -> Result<Division<A>, NoMemory>
     requires route { IsTrue (is_route plan.now.plan request.now route.now) }
     requires longer { node.now.length < length route.now }
-    requires rises { Rises nat_cmp node.now.excluded }
-    requires absent { has nat_cmp (slice_index route.now node.now.length) node.now.excluded ≡ false }
-    ensures wide { IfOk result (λ w. w.wide ≡ wide_of node.now route.now) }
-    ensures found { IfOk result (λ w. w.found ≡ best_of plan.now.plan request.now (take node.now.length route.now) (wide_of node.now route.now)) }
+    ensures found { IfOk result (λ w. w.found ≡ best_of plan.now.plan request.now (take node.now.length route.now) node.now.excluded) }
     ensures fresh { IfOk result (λ w. w.fresh.items ≡ fresh_nodes (best_of plan.now.plan request.now) leaf (take (node.now.length + 1) route.now) (drop (node.now.length + 1) route.now)) }
     ensures called { IfOk result (λ w. B.calls_of finder.new ≡ B.calls_of finder.old + (length w.fresh.items + 1)) }
 {
     let count = node.length;
-    let wide = node.excluded.with(alloc, route[count])?;
-    let found = ask(finder, plan, request, &route[..count], wide.as_slice())?;
+    let found = ask(
+        finder,
+        plan,
+        request,
+        &route[..count],
+        node.excluded.as_slice(),
+    )?;
     let fresh = fresh_nodes(alloc, plan, request, finder, leaf, route, count + 1)?;
-    Ok(Division { wide, found, fresh })
+    Ok(Division { found, fresh })
+}
+
+// The node excludes the number that a route takes behind its prefix, or nothing changes.
+fn exclude_next<A: Allocator + Copy>(
+    nodes: &mut Vec<Node<A>, A>,
+    node: NodeId,
+    route: &[u32],
+) -> Result<(), NoMemory>
+    requires in_range { node.0 < vec_len nodes.old }
+    requires next { (n : Node A) → slice_get nodes.old.items node.0 ≡ Some n → CanExclude n route.now }
+    ensures ok { OnOk result (nodes.new.items ≡ modify (excluding route.now) nodes.old.items node.0) }
+    ensures err { OnErr result (nodes.new.items ≡ nodes.old.items) }
+    ensures len { vec_len nodes.new ≡ vec_len nodes.old }
+    ensures capacity { vec_capacity nodes.new ≡ vec_capacity nodes.old }
+{
+    let part = &mut nodes[node.0];
+    let number = route[part.length];
+    part.excluded.put(number)?;
+    Ok(())
+}
+
+// The node no longer excludes the number that a route takes behind its prefix. It takes no memory.
+fn include_next<A: Allocator + Copy>(nodes: &mut Vec<Node<A>, A>, node: NodeId, route: &[u32])
+    requires in_range { node.0 < vec_len nodes.old }
+    requires longer { (n : Node A) → slice_get nodes.old.items node.0 ≡ Some n → n.length < length route.now }
+    ensures nodes { nodes.new.items ≡ modify (including route.now) nodes.old.items node.0 }
+    ensures len { vec_len nodes.new ≡ vec_len nodes.old }
+    ensures capacity { vec_capacity nodes.new ≡ vec_capacity nodes.old }
+{
+    let part = &mut nodes[node.0];
+    let number = route[part.length];
+    part.excluded.forget(number);
+}
+
+/// Divides the part of a node by a route of it, a leaf of the number `leaf` from then on: the node excludes one
+/// number more. After a refusal the nodes are as they were.
+pub fn divide<B: BestOf<A>, A: Allocator + Copy>(
+    alloc: A,
+    plan: &Plan<A>,
+    request: &Request,
+    finder: &mut B,
+    nodes: &mut Vec<Node<A>, A>,
+    node: NodeId,
+    route: &[u32],
+    leaf: usize,
+) -> Result<Division<A>, NoMemory>
+    requires in_range { node.0 < vec_len nodes.old }
+    requires route { IsTrue (is_route plan.now.plan request.now route.now) }
+    requires next { (n : Node A) → slice_get nodes.old.items node.0 ≡ Some n → CanExclude n route.now }
+    ensures ok { OnOk result (nodes.new.items ≡ modify (excluding route.now) nodes.old.items node.0) }
+    ensures found { IfOk result (λ w. (n : Node A) → slice_get nodes.old.items node.0 ≡ Some n → w.found ≡ best_of plan.now.plan request.now (take n.length route.now) (wide_of n route.now)) }
+    ensures fresh { IfOk result (λ w. (n : Node A) → slice_get nodes.old.items node.0 ≡ Some n → w.fresh.items ≡ fresh_nodes (best_of plan.now.plan request.now) leaf (take (n.length + 1) route.now) (drop (n.length + 1) route.now)) }
+    ensures called { IfOk result (λ w. B.calls_of finder.new ≡ B.calls_of finder.old + (length w.fresh.items + 1)) }
+    ensures err { OnErr result (nodes.new.items ≡ nodes.old.items) }
+    ensures len { vec_len nodes.new ≡ vec_len nodes.old }
+    ensures capacity { vec_capacity nodes.new ≡ vec_capacity nodes.old }
+{
+    exclude_next(nodes, node, route)?;
+    match search(alloc, plan, request, finder, &nodes[node.0], route, leaf) {
+        Ok(division) => Ok(division),
+        Err(refused) => {
+            include_next(nodes, node, route);
+            Err(refused)
+        }
+    }
 }

@@ -1,12 +1,15 @@
 //! What the numbers that a part excludes lead to: leaves, and prefixes that go on.
 
-ghost use Rattle.std.specs.Prelude.{◌≡◌, ◌<◌, true, ◌∷◌, ◌++◌, [], map, length, IfOk, IfSome, IfNone};
+ghost use Rattle.std.specs.Prelude.{◌≡◌, true, ◌∷◌, ◌++◌, [], map, IfOk, IfSome, IfNone, IsTrue};
 ghost use Rattle.sabr_model.specs.Route.{is_path};
 ghost use Rattle.sabr_model.specs.Record.{record_of};
+ghost use Rattle.sabr_model.specs.Following.{IsReachedBy};
 ghost use Rattle.sabr_frontier.specs.Holding.{AllGoOn, IsJudged, onward_of, routes_of};
 
 use crate::record::record;
-use sabr_model::{HopFault, NoMemory, Numbers, Plan, Request, Route, follow};
+use sabr_model::{
+    HopFault, NoMemory, Numbers, Plan, Reached, Request, Route, follow_on, follow_prefix,
+};
 use std::alloc::{Allocator, Global};
 
 /// The routes that a prefix makes with its excluded numbers, and those with a number that make no route and go on.
@@ -34,20 +37,25 @@ fn longer<A: Allocator + Copy>(
 }
 
 impl<A: Allocator + Copy> Judged<A> {
-    // Puts a path behind the others of its kind; false where the numbers make none.
+    // Puts the path of a prefix and one number more behind the others of its kind; false where they make none.
     fn put(
         &mut self,
+        alloc: A,
         plan: &Plan<A>,
         request: &Request,
-        numbers: Vec<u32, A>,
+        prefix: &[u32],
+        here: Reached,
+        number: u32,
     ) -> Result<bool, NoMemory>
-        requires { 0 < length numbers.items }
-        ensures path { IfOk result (λ is. is ≡ is_path plan.now.plan request.now numbers.items) }
-        ensures leaves { IfOk result (λ is. is ≡ true → self.new.leaves.items ≡ self.old.leaves.items ++ map (record_of plan.now.plan request.now) (routes_of plan.now.plan request.now numbers.items)) }
-        ensures onward { IfOk result (λ is. is ≡ true → self.new.onward.items ≡ self.old.onward.items ++ onward_of plan.now.plan request.now numbers.items) }
+        requires path { IsTrue (is_path plan.now.plan request.now prefix.now) }
+        requires reached { IsReachedBy plan.now.plan request.now prefix.now here }
+        ensures path { IfOk result (λ is. is ≡ is_path plan.now.plan request.now (prefix.now ++ number ∷ [])) }
+        ensures leaves { IfOk result (λ is. is ≡ true → self.new.leaves.items ≡ self.old.leaves.items ++ map (record_of plan.now.plan request.now) (routes_of plan.now.plan request.now (prefix.now ++ number ∷ []))) }
+        ensures onward { IfOk result (λ is. is ≡ true → self.new.onward.items ≡ self.old.onward.items ++ onward_of plan.now.plan request.now (prefix.now ++ number ∷ [])) }
     {
-        match follow(plan, request, numbers.as_slice()) {
+        match follow_on(plan, request, prefix, here, number) {
             Ok(delivery) => {
+                let numbers = longer(alloc, prefix, number)?;
                 let Ok(()) = self.leaves.push(record(plan, numbers, delivery)) else {
                     return Err(NoMemory);
                 };
@@ -55,6 +63,7 @@ impl<A: Allocator + Copy> Judged<A> {
             }
             Err(fault) => match fault {
                 HopFault::WrongEnd => {
+                    let numbers = longer(alloc, prefix, number)?;
                     let Ok(()) = self.onward.push(Numbers::new(numbers)) else {
                         return Err(NoMemory);
                     };
@@ -66,7 +75,7 @@ impl<A: Allocator + Copy> Judged<A> {
     }
 }
 
-/// What the excluded numbers of a prefix lead to, or none where one of them makes no path.
+/// What the excluded numbers of a prefix lead to, or none where one of them makes no path. The prefix is followed once.
 pub fn judge<A: Allocator + Copy>(
     alloc: A,
     plan: &Plan<A>,
@@ -81,9 +90,14 @@ pub fn judge<A: Allocator + Copy>(
         leaves: Vec::new(alloc),
         onward: Vec::new(alloc),
     };
+    if excluded.is_empty() {
+        return Ok(Some(judged));
+    }
+    let Ok(here) = follow_prefix(plan, request, prefix) else {
+        return Ok(None);
+    };
     for number in excluded {
-        let numbers = longer(alloc, prefix, *number)?;
-        if !judged.put(plan, request, numbers)? {
+        if !judged.put(alloc, plan, request, prefix, here, *number)? {
             return Ok(None);
         }
     }

@@ -1,77 +1,63 @@
 //! Giving the least route that the tree carries.
 
-ghost use Rattle.std.specs.Prelude.{◌≡◌, ℕ, ◌+◌, ◌<◌, ◌≤◌, ◌∷◌, ◌++◌, [], length, vec_len, IsSome, IfOk, IfSome, OnOk, OnErr};
+ghost use Rattle.std.specs.Prelude.{◌≡◌, ℕ, ◌+◌, ◌<◌, ◌≤◌, ◌∷◌, ◌++◌, [], length, vec_len, slice_get, Some, IsSome, IfOk, IfSome, OnOk, OnErr};
 ghost use Rattle.sabr_model.specs.Plan.{IsPlan};
+ghost use Rattle.sabr_model.specs.Record.{RouteRecord};
 ghost use Rattle.sabr_frontier.specs.Shape.{shape_of, route_at};
 ghost use Rattle.sabr_frontier.specs.Undo.{IsRoomy};
 ghost use Rattle.sabr_frontier.specs.Queue.{InPairs, IsBefore};
 ghost use Rattle.sabr_frontier.specs.Taking.{least_route, taken, new_count};
-ghost use Rattle.sabr_frontier.specs.Sound.{CanDivide, IsTree};
+ghost use Rattle.sabr_frontier.specs.Sound.{IsTree};
 ghost use Rattle.sabr_frontier.specs.Prepared.{IsReady};
 
-use crate::divide::{Division, copied, divide};
+use crate::divide::{copied, divide, numbers};
 use crate::places::index_place;
-use crate::tree::{NodeId, Tree};
+use crate::tree::{Node, NodeId, Tree};
 use sabr_model::{NoMemory, Plan, Request, Route};
 use sabr_search::BestOf;
 use std::alloc::{Allocator, Global};
 
-/// What is ready before the tree changes: a copy of the route, the place of the new nodes in the index, and
-/// what the searches found.
+/// What is known before the tree changes: a copy of the route, the place of the new nodes in the index, and how many
+/// there will be.
 #[derive(Debug, Drop)]
 pub struct Prepared<A: Allocator + Copy = Global> {
     pub route: Route<A>,
     pub place: usize,
-    pub division: Division<A>,
+    pub count: usize,
 }
 
 impl<A: Allocator + Copy> Tree<A> {
-    /// All searches for giving the route of a node, and the memory that they fill.
-    fn prepare<B: BestOf<A>>(
-        &self,
-        alloc: A,
-        plan: &Plan<A>,
-        request: &Request,
-        finder: &mut B,
-        node: NodeId,
-    ) -> Result<Prepared<A>, NoMemory>
+    /// What is known for giving the route of a node.
+    fn prepare(&self, alloc: A, node: NodeId) -> Result<Prepared<A>, NoMemory>
         requires in_range { node.0 < vec_len self.now.nodes }
         requires carries { IsSome (route_at self.now.nodes.items node) }
         requires order { InPairs (IsBefore self.now.leaves.items self.now.nodes.items) self.now.index.items }
-        requires dividable { CanDivide plan.now.plan request.now self.now.nodes.items node }
-        ensures ready { IfOk result (IsReady plan.now.plan request.now (shape_of self.now) node) }
-        ensures called { IfOk result (λ w. B.calls_of finder.new ≡ B.calls_of finder.old + (length w.division.fresh.items + 1)) }
+        requires longer { (n : Node A) (x : RouteRecord) → slice_get self.now.nodes.items node.0 ≡ Some n → n.route ≡ Some x → n.length < length x.contacts }
+        ensures ready { IfOk result (IsReady (shape_of self.now) node) }
     {
         let part = &self.nodes[node.0];
         let Some(route) = &part.route else {
             unreachable!()
         };
-        let numbers = route.contacts.as_slice();
-        let copy = copied(alloc, route)?;
-        let division = divide(
-            alloc,
-            plan,
-            request,
-            finder,
-            part,
-            numbers,
-            self.leaves.len(),
-        )?;
+        let contacts = numbers(route);
+        let first = part.length + 1;
         let place = index_place(
             self.leaves.as_slice(),
             self.nodes.as_slice(),
             self.index.as_slice(),
-            &numbers[..part.length + 1],
+            &contacts[..first],
         );
+        let count = contacts.len() - first;
+        let copy = copied(alloc, route)?;
         Ok(Prepared {
             route: copy,
             place,
-            division,
+            count,
         })
     }
 
-    /// Gives the least route that a node carries, and answers how many searches that took. What may be refused
-    /// comes before the first change.
+    /// Gives the least route that a node carries, and answers how many searches that took. Room for all comes first;
+    /// then the searches, and a refused one leaves the parts as they were.
     pub fn take<B: BestOf<A>>(
         &mut self,
         alloc: A,
@@ -95,14 +81,24 @@ impl<A: Allocator + Copy> Tree<A> {
             unreachable!()
         };
         let node = *last;
-        let prepared = self.prepare(alloc, plan, request, finder, node)?;
-        let count = prepared.division.fresh.len();
+        let prepared = self.prepare(alloc, node)?;
         let Ok(()) = given.reserve(1) else {
             return Err(NoMemory);
         };
-        self.reserve(count)?;
+        self.reserve(prepared.count)?;
+        let division = divide(
+            alloc,
+            plan,
+            request,
+            finder,
+            &mut self.nodes,
+            node,
+            numbers(&prepared.route),
+            self.leaves.len(),
+        )?;
+        let count = prepared.count as u64 + 1;
         given.push_reserved(prepared.route);
-        self.change(node, prepared.place, prepared.division);
-        Ok(count as u64 + 1)
+        self.change(node, prepared.place, division);
+        Ok(count)
     }
 }

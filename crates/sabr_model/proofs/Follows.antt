@@ -1,23 +1,25 @@
 -- Steps of following a list of contacts.
-use Rattle.std.proofs.Common.{◌≡◌, ℕ, ◌+◌, ◌<◌, ◌≤◌, Bool, false, cond, ◌||◌, eqb, List, [], ◌∷◌, ◌++◌, map, length, take, drop, get_or, refl, sym, ap, ◌∙◌, arith, add-one, drop-cons}
+use Rattle.std.proofs.Common.{◌≡◌, ℕ, ◌+◌, ◌<◌, ◌≤◌, Bool, false, cond, ◌||◌, eqb, List, [], ◌∷◌, ◌++◌, map, length, take, drop, get_or, refl, sym, ap, subst, ◌∙◌, append_assoc, arith, add-one, drop-cons}
 use Rattle.std.specs.List.{list_any, cons_option}
 use Rattle.std.specs.Option.{option_map_or}
 use Rattle.std.specs.declared.option.Option.TheVariants.{Some, None}
 use Rattle.sabr_model.specs.declared.contact.Contact.{Contact}
+use Rattle.sabr_model.specs.declared.fault.HopFault.{HopFault}
 use Rattle.sabr_model.specs.declared.following.Reached.{Reached}
 use Rattle.sabr_model.specs.Plan.{ContactPlan, IsPlan, IsWindow, contact_named, has, last_time}
 use Rattle.sabr_model.specs.Arrival.{RouteRequest, arrival}
-use Rattle.sabr_model.specs.Route.{chain_end, receivers, contacts_of, ends_at, is_route}
-use Rattle.sabr_model.specs.Fault.{fault_or, first_fault}
+use Rattle.sabr_model.specs.Route.{receivers, contacts_of, ends_at, is_path, is_route}
+use Rattle.sabr_model.specs.Fault.{fault_at, fault_or, first_fault, fault_of}
 use Rattle.sabr_model.specs.Following.{IsReachedBy, receives}
 use Rattle.sabr_model.proofs.Members.{all_in}
 use Rattle.sabr_model.proofs.Listed.{named_is}
 use Rattle.std.specs.Prelude.{IsTrue}
-use Rattle.std.proofs.lemmas.Bool.{eq-eqb}
-use Rattle.std.proofs.lemmas.List.{take_all, drop_all}
+use Rattle.std.proofs.lemmas.Bool.{ne_eqb}
+use Rattle.std.proofs.lemmas.List.{take_all, drop_all, append-nil}
 use Rattle.sabr_model.specs.declared.fault.HopFault.TheVariants.{WrongEnd}
-use Rattle.sabr_model.proofs.Faults.{no_fault_is_route}
-use Rattle.sabr_model.proofs.Paths.{chain_end_push, arrival_after_push}
+use Rattle.sabr_model.proofs.Faults.{good_is_hop, good_is_path, path_is_good}
+use Rattle.sabr_model.proofs.Prefixes.{empty_is_path}
+use Rattle.sabr_model.proofs.Paths.{chain_end_push, arrival_after_push, path_push, route_from_path}
 
 -- the contact of a number ends in time
 pub ends_in_time : (p : ContactPlan) (n : ℕ) (c : Contact) → IsPlan p → contact_named p n ≡ Some c → c.end ≤ last_time
@@ -47,14 +49,54 @@ any_at test s i lt = rw (drop-cons s i 0, add-one) refl
 pub received_behind : (p : ContactPlan) (node : ℕ) (s : List ℕ) (i : ℕ) → i < length s → has node (receivers p s) ≡ list_any (receives p node) (drop i s) → receives p node (get_or s i 0) ≡ false → has node (receivers p s) ≡ list_any (receives p node) (drop (i + 1) s)
 received_behind p node s i lt e h = e ∙ any_at (receives p node) s i lt ∙ ap (λ b. b || list_any (receives p node) (drop (i + 1) s)) h
 
--- all contacts were followed, up to the destination
-pub all_followed : (p : ContactPlan) (r : RouteRequest) (s : List ℕ) (i : ℕ) (here : Reached) → 0 < length s → length s ≤ i → first_fault p r [] s ≡ first_fault p r (take i s) (drop i s) → IsReachedBy p r (take i s) here → here.node ≡ r.destination → IsTrue (is_route p r s)
-all_followed p r [] i here some over none reached same = absurd (omega arith)
-all_followed p r (n ∷ s) i here some over none reached same =
-    let whole : take i (n ∷ s) ≡ n ∷ s = take_all i (n ∷ s) over in
-    let good : first_fault p r [] (n ∷ s) ≡ None = none ∙ ap (first_fault p r (take i (n ∷ s))) (drop_all i (n ∷ s) over) in
-    let end : chain_end p r.source (n ∷ s) ≡ Some r.destination = ap (chain_end p r.source) (sym whole) ∙ reached.node ∙ ap Some same in
-    no_fault_is_route p r (n ∷ s)
-    (ap (λ o. fault_or o (cond (ends_at p r (n ∷ s)) None (Some WrongEnd))) good
-    ∙ ap (λ o. cond (option_map_or (λ b. eqb b r.destination) o false) None (Some WrongEnd)) end
-    ∙ ap (λ b. cond b None (Some WrongEnd)) (eq-eqb r.destination r.destination refl))
+-- the first fault of two lists one behind the other
+first_fault-append : (p : ContactPlan) (r : RouteRequest) (q s t : List ℕ) → first_fault p r q (s ++ t) ≡ fault_or (first_fault p r q s) (first_fault p r (q ++ s) t)
+first_fault-append p r q [] t = ap (λ u. first_fault p r u t) (sym (append-nil q))
+first_fault-append p r q (n ∷ s) t =
+    elim (fault_at p r q n) as (λ o. fault_or o (first_fault p r (q ++ n ∷ []) (s ++ t)) ≡ fault_or (fault_or o (first_fault p r (q ++ n ∷ []) s)) (first_fault p r (q ++ n ∷ s) t)) [
+      | Some f ↦ refl
+      | None ↦ first_fault-append p r (q ++ n ∷ []) s t ∙ ap (λ u. fault_or (first_fault p r (q ++ n ∷ []) s) (first_fault p r u t)) (append_assoc q (n ∷ []) s)
+    ]
+
+-- all contacts were followed
+pub all_followed : (p : ContactPlan) (r : RouteRequest) (s : List ℕ) (i : ℕ) (here : Reached) → length s ≤ i → first_fault p r [] s ≡ first_fault p r (take i s) (drop i s) → IsReachedBy p r (take i s) here → IsTrue (is_path p r s) × IsReachedBy p r s here
+all_followed p r s i here over none reached =
+    let good : first_fault p r [] s ≡ None = none ∙ ap (first_fault p r (take i s)) (drop_all i s over) in
+    (good_is_path p r [] s (empty_is_path p r) good, subst (λ t. IsReachedBy p r t here) (take_all i s over) reached)
+
+pub some_behind : (s : List ℕ) (n : ℕ) → 0 < length (s ++ n ∷ [])
+some_behind [] n = omega arith
+some_behind (m ∷ s) n = omega arith
+
+-- the fault of a list of some numbers
+fault_of_some : (p : ContactPlan) (r : RouteRequest) (s : List ℕ) → 0 < length s → fault_of p r s ≡ fault_or (first_fault p r [] s) (cond (ends_at p r s) None (Some WrongEnd))
+fault_of_some p r [] some = absurd (omega arith)
+fault_of_some p r (n ∷ s) some = refl
+
+fault_on_the_way : (p : ContactPlan) (r : RouteRequest) (s : List ℕ) (f : HopFault) → 0 < length s → first_fault p r [] s ≡ Some f → fault_of p r s ≡ Some f
+fault_on_the_way p r s f some fault = fault_of_some p r s some ∙ ap (λ o. fault_or o (cond (ends_at p r s) None (Some WrongEnd))) fault
+
+-- a fault of the front is that of the list
+pub fault_in_front : (p : ContactPlan) (r : RouteRequest) (s : List ℕ) (n : ℕ) (f : HopFault) → first_fault p r [] s ≡ Some f → fault_of p r (s ++ n ∷ []) ≡ Some f
+fault_in_front p r s n f fault = fault_on_the_way p r (s ++ n ∷ []) f (some_behind s n) (first_fault-append p r [] s (n ∷ []) ∙ ap (λ o. fault_or o (first_fault p r s (n ∷ []))) fault)
+
+-- a path to another node than the destination
+pub ends_elsewhere : (p : ContactPlan) (r : RouteRequest) (s : List ℕ) (here : Reached) → 0 < length s → IsTrue (is_path p r s) → IsReachedBy p r s here → (here.node ≡ r.destination → ⊥) → fault_of p r s ≡ Some WrongEnd
+ends_elsewhere p r s here some path reached other =
+    fault_of_some p r s some
+    ∙ ap (λ o. fault_or o (cond (ends_at p r s) None (Some WrongEnd))) (path_is_good p r [] s path)
+    ∙ ap (λ o. cond (option_map_or (λ b. eqb b r.destination) o false) None (Some WrongEnd)) reached.node
+    ∙ ap (λ b. cond b None (Some WrongEnd)) (ne_eqb here.node r.destination other)
+
+-- a path to the destination
+pub ends_there : (p : ContactPlan) (r : RouteRequest) (s : List ℕ) (here : Reached) → 0 < length s → IsTrue (is_path p r s) → IsReachedBy p r s here → here.node ≡ r.destination → IsTrue (is_route p r s)
+ends_there p r s here some path reached same = route_from_path p r s path some (reached.node ∙ ap Some same)
+
+-- its fault is that of the number
+pub fault_behind : (p : ContactPlan) (r : RouteRequest) (s : List ℕ) (n : ℕ) (f : HopFault) → IsTrue (is_path p r s) → fault_at p r s n ≡ Some f → fault_of p r (s ++ n ∷ []) ≡ Some f
+fault_behind p r s n f path fault =
+    fault_on_the_way p r (s ++ n ∷ []) f (some_behind s n)
+    (first_fault-append p r [] s (n ∷ []) ∙ ap (λ o. fault_or o (first_fault p r s (n ∷ []))) (path_is_good p r [] s path) ∙ ap (λ o. fault_or o None) fault)
+
+pub path_behind : (p : ContactPlan) (r : RouteRequest) (s : List ℕ) (n : ℕ) → IsTrue (is_path p r s) → fault_at p r s n ≡ None → IsTrue (is_path p r (s ++ n ∷ []))
+path_behind p r s n path good = path_push p r s n path (good_is_hop p r s n path good)

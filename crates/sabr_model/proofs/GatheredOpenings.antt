@@ -1,10 +1,15 @@
 -- What no two gathered contacts share, as the set beside them has it.
-use Rattle.std.proofs.Common.{◌≡◌, ℕ, Bool, true, false, cond, ◌&&◌, ◌||◌, not, eqb, List, [], ◌∷◌, ◌++◌, refl, sym, ap, ◌∙◌}
+use Rattle.std.proofs.Common.{◌≡◌, ℕ, ◌<◌, Bool, true, false, cond, ◌&&◌, ◌||◌, not, eqb, List, [], ◌∷◌, ◌++◌, refl, sym, ap, ◌∙◌}
 use Rattle.std.specs.List.{filter, list_any}
 use Rattle.std.proofs.lemmas.List.{map-append}
 use Rattle.sabr_model.specs.declared.contact.Contact.{Contact}
 use Rattle.sabr_model.specs.declared.opening.Opening.{Opening}
-use Rattle.sabr_model.specs.Plan.{opens}
+use Rattle.std.proofs.lemmas.Bool.{lt-leb, ne_eqb}
+use Rattle.std.specs.declared.option.Option.TheVariants.{Some, None}
+use Rattle.sabr_model.specs.declared.fault.AddFault.{AddFault}
+use Rattle.sabr_model.specs.declared.fault.AddFault.TheVariants.{DuplicateContact}
+use Rattle.sabr_model.specs.Plan.{ContactPlan, opens}
+use Rattle.sabr_model.specs.Adding.{contact_refusal}
 use Rattle.sabr_model.specs.Gathering.{openings_of}
 
 -- and, grouped the other way
@@ -13,11 +18,15 @@ and_assoc true b c = refl
 and_assoc false b c = refl
 
 -- an opening is in the set where a contact has it
-pub any_opening : (from to start : ℕ) (cs : List Contact) → list_any (λ o. eqb from o.from && (eqb to o.to && eqb start o.start)) (openings_of cs) ≡ list_any (opens from to start) cs
+any_opening : (from to start : ℕ) (cs : List Contact) → list_any (λ o. eqb from o.from && (eqb to o.to && eqb start o.start)) (openings_of cs) ≡ list_any (opens from to start) cs
 any_opening from to start [] = refl
 any_opening from to start (c ∷ cs) =
     ap (λ b. b || list_any (λ o. eqb from o.from && (eqb to o.to && eqb start o.start)) (openings_of cs)) (and_assoc (eqb from c.from) (eqb to c.to) (eqb start c.start))
     ∙ ap (λ b. opens from to start c || b) (any_opening from to start cs)
+
+-- an opening is in a set of them where a contact has it
+pub opening_known : (from to start : ℕ) (cs : List Contact) (known : List Opening) → known ≡ openings_of cs → list_any (λ o. eqb from o.from && (eqb to o.to && eqb start o.start)) known ≡ list_any (opens from to start) cs
+opening_known from to start cs known are = ap (λ os. list_any (λ o. eqb from o.from && (eqb to o.to && eqb start o.start)) os) are ∙ any_opening from to start cs
 
 -- behind a contact more
 pub openings_push : (cs : List Contact) (c : Contact) → openings_of cs ++ record { from = c.from; to = c.to; start = c.start } ∷ [] ≡ openings_of (cs ++ c ∷ [])
@@ -34,3 +43,17 @@ openings_fewer from to start (c ∷ cs) =
       | true ↦ ap (λ os. record { from = c.from; to = c.to; start = c.start } ∷ os) rest
       | false ↦ rest
     ]
+
+-- over a window, between two nodes, and where there is room, a contact is refused as a duplicate or not at all
+module _ (p : ContactPlan) (from to start end : ℕ) (window : start < end) (apart : from ≡ to → ⊥) (room : p.greatest < 20000) where
+  refused_by_opening : contact_refusal p from to start end ≡ cond (list_any (opens from to start) p.contacts) (Some DuplicateContact) None
+  refused_by_opening = rw (lt-leb end start window, ne_eqb from to apart, lt-leb 20000 p.greatest room) refl
+
+  pub new_accepted : list_any (opens from to start) p.contacts ≡ false → contact_refusal p from to start end ≡ None
+  new_accepted new = refused_by_opening ∙ ap (λ b. cond b (Some DuplicateContact) None) new
+
+  pub new_not_refused : (f : AddFault) → list_any (opens from to start) p.contacts ≡ false → contact_refusal p from to start end ≡ Some f → ⊥
+  new_not_refused f new e = let same : None ≡ Some f = sym (new_accepted new) ∙ e in absurd cc
+
+  pub old_not_accepted : list_any (opens from to start) p.contacts ≡ true → contact_refusal p from to start end ≡ None → ⊥
+  old_not_accepted old e = let same : None ≡ Some DuplicateContact = sym e ∙ refused_by_opening ∙ ap (λ b. cond b (Some DuplicateContact) None) old in absurd cc

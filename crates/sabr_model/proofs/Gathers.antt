@@ -1,5 +1,5 @@
 -- Ranges in two lists, as one list in order.
-use Rattle.std.proofs.Common.{◌≡◌, suc, ◌+◌, ◌<◌, ◌≤◌, Bool, true, false, ◌||◌, not, List, [], ◌∷◌, ◌++◌, length, get_or, drop, map, refl, sym, ap, subst, ◌∙◌, cond, eqb, leb, Result, Ok, Err, OnOk, OnErr, inl, inr, ◌⊎◌, append-nil, arith}
+use Rattle.std.proofs.Common.{◌≡◌, ℕ, zero, suc, ◌+◌, ◌<◌, ◌≤◌, Bool, true, false, ◌||◌, not, List, [], ◌∷◌, ◌++◌, length, get_or, take, drop, map, refl, sym, ap, subst, ◌∙◌, cond, eqb, leb, Result, Ok, Err, OnOk, OnErr, inl, inr, ◌⊎◌, append-nil, arith}
 use Rattle.std.specs.List.{list_any, filter, AllByRecursion}
 use Rattle.std.specs.List.Sorted.{IsStrictlySortedBy}
 use Rattle.std.specs.Cmp.{IsTotalOrder, on_total, alike_right}
@@ -269,7 +269,7 @@ more_from Equal e n = absurd (n refl)
 more_from Greater e n = refl
 
 -- the first of those in their places comes first
-pub placed_first : (xs ys : List Range) (d : Range) → AreTwoLists xs ys → 0 < length xs → 0 < length ys → is_lt (by_range_key (get_or xs 0 d) (get_or ys 0 d)) ≡ true → gathered xs ys ≡ get_or xs 0 d ∷ gathered (drop 1 xs) ys
+placed_first : (xs ys : List Range) (d : Range) → AreTwoLists xs ys → 0 < length xs → 0 < length ys → is_lt (by_range_key (get_or xs 0 d) (get_or ys 0 d)) ≡ true → gathered xs ys ≡ get_or xs 0 d ∷ gathered (drop 1 xs) ys
 unfolding IsStrictlySortedBy
 placed_first [] ys d h a b lt = absurd (omega arith)
 placed_first (x ∷ xs) [] d h a b lt = absurd (omega arith)
@@ -295,7 +295,7 @@ any_less : (x : Range) (xs ys : List Range) → AllByRecursion (λ r. list_any (
 any_less x xs [] all = tt
 any_less x xs (y ∷ ys) all = ((or_parts (overlap y x) (list_any (overlap y) xs) all.0).1, any_less x xs ys all.1)
 
-pub two_lists-placed : (xs ys : List Range) → AreTwoLists xs ys → AreTwoLists (drop 1 xs) ys
+two_lists-placed : (xs ys : List Range) → AreTwoLists xs ys → AreTwoLists (drop 1 xs) ys
 unfolding IsStrictlySortedBy
 two_lists-placed [] ys h = h
 two_lists-placed (x ∷ xs) ys h = record {
@@ -305,6 +305,15 @@ two_lists-placed (x ∷ xs) ys h = record {
   late_windows = h.late_windows;
   are_apart = any_less x xs ys h.are_apart;
 }
+
+-- so many of those in their places come first
+pub run_first : (n : ℕ) (xs ys : List Range) (d : Range) → AreTwoLists xs ys → n ≤ length xs → 0 < length ys → ((k : ℕ) → k < n → is_lt (by_range_key (get_or xs k d) (get_or ys 0 d)) ≡ true)
+    → AreTwoLists (drop n xs) ys × (gathered xs ys ≡ take n xs ++ gathered (drop n xs) ys)
+run_first zero xs ys d h a b lt = (h, refl)
+run_first (suc n) [] ys d h a b lt = absurd (omega arith)
+run_first (suc n) (x ∷ xs) ys d h a b lt =
+    let rest = run_first n xs ys d (two_lists-placed (x ∷ xs) ys h) (omega arith) b (λ k l. lt (suc k) (omega (arith, l))) in
+    (rest.0, placed_first (x ∷ xs) ys d h (omega arith) b (lt zero (omega arith)) ∙ ap (λ rs. x ∷ rs) rest.1)
 
 pub two_lists-late : (xs ys : List Range) → AreTwoLists xs ys → AreTwoLists xs (drop 1 ys)
 unfolding IsStrictlySortedBy

@@ -38,3 +38,4 @@ pub mod Least
 pub mod Faults
 pub mod Follows
 pub mod RowPlans
+pub mod PlacedKeys

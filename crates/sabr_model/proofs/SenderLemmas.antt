@@ -75,7 +75,14 @@ in_row_apart links ordered in_row (suc d) j l m at_l at_m =
 pub lie_over : {A : Type 0} (p : TabledPlan) (linked : List (NodeLinks A)) → AreLinked p linked → length linked ≡ length p.table → AllLieOver linked
 lie_over {A} p linked are many i s at j l there =
     elim ((slice_get_cases p.table i).1) [
-      | inl w ↦ let link = (are i w.0 s at w.2).each j l there in (link.ordered, link.within)
+      | inl w ↦
+          let link = (are i w.0 s at w.2).each j l there in (
+            link.ordered,
+            link.within,
+            λ k x here.
+                let p = part_at s.passes.items l.first (l.end - l.first) k x here in
+                link.bounds (l.first + k) x (omega arith) (omega (arith, p.0)) p.1,
+          )
       | inr past ↦ absurd (let behind = past.0 in let within = slice_get_within linked i s at in omega (arith, behind, within, many))
     ]
 

@@ -5,6 +5,7 @@ pub mod Tabling
 pub mod Tabled
 pub mod Links
 pub mod Linking
+pub mod Outgoing
 pub mod Incoming
 pub mod Ready
 pub mod Stretches

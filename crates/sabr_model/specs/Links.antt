@@ -5,6 +5,7 @@ use Rattle.std.specs.declared.option.Option.TheVariants.{Some}
 use Rattle.sabr_model.specs.declared.contact.Contact.{Contact}
 use Rattle.sabr_model.specs.declared.link.Pass.{Pass}
 use Rattle.sabr_model.specs.declared.link.Link.{Link}
+use Rattle.sabr_model.specs.declared.link.LinkBounds.{LinkBounds}
 use Rattle.sabr_model.specs.Plan.{TabledPlan, contact_named, are_different}
 use Rattle.sabr_model.specs.Light.{light_of}
 use Rattle.sabr_model.specs.Table.{sent_by}
@@ -28,7 +29,17 @@ pub record IsBefore (x y : Pass) : Type 0 where
   pub light_behind : x.least_light_behind ≤ y.light
   pub number_behind : x.least_number_behind ≤ y.number
 
--- the places of the link hold passes from the node to the link's receiver, by start
+-- the pass keeps within the bounds of its link
+pub record IsWithin (b : LinkBounds) (x : Pass) : Type 0 where
+  pub ends : x.end ≤ b.latest_end
+  pub light : b.least_light ≤ x.light
+  pub soonest : b.soonest ≤ x.start + x.light
+
+-- each of the passes does
+abbrev pub AreWithin : LinkBounds → List Pass → Type 0
+AreWithin b passes = (k : ℕ) (x : Pass) → slice_get passes k ≡ Some x → IsWithin b x
+
+-- the places of the link hold passes from the node to the link's receiver, by start, each within the link's bounds
 pub record IsLinkOf (p : TabledPlan) (node : ℕ) (passes : List Pass) (l : Link) : Type 0 where
   pub to : ℕ
   pub receiver : slice_get p.table l.receiver ≡ Some to
@@ -36,6 +47,7 @@ pub record IsLinkOf (p : TabledPlan) (node : ℕ) (passes : List Pass) (l : Link
   pub within : l.end ≤ length passes
   pub each : (k : ℕ) (x : Pass) → l.first ≤ k → k < l.end → slice_get passes k ≡ Some x → IsPassOf p node to x
   pub kept : (i k : ℕ) (x y : Pass) → l.first ≤ i → i ≤ k → k < l.end → slice_get passes i ≡ Some x → slice_get passes k ≡ Some y → IsBefore x y
+  pub bounds : (k : ℕ) (x : Pass) → l.first ≤ k → k < l.end → slice_get passes k ≡ Some x → IsWithin l.bounds x
 
 -- the numbers of passes
 abbrev pub numbers_of : List Pass → List ℕ

@@ -3,20 +3,22 @@
 ghost use Rattle.std.specs.Prelude.{◌≡◌, ℕ, ◌+◌, ◌<◌, ◌^◌, [], ◌∷◌, ◌++◌, Some, None, IfOk, IfErr, IsTrue, length};
 ghost use Rattle.sabr_model.specs.Plan.{has};
 ghost use Rattle.sabr_model.specs.Arrival.{arrival_after};
-ghost use Rattle.sabr_model.specs.Route.{receivers, is_route};
-ghost use Rattle.sabr_model.specs.Fault.{fault_at, fault_of};
+ghost use Rattle.sabr_model.specs.Route.{receivers, is_path, is_route};
+ghost use Rattle.sabr_model.specs.Fault.{fault_at, first_fault, fault_of};
 ghost use Rattle.sabr_model.specs.Following.{IsReachedBy, receives};
 
 use crate::fault::HopFault;
-use crate::plan::{Plan, arrive};
+use crate::plan::{Plan, arrive_by_light};
 use crate::request::Request;
 use std::alloc::Allocator;
 
 /// Where a bundle is, and since when.
-#[derive(Clone, Copy)]
-struct Reached {
-    node: u64,
-    at: u64,
+#[derive(Clone, Copy, Debug, PartialEq, Eq)]
+pub struct Reached {
+    /// The node that has it.
+    pub node: u64,
+    /// The second of its arrival there, since 1970-01-01T00:00:00Z.
+    pub at: u64,
 }
 
 /// Whether the contact of a number is received by the node.
@@ -56,7 +58,7 @@ fn take_hop<A: Allocator + Copy>(
     ensures err { IfErr result (λ f. fault_at plan.now.plan request.now front.now number ≡ Some f) }
 {
     let place = front.len() + 1;
-    let Some(contact) = plan.contact(number) else {
+    let Some((contact, light)) = plan.contact_with_light(number) else {
         return Err(HopFault::NoSuchContact(place));
     };
     if here.node != contact.from {
@@ -65,11 +67,10 @@ fn take_hop<A: Allocator + Copy>(
     if contact.to == request.from() || is_received(plan, front, contact.to) {
         return Err(HopFault::NodeAgain(place));
     }
-    if plan.light(contact).is_none() {
+    let Some(light) = light else {
         return Err(HopFault::NoLight(place));
-    }
-    let _ = plan.contacts();
-    let Some(at) = arrive(plan, request, here.at, contact) else {
+    };
+    let Some(at) = arrive_by_light(request, here.at, contact, light) else {
         return Err(HopFault::TooLate(place));
     };
     if request.avoids(contact.to) {
@@ -106,16 +107,61 @@ pub fn follow<A: Allocator + Copy>(
     ensures delivery { IfOk result (λ d. arrival_after plan.now.plan request.now request.now.at contacts.now ≡ Some d) }
     ensures fault { IfErr result (λ f. fault_of plan.now.plan request.now contacts.now ≡ Some f) }
 {
-    if contacts.is_empty() {
+    let Some((last, prefix)) = contacts.split_last() else {
         return Err(HopFault::Empty);
-    }
+    };
+    let here = follow_prefix(plan, request, prefix)?;
+    follow_on(plan, request, prefix, here, *last)
+}
+
+/// Where the contacts of these numbers lead, one after the other, from the source on: the source itself for none.
+///
+/// It takes as long as [`follow`], and no memory.
+///
+/// # Errors
+///
+/// The fault of the least place that has one.
+pub fn follow_prefix<A: Allocator + Copy>(
+    plan: &Plan<A>,
+    request: &Request,
+    prefix: &[u32],
+) -> Result<Reached, HopFault>
+    ensures path { IfOk result (λ _. IsTrue (is_path plan.now.plan request.now prefix.now)) }
+    ensures reached { IfOk result (IsReachedBy plan.now.plan request.now prefix.now) }
+    ensures fault { IfErr result (λ f. first_fault plan.now.plan request.now [] prefix.now ≡ Some f) }
+{
     let mut here = Reached {
         node: request.from(),
         at: request.at(),
     };
-    for (i, number) in contacts.iter().enumerate() {
-        here = take_hop(plan, request, &contacts[..i], here, *number)?;
+    for (i, number) in prefix.iter().enumerate() {
+        here = take_hop(plan, request, &prefix[..i], here, *number)?;
     }
+    Ok(here)
+}
+
+/// What [`follow`] answers for a prefix and one number more, where `here` is what [`follow_prefix`] answered for the
+/// prefix.
+///
+/// It reads the one contact and, against visiting a node twice, those of the prefix.
+///
+/// # Errors
+///
+/// Those of [`follow`].
+pub fn follow_on<A: Allocator + Copy>(
+    plan: &Plan<A>,
+    request: &Request,
+    prefix: &[u32],
+    here: Reached,
+    number: u32,
+) -> Result<u64, HopFault>
+    requires path { IsTrue (is_path plan.now.plan request.now prefix.now) }
+    requires reached { IsReachedBy plan.now.plan request.now prefix.now here }
+    ensures route { IfOk result (λ _. IsTrue (is_route plan.now.plan request.now (prefix.now ++ number ∷ []))) }
+    ensures delivery { IfOk result (λ d. arrival_after plan.now.plan request.now request.now.at (prefix.now ++ number ∷ []) ≡ Some d) }
+    ensures fault { IfErr result (λ f. fault_of plan.now.plan request.now (prefix.now ++ number ∷ []) ≡ Some f) }
+{
+    let here = take_hop(plan, request, prefix, here, number)?;
     if here.node != request.to() {
         return Err(HopFault::WrongEnd);
     }

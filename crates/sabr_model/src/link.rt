@@ -24,7 +24,18 @@ pub struct Pass {
     pub least_number_behind: u32,
 }
 
-/// The contacts from one node to another: a range of places among the node's passes.
+/// What holds for each pass of a link, so that a search can leave out the whole link.
+#[derive(Clone, Copy, Debug, PartialEq, Eq)]
+pub struct LinkBounds {
+    /// A second by which each has ended.
+    pub latest_end: u64,
+    /// A light time in seconds that none is below.
+    pub least_light: u32,
+    /// A second before which nothing arrives over any of them.
+    pub soonest: u64,
+}
+
+/// The contacts from one node to another: a range of places among the node's passes, and what bounds them all.
 #[derive(Clone, Copy, Debug, PartialEq, Eq)]
 pub struct Link {
     /// The index of the receiver in the table of nodes.
@@ -33,6 +44,8 @@ pub struct Link {
     pub first: usize,
     /// The place behind its last.
     pub end: usize,
+    /// What holds for each of its passes.
+    pub bounds: LinkBounds,
 }
 
 /// The links of one node, and the passes over which they lie one behind the other.
@@ -42,9 +55,11 @@ pub struct Links<'a> {
     pub passes: &'a [Pass],
 }
 
-/// A link as its receiver sees it: the index of its sender in the table of nodes, and its passes by start.
+/// A link as its receiver sees it: the index of its sender in the table of nodes, its passes by start, and what bounds
+/// them all.
 #[derive(Clone, Copy)]
 pub struct Sender<'a> {
     pub node: usize,
     pub passes: &'a [Pass],
+    pub bounds: LinkBounds,
 }

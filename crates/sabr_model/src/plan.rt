@@ -24,12 +24,12 @@ ghost use Rattle.std.specs.Prelude.{◌≡◌, []};
 use crate::contact::{Contact, Range};
 use crate::hop::Hop;
 use crate::node_table::NodeTable;
-pub use arriving::arrive;
+pub use arriving::{arrive, arrive_by_light};
 pub use gathered_contacts::GatheredContacts;
 pub use gathered_ranges::GatheredRanges;
 use indexmap::IndexMap;
-pub use linked::Senders;
-use linked::{IncomingLinks, NodeLinks};
+use linked::IncomingLinks;
+pub use linked::{NodeLinks, Outgoing, Senders};
 use std::alloc::{Allocator, Global};
 use std::marker::Model;
 

@@ -1,16 +1,15 @@
 -- Digits and the number that they stand for.
-use Rattle.std.proofs.Common.{◌≡◌, ℕ, suc, ◌+◌, ◌-◌, ◌*◌, ◌^◌, ◌<◌, ◌≤◌, Bool, true, false, ◌&&◌, List, [], ◌∷◌, ◌++◌, length, take, drop, get_or, refl, subst, arith, fold}
+use Rattle.std.proofs.Common.{◌≡◌, ℕ, suc, ◌+◌, ◌-◌, ◌*◌, ◌^◌, ◌<◌, ◌≤◌, true, false, ◌&&◌, List, [], ◌∷◌, ◌++◌, length, take, drop, get_or, refl, subst, arith, fold}
 use Rattle.std.specs.List.{list_all}
 use Rattle.std.proofs.lemmas.List.{take_more, take-append-drop}
 use Rattle.std.proofs.lemmas.List.Folds.{list_all-append, list_all_at}
 use Rattle.std.proofs.Math.Bool.{and-false}
 use Rattle.std.proofs.Math.Nat.{mul-le-mul_right, pow-suc, pow-le-pow_right}
-use borrow.Author.Tests.{le-leb, lt-ltb, le-ltb, ltb-false, lt-leb}
-use Rattle.std.specs.Prelude.{not, nat_lt, nat_le, Option, Some, None, Result, IfOk, ok_or, cond, if◌then◌else◌}
+use borrow.Author.Tests.{lt-ltb, le-ltb}
+use Rattle.std.specs.Prelude.{nat_lt, nat_le, Option, Some, None, if◌then◌else◌}
 use Rattle.std.proofs.lemmas.Bool.{and_parts}
 use borrow.Author.Tests.{leb-true}
-use Rattle.std.specs.Option.{option_and_then}
-use Rattle.sabr_plan.specs.Digits.{is_digit, are_digits, leads_with_zero, digits_value, number_between}
+use Rattle.sabr_plan.specs.Digits.{is_digit, are_digits, digits_value}
 
 with_digit : ℕ → ℕ → ℕ
 with_digit n b = n * 10 + (b - 48)
@@ -65,62 +64,6 @@ small_value_over xs i h over =
 -- and else the number
 pub small_value_some : (xs : List ℕ) → 0 < length xs → list_all is_digit xs ≡ true → digits_value xs < 18446744073709551616 → small_value xs ≡ Some (digits_value xs)
 small_value_some xs some all h = rw (lt-ltb _ _ some, all, lt-ltb _ _ h) refl
-
--- a test after another, where the other may be weaker than the first
-pick : (a s : Bool) (n : ℕ) (f : ℕ → Bool) → (s ≡ false → f n ≡ false) → (if a && f n then Some n else None) ≡ option_and_then (λ v. if f v then Some v else None) (if a && s then Some n else None)
-pick false s n f h = refl
-pick true true n f h = refl
-pick true false n f h = rw (h refl) refl
-
--- a number between is the number of the digits, where that fits
-pub number_between-small_value : (low high : ℕ) (word : List ℕ) → high < 18446744073709551616 → number_between low high word ≡ option_and_then (λ v. if not (leads_with_zero word) && nat_le low v && nat_le v high then Some v else None) (small_value word)
-unfolding number_between
-number_between-small_value low high word h =
-    pick (are_digits word) (nat_lt (digits_value word) 18446744073709551616) (digits_value word) (λ v. not (leads_with_zero word) && nat_le low v && nat_le v high)
-    (λ e. let big = ltb-false (digits_value word) 18446744073709551616 e in
-    let over : high < digits_value word = omega arith in
-    rw (lt-leb _ _ over) (and-false (not (leads_with_zero word) && nat_le low (digits_value word))))
-
-module _ (low high : ℕ) (word : List ℕ) (h : high < 18446744073709551616) where
-  pub between_none : small_value word ≡ None → number_between low high word ≡ None
-  between_none e = rw (number_between-small_value low high word h, e) refl
-
-  pub between_yes : (v : ℕ) → small_value word ≡ Some v → leads_with_zero word ≡ false → low ≤ v → v ≤ high → number_between low high word ≡ Some v
-  between_yes v e zero above below = rw (number_between-small_value low high word h, e, zero, le-leb _ _ above, le-leb _ _ below) refl
-
-  pub between_zero : (v : ℕ) → small_value word ≡ Some v → leads_with_zero word ≡ true → number_between low high word ≡ None
-  between_zero v e zero = rw (number_between-small_value low high word h, e, zero) refl
-
-  pub between_below : (v : ℕ) → small_value word ≡ Some v → v < low → number_between low high word ≡ None
-  between_below v e under = rw (number_between-small_value low high word h, e, lt-leb _ _ under, and-false (not (leads_with_zero word))) refl
-
-  pub between_above : (v : ℕ) → small_value word ≡ Some v → high < v → number_between low high word ≡ None
-  between_above v e over = rw (number_between-small_value low high word h, e, lt-leb _ _ over, and-false (not (leads_with_zero word) && nat_le low v)) refl
-
--- a number between is between
-pub between_bounds : (low high : ℕ) (word : List ℕ) (n : ℕ) → number_between low high word ≡ Some n → (low ≤ n) × (n ≤ high)
-unfolding number_between
-between_bounds low high word n e =
-    let v = digits_value word in
-    let tests : Bool = not (leads_with_zero word) && nat_le low v && nat_le v high in
-    let both : Bool = are_digits word && tests in
-    (elim both as (λ b. both ≡ b → cond b (Some v) None ≡ Some n → (low ≤ n) × (n ≤ high)) [
-      | true ↦ λ is found.
-          let same : v ≡ n = cc in
-          let inner = and_parts (are_digits word) tests is in
-          let upper = and_parts (not (leads_with_zero word) && nat_le low v) (nat_le v high) inner.1 in
-          let lower = and_parts (not (leads_with_zero word)) (nat_le low v) upper.0 in
-          (rw same at (leb-true low v lower.1), rw same at (leb-true v high upper.1))
-      | false ↦ λ is found. cc
-    ]) refl e
-
--- and so it is as an operand
-pub operand_bounds : {E : Type 0} (low high : ℕ) (word : List ℕ) (kind : E) (r : Result ℕ E) → r ≡ ok_or (number_between low high word) kind → IfOk r (λ n. (low ≤ n) × (n ≤ high))
-operand_bounds low high word kind r e =
-    rw e ((elim (number_between low high word) as (λ o. number_between low high word ≡ o → IfOk (ok_or o kind) (λ n. (low ≤ n) × (n ≤ high))) [
-      | Some n ↦ λ is. between_bounds low high word n is
-      | None ↦ λ is. tt
-    ]) refl)
 
 value_below : (xs : List ℕ) (n : ℕ) → list_all is_digit xs ≡ true → fold (λ n b. n * 10 + (b - 48)) n xs + 1 ≤ (n + 1) * 10 ^ length xs
 value_below [] n all = omega arith

@@ -1,4 +1,5 @@
 pub mod Digits
+pub mod SpelledNumbers
 pub mod FirstWords
 pub mod PlainWords
 pub mod Days

@@ -1,8 +1,6 @@
 -- Numbers as decimal digits.
-use Rattle.std.specs.Prelude.{ℕ, ◌+◌, ◌-◌, ◌*◌, ◌==◌, nat_lt, nat_le, ◌&&◌, not, Bool, List, length, slice_index, fold, if◌then◌else◌}
+use Rattle.std.specs.Prelude.{ℕ, ◌+◌, ◌-◌, ◌*◌, ◌==◌, nat_lt, nat_le, ◌&&◌, Bool, List, length, slice_index, fold}
 use Rattle.std.specs.List.{list_all}
-use Rattle.std.specs.declared.option.Option.{Option}
-use Rattle.std.specs.declared.option.Option.TheVariants.{Some, None}
 
 -- a byte is a digit
 abbrev pub is_digit : ℕ → Bool
@@ -19,9 +17,3 @@ digits_value word = fold (λ n b. n * 10 + (b - 48)) 0 word
 -- more than one digit, and the first is `0`
 abbrev pub leads_with_zero : List ℕ → Bool
 leads_with_zero word = nat_lt 1 (length word) && (slice_index word 0 == 48)
-
--- a number from `low` to `high`, in digits without a leading zero
-unfoldable pub number_between : ℕ → ℕ → List ℕ → Option ℕ
-number_between low high word =
-    let n = digits_value word in
-    if are_digits word && (not (leads_with_zero word) && nat_le low n && nat_le n high) then Some n else None

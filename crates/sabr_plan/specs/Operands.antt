@@ -3,7 +3,8 @@ use Rattle.std.specs.Prelude.{ℕ, ◌+◌, ◌==◌, nat_le, ◌&&◌, List, []
 use Rattle.std.specs.declared.option.Option.{Option}
 use Rattle.std.specs.declared.option.Option.TheVariants.{Some, None}
 use Rattle.sabr_model.specs.Plan.{last_time}
-use Rattle.sabr_plan.specs.Digits.{are_digits, digits_value, number_between}
+use Rattle.sabr_plan.specs.Digits.{are_digits, digits_value}
+use Rattle.sabr_plan.specs.Numbers.{number_within}
 use Rattle.sabr_plan.specs.Times.{time_of}
 use Rattle.sabr_plan.specs.declared.fault.PlanKind.{PlanKind}
 use Rattle.sabr_plan.specs.declared.fault.PlanKind.TheVariants.{BadTime, NoReference, BadNode, BadNumber}
@@ -29,7 +30,7 @@ time_at reference word = elim (relative_of word) [ Some seconds ↦ after_refere
 
 -- a node operand
 abbrev pub node_of : List ℕ → Result ℕ PlanKind
-node_of word = ok_or (number_between 1 18446744073709551615 word) BadNode
+node_of word = ok_or (number_within 1 18446744073709551615 word) BadNode
 
 -- the greatest rate of a contact, in bytes a second, and light time of a range, in seconds
 abbrev pub greatest_value : Target → ℕ
@@ -38,7 +39,7 @@ greatest_value Range = 1000000
 
 -- a rate or a light time
 abbrev pub value_of : Target → List ℕ → Result ℕ PlanKind
-value_of target word = ok_or (number_between 0 (greatest_value target) word) BadNumber
+value_of target word = ok_or (number_within 0 (greatest_value target) word) BadNumber
 
 -- of two refusals of times, BadTime comes first
 abbrev pub lesser_kind : PlanKind → PlanKind → PlanKind

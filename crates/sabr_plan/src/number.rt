@@ -1,7 +1,8 @@
 //! Numbers in decimal digits.
 
-ghost use Rattle.std.specs.Prelude.{◌≡◌, ◌<◌, ◌+◌, ◌-◌, ◌*◌, Some, None, SomeIff, IsTrue, if◌then◌else◌, ◌&&◌, nat_lt};
-ghost use Rattle.sabr_plan.specs.Digits.{is_digit, are_digits, digits_value, leads_with_zero, number_between};
+ghost use Rattle.std.specs.Prelude.{◌≡◌, ◌<◌, ◌≤◌, ◌+◌, ◌-◌, ◌*◌, Some, None, SomeIff, IfSome, IsTrue, if◌then◌else◌, ◌&&◌, nat_lt};
+ghost use Rattle.sabr_plan.specs.Digits.{is_digit, are_digits, digits_value, leads_with_zero};
+ghost use Rattle.sabr_plan.specs.Numbers.{number_within};
 
 /// One digit more behind a number, where that is below 2^64.
 fn push_digit(value: u64, byte: u8) -> Option<u64>
@@ -35,12 +36,14 @@ pub fn leads_with_zero(word: &[u8]) -> bool
     word.len() > 1 && word[0] == b'0'
 }
 
-/// A number from `low` to `high` without a leading zero.
-pub fn number_between(low: u64, high: u64, word: &[u8]) -> Option<u64>
-    ensures { result ≡ number_between low high word.now }
+/// The number that the text spells, decimal without a sign or leading zero, from `low` to `high` (this project's
+/// profile). Its time grows with the text's length.
+pub fn number_within(text: &[u8], low: u64, high: u64) -> Option<u64>
+    ensures value { result ≡ number_within low high text.now }
+    ensures range { IfSome result (λ n. (low ≤ n) × (n ≤ high)) }
 {
-    let value = digits_value(word)?;
-    if !leads_with_zero(word) && low <= value && value <= high {
+    let value = digits_value(text)?;
+    if !leads_with_zero(text) && low <= value && value <= high {
         Some(value)
     } else {
         None

@@ -6,7 +6,7 @@ ghost use Rattle.sabr_plan.specs.Operands.{relative_of, after_reference, absolut
 
 use crate::command::Target;
 use crate::fault::PlanKind;
-use crate::number::{digits_value, number_between};
+use crate::number::{digits_value, number_within};
 use crate::time::{LAST_TIME, parse_time};
 
 /// The seconds of a relative time: `+` and one to twelve digits.
@@ -57,7 +57,7 @@ pub fn node_of(word: &[u8]) -> Result<u64, PlanKind>
     ensures value { result ≡ node_of word.now }
     ensures bound { IfOk result (λ n. 0 < n) }
 {
-    number_between(1, u64::MAX, word).ok_or(PlanKind::BadNode)
+    number_within(word, 1, u64::MAX).ok_or(PlanKind::BadNode)
 }
 
 /// The greatest rate of a contact, in bytes a second, and light time of a range, in seconds.
@@ -75,7 +75,7 @@ pub fn value_of(target: Target, word: &[u8]) -> Result<u64, PlanKind>
     ensures value { result ≡ value_of target word.now }
     ensures bound { IfOk result (λ v. v ≤ greatest_value target) }
 {
-    number_between(0, greatest_value(target), word).ok_or(PlanKind::BadNumber)
+    number_within(word, 0, greatest_value(target)).ok_or(PlanKind::BadNumber)
 }
 
 /// Both, or the lesser refusal.

@@ -3,7 +3,8 @@
 ghost use Rattle.std.specs.Prelude.{◌≡◌, ◌<◌, ◌≤◌, ◌++◌, Ok, Some, IfSome, IsTrue, length};
 ghost use Rattle.std.specs.List.{list_all};
 ghost use Rattle.sabr_model.specs.Plan.{last_time};
-ghost use Rattle.sabr_plan.specs.Digits.{is_digit, digits_value, number_between};
+ghost use Rattle.sabr_plan.specs.Digits.{is_digit, digits_value};
+ghost use Rattle.sabr_plan.specs.Numbers.{number_within};
 ghost use Rattle.sabr_plan.specs.PlainWords.{start_of, is_plain_from_space, IsAhead};
 ghost use Rattle.sabr_plan.specs.Operands.{time_at, greatest_value};
 ghost use Rattle.sabr_plan.specs.Commands.{line_command, addition_of, HasBounds};
@@ -35,7 +36,7 @@ fn leading_digits(text: &[u8]) -> (u64, &[u8], &[u8])
 /// The number behind the space that a text begins with, and what comes behind it.
 #[inline(always)]
 fn number_ahead(low: u64, high: u64, text: &[u8]) -> Option<(u64, &[u8])>
-    ensures word { IfSome result (λ r. IsAhead (λ w. number_between low high w ≡ Some r.0) text.now r.1.now) }
+    ensures word { IfSome result (λ r. IsAhead (λ w. number_within low high w ≡ Some r.0) text.now r.1.now) }
     ensures bounds { IfSome result (λ r. (low ≤ r.0) × (r.0 ≤ high)) }
 {
     let behind = text.strip_prefix(b" ")?;

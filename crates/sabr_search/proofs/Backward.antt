@@ -1,5 +1,5 @@
 -- Deadlines: what setting those of one layer keeps, and what one node's deadline says.
-use Rattle.std.proofs.Common.{◌≡◌, ◌≢◌, ◌⊎◌, inl, inr, ℕ, zero, suc, ◌+◌, ◌-◌, ◌<◌, ◌≤◌, ◌∷◌, [], List, length, false, Option, Some, None, slice_get, slice_index, slice_index_or, slice_set, refl, ap, sym, ◌∙◌, arith, add-one}
+use Rattle.std.proofs.Common.{◌≡◌, ◌≢◌, ◌⊎◌, inl, inr, ℕ, zero, suc, ◌+◌, ◌<◌, ◌≤◌, ◌∷◌, [], List, length, false, Option, Some, None, slice_get, slice_index, slice_index_or, slice_set, refl, ap, sym, ◌∙◌, arith, add-one}
 use Rattle.std.specs.Prelude.{◌↔◌}
 use Rattle.std.specs.Option.{option_map}
 use Rattle.std.proofs.lemmas.Bool.{cases_lt, cases_eq, both_ways, false_from_ne_true}
@@ -13,16 +13,11 @@ use Rattle.sabr_search.specs.Task.{SearchTask, Takes, IsTask}
 use Rattle.sabr_search.specs.Lists.{IsPlaced}
 use Rattle.sabr_search.specs.Made.{Entry}
 use Rattle.sabr_search.specs.Deadlines.{ArePointed, IsInTime, AreTimed}
-use Rattle.sabr_model.specs.declared.contact.Contact.{Contact}
-use Rattle.sabr_model.specs.declared.hop.Hop.{Hop}
-use Rattle.sabr_model.specs.Plan.{contact_named, has}
-use Rattle.sabr_search.specs.Steps.{AreSteps, IsHopAt, degree, sent_by_all}
-use Rattle.sabr_search.specs.Hops.{hop_arrival}
+use Rattle.sabr_model.specs.Plan.{has}
+use Rattle.sabr_search.specs.Steps.{degree, sent_by_all}
 use Rattle.sabr_search.specs.Lists.{nodes_between}
 use Rattle.sabr_search.proofs.Between.{between_at, between_more, sent_more}
-use Rattle.sabr_search.proofs.Forward.{hop_takes}
-use Rattle.sabr_search.proofs.HopLayers.{admits_by, exact_more}
-use Rattle.sabr_search.proofs.Bridge.{takes_timely}
+use Rattle.sabr_search.proofs.HopLayers.{exact_more}
 
 -- the node where a way of some hops ends is open
 pub way_open : (task : SearchTask) (ns : List ℕ) (u t v e : ℕ) → Leads (Takes task) u t ns v e → 0 < length ns → slice_index_or task.shut v false ≡ false
@@ -380,27 +375,7 @@ set_more task is best hop bounds place reached0 reached i timed early set above 
 
 -- ---- the deadline of one node
 
--- whoever is in time at a node is there by the delivery
-pub in_time_by : (task : SearchTask) → IsTask task → (best : Best) (hop : ℕ) (bounds place : List ℕ) (reached : List Reached) → AreTimed task best hop bounds place reached → hop ≤ best.hops → (w b : ℕ) → IsInTime task best bounds reached hop w b → b ≤ best.delivery
-in_time_by task is best hop bounds place reached timed le w b admits =
-    admits_by (Takes task) (takes_timely task is.nodes) (Entry bounds reached) task.start task.at task.goal best.hops best.delivery timed.exact (best.hops - hop) hop w b (λ j above below. timed.tables j above below) (omega arith) admits
-
 -- and the node is open
 pub in_time_open : (task : SearchTask) → IsTask task → (best : Best) (hop : ℕ) (bounds place : List ℕ) (reached : List Reached) → AreTimed task best hop bounds place reached → 0 < hop → (w b : ℕ) → IsInTime task best bounds reached hop w b → slice_index_or task.shut w false ≡ false
 in_time_open task is best hop bounds place reached timed some w b (inl end) = ap (λ k. slice_index_or task.shut k false) end.0 ∙ is.goal_open
 in_time_open task is best hop bounds place reached timed some w b (inr e) = entry_open task best hop hop bounds place reached timed some e.2.0 (record { node = w; arrival = e.0; deadline = e.1 }) e.2.1 e.2.2 e.2.3
-
--- where the contact of a number is left before its deadline, a step is taken in time
-pub step_in_time : (task : SearchTask) → IsTask task → (best : Best) (hop : ℕ) (bounds place : List ℕ) (reached : List Reached) → AreTimed task best hop bounds place reached → 0 < hop →
-    (u t n b : ℕ) (h : Hop) → IsHopAt task n h → ((c : Contact) × (contact_named task.plan n ≡ Some c) × (slice_get task.table u ≡ Some c.from)) → (u ≡ task.start → has n task.excluded ≡ false) →
-    hop_arrival task.request.margin t h ≡ Some b → IsInTime task best bounds reached hop h.receiver b → Takes task n u t h.receiver b
-step_in_time task is best hop bounds place reached timed some u t n b h named sent allowed arrives admits =
-    hop_takes task is n h named u t b sent (in_time_open task is best hop bounds place reached timed some h.receiver b admits) allowed arrives
-
--- where a step that is taken later stands among the contacts of its node
-pub number_of : (task : SearchTask) → IsTask task → (numbers : List ℕ) (u from : ℕ) → AreSteps task u from numbers → (t n w b : ℕ) → from ≤ t → Takes task n u t w b →
-    (i : ℕ) × (slice_get numbers i ≡ Some n) × (from ≤ t) × (a : ℕ) × (a ≤ b) × Takes task n u from w a
-number_of task is numbers u from steps t n w b after s =
-    let sooner = (takes_timely task is.nodes).earlier n u t w b from s after in
-    let place = steps.whole n w sooner.0 sooner.2 in
-    (place.0, place.1, after, sooner.0, sooner.1, sooner.2)

@@ -1,15 +1,14 @@
 -- Steps of a forward search: what one contact, one node and one layer leave.
-use Rattle.std.proofs.Common.{◌≡◌, ◌≢◌, min, ◌⊎◌, inl, inr, ℕ, ◌+◌, ◌<◌, ◌≤◌, List, Bool, true, false, ◌&&◌, eqb, Some, None, slice_get, slice_index, slice_index_or, refl, ap, sym, subst, ◌∙◌, arith}
+use Rattle.std.proofs.Common.{◌≡◌, ◌≢◌, min, ◌⊎◌, inl, inr, ℕ, ◌+◌, ◌<◌, ◌≤◌, List, Bool, true, false, ◌&&◌, eqb, Some, slice_get, slice_index, slice_index_or, refl, ap, sym, subst, ◌∙◌, arith}
 use Rattle.std.proofs.lemmas.Bool.{both_ways, and_parts, eq-eqb, eqb-true, cases_lt, cases_eq}
 use Rattle.sabr_model.specs.declared.contact.Contact.{Contact}
 use Rattle.sabr_model.specs.declared.hop.Hop.{Hop}
 use Rattle.sabr_model.specs.Plan.{contact_named, has}
 use Rattle.sabr_search.specs.declared.layers.Reached.{Reached}
 use Rattle.sabr_search.specs.Task.{SearchTask, Takes, IsTask}
-use Rattle.sabr_search.specs.Steps.{AreSteps, IsHopAt}
+use Rattle.sabr_search.specs.Steps.{IsHopAt}
 use Rattle.sabr_search.specs.Hops.{hop_arrival}
 use Rattle.sabr_search.specs.Lists.{AreLists, IsLowered, IsKnown, Arrivals}
-use Rattle.sabr_search.proofs.Arrivals.{arrival_parts}
 use Rattle.sabr_search.proofs.PlanFacts.{hop_arrival_is}
 
 -- nothing was taken
@@ -105,42 +104,5 @@ excluded_by task u n t w x b is so s =
     let parts = and_parts (eqb u task.start) (has n task.excluded) (sym is ∙ so) in
     both_ways (has n task.excluded) (s.allowed (eqb-true u task.start parts.0)) parts.1
 
--- no step leaves before its contact starts
-pub starts_before : (task : SearchTask) → (n u t w x : ℕ) (s : Takes task n u t w x) → s.contact.start ≤ x
-starts_before task n u t w x s = let a = arrival_parts task.plan task.request t s.contact x s.arrives in omega (arith, a.sum)
-
--- the contacts at place i and behind start no earlier than the one at place i
-pub late_behind : (task : SearchTask) (u t : ℕ) (numbers : List ℕ) → AreSteps task u t numbers → (i n : ℕ) (h : Hop) → slice_get numbers i ≡ Some n → IsHopAt task n h → (best : ℕ) → best ≤ h.start →
-    (j m w x : ℕ) → i ≤ j → slice_get numbers j ≡ Some m → Takes task m u t w x → best ≤ x
-late_behind task u t numbers steps i n h at_i hop best late j m w x le at_j s =
-    omega (arith, late, hop.is.start, steps.rising i j n m hop.contact s.contact le at_i at_j hop.named s.named, starts_before task m u t w x s)
-
 pub last_or_before : (n i : ℕ) → n < i + 1 → (n < i) ⊎ (n ≡ i)
 last_or_before n i h = grind arith
-
--- of the first i contacts each step is known
-abbrev pub AreKnown : SearchTask → List ℕ → ℕ → ℕ → ℕ → List ℕ → ℕ → Type 0
-AreKnown task numbers u t i arrival best = (j n w x : ℕ) → j < i → slice_get numbers j ≡ Some n → Takes task n u t w x → IsKnown task.goal arrival best w x
-
--- one contact more
-pub known_more : (task : SearchTask) (numbers : List ℕ) (u t i : ℕ) (arrival arrival' : List ℕ) (best best' n : ℕ) → AreKnown task numbers u t i arrival best → slice_get numbers i ≡ Some n →
-    ((k : ℕ) → slice_index arrival' k ≤ slice_index arrival k) → best' ≤ best → ((w x : ℕ) → Takes task n u t w x → IsKnown task.goal arrival' best' w x) → AreKnown task numbers u t (i + 1) arrival' best'
-known_more task numbers u t i arrival arrival' best best' n known at falls lower one j m w x less here s =
-    elim (last_or_before j i less) [
-      | inl before ↦ known_lower task.goal arrival arrival' best best' w x falls lower (known j m w x before here s)
-      | inr same ↦ (let number : n ≡ m = same_some (sym at ∙ rw same at here) in one w x (rw (← number) at s))
-    ]
-
--- a number that names no contact is that of no step
-pub none_named : (task : SearchTask) (n u t w x : ℕ) → contact_named task.plan n ≡ None → Takes task n u t w x → ⊥
-none_named task n u t w x none s = let e : None ≡ Some s.contact = sym none ∙ s.named in cc
-
--- where of all contacts each step is known, or late, each step is known
-pub known_all : (task : SearchTask) (numbers : List ℕ) (u t i : ℕ) (arrival : List ℕ) (best : ℕ) → AreSteps task u t numbers → AreKnown task numbers u t i arrival best →
-    ((j m w x : ℕ) → i ≤ j → slice_get numbers j ≡ Some m → Takes task m u t w x → best ≤ x) → (n w x : ℕ) → Takes task n u t w x → IsKnown task.goal arrival best w x
-known_all task numbers u t i arrival best steps known late n w x s =
-    let place = steps.whole n w x s in
-    elim (cases_lt place.0 i) [
-      | inl before ↦ known place.0 n w x before place.1 s
-      | inr behind ↦ inl (late place.0 n w x behind place.1 s)
-    ]

@@ -1,7 +1,6 @@
 -- Picking the least numbers from the front.
-use Rattle.std.proofs.Common.{◌≡◌, inl, inr, ℕ, ◌+◌, ◌-◌, ◌<◌, ◌≤◌, List, [], ◌∷◌, ◌++◌, length, Option, Some, None, slice_get, refl, ap, sym, subst, ◌∙◌, arith, length-append}
+use Rattle.std.proofs.Common.{◌≡◌, inl, inr, ℕ, ◌+◌, ◌-◌, ◌<◌, ◌≤◌, List, [], ◌∷◌, ◌++◌, length, Option, Some, None, slice_get, refl, ap, subst, arith, length-append}
 use Rattle.std.specs.Prelude.{IfSome, IfNone, ◌≢◌, eqb, slice_index_or}
-use Rattle.std.proofs.lemmas.Bool.{cases_lt}
 use Rattle.std.proofs.lemmas.List.Sums.{count_by-le-length}
 use Rattle.std.proofs.lemmas.Option.{slice_get_within, get_or_from_slice_get}
 use Rattle.sabr_search.specs.declared.layers.Reached.{Reached}
@@ -10,7 +9,7 @@ use Rattle.sabr_search.specs.declared.pick.Step.{Step}
 use Rattle.sabr_search.specs.Ways.{Leads}
 use Rattle.sabr_search.specs.Front.{IsNotAfter}
 use Rattle.sabr_search.specs.Task.{SearchTask, Takes, IsTask, never}
-use Rattle.sabr_search.specs.Steps.{AreSteps, degree, senders}
+use Rattle.sabr_search.specs.Steps.{degree, senders}
 use Rattle.sabr_search.specs.Made.{Entry, AreLayers}
 use Rattle.sabr_search.specs.Deadlines.{IsInTime, AreTimed}
 use Rattle.sabr_search.specs.Picks.{IsAtMost, IsLeastStep, IsPicked, IsLeastWay}
@@ -18,7 +17,6 @@ use Rattle.sabr_search.proofs.Ways.{Leads-append}
 use Rattle.sabr_search.proofs.HopLayers.{rest_of, exact_of}
 use Rattle.sabr_search.proofs.Picks.{first_admitted, least_from_front}
 use Rattle.sabr_search.proofs.Bridge.{takes_timely}
-use Rattle.sabr_search.proofs.Forward.{last_or_before}
 use Rattle.sabr_search.proofs.Backward.{bounds_rise, way_open}
 use Rattle.sabr_search.proofs.StepLists.{senders_length}
 
@@ -86,19 +84,6 @@ front_all task best hop chosen u t front all least =
 
 -- ---- the least step at one node
 
--- of the first i contacts each step in time has a number that is at least the least
-abbrev pub AreAtLeast : SearchTask → Best → List ℕ → List Reached → ℕ → List ℕ → ℕ → ℕ → ℕ → Option Step → Type 0
-AreAtLeast task best bounds reached hop numbers u t i least = (j n w b : ℕ) → j < i → slice_get numbers j ≡ Some n → Takes task n u t w b → IsInTime task best bounds reached hop w b → IsAtMost least n
-
-pub least_more : (task : SearchTask) (best : Best) (bounds : List ℕ) (reached : List Reached) (hop : ℕ) (numbers : List ℕ) (u t i n : ℕ) (least least' : Option Step) → slice_get numbers i ≡ Some n →
-    AreAtLeast task best bounds reached hop numbers u t i least → ((m : ℕ) → IsAtMost least m → IsAtMost least' m) → ((w b : ℕ) → Takes task n u t w b → IsInTime task best bounds reached hop w b → IsAtMost least' n) →
-    AreAtLeast task best bounds reached hop numbers u t (i + 1) least'
-least_more task best bounds reached hop numbers u t i n least least' at so_far more one j m w b less here s admits =
-    elim (last_or_before j i less) [
-      | inl before ↦ more m (so_far j m w b before here s admits)
-      | inr same ↦ (let number : m ≡ n = (let q : Some m ≡ Some n = sym here ∙ ap (slice_get numbers) same ∙ at in cc (q)) in rw number (one w b (rw number at s) admits))
-    ]
-
 pub least_found : (task : SearchTask) (best : Best) (bounds : List ℕ) (reached : List Reached) (hop u t : ℕ) (least : Option Step) → IfSome least (λ s. Takes task s.number u t s.node s.at × IsInTime task best bounds reached hop s.node s.at) →
     ((n w b : ℕ) → Takes task n u t w b → IsInTime task best bounds reached hop w b → IsAtMost least n) → IfSome least (IsLeastStep task best bounds reached hop u t)
 least_found task best bounds reached hop u t None chosen least = tt
@@ -108,15 +93,6 @@ pub least_missing : (task : SearchTask) (best : Best) (bounds : List ℕ) (reach
     ((n w b : ℕ) → Takes task n u t w b → IsInTime task best bounds reached hop w b → IsAtMost least n) → IfNone least ((n w b : ℕ) → Takes task n u t w b → IsInTime task best bounds reached hop w b → ⊥)
 least_missing task best bounds reached hop u t None least = least
 least_missing task best bounds reached hop u t (Some s) least = tt
-
-pub at_least_all : (task : SearchTask) (best : Best) (bounds : List ℕ) (reached : List Reached) (hop : ℕ) (numbers : List ℕ) (u t i : ℕ) (least : Option Step) → AreSteps task u t numbers → AreAtLeast task best bounds reached hop numbers u t i least →
-    ((j n w b : ℕ) → i ≤ j → slice_get numbers j ≡ Some n → Takes task n u t w b → IsInTime task best bounds reached hop w b → ⊥) → (n w b : ℕ) → Takes task n u t w b → IsInTime task best bounds reached hop w b → IsAtMost least n
-at_least_all task best bounds reached hop numbers u t i least steps so_far late n w b s admits =
-    let place = steps.whole n w b s in
-    elim (cases_lt place.0 i) [
-      | inl before ↦ so_far place.0 n w b before place.1 s admits
-      | inr behind ↦ absurd (late place.0 n w b behind place.1 s admits)
-    ]
 
 -- later layers stay timed
 pub timed_later : (task : SearchTask) (best : Best) (from hop : ℕ) (bounds place : List ℕ) (reached : List Reached) → from ≤ hop → AreTimed task best from bounds place reached → AreTimed task best hop bounds place reached

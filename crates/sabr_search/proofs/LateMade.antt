@@ -1,17 +1,16 @@
 -- One layer more, backward from the goal.
-use Rattle.std.proofs.Common.{◌≡◌, ◌≢◌, ◌⊎◌, inl, inr, ℕ, zero, suc, ◌+◌, ◌<◌, ◌≤◌, List, [], ◌∷◌, ◌++◌, length, take, replicate, false, Some, slice_get, slice_index, slice_index_or, refl, ap, sym, ◌∙◌, arith, length-append, add-one}
+use Rattle.std.proofs.Common.{◌≡◌, inl, inr, ℕ, zero, suc, ◌+◌, ◌<◌, ◌≤◌, List, [], ◌∷◌, ◌++◌, length, take, replicate, false, Some, slice_get, slice_index, slice_index_or, refl, ap, sym, ◌∙◌, arith, length-append, add-one}
 use Rattle.std.specs.Prelude.{IfSome}
 use Rattle.std.proofs.lemmas.Bool.{cases_lt, cases_eq}
 use Rattle.std.proofs.lemmas.Grind.{common_steps}
-use Rattle.std.proofs.lemmas.Option.{slice_get-get_or, slice_get_within, get_or_from_slice_get}
+use Rattle.std.proofs.lemmas.Option.{slice_get_within}
 use Rattle.sabr_search.specs.declared.layers.Reached.{Reached}
 use Rattle.sabr_search.specs.Task.{SearchTask, Takes, IsTask}
 use Rattle.sabr_search.specs.Made.{Entry}
-use Rattle.sabr_search.specs.Late.{soonest, InTimeFor, AreLate, AreTold, IsToldBy, AreLateLayers, IsMet}
+use Rattle.sabr_search.specs.Late.{InTimeFor, AreLate, AreTold, IsToldBy, AreLateLayers, IsMet}
 use Rattle.sabr_search.proofs.Between.{same_below}
 use Rattle.sabr_search.proofs.Forward.{last_or_before}
 use Rattle.sabr_search.proofs.MadeLayers.{index_before, index_at, index_past, layer_of}
-use Rattle.sabr_search.proofs.OverLinks.{same_some}
 
 -- an entry is the goal's, or one of another open node
 pub open_entry : (task : SearchTask) → IsTask task → (since : List ℕ) (d first begin : ℕ) (late place : List ℕ) (reached : List Reached) → AreLate task since d first begin late place reached →

@@ -83,6 +83,9 @@ module _ (task : SearchTask) (is : IsTask task) (u node : ℕ) (at : slice_get t
     ordered = λ j l h. (of.each j l h).ordered;
     within = λ j l h. (of.each j l h).within;
     each = λ j l h. link_at passes l (of.each j l h);
+    bounds = λ j l h k x here.
+        (let p = part_at passes l.first (l.end - l.first) k x here in
+        (of.each j l h).bounds (l.first + k) x (omega arith) (omega (arith, p.0)) p.1);
     in_row = of.in_row;
     whole = λ n t w b s.
         (let a = arrival_parts task.plan task.request t s.contact b s.arrives in

@@ -15,6 +15,8 @@ use Rattle.sabr_model.specs.declared.contact.Contact.{Contact}
 use Rattle.sabr_model.specs.declared.hop.Hop.{Hop}
 use Rattle.sabr_model.specs.declared.link.Pass.{Pass}
 use Rattle.sabr_model.specs.declared.link.Link.{Link}
+use Rattle.sabr_model.specs.declared.link.LinkBounds.{LinkBounds}
+use Rattle.sabr_model.specs.Links.{AreWithin}
 use Rattle.std.proofs.lemmas.List.{length-take, length-drop}
 use Rattle.sabr_model.specs.Arrival.{cost}
 use Rattle.sabr_model.specs.Light.{light_of}
@@ -36,7 +38,7 @@ abbrev pub no_pass : Pass
 no_pass = record { number = 0; receiver = 0; light = 0; start = 0; end = 0; latest_end = 0; least_light_before = 0; least_light_behind = 0; least_number_behind = 0 }
 
 abbrev pub no_link : Link
-no_link = record { receiver = 0; first = 0; end = 0 }
+no_link = record { receiver = 0; first = 0; end = 0; bounds = record { latest_end = 0; least_light = 0; soonest = 0 } }
 
 pub passes_length : (passes : List Pass) (l : Link) → l.end ≤ length passes → length (passes_of passes l) ≡ l.end - l.first
 passes_length passes l within = omega (arith, length-take (l.end - l.first) (drop l.first passes), length-drop l.first passes)
@@ -143,6 +145,21 @@ module _ (task : SearchTask) (is : IsTask task) (u to : ℕ) (passes : List Pass
       elim early [
         | inl ended ↦ omega (arith, o.before_end, kept.end, ended, after)
         | inr near ↦ omega (arith, o.sum, near, less, cost_rises task.request.margin x.least_light_before y.light kept.light_before)
+      ]
+
+  -- where the bounds of the link rule it out, nothing arrives over it before a second
+  pub ruled_out : (b : LinkBounds) → AreWithin b passes → (at before : ℕ) → (b.latest_end ≤ at) ⊎ ((before ≤ b.soonest) ⊎ (before ≤ at + b.least_light)) →
+      (n t w x : ℕ) → HasNumber passes n → at ≤ t → Takes task n u t w x → before ≤ x
+  ruled_out b within at before why n t w x has after s =
+      let o = over_pass task is u to t has.1 w x (link.each has.0 has.1 has.2) (step_over task passes n u t w x has s) in
+      let kept = within has.0 has.1 has.2 in
+      let light : has.1.light ≤ cost task.request.margin has.1.light = omega arith in
+      elim why [
+        | inl ended ↦ absurd (omega (arith, o.before_end, kept.ends, ended, after))
+        | inr rest ↦ elim rest [
+          | inl late ↦ omega (arith, o.sum, kept.soonest, late, light)
+          | inr far ↦ omega (arith, o.sum, kept.light, far, after, light)
+        ]
       ]
 
 -- a step over a link of a node leads to the link's receiver

@@ -1,16 +1,15 @@
 -- Layers that were made backward, turned round: they are layers with deadlines.
-use Rattle.std.proofs.Common.{◌≡◌, ◌≢◌, ◌⊎◌, inl, inr, ℕ, zero, suc, ◌+◌, ◌-◌, ◌<◌, ◌≤◌, List, [], ◌∷◌, ◌++◌, length, replicate, reverse, false, Some, slice_get, slice_index, slice_index_or, slice_set, refl, ap, sym, ◌∙◌, arith, length-append}
+use Rattle.std.proofs.Common.{◌≡◌, ◌⊎◌, inl, inr, ℕ, ◌+◌, ◌-◌, ◌<◌, ◌≤◌, List, [], ◌∷◌, ◌++◌, length, replicate, reverse, Some, slice_get, slice_index, slice_set, refl, ap, sym, ◌∙◌, arith, length-append}
 use Rattle.std.proofs.lemmas.Bool.{cases_lt, cases_eq}
 use Rattle.std.proofs.lemmas.List.{get_or-reverse, length-reverse}
 use Rattle.std.proofs.lemmas.Option.{slice_get-get_or, slice_get_within}
 use Rattle.sabr_search.specs.declared.layers.Reached.{Reached}
-use Rattle.sabr_search.specs.declared.layers.Best.{Best}
 use Rattle.sabr_search.specs.Ways.{Leads}
 use Rattle.sabr_search.specs.Layers.{Admits, IsTable, AreExact}
 use Rattle.sabr_search.specs.Task.{SearchTask, Takes, IsTask, never}
 use Rattle.sabr_search.specs.Made.{Entry}
 use Rattle.sabr_search.specs.Deadlines.{AreTimed}
-use Rattle.sabr_search.specs.Late.{soonest, IsLateEntry, AreArrivals, AreLateLayers, IsMet}
+use Rattle.sabr_search.specs.Late.{IsLateEntry, AreArrivals, AreLateLayers, IsMet}
 use Rattle.sabr_search.proofs.Backward.{bounds_rise, get_set_here, get_set_other}
 use Rattle.sabr_search.proofs.FirstWays.{goal_other}
 use Rattle.sabr_search.proofs.Forward.{last_or_before}

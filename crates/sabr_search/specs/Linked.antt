@@ -6,7 +6,7 @@ use Rattle.sabr_model.specs.declared.link.Pass.{Pass}
 use Rattle.sabr_model.specs.declared.link.Link.{Link}
 use Rattle.sabr_model.specs.Plan.{contact_named}
 use Rattle.sabr_model.specs.Light.{light_of}
-use Rattle.sabr_model.specs.Links.{IsBefore, SentLink}
+use Rattle.sabr_model.specs.Links.{IsBefore, AreWithin, SentLink}
 use Rattle.sabr_search.specs.Task.{SearchTask, Takes}
 use Rattle.sabr_search.specs.Steps.{degree}
 
@@ -33,13 +33,14 @@ HasNumber passes n = (k : ℕ) × (x : Pass) × (slice_get passes k ≡ Some x) 
 abbrev pub passes_of : List Pass → Link → List Pass
 passes_of passes l = take (l.end - l.first) (drop l.first passes)
 
--- the links of the node at place u lie one behind the other, every step from there is over a pass of one of them, and
+-- the links of the node at place u lie one behind the other, each within its bounds, every step from there is over a pass of one of them, and
 -- there are no more passes than the node has contacts
 pub record AreLinksAt (task : SearchTask) (u : ℕ) (links : List Link) (passes : List Pass) : Type 0 where
   pub receivers : (j : ℕ) (l : Link) → slice_get links j ≡ Some l → l.receiver < length task.table
   pub ordered : (j : ℕ) (l : Link) → slice_get links j ≡ Some l → l.first ≤ l.end
   pub within : (j : ℕ) (l : Link) → slice_get links j ≡ Some l → l.end ≤ length passes
   pub each : (j : ℕ) (l : Link) → slice_get links j ≡ Some l → IsLinkAt task u l.receiver (passes_of passes l)
+  pub bounds : (j : ℕ) (l : Link) → slice_get links j ≡ Some l → AreWithin l.bounds (passes_of passes l)
   pub in_row : (j : ℕ) (l m : Link) → slice_get links j ≡ Some l → slice_get links (j + 1) ≡ Some m → l.end ≤ m.first
   pub whole : (n t w b : ℕ) → Takes task n u t w b → (j : ℕ) × (l : Link) × (slice_get links j ≡ Some l) × HasNumber (passes_of passes l) n
   pub few : length passes ≤ degree task u

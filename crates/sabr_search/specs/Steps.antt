@@ -1,12 +1,12 @@
--- The contacts that a search reads at one node, and how many there are.
-use Rattle.std.specs.Prelude.{◌≡◌, ℕ, ◌+◌, ◌≤◌, ◌==◌, List, [], ◌∷◌, length, map, slice_get, if◌then◌else◌}
+-- How many contacts a node sends, and the hop of a contact.
+use Rattle.std.specs.Prelude.{◌≡◌, ℕ, ◌+◌, ◌==◌, List, [], ◌∷◌, map, if◌then◌else◌}
 use Rattle.std.specs.List.{count_by}
 use Rattle.std.specs.declared.option.Option.TheVariants.{Some}
 use Rattle.sabr_model.specs.declared.contact.Contact.{Contact}
 use Rattle.sabr_model.specs.declared.hop.Hop.{Hop}
 use Rattle.sabr_model.specs.Plan.{contact_named, has}
 use Rattle.sabr_model.specs.Tabled.{IsHopOf}
-use Rattle.sabr_search.specs.Task.{SearchTask, Takes}
+use Rattle.sabr_search.specs.Task.{SearchTask}
 
 -- the first place of x in the list
 abbrev pub place_in : List ℕ → ℕ → ℕ
@@ -24,13 +24,6 @@ degree task u = count_by (λ k. k == u) (senders task)
 -- how many standing contacts the nodes of a list send
 abbrev pub sent_by_all : SearchTask → List ℕ → ℕ
 sent_by_all task nodes = count_by (λ k. has k nodes) (senders task)
-
--- the numbers are those of contacts that the node at place u sends, by start; whoever is there at t finds every step
-pub record AreSteps (task : SearchTask) (u t : ℕ) (numbers : List ℕ) : Type 0 where
-  pub whole : (n w b : ℕ) → Takes task n u t w b → (i : ℕ) × (slice_get numbers i ≡ Some n)
-  pub sent : (i n : ℕ) → slice_get numbers i ≡ Some n → (c : Contact) × (contact_named task.plan n ≡ Some c) × (slice_get task.table u ≡ Some c.from)
-  pub rising : (i j n m : ℕ) (c d : Contact) → i ≤ j → slice_get numbers i ≡ Some n → slice_get numbers j ≡ Some m → contact_named task.plan n ≡ Some c → contact_named task.plan m ≡ Some d → c.start ≤ d.start
-  pub few : length numbers ≤ degree task u
 
 -- the hop is that of the standing contact of a number
 pub record IsHopAt (task : SearchTask) (n : ℕ) (h : Hop) : Type 0 where

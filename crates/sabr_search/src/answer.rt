@@ -80,7 +80,7 @@ impl<A: Allocator + Copy> Layers<A> {
         if best.hops == 0 {
             return Ok(None);
         }
-        self.set_deadlines(task, looks, best);
+        self.set_deadlines(task, looks, best)?;
         let contacts = self.pick(alloc, task, looks, best, prefix)?;
         Ok(Some(record(task, looks, contacts, best.delivery)))
     }

@@ -1,16 +1,15 @@
 //! Deadlines, backward: by layer and node the first second at which it is too late for the rest.
 
-ghost use Rattle.std.specs.Prelude.{◌≡◌, ◌≢◌, ◌↔◌, ◌⊎◌, ℕ, ◌+◌, ◌-◌, ◌*◌, ◌^◌, ◌≤◌, ◌<◌, length, slice_index};
+ghost use Rattle.std.specs.Prelude.{◌≡◌, ◌≢◌, ◌↔◌, ◌⊎◌, ℕ, ◌+◌, ◌-◌, ◌*◌, ◌^◌, ◌≤◌, ◌<◌, IfOk, OnOk, length, slice_index};
 ghost use Rattle.sabr_search.specs.Task.{IsTask, Takes, never};
 ghost use Rattle.sabr_search.specs.Steps.{degree};
-ghost use Rattle.sabr_search.specs.Linked.{AreLinksAt};
 ghost use Rattle.sabr_search.specs.Deadlines.{ArePointed, IsInTime, AreTimed};
 
 use crate::layers::{Best, Layers, Reached};
 use crate::looks::Looks;
 use crate::over_link::link_passes;
 use crate::task::Task;
-use sabr_model::Links;
+use sabr_model::NoMemory;
 use std::alloc::Allocator;
 
 impl<A: Allocator + Copy> Layers<A> {
@@ -55,15 +54,15 @@ impl<A: Allocator + Copy> Layers<A> {
         }
     }
 
-    /// As `latest`, contact by contact, where the plan gives no links.
-    fn latest_by_numbers(
+    /// The deadline of an entry by those of layer `hop`.
+    fn latest(
         &self,
         task: &Task<'_, A>,
         looks: &mut Looks,
         best: Best,
         hop: usize,
         from: Reached,
-    ) -> u64
+    ) -> Result<u64, NoMemory>
         requires task { IsTask task.now }
         requires few { looks.old.count + degree task.now from.node ≤ 2 ^ 62 }
         requires pointed { ArePointed task.now hop self.now.bounds.items self.now.place.items self.now.reached.items }
@@ -73,46 +72,11 @@ impl<A: Allocator + Copy> Layers<A> {
         requires node { from.node < length task.now.table }
         requires other { from.node ≢ task.now.start }
         ensures looks { looks.new.count ≤ looks.old.count + degree task.now from.node }
-        ensures sound { (t : ℕ) → t < result → (n : ℕ) × (w : ℕ) × (b : ℕ) × Takes task.now n from.node t w b × IsInTime task.now best self.now.bounds.items self.now.reached.items hop w b }
-        ensures full { (t n w b : ℕ) → from.arrival ≤ t → Takes task.now n from.node t w b → IsInTime task.now best self.now.bounds.items self.now.reached.items hop w b → t < result }
+        ensures sound { IfOk result (λ latest. (t : ℕ) → t < latest → (n : ℕ) × (w : ℕ) × (b : ℕ) × Takes task.now n from.node t w b × IsInTime task.now best self.now.bounds.items self.now.reached.items hop w b) }
+        ensures full { IfOk result (λ latest. (t n w b : ℕ) → from.arrival ≤ t → Takes task.now n from.node t w b → IsInTime task.now best self.now.bounds.items self.now.reached.items hop w b → t < latest) }
     {
-        let mut latest = 0;
-        for number in task.numbers(from.node, from.arrival) {
-            let Some(contact) = task.look(looks, *number) else {
-                continue;
-            };
-            if contact.start > best.delivery {
-                return latest;
-            }
-            let before = self.deadline(task, best, hop, contact.receiver);
-            latest = latest.max(task.leave_before(&contact, before));
-        }
-        latest
-    }
-
-    /// As `latest`, link by link.
-    fn latest_by_links(
-        &self,
-        task: &Task<'_, A>,
-        looks: &mut Looks,
-        best: Best,
-        hop: usize,
-        from: Reached,
-        links: Links<'_>,
-    ) -> u64
-        requires task { IsTask task.now }
-        requires links { AreLinksAt task.now from.node links.links.now links.passes.now }
-        requires few { looks.old.count + degree task.now from.node ≤ 2 ^ 62 }
-        requires pointed { ArePointed task.now hop self.now.bounds.items self.now.place.items self.now.reached.items }
-        requires timed { AreTimed task.now best hop self.now.bounds.items self.now.place.items self.now.reached.items }
-        requires later { 0 < hop }
-        requires hop { hop ≤ best.hops }
-        requires node { from.node < length task.now.table }
-        requires other { from.node ≢ task.now.start }
-        ensures looks { looks.new.count ≤ looks.old.count + degree task.now from.node }
-        ensures sound { (t : ℕ) → t < result → (n : ℕ) × (w : ℕ) × (b : ℕ) × Takes task.now n from.node t w b × IsInTime task.now best self.now.bounds.items self.now.reached.items hop w b }
-        ensures full { (t n w b : ℕ) → from.arrival ≤ t → Takes task.now n from.node t w b → IsInTime task.now best self.now.bounds.items self.now.reached.items hop w b → t < result }
-    {
+        let outgoing = task.links(from.node)?;
+        let links = outgoing.all();
         let mut latest = 0;
         for link in links.links {
             let passes = link_passes(links, link);
@@ -122,43 +86,23 @@ impl<A: Allocator + Copy> Layers<A> {
                 from.node,
                 link.receiver,
                 passes,
+                link.bounds,
                 from.arrival,
                 before,
                 latest,
             );
         }
-        latest
+        Ok(latest)
     }
 
-    /// The deadline of an entry by those of layer `hop`.
-    fn latest(
-        &self,
+    /// Sets the deadlines of layer `hop` by those of the next.
+    fn set_layer(
+        &mut self,
         task: &Task<'_, A>,
         looks: &mut Looks,
         best: Best,
         hop: usize,
-        from: Reached,
-    ) -> u64
-        requires task { IsTask task.now }
-        requires few { looks.old.count + degree task.now from.node ≤ 2 ^ 62 }
-        requires pointed { ArePointed task.now hop self.now.bounds.items self.now.place.items self.now.reached.items }
-        requires timed { AreTimed task.now best hop self.now.bounds.items self.now.place.items self.now.reached.items }
-        requires later { 0 < hop }
-        requires hop { hop ≤ best.hops }
-        requires node { from.node < length task.now.table }
-        requires other { from.node ≢ task.now.start }
-        ensures looks { looks.new.count ≤ looks.old.count + degree task.now from.node }
-        ensures sound { (t : ℕ) → t < result → (n : ℕ) × (w : ℕ) × (b : ℕ) × Takes task.now n from.node t w b × IsInTime task.now best self.now.bounds.items self.now.reached.items hop w b }
-        ensures full { (t n w b : ℕ) → from.arrival ≤ t → Takes task.now n from.node t w b → IsInTime task.now best self.now.bounds.items self.now.reached.items hop w b → t < result }
-    {
-        match task.links(from.node) {
-            Some(links) => self.latest_by_links(task, looks, best, hop, from, links),
-            None => self.latest_by_numbers(task, looks, best, hop, from),
-        }
-    }
-
-    /// Sets the deadlines of layer `hop` by those of the next.
-    fn set_layer(&mut self, task: &Task<'_, A>, looks: &mut Looks, best: Best, hop: usize)
+    ) -> Result<(), NoMemory>
         requires task { IsTask task.now }
         requires few { looks.old.count + length task.now.plan.contacts ≤ 2 ^ 62 }
         requires pointed { ArePointed task.now (hop + 1) self.old.bounds.items self.old.place.items self.old.reached.items }
@@ -166,29 +110,36 @@ impl<A: Allocator + Copy> Layers<A> {
         requires later { 0 < hop }
         requires hop { hop < best.hops }
         ensures looks { looks.new.count ≤ looks.old.count + length task.now.plan.contacts }
-        ensures timed { AreTimed task.now best hop self.new.bounds.items self.new.place.items self.new.reached.items }
+        ensures timed { OnOk result (AreTimed task.now best hop self.new.bounds.items self.new.place.items self.new.reached.items) }
     {
         let first = self.bounds[hop];
         let end = self.bounds[hop + 1];
         for place in first..end {
             let from = self.reached[place];
-            let latest = self.latest(task, looks, best, hop + 1, from);
+            let latest = self.latest(task, looks, best, hop + 1, from)?;
             self.reached[place].deadline = latest;
         }
+        Ok(())
     }
 
     /// Sets the deadlines of all layers between the start and the goal, backward.
-    pub fn set_deadlines(&mut self, task: &Task<'_, A>, looks: &mut Looks, best: Best)
+    pub fn set_deadlines(
+        &mut self,
+        task: &Task<'_, A>,
+        looks: &mut Looks,
+        best: Best,
+    ) -> Result<(), NoMemory>
         requires task { IsTask task.now }
         requires few { looks.old.count + best.hops * length task.now.plan.contacts ≤ 2 ^ 62 }
         requires some { 0 < best.hops }
         requires timed { AreTimed task.now best best.hops self.old.bounds.items self.old.place.items self.old.reached.items }
         ensures looks { looks.new.count ≤ looks.old.count + (best.hops - 1) * length task.now.plan.contacts }
-        ensures timed { AreTimed task.now best 1 self.new.bounds.items self.new.place.items self.new.reached.items }
+        ensures timed { OnOk result (AreTimed task.now best 1 self.new.bounds.items self.new.place.items self.new.reached.items) }
     {
         for hop in (1..best.hops).rev() {
             self.point_at(task, best, hop + 1);
-            self.set_layer(task, looks, best, hop);
+            self.set_layer(task, looks, best, hop)?;
         }
+        Ok(())
     }
 }

@@ -2,6 +2,7 @@
 //! many lead to the goal by then, where fewer don't from as late on.
 
 ghost use Rattle.std.specs.Prelude.{◌≡◌, ◌≢◌, ℕ, ◌+◌, ◌^◌, ◌≤◌, ◌<◌, min, take, length, true, false, IsTrue, slice_get, slice_index, slice_index_or, slice_set, Some, None, OnOk, IfOk, IfSome, List, [], ◌∷◌, ◌++◌, ◌-◌, replicate, reverse};
+ghost use Rattle.sabr_model.specs.Links.{AreWithin};
 ghost use Rattle.sabr_search.specs.Task.{IsTask, Takes, never};
 ghost use Rattle.sabr_search.specs.Linked.{IsLinkAt, HasNumber};
 ghost use Rattle.sabr_search.specs.Late.{soonest, InTimeFor, AreLate, IsNotedLate, IsToldLate, AreTold, AreArrivals, AreLateLayers, IsMet};
@@ -59,6 +60,7 @@ impl<A: Allocator + Copy> Layers<A> {
     ) -> Result<(), NoMemory>
         requires task { IsTask task.now }
         requires link { IsLinkAt task.now from.node to from.passes.now }
+        requires bounds { AreWithin from.bounds from.passes.now }
         requires node { from.node < length task.now.table }
         requires other { from.node ≢ task.now.start }
         requires inner { from.node ≢ task.now.goal }
@@ -77,11 +79,16 @@ impl<A: Allocator + Copy> Layers<A> {
     {
         let latest = self.late[from.node];
         let since = soonest_at(arrival, delivery, from.node);
-        let least = latest.max(since);
-        if before <= least {
-            return Ok(());
-        }
-        let last = task.leave_over(looks, from.node, to, from.passes, since, before, latest);
+        let last = task.leave_over(
+            looks,
+            from.node,
+            to,
+            from.passes,
+            from.bounds,
+            since,
+            before,
+            latest,
+        );
         if last <= latest || last <= since {
             return Ok(());
         }
@@ -109,6 +116,7 @@ impl<A: Allocator + Copy> Layers<A> {
     ) -> Result<bool, NoMemory>
         requires task { IsTask task.now }
         requires link { IsLinkAt task.now from.node to from.passes.now }
+        requires bounds { AreWithin from.bounds from.passes.now }
         requires node { from.node < length task.now.table }
         requires receiver { slice_index_or task.now.shut to false ≡ false }
         requires arrivals { length arrival.now ≡ length task.now.table }
@@ -124,7 +132,15 @@ impl<A: Allocator + Copy> Layers<A> {
         ensures told { IfOk result (λ met. met ≡ false → (n t w b : ℕ) → HasNumber from.entry.passes.now n → Takes task.now n from.entry.node t w b → b < before → IsToldLate task.now arrival.now delivery self.new.late.items from.entry.node t) }
     {
         if from.node == task.start() {
-            let at = task.arrive_over(looks, from.node, to, from.passes, task.at(), before);
+            let at = task.arrive_over(
+                looks,
+                from.node,
+                to,
+                from.passes,
+                from.bounds,
+                task.at(),
+                before,
+            );
             return Ok(at < before);
         }
         if from.node == task.goal() {

@@ -1,6 +1,7 @@
 //! Hop layers, forward: by number of hops the nodes that they bring an earlier arrival, with it.
 
 ghost use Rattle.std.specs.Prelude.{◌≡◌, ◌≢◌, min, ℕ, List, [], ◌∷◌, ◌+◌, ◌*◌, ◌^◌, ◌≤◌, ◌<◌, length, take, slice_set, slice_index, slice_index_or, Some, OnOk, IfOk, false};
+ghost use Rattle.sabr_model.specs.Links.{AreWithin};
 ghost use Rattle.sabr_search.specs.Task.{IsTask, Takes};
 ghost use Rattle.sabr_search.specs.Steps.{degree};
 ghost use Rattle.sabr_search.specs.Linked.{IsLinkAt, HasNumber, AreLinksAt};
@@ -12,7 +13,7 @@ ghost use Rattle.sabr_search.specs.Made.{AreOpened, AreLayers};
 use crate::looks::Looks;
 use crate::over_link::link_passes;
 use crate::task::Task;
-use sabr_model::{Hop, Links, NoMemory, Pass};
+use sabr_model::{LinkBounds, NoMemory, Pass};
 use std::alloc::Allocator;
 
 /// A node that a layer reaches, when, and the first second at which it is too late for the rest.
@@ -122,35 +123,6 @@ impl<A: Allocator + Copy> Layers<A> {
         Ok(())
     }
 
-    /// Takes one contact of a node that is reached at `at`; answers the least delivery so far.
-    fn take(
-        &mut self,
-        task: &Task<'_, A>,
-        at: u64,
-        hop: &Hop,
-        begin: usize,
-        best: u64,
-    ) -> Result<u64, NoMemory>
-        requires task { IsTask task.now }
-        requires small { IsSmall hop.now }
-        requires receiver { hop.now.receiver < length task.now.table }
-        requires since { task.now.at ≤ at }
-        requires later { 0 < begin }
-        requires lists { AreLists task.now.shut task.now.goal task.now.at begin self.old.arrival.items self.old.place.items self.old.reached.items }
-        ensures bounds { self.new.bounds ≡ self.old.bounds }
-        ensures lowered { IfOk result (λ b. IsLowered task.now.shut task.now.goal task.now.at begin (λ w x. (w ≡ hop.now.receiver) × (slice_index_or task.now.shut w false ≡ false) × (hop_arrival task.now.request.margin at hop.now ≡ Some x)) self.old.arrival.items self.old.reached.items best self.new.arrival.items self.new.place.items self.new.reached.items b) }
-        ensures known { IfOk result (λ b. (x : ℕ) → hop_arrival task.now.request.margin at hop.now ≡ Some x → IsKnown task.now.goal self.new.arrival.items b hop.now.receiver x) }
-    {
-        let to = hop.receiver;
-        if to == task.goal() {
-            return Ok(task.arrive_before(at, hop, best).unwrap_or(best));
-        }
-        if let Some(arrival) = task.arrive_before(at, hop, best.min(self.arrival[to])) {
-            self.note(task.shut(), to, arrival, begin)?;
-        }
-        Ok(best)
-    }
-
     /// Before which an arrival at a node is news.
     fn news_before(&self, task: &Task<'_, A>, to: usize, best: u64) -> u64
         requires many { length self.now.arrival.items ≡ length task.now.shut }
@@ -174,11 +146,13 @@ impl<A: Allocator + Copy> Layers<A> {
         from: Reached,
         to: usize,
         passes: &[Pass],
+        bounds: LinkBounds,
         begin: usize,
         best: u64,
     ) -> Result<u64, NoMemory>
         requires task { IsTask task.now }
         requires link { IsLinkAt task.now from.node to passes.now }
+        requires bounds { AreWithin bounds passes.now }
         requires receiver { to < length task.now.table }
         requires since { task.now.at ≤ from.arrival }
         requires few { looks.old.count + length passes.now ≤ 2 ^ 62 }
@@ -190,7 +164,7 @@ impl<A: Allocator + Copy> Layers<A> {
         ensures known { IfOk result (λ b. (n w x : ℕ) → HasNumber passes.now n → Takes task.now n from.node from.arrival w x → IsKnown task.now.goal self.new.arrival.items b w x) }
     {
         let before = self.news_before(task, to, best);
-        let at = task.arrive_over(looks, from.node, to, passes, from.arrival, before);
+        let at = task.arrive_over(looks, from.node, to, passes, bounds, from.arrival, before);
         if at >= before {
             return Ok(best);
         }
@@ -199,72 +173,6 @@ impl<A: Allocator + Copy> Layers<A> {
         }
         self.note(task.shut(), to, at, begin)?;
         Ok(best)
-    }
-
-    /// As `take_all`, contact by contact, where the plan gives no links.
-    fn take_numbers(
-        &mut self,
-        task: &Task<'_, A>,
-        looks: &mut Looks,
-        from: Reached,
-        begin: usize,
-        best: u64,
-    ) -> Result<u64, NoMemory>
-        requires task { IsTask task.now }
-        requires node { from.node < length task.now.table }
-        requires since { task.now.at ≤ from.arrival }
-        requires few { looks.old.count + degree task.now from.node ≤ 2 ^ 62 }
-        requires later { 0 < begin }
-        requires lists { AreLists task.now.shut task.now.goal task.now.at begin self.old.arrival.items self.old.place.items self.old.reached.items }
-        ensures bounds { self.new.bounds ≡ self.old.bounds }
-        ensures looks { looks.new.count ≤ looks.old.count + degree task.now from.node }
-        ensures lowered { IfOk result (λ b. IsLowered task.now.shut task.now.goal task.now.at begin (λ w x. (n : ℕ) × Takes task.now n from.node from.arrival w x) self.old.arrival.items self.old.reached.items best self.new.arrival.items self.new.place.items self.new.reached.items b) }
-        ensures known { IfOk result (λ b. (n w x : ℕ) → Takes task.now n from.node from.arrival w x → IsKnown task.now.goal self.new.arrival.items b w x) }
-    {
-        let mut least = best;
-        for number in task.numbers(from.node, from.arrival) {
-            if task.is_excluded(from.node, *number) {
-                continue;
-            }
-            let Some(hop) = task.look(looks, *number) else {
-                continue;
-            };
-            if hop.start >= least {
-                return Ok(least);
-            }
-            least = self.take(task, from.arrival, &hop, begin, least)?;
-        }
-        Ok(least)
-    }
-
-    /// As `take_all`, link by link.
-    fn take_links(
-        &mut self,
-        task: &Task<'_, A>,
-        looks: &mut Looks,
-        from: Reached,
-        begin: usize,
-        best: u64,
-        links: Links<'_>,
-    ) -> Result<u64, NoMemory>
-        requires task { IsTask task.now }
-        requires links { AreLinksAt task.now from.node links.links.now links.passes.now }
-        requires node { from.node < length task.now.table }
-        requires since { task.now.at ≤ from.arrival }
-        requires few { looks.old.count + degree task.now from.node ≤ 2 ^ 62 }
-        requires later { 0 < begin }
-        requires lists { AreLists task.now.shut task.now.goal task.now.at begin self.old.arrival.items self.old.place.items self.old.reached.items }
-        ensures bounds { self.new.bounds ≡ self.old.bounds }
-        ensures looks { looks.new.count ≤ looks.old.count + degree task.now from.node }
-        ensures lowered { IfOk result (λ b. IsLowered task.now.shut task.now.goal task.now.at begin (λ w x. (n : ℕ) × Takes task.now n from.node from.arrival w x) self.old.arrival.items self.old.reached.items best self.new.arrival.items self.new.place.items self.new.reached.items b) }
-        ensures known { IfOk result (λ b. (n w x : ℕ) → Takes task.now n from.node from.arrival w x → IsKnown task.now.goal self.new.arrival.items b w x) }
-    {
-        let mut least = best;
-        for link in links.links {
-            let passes = link_passes(links, link);
-            least = self.take_link(task, looks, from, link.receiver, passes, begin, least)?;
-        }
-        Ok(least)
     }
 
     /// Takes every contact of a node that is reached; answers the least delivery so far.
@@ -287,10 +195,23 @@ impl<A: Allocator + Copy> Layers<A> {
         ensures lowered { IfOk result (λ b. IsLowered task.now.shut task.now.goal task.now.at begin (λ w x. (n : ℕ) × Takes task.now n from.node from.arrival w x) self.old.arrival.items self.old.reached.items best self.new.arrival.items self.new.place.items self.new.reached.items b) }
         ensures known { IfOk result (λ b. (n w x : ℕ) → Takes task.now n from.node from.arrival w x → IsKnown task.now.goal self.new.arrival.items b w x) }
     {
-        match task.links(from.node) {
-            Some(links) => self.take_links(task, looks, from, begin, best, links),
-            None => self.take_numbers(task, looks, from, begin, best),
+        let outgoing = task.links(from.node)?;
+        let links = outgoing.all();
+        let mut least = best;
+        for link in links.links {
+            let passes = link_passes(links, link);
+            least = self.take_link(
+                task,
+                looks,
+                from,
+                link.receiver,
+                passes,
+                link.bounds,
+                begin,
+                least,
+            )?;
         }
+        Ok(least)
     }
 
     /// Takes every contact of every node of layer `hop`; answers the least delivery so far.

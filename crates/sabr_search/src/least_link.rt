@@ -1,15 +1,16 @@
 //! The least number of a link that arrives in time.
 
 ghost use Rattle.std.specs.Prelude.{◌≡◌, ◌⊎◌, ℕ, ◌+◌, ◌^◌, ◌≤◌, ◌<◌, Some, IfSome, false, length, slice_index_or};
+ghost use Rattle.sabr_model.specs.Links.{AreWithin};
 ghost use Rattle.sabr_search.specs.Task.{IsTask, Takes};
 ghost use Rattle.sabr_search.specs.Picks.{IsAtMost};
 ghost use Rattle.sabr_search.specs.Linked.{IsLinkAt, HasNumber};
 
 use crate::looks::Looks;
-use crate::over_link::first_open;
+use crate::over_link::{first_open, rules_out};
 use crate::pick::{Step, is_at_most};
 use crate::task::Task;
-use sabr_model::Pass;
+use sabr_model::{LinkBounds, Pass};
 use std::alloc::Allocator;
 
 impl<'a, A: Allocator + Copy> Task<'a, A> {
@@ -21,12 +22,14 @@ impl<'a, A: Allocator + Copy> Task<'a, A> {
         node: usize,
         to: usize,
         passes: &[Pass],
+        bounds: LinkBounds,
         at: u64,
         before: u64,
         least: Option<Step>,
     ) -> Option<Step>
         requires task { IsTask self.now }
         requires link { IsLinkAt self.now node to passes.now }
+        requires bounds { AreWithin bounds passes.now }
         requires few { looks.old.count + length passes.now ≤ 2 ^ 62 }
         ensures looks { looks.new.count ≤ looks.old.count + length passes.now }
         ensures some_looks { (result ≡ least) ⊎ (looks.old.count < looks.new.count) }
@@ -34,7 +37,7 @@ impl<'a, A: Allocator + Copy> Task<'a, A> {
         ensures sound { (result ≡ least) ⊎ IfSome result (λ s. (s.node ≡ to) × (s.at < before) × (slice_index_or self.now.shut to false ≡ false → Takes self.now s.number node at to s.at)) }
         ensures full { (n w b : ℕ) → HasNumber passes.now n → Takes self.now n node at w b → b < before → IsAtMost result n }
     {
-        if at >= before {
+        if rules_out(bounds, at, before) {
             return least;
         }
         let mut chosen = least;

@@ -3,16 +3,18 @@
 ghost use Rattle.std.specs.Prelude.{◌≡◌, ◌≢◌, ◌⊎◌, ℕ, ◌+◌, ◌^◌, ◌≤◌, ◌<◌, max, IsTrue, false, Some, length, slice_get, slice_index_or};
 ghost use Rattle.sabr_model.specs.declared.link.Pass.{Pass};
 ghost use Rattle.sabr_model.specs.Arrival.{cost};
+ghost use Rattle.sabr_model.specs.Links.{AreWithin};
 ghost use Rattle.sabr_search.specs.Task.{IsTask, Takes};
 ghost use Rattle.sabr_search.specs.Linked.{IsLinkAt, HasNumber};
 
 use crate::looks::Looks;
+use crate::over_link::rules_out;
 use crate::task::Task;
-use sabr_model::Pass;
+use sabr_model::{LinkBounds, Pass};
 use std::alloc::Allocator;
 
-/// How many passes of a link start before `before`: they are those in front. A halving: it compares the starts as the
-/// keys by which a link's passes are in order.
+/// How many passes of a link start before `before`: they are those in front. The only one may start later. A halving: it
+/// compares the starts as the keys by which a link's passes are in order.
 fn begun<A: Allocator + Copy>(
     _task: &Task<'_, A>,
     _node: usize,
@@ -25,6 +27,9 @@ fn begun<A: Allocator + Copy>(
     ensures within { result ≤ length passes.now }
     ensures late { (k : ℕ) (x : Pass) → result ≤ k → slice_get passes.now k ≡ Some x → before ≤ x.start }
 {
+    if passes.len() == 1 {
+        return 1;
+    }
     passes.partition_point(|pass| pass.start < before)
 }
 
@@ -51,12 +56,14 @@ impl<'a, A: Allocator + Copy> Task<'a, A> {
         node: usize,
         to: usize,
         passes: &[Pass],
+        bounds: LinkBounds,
         since: u64,
         before: u64,
         latest: u64,
     ) -> u64
         requires task { IsTask self.now }
         requires link { IsLinkAt self.now node to passes.now }
+        requires bounds { AreWithin bounds passes.now }
         requires other { node ≢ self.now.start }
         requires few { looks.old.count + length passes.now ≤ 2 ^ 62 }
         ensures looks { looks.new.count ≤ looks.old.count + length passes.now }
@@ -65,6 +72,9 @@ impl<'a, A: Allocator + Copy> Task<'a, A> {
         ensures sound { (t : ℕ) → latest ≤ t → t < result → (b : ℕ) × (b < before) × (slice_index_or self.now.shut to false ≡ false → (n : ℕ) × Takes self.now n node t to b) }
         ensures full { (n t w b : ℕ) → HasNumber passes.now n → since ≤ t → Takes self.now n node t w b → b < before → t < result }
     {
+        if rules_out(bounds, latest.max(since), before) {
+            return latest;
+        }
         let mut last = latest;
         let end = begun(self, node, to, passes, before);
         for back in 0..end {

@@ -1,8 +1,9 @@
 //! The arrival over a whole link: halving and a few looks in place of one look for each of its contacts.
 
-ghost use Rattle.std.specs.Prelude.{◌≡◌, ℕ, ◌+◌, ◌^◌, ◌≤◌, ◌<◌, max, IsTrue, false, Some, length, slice_get, slice_index_or};
+ghost use Rattle.std.specs.Prelude.{◌≡◌, ◌⊎◌, ℕ, ◌+◌, ◌^◌, ◌≤◌, ◌<◌, max, IsTrue, false, Some, length, slice_get, slice_index_or};
 ghost use Rattle.sabr_model.specs.declared.link.Pass.{Pass};
 ghost use Rattle.sabr_model.specs.Arrival.{cost};
+ghost use Rattle.sabr_model.specs.Links.{AreWithin};
 ghost use Rattle.sabr_search.specs.Hops.{IsSmall};
 ghost use Rattle.sabr_search.specs.Task.{IsTask, Takes};
 ghost use Rattle.sabr_search.specs.Steps.{IsHopAt};
@@ -10,7 +11,7 @@ ghost use Rattle.sabr_search.specs.Linked.{IsPassAt, IsLinkAt, HasNumber, passes
 
 use crate::looks::Looks;
 use crate::task::Task;
-use sabr_model::{Hop, Link, Links, Pass};
+use sabr_model::{Hop, Link, LinkBounds, Links, Pass};
 use std::alloc::Allocator;
 
 /// The passes of a link.
@@ -22,8 +23,20 @@ pub fn link_passes<'a>(links: Links<'a>, link: &Link) -> &'a [Pass]
     &links.passes[link.first..link.end]
 }
 
-/// How many passes from the front of a link have ended by `at`; those behind may have ended as well. A halving: it
-/// compares the bounds that stand beside the passes.
+/// Whether nothing that is at the sender of a link at `at` or later arrives over it before `before`, by the bounds of the
+/// whole link.
+pub fn rules_out(bounds: LinkBounds, at: u64, before: u64) -> bool
+    ensures late { IsTrue result → (bounds.latest_end ≤ at) ⊎ ((before ≤ bounds.soonest) ⊎ (before ≤ at + bounds.least_light)) }
+    ensures early { result ≡ false → at < before }
+{
+    if bounds.latest_end <= at || before <= bounds.soonest {
+        return true;
+    }
+    before.saturating_sub(at) <= bounds.least_light as u64
+}
+
+/// How many passes from the front of a link have ended by `at`; those behind, or the only one, may have ended as well.
+/// A halving: it compares the bounds that stand beside the passes.
 pub fn first_open<A: Allocator + Copy>(
     _task: &Task<'_, A>,
     _node: usize,
@@ -36,6 +49,9 @@ pub fn first_open<A: Allocator + Copy>(
     ensures within { result ≤ length passes.now }
     ensures ended { (k : ℕ) (x : Pass) → k < result → slice_get passes.now k ≡ Some x → x.end ≤ at }
 {
+    if passes.len() == 1 {
+        return 0;
+    }
     passes.partition_point(|pass| pass.latest_end <= at)
 }
 
@@ -74,11 +90,13 @@ impl<'a, A: Allocator + Copy> Task<'a, A> {
         node: usize,
         to: usize,
         passes: &[Pass],
+        bounds: LinkBounds,
         at: u64,
         before: u64,
     ) -> u64
         requires task { IsTask self.now }
         requires link { IsLinkAt self.now node to passes.now }
+        requires bounds { AreWithin bounds passes.now }
         requires few { looks.old.count + length passes.now ≤ 2 ^ 62 }
         ensures looks { looks.new.count ≤ looks.old.count + length passes.now }
         ensures looked { looks.old.count ≤ looks.new.count }
@@ -88,7 +106,7 @@ impl<'a, A: Allocator + Copy> Task<'a, A> {
         ensures sound { result < before → slice_index_or self.now.shut to false ≡ false → (n : ℕ) × Takes self.now n node at to result }
         ensures full { (n w b : ℕ) → HasNumber passes.now n → Takes self.now n node at w b → result ≤ b }
     {
-        if at >= before {
+        if rules_out(bounds, at, before) {
             return before;
         }
         let mut least = before;

@@ -4,7 +4,6 @@ ghost use Rattle.std.specs.Prelude.{◌≡◌, ◌++◌, ℕ, List, ◌+◌, ◌
 ghost use Rattle.sabr_search.specs.Ways.{Leads};
 ghost use Rattle.sabr_search.specs.Task.{IsTask, Takes};
 ghost use Rattle.sabr_search.specs.Steps.{degree};
-ghost use Rattle.sabr_search.specs.Linked.{AreLinksAt};
 ghost use Rattle.sabr_search.specs.Deadlines.{ArePointed, IsInTime, AreTimed};
 ghost use Rattle.sabr_search.specs.Picks.{IsAtMost, IsLeastStep, IsPicked};
 
@@ -12,7 +11,7 @@ use crate::layers::{Best, Layers};
 use crate::looks::Looks;
 use crate::over_link::link_passes;
 use crate::task::Task;
-use sabr_model::{Links, NoMemory};
+use sabr_model::NoMemory;
 use std::alloc::Allocator;
 
 /// A node, and when the bundle is there.
@@ -42,15 +41,15 @@ pub fn is_at_most(least: Option<Step>, number: u32) -> bool
 }
 
 impl<A: Allocator + Copy> Layers<A> {
-    /// As `least_step`, contact by contact, where the plan gives no links.
-    fn least_by_numbers(
+    /// The step of least number from a node after which the goal is still reached in time.
+    fn least_step(
         &self,
         task: &Task<'_, A>,
         looks: &mut Looks,
         best: Best,
         hop: usize,
         from: Standing,
-    ) -> Option<Step>
+    ) -> Result<Option<Step>, NoMemory>
         requires task { IsTask task.now }
         requires few { looks.old.count + degree task.now from.node ≤ 2 ^ 62 }
         requires pointed { ArePointed task.now hop self.now.bounds.items self.now.place.items self.now.reached.items }
@@ -59,57 +58,11 @@ impl<A: Allocator + Copy> Layers<A> {
         requires hop { hop ≤ best.hops }
         requires node { from.node < length task.now.table }
         ensures looks { looks.new.count ≤ looks.old.count + degree task.now from.node }
-        ensures some { IfSome result (IsLeastStep task.now best self.now.bounds.items self.now.reached.items hop from.node from.at) }
-        ensures none { IfNone result ((n w b : ℕ) → Takes task.now n from.node from.at w b → IsInTime task.now best self.now.bounds.items self.now.reached.items hop w b → ⊥) }
+        ensures some { IfOk result (λ o. IfSome o (IsLeastStep task.now best self.now.bounds.items self.now.reached.items hop from.node from.at)) }
+        ensures none { IfOk result (λ o. IfNone o ((n w b : ℕ) → Takes task.now n from.node from.at w b → IsInTime task.now best self.now.bounds.items self.now.reached.items hop w b → ⊥)) }
     {
-        let mut least: Option<Step> = None;
-        for number in task.numbers(from.node, from.at) {
-            if task.is_excluded(from.node, *number) {
-                continue;
-            }
-            if is_at_most(least, *number) {
-                continue;
-            }
-            let Some(contact) = task.look(looks, *number) else {
-                continue;
-            };
-            if contact.start > best.delivery {
-                return least;
-            }
-            let before = self.deadline(task, best, hop, contact.receiver);
-            if let Some(at) = task.arrive_before(from.at, &contact, before) {
-                least = Some(Step {
-                    number: *number,
-                    node: contact.receiver,
-                    at,
-                });
-            }
-        }
-        least
-    }
-
-    /// As `least_step`, link by link.
-    fn least_by_links(
-        &self,
-        task: &Task<'_, A>,
-        looks: &mut Looks,
-        best: Best,
-        hop: usize,
-        from: Standing,
-        links: Links<'_>,
-    ) -> Option<Step>
-        requires task { IsTask task.now }
-        requires links { AreLinksAt task.now from.node links.links.now links.passes.now }
-        requires few { looks.old.count + degree task.now from.node ≤ 2 ^ 62 }
-        requires pointed { ArePointed task.now hop self.now.bounds.items self.now.place.items self.now.reached.items }
-        requires timed { AreTimed task.now best hop self.now.bounds.items self.now.place.items self.now.reached.items }
-        requires later { 0 < hop }
-        requires hop { hop ≤ best.hops }
-        requires node { from.node < length task.now.table }
-        ensures looks { looks.new.count ≤ looks.old.count + degree task.now from.node }
-        ensures some { IfSome result (IsLeastStep task.now best self.now.bounds.items self.now.reached.items hop from.node from.at) }
-        ensures none { IfNone result ((n w b : ℕ) → Takes task.now n from.node from.at w b → IsInTime task.now best self.now.bounds.items self.now.reached.items hop w b → ⊥) }
-    {
+        let outgoing = task.links(from.node)?;
+        let links = outgoing.all();
         let mut least: Option<Step> = None;
         for link in links.links {
             let passes = link_passes(links, link);
@@ -119,38 +72,13 @@ impl<A: Allocator + Copy> Layers<A> {
                 from.node,
                 link.receiver,
                 passes,
+                link.bounds,
                 from.at,
                 before,
                 least,
             );
         }
-        least
-    }
-
-    /// The step of least number from a node after which the goal is still reached in time.
-    fn least_step(
-        &self,
-        task: &Task<'_, A>,
-        looks: &mut Looks,
-        best: Best,
-        hop: usize,
-        from: Standing,
-    ) -> Option<Step>
-        requires task { IsTask task.now }
-        requires few { looks.old.count + degree task.now from.node ≤ 2 ^ 62 }
-        requires pointed { ArePointed task.now hop self.now.bounds.items self.now.place.items self.now.reached.items }
-        requires timed { AreTimed task.now best hop self.now.bounds.items self.now.place.items self.now.reached.items }
-        requires later { 0 < hop }
-        requires hop { hop ≤ best.hops }
-        requires node { from.node < length task.now.table }
-        ensures looks { looks.new.count ≤ looks.old.count + degree task.now from.node }
-        ensures some { IfSome result (IsLeastStep task.now best self.now.bounds.items self.now.reached.items hop from.node from.at) }
-        ensures none { IfNone result ((n w b : ℕ) → Takes task.now n from.node from.at w b → IsInTime task.now best self.now.bounds.items self.now.reached.items hop w b → ⊥) }
-    {
-        match task.links(from.node) {
-            Some(links) => self.least_by_links(task, looks, best, hop, from, links),
-            None => self.least_by_numbers(task, looks, best, hop, from),
-        }
+        Ok(least)
     }
 
     /// The least numbers that lead from the start to the goal with the best delivery and hops, behind the prefix.
@@ -179,7 +107,8 @@ impl<A: Allocator + Copy> Layers<A> {
         };
         for hop in 0..best.hops {
             self.point_at(task, best, hop + 1);
-            let Some(step) = self.least_step(task, looks, best, hop + 1, from) else {
+            let least = self.least_step(task, looks, best, hop + 1, from)?;
+            let Some(step) = least else {
                 unreachable!();
             };
             contacts.push(step.number)?;

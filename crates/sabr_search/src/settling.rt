@@ -1,6 +1,7 @@
 //! Nodes settled in order of their arrival, up to the first delivery at the goal.
 
 ghost use Rattle.std.specs.Prelude.{◌≡◌, ◌≢◌, ℕ, min, List, [], ◌+◌, ◌^◌, ◌≤◌, ◌<◌, length, slice_set, slice_index, slice_index_or, replicate, Some, OnOk, IfOk, true, false};
+ghost use Rattle.sabr_model.specs.Links.{AreWithin};
 ghost use Rattle.sabr_search.specs.Task.{IsTask, Takes};
 ghost use Rattle.sabr_search.specs.Steps.{degree};
 ghost use Rattle.sabr_search.specs.Linked.{IsLinkAt, HasNumber, AreLinksAt};
@@ -16,7 +17,7 @@ use crate::looks::Looks;
 use crate::over_link::link_passes;
 use crate::queue::{Event, Queue};
 use crate::task::Task;
-use sabr_model::{Hop, Links, NoMemory, Pass};
+use sabr_model::{LinkBounds, NoMemory, Pass};
 use std::alloc::Allocator;
 
 /// By node the least arrival so far and whether it is settled; and the arrivals that wait.
@@ -49,49 +50,6 @@ impl<A: Allocator + Copy> Settling<A> {
         self.settled.resize(task.shut().len(), false)?;
         self.queue.clear();
         Ok(())
-    }
-
-    /// Takes one contact of a node that is settled; answers the first delivery so far.
-    fn take(
-        &mut self,
-        task: &Task<'_, A>,
-        event: Event,
-        hop: &Hop,
-        best: Best,
-    ) -> Result<Best, NoMemory>
-        requires task { IsTask task.now }
-        requires small { IsSmall hop.now }
-        requires receiver { hop.now.receiver < length task.now.table }
-        requires step { (x : ℕ) → slice_index_or task.now.shut hop.now.receiver false ≡ false → hop_arrival task.now.request.margin event.at hop.now ≡ Some x → (n : ℕ) × Takes task.now n event.node event.at hop.now.receiver x }
-        requires real { IsWayTo task.now event.node event.hops event.at }
-        requires few { event.hops < settled_count self.old.settled.items }
-        requires state { AreSettling task.now self.old.settled.items event.at self.old.arrival.items self.old.queue best }
-        ensures settled { self.new.settled ≡ self.old.settled }
-        ensures state { IfOk result (λ b. AreSettling task.now self.old.settled.items event.at self.new.arrival.items self.new.queue b) }
-        ensures fallen { IfOk result (λ b. IsFallen self.old.settled.items self.old.arrival.items best self.new.arrival.items b) }
-        ensures known { IfOk result (λ b. (x : ℕ) → slice_index_or task.now.shut hop.now.receiver false ≡ false → hop_arrival task.now.request.margin event.at hop.now ≡ Some x → IsKnown task.now.goal self.new.arrival.items b.delivery hop.now.receiver x) }
-        ensures pushes { OnOk result (length self.new.queue ≤ length self.old.queue + 1) }
-    {
-        let to = hop.receiver;
-        if to == task.goal() {
-            return Ok(match task.arrive_before(event.at, hop, best.delivery) {
-                None => best,
-                Some(delivery) => Best {
-                    delivery,
-                    hops: event.hops + 1,
-                },
-            });
-        }
-        let before = best.delivery.min(self.arrival[to]);
-        if let Some(at) = task.arrive_before(event.at, hop, before) {
-            self.queue.push(Event {
-                at,
-                hops: event.hops + 1,
-                node: to,
-            })?;
-            self.arrival[to] = at;
-        }
-        Ok(best)
     }
 
     /// Before which an arrival at a node is news.
@@ -150,10 +108,12 @@ impl<A: Allocator + Copy> Settling<A> {
         event: Event,
         to: usize,
         passes: &[Pass],
+        bounds: LinkBounds,
         best: Best,
     ) -> Result<Best, NoMemory>
         requires task { IsTask task.now }
         requires link { IsLinkAt task.now event.node to passes.now }
+        requires bounds { AreWithin bounds passes.now }
         requires receiver { to < length task.now.table }
         requires real { IsWayTo task.now event.node event.hops event.at }
         requires few_hops { event.hops < settled_count self.old.settled.items }
@@ -167,89 +127,11 @@ impl<A: Allocator + Copy> Settling<A> {
         ensures pushes { OnOk result (length self.new.queue + looks.old.count ≤ length self.old.queue + looks.new.count) }
     {
         let before = self.news_before(task, to, best);
-        let at = task.arrive_over(looks, event.node, to, passes, event.at, before);
+        let at = task.arrive_over(looks, event.node, to, passes, bounds, event.at, before);
         if at >= before {
             return Ok(best);
         }
         let least = self.reach(task, event, to, at, best)?;
-        Ok(least)
-    }
-
-    /// As `settle`, contact by contact, where the plan gives no links.
-    fn settle_numbers(
-        &mut self,
-        task: &Task<'_, A>,
-        looks: &mut Looks,
-        event: Event,
-        best: Best,
-    ) -> Result<Best, NoMemory>
-        requires task { IsTask task.now }
-        requires node { event.node < length task.now.table }
-        requires many { length self.old.settled.items ≡ length task.now.table }
-        requires unsettled { slice_index_or self.old.settled.items event.node false ≡ false }
-        requires reached { slice_index self.old.arrival.items event.node ≡ event.at }
-        requires real { IsWayTo task.now event.node event.hops event.at }
-        requires few_hops { event.hops ≤ settled_count self.old.settled.items }
-        requires few { looks.old.count + degree task.now event.node ≤ 2 ^ 62 }
-        requires state { AreSettling task.now (slice_set self.old.settled.items event.node true) event.at self.old.arrival.items self.old.queue best }
-        requires taken { AreSettledTaken task.now self.old.settled.items self.old.arrival.items best.delivery }
-        ensures settled { self.new.settled.items ≡ slice_set self.old.settled.items event.node true }
-        ensures looks { looks.new.count ≤ looks.old.count + degree task.now event.node }
-        ensures state { IfOk result (λ b. AreSettling task.now (slice_set self.old.settled.items event.node true) event.at self.new.arrival.items self.new.queue b) }
-        ensures fallen { IfOk result (λ b. IsFallen (slice_set self.old.settled.items event.node true) self.old.arrival.items best self.new.arrival.items b) }
-        ensures taken { IfOk result (λ b. AreSettledTaken task.now (slice_set self.old.settled.items event.node true) self.new.arrival.items b.delivery) }
-        ensures pushes { OnOk result (length self.new.queue + looks.old.count ≤ length self.old.queue + looks.new.count) }
-    {
-        self.settled[event.node] = true;
-        let mut least = best;
-        for number in task.numbers(event.node, event.at) {
-            if task.is_excluded(event.node, *number) {
-                continue;
-            }
-            let Some(hop) = task.look(looks, *number) else {
-                continue;
-            };
-            if hop.start >= least.delivery {
-                return Ok(least);
-            }
-            least = self.take(task, event, &hop, least)?;
-        }
-        Ok(least)
-    }
-
-    /// As `settle`, link by link.
-    fn settle_links(
-        &mut self,
-        task: &Task<'_, A>,
-        looks: &mut Looks,
-        event: Event,
-        best: Best,
-        links: Links<'_>,
-    ) -> Result<Best, NoMemory>
-        requires task { IsTask task.now }
-        requires node { event.node < length task.now.table }
-        requires many { length self.old.settled.items ≡ length task.now.table }
-        requires unsettled { slice_index_or self.old.settled.items event.node false ≡ false }
-        requires reached { slice_index self.old.arrival.items event.node ≡ event.at }
-        requires real { IsWayTo task.now event.node event.hops event.at }
-        requires few_hops { event.hops ≤ settled_count self.old.settled.items }
-        requires few { looks.old.count + degree task.now event.node ≤ 2 ^ 62 }
-        requires links { AreLinksAt task.now event.node links.links.now links.passes.now }
-        requires state { AreSettling task.now (slice_set self.old.settled.items event.node true) event.at self.old.arrival.items self.old.queue best }
-        requires taken { AreSettledTaken task.now self.old.settled.items self.old.arrival.items best.delivery }
-        ensures settled { self.new.settled.items ≡ slice_set self.old.settled.items event.node true }
-        ensures looks { looks.new.count ≤ looks.old.count + degree task.now event.node }
-        ensures state { IfOk result (λ b. AreSettling task.now (slice_set self.old.settled.items event.node true) event.at self.new.arrival.items self.new.queue b) }
-        ensures fallen { IfOk result (λ b. IsFallen (slice_set self.old.settled.items event.node true) self.old.arrival.items best self.new.arrival.items b) }
-        ensures taken { IfOk result (λ b. AreSettledTaken task.now (slice_set self.old.settled.items event.node true) self.new.arrival.items b.delivery) }
-        ensures pushes { OnOk result (length self.new.queue + looks.old.count ≤ length self.old.queue + looks.new.count) }
-    {
-        self.settled[event.node] = true;
-        let mut least = best;
-        for link in links.links {
-            let passes = link_passes(links, link);
-            least = self.take_link(task, looks, event, link.receiver, passes, least)?;
-        }
         Ok(least)
     }
 
@@ -278,10 +160,23 @@ impl<A: Allocator + Copy> Settling<A> {
         ensures taken { IfOk result (λ b. AreSettledTaken task.now (slice_set self.old.settled.items event.node true) self.new.arrival.items b.delivery) }
         ensures pushes { OnOk result (length self.new.queue + looks.old.count ≤ length self.old.queue + looks.new.count) }
     {
-        match task.links(event.node) {
-            Some(links) => self.settle_links(task, looks, event, best, links),
-            None => self.settle_numbers(task, looks, event, best),
+        self.settled[event.node] = true;
+        let outgoing = task.links(event.node)?;
+        let links = outgoing.all();
+        let mut least = best;
+        for link in links.links {
+            let passes = link_passes(links, link);
+            least = self.take_link(
+                task,
+                looks,
+                event,
+                link.receiver,
+                passes,
+                link.bounds,
+                least,
+            )?;
         }
+        Ok(least)
     }
 
     /// Settles nodes in order of their arrival, until no event comes before the first delivery at the goal; answers that

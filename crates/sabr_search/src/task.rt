@@ -1,18 +1,19 @@
 //! What does not change during a search, and the arrival over one contact.
 
-ghost use Rattle.std.specs.Prelude.{◌≡◌, ◌↔◌, Contains, ◌==◌, ◌&&◌, ℕ, ◌≤◌, ◌<◌, ◌+◌, ◌*◌, ◌^◌, None, Some, MatchOption, IfSome, IfNone, IsTrue, length, slice_get};
+ghost use Rattle.std.specs.Prelude.{◌≡◌, ◌↔◌, Contains, ◌==◌, ◌&&◌, ℕ, ◌≤◌, ◌<◌, ◌+◌, ◌*◌, ◌^◌, None, Some, MatchOption, IfOk, IfSome, IfNone, IsTrue, length, slice_get};
 ghost use Rattle.std.specs.List.Sorted.{IsNonDecreasing};
 ghost use Rattle.sabr_model.specs.Arrival.{cost};
 ghost use Rattle.sabr_model.specs.Plan.{has};
 ghost use Rattle.sabr_model.specs.Plan.{contact_named};
+ghost use Rattle.sabr_model.specs.Outgoing.{links_in, passes_in};
 ghost use Rattle.sabr_search.specs.Hops.{hop_arrival, IsSmall};
 ghost use Rattle.sabr_search.specs.Task.{IsTask};
-ghost use Rattle.sabr_search.specs.Steps.{AreSteps, IsHopAt};
+ghost use Rattle.sabr_search.specs.Steps.{IsHopAt};
 ghost use Rattle.sabr_search.specs.Linked.{AreLinksAt, AreSendersAt};
 
 use crate::looks::Looks;
 use crate::pick::Standing;
-use sabr_model::{Hop, Links, Plan, Request, Senders};
+use sabr_model::{Hop, NoMemory, Outgoing, Plan, Request, Senders};
 use std::alloc::Allocator;
 use std::marker::Model;
 
@@ -65,22 +66,13 @@ impl<'a, A: Allocator + Copy> Task<'a, A> {
         }
     }
 
-    /// The numbers of the contacts that a node sends, by start; all that what is there at `at` can still take are among them.
-    pub fn numbers(&self, node: usize, at: u64) -> &[u32]
+    /// The links of a node, on which every step from there is. Takes memory where the plan isn't settled.
+    pub fn links(&self, node: usize) -> Result<Outgoing<'_, A>, NoMemory>
         requires task { IsTask self.now }
         requires node { node < length self.now.table }
-        ensures { AreSteps self.now node at result.now }
+        ensures { IfOk result (λ o. AreLinksAt self.now node (links_in o) (passes_in o)) }
     {
-        self.plan.open_contacts(node, at)
-    }
-
-    /// The links of a node, on which every step from there is; none where the plan isn't settled.
-    pub fn links(&self, node: usize) -> Option<Links<'_>>
-        requires task { IsTask self.now }
-        requires node { node < length self.now.table }
-        ensures { IfSome result (λ l. AreLinksAt self.now node l.links.now l.passes.now) }
-    {
-        self.plan.links(node)
+        self.plan.outgoing(node)
     }
 
     /// The links to a node, on which every step to there is; none where the plan isn't settled.
@@ -219,6 +211,9 @@ fn cost(light: u32, margin_ppm: u32) -> u64
     ensures limit { result ≤ 2000000 }
 {
     let light = light as u64;
+    if margin_ppm == 0 {
+        return light;
+    }
     light + (light * margin_ppm as u64 + 999999) / 1000000
 }
 

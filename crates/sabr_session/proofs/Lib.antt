@@ -2,7 +2,6 @@ pub mod Gathering
 pub mod SpacedNumbers
 mod RouteLine
 mod ReportLines
-mod WithinBounds
 mod SpacedWords
 mod ReadNumbers
 mod SlashLists

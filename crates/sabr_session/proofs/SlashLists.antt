@@ -8,8 +8,9 @@ use Rattle.std.proofs.lemmas.Fmt.{decimal_is_IsNumeral}
 use Rattle.std.proofs.lemmas.Slice.Eq.{bytes_eq-Decides}
 use Rattle.std.specs.declared.option.Option.{Option}
 use Rattle.std.specs.declared.option.Option.TheVariants.{Some, None}
-use Rattle.sabr_session.proofs.WithinBounds.{number_within-unspelled}
-use Rattle.sabr_session.specs.SessionWords.{number_within, all_of, counted, is_dash, list_within, contacts_of, is_slash, before_slash, after_slash}
+use Rattle.sabr_plan.proofs.SpelledNumbers.{number_within-unspelled}
+use Rattle.sabr_session.specs.SessionWords.{all_of, counted, is_dash, list_within, contacts_of, is_slash, before_slash, after_slash}
+use Rattle.sabr_plan.specs.Numbers.{number_within}
 
 -- another word comes first
 pub before-on : (w : List ℕ) (ws : List (List ℕ)) → is_slash w ≡ false → before_slash (w ∷ ws) ≡ w ∷ before_slash ws

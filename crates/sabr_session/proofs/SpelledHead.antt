@@ -13,13 +13,14 @@ use Rattle.sabr_plan.specs.Times.{time_text_of}
 use Rattle.sabr_plan.proofs.Seconds.{time_of-text}
 use Rattle.sabr_session.specs.SpacedNumbers.{list_text}
 use Rattle.sabr_session.specs.SessionText.{IsUnlimited}
-use Rattle.sabr_session.specs.SessionWords.{number_within, words_of, nodes_of, contacts_of}
+use Rattle.sabr_session.specs.SessionWords.{words_of, nodes_of, contacts_of}
+use Rattle.sabr_plan.specs.Numbers.{number_within}
 use Rattle.sabr_session.specs.SessionLines.{digest_named, request_of, emitted_of, last_listed, count_of, behind_label}
 use Rattle.sabr_session.specs.SessionRead.{asked}
 use Rattle.sabr_session.specs.declared.first_lines.Version.TheVariants.{One, Two}
 use Rattle.sabr_session.specs.declared.request_line.RequestValues.{RequestValues}
 use Rattle.sabr_session.proofs.Labels.{label-front}
-use Rattle.sabr_session.proofs.WithinBounds.{same_text, number_within-spelled_within}
+use Rattle.sabr_plan.proofs.SpelledNumbers.{same_text, number_within-spelled_within}
 use Rattle.sabr_session.proofs.SpelledWords.{IsWord, AreWithin, list_words, words-apart, words-word, words-list, list-read, decimal_is_word}
 use Rattle.sabr_session.proofs.SpelledDigests.{digest_is}
 

@@ -7,8 +7,9 @@ use Rattle.std.proofs.lemmas.Fmt.{decimal_by_steps_wide}
 use Rattle.std.proofs.lemmas.List.Splits.{length-slice_split}
 use Rattle.std.specs.declared.option.Option.TheVariants.{Some}
 use Rattle.sabr_session.specs.SpacedNumbers.{spaced_behind, list_text}
-use Rattle.sabr_session.specs.SessionWords.{number_within, is_space, words_of, all_of, counted, is_dash, list_within, is_slash, before_slash, after_slash}
-use Rattle.sabr_session.proofs.WithinBounds.{number_within-spelled_within}
+use Rattle.sabr_session.specs.SessionWords.{is_space, words_of, all_of, counted, is_dash, list_within, is_slash, before_slash, after_slash}
+use Rattle.sabr_plan.specs.Numbers.{number_within}
+use Rattle.sabr_plan.proofs.SpelledNumbers.{number_within-spelled_within}
 use Rattle.sabr_session.proofs.ReadNumbers.{counted-some}
 
 -- bytes behind the space: neither a space nor LF is one of them

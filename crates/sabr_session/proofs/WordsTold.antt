@@ -7,7 +7,8 @@ use Rattle.std.specs.Str.Parse.{digits_value}
 use Rattle.std.proofs.lemmas.List.Splits.{join_with_byte-slice_split}
 use Rattle.std.proofs.lemmas.Slice.Eq.{bytes_eq-Decides}
 use Rattle.sabr_session.specs.SpacedNumbers.{list_text}
-use Rattle.sabr_session.specs.SessionWords.{number_within, words_of, all_of, counted, is_dash, list_within, contacts_of, is_slash, before_slash, after_slash}
+use Rattle.sabr_session.specs.SessionWords.{words_of, all_of, counted, is_dash, list_within, contacts_of, is_slash, before_slash, after_slash}
+use Rattle.sabr_plan.specs.Numbers.{number_within}
 
 -- words, parted by single spaces
 abbrev pub joined : List (List ℕ) → List ℕ

@@ -6,7 +6,8 @@ use Rattle.std.specs.declared.option.Option.{Option}
 use Rattle.std.specs.declared.option.Option.TheVariants.{Some, None}
 use Rattle.sabr_plan.specs.Times.{time_of}
 use Rattle.sabr_frontier.specs.State.{PartState}
-use Rattle.sabr_session.specs.SessionWords.{number_within, words_of, contacts_of, nodes_of, is_slash, before_slash, after_slash}
+use Rattle.sabr_session.specs.SessionWords.{words_of, contacts_of, nodes_of, is_slash, before_slash, after_slash}
+use Rattle.sabr_plan.specs.Numbers.{number_within}
 use Rattle.sabr_session.specs.declared.first_lines.Version.{Version}
 use Rattle.sabr_session.specs.declared.first_lines.Version.TheVariants.{One, Two}
 use Rattle.sabr_session.specs.declared.request_line.RequestValues.{RequestValues}

@@ -1,16 +1,10 @@
 -- What the words of a session text spell.
-use Rattle.std.specs.Prelude.{ℕ, ◌==◌, nat_lt, nat_le, ◌&&◌, Bool, false, List, [], ◌∷◌, length, codes, decimal, option_map, option_and_then, map, if◌then◌else◌}
+use Rattle.std.specs.Prelude.{ℕ, ◌==◌, nat_lt, nat_le, ◌&&◌, Bool, false, List, [], ◌∷◌, length, codes, option_map, option_and_then, map, if◌then◌else◌}
 use Rattle.std.specs.List.{slice_split}
 use Rattle.std.specs.Str.{bytes_eq}
-use Rattle.std.specs.Str.Parse.{digits_value}
+use Rattle.sabr_plan.specs.Numbers.{number_within}
 use Rattle.std.specs.declared.option.Option.{Option}
 use Rattle.std.specs.declared.option.Option.TheVariants.{Some, None}
-
--- the number that the text spells, decimal without a sign or leading zero, where it lies within these bounds
-unfoldable pub number_within : ℕ → ℕ → List ℕ → Option ℕ
-number_within low high text =
-    let n = digits_value 10 text in
-    if bytes_eq text (decimal n) && nat_le low n && nat_le n high then Some n else None
 
 -- a space parts words
 abbrev pub is_space : ℕ → Bool

@@ -6,8 +6,9 @@ ghost use Rattle.std.specs.Option.{option_copied};
 ghost use Rattle.sabr_session.specs.SessionLines.{behind_label, header_of, is_digest_digit, is_digest, digest_named, emitted_of, last_listed, count_of, is_end};
 
 use crate::listed::list_to_end;
-use crate::number::{count_within, number_within};
+use crate::number::count_within;
 use sabr_model::{NoMemory, Numbers};
+use sabr_plan::number_within;
 use std::alloc::Allocator;
 
 /// How many digits a digest has.

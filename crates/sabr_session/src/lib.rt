@@ -7,7 +7,7 @@ mod head;
 mod held_line;
 mod listed;
 mod lists;
-mod node_list;
+mod nodes;
 mod number;
 mod numbers;
 mod part_line;

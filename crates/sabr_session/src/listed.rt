@@ -3,11 +3,12 @@
 ghost use Rattle.std.specs.Prelude.{◌≡◌, ◌≤◌, None, Some, true, false, map, length, IfOk, MatchOption};
 ghost use Rattle.std.specs.List.{list_any};
 ghost use Rattle.std.specs.Option.{option_copied};
-ghost use Rattle.sabr_session.specs.SessionWords.{words_of, words_behind, number_within, all_of, counted, is_dash, contacts_of, is_slash, before_slash, after_slash};
+ghost use Rattle.sabr_session.specs.SessionWords.{words_of, words_behind, all_of, counted, is_dash, contacts_of, is_slash, before_slash, after_slash};
+ghost use Rattle.sabr_plan.specs.Numbers.{number_within};
 
-use crate::number::number_within;
 use crate::words::{first_word, is_word};
 use sabr_model::{NoMemory, Numbers};
+use sabr_plan::number_within;
 use std::alloc::Allocator;
 
 /// The most numbers of a list.

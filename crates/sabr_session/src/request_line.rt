@@ -6,10 +6,10 @@ ghost use Rattle.sabr_session.specs.SessionWords.{words_of, words_behind};
 ghost use Rattle.sabr_session.specs.SessionLines.{four_of, unlimited_of, limited_of, values_of, request_of};
 
 use crate::first_lines::{Version, behind_label};
-use crate::node_list::{NodeList, nodes_of};
-use crate::number::number_within;
+use crate::nodes::nodes_of;
 use crate::words::{first_word, is_word};
-use sabr_plan::parse_time;
+use sabr_model::NodeList;
+use sabr_plan::{number_within, parse_time};
 
 /// The greatest margin or limit on hops that a line can name.
 const MOST_VALUE: u64 = 4294967295;

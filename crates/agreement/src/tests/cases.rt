@@ -2,7 +2,7 @@
 
 use plain_listing::first_routes;
 use sabr_model::{AddFault, NoMemory, Plan, Request, RequestError, Route};
-use std::alloc::{AllocFailed, Allocator, Global};
+use std::alloc::{AllocError, AllocFailed, Allocator, Global};
 
 /// What doesn't agree with the plain listing.
 #[derive(Clone, Copy, Debug, PartialEq, Eq)]
@@ -25,6 +25,10 @@ pub enum Wrong {
     Searches,
     /// A page can be taken back that can't, or the other way round.
     Back,
+    /// A place has another text than before, or its text isn't read.
+    Text,
+    /// A text is verified that is none of the listing's, or the other way round.
+    Verdict,
 }
 
 impl From<NoMemory> for Wrong {
@@ -35,6 +39,12 @@ impl From<NoMemory> for Wrong {
 
 impl<T: Drop> From<AllocFailed<T>> for Wrong {
     fn from(_refused: AllocFailed<T>) -> Wrong {
+        Wrong::Memory
+    }
+}
+
+impl From<AllocError> for Wrong {
+    fn from(_refused: AllocError) -> Wrong {
         Wrong::Memory
     }
 }

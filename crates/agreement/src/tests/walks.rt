@@ -61,6 +61,24 @@ impl<'p, 'l, B: BestOf<A>, A: Allocator + Copy> Walk<'p, 'l, B, A> {
         stands_at(&self.session, self.listing, self.place)
     }
 
+    /// The session.
+    pub fn session(&self) -> &Session<'p, B, A> {
+        &self.session
+    }
+
+    /// How many routes of the list were given.
+    pub fn place(&self) -> usize {
+        self.place
+    }
+
+    /// Goes on with a session that was read from the text of this one, which no page can be taken back from.
+    pub fn go_on_with(&mut self, session: Session<'p, B, A>) -> Result<(), Wrong> {
+        self.session = session;
+        self.searches = 0;
+        self.former.clear();
+        self.stands()
+    }
+
     /// Asks for a page.
     pub fn page(&mut self, size: u32) -> Result<(), Wrong> {
         let size = size.min(10000);

@@ -1,6 +1,6 @@
 //! Contacts that are gathered one by one, for a plan that takes them all at once.
 
-ghost use Rattle.std.specs.Prelude.{◌≡◌, ℕ, ◌<◌, ◌≤◌, ◌+◌, [], None, Some, Err, IfOk, OnOk, OnErr, IsOkUnless, ok_or};
+ghost use Rattle.std.specs.Prelude.{◌≡◌, ℕ, ◌<◌, ◌≤◌, ◌+◌, [], None, Some, Err, IfOk, OnOk, OnErr, IsOkUnless, ok_or, unwrap_or, ◌≢◌};
 ghost use Rattle.std.specs.List.{list_any};
 ghost use Rattle.sabr_model.specs.Plan.{last_time, opens, IsPlan};
 ghost use Rattle.sabr_model.specs.declared.fault.AddFault.{AddFault};
@@ -12,7 +12,7 @@ use crate::contact::Contact;
 use crate::fault::AddFault;
 use crate::opening::Opening;
 use indexmap::IndexSet;
-use std::alloc::{AllocError, Allocator, Global};
+use std::alloc::{Allocator, Global};
 use std::hash::{BuildHasherDefault, FoldHasher};
 use std::marker::Model;
 
@@ -69,11 +69,18 @@ impl<A: Allocator + Copy> GatheredContacts<A> {
         ensures ok { OnOk result (self.new ≡ with_contact self.old (next_contact self.old from to start end rate)) }
         ensures err { OnErr result (self.new ≡ self.old) }
     {
-        if let Some(fault) = self.refusal(from, to, start, end) {
-            return Err(fault);
+        if start >= end || from == to || self.greatest >= 20000 {
+            return Err(self.fault(from, to, start, end));
         }
         self.put(from, to, start, end, rate)
-            .map_err(|_| AddFault::NoMemory)
+    }
+
+    /// Why a contact is refused, where it is.
+    fn fault(&self, from: u64, to: u64, start: u64, end: u64) -> AddFault
+        ensures { result ≡ unwrap_or (contact_refusal self.now from to start end) NoMemory }
+    {
+        self.refusal(from, to, start, end)
+            .unwrap_or(AddFault::NoMemory)
     }
 
     /// Why a contact would be refused, unless memory is short.
@@ -101,26 +108,30 @@ impl<A: Allocator + Copy> GatheredContacts<A> {
         self.openings.contains(&opening)
     }
 
-    /// Adds a contact that is not refused.
-    fn put(
-        &mut self,
-        from: u64,
-        to: u64,
-        start: u64,
-        end: u64,
-        rate: u64,
-    ) -> Result<u32, AllocError>
+    /// Adds a contact that is refused as a duplicate or not at all.
+    fn put(&mut self, from: u64, to: u64, start: u64, end: u64, rate: u64) -> Result<u32, AddFault>
         requires from { 0 < from }
         requires to { 0 < to }
+        requires window { start < end }
         requires end { end ≤ last_time }
-        requires accepted { contact_refusal self.old from to start end ≡ None }
+        requires apart { from ≢ to }
+        requires count { self.old.greatest < 20000 }
+        ensures refused { (f : AddFault) → contact_refusal self.old from to start end ≡ Some f → result ≡ Err f }
+        ensures accepted { contact_refusal self.old from to start end ≡ None → IsOkUnless result NoMemory }
         ensures number { IfOk result (λ n. n ≡ self.old.greatest + 1) }
         ensures ok { OnOk result (self.new ≡ with_contact self.old (next_contact self.old from to start end rate)) }
         ensures err { OnErr result (self.new ≡ self.old) }
     {
         let number = self.greatest + 1;
-        self.contacts.reserve(1)?;
-        self.openings.insert(Opening { from, to, start })?;
+        if self.contacts.reserve(1).is_err() {
+            return Err(self.fault(from, to, start, end));
+        }
+        let Ok(is_new) = self.openings.insert(Opening { from, to, start }) else {
+            return Err(AddFault::NoMemory);
+        };
+        if !is_new {
+            return Err(AddFault::DuplicateContact);
+        }
         self.contacts.push_reserved(Contact {
             number,
             from,

@@ -1,11 +1,13 @@
 //! The one-way light time in force at a contact's start.
 
-ghost use Rattle.std.specs.Prelude.{◌≡◌, ◌≤◌, [], IfSome, length};
+ghost use Rattle.std.specs.Prelude.{◌≡◌, ◌<◌, ◌≤◌, [], Some, None, IfSome, MatchOption, length, slice_index_or};
+ghost use Rattle.sabr_model.specs.Plan.{IsPlan, contact_named};
 ghost use Rattle.sabr_model.specs.Light.{light_of};
 ghost use Rattle.sabr_model.specs.RangeOrder.{IsRangeList};
 ghost use Rattle.sabr_model.specs.Stretches.{IsStretchAmong};
 
 use super::Plan;
+use super::places::place_of_number;
 use super::ranges::light_in_force;
 use super::stretches::{Stretch, light_in_stretch};
 use crate::contact::{Contact, Range};
@@ -21,6 +23,30 @@ impl<A: Allocator + Copy> Plan<A> {
         ensures limit { IfSome result (λ l. l ≤ 1000000) }
     {
         light_of_contact(&self.ranges, contact)
+    }
+
+    /// The standing contact of a number, and its light time. No range is read where the plan is settled.
+    pub(crate) fn contact_with_light(&self, number: u32) -> Option<(&Contact, Option<u32>)>
+        ensures contact { MatchOption result (contact_named self.now.plan number ≡ None) (λ x. contact_named self.now.plan number ≡ Some x.0.now) }
+        ensures light { IfSome result (λ x. x.1 ≡ light_of self.now.plan x.0.now) }
+        ensures rules { IsPlan self.now.plan }
+    {
+        let place = place_of_number(&self.contacts, number)?;
+        let contact = &self.contacts[place];
+        Some((contact, self.light_at(place, contact)))
+    }
+
+    /// The light time of the contact at a place.
+    fn light_at(&self, place: usize, contact: &Contact) -> Option<u32>
+        requires within { place < length self.now.plan.contacts }
+        requires there { contact.now ≡ slice_index_or self.now.plan.contacts place contact.now }
+        ensures { result ≡ light_of self.now.plan contact.now }
+    {
+        if self.settled {
+            self.hops[place].light
+        } else {
+            light_of_contact(&self.ranges, contact)
+        }
     }
 }
 

@@ -4,6 +4,7 @@ mod bounds;
 mod building;
 mod chains;
 pub mod incoming;
+mod outgoing;
 mod rows;
 pub mod senders;
 
@@ -14,6 +15,7 @@ use super::Plan;
 use crate::link::{Link, Links, Pass};
 pub use building::link_nodes;
 pub use incoming::{IncomingLinks, incoming_links};
+pub use outgoing::Outgoing;
 pub use senders::Senders;
 use std::alloc::Allocator;
 

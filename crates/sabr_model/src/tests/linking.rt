@@ -1,7 +1,7 @@
 //! The links of a settled plan.
 
 use super::BEGIN;
-use crate::{AddFault, Link, Pass, Plan};
+use crate::{AddFault, Link, LinkBounds, Pass, Plan};
 use std::alloc::Allocator;
 use std::test::*;
 
@@ -35,12 +35,17 @@ fn pass(receiver: usize, of: [u32; 2], times: [u64; 3], least: [u32; 3]) -> Pass
     }
 }
 
-/// A link by its receiver's index and the places of its passes.
-fn link(receiver: usize, first: usize, end: usize) -> Link {
+/// A link by its receiver's index, the places of its passes, and what bounds them; times from `BEGIN` on.
+fn link(receiver: usize, places: [usize; 2], times: [u64; 2], least_light: u32) -> Link {
     Link {
         receiver,
-        first,
-        end,
+        first: places[0],
+        end: places[1],
+        bounds: LinkBounds {
+            latest_end: BEGIN.saturating_add(times[0]),
+            least_light,
+            soonest: BEGIN.saturating_add(times[1]),
+        },
     }
 }
 
@@ -51,7 +56,10 @@ fn a_settled_plan_tells_its_links(rt: HostRuntime) -> Result<(), Fail> {
     assert!(rt; plan.links(node).is_none());
     assert!(rt; plan.settle().is_ok());
     let told = plan.links(node).ok_or("links")?;
-    assert_eq!(rt; told.links, [link(1, 0, 3), link(3, 3, 4)].as_slice());
+    assert_eq!(rt;
+        told.links,
+        [link(1, [0, 3], [100, 3], 3), link(3, [3, 4], [6, 6], 1)].as_slice()
+    );
     assert_eq!(rt;
         told.passes,
         [
@@ -62,6 +70,22 @@ fn a_settled_plan_tells_its_links(rt: HostRuntime) -> Result<(), Fail> {
         ]
         .as_slice()
     );
+    Ok(())
+}
+
+#[test]
+fn a_plan_that_is_not_settled_makes_the_links_that_a_settled_one_keeps(
+    rt: HostRuntime,
+) -> Result<(), Fail> {
+    let plan = plan_of_links(rt.alloc()).ok().ok_or("plan")?;
+    let mut settled = plan_of_links(rt.alloc()).ok().ok_or("plan")?;
+    assert!(rt; settled.settle().is_ok());
+    let node = plan.node_index(1).ok_or("node")?;
+    let same = settled.node_index(1).ok_or("same")?;
+    let made = plan.outgoing(node).ok().ok_or("made")?;
+    let kept = settled.outgoing(same).ok().ok_or("kept")?;
+    assert_eq!(rt; made.all().links, kept.all().links);
+    assert_eq!(rt; made.all().passes, kept.all().passes);
     Ok(())
 }
 

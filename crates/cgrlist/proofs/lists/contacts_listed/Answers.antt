@@ -1,8 +1,9 @@
 use Rattle.std.proofs.Common.{Some, ap, sym, ◌∙◌, arith}
 use Rattle.std.specs.Option.{option_copied}
-use Rattle.cgrlist.specs.Words.{numbers_within, number_within, pieces_behind}
+use Rattle.cgrlist.specs.Words.{numbers_within, pieces_behind}
+use Rattle.sabr_plan.specs.Numbers.{number_within}
 use Rattle.cgrlist.proofs.ListedNumbers.{behind-bad, behind-end}
-use Rattle.cgrlist.proofs.Numbers.{number_within-range}
+use Rattle.sabr_plan.proofs.SpelledNumbers.{number_within-range}
 use Rattle.cgrlist.proofs.lists.contacts_listed.Goals as goal
 
 pub returns-in_default-number_within : goal.returns-in_default-number_within

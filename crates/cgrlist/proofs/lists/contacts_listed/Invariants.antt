@@ -1,6 +1,7 @@
 use Rattle.std.proofs.Common.{◌≡◌, map, length}
 use Rattle.std.specs.Option.{option_copied}
-use Rattle.cgrlist.specs.Words.{number_within, pieces_of, pieces_behind, all_of}
+use Rattle.cgrlist.specs.Words.{pieces_of, pieces_behind, all_of}
+use Rattle.sabr_plan.specs.Numbers.{number_within}
 use Rattle.cgrlist.proofs.ListedNumbers.{behind}
 use Rattle.cgrlist.proofs.lists.contacts_listed.Given as goal
 

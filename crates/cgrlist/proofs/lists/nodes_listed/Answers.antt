@@ -1,6 +1,7 @@
 use Rattle.std.proofs.Common.{ap, sym, ◌∙◌}
 use Rattle.std.specs.Option.{option_copied}
-use Rattle.cgrlist.specs.Words.{nodes_listed, numbers_within, number_within, pieces_behind}
+use Rattle.cgrlist.specs.Words.{nodes_listed, numbers_within, pieces_behind}
+use Rattle.sabr_plan.specs.Numbers.{number_within}
 use Rattle.cgrlist.proofs.ListedNumbers.{few, behind-bad, behind-end, few-kept, few-full}
 use Rattle.cgrlist.proofs.lists.nodes_listed.Goals as goal
 

@@ -1,4 +1,4 @@
-use Rattle.std.proofs.Common.{◌≡◌, ◌&&◌, ◌∙◌, true, ap}
+use Rattle.std.proofs.Common.{◌&&◌, ◌∙◌, true, ap}
 use Rattle.std.specs.Option.{option_copied, option_map_or}
 use Rattle.sabr_model.specs.Parts.{goes_on, in_part}
 use Rattle.sabr_model.proofs.Faults.{fault_is_no_route}

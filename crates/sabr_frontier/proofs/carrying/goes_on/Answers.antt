@@ -1,4 +1,4 @@
-use Rattle.std.proofs.Common.{◌≡◌, ◌∙◌, sym, ap, length, take, not}
+use Rattle.std.proofs.Common.{◌∙◌, sym, ap, length, take, not}
 use Rattle.std.specs.Cmp.Lexicographic.{same_text, other_text}
 use Rattle.sabr_frontier.proofs.GoesOn.{begins_otherwise, ends_there, goes_there}
 use Rattle.sabr_frontier.proofs.carrying.goes_on.Goals as goal

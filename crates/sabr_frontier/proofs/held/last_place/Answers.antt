@@ -1,4 +1,4 @@
-use Rattle.std.proofs.Common.{◌≡◌, ◌+◌, ◌++◌, ℕ, true≢false, ◌∷◌, [], ◌⊎◌, inl, inr, length, take, sym, ap, subst, ◌∙◌, arith, Some}
+use Rattle.std.proofs.Common.{◌≡◌, ◌+◌, ◌++◌, ℕ, true≢false, ◌∷◌, [], inl, inr, length, take, sym, ap, subst, ◌∙◌, arith}
 use Rattle.std.specs.Prelude.{◌==◌}
 use Rattle.std.specs.Cmp.Lexicographic.{same_text, other_text}
 use Rattle.std.proofs.lemmas.List.{take_more, take_all}

@@ -1,13 +1,23 @@
 use Rattle.std.proofs.Common.{◌≡◌, ℕ, ◌≤◌, List, [], ◌∷◌, ◌++◌, map, length, take, get_or, true, false, not, ap, sym, subst, ◌∙◌, arith, true≢false}
+use Rattle.std.proofs.lemmas.Bool.Decides.{nat_tests}
 use Rattle.std.proofs.lemmas.List.{take_all}
 use Rattle.sabr_model.specs.Route.{is_path}
-use Rattle.sabr_model.specs.Record.{record_of}
-use Rattle.sabr_frontier.specs.Holding.{AllGoOn, IsJudged, onward_of, routes_of}
-use Rattle.sabr_frontier.proofs.Judges.{judged_more, number_in, paths_more}
+use Rattle.sabr_model.proofs.Paths.{beginning_is_path}
+use Rattle.sabr_frontier.specs.Holding.{AllGoOn, IsJudged}
+use Rattle.sabr_frontier.proofs.Judges.{faulty_front, judged_more, number_in, paths_more}
 use Rattle.sabr_frontier.proofs.judge.judge.Goals as goal
 
 pub loop-number-init : goal.loop-number-init
 loop-number-init g c = record { so_far = record { leaves_are = c.new.ensures.items; onward_are = c.new-2.ensures.items }; paths = λ x h. absurd (true≢false (sym h)) }
+
+pub returns-in_default-clause-none : goal.returns-in_default-clause-none
+returns-in_default-clause-none g c all =
+    let p = c.args.plan.now.plan in
+    let r = c.args.request.now in
+    let q = c.args.prefix.now in
+    let x = get_or c.args.excluded.now 0 0 in
+    let path : is_path p r (q ++ x ∷ []) ≡ true = all x (number_in p r c.args.excluded.now 0 (grind (arith, nat_tests))) in
+    faulty_front p r c.follow_prefix.result q c.follow_prefix.ensures.fault c.in_default.not-Ok (beginning_is_path p r q (x ∷ []) path)
 
 pub returns-then-not-branch-clause-none : goal.returns-then-not-branch-clause-none
 returns-then-not-branch-clause-none g c all =
@@ -15,7 +25,7 @@ returns-then-not-branch-clause-none g c all =
     let r = c.args.request.now in
     let x = get_or c.args.excluded.now c.loop-number.number-index 0 in
     let path : is_path p r (c.args.prefix.now ++ x ∷ []) ≡ true = all x (number_in p r c.args.excluded.now c.loop-number.number-index c.loop-number-test.true) in
-    true≢false (sym path ∙ ap (is_path p r) (sym c.in_ok-numbers.ensures) ∙ sym c.in_ok-put.ensures.path ∙ c.if-not-branch.true)
+    true≢false (sym path ∙ sym c.in_ok-put.ensures.path ∙ c.if-not-branch.true)
 
 pub loop-number-preserved : goal.loop-number-preserved
 loop-number-preserved g c =
@@ -25,12 +35,9 @@ loop-number-preserved g c =
     let X = c.args.excluded.now in
     let i = c.loop-number.number-index in
     let lt = c.loop-number-test.true in
-    let numbers = c.in_ok-numbers.ensures in
-    let leaves = c.in_ok-put.ensures.leaves c.if-not-branch.false in
-    let onward = c.in_ok-put.ensures.onward c.if-not-branch.false in
     record {
-      so_far = judged_more p r q X i lt c.loop-number.judged c.put.new.self c.loop-number.invariant.so_far (leaves ∙ ap (λ s. c.loop-number.judged.leaves.items ++ map (record_of p r) (routes_of p r s)) numbers) (onward ∙ ap (λ s. c.loop-number.judged.onward.items ++ onward_of p r s) numbers);
-      paths = paths_more p r q X i lt c.loop-number.invariant.paths (ap (is_path p r) (sym numbers) ∙ sym c.in_ok-put.ensures.path ∙ c.if-not-branch.false);
+      so_far = judged_more p r q X i lt c.loop-number.judged c.put.new.self c.loop-number.invariant.so_far (c.in_ok-put.ensures.leaves c.if-not-branch.false) (c.in_ok-put.ensures.onward c.if-not-branch.false);
+      paths = paths_more p r q X i lt c.loop-number.invariant.paths (sym c.in_ok-put.ensures.path ∙ c.if-not-branch.false);
     }
 
 pub returns-clause-some : goal.returns-clause-some

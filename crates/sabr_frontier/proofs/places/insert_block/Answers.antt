@@ -1,10 +1,19 @@
-use Rattle.std.proofs.Common.{arith, ◌∙◌}
-use Rattle.sabr_frontier.proofs.Blocks.{block_more}
+use Rattle.std.proofs.Common.{◌≡◌, ◌-◌, length, arith, ap, ◌∙◌}
+use Rattle.std.proofs.lemmas.List.{take_at}
+use Rattle.sabr_frontier.specs.declared.tree.NodeId.{NodeId}
+use Rattle.sabr_frontier.specs.Taking.{ids_from}
+use Rattle.sabr_frontier.proofs.Blocks.{block_turned, length-ids, length-with_block}
+use borrow.Rule.Slice.PartMut.{put_mid}
 use Rattle.sabr_frontier.proofs.places.insert_block.Goals as goal
 
-pub loop-i-preserved : goal.loop-i-preserved
-loop-i-preserved g c = record {
-  items = c.in-Ok.ensures.items ∙ block_more _ _ _ _ _ (omega (arith, c.requires.within)) c.loop-i.invariant.items;
-  long = omega (arith, c.in-Ok.ensures.len, c.loop-i.invariant.long);
-  room = omega (arith, c.insert-inserted.ensures.capacity, c.loop-i.invariant.room);
-}
+pub returns : goal.returns
+returns g c =
+    let old = c.args.index.now.items in
+    let ids = ids_from c.args.first c.args.count in
+    let place = c.args.place in
+    let xs = c.deref_mut.result.now in
+    let ys = c.rotate_right.new.self in
+    let turned = block_turned xs old ids ys place (length xs - place) c.args.count (omega (arith, c.requires.within)) (length-ids c.args.first c.args.count) (omega arith)
+    (c.deref_mut.ensures.value ∙ c.push_block.ensures.items) c.rotate_right.ensures.after in
+    let long : length (put_mid place (length xs - place) xs ys) ≡ c.push_block.new.index.len = omega (arith, ap (length {A = NodeId}) turned, length-with_block place ids old (omega (arith, c.requires.within)), length-ids c.args.first c.args.count, c.push_block.ensures.len) in
+    take_at (put_mid place (length xs - place) xs ys) _ c.push_block.new.index.len long ∙ turned

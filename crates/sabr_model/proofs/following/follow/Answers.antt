@@ -1,9 +1,13 @@
-use Rattle.std.proofs.Common.{◌<◌, ◌∙◌, length, arith}
-use Rattle.std.proofs.lemmas.Bool.Decides.{nat_tests}
-use Rattle.sabr_model.proofs.Follows.{all_followed}
+use Rattle.std.proofs.Common.{◌≡◌, ◌∷◌, ◌++◌, [], Some, ap, ◌∙◌, rules}
+use Rattle.sabr_model.specs.Fault.{fault_of}
+use Rattle.sabr_model.proofs.Follows.{fault_in_front}
 use Rattle.sabr_model.proofs.following.follow.Goals as goal
 
-pub returns-clause-route : goal.returns-clause-route
-returns-clause-route g c =
-    let some : 0 < length c.args.contacts.now = grind (arith, nat_tests) in
-    all_followed c.args.plan.now.plan c.args.request.now c.args.contacts.now c.loop-i.i c.loop-i.here some c.loop-i-test.false c.loop-i.invariant.front c.loop-i.invariant.reached (c.if-here-to.false ∙ c.to.ensures.value)
+pub returns-in_err-here-clause-fault : goal.returns-in_err-here-clause-fault
+returns-in_err-here-clause-fault g c =
+    let p = c.args.plan.now.plan in
+    let r = c.args.request.now in
+    let f = c.in_err-here.field-0.0 in
+    let whole : c.args.contacts.now ≡ c.in-Some.prefix.now ++ c.in-Some.last.now ∷ [] = search rules in
+    let is : fault_of p r c.args.contacts.now ≡ Some f = ap (fault_of p r) whole ∙ fault_in_front p r c.in-Some.prefix.now c.in-Some.last.now f c.in_err-here.ensures.fault in
+    search rules

@@ -1,18 +1,29 @@
-use Rattle.std.proofs.Common.{◌≡◌, rules}
-use Rattle.std.specs.declared.option.Option.TheVariants.{Some}
-use Rattle.sabr_model.specs.Plan.{contact_named}
-use Rattle.sabr_model.specs.Arrival.{arrival}
+use Rattle.std.proofs.Common.{◌≡◌, ℕ, ◌+◌, ◌≤◌, max, Option, ltb, cond, rules, sym, ap, subst, ◌∙◌}
+use Rattle.std.specs.Prelude.{IfSome}
+use Rattle.std.specs.Option.{option_map}
+use Rattle.std.specs.declared.option.Option.TheVariants.{Some, None}
+use Rattle.sabr_model.specs.Light.{light_of}
+use Rattle.sabr_model.specs.Arrival.{arrival, cost}
+use Rattle.sabr_model.proofs.RangeKeys.{light_of_limit}
 use Rattle.sabr_model.proofs.Follows.{ends_in_time, reached_on}
 use Rattle.sabr_model.proofs.following.take_hop.Goals as goal
 
-pub arrive-requires : goal.arrive-requires
-arrive-requires g c =
-    let named : contact_named c.args.plan.now.plan c.args.number ≡ Some c.in-Some.contact.now = search rules in
-    ends_in_time c.args.plan.now.plan c.args.number c.in-Some.contact.now c.contacts.ensures.rules named
+pub arrive_by_light-requires : goal.arrive_by_light-requires
+arrive_by_light-requires g c =
+    let p = c.args.plan.now.plan in
+    let contact = c.in-Some.contact.now in
+    record {
+      end = ends_in_time p c.args.number contact c.in-Some.ensures.rules c.in-Some.ensures.contact;
+      light = subst (λ (o : Option ℕ). IfSome o (λ l. l ≤ 1000000)) (sym c.in-Some.ensures.light ∙ c.in-Some-light.is) (light_of_limit p contact c.in-Some.ensures.rules);
+    }
 
 pub returns-clause-ok : goal.returns-clause-ok
 returns-clause-ok g c =
-    let named : contact_named c.args.plan.now.plan c.args.number ≡ Some c.in-Some.contact.now = search rules in
-    let same : c.args.here.node ≡ c.in-Some.contact.now.from = search rules in
-    let arrives : arrival c.args.plan.now.plan c.args.request.now c.args.here.at c.in-Some.contact.now ≡ Some c.in-Some-arrive.at = search rules in
-    reached_on c.args.plan.now.plan c.args.request.now c.args.front.now c.args.number c.in-Some.contact.now c.args.here c.in-Some-arrive.at named c.requires.reached same arrives
+    let p = c.args.plan.now.plan in
+    let contact = c.in-Some.contact.now in
+    let sent = max c.args.here.at contact.start in
+    let lit : light_of p contact ≡ Some c.in-Some-light.light = sym c.in-Some.ensures.light ∙ c.in-Some-light.is in
+    let same : c.args.here.node ≡ contact.from = search rules in
+    let arrives : arrival p c.args.request.now c.args.here.at contact ≡ Some c.in-Some-arrive_by_light.at =
+    ap (λ (o : Option ℕ). cond (ltb sent contact.end) (option_map (λ l. sent + cost c.args.request.now.margin l) o) None) lit ∙ sym c.arrive_by_light.ensures ∙ c.in-Some-arrive_by_light.is in
+    reached_on p c.args.request.now c.args.front.now c.args.number contact c.args.here c.in-Some-arrive_by_light.at c.in-Some.ensures.contact c.requires.reached same arrives

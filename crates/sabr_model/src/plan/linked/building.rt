@@ -32,7 +32,7 @@ pub fn link_nodes<A: Allocator + Copy>(
 }
 
 /// The links of the node at an index of the table.
-fn links_of_node<A: Allocator + Copy>(
+pub fn links_of_node<A: Allocator + Copy>(
     alloc: A,
     plan: &Plan<A>,
     index: usize,

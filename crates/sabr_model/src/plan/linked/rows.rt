@@ -1,10 +1,10 @@
 //! The links that lie over passes in order of their receivers.
 
-ghost use Rattle.std.specs.Prelude.{◌≡◌, ◌<◌, ◌≤◌, ℕ, IfOk, length, slice_index_or};
+ghost use Rattle.std.specs.Prelude.{◌≡◌, ◌+◌, ◌-◌, ◌<◌, ◌≤◌, ℕ, IfOk, length, slice_index_or};
 ghost use Rattle.sabr_model.specs.declared.link.Pass.{Pass};
 ghost use Rattle.sabr_model.specs.Linking.{AreRows};
 
-use crate::link::{Link, Pass};
+use crate::link::{Link, LinkBounds, Pass};
 use std::alloc::{AllocError, Allocator};
 
 /// The links over passes: one over each row of passes that have one receiver.
@@ -22,10 +22,31 @@ pub fn links_over<A: Allocator + Copy>(
             receiver: passes[first].receiver,
             first,
             end,
+            bounds: bounds_of_row(passes, first, end),
         })?;
         first = end;
     }
     Ok(links)
+}
+
+/// What bounds the passes of a link, from `first` up to `end`: the last of them tells the greatest end of all, and the
+/// first the least start and the least light time.
+fn bounds_of_row(passes: &[Pass], first: usize, end: usize) -> LinkBounds
+    requires filled { first < end }
+    requires within { end ≤ length passes.now }
+    ensures ends { (d : Pass) → result.latest_end ≡ (slice_index_or passes.now (end - 1) d).latest_end }
+    ensures light { (d : Pass) → result.least_light ≡ (slice_index_or passes.now first d).least_light_behind }
+    ensures soonest { (d : Pass) → result.soonest ≤ (slice_index_or passes.now first d).start + (slice_index_or passes.now first d).least_light_behind }
+{
+    let earliest = passes[first];
+    let last = passes[end - 1];
+    LinkBounds {
+        latest_end: last.latest_end,
+        least_light: earliest.least_light_behind,
+        soonest: earliest
+            .start
+            .saturating_add(earliest.least_light_behind as u64),
+    }
 }
 
 /// The place behind those from `first` on that have its receiver.

@@ -1,10 +1,11 @@
 //! The links to a node, as a search reads them that goes backward.
 
-ghost use Rattle.std.specs.Prelude.{◌≡◌, ◌<◌, Some, length, slice_get};
+ghost use Rattle.std.specs.Prelude.{◌≡◌, ◌<◌, [], Some, length, slice_get};
+ghost use Rattle.sabr_model.specs.Links.{AreWithin};
 ghost use Rattle.sabr_model.specs.Incoming.{links_named, passes_over, passes_at, passes_named, LiesOver, LieOver, AllLieOver};
 
 use super::NodeLinks;
-use crate::link::{Link, Pass, Sender};
+use crate::link::{Link, LinkBounds, Pass, Sender};
 use std::alloc::{Allocator, Global};
 use std::marker::Model;
 
@@ -53,40 +54,60 @@ impl<'a, A: Allocator + Copy> Senders<'a, A> {
     /// The link at a place.
     pub fn at(&self, place: usize) -> Sender<'a>
         requires { place < length self.now }
-        ensures { slice_get self.now place ≡ Some (record { sender = result.node; passes = result.passes.now }) }
+        ensures link { slice_get self.now place ≡ Some (record { sender = result.node; passes = result.passes.now }) }
+        ensures bounds { AreWithin result.bounds result.passes.now }
     {
         match self.incoming.get(place) {
-            Some(named) => Sender {
-                node: named.sender as usize,
-                passes: passes_named(self.linked, *named),
-            },
-            None => Sender {
-                node: 0,
-                passes: &[],
-            },
+            Some(named) => sender_named(self.linked, *named),
+            None => no_passes(0),
         }
     }
 }
 
-/// The passes of the link that is named.
-fn passes_named<A: Allocator + Copy>(linked: &[NodeLinks<A>], named: Incoming) -> &[Pass]
+/// The link that is named.
+fn sender_named<A: Allocator + Copy>(linked: &[NodeLinks<A>], named: Incoming) -> Sender<'_>
     requires { AllLieOver linked.now }
-    ensures { result.now ≡ passes_named linked.now named }
+    ensures sender { result.node ≡ named.sender }
+    ensures passes { result.passes.now ≡ passes_named linked.now named }
+    ensures bounds { AreWithin result.bounds result.passes.now }
 {
     match linked.get(named.sender as usize) {
-        Some(node) => passes_at(node, named.link as usize),
-        None => &[],
+        Some(node) => sender_at(node, named),
+        None => no_passes(named.sender as usize),
     }
 }
 
-/// The passes of the link at a place among a node's links.
-fn passes_at<A: Allocator + Copy>(node: &NodeLinks<A>, place: usize) -> &[Pass]
+/// The link that is named, among those of its sender.
+fn sender_at<A: Allocator + Copy>(node: &NodeLinks<A>, named: Incoming) -> Sender<'_>
     requires { LieOver node.now }
-    ensures { result.now ≡ passes_at node.now place }
+    ensures sender { result.node ≡ named.sender }
+    ensures passes { result.passes.now ≡ passes_at node.now named.link }
+    ensures bounds { AreWithin result.bounds result.passes.now }
 {
-    match node.links.get(place) {
-        Some(link) => passes_over(&node.passes, link),
-        None => &[],
+    match node.links.get(named.link as usize) {
+        Some(link) => Sender {
+            node: named.sender as usize,
+            passes: passes_over(&node.passes, link),
+            bounds: link.bounds,
+        },
+        None => no_passes(named.sender as usize),
+    }
+}
+
+/// A link from a node without passes.
+fn no_passes<'a>(node: usize) -> Sender<'a>
+    ensures sender { result.node ≡ node }
+    ensures passes { result.passes.now ≡ [] }
+    ensures bounds { AreWithin result.bounds result.passes.now }
+{
+    Sender {
+        node,
+        passes: &[],
+        bounds: LinkBounds {
+            latest_end: 0,
+            least_light: 0,
+            soonest: 0,
+        },
     }
 }
 

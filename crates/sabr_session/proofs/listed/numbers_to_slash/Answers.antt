@@ -1,7 +1,8 @@
 use Rattle.std.proofs.Common.{◌≡◌, ℕ, [], ◌∷◌, ◌++◌, length-append, List, ap, sym, ◌∙◌, arith}
 use Rattle.std.specs.List.{list_any}
 use Rattle.std.specs.Option.{option_copied}
-use Rattle.sabr_session.specs.SessionWords.{number_within, words_behind, is_slash, before_slash, after_slash}
+use Rattle.sabr_session.specs.SessionWords.{words_behind, is_slash, before_slash, after_slash}
+use Rattle.sabr_plan.specs.Numbers.{number_within}
 use Rattle.sabr_session.proofs.ReadNumbers.{behind-on, behind-full}
 use Rattle.sabr_session.proofs.SlashLists.{before-on, after-on, has-on}
 use Rattle.sabr_session.proofs.listed.numbers_to_slash.Goals as goal

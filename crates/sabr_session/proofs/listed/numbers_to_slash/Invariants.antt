@@ -1,7 +1,8 @@
 use Rattle.std.proofs.Common.{◌≡◌, ◌≤◌, map, length}
 use Rattle.std.specs.List.{list_any}
 use Rattle.std.specs.Option.{option_copied}
-use Rattle.sabr_session.specs.SessionWords.{words_of, words_behind, number_within, all_of, is_slash, before_slash, after_slash}
+use Rattle.sabr_session.specs.SessionWords.{words_of, words_behind, all_of, is_slash, before_slash, after_slash}
+use Rattle.sabr_plan.specs.Numbers.{number_within}
 use Rattle.sabr_session.proofs.ReadNumbers.{behind}
 use Rattle.sabr_session.proofs.listed.numbers_to_slash.Given as goal
 

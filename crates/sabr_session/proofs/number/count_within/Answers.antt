@@ -1,5 +1,5 @@
 use Rattle.std.proofs.Common.{sym, arith}
-use Rattle.sabr_session.proofs.WithinBounds.{short128, number_within-unspelled, number_within-spelled_within}
+use Rattle.sabr_plan.proofs.SpelledNumbers.{short128, number_within-unspelled, number_within-spelled_within}
 use Rattle.sabr_session.proofs.number.count_within.Goals as goal
 
 pub returns-in-Some : goal.returns-in-Some

@@ -3,7 +3,7 @@ use Rattle.std.specs.Cmp.Lexicographic.{other_text}
 use Rattle.std.specs.Str.{IsUtf8}
 use Rattle.std.proofs.lemmas.Str.{IsUtf8-from_ascii}
 use Rattle.std.proofs.lemmas.Fmt.{parse-decimal_wide, IsAscii-decimal_wide}
-use Rattle.sabr_session.proofs.WithinBounds.{short128}
+use Rattle.sabr_plan.proofs.SpelledNumbers.{short128}
 use Rattle.sabr_session.proofs.number.spelled_count.Goals as goal
 
 is_text : (bs : List ℕ) (n : ℕ) → n < 340282366920938463463374607431768211456 → bs ≡ decimal n → IsUtf8 bs

@@ -1,8 +1,7 @@
 use Rattle.std.proofs.Common.{◌≡◌, [], ap, sym, subst, ◌∙◌}
 use Rattle.sabr_frontier.specs.Listing.{IsState}
 use Rattle.sabr_frontier.specs.Loading.{IsClosedState, IsCounted, Loaded, state_with}
-use Rattle.sabr_frontier.specs.Session.{Seen}
-use Rattle.sabr_frontier.specs.Shape.{shape_of, shown}
+use Rattle.sabr_frontier.specs.Shape.{shown}
 use Rattle.sabr_frontier.specs.Sound.{IsTree}
 use Rattle.sabr_frontier.specs.Holding.{IsLastPlace, IsWrongLast, holding_of}
 use Rattle.sabr_frontier.proofs.Answering.{paid_closed, unpaid_open}

@@ -1,4 +1,4 @@
-use Rattle.std.proofs.Common.{◌≡◌, ap, sym, subst}
+use Rattle.std.proofs.Common.{sym, subst}
 use Rattle.sabr_frontier.specs.Holding.{IsHeld}
 use Rattle.sabr_frontier.proofs.Answering.{nothing_is_held}
 use Rattle.sabr_frontier.proofs.loader.Loader.new.Goals as goal

@@ -3,7 +3,8 @@ use Rattle.sabr_model.specs.Record.{RouteRecord}
 use Rattle.sabr_frontier.specs.declared.tree.NodeId.{NodeId}
 use Rattle.sabr_frontier.specs.Undo.{front}
 use Rattle.sabr_frontier.specs.Queue.{InPairs, IsAtOrBehind}
-use Rattle.sabr_frontier.specs.Taking.{nodes_then, enqueued, enqueued_all, ids_from, with_block}
+use Rattle.sabr_frontier.specs.Taking.{enqueued, enqueued_all, ids_from, with_block}
+use Rattle.sabr_frontier.specs.Prepared.{nodes_with}
 use Rattle.sabr_frontier.proofs.Ends.{vec_front}
 use Rattle.sabr_frontier.proofs.Queues.{enqueued_falls}
 use Rattle.sabr_frontier.proofs.tree.Tree.change.Goals as goal
@@ -12,7 +13,7 @@ pub enqueue_from-requires-clause-order : goal.enqueue_from-requires-clause-order
 enqueue_from-requires-clause-order g c =
     let t = c.args.self.now in
     let d = c.args.division in
-    let N = nodes_then t.nodes.items c.args.node d.wide d.found d.fresh.items in
+    let N = nodes_with t.nodes.items c.args.node d.found d.fresh.items in
     let nodes : c.append-appended.new.self.items ≡ N = c.in-Ok.ensures.items ∙ ap (λ z. z ++ d.fresh.items) c.in-Some.ensures.nodes in
     let one = c.as_slice.ensures.value ∙ nodes in
     let two = c.as_slice-2.ensures.value ∙ nodes in
@@ -29,7 +30,7 @@ pub returns-clause-shape : goal.returns-clause-shape
 returns-clause-shape g c x e =
     let t = c.args.self.now in
     let d = c.args.division in
-    let N = nodes_then t.nodes.items c.args.node d.wide d.found d.fresh.items in
+    let N = nodes_with t.nodes.items c.args.node d.found d.fresh.items in
     let nodes : c.append-appended.new.self.items ≡ N = c.in-Ok.ensures.items ∙ ap (λ z. z ++ d.fresh.items) c.in-Some.ensures.nodes in
     let one = c.as_slice.ensures.value ∙ nodes in
     let two = c.as_slice-2.ensures.value ∙ nodes in

@@ -1,13 +1,20 @@
-use Rattle.std.proofs.Common.{◌≡◌, ◌+◌, ◌++◌, ◌∷◌, [], length, take, arith, ap, sym, subst, refl, ◌∙◌, Option}
-use Rattle.std.specs.Prelude.{IfSome, IsSome}
+use Rattle.std.proofs.Common.{◌≡◌, ℕ, ◌+◌, ◌-◌, ◌++◌, ◌∷◌, [], List, length, take, drop, arith, ap, sym, subst, refl, ◌∙◌, Option, Some}
+use Rattle.std.specs.Prelude.{IfSome, IsSome, slice_get}
+use Rattle.sabr_model.specs.Route.{is_route}
 use Rattle.sabr_model.specs.Record.{RouteRecord}
 use Rattle.sabr_frontier.specs.declared.tree.Node.{Node}
-use Rattle.sabr_frontier.specs.Shape.{Shape, shape_of, route_at}
+use Rattle.sabr_frontier.specs.declared.tree.NodeId.{NodeId}
+use Rattle.sabr_frontier.specs.Shape.{Shape, shape_of, route_at, numbers_of}
 use Rattle.sabr_frontier.specs.Best.{best_of}
-use Rattle.sabr_frontier.specs.Undo.{last_item, front}
+use Rattle.sabr_frontier.specs.Undo.{last_item, front, modify}
 use Rattle.sabr_frontier.specs.Queue.{InPairs, IsAtOrBehind}
-use Rattle.sabr_frontier.specs.Taking.{nodes_then, divided_by, stands_before}
-use Rattle.sabr_frontier.proofs.Refined.{index_order, node_within, standing, dividable, rest_order, route_there}
+use Rattle.sabr_frontier.specs.Sound.{CanExclude}
+use Rattle.sabr_frontier.specs.Taking.{changed_by, divided_by, enqueued_all, fresh_nodes, ids_from, nodes_then, passing, stands_before, wide_of, with_block}
+use Rattle.sabr_frontier.specs.Prepared.{excluding}
+use Rattle.sabr_frontier.proofs.Ends.{length-modify}
+use Rattle.sabr_frontier.proofs.Nodes.{get_same}
+use Rattle.sabr_frontier.proofs.Excluding.{carried_then}
+use Rattle.sabr_frontier.proofs.Refined.{index_order, node_within, standing, inside, can_exclude, rest_order, route_there}
 use Rattle.sabr_frontier.proofs.Giving.{taken_is, least_is, count_is, new_nodes}
 use Rattle.sabr_frontier.proofs.Partition.{passing-le}
 use Rattle.sabr_frontier.proofs.tree.Tree.take.Goals as goal
@@ -29,11 +36,69 @@ prepare-requires-clause-carries g c =
 pub prepare-requires-clause-order : goal.prepare-requires-clause-order
 prepare-requires-clause-order g c = index_order c.args.plan.now.plan c.args.request.now (shape_of c.args.self.now) c.requires.tree
 
-pub prepare-requires-clause-dividable : goal.prepare-requires-clause-dividable
-prepare-requires-clause-dividable g c n x a b =
+pub prepare-requires-clause-longer : goal.prepare-requires-clause-longer
+prepare-requires-clause-longer g c n x a b =
     let t = shape_of c.args.self.now in
     let last = sym (c.in-Some.ensures.value ∙ ap last_item c.deref.ensures.value) in
-    dividable c.args.plan.now.plan c.args.request.now t c.requires.tree c.in-Some.last.now last n x a b
+    (can_exclude c.args.plan.now.plan c.args.request.now t c.requires.tree c.in-Some.last.now last n x a b).longer
+
+pub divide-requires-clause-in_range : goal.divide-requires-clause-in_range
+divide-requires-clause-in_range g c =
+    let t = shape_of c.args.self.now in
+    let last = sym (c.in-Some.ensures.value ∙ ap last_item c.deref.ensures.value) in
+    let l = node_within c.args.plan.now.plan c.args.request.now t c.requires.tree c.in-Some.last.now last in
+    omega (arith, l, ap (λ (z : Shape _). length z.nodes) c.reserve-2.ensures.same)
+
+pub divide-requires-clause-route : goal.divide-requires-clause-route
+divide-requires-clause-route g c =
+    let t = shape_of c.args.self.now in
+    let p = c.args.plan.now.plan in
+    let r = c.args.request.now in
+    let node = c.in-Some.last.now in
+    let last = sym (c.in-Some.ensures.value ∙ ap last_item c.deref.ensures.value) in
+    let w = standing p r t c.requires.tree node last in
+    let ready = c.in_ok-prepared.ensures.ready w.0 w.1 w.2 w.3 in
+    let numbers : c.numbers.result.now ≡ w.1.contacts = c.numbers.ensures ∙ ap numbers_of ready.route in
+    ap (is_route p r) numbers ∙ (inside p r t c.requires.tree node last w.0 w.1 w.2 w.3).0
+
+pub divide-requires-clause-next : goal.divide-requires-clause-next
+divide-requires-clause-next g c n stands =
+    let t = shape_of c.args.self.now in
+    let p = c.args.plan.now.plan in
+    let r = c.args.request.now in
+    let node = c.in-Some.last.now in
+    let last = sym (c.in-Some.ensures.value ∙ ap last_item c.deref.ensures.value) in
+    let w = standing p r t c.requires.tree node last in
+    let ready = c.in_ok-prepared.ensures.ready w.0 w.1 w.2 w.3 in
+    let numbers : c.numbers.result.now ≡ w.1.contacts = c.numbers.ensures ∙ ap numbers_of ready.route in
+    let same : w.0 ≡ n = let a = w.2 in let b = ap (λ (z : Shape _). slice_get z.nodes node.0) (sym c.reserve-2.ensures.same) ∙ stands in cc in
+    subst (CanExclude n) (sym numbers) (subst (λ (k : Node _). CanExclude k w.1.contacts) same (can_exclude p r t c.requires.tree node last w.0 w.1 w.2 w.3))
+
+pub change-requires-clause-room : goal.change-requires-clause-room
+change-requires-clause-room g c =
+    let t = shape_of c.args.self.now in
+    let p = c.args.plan.now.plan in
+    let r = c.args.request.now in
+    let node = c.in-Some.last.now in
+    let last = sym (c.in-Some.ensures.value ∙ ap last_item c.deref.ensures.value) in
+    let w = standing p r t c.requires.tree node last in
+    let ready = c.in_ok-prepared.ensures.ready w.0 w.1 w.2 w.3 in
+    let numbers : c.numbers.result.now ≡ w.1.contacts = c.numbers.ensures ∙ ap numbers_of ready.route in
+    let then = c.divide.new.nodes.items in
+    let nodes = ap (λ (z : Shape _). z.nodes) c.reserve-2.ensures.same in
+    let stands : slice_get c.reserve-2.new.self.nodes.items node.0 ≡ Some w.0 = ap (λ z. slice_get z node.0) nodes ∙ w.2 in
+    let leaf : c.len.result ≡ length t.leaves = omega (arith, c.len.ensures, ap (λ (z : Shape _). length z.leaves) c.reserve-2.ensures.same) in
+    let fresh : c.in_ok-division.division.fresh.items ≡ fresh_nodes (best_of p r) (length t.leaves) (take (w.0.length + 1) w.1.contacts) (drop (w.0.length + 1) w.1.contacts) = c.in_ok-division.ensures.fresh w.0 stands ∙ (λ i. fresh_nodes (best_of p r) (leaf i) (take (w.0.length + 1) (numbers i)) (drop (w.0.length + 1) (numbers i))) in
+    let can = can_exclude p r t c.requires.tree node last w.0 w.1 w.2 w.3 in
+    let count : length c.in_ok-division.division.fresh.items + 1 ≡ length w.1.contacts - w.0.length = ap (λ (z : List (Node g.row.A.Denot)). length z + 1) fresh ∙ new_nodes g.row.A.Denot (best_of p r) (length t.leaves) w.1.contacts w.0.length can.longer in
+    let room = c.in_ok-reserve.ensures.ok in
+    record {
+      nodes = omega (arith, room.nodes, c.in_ok-division.ensures.len, c.in_ok-division.ensures.capacity, count, ready.count, can.longer);
+      index = omega (arith, room.index, count, ready.count, can.longer);
+      queue = omega (arith, room.queue, c.in_ok-division.ensures.len, count, ready.count, can.longer);
+      leaves = room.leaves;
+      journal = room.journal;
+    }
 
 pub change-requires-clause-in_range : goal.change-requires-clause-in_range
 change-requires-clause-in_range g c =
@@ -54,18 +119,39 @@ change-requires-clause-within g c =
 pub change-requires-clause-carries : goal.change-requires-clause-carries
 change-requires-clause-carries g c =
     let t = shape_of c.args.self.now in
+    let p = c.args.plan.now.plan in
+    let r = c.args.request.now in
+    let node = c.in-Some.last.now in
     let last = sym (c.in-Some.ensures.value ∙ ap last_item c.deref.ensures.value) in
-    let w = standing c.args.plan.now.plan c.args.request.now t c.requires.tree c.in-Some.last.now last in
-    subst IsSome (sym (ap (λ (z : Shape _). route_at z.nodes c.in-Some.last.now) c.reserve-2.ensures.same ∙ route_there t.nodes c.in-Some.last.now w.0 w.1 w.2 w.3)) refl
+    let w = standing p r t c.requires.tree node last in
+    let ready = c.in_ok-prepared.ensures.ready w.0 w.1 w.2 w.3 in
+    let numbers : c.numbers.result.now ≡ w.1.contacts = c.numbers.ensures ∙ ap numbers_of ready.route in
+    let then = c.divide.new.nodes.items in
+    let nodes = ap (λ (z : Shape _). z.nodes) c.reserve-2.ensures.same in
+    let stands : slice_get c.reserve-2.new.self.nodes.items node.0 ≡ Some w.0 = ap (λ z. slice_get z node.0) nodes ∙ w.2 in
+    let changed : c.divide.new.nodes.items ≡ modify (excluding w.1.contacts) t.nodes node.0 = c.in_ok-division.ensures.ok ∙ (λ i. modify (excluding (numbers i)) (nodes i) node.0) in
+    subst IsSome (sym (ap (λ z. route_at z node) changed ∙ route_there (modify (excluding w.1.contacts) t.nodes node.0) node (excluding w.1.contacts w.0) w.1 (get_same (excluding w.1.contacts) t.nodes node.0 w.0 w.2) w.3)) refl
 
 pub change-requires-clause-order : goal.change-requires-clause-order
 change-requires-clause-order g c =
     let t = shape_of c.args.self.now in
-    let d = c.in_ok-prepared.prepared.division in
+    let p = c.args.plan.now.plan in
+    let r = c.args.request.now in
     let node = c.in-Some.last.now in
     let last = sym (c.in-Some.ensures.value ∙ ap last_item c.deref.ensures.value) in
-    subst (λ (z : Shape _). InPairs (IsAtOrBehind (nodes_then z.nodes node d.wide d.found d.fresh.items)) (front z.queue)) (sym c.reserve-2.ensures.same)
-    (rest_order c.args.plan.now.plan c.args.request.now t c.requires.tree node last d.wide d.found d.fresh.items)
+    let w = standing p r t c.requires.tree node last in
+    let ready = c.in_ok-prepared.ensures.ready w.0 w.1 w.2 w.3 in
+    let numbers : c.numbers.result.now ≡ w.1.contacts = c.numbers.ensures ∙ ap numbers_of ready.route in
+    let then = c.divide.new.nodes.items in
+    let nodes = ap (λ (z : Shape _). z.nodes) c.reserve-2.ensures.same in
+    let stands : slice_get c.reserve-2.new.self.nodes.items node.0 ≡ Some w.0 = ap (λ z. slice_get z node.0) nodes ∙ w.2 in
+    let changed : c.divide.new.nodes.items ≡ modify (excluding w.1.contacts) t.nodes node.0 = c.in_ok-division.ensures.ok ∙ (λ i. modify (excluding (numbers i)) (nodes i) node.0) in
+    let d = c.in_ok-division.division in
+    let wide = wide_of w.0 w.1.contacts in
+    let carried = carried_then t.nodes c.divide.new.nodes.items node.0 w.1.contacts w.0 w.2 changed d.found in
+    let queue = ap (λ (z : Shape _). front z.queue) c.reserve-2.ensures.same in
+    subst (λ (z : List (Node g.row.A.Denot) × List NodeId). InPairs (IsAtOrBehind z.0) z.1) (λ i. (sym carried i ++ d.fresh.items, sym queue i))
+    (rest_order p r t c.requires.tree node last wide d.found d.fresh.items)
 
 pub change-requires-clause-short : goal.change-requires-clause-short
 change-requires-clause-short g c = omega (arith, c.requires.tree.short, ap (λ (z : Shape _). length z.queue) c.reserve-2.ensures.same, ap (λ (z : Shape _). length z.nodes) c.reserve-2.ensures.same)
@@ -75,23 +161,44 @@ returns-clause-ok g c =
     let t = shape_of c.args.self.now in
     let p = c.args.plan.now.plan in
     let r = c.args.request.now in
-    let d = c.in_ok-prepared.prepared.division in
-    let place = c.in_ok-prepared.prepared.place in
     let node = c.in-Some.last.now in
     let last = sym (c.in-Some.ensures.value ∙ ap last_item c.deref.ensures.value) in
     let w = standing p r t c.requires.tree node last in
     let ready = c.in_ok-prepared.ensures.ready w.0 w.1 w.2 w.3 in
-    c.change.ensures.shape w.1 (ap (λ (z : Shape _). route_at z.nodes node) c.reserve-2.ensures.same ∙ route_there t.nodes node w.0 w.1 w.2 w.3)
-    ∙ ap (λ (z : Shape _). divided_by z node w.1 place d.wide d.found d.fresh.items) c.reserve-2.ensures.same
-    ∙ (λ i. divided_by t node w.1 (ready.place i) (ready.wide i) (ready.found i) (ready.fresh i))
+    let numbers : c.numbers.result.now ≡ w.1.contacts = c.numbers.ensures ∙ ap numbers_of ready.route in
+    let then = c.divide.new.nodes.items in
+    let nodes = ap (λ (z : Shape _). z.nodes) c.reserve-2.ensures.same in
+    let stands : slice_get c.reserve-2.new.self.nodes.items node.0 ≡ Some w.0 = ap (λ z. slice_get z node.0) nodes ∙ w.2 in
+    let leaf : c.len.result ≡ length t.leaves = omega (arith, c.len.ensures, ap (λ (z : Shape _). length z.leaves) c.reserve-2.ensures.same) in
+    let changed : c.divide.new.nodes.items ≡ modify (excluding w.1.contacts) t.nodes node.0 = c.in_ok-division.ensures.ok ∙ (λ i. modify (excluding (numbers i)) (nodes i) node.0) in
+    let d = c.in_ok-division.division in
+    let wide = wide_of w.0 w.1.contacts in
+    let carried = carried_then t.nodes c.divide.new.nodes.items node.0 w.1.contacts w.0 w.2 changed d.found in
+    let mid : shape_of {A = g.row.A.Denot} (record c.reserve-2.new.self { nodes = c.divide.new.nodes }) ≡ record t { nodes = modify (excluding w.1.contacts) t.nodes node.0 } = λ i. record (c.reserve-2.ensures.same i) { nodes = changed i } in
+    let found : d.found ≡ best_of p r (take w.0.length w.1.contacts) wide = c.in_ok-division.ensures.found w.0 stands ∙ (λ i. best_of p r (take w.0.length (numbers i)) (wide_of w.0 (numbers i))) in
+    let fresh : d.fresh.items ≡ fresh_nodes (best_of p r) (length t.leaves) (take (w.0.length + 1) w.1.contacts) (drop (w.0.length + 1) w.1.contacts) = c.in_ok-division.ensures.fresh w.0 stands ∙ (λ i. fresh_nodes (best_of p r) (leaf i) (take (w.0.length + 1) (numbers i)) (drop (w.0.length + 1) (numbers i))) in
+    let carries = ap (λ z. route_at z node) changed ∙ route_there (modify (excluding w.1.contacts) t.nodes node.0) node (excluding w.1.contacts w.0) w.1 (get_same (excluding w.1.contacts) t.nodes node.0 w.0 w.2) w.3 in
+    let long : length (modify (excluding w.1.contacts) t.nodes node.0) ≡ length t.nodes = length-modify (excluding w.1.contacts) t.nodes node.0 in
+    let block = λ (n : ℕ). ids_from n (length d.fresh.items) in
+    let N = nodes_then t.nodes node wide d.found d.fresh.items in
+    c.change.ensures.shape w.1 carries
+    ∙ (λ i. changed_by (mid i) node w.1 (ready.place i) (carried i ++ d.fresh.items) (length d.fresh.items))
+    ∙ (λ i. record (changed_by t node w.1 (passing (stands_before t.leaves t.nodes (take (w.0.length + 1) w.1.contacts)) t.index) N (length d.fresh.items)) {
+      index = with_block (passing (stands_before t.leaves t.nodes (take (w.0.length + 1) w.1.contacts)) t.index) (block (long i)) t.index;
+      queue = enqueued_all N (node ∷ block (long i)) (front t.queue);
+      journal = t.journal ++ record { node = node; nodes = long i; last = t.last } ∷ [];
+    })
+    ∙ (λ i. divided_by t node w.1 (passing (stands_before t.leaves t.nodes (take (w.0.length + 1) w.1.contacts)) t.index) wide (found i) (fresh i))
     ∙ sym (taken_is p r t node w.0 w.1 last w.2 w.3)
 
 pub returns-clause-given : goal.returns-clause-given
 returns-clause-given g c =
     let t = shape_of c.args.self.now in
+    let p = c.args.plan.now.plan in
+    let r = c.args.request.now in
     let node = c.in-Some.last.now in
     let last = sym (c.in-Some.ensures.value ∙ ap last_item c.deref.ensures.value) in
-    let w = standing c.args.plan.now.plan c.args.request.now t c.requires.tree node last in
+    let w = standing p r t c.requires.tree node last in
     let ready = c.in_ok-prepared.ensures.ready w.0 w.1 w.2 w.3 in
     subst (λ (o : Option RouteRecord). IfSome o (λ x. c.push_reserved.new.self.items ≡ c.args.given.now.items ++ x ∷ [])) (sym (least_is t node w.0 w.1 last w.2 w.3))
     (c.push_reserved.ensures.items ∙ (λ i. c.reserve.ensures.items i ++ ready.route i ∷ []))
@@ -105,5 +212,24 @@ returns-clause-count g c =
     let last = sym (c.in-Some.ensures.value ∙ ap last_item c.deref.ensures.value) in
     let w = standing p r t c.requires.tree node last in
     let ready = c.in_ok-prepared.ensures.ready w.0 w.1 w.2 w.3 in
-    let d = dividable p r t c.requires.tree node last w.0 w.1 w.2 w.3 in
-    omega (arith, c.len-count.ensures, ap (length {A = Node g.row.A.Denot}) ready.fresh, new_nodes g.row.A.Denot (best_of p r) (length t.leaves) w.1.contacts w.0.length d.longer, count_is t node w.0 w.1 last w.2 w.3)
+    let can = can_exclude p r t c.requires.tree node last w.0 w.1 w.2 w.3 in
+    omega (arith, ready.count, can.longer, count_is t node w.0 w.1 last w.2 w.3)
+
+pub returns-clause-called : goal.returns-clause-called
+returns-clause-called g c =
+    let t = shape_of c.args.self.now in
+    let p = c.args.plan.now.plan in
+    let r = c.args.request.now in
+    let node = c.in-Some.last.now in
+    let last = sym (c.in-Some.ensures.value ∙ ap last_item c.deref.ensures.value) in
+    let w = standing p r t c.requires.tree node last in
+    let ready = c.in_ok-prepared.ensures.ready w.0 w.1 w.2 w.3 in
+    let numbers : c.numbers.result.now ≡ w.1.contacts = c.numbers.ensures ∙ ap numbers_of ready.route in
+    let then = c.divide.new.nodes.items in
+    let nodes = ap (λ (z : Shape _). z.nodes) c.reserve-2.ensures.same in
+    let stands : slice_get c.reserve-2.new.self.nodes.items node.0 ≡ Some w.0 = ap (λ z. slice_get z node.0) nodes ∙ w.2 in
+    let leaf : c.len.result ≡ length t.leaves = omega (arith, c.len.ensures, ap (λ (z : Shape _). length z.leaves) c.reserve-2.ensures.same) in
+    let fresh : c.in_ok-division.division.fresh.items ≡ fresh_nodes (best_of p r) (length t.leaves) (take (w.0.length + 1) w.1.contacts) (drop (w.0.length + 1) w.1.contacts) = c.in_ok-division.ensures.fresh w.0 stands ∙ (λ i. fresh_nodes (best_of p r) (leaf i) (take (w.0.length + 1) (numbers i)) (drop (w.0.length + 1) (numbers i))) in
+    let can = can_exclude p r t c.requires.tree node last w.0 w.1 w.2 w.3 in
+    let count : length c.in_ok-division.division.fresh.items + 1 ≡ length w.1.contacts - w.0.length = ap (λ (z : List (Node g.row.A.Denot)). length z + 1) fresh ∙ new_nodes g.row.A.Denot (best_of p r) (length t.leaves) w.1.contacts w.0.length can.longer in
+    omega (arith, c.in_ok-division.ensures.called, count, ready.count, can.longer)

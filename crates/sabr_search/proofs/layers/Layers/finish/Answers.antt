@@ -1,4 +1,4 @@
-use Rattle.std.proofs.Common.{◌≡◌, ◌≤◌, ◌+◌, ◌*◌, length, refl, ap, ◌∙◌, arith, length-append}
+use Rattle.std.proofs.Common.{◌+◌, length, refl, ap, ◌∙◌, length-append}
 use Rattle.sabr_search.proofs.Told.{named_in_route}
 use Rattle.sabr_search.proofs.layers.Layers.finish.Goals as goal
 

@@ -1,4 +1,4 @@
-use Rattle.std.proofs.Common.{◌≡◌, ℕ, ◌+◌, ◌-◌, ◌≤◌, length, slice_index, sym, ap, ◌∙◌, arith}
+use Rattle.std.proofs.Common.{◌≡◌, ◌+◌, ◌-◌, length, slice_index, sym, ap, ◌∙◌, arith}
 use Rattle.sabr_search.proofs.Turned.{turned, ends_below, turned_many}
 use Rattle.sabr_search.proofs.layers.Layers.from_goal.Goals as goal
 

@@ -1,4 +1,4 @@
-use Rattle.std.proofs.Common.{◌≡◌, ℕ, ◌+◌, ◌++◌, [], ◌∷◌, Some, length, take, slice_index, sym, ap, ◌∙◌, arith}
+use Rattle.std.proofs.Common.{◌≡◌, ◌+◌, ◌++◌, [], ◌∷◌, Some, length, take, slice_index, ap, ◌∙◌, arith}
 use Rattle.sabr_search.proofs.Between.{read_at}
 use Rattle.sabr_search.proofs.LateMade.{late_first, late_next, met_at, take_whole}
 use Rattle.sabr_search.proofs.layers.Layers.make_back.Goals as goal

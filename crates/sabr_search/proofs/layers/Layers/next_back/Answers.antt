@@ -1,5 +1,4 @@
-use Rattle.std.proofs.Common.{◌≡◌, ℕ, ◌+◌, ◌<◌, ◌≤◌, inl, inr, Some, length, take, false, slice_get, slice_index, slice_index_or, refl, sym, ap, ◌∙◌, arith}
-use Rattle.sabr_search.specs.declared.layers.Reached.{Reached}
+use Rattle.std.proofs.Common.{◌≡◌, ◌+◌, inl, inr, Some, slice_get, slice_index, refl, sym, ap, ◌∙◌, arith}
 use Rattle.sabr_search.proofs.Between.{entry_read, read_at}
 use Rattle.sabr_search.proofs.Forward.{last_or_before}
 use Rattle.sabr_search.proofs.OverLinks.{same_some}

@@ -1,6 +1,7 @@
 use Rattle.std.proofs.Common.{◌≤◌, ◌+◌, ◌*◌, ◌++◌, [], ◌∷◌, length, ap, sym, ◌∙◌, arith}
 use Rattle.std.proofs.Math.Nat.{mul-le-mul_right}
 use Rattle.std.proofs.lemmas.Option.{slice_get_within}
+use Rattle.sabr_search.specs.Picks.{IsLeastStep}
 use Rattle.sabr_search.proofs.Front.{IsFront, front_none, some_step, front_more, front_all, timed_later, degree_at_most, append_none, append_back}
 use Rattle.sabr_search.proofs.layers.Layers.pick.Goals as goal
 
@@ -20,7 +21,7 @@ least_step-requires-clause-timed g c = timed_later c.args.task.now c.args.best 1
 
 pub unreachable-requires : goal.unreachable-requires
 unreachable-requires g c =
-    some_step c.args.task.now c.requires.task c.args.best _ _ _ (c.point_at.ensures.timed 1 c.loop-hop.invariant.timed) c.loop-hop.hop c.loop-hop-test.true c.loop-hop.invariant.chosen.0 c.loop-hop.from.node c.loop-hop.from.at c.loop-hop.invariant.chosen.2 c.in_default.ensures.none
+    some_step c.args.task.now c.requires.task c.args.best _ _ _ (c.point_at.ensures.timed 1 c.loop-hop.invariant.timed) c.loop-hop.hop c.loop-hop-test.true c.loop-hop.invariant.chosen.0 c.loop-hop.from.node c.loop-hop.from.at c.loop-hop.invariant.chosen.2 (rw c.in_default.is at c.in_ok-least.ensures.none)
 
 pub returns-in_err-push-clause-looks : goal.returns-in_err-push-clause-looks
 returns-in_err-push-clause-looks g c =
@@ -33,7 +34,7 @@ loop-hop-preserved g c =
     let task = c.args.task.now in
     let so_far = c.loop-hop.invariant.chosen in
     let timed = c.point_at.ensures.timed 1 c.loop-hop.invariant.timed in
-    let least = c.in-Some.ensures.some in
+    let least : IsLeastStep task c.args.best _ _ (c.loop-hop.hop + 1) c.loop-hop.from.node c.loop-hop.from.at c.in-Some.step = rw c.in-Some.is at c.in_ok-least.ensures.some in
     record {
       counted = omega (arith, c.least_step.ensures.looks, c.loop-hop.invariant.counted, degree_at_most task c.loop-hop.from.node);
       timed = timed;

@@ -1,9 +1,5 @@
-use Rattle.std.proofs.Common.{◌≡◌, ◌-◌, ℕ, ◌+◌, ◌<◌, ◌≤◌, min, length, slice_index, sym, ap, ◌∙◌, arith}
-use Rattle.std.proofs.lemmas.Option.{slice_get_within}
-use Rattle.sabr_search.specs.Task.{Takes}
-use Rattle.sabr_search.specs.Late.{soonest, InTimeFor}
+use Rattle.std.proofs.Common.{◌≡◌, ◌<◌, ◌≤◌, slice_index, arith}
 use Rattle.sabr_search.proofs.Between.{read_at}
-use Rattle.sabr_search.proofs.Bridge.{takes_timely}
 use Rattle.sabr_search.proofs.LateLists.{late_noted, sound_back, set_here}
 use Rattle.sabr_search.proofs.layers.Layers.take_back.Goals as goal
 use Rattle.sabr_search.proofs.layers.Layers.take_back.Goals.{then-last-latest-via-then-last-latest, then-last-latest-via-else-last-latest+then-last-since}
@@ -16,12 +12,6 @@ returns-then-last-latest-clause-told g c = λ n t w b has s less soon.
       | then-last-latest-via-then-last-latest z ↦ omega (arith, sooner, latest, z.if-last-latest.true)
       | then-last-latest-via-else-last-latest+then-last-since z ↦ absurd (omega (arith, sooner, soon, c.soonest_at-since.ensures, z.if-last-since.true))
     ]
-
-pub returns-then-before-least-clause-told : goal.returns-then-before-least-clause-told
-returns-then-before-least-clause-told g c = λ n t w b has s less soon.
-    let latest : c.index-latest.result.now ≡ slice_index c.args.self.now.late.items c.args.from.node = read_at c.args.self.now.late.items c.args.from.node c.index-latest.result.now (omega (arith, c.requires.node, c.requires.lists.many)) c.index-latest.ensures in
-    let after : t ≤ b = (takes_timely c.args.task.now c.requires.task.nodes).later n c.args.from.node t w b s in
-    omega (arith, after, less, soon, latest, c.soonest_at-since.ensures, c.if-before-least.true, c.max-least.ensures)
 
 pub returns-clause-lists : goal.returns-clause-lists
 returns-clause-lists g c =

@@ -1,13 +1,12 @@
-use Rattle.std.proofs.Common.{◌≡◌, ℕ, ◌+◌, ◌<◌, ◌≤◌, inl, inr, Some, length, slice_get, sym, ap, ◌∙◌, arith}
+use Rattle.std.proofs.Common.{◌≡◌, inl, inr, slice_get, sym, ap, ◌∙◌, arith}
 use Rattle.std.proofs.lemmas.Option.{slice_get_within}
-use Rattle.sabr_model.specs.Links.{SentLink}
 use Rattle.sabr_search.proofs.Forward.{last_or_before}
 use Rattle.sabr_search.proofs.OverLinks.{same_some}
 use Rattle.sabr_search.proofs.LateLists.{in_time_kept, told_rises}
 use Rattle.sabr_search.proofs.layers.Layers.take_senders.Goals as goal
 
 pub take_sender-requires-clause-link : goal.take_sender-requires-clause-link
-take_sender-requires-clause-link g c = c.in-Some.ensures.each c.loop-place.place (record { sender = c.at-from.result.node; passes = c.at-from.result.passes.now }) c.at-from.ensures
+take_sender-requires-clause-link g c = c.in-Some.ensures.each c.loop-place.place (record { sender = c.at-from.result.node; passes = c.at-from.result.passes.now }) c.at-from.ensures.link
 
 pub take_sender-requires-clause-given : goal.take_sender-requires-clause-given
 take_sender-requires-clause-given g c = λ b less.
@@ -27,7 +26,7 @@ loop-place-preserved g c =
       told = λ j s n t w b less at has step by. elim (last_or_before j c.loop-place.place less) [
         | inl before ↦ told_rises task c.args.arrival.now c.args.delivery _ _ s.sender t one.rises (so_far.told j s n t w b before at has step by)
         | inr same ↦
-            (let is : s ≡ record { sender = c.at-from.result.node; passes = c.at-from.result.passes.now } = same_some (sym at ∙ ap (slice_get c.in-Some.senders) same ∙ c.at-from.ensures) in
+            (let is : s ≡ record { sender = c.at-from.result.node; passes = c.at-from.result.passes.now } = same_some (sym at ∙ ap (slice_get c.in-Some.senders) same ∙ c.at-from.ensures.link) in
             rw is (one.told c.if-met.false n t w b (rw is at has) (rw is at step) by))
       ];
     }

@@ -1,4 +1,4 @@
-use Rattle.std.proofs.Common.{◌≡◌, ℕ, ◌<◌, ◌≤◌, Some, length, take, slice_get, slice_index}
+use Rattle.std.proofs.Common.{◌≡◌, ℕ, ◌<◌, ◌≤◌, Some, take, slice_get, slice_index}
 use Rattle.sabr_model.specs.Links.{SentLink}
 use Rattle.sabr_search.specs.Task.{Takes}
 use Rattle.sabr_search.specs.Linked.{HasNumber}

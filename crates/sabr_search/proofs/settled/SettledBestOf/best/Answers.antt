@@ -1,4 +1,4 @@
-use Rattle.std.proofs.Common.{length, sym, ap, arith}
+use Rattle.std.proofs.Common.{sym, ap, arith}
 use Rattle.std.specs.Option.{option_map}
 use Rattle.sabr_model.specs.Record.{record_of}
 use Rattle.sabr_model.specs.Table.{node_count}

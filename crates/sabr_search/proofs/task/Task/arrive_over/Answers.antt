@@ -1,19 +1,23 @@
-use Rattle.std.proofs.Common.{◌≡◌, inl, inr, Some, slice_index_or, slice_get, sym, ◌∙◌, arith, ap, Bor}
+use Rattle.std.proofs.Common.{◌≡◌, inl, inr, Some, slice_get, sym, ◌∙◌, arith, ap, Bor}
 use Rattle.std.proofs.lemmas.Option.{slice_get-get_or, slice_get_within}
 use Rattle.std.proofs.lemmas.Bool.{cases_lt}
 use Rattle.sabr_model.specs.declared.link.Pass.{Pass}
 use Rattle.sabr_search.proofs.PlanFacts.{hop_arrives}
 use Rattle.sabr_search.proofs.Forward.{step_of_hop, allowed_by, excluded_by, last_or_before}
-use Rattle.sabr_search.proofs.OverLinks.{same_some, no_pass, none_ended, least_light_small, late_over, pass_takes, step_at, step_over}
+use Rattle.sabr_search.proofs.OverLinks.{same_some, no_pass, none_ended, least_light_small, late_over, ruled_out, pass_takes, step_at, step_over}
 use Rattle.sabr_search.proofs.task.Task.arrive_over.Goals as goal
 use Rattle.sabr_search.proofs.task.Task.arrive_over.Goals.{in-Some, in_default}
+
+pub returns-then-rules_out-clause-full : goal.returns-then-rules_out-clause-full
+returns-then-rules_out-clause-full g c = λ n w b has s.
+    ruled_out c.args.self.now c.requires.task c.args.node c.args.to c.args.passes.now c.requires.link c.args.bounds c.requires.bounds c.args.at c.args.before (c.rules_out.ensures.late c.if-rules_out.true) n c.args.at w b has (omega arith) s
 
 pub loop-place-init : goal.loop-place-init
 loop-place-init g c = record {
   counted = omega arith;
   looked = omega arith;
   some_looks = λ less. absurd (omega (arith, less));
-  later = omega (arith, c.if-at-before.false);
+  later = omega (arith, c.rules_out.ensures.early c.if-rules_out.false);
   upper = omega arith;
   sound = λ less. absurd (omega (arith, less));
   full = λ k x w b less at s. absurd (none_ended c.args.self.now c.requires.task c.args.node c.args.to c.args.passes.now c.requires.link c.args.at k x w b at (c.first_open-place.ensures.ended k x less at) s);

@@ -1,17 +1,15 @@
-use Rattle.std.proofs.Common.{◌≡◌, inl, inr, Some, slice_index_or, slice_get, refl, arith, ap, sym, ◌∙◌, Bor}
+use Rattle.std.proofs.Common.{◌≡◌, inl, inr, Some, slice_get, refl, arith, ap, sym, ◌∙◌, Bor}
 use Rattle.std.proofs.lemmas.Option.{slice_get-get_or, slice_get_within}
 use Rattle.std.proofs.lemmas.Bool.{cases_lt}
 use Rattle.sabr_model.specs.declared.link.Pass.{Pass}
 use Rattle.sabr_search.proofs.Forward.{step_of_hop, allowed_by, excluded_by, last_or_before}
-use Rattle.sabr_search.proofs.OverLinks.{no_pass, none_ended, least_light_small, starts_late, late_over, pass_takes, step_at, step_over, same_number, at_most_more}
+use Rattle.sabr_search.proofs.OverLinks.{no_pass, none_ended, least_light_small, late_over, ruled_out, pass_takes, step_at, step_over, same_number, at_most_more}
 use Rattle.sabr_search.proofs.task.Task.least_over.Goals as goal
 use Rattle.sabr_search.proofs.task.Task.least_over.Goals.{in-Some, in_default}
 
-pub returns-then-at-before-clause-full : goal.returns-then-at-before-clause-full
-returns-then-at-before-clause-full g c = λ n w b has s less.
-    let task = c.args.self.now in
-    let passes = c.args.passes.now in
-    absurd (omega (arith, less, c.if-at-before.true, (starts_late task c.requires.task c.args.node c.args.to passes c.requires.link c.args.at has.0 has.1 w b has.2 (step_over task passes n c.args.node c.args.at w b has s)).1))
+pub returns-then-rules_out-clause-full : goal.returns-then-rules_out-clause-full
+returns-then-rules_out-clause-full g c = λ n w b has s less.
+    absurd (omega (arith, less, ruled_out c.args.self.now c.requires.task c.args.node c.args.to c.args.passes.now c.requires.link c.args.bounds c.requires.bounds c.args.at c.args.before (c.rules_out.ensures.late c.if-rules_out.true) n c.args.at w b has (omega arith) s))
 
 pub loop-place-init : goal.loop-place-init
 loop-place-init g c = record {

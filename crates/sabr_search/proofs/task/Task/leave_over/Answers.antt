@@ -1,11 +1,17 @@
-use Rattle.std.proofs.Common.{◌≡◌, ◌-◌, inl, inr, Some, slice_index_or, slice_get, arith, ap, sym, ◌∙◌, Bor}
+use Rattle.std.proofs.Common.{◌≡◌, ◌-◌, inl, inr, Some, slice_get, arith, ap, sym, ◌∙◌, Bor}
 use Rattle.std.proofs.lemmas.Option.{slice_get-get_or}
 use Rattle.std.proofs.lemmas.Bool.{cases_lt, cases_eq}
 use Rattle.sabr_model.specs.declared.link.Pass.{Pass}
 use Rattle.sabr_search.proofs.PlanFacts.{hop_at_window}
 use Rattle.sabr_search.proofs.Forward.{step_of_hop}
-use Rattle.sabr_search.proofs.OverLinks.{no_pass, least_before_small, starts_late, none_later, pass_takes, step_at, step_over}
+use Rattle.sabr_search.proofs.OverLinks.{no_pass, least_before_small, starts_late, ruled_out, none_later, pass_takes, step_at, step_over}
 use Rattle.sabr_search.proofs.task.Task.leave_over.Goals as goal
+
+pub returns-then-rules_out-clause-full : goal.returns-then-rules_out-clause-full
+returns-then-rules_out-clause-full g c = λ n t w b has after s less. elim (cases_lt t c.args.latest) [
+  | inl before ↦ before
+  | inr behind ↦ absurd (omega (arith, less, ruled_out c.args.self.now c.requires.task c.args.node c.args.to c.args.passes.now c.requires.link c.args.bounds c.requires.bounds c.max.result c.args.before (c.rules_out.ensures.late c.if-rules_out.true) n t w b has (omega (arith, behind, after, c.max.ensures)) s))
+]
 
 pub loop-back-init : goal.loop-back-init
 loop-back-init g c = record {

@@ -14,6 +14,9 @@ loop-first-preserved g c =
           (record {
             filled = c.end_of_row-end.ensures.behind;
             within = c.end_of_row-end.ensures.within;
+            ends = c.bounds_of_row.ensures.ends;
+            light = c.bounds_of_row.ensures.light;
+            soonest = c.bounds_of_row.ensures.soonest;
             alike = λ k d ge lt. c.end_of_row-end.ensures.alike k d ge lt ∙ ap (λ (x : Pass). x.receiver) (get_or_default c.args.passes.now c.loop-first.first d _ c.loop-first-test.true);
           }));
     }

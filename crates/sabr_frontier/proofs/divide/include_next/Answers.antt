@@ -1,0 +1,11 @@
+use Rattle.std.proofs.Common.{arith, ℕ, List, ap, ◌∙◌, set}
+use Rattle.sabr_frontier.specs.Prepared.{including}
+use Rattle.sabr_frontier.proofs.Ends.{set-modify}
+use Rattle.sabr_frontier.proofs.divide.include_next.Goals as goal
+
+pub returns-clause-nodes : goal.returns-clause-nodes
+returns-clause-nodes g c =
+    let n = c.index_mut-part.result.now in
+    let items = c.args.nodes.now.items in
+    ap (λ (z : List ℕ). set items c.args.node.0 (record n { excluded = z })) c.forget.ensures
+    ∙ set-modify (including c.args.route.now) items c.args.node.0 n (omega arith) c.index_mut-part.ensures.value

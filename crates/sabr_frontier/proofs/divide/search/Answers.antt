@@ -1,0 +1,7 @@
+use Rattle.std.proofs.Common.{take}
+use Rattle.sabr_frontier.proofs.Paths.{route_fits}
+use Rattle.sabr_frontier.proofs.Fronts.{number_after-take}
+use Rattle.sabr_frontier.proofs.divide.search.Goals as goal
+
+pub ask-requires : goal.ask-requires
+ask-requires g c = route_fits c.args.plan.now.plan c.args.request.now (take c.args.node.now.length c.args.route.now) c.args.route.now _ c.requires.route (number_after-take c.args.route.now c.args.node.now.length c.requires.longer)

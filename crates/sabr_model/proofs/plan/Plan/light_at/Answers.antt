@@ -1,0 +1,10 @@
+use Rattle.std.proofs.Common.{sym, subst}
+use Rattle.sabr_model.specs.Plan.{ContactPlan}
+use Rattle.sabr_model.specs.RangeOrder.{IsRangeList}
+use Rattle.sabr_model.proofs.RangeKeys.{range_list}
+use Rattle.sabr_model.proofs.plan.Plan.light_at.Goals as goal
+
+pub light_of_contact-requires : goal.light_of_contact-requires
+light_of_contact-requires g c =
+    let p : ContactPlan = record { contacts = c.self.inside.contacts.items; ranges = c.self.inside.ranges.items; greatest = c.self.inside.greatest } in
+    subst IsRangeList (sym c.deref.ensures.value) (range_list p c.self.invariant.0)

@@ -1,0 +1,65 @@
+//! A few nodes.
+
+ghost use Rattle.std.specs.Prelude.{◌≡◌, ◌≤◌, ◌<◌, ◌∷◌, ◌++◌, [], None, IfSome, MatchOption, length};
+
+use arrayvec::ArrayVec;
+use std::marker::Model;
+
+/// The most nodes that a request avoids.
+pub const MOST_AVOIDED: usize = 16;
+
+/// At most 16 nodes, as many as a request avoids (this project's profile). It holds no memory.
+#[derive(Drop)]
+pub struct NodeList {
+    nodes: ArrayVec<u64, MOST_AVOIDED>,
+}
+
+impl Model for NodeList {
+    ghost use Rattle.std.specs.Prelude.{List, ℕ};
+
+    ghost Value = { List ℕ };
+
+    ghost view = { λ a. a.nodes.items };
+}
+
+impl NodeList {
+    /// Without a node.
+    pub fn new() -> NodeList
+        ensures { result ≡ [] }
+    {
+        NodeList {
+            nodes: ArrayVec::new(),
+        }
+    }
+
+    /// These nodes, if there is room.
+    pub fn of(nodes: &[u64]) -> Option<NodeList>
+        ensures { MatchOption result (16 < length nodes.now) (λ list. list ≡ nodes.now) }
+    {
+        let mut list = NodeList::new();
+        match list.nodes.try_extend_from_slice(nodes) {
+            Ok(()) => Some(list),
+            Err(_) => None,
+        }
+    }
+
+    /// The nodes.
+    pub fn as_slice(&self) -> &[u64]
+        ensures value { result.now ≡ self.now }
+        ensures limit { length self.now ≤ 16 }
+    {
+        self.nodes.as_slice()
+    }
+
+    /// Puts a node behind the others, if there is room.
+    pub fn push(&mut self, node: u64) -> Option<()>
+        ensures pushed { IfSome result (λ _. self.new ≡ self.old ++ node ∷ []) }
+        ensures limit { IfSome result (λ _. length self.new ≤ 16) }
+        ensures full { result ≡ None → length self.old ≡ 16 }
+    {
+        match self.nodes.try_push(node) {
+            Ok(()) => Some(()),
+            Err(_) => None,
+        }
+    }
+}
