@@ -1,31 +1,28 @@
 -- What a prefix leads to with its excluded numbers, one number after another.
-use Rattle.std.proofs.Common.{◌≡◌, ℕ, zero, suc, ◌+◌, ◌<◌, ◌≤◌, Bool, true, false, cond, not, List, [], ◌∷◌, ◌++◌, map, filter, take, get_or, length, refl, sym, ap, subst, ◌∙◌, ◌⊎◌, inl, inr, arith, true≢false, Some, None}
-use Rattle.std.specs.Prelude.{IsTrue, IfOk, IfErr, IfSome, IfNone, Ok, Err, Result, Option, unwrap_or, ◌==◌}
+use Rattle.std.proofs.Common.{◌≡◌, ℕ, zero, suc, ◌+◌, ◌<◌, true, false, cond, not, List, [], ◌∷◌, ◌++◌, map, filter, take, get_or, length, refl, sym, ap, subst, ◌∙◌, ◌⊎◌, inl, inr, arith, true≢false, Some, None}
+use Rattle.std.specs.Prelude.{IfOk, IfErr, IfSome, IfNone, Ok, Err, Result, Option, unwrap_or, ◌==◌}
 use Rattle.std.proofs.lemmas.Bool.Decides.{nat_tests}
 use Rattle.std.specs.Ordering.{nat_cmp}
 use Rattle.std.proofs.lemmas.Bool.{false_from_ne_true}
 use Rattle.std.proofs.lemmas.Cmp.{nat_cmp_total}
-use Rattle.std.proofs.lemmas.List.{take_more, take_all}
+use Rattle.std.proofs.lemmas.List.{take_more}
 use Rattle.std.proofs.lemmas.List.Elements.{filter-append}
 use Rattle.sabr_model.specs.declared.fault.HopFault.{HopFault}
 use Rattle.sabr_model.specs.declared.fault.HopFault.TheVariants.{WrongEnd}
 use Rattle.sabr_model.specs.Plan.{ContactPlan}
 use Rattle.sabr_model.specs.Arrival.{RouteRequest, arrival_after}
 use Rattle.sabr_model.specs.Route.{is_path, is_route, ends_at, until_of, entry_of}
-use Rattle.sabr_model.specs.Record.{RouteRecord, record_of}
+use Rattle.sabr_model.specs.Record.{record_of}
 use Rattle.sabr_model.specs.declared.following.Reached.{Reached}
 use Rattle.sabr_model.specs.Fault.{fault_of, fault_or, first_fault}
-use Rattle.sabr_model.proofs.Faults.{fault_is_no_route, path_is_good}
-use Rattle.sabr_model.proofs.Paths.{route_is_path}
-use Rattle.sabr_search.proofs.FaultsOfPrefixes.{end_or_none, wrong_end_is_path}
+use Rattle.sabr_model.proofs.Faults.{path_is_good}
+use Rattle.sabr_search.proofs.FaultsOfPrefixes.{end_or_none}
 use Rattle.sabr_frontier.specs.declared.judge.Judged.{Judged}
 use Rattle.sabr_frontier.specs.Rising.{has}
 use Rattle.sabr_frontier.specs.State.{leaves_of}
 use Rattle.sabr_frontier.specs.Owing.{onward}
 use Rattle.sabr_frontier.specs.Holding.{AllGoOn, Holding, IsJudged, IsVerdict, is_due, onward_of, routes_of}
 use Rattle.sabr_frontier.proofs.Rising.{has-append, has_itself, or_cases}
-use Rattle.sabr_frontier.proofs.Beginnings.{numbers_exact}
-use Rattle.sabr_frontier.proofs.Members.{Member-append_right}
 use Rattle.sabr_frontier.proofs.Closed.{Number_has, has_Number}
 use Rattle.sabr_frontier.proofs.Division.{map-append}
 

@@ -35,6 +35,8 @@ pub mod Found
 pub mod Refined
 pub mod Divided
 pub mod Sounds
+pub mod Merged
+pub mod Merging
 pub mod Filled
 pub mod Giving
 pub mod Pages

@@ -20,7 +20,7 @@ use Rattle.sabr_frontier.specs.Listing.{IsState, leaves_in}
 use Rattle.sabr_frontier.specs.Shape.{Shape, shown, route_at}
 use Rattle.sabr_frontier.specs.Undo.{modify, front, last_item, undone, without, CanUndo}
 use Rattle.sabr_frontier.specs.Best.{best_of}
-use Rattle.sabr_frontier.specs.Queue.{InPairs}
+use Rattle.sabr_frontier.specs.Queue.{IsNotBetter, IsAtOrBehind, InPairs}
 use Rattle.sabr_frontier.specs.Taking.{put_behind, beats, enqueued, enqueued_by, enqueued_all, passing, stands_before, widened, wide_of, fresh_nodes, ids_from, divided}
 use Rattle.sabr_frontier.specs.Sound.{IsTree, IsLent, AreApart, AreGiven}
 use Rattle.sabr_frontier.proofs.Members.{Member-append_left, Member-append_right, Member-append_cases}
@@ -33,9 +33,9 @@ use Rattle.sabr_frontier.proofs.Listed.{least_some}
 use Rattle.sabr_frontier.proofs.Ends.{length-modify, last_item_push}
 use Rattle.sabr_frontier.proofs.Queues.{put_behind_cases, put_behind_has, enqueued_all_falls}
 use Rattle.sabr_frontier.proofs.Takes.{Passes, filter_all, take_front, undone-after}
-use Rattle.sabr_frontier.proofs.Nodes.{get_within, get_Member, get_at_end, get_same, modify_cases, member_cut, member_taken, member_dropped, pairs_front, same_node, ids_cases, ids_has}
+use Rattle.sabr_frontier.proofs.Nodes.{pair_across, get_within, get_Member, get_at_end, get_same, modify_cases, member_cut, member_taken, member_dropped, pairs_front, same_node, ids_cases, ids_has}
 use Rattle.sabr_frontier.proofs.Splits.{lent_stable}
-use Rattle.sabr_frontier.proofs.Refined.{queue_is, node_within, rest_other, rest_queued, rest_within, kept_route, rest_order, here, here_in, cut, can_exclude, carried_there, record_is}
+use Rattle.sabr_frontier.proofs.Refined.{route_there, queue_is, node_within, rest_other, rest_queued, rest_within, kept_route, rest_order, here, here_in, cut, can_exclude, carried_there, record_is}
 use Rattle.sabr_frontier.proofs.Divided.{shown_divided}
 
 -- ---- who is in a queue
@@ -47,7 +47,7 @@ module _ {A : Type 0} (nodes : List (Node A)) where
     | Some x ↦ λ m. elim (put_behind_cases (λ y. beats x (route_at nodes y)) z id ids m) [ inl e ↦ inl (e, refl) | inr k ↦ inr k ]
   ] m
 
-  enqueued_has : (z id : NodeId) (ids : List NodeId) → ((z ≡ id) × (is_some (route_at nodes id) ≡ true)) ⊎ Member z ids → Member z (enqueued nodes id ids)
+  pub enqueued_has : (z id : NodeId) (ids : List NodeId) → ((z ≡ id) × (is_some (route_at nodes id) ≡ true)) ⊎ Member z ids → Member z (enqueued nodes id ids)
   enqueued_has z id ids m = elim (route_at nodes id) as (λ o. ((z ≡ id) × (is_some o ≡ true)) ⊎ Member z ids → Member z (enqueued_by nodes id o ids)) [
     | None ↦ λ m. elim m [ inl w ↦ absurd (true≢false (sym w.1)) | inr k ↦ k ]
     | Some x ↦ λ m. put_behind_has (λ y. beats x (route_at nodes y)) z id ids (elim m [ inl w ↦ inl w.0 | inr k ↦ inr k ])
@@ -90,7 +90,7 @@ module _ {A : Type 0} (nodes : List (Node A)) where
       (λ y m. elim (enqueued_cases y id ids m) [ inl w ↦ (let e : y.0 ≡ f = ap (λ (z : NodeId). z.0) w.0 in omega arith) | inr k ↦ (let l = b y k in omega arith) ])
       (enqueued_apart id ids (λ y m. lesser_apart y id (b y m)) h)
 
-  put_length : (test : NodeId → Bool) (id : NodeId) (ids : List NodeId) → length (put_behind test id ids) ≡ length ids + 1
+  pub put_length : (test : NodeId → Bool) (id : NodeId) (ids : List NodeId) → length (put_behind test id ids) ≡ length ids + 1
   put_length test id [] = refl
   put_length test id (y ∷ ys) = elim (test y) as (λ b. length (cond b (y ∷ put_behind test id ys) (id ∷ y ∷ ys)) ≡ length (y ∷ ys) + 1) [ true ↦ omega (arith, put_length test id ys) | false ↦ omega arith ]
 
@@ -331,5 +331,10 @@ module _ {A : Type 0} (p : ContactPlan) (r : RouteRequest) (good : IsPlan p) (t 
     counted = omega (arith, count);
     longer = λ k. subst (λ (z : Node A). z.length < length s) (sym (ap (λ z. slice_index_or z node.0 k) (take_front (modify (widened wide found) t.nodes node.0) new N (sym (length-modify (widened wide found) t.nodes node.0)))
         ∙ get_or_from_slice_get (modify (widened wide found) t.nodes node.0) node.0 (widened wide found n) k (get_same (widened wide found) t.nodes node.0 n stands))) (cut p r t is node last n x stands carries).2.inside;
+    behind = λ id m.
+        let k : Member id (front t.queue) = subst (Member id) (keep_others ∙ filter_all (λ (id : NodeId). nat_lt id.0 N && not (nat_eq id.0 node.0)) (front t.queue) older) m in
+        let h = pair_across (IsAtOrBehind t.nodes) (front t.queue) (node ∷ []) id node (subst (InPairs (IsAtOrBehind t.nodes)) (queue_is p r t is node last) is.falls) k (inl refl) in
+        let P : Option RouteRecord × Option RouteRecord → Type 0 = λ w. IsNotBetter w.0 w.1 in
+        subst P (λ i. (sym (kept_route p r t is node last wide found new id (rest_within p r t is node last id k) (rest_other p r t is node last id k)) i, route_there t.nodes node n x stands carries i)) h;
     places = let e = ap (length {A = NodeId}) (keep_others ∙ filter_all (λ (id : NodeId). nat_lt id.0 N && not (nat_eq id.0 node.0)) (front t.queue) older) in omega (arith, e, few, is.short);
   }

@@ -5,6 +5,7 @@ pub mod Formed
 pub mod Owing
 pub mod Step
 pub mod Listing
+pub mod Waiting
 pub mod Shape
 pub mod Undo
 pub mod Queue

@@ -1,12 +1,14 @@
 -- What a tree is made of, and the state that it stands for.
 use Rattle.std.specs.Prelude.{ℕ, List, [], map, length, take, Option, Some, None, slice_get}
-use Rattle.std.specs.Option.{option_map, option_and_then}
+use Rattle.std.specs.Option.{option_map}
 use Rattle.sabr_model.specs.Record.{RouteRecord}
 use Rattle.sabr_frontier.specs.declared.tree.NodeId.{NodeId}
 use Rattle.sabr_frontier.specs.declared.tree.Node.{Node}
 use Rattle.sabr_frontier.specs.declared.tree.Entry.{Entry}
 use Rattle.sabr_frontier.specs.declared.tree.Tree.{Tree}
 use Rattle.sabr_frontier.specs.State.{PartState, State}
+use Rattle.sabr_frontier.specs.Waiting.{waiting}
+pub use Rattle.sabr_frontier.specs.Waiting.{route_of, route_at}
 
 -- a tree without its capacities
 pub record Shape (A : Type 0) : Type 0 where
@@ -18,7 +20,7 @@ pub record Shape (A : Type 0) : Type 0 where
   pub journal : List Entry
 
 abbrev pub shape_of : {A : Type 0} → Tree A → Shape A
-shape_of t = record { nodes = t.nodes.items; index = t.index.items; queue = t.queue.items; leaves = t.leaves.items; last = t.last; journal = t.journal.items }
+shape_of t = record { nodes = t.nodes.items; index = t.index.items; queue = waiting t.nodes.items t.queue; leaves = t.leaves.items; last = t.last; journal = t.journal.items }
 
 -- the first n numbers of a route
 abbrev pub front_of : Option RouteRecord → ℕ → List ℕ
@@ -54,10 +56,3 @@ given_at leaves (Some n) = contacts_in (slice_get leaves n)
 -- the state that a tree stands for
 abbrev pub shown : {A : Type 0} → Shape A → State
 shown t = record { emitted = length t.leaves; last = given_at t.leaves t.last; parts = map (part_at t.leaves t.nodes) t.index }
-
--- what a node carries
-abbrev pub route_of : {A : Type 0} → Node A → Option RouteRecord
-route_of n = n.route
-
-abbrev pub route_at : {A : Type 0} → List (Node A) → NodeId → Option RouteRecord
-route_at nodes id = option_and_then route_of (slice_get nodes id.0)

@@ -1,14 +1,15 @@
 -- What a tree is once its least carried route is given.
-use Rattle.std.specs.Prelude.{ℕ, ◌+◌, ◌-◌, zero, suc, Bool, false, List, [], ◌∷◌, ◌++◌, length, take, drop, Option, Some, None, slice_index, slice_get, if◌then◌else◌}
+use Rattle.std.specs.Prelude.{ℕ, ◌+◌, ◌-◌, zero, suc, Bool, List, [], ◌∷◌, ◌++◌, length, take, drop, Option, Some, None, slice_index, slice_get, if◌then◌else◌}
 use Rattle.std.specs.Ordering.{nat_cmp, is_lt}
 use Rattle.std.specs.Option.{option_and_then}
 use Rattle.sabr_model.specs.Order.{put_in, by_numbers}
 use Rattle.sabr_model.specs.Plan.{ContactPlan}
 use Rattle.sabr_model.specs.Arrival.{RouteRequest}
-use Rattle.sabr_model.specs.Record.{RouteRecord, by_record}
+use Rattle.sabr_model.specs.Record.{RouteRecord}
 use Rattle.sabr_frontier.specs.declared.tree.NodeId.{NodeId}
 use Rattle.sabr_frontier.specs.declared.tree.Node.{Node}
 use Rattle.sabr_frontier.specs.Shape.{Shape, part_at, route_at}
+pub use Rattle.sabr_frontier.specs.Waiting.{put_behind, beats, enqueued_by, enqueued}
 use Rattle.sabr_frontier.specs.Undo.{modify, last_item, front}
 use Rattle.sabr_frontier.specs.Best.{best_of}
 
@@ -24,11 +25,6 @@ abbrev pub passing : {X : Type 0} → (X → Bool) → List X → ℕ
 passing test [] = 0
 passing test (x ∷ xs) = if test x then suc (passing test xs) else 0
 
--- x behind those in front that pass the test
-abbrev pub put_behind : {X : Type 0} → (X → Bool) → X → List X → List X
-put_behind test x [] = x ∷ []
-put_behind test x (y ∷ ys) = if test y then y ∷ put_behind test x ys else x ∷ y ∷ ys
-
 -- with a block at a place
 abbrev pub with_block : {X : Type 0} → ℕ → List X → List X → List X
 with_block place block xs = take place xs ++ block ++ drop place xs
@@ -38,20 +34,6 @@ with_block place block xs = take place xs ++ block ++ drop place xs
 -- the node's prefix is below the list
 abbrev pub stands_before : {A : Type 0} → List RouteRecord → List (Node A) → List ℕ → NodeId → Bool
 stands_before leaves nodes q id = is_lt (by_numbers (part_at leaves nodes id).prefix q)
-
--- x is better than what is there
-abbrev pub beats : RouteRecord → Option RouteRecord → Bool
-beats x None = false
-beats x (Some y) = is_lt (by_record x y)
-
--- a node behind those whose routes are worse than x
-abbrev pub enqueued_by : {A : Type 0} → List (Node A) → NodeId → Option RouteRecord → List NodeId → List NodeId
-enqueued_by nodes id None ids = ids
-enqueued_by nodes id (Some x) ids = put_behind (λ y. beats x (route_at nodes y)) id ids
-
--- a node in its place, where it carries a route
-abbrev pub enqueued : {A : Type 0} → List (Node A) → NodeId → List NodeId → List NodeId
-enqueued nodes id ids = enqueued_by nodes id (route_at nodes id) ids
 
 -- each of these, one after another
 abbrev pub enqueued_all : {A : Type 0} → List (Node A) → List NodeId → List NodeId → List NodeId

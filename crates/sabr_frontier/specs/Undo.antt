@@ -6,11 +6,14 @@ use Rattle.sabr_frontier.specs.declared.tree.NodeId.{NodeId}
 use Rattle.sabr_frontier.specs.declared.tree.Node.{Node}
 use Rattle.sabr_frontier.specs.declared.tree.Entry.{Entry}
 use Rattle.sabr_frontier.specs.declared.tree.Tree.{Tree}
-use Rattle.sabr_frontier.specs.Shape.{Shape}
+use Rattle.sabr_frontier.specs.Shape.{Shape, route_at}
+use Rattle.sabr_frontier.specs.State.{Member}
+use Rattle.sabr_frontier.specs.Queue.{IsQueue, IsNotBetter}
 
--- the queue has places for every node
-abbrev pub IsRoomy : {A : Type 0} → Tree A → Type 0
-IsRoomy t = length t.nodes.items ≤ vec_capacity t.queue
+-- the queue is one of its nodes, and has places for every node
+pub record IsRoomy {A : Type 0} (t : Tree A) : Type 0 where
+  pub places : length t.nodes.items ≤ vec_capacity t.queue.placed
+  pub queue : IsQueue t.nodes.items t.queue
 
 -- f at one place
 abbrev pub modify : {X : Type 0} → (X → X) → List X → ℕ → List X
@@ -62,7 +65,7 @@ undone_times (suc n) t = undone_times n (undone t)
 abbrev pub IsLonger : {A : Type 0} → List (Node A) → ℕ → RouteRecord → Type 0
 IsLonger {A} nodes i r = (n : Node A) → (slice_index_or nodes i n).length < length r.contacts
 
--- what the undo reads is there, and the queue becomes no longer than the nodes
+-- what the undo reads is there, the queue becomes no longer than the nodes, and none of it is better than the route
 pub record CanUndo {A : Type 0} (t : Shape A) : Type 0 where
   pub entry : Entry
   pub route : RouteRecord
@@ -72,6 +75,7 @@ pub record CanUndo {A : Type 0} (t : Shape A) : Type 0 where
   pub counted : entry.nodes ≤ length t.nodes
   pub longer : IsLonger (take entry.nodes t.nodes) entry.node.0 route
   pub places : length (others entry t.queue) < entry.nodes
+  pub behind : (id : NodeId) → Member id (others entry t.queue) → IsNotBetter (route_at t.nodes id) (Some route)
 
 abbrev pub CanUndoTimes : {A : Type 0} → ℕ → Shape A → Type 0
 CanUndoTimes zero t = Unit {0}

@@ -11,6 +11,7 @@ ghost use Rattle.sabr_frontier.specs.Listing.{state_at};
 ghost use Rattle.sabr_frontier.specs.Shape.{shape_of, shown};
 ghost use Rattle.sabr_frontier.specs.Sound.{IsTree};
 ghost use Rattle.sabr_frontier.specs.Taking.{least_route};
+ghost use Rattle.sabr_frontier.specs.Undo.{IsRoomy};
 
 use crate::finder::ask;
 use crate::places::{carried, prefix};
@@ -55,9 +56,11 @@ impl<A: Allocator + Copy> Tree<A> {
 
     /// The least route that a node carries.
     fn next_carried(&self) -> Option<&Route<A>>
+        requires { IsRoomy self.now }
         ensures { option_copied result ≡ least_route (shape_of self.now) }
     {
-        carried(self.nodes.as_slice(), *self.queue.last()?)
+        let nodes = self.nodes.as_slice();
+        carried(nodes, self.queue.least(nodes)?)
     }
 
     /// Whether each part carries its least route: one search for each. It needs the memory of a search.
@@ -91,6 +94,7 @@ impl<A: Allocator + Copy> Tree<A> {
     ) -> Result<bool, NoMemory>
         requires plan { IsPlan plan.now.plan }
         requires tree { IsTree plan.now.plan request.now (shape_of self.now) }
+        requires room { IsRoomy self.now }
         ensures placed { IfOk result (λ yes. IsTrue yes ↔ (shown (shape_of self.now) ≡ state_at plan.now.plan request.now (shown (shape_of self.now)).emitted)) }
         ensures called { B.calls_of finder.new ≤ B.calls_of finder.old + length self.now.nodes.items }
     {

@@ -42,7 +42,7 @@ impl<A: Allocator + Copy> Tree<A> {
     {
         let mut searches = 0;
         for _ in 0..count {
-            if self.queue.is_empty() {
+            if self.is_empty() {
                 return Ok(searches);
             }
             searches += self.take(alloc, plan, request, finder, given)?;

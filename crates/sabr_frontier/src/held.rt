@@ -10,6 +10,7 @@ ghost use Rattle.sabr_frontier.specs.Holding.{HasPlaces, HasPlacesFor, IsLastPla
 use crate::excluded::Excluded;
 use crate::judge::{Judged, judge};
 use crate::places::{enqueue_each, insert_block};
+use crate::queue::Queue;
 use crate::tree::{Node, Tree};
 use sabr_model::{NoMemory, Numbers, Plan, Request, Route};
 use std::alloc::{Allocator, Global};
@@ -209,11 +210,12 @@ impl<A: Allocator + Copy> Held<A> {
         let Ok(mut index) = Vec::with_capacity(alloc, count) else {
             return Err(NoMemory);
         };
-        let Ok(mut queue) = Vec::with_capacity(alloc, count) else {
+        let mut queue = Queue::new(alloc);
+        let Ok(()) = queue.placed.reserve(count) else {
             return Err(NoMemory);
         };
         insert_block(&mut index, 0, 0, count);
-        enqueue_each(self.nodes.as_slice(), &mut queue);
+        enqueue_each(self.nodes.as_slice(), &mut queue.placed);
         Ok(Tree {
             nodes: self.nodes,
             index,

@@ -14,6 +14,7 @@ mod laws;
 mod load_fault;
 mod loader;
 mod places;
+mod queue;
 mod record;
 mod root;
 mod rows;

@@ -6,6 +6,7 @@ ghost use Rattle.sabr_frontier.specs.Shape.{shape_of};
 ghost use Rattle.sabr_frontier.specs.Undo.{IsRoomy};
 
 use crate::excluded::Excluded;
+use crate::queue::Queue;
 use crate::tree::{Node, NodeId, Tree};
 use sabr_model::{NoMemory, Route};
 use std::alloc::Allocator;
@@ -18,18 +19,18 @@ impl<A: Allocator + Copy> Tree<A> {
     {
         let mut nodes = Vec::new(alloc);
         let mut index = Vec::new(alloc);
-        let mut queue = Vec::new(alloc);
+        let mut queue = Queue::new(alloc);
         let Ok(()) = nodes.reserve(1) else {
             return Err(NoMemory);
         };
         let Ok(()) = index.reserve(1) else {
             return Err(NoMemory);
         };
-        let Ok(()) = queue.reserve(1) else {
+        let Ok(()) = queue.placed.reserve(1) else {
             return Err(NoMemory);
         };
         if found.is_some() {
-            queue.push_reserved(NodeId(0));
+            queue.placed.push_reserved(NodeId(0));
         }
         index.push_reserved(NodeId(0));
         nodes.push_reserved(Node {

@@ -122,7 +122,7 @@ impl<'p, B: BestOf<A>, A: Allocator + Copy> Session<'p, B, A> {
         ensures free { (count ≡ 0) ⊎ (next_route self.old.plan.plan self.old.request self.old.state ≡ None) → IsOk result }
     {
         let mut given = Vec::new(self.alloc);
-        if count == 0 || self.tree.queue.is_empty() {
+        if count == 0 || self.tree.is_empty() {
             self.searches = 0;
             return Ok(given);
         }
@@ -204,7 +204,7 @@ impl<'p, B: BestOf<A>, A: Allocator + Copy> Session<'p, B, A> {
     pub fn more(&self) -> bool
         ensures { result ≡ is_some (next_route self.now.plan.plan self.now.request self.now.state) }
     {
-        !self.tree.queue.is_empty()
+        !self.tree.is_empty()
     }
 
     /// The contact numbers of the last route given, none where none was.

@@ -68,7 +68,7 @@ impl<A: Allocator + Copy> Tree<A> {
     ) -> Result<u64, NoMemory>
         requires plan { IsPlan plan.now.plan }
         requires tree { IsTree plan.now.plan request.now (shape_of self.old) }
-        requires waiting { 0 < vec_len self.old.queue }
+        requires waiting { 0 < length (shape_of self.old).queue }
         requires room { IsRoomy self.old }
         ensures ok { OnOk result (shape_of self.new ≡ taken plan.now.plan request.now (shape_of self.old)) }
         ensures given { OnOk result (IfSome (least_route (shape_of self.old)) (λ x. given.new.items ≡ given.old.items ++ x ∷ [])) }
@@ -77,10 +77,9 @@ impl<A: Allocator + Copy> Tree<A> {
         ensures err { OnErr result (shape_of self.new ≡ shape_of self.old) }
         ensures room { IsRoomy self.new }
     {
-        let Some(last) = self.queue.last() else {
+        let Some(node) = self.queue.least(self.nodes.as_slice()) else {
             unreachable!()
         };
-        let node = *last;
         let prepared = self.prepare(alloc, node)?;
         let Ok(()) = given.reserve(1) else {
             return Err(NoMemory);

@@ -1,6 +1,7 @@
 //! The parts of a listing as nodes in one vector, with the routes given and a journal of the changes.
 
 use crate::excluded::Excluded;
+use crate::queue::Queue;
 use sabr_model::Route;
 use std::alloc::{Allocator, Global};
 
@@ -26,13 +27,13 @@ pub struct Entry {
     pub last: Option<usize>,
 }
 
-/// The nodes; their numbers in order of prefix; those that carry a route, the least route last; the routes
+/// The nodes; their numbers in order of prefix; those that carry a route, in order; the routes
 /// given; the last of them; and an entry for each route that can be taken back.
 #[derive(Debug, Drop)]
 pub struct Tree<A: Allocator + Copy = Global> {
     pub nodes: Vec<Node<A>, A>,
     pub index: Vec<NodeId, A>,
-    pub queue: Vec<NodeId, A>,
+    pub queue: Queue<A>,
     pub leaves: Vec<Route<A>, A>,
     pub last: Option<usize>,
     pub journal: Vec<Entry, A>,

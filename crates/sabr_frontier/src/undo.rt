@@ -17,14 +17,6 @@ fn keep_below<A: Allocator + Copy>(ids: &mut Vec<NodeId, A>, count: usize)
     ids.retain(|id| id.0 < count);
 }
 
-// Only the nodes below a number stay, and a node goes.
-fn keep_others<A: Allocator + Copy>(ids: &mut Vec<NodeId, A>, count: usize, node: NodeId)
-    ensures items { ids.new.items ≡ filter (λ id. nat_lt id.0 count && not (nat_eq id.0 node.0)) ids.old.items }
-    ensures capacity { vec_capacity ids.new ≡ vec_capacity ids.old }
-{
-    ids.retain(|id| id.0 < count && !(id.0 == node.0));
-}
-
 // The node stands last, in a place that is kept.
 fn put_back<A: Allocator + Copy>(ids: &mut Vec<NodeId, A>, node: NodeId)
     requires { vec_len ids.old < vec_capacity ids.old }
@@ -63,8 +55,8 @@ impl<A: Allocator + Copy> Tree<A> {
         self.nodes.truncate(entry.nodes);
         give_back(&mut self.nodes, entry.node, route);
         keep_below(&mut self.index, entry.nodes);
-        keep_others(&mut self.queue, entry.nodes, entry.node);
-        put_back(&mut self.queue, entry.node);
+        self.queue.keep_others(entry.nodes, entry.node);
+        put_back(&mut self.queue.placed, entry.node);
         self.last = entry.last;
     }
 

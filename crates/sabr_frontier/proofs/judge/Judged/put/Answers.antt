@@ -1,10 +1,9 @@
-use Rattle.std.proofs.Common.{◌≡◌, ◌∷◌, ◌++◌, [], true, false, map, sym, ap, ◌∙◌, true≢false, Some}
+use Rattle.std.proofs.Common.{◌∷◌, ◌++◌, [], map, sym, ap, ◌∙◌, true≢false, Some}
 use Rattle.sabr_model.specs.Record.{record_of}
 use Rattle.sabr_model.proofs.Faults.{fault_is_no_route}
 use Rattle.sabr_model.proofs.Follows.{some_behind}
 use Rattle.sabr_model.proofs.Paths.{route_is_path}
 use Rattle.sabr_search.proofs.FaultsOfPrefixes.{wrong_end_is_path}
-use Rattle.sabr_frontier.specs.Holding.{onward_of, routes_of}
 use Rattle.sabr_frontier.proofs.Fronts.{nil_right}
 use Rattle.sabr_frontier.proofs.Judges.{fault_is_no_path, no_route_alone, onward_alone}
 use Rattle.sabr_frontier.proofs.judge.Judged.put.Goals as goal

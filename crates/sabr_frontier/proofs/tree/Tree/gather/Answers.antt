@@ -19,19 +19,19 @@ loop-init g c = record {
 pub returns-then-is_empty-clause-routes : goal.returns-then-is_empty-clause-routes
 returns-then-is_empty-clause-routes g c =
     let none = none_there _ _ c.is_empty.ensures c.if-is_empty.true in
-    let empty : length c.loop.self.queue.items ≡ 0 = omega (arith, none) in
+    let empty : length (shape_of c.loop.self).queue ≡ 0 = none in
     (at_end c.args.plan.now.plan c.args.request.now c.requires.plan (shown (shape_of c.args.self.now)) c.args.count (shape_of c.args.self.now) c.args.given.now.items (c.args.count - c.loop.counter) (shape_of c.loop.self) c.loop.given.items empty c.loop.invariant.way).routes
 
 pub returns-then-is_empty-clause-state : goal.returns-then-is_empty-clause-state
 returns-then-is_empty-clause-state g c =
     let none = none_there _ _ c.is_empty.ensures c.if-is_empty.true in
-    let empty : length c.loop.self.queue.items ≡ 0 = omega (arith, none) in
+    let empty : length (shape_of c.loop.self).queue ≡ 0 = none in
     (at_end c.args.plan.now.plan c.args.request.now c.requires.plan (shown (shape_of c.args.self.now)) c.args.count (shape_of c.args.self.now) c.args.given.now.items (c.args.count - c.loop.counter) (shape_of c.loop.self) c.loop.given.items empty c.loop.invariant.way).state
 
 pub returns-then-is_empty-clause-entries : goal.returns-then-is_empty-clause-entries
 returns-then-is_empty-clause-entries g c =
     let none = none_there _ _ c.is_empty.ensures c.if-is_empty.true in
-    let empty : length c.loop.self.queue.items ≡ 0 = omega (arith, none) in
+    let empty : length (shape_of c.loop.self).queue ≡ 0 = none in
     (at_end c.args.plan.now.plan c.args.request.now c.requires.plan (shown (shape_of c.args.self.now)) c.args.count (shape_of c.args.self.now) c.args.given.now.items (c.args.count - c.loop.counter) (shape_of c.loop.self) c.loop.given.items empty c.loop.invariant.way).entries
 
 pub take-requires-clause-tree : goal.take-requires-clause-tree
@@ -43,7 +43,7 @@ overflow_add-searches g c =
     let r = c.args.request.now in
     let t = shape_of c.loop.self in
     let some = some_there _ _ c.is_empty.ensures c.if-is_empty.false in
-    let there : 0 < length t.queue = omega (arith, some) in
+    let there : 0 < length t.queue = some in
     let step = is_given p r c.requires.plan t (sound_tree p r (length t.journal) t c.loop.invariant.way.sound) there in
     omega (arith, step.few, c.in_ok-searches.ensures.count, c.loop.invariant.few, c.requires.hops, c.requires.count, c.loop-test.true)
 
@@ -55,7 +55,7 @@ loop-preserved g c =
     let first = shape_of c.args.self.now in
     let before = c.args.given.now.items in
     let some = some_there _ _ c.is_empty.ensures c.if-is_empty.false in
-    let there : 0 < length t.queue = omega (arith, some) in
+    let there : 0 < length t.queue = some in
     let step = is_given p r c.requires.plan t (sound_tree p r (length t.journal) t c.loop.invariant.way.sound) there in
     let left : c.args.count - c.loop.counter ≡ suc (c.args.count - (c.loop.counter + 1)) = omega (arith, c.loop-test.true) in
     let given : c.take.new.given.items ≡ c.loop.given.items ++ step.route ∷ [] = subst (λ (o : Option RouteRecord). IfSome o (λ x. c.take.new.given.items ≡ c.loop.given.items ++ x ∷ [])) step.least c.in_ok-searches.ensures.given in
@@ -89,7 +89,7 @@ returns-clause-entries g c =
 pub returns-then-is_empty-clause-searches : goal.returns-then-is_empty-clause-searches
 returns-then-is_empty-clause-searches g c =
     let none = none_there _ _ c.is_empty.ensures c.if-is_empty.true in
-    let empty : length c.loop.self.queue.items ≡ 0 = omega (arith, none) in
+    let empty : length (shape_of c.loop.self).queue ≡ 0 = none in
     let still = counts_idle c.args.plan.now.plan c.args.request.now c.requires.plan (shape_of c.loop.self) c.loop.invariant.way.sound (c.args.count - c.loop.counter) (inr empty) in
     omega (arith, still, c.loop.invariant.sum)
 
