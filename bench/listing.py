@@ -97,8 +97,7 @@ def main():
         for agree, row in listed(path, ends, given, programs, widths):
             rows.append(row)
             all_agree = all_agree and agree
-    machine.end()
-    measure.write_figures(given.json, machine, programs, rows)
+    measure.end(given, machine, rows, programs)
     sys.exit(0 if all_agree else 1)
 
 

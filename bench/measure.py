@@ -10,7 +10,6 @@ import threading
 import time
 
 TOP = os.path.dirname(os.path.dirname(os.path.abspath(__file__)))
-BUILT = os.path.join(TOP, "crates", "cgrlist", "out", "cgrlist")
 GNU_TIME = "/usr/bin/time"
 
 
@@ -186,12 +185,22 @@ def print_head(heads):
     return widths
 
 
-def add_words(words):
-    words.add_argument("program", nargs="?", default=BUILT, help="with further words, if any; else the built one")
-    words.add_argument("--beside", metavar="PATH", help="a second program, with further words, if any")
+def built(crate):
+    """The program that `rt run` builds in a crate's folder."""
+    return os.path.join(TOP, "crates", crate, "out", crate)
+
+
+def add_run_words(words):
+    """The words that say how the runs are timed."""
     words.add_argument("--repeats", type=int, default=5, help="how often each run is timed; the best is told")
     words.add_argument("--most-seconds", type=float, default=60, help="a longer run is stopped")
     words.add_argument("--json", metavar="FILE", help="writes all figures to this file, too")
+
+
+def add_words(words):
+    words.add_argument("program", nargs="?", default=built("cgrlist"), help="with further words, if any; else the built one")
+    words.add_argument("--beside", metavar="PATH", help="a second program, with further words, if any")
+    add_run_words(words)
 
 
 def programs_of(given):
@@ -202,10 +211,12 @@ def programs_of(given):
     return programs
 
 
-def write_figures(path, machine, programs, rows):
-    if path is None:
+def end(given, machine, rows, programs=()):
+    """Tells how busy the machine was in the end, and writes the figures where they are asked for."""
+    machine.end()
+    if given.json is None:
         return
     told = {"machine": machine.told, "programs": {program.name: program.words([]) for program in programs}, "rows": rows}
-    with open(path, "w", encoding="ascii") as file:
+    with open(given.json, "w", encoding="ascii") as file:
         json.dump(told, file, indent=1)
         file.write("\n")

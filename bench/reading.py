@@ -43,8 +43,7 @@ def main():
         mine = nanoseconds_a_byte(figures[programs[0].name], size, machine.told["start_seconds"])
         measure.print_row([name, size, *measure.cells(programs, figures), mine if agree else "DIFFERENT"], widths)
         rows.append({"plan": name, "bytes": size, **{who: one.told() for who, one in figures.items()}})
-    machine.end()
-    measure.write_figures(given.json, machine, programs, rows)
+    measure.end(given, machine, rows, programs)
     sys.exit(0 if all_agree else 1)
 
 

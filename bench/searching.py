@@ -10,7 +10,6 @@ PROGRAM is crates/search_bench/out/search_bench where it isn't given. The nodes 
 a contact's record. Status 1: a run failed, or two finders gave pages of different length.
 """
 import argparse
-import json
 import os
 import re
 import subprocess
@@ -19,7 +18,7 @@ import sys
 import listing
 import measure
 
-BUILT = os.path.join(measure.TOP, "crates", "search_bench", "out", "search_bench")
+BUILT = measure.built("search_bench")
 TOLD = re.compile(r"first (\d+) ns (\d+) looks, page (\d+) ns, its searches (\d+) ns (\d+) looks")
 TIMES = ("first_ns", "page_ns", "searches_ns")
 
@@ -79,9 +78,7 @@ def read_words():
     listing.add_questions(words)
     words.add_argument("--count", type=int, default=100, help="how many routes the page has")
     words.add_argument("--finders", type=lambda text: text.split(","), default=["layered", "settled"])
-    words.add_argument("--repeats", type=int, default=5, help="how often each run is timed; the best is told")
-    words.add_argument("--most-seconds", type=float, default=60, help="a longer run is stopped")
-    words.add_argument("--json", metavar="FILE", help="writes all figures to this file, too")
+    measure.add_run_words(words)
     return words.parse_args()
 
 
@@ -101,11 +98,7 @@ def main():
         figures = [cell for one in row.values() for cell in cells(one)]
         measure.print_row([name, told["routes"], told["searches"], *figures], widths)
         rows.append({"plan": name, **row})
-    machine.end()
-    if given.json is not None:
-        with open(given.json, "w", encoding="ascii") as file:
-            json.dump({"machine": machine.told, "rows": rows}, file, indent=1)
-            file.write("\n")
+    measure.end(given, machine, rows)
     sys.exit(0 if all_good else 1)
 
 

@@ -10,7 +10,6 @@ line `# ask FROM TO TIME`, of --from, --to and --at, or of a file of questions: 
 failed, a text was read as another number of routes, or one wasn't verified.
 """
 import argparse
-import json
 import os
 import re
 import subprocess
@@ -21,7 +20,7 @@ import listing
 import measure
 import plans
 
-BUILT = os.path.join(measure.TOP, "crates", "session_bench", "out", "session_bench")
+BUILT = measure.built("session_bench")
 COUNTS = [10, 1000, 10000]
 NANOSECONDS = re.compile(r"(listing|writing|reading|verifying) (\d+) ns")
 
@@ -83,9 +82,7 @@ def read_words():
     words.add_argument("program", nargs="?", default=BUILT)
     listing.add_questions(words)
     words.add_argument("--counts", type=plans.numbers, default=COUNTS, help="joined by commas")
-    words.add_argument("--repeats", type=int, default=5, help="how often each run is timed; the best is told")
-    words.add_argument("--most-seconds", type=float, default=60, help="a longer run is stopped")
-    words.add_argument("--json", metavar="FILE", help="writes all figures to this file, too")
+    measure.add_run_words(words)
     return words.parse_args()
 
 
@@ -104,11 +101,7 @@ def main():
                 name = os.path.splitext(os.path.basename(path))[0]
                 measure.print_row([name, count, *cells(told)], widths)
                 rows.append({"plan": name, "count": count, "told": told})
-    machine.end()
-    if given.json is not None:
-        with open(given.json, "w", encoding="ascii") as file:
-            json.dump({"machine": machine.told, "rows": rows}, file, indent=1)
-            file.write("\n")
+    measure.end(given, machine, rows)
     sys.exit(1 if any(row["told"] == "failed" for row in rows) else 0)
 
 
