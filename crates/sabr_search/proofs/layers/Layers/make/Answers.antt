@@ -1,4 +1,5 @@
-use Rattle.std.proofs.Common.{◌≡◌, ◌+◌, ◌++◌, [], ◌∷◌, inl, inr, length, slice_index, ap, ◌∙◌, refl, arith}
+use Rattle.std.proofs.Common.{◌≡◌, ◌≤◌, ◌+◌, ◌*◌, ◌++◌, [], ◌∷◌, inl, inr, length, slice_index, ap, ◌∙◌, refl, arith}
+use Rattle.std.proofs.Math.Nat.{mul-le-mul_right}
 use Rattle.sabr_search.specs.Made.{AreLayers}
 use Rattle.sabr_search.proofs.Between.{read_at}
 use Rattle.sabr_search.proofs.MadeLayers.{layers_next, least_within, least_of_all, sources_of, index_before}
@@ -53,3 +54,39 @@ loop-hop-preserved g c =
 
 pub returns-clause-least : goal.returns-clause-least
 returns-clause-least g c = λ ns e le way. least_within c.args.task.now c.requires.task c.args.limits.ceiling c.loop-hop.hop _ _ _ _ _ c.loop-hop.invariant.layers ns e (omega arith) way
+
+pub next_layer-requires-clause-few : goal.next_layer-requires-clause-few
+next_layer-requires-clause-few g c =
+    let contacts = length c.args.task.now.plan.contacts in
+    let more : (c.loop-hop.hop + 1) * contacts ≤ c.args.limits.hops * contacts = mul-le-mul_right contacts (omega arith) in
+    omega (arith, c.requires.few, c.loop-hop.invariant.counted, more)
+
+pub returns-in_err-delivery-clause-looks : goal.returns-in_err-delivery-clause-looks
+returns-in_err-delivery-clause-looks g c =
+    let contacts = length c.args.task.now.plan.contacts in
+    let more : (c.loop-hop.hop + 1) * contacts ≤ c.args.limits.hops * contacts = mul-le-mul_right contacts (omega arith) in
+    omega (arith, c.next_layer.ensures.looks, c.loop-hop.invariant.counted, more)
+
+pub returns-in_err-push-clause-looks : goal.returns-in_err-push-clause-looks
+returns-in_err-push-clause-looks g c =
+    let contacts = length c.args.task.now.plan.contacts in
+    let more : (c.loop-hop.hop + 1) * contacts ≤ c.args.limits.hops * contacts = mul-le-mul_right contacts (omega arith) in
+    omega (arith, c.next_layer.ensures.looks, c.loop-hop.invariant.counted, more)
+
+pub returns-then-best-limits-clause-looks : goal.returns-then-best-limits-clause-looks
+returns-then-best-limits-clause-looks g c =
+    let contacts = length c.args.task.now.plan.contacts in
+    let more : (c.loop-hop.hop + 1) * contacts ≤ c.args.limits.hops * contacts = mul-le-mul_right contacts (omega arith) in
+    omega (arith, c.next_layer.ensures.looks, c.loop-hop.invariant.counted, more)
+
+pub returns-then-end-begin-clause-looks : goal.returns-then-end-begin-clause-looks
+returns-then-end-begin-clause-looks g c =
+    let contacts = length c.args.task.now.plan.contacts in
+    let more : (c.loop-hop.hop + 1) * contacts ≤ c.args.limits.hops * contacts = mul-le-mul_right contacts (omega arith) in
+    omega (arith, c.next_layer.ensures.looks, c.loop-hop.invariant.counted, more)
+
+pub returns-clause-looks : goal.returns-clause-looks
+returns-clause-looks g c =
+    let contacts = length c.args.task.now.plan.contacts in
+    let more : c.loop-hop.hop * contacts ≤ c.args.limits.hops * contacts = mul-le-mul_right contacts (omega arith) in
+    omega (arith, c.loop-hop.invariant.counted, more)
