@@ -50,3 +50,21 @@ pub returns-clause-picked : goal.returns-clause-picked
 returns-clause-picked g c =
     let so_far = c.loop-hop.invariant.chosen in
     (so_far.0, so_far.1, front_all c.args.task.now c.args.best c.loop-hop.hop so_far.0 c.loop-hop.from.node c.loop-hop.from.at so_far.2 (omega arith) c.requires.least)
+
+pub least_step-requires-clause-few : goal.least_step-requires-clause-few
+least_step-requires-clause-few g c =
+    let task = c.args.task.now in
+    let more : (c.loop-hop.hop + 1) * length task.plan.contacts ≤ c.args.best.hops * length task.plan.contacts = mul-le-mul_right (length task.plan.contacts) (omega arith) in
+    omega (arith, c.requires.few, c.loop-hop.invariant.counted, degree_at_most task c.loop-hop.from.node, more)
+
+pub returns-in_err-least-clause-looks : goal.returns-in_err-least-clause-looks
+returns-in_err-least-clause-looks g c =
+    let task = c.args.task.now in
+    let more : (c.loop-hop.hop + 1) * length task.plan.contacts ≤ c.args.best.hops * length task.plan.contacts = mul-le-mul_right (length task.plan.contacts) (omega arith) in
+    omega (arith, c.least_step.ensures.looks, c.loop-hop.invariant.counted, degree_at_most task c.loop-hop.from.node, more)
+
+pub returns-clause-looks : goal.returns-clause-looks
+returns-clause-looks g c =
+    let contacts = length c.args.task.now.plan.contacts in
+    let more : c.loop-hop.hop * contacts ≤ c.args.best.hops * contacts = mul-le-mul_right contacts (omega arith) in
+    omega (arith, c.loop-hop.invariant.counted, more)
