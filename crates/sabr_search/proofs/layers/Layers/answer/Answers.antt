@@ -39,3 +39,16 @@ returns-clause-stopped g c = λ le.
     let fewer : (c.in_ok-best.best.hops - 1) * contacts ≤ c.in_ok-best.best.hops * contacts = mul-le-mul_right contacts (omega arith) in
     let kept : length c.record.result.contacts ≡ length c.in_ok-contacts.contacts.items = rw c.record.ensures.value refl in
     rw hops (omega (arith, c.in_ok-best.ensures.stopped by, c.set_deadlines.ensures.looks, c.in_ok-contacts.ensures.looks, c.record.ensures.looks, fewer, kept))
+
+pub set_deadlines-requires-clause-few : goal.set_deadlines-requires-clause-few
+set_deadlines-requires-clause-few g c =
+    let contacts = length c.args.task.now.plan.contacts in
+    let within : c.in_ok-best.best.hops * contacts ≤ c.args.limits.hops * contacts = mul-le-mul_right contacts (omega (arith, c.in_ok-best.ensures.within)) in
+    omega (arith, c.requires.few, c.make.ensures.looks, within)
+
+pub pick-requires-clause-few : goal.pick-requires-clause-few
+pick-requires-clause-few g c =
+    let contacts = length c.args.task.now.plan.contacts in
+    let within : c.in_ok-best.best.hops * contacts ≤ c.args.limits.hops * contacts = mul-le-mul_right contacts (omega (arith, c.in_ok-best.ensures.within)) in
+    let fewer : (c.in_ok-best.best.hops - 1) * contacts ≤ c.in_ok-best.best.hops * contacts = mul-le-mul_right contacts (omega arith) in
+    omega (arith, c.requires.few, c.make.ensures.looks, c.set_deadlines.ensures.looks, within, fewer)
