@@ -15,7 +15,7 @@ use Rattle.sabr_model.proofs.Members.{all_in}
 use Rattle.sabr_model.proofs.Listed.{named_is}
 use Rattle.std.specs.Prelude.{IsTrue}
 use Rattle.std.proofs.lemmas.Bool.{ne_eqb}
-use Rattle.std.proofs.lemmas.List.{take_all, drop_all, append-nil}
+use Rattle.std.proofs.lemmas.List.{take_all, take_more, drop_all, append-nil}
 use Rattle.sabr_model.specs.declared.fault.HopFault.TheVariants.{WrongEnd}
 use Rattle.sabr_model.proofs.Faults.{good_is_hop, good_is_path, path_is_good}
 use Rattle.sabr_model.proofs.Prefixes.{empty_is_path}
@@ -48,6 +48,13 @@ any_at test s i lt = rw (drop-cons s i 0, add-one) refl
 
 pub received_behind : (p : ContactPlan) (node : ℕ) (s : List ℕ) (i : ℕ) → i < length s → has node (receivers p s) ≡ list_any (receives p node) (drop i s) → receives p node (get_or s i 0) ≡ false → has node (receivers p s) ≡ list_any (receives p node) (drop (i + 1) s)
 received_behind p node s i lt e h = e ∙ any_at (receives p node) s i lt ∙ ap (λ b. b || list_any (receives p node) (drop (i + 1) s)) h
+
+-- the first fault behind a hop without one
+pub first_fault_on : (p : ContactPlan) (r : RouteRequest) (s : List ℕ) (i : ℕ) → i < length s → fault_at p r (take i s) (get_or s i 0) ≡ None → first_fault p r (take i s) (drop i s) ≡ first_fault p r (take (i + 1) s) (drop (i + 1) s)
+first_fault_on p r s i lt none =
+    let behind : drop i s ≡ get_or s i 0 ∷ drop (i + 1) s = rw (drop-cons s i 0, add-one) refl in
+    ap (first_fault p r (take i s)) behind ∙ ap (λ o. fault_or o (first_fault p r (take i s ++ get_or s i 0 ∷ []) (drop (i + 1) s))) none
+    ∙ ap (λ q. first_fault p r q (drop (i + 1) s)) (sym (take_more s i 0 lt))
 
 -- the first fault of two lists one behind the other
 first_fault-append : (p : ContactPlan) (r : RouteRequest) (q s t : List ℕ) → first_fault p r q (s ++ t) ≡ fault_or (first_fault p r q s) (first_fault p r (q ++ s) t)

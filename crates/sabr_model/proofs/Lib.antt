@@ -8,7 +8,6 @@ pub mod Listed
 pub mod Answered
 pub mod Has
 pub mod Numbered
-pub mod StartLemmas
 pub mod Apart
 pub mod Candidates
 pub mod RoutesListed
@@ -17,9 +16,9 @@ pub mod Without
 pub mod Deletions
 pub mod RangeLemmas
 pub mod Tabled
+pub mod TableSteps
 pub mod RangeKeys
 pub mod Gathers
-pub mod TablesMade
 pub mod GatheredOpenings
 pub mod ReadyLemmas
 pub mod Stretches
@@ -27,7 +26,6 @@ pub mod Different
 pub mod LinkLemmas
 pub mod Chains
 pub mod SenderLemmas
-pub mod Openings
 pub mod PlanLemmas
 pub mod Rises
 mod CountWalks
@@ -37,5 +35,5 @@ pub mod Prefixes
 pub mod Least
 pub mod Faults
 pub mod Follows
+pub mod Marks
 pub mod RowPlans
-pub mod PlacedKeys

@@ -1,6 +1,6 @@
 -- The links that lead to a node: each from its sender, all that there are, and no more passes than the node receives contacts.
-use Rattle.std.proofs.Common.{◌≡◌, ℕ, zero, suc, ◌+◌, ◌-◌, ◌<◌, ◌≤◌, Bool, true, false, cond, eqb, List, [], ◌∷◌, ◌++◌, length, map, take, drop, refl, sym, ap, subst, ◌∙◌, inl, inr, arith, length-append}
-use Rattle.std.specs.Prelude.{◌⊎◌, slice_get, Some, Option, nat_eq, unwrap_or}
+use Rattle.std.proofs.Common.{◌≡◌, ℕ, zero, suc, ◌+◌, ◌-◌, ◌<◌, ◌≤◌, true, false, cond, eqb, List, [], ◌∷◌, ◌++◌, length, map, refl, sym, ap, subst, ◌∙◌, inl, inr, arith, length-append}
+use Rattle.std.specs.Prelude.{slice_get, Some, Option, nat_eq, unwrap_or}
 use Rattle.std.specs.List.{sum_by, flat_map, filter, find, position}
 use Rattle.std.specs.Option.{option_map, option_map_or}
 use Rattle.std.specs.Cmp.{nat_eq_equiv}
@@ -10,19 +10,17 @@ use Rattle.std.proofs.lemmas.List.Folds.{list_any-append}
 use Rattle.std.proofs.lemmas.List.Sums.{sum_by-cons}
 use Rattle.std.proofs.lemmas.List.{length-map}
 use Rattle.std.proofs.lemmas.Map.Made.{length-le_from_is_member}
-use Rattle.std.proofs.lemmas.Option.{none-some, same_Some, slice_get-map, slice_get_within, slice_get_cases}
+use Rattle.std.proofs.lemmas.Option.{same_Some, slice_get-map, slice_get_within, slice_get_cases}
 use Rattle.sabr_model.specs.declared.contact.Contact.{Contact}
 use Rattle.sabr_model.specs.declared.link.Pass.{Pass}
 use Rattle.sabr_model.specs.declared.link.Link.{Link}
 use Rattle.sabr_model.specs.declared.plan.linked.NodeLinks.{NodeLinks}
 use Rattle.sabr_model.specs.declared.plan.linked.senders.Incoming.{Incoming}
 use Rattle.sabr_model.specs.Plan.{TabledPlan, contact_named, has, are_different}
-use Rattle.sabr_model.specs.Table.{ends_of}
 use Rattle.sabr_model.specs.Tabled.{IsTabled}
-use Rattle.sabr_model.specs.Light.{light_of}
 use Rattle.sabr_model.specs.Links.{IsPassOf, IsLinkOf, AreLinksOf, numbers_of, received_by, SentLink, IsLinkTo, AreLinksTo}
 use Rattle.sabr_model.specs.Linking.{AreLinked}
-use Rattle.sabr_model.specs.Incoming.{passes_over, passes_at, passes_named, links_named, LieOver, AllLieOver, HasLink, HaveReceivers, AreIncoming}
+use Rattle.sabr_model.specs.Incoming.{passes_over, passes_at, passes_named, links_named, AllLieOver, HasLink, HaveReceivers, AreIncoming}
 use Rattle.sabr_model.proofs.Different.{different_append, part_at, part_has, pass_of_number, number_once, numbers_part}
 use Rattle.sabr_model.proofs.Listed.{distinct_from_different}
 use Rattle.sabr_model.proofs.Tabled.{index_tells, index_of_member, place_one}

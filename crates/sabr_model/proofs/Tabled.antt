@@ -1,11 +1,9 @@
 -- What a plan shows of its table of nodes.
-use Rattle.std.proofs.Common.{◌≡◌, ℕ, zero, suc, ◌^◌, ◌<◌, ◌≤◌, Bool, true, false, cond, ◌||◌, not, eqb, ltb, List, [], ◌∷◌, length, get_or, map, refl, sym, ap, subst, ◌∙◌, inl, inr, arith}
-use Rattle.std.specs.Prelude.{nat_eq, slice_get, MatchOption, unwrap_or}
+use Rattle.std.proofs.Common.{◌≡◌, ℕ, zero, suc, ◌<◌, Bool, true, false, cond, ◌||◌, not, eqb, ltb, List, [], ◌∷◌, length, get_or, map, refl, sym, ap, subst, ◌∙◌, inl, inr, arith}
+use Rattle.std.specs.Prelude.{nat_eq, slice_get, MatchOption, unwrap_or, Vec}
 use Rattle.std.specs.List.{filter, find, list_any, position, position_or_len, AllByRecursion, IsDistinct}
-use Rattle.std.specs.List.Sorted.{IsNonDecreasingBy}
 use Rattle.std.specs.Map.{keys_of}
-use Rattle.std.specs.Option.{option_map_or}
-use Rattle.std.proofs.lemmas.Bool.{and_from, and_parts, not-true, or_cases, or_left, or_right, not_from_false, ltb-false, ne_eqb, eqb-true, eq-eqb, both_ways, false_from_ne_true}
+use Rattle.std.proofs.lemmas.Bool.{and_from, and_parts, not-true, or_cases, or_left, or_right, or_parts, or_from, not_from_false, ltb-false, ne_eqb, eqb-true, eq-eqb, both_ways, false_from_ne_true}
 use Rattle.std.proofs.lemmas.List.Folds.{find_at}
 use Rattle.std.proofs.lemmas.List.Quantifiers.{position-Some}
 use Rattle.std.proofs.lemmas.Option.{slice_get-get_or, slice_get_past}
@@ -13,14 +11,14 @@ use Rattle.std.specs.declared.option.Option.{Option}
 use Rattle.std.specs.declared.option.Option.TheVariants.{Some, None}
 use Rattle.indexmap.specs.IndexMap.{IndexMap, keys}
 use Rattle.sabr_model.specs.declared.contact.Contact.{Contact}
-use Rattle.sabr_model.specs.declared.sent.Sent.{Sent}
-use Rattle.sabr_model.specs.Plan.{ContactPlan, IsPlan, IsPair, has, are_different, rises_above}
-use Rattle.sabr_model.specs.Table.{sent_by, start_key, key_named, IsStartList, IsTableOf}
-use Rattle.sabr_model.specs.Tabled.{IsTabled, IsOpenList, start_named}
+use Rattle.sabr_model.specs.Plan.{ContactPlan, IsPlan, has, are_different, rises_above}
+use Rattle.sabr_model.specs.Table.{sent_by, IsTableOf}
+use Rattle.sabr_model.specs.Tabled.{IsTabled}
+use Rattle.sabr_model.specs.Linking.{AreSent}
 use Rattle.sabr_model.proofs.Members.{in_from_Contains, Contains-from_in}
 use Rattle.sabr_model.proofs.Listed.{in_from_has, has_from_in}
 use Rattle.sabr_model.proofs.Deletions.{all_found, found_passes}
-use Rattle.sabr_model.proofs.Has.{eqb_flip, has_at}
+use Rattle.sabr_model.proofs.Has.{eqb_flip}
 use Rattle.sabr_model.proofs.TableLemmas.{has_node}
 use Rattle.sabr_model.proofs.Without.{all_above}
 
@@ -36,7 +34,7 @@ different_from_distinct [] d = refl
 different_from_distinct (x ∷ xs) d = and_from (not (has x xs)) (are_different xs) (not_from_false (has x xs) (none_equal x xs d.0)) (different_from_distinct xs d.1)
 
 -- a plan shows its table of nodes
-pub is_tabled : {S A : Type 0} (p : ContactPlan) (table : IndexMap ℕ (Sent A) S) → IsTableOf p.contacts table → IsTabled (record { plan = p; table = keys table })
+pub is_tabled : {S A : Type 0} (p : ContactPlan) (table : IndexMap ℕ (Vec ℕ A) S) → IsTableOf p.contacts table → IsTabled (record { plan = p; table = keys table })
 is_tabled p table h = record { nodes = λ q. has_node p.contacts table q h; once = different_from_distinct (keys_of table.entries) h.unique }
 
 -- ---- the place of a node
@@ -112,33 +110,52 @@ number_sent (x ∷ cs) n c found =
           ]
     ] refl found
 
--- keys that do not fall have starts that do not
-starts_not_fall : (s t u v : ℕ) → v < 2 ^ 64 → start_key s t ≤ start_key u v → s ≤ u
-starts_not_fall s t u v lt le = omega (arith, lt, le)
+-- a number below all is not among them
+below_all : (n : ℕ) (cs : List Contact) → AllByRecursion (λ d. n < d.number) cs → has n (map (λ d. d.number) cs) ≡ false
+below_all n [] all = refl
+below_all n (c ∷ cs) all = or_from (eqb n c.number) (has n (map (λ d. d.number) cs)) (ne_eqb n c.number (λ e. let lt : n < c.number = all.0 in omega (arith, e, lt))) (below_all n cs all.1)
 
--- the starts of a list by start do not fall
-starts_rise : (p : ContactPlan) (q : ℕ) (ys : List ℕ) → IsPlan p → IsStartList p.contacts q ys → IsNonDecreasingBy (start_named p) ys
-starts_rise p q ys h l i j d le lt =
-    let a = sent_number 0 p.contacts q (get_or ys i d) h.numbers_rise (sym (l.members (get_or ys i d)) ∙ has_at ys i d (omega arith)) in
-    let b = sent_number 0 p.contacts q (get_or ys j d) h.numbers_rise (sym (l.members (get_or ys j d)) ∙ has_at ys j d lt) in
-    let to = all_found (λ c. IsPair c.from c.to) (λ c. eqb c.number (get_or ys j d)) p.contacts b.0 h.contact_nodes b.1 in
-    let key_a : key_named p.contacts (get_or ys i d) ≡ start_key a.0.start a.0.to = ap (λ (o : Option Contact). option_map_or (λ c. start_key c.start c.to) o 0) a.1 in
-    let key_b : key_named p.contacts (get_or ys j d) ≡ start_key b.0.start b.0.to = ap (λ (o : Option Contact). option_map_or (λ c. start_key c.start c.to) o 0) b.1 in
-    let start_a : start_named p (get_or ys i d) ≡ a.0.start = ap (λ (o : Option Contact). option_map_or (λ c. c.start) o 0) a.1 in
-    let start_b : start_named p (get_or ys j d) ≡ b.0.start = ap (λ (o : Option Contact). option_map_or (λ c. c.start) o 0) b.1 in
-    let keys = l.rising i j d le lt in
-    let starts = starts_not_fall a.0.start a.0.to b.0.start b.0.to to.1.1 (omega (arith, keys, key_a, key_b)) in
-    omega (arith, starts, start_a, start_b)
+-- numbers that rise are different
+different_rising : (low : ℕ) (cs : List Contact) → rises_above low (map (λ d. d.number) cs) ≡ true → are_different (map (λ d. d.number) cs) ≡ true
+different_rising low [] rises = refl
+different_rising low (c ∷ cs) rises =
+    let parts = and_parts (ltb low c.number) (rises_above c.number (map (λ d. d.number) cs)) rises in
+    let rest = map (λ (d : Contact). d.number) cs in
+    and_from (not (has c.number rest)) (are_different rest) (not_from_false (has c.number rest) (below_all c.number cs (all_above c.number cs parts.1))) (different_rising c.number cs parts.1)
 
--- a list by start is an open list at any second
-pub is_open_list : (p : ContactPlan) (q at : ℕ) (ys : List ℕ) → IsPlan p → IsStartList p.contacts q ys → IsOpenList p q at ys
-is_open_list p q at ys h l =
+-- a number that none has, none of fewer has
+has_fewer : (n : ℕ) (t : Contact → Bool) (cs : List Contact) → has n (map (λ d. d.number) cs) ≡ false → has n (map (λ d. d.number) (filter t cs)) ≡ false
+has_fewer n t [] none = refl
+has_fewer n t (c ∷ cs) none =
+    let parts = or_parts (eqb n c.number) (has n (map (λ d. d.number) cs)) none in
+    let rest = has_fewer n t cs parts.1 in
+    elim (t c) as (λ b. has n (map (λ (d : Contact). d.number) (cond b (c ∷ filter t cs) (filter t cs))) ≡ false) [
+      | true ↦ or_from (eqb n c.number) (has n (map (λ d. d.number) (filter t cs))) parts.0 rest
+      | false ↦ rest
+    ]
+
+-- fewer of different numbers are different
+different_fewer : (t : Contact → Bool) (cs : List Contact) → are_different (map (λ d. d.number) cs) ≡ true → are_different (map (λ d. d.number) (filter t cs)) ≡ true
+different_fewer t [] d = refl
+different_fewer t (c ∷ cs) d =
+    let numbers = map (λ (e : Contact). e.number) cs in
+    let parts = and_parts (not (has c.number numbers)) (are_different numbers) d in
+    let fewer = map (λ (e : Contact). e.number) (filter t cs) in
+    let rest = different_fewer t cs parts.1 in
+    elim (t c) as (λ b. are_different (map (λ (e : Contact). e.number) (cond b (c ∷ filter t cs) (filter t cs))) ≡ true) [
+      | true ↦ and_from (not (has c.number fewer)) (are_different fewer) (not_from_false (has c.number fewer) (has_fewer c.number t cs (not-true (has c.number numbers) parts.0))) rest
+      | false ↦ rest
+    ]
+
+-- what a node sends
+pub are_sent : (p : ContactPlan) (q : ℕ) → IsPlan p → AreSent p q (sent_by p.contacts q)
+are_sent p q h =
+    let numbers = sent_by p.contacts q in
     record {
-      sent = λ n there. sent_number 0 p.contacts q n h.numbers_rise (sym (l.members n) ∙ has_from_in n ys (in_from_Contains ys n there));
-      once = l.once;
-      whole = λ n c named from open_then.
-          Contains-from_in ys n (in_from_has n ys (l.members n ∙ subst (λ f. has n (sent_by p.contacts f) ≡ true) from (number_sent p.contacts n c named)));
-      rising = starts_rise p q ys h l;
+      sent = λ n there. sent_number 0 p.contacts q n h.numbers_rise (has_from_in n numbers (in_from_Contains numbers n there));
+      once = different_fewer (λ c. eqb q c.from) p.contacts (different_rising 0 p.contacts h.numbers_rise);
+      whole = λ n c named from. Contains-from_in numbers n (in_from_has n numbers (subst (λ f. has n (sent_by p.contacts f) ≡ true) from (number_sent p.contacts n c named)));
+      few = omega arith;
     }
 
 -- what a contact's number names is the contact

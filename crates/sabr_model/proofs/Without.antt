@@ -1,20 +1,16 @@
 -- The contacts without one of them, and the table of nodes behind its deletion.
-use Rattle.std.proofs.Common.{◌≡◌, ℕ, ◌<◌, Bool, true, false, cond, ◌||◌, ◌&&◌, not, eqb, ltb, List, [], ◌∷◌, get_or, map, refl, sym, ap, subst, ◌∙◌, inl, inr, arith}
-use Rattle.std.specs.Prelude.{nat_eq}
+use Rattle.std.proofs.Common.{◌≡◌, ℕ, ◌<◌, Bool, true, false, cond, ◌||◌, ◌&&◌, not, eqb, ltb, List, [], ◌∷◌, map, refl, sym, ap, subst, ◌∙◌, inl, inr, arith}
+use Rattle.std.specs.Prelude.{nat_eq, Vec}
 use Rattle.std.specs.List.{filter, find, list_any, AllByRecursion}
 use Rattle.std.specs.Bool.{then_some}
-use Rattle.std.specs.Option.{option_map, option_map_or}
-use Rattle.std.proofs.lemmas.Bool.{and_parts, or_cases, or_left, or_right, or_from, not-true, eqb-true, eq-eqb, ltb-true, both_ways, false_from_ne_true}
-use Rattle.std.proofs.lemmas.List.Kept.{IsNonDecreasingBy-filter}
-use Rattle.std.specs.declared.option.Option.{Option}
+use Rattle.std.specs.Option.{option_map}
+use Rattle.std.proofs.lemmas.Bool.{and_parts, or_cases, or_left, or_right, or_from, eqb-true, eq-eqb, ltb-true, both_ways, false_from_ne_true}
 use Rattle.std.specs.declared.option.Option.TheVariants.{Some, None}
 use Rattle.indexmap.specs.IndexMap.{IndexMap, IsUnique}
 use Rattle.sabr_model.specs.declared.contact.Contact.{Contact}
-use Rattle.sabr_model.specs.declared.sent.Sent.{Sent}
 use Rattle.sabr_model.specs.Plan.{has, rises_above}
-use Rattle.sabr_model.specs.Table.{sent_by, ends_of, without_number, start_key, key_named, IsStartList, list_at, starts_at, IsTableOf}
-use Rattle.sabr_model.proofs.Has.{eqb_flip, has_at, has-without, without_absent, different-without}
-use Rattle.sabr_model.proofs.StartLemmas.{rises_alike}
+use Rattle.sabr_model.specs.Table.{sent_by, ends_of, without_number, list_at, IsTableOf}
+use Rattle.sabr_model.proofs.Has.{eqb_flip, without_absent}
 
 -- the numbers of rising contacts are above the bound
 pub all_above : (low : ℕ) (cs : List Contact) → rises_above low (map (λ d. d.number) cs) ≡ true → AllByRecursion (λ d. low < d.number) cs
@@ -149,38 +145,6 @@ sent_by-without (x ∷ cs) n q =
           ]
     ] refl
 
--- another number names what it named
-pub find-without : (cs : List Contact) (n m : ℕ) → eqb m n ≡ false → find (λ d. eqb d.number m) (without_number n cs) ≡ find (λ d. eqb d.number m) cs
-find-without [] n m ne = refl
-find-without (x ∷ cs) n m ne =
-    elim (eqb x.number n) as (λ b. eqb x.number n ≡ b → find (λ d. eqb d.number m) (cond (not b) (x ∷ without_number n cs) (without_number n cs)) ≡ cond (eqb x.number m) (Some x) (find (λ d. eqb d.number m) cs)) [
-      | true ↦ λ e.
-          find-without cs n m ne
-          ∙ sym (ap (λ b. cond b (Some x) (find (λ d. eqb d.number m) cs)) (eqb_flip x.number m ∙ ap (eqb m) (eqb-true x.number n e) ∙ ne))
-      | false ↦ λ e. ap (λ o. cond (eqb x.number m) (Some x) o) (find-without cs n m ne)
-    ] refl
-
--- a number that is left is not the one taken out
-left_number : (ys : List ℕ) (n m : ℕ) → has m (filter (λ k. not (eqb k n)) ys) ≡ true → eqb m n ≡ false
-left_number ys n m h = not-true (eqb m n) (and_parts (has m ys) (not (eqb m n)) (sym (has-without ys n m) ∙ h)).1
-
--- the list by start without one number
-pub IsStartList-without : (cs : List Contact) (n q : ℕ) (ys : List ℕ) → IsStartList cs q ys → IsStartList (without_number n cs) q (filter (λ k. not (eqb k n)) ys)
-IsStartList-without cs n q ys h =
-    let zs = filter (λ k. not (eqb k n)) ys in
-    record {
-      members = λ m.
-          has-without ys n m
-          ∙ ap (λ b. b && not (eqb m n)) (h.members m)
-          ∙ sym (has-without (sent_by cs q) n m)
-          ∙ ap (has m) (sym (sent_by-without cs n q));
-      once = different-without ys n h.once;
-      rising =
-          rises_alike (key_named cs) (key_named (without_number n cs)) zs
-          (λ k d lt. ap (λ (o : Option Contact). option_map_or (λ c. start_key c.start c.to) o 0) (find-without cs n (get_or zs k d) (left_number ys n (get_or zs k d) (has_at zs k d lt))))
-          (IsNonDecreasingBy-filter (key_named cs) (λ k. not (eqb k n)) ys h.rising);
-    }
-
 -- ---- the table
 
 -- a node that is both sender and receiver goes once
@@ -208,27 +172,15 @@ left false true from_used to_used used was f xs a b c d e =
     rw (q, r) (once_gone used xs)
 left false false from_used to_used used was f xs a b c d e = ap (λ u. then_some u xs) (sym (e refl refl))
 
--- a list that is found was there
-was_there : (to_gone from_gone is_from : Bool) (f : List ℕ → List ℕ) (o : Option (List ℕ)) (zs : List ℕ) → cond to_gone None (cond from_gone None (cond is_from (option_map f o) o)) ≡ Some zs → (ys : List ℕ) × (o ≡ Some ys) × (zs ≡ cond is_from (f ys) ys)
-was_there true from_gone is_from f o zs e = absurd cc
-was_there false true is_from f o zs e = absurd cc
-was_there false false true f None zs e = absurd cc
-was_there false false true f (Some ys) zs e = (ys, refl, cc)
-was_there false false false f None zs e = absurd cc
-was_there false false false f (Some ys) zs e = (ys, refl, cc)
-
 -- the table behind a deletion
-pub IsTableOf-without : {S A : Type 0} (low : ℕ) (cs : List Contact) (c : Contact) (t0 t1 t2 t3 : IndexMap ℕ (Sent A) S) (from_used to_used : Bool)
+pub IsTableOf-without : {S A : Type 0} (low : ℕ) (cs : List Contact) (c : Contact) (t0 t1 t2 t3 : IndexMap ℕ (Vec ℕ A) S) (from_used to_used : Bool)
     → rises_above low (map (λ d. d.number) cs) ≡ true → find (λ d. eqb d.number c.number) cs ≡ Some c → IsTableOf cs t0 → IsUnique nat_eq t3
     → from_used ≡ has c.from (ends_of (without_number c.number cs)) → to_used ≡ has c.to (ends_of (without_number c.number cs))
     → ((q : ℕ) → list_at t1 q ≡ cond (eqb q c.from) (option_map (filter (λ k. not (eqb k c.number))) (list_at t0 q)) (list_at t0 q))
-    → ((q : ℕ) → starts_at t1 q ≡ cond (eqb q c.from) (option_map (filter (λ k. not (eqb k c.number))) (starts_at t0 q)) (starts_at t0 q))
     → ((q : ℕ) → list_at t2 q ≡ cond (eqb q c.from && not from_used) None (list_at t1 q))
-    → ((q : ℕ) → starts_at t2 q ≡ cond (eqb q c.from && not from_used) None (starts_at t1 q))
     → ((q : ℕ) → list_at t3 q ≡ cond (eqb q c.to && not to_used) None (list_at t2 q))
-    → ((q : ℕ) → starts_at t3 q ≡ cond (eqb q c.to && not to_used) None (starts_at t2 q))
     → IsTableOf (without_number c.number cs) t3
-IsTableOf-without low cs c t0 t1 t2 t3 from_used to_used rises found h unique fu tu l1 s1 l2 s2 l3 s3 =
+IsTableOf-without low cs c t0 t1 t2 t3 from_used to_used rises found h unique fu tu l1 l2 l3 =
     let one = is_one low cs c.number c rises found in
     let ends = ends_of_found cs c.number c found in
     let gone = filter (λ k. not (eqb k c.number)) in
@@ -246,12 +198,6 @@ IsTableOf-without low cs c t0 t1 t2 t3 from_used to_used rises found h unique fu
           (λ e. ap (λ p. has p (ends_of cs)) (eqb-true q c.to e) ∙ ends.1)
           (λ f t. ends_kept c c.number cs q one f t)
           ∙ ap (then_some (has q (ends_of (without_number c.number cs)))) (sent_left q (eqb q c.from) refl one);
-      starts = λ q zs e.
-          let back = was_there (eqb q c.to && not to_used) (eqb q c.from && not from_used) (eqb q c.from) gone (starts_at t0 q) zs
-          (sym (ap (λ o. cond (eqb q c.to && not to_used) None (cond (eqb q c.from && not from_used) None o)) (s1 q))
-          ∙ sym (ap (λ o. cond (eqb q c.to && not to_used) None o) (s2 q)) ∙ sym (s3 q) ∙ e) in
-          let old = h.starts q back.0 back.1 in
-          subst (IsStartList (without_number c.number cs) q) (sym (back.2 ∙ list_left q back.0 old (eqb q c.from) refl one)) (IsStartList-without cs c.number q back.0 old);
     }
   where
     sent_left : (q : ℕ) (b : Bool) → eqb q c.from ≡ b → IsOne c c.number cs → cond (eqb q c.from) (filter (λ k. not (eqb k c.number)) (sent_by cs q)) (sent_by cs q) ≡ sent_by (without_number c.number cs) q
@@ -260,9 +206,3 @@ IsTableOf-without low cs c t0 t1 t2 t3 from_used to_used rises found h unique fu
         ap (λ b. cond b (filter (λ k. not (eqb k c.number)) (sent_by cs q)) (sent_by cs q)) e
         ∙ sym (without_absent (sent_by cs q) c.number (absent_sent c c.number cs q one e))
         ∙ sym (sent_by-without cs c.number q)
-
-    list_left : (q : ℕ) (ys : List ℕ) → IsStartList cs q ys → (b : Bool) → eqb q c.from ≡ b → IsOne c c.number cs → cond (eqb q c.from) (filter (λ k. not (eqb k c.number)) ys) ys ≡ filter (λ k. not (eqb k c.number)) ys
-    list_left q ys old true e one = ap (λ b. cond b (filter (λ k. not (eqb k c.number)) ys) ys) e
-    list_left q ys old false e one =
-        ap (λ b. cond b (filter (λ k. not (eqb k c.number)) ys) ys) e
-        ∙ sym (without_absent ys c.number (old.members c.number ∙ absent_sent c c.number cs q one e))

@@ -1,6 +1,6 @@
 -- Contacts that are gathered with what no two of them share; and ranges that are gathered in any order, most in their
 -- places, and the latest beside them.
-use Rattle.std.specs.Prelude.{◌≡◌, ℕ, false, List, [], ◌∷◌, map}
+use Rattle.std.specs.Prelude.{◌≡◌, ℕ, Bool, false, true, List, [], ◌∷◌, map}
 use Rattle.std.specs.List.{list_any, AllByRecursion}
 use Rattle.std.specs.List.Sorted.{IsStrictlySortedBy}
 use Rattle.std.specs.declared.cmp.Ordering.{Ordering}
@@ -18,6 +18,10 @@ plan_of_contacts contacts greatest = record { contacts = contacts; ranges = []; 
 -- the sender, the receiver and the start of each contact
 abbrev pub openings_of : List Contact → List Opening
 openings_of contacts = map (λ c. record { from = c.from; to = c.to; start = c.start }) contacts
+
+-- where the set is kept, it has what no two of the contacts share
+abbrev pub KnowsOpenings : Bool → List Opening → List Contact → Type 0
+KnowsOpenings kept known contacts = kept ≡ true → known ≡ openings_of contacts
 
 -- elements put into a list, one after the other
 abbrev pub put_all : {X : Type 0} → (X → X → Ordering) → List X → List X → List X

@@ -1,7 +1,6 @@
 pub mod Order
 pub mod Plan
 pub mod Table
-pub mod Tabling
 pub mod Tabled
 pub mod Links
 pub mod Linking

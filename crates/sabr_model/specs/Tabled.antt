@@ -1,11 +1,9 @@
--- What a plan shows of its table of nodes: the nodes, the contacts of one node by start, and a contact as a search reads it.
-use Rattle.std.specs.Prelude.{◌≡◌, ℕ, ◌<◌, IsTrue, List, Contains, slice_get}
-use Rattle.std.specs.List.Sorted.{IsNonDecreasingBy}
-use Rattle.std.specs.Option.{option_map_or}
+-- What a plan shows of its table of nodes: the nodes, and a contact as a search reads it.
+use Rattle.std.specs.Prelude.{◌≡◌, ℕ, IsTrue, slice_get}
 use Rattle.std.specs.declared.option.Option.TheVariants.{Some}
 use Rattle.sabr_model.specs.declared.contact.Contact.{Contact}
 use Rattle.sabr_model.specs.declared.hop.Hop.{Hop}
-use Rattle.sabr_model.specs.Plan.{ContactPlan, TabledPlan, contact_named, has, are_different}
+use Rattle.sabr_model.specs.Plan.{TabledPlan, contact_named, has, are_different}
 use Rattle.sabr_model.specs.Light.{light_of}
 use Rattle.sabr_model.specs.Table.{ends_of}
 
@@ -13,18 +11,6 @@ use Rattle.sabr_model.specs.Table.{ends_of}
 pub record IsTabled (p : TabledPlan) : Type 0 where
   pub nodes : (node : ℕ) → has node p.table ≡ has node (ends_of p.plan.contacts)
   pub once : IsTrue (are_different p.table)
-
--- the start of the contact of a number
-abbrev pub start_named : ContactPlan → ℕ → ℕ
-start_named p n = option_map_or (λ c. c.start) (contact_named p n) 0
-
--- The numbers are those of standing contacts that the node sends, each once; each such contact that ends
--- after `at` is among them; their starts never fall along the list.
-pub record IsOpenList (p : ContactPlan) (node at : ℕ) (numbers : List ℕ) : Type 0 where
-  pub sent : (n : ℕ) → Contains numbers n → (c : Contact) × (contact_named p n ≡ Some c) × (c.from ≡ node)
-  pub once : IsTrue (are_different numbers)
-  pub whole : (n : ℕ) (c : Contact) → contact_named p n ≡ Some c → c.from ≡ node → at < c.end → Contains numbers n
-  pub rising : IsNonDecreasingBy (start_named p) numbers
 
 -- the hop is the contact's: its window, its receiver's place in the table, and its light time
 pub record IsHopOf (p : TabledPlan) (c : Contact) (h : Hop) : Type 0 where

@@ -1,11 +1,11 @@
 //! Following a list of contacts: when it delivers, or why it is no route.
 
-ghost use Rattle.std.specs.Prelude.{◌≡◌, ℕ, ◌+◌, ◌<◌, ◌^◌, [], ◌∷◌, ◌++◌, Some, None, IfOk, IfErr, IsTrue, length};
+ghost use Rattle.std.specs.Prelude.{◌≡◌, ℕ, ◌+◌, ◌<◌, ◌^◌, [], ◌∷◌, ◌++◌, Some, None, IfOk, IfErr, OnOk, IsTrue, length};
 ghost use Rattle.sabr_model.specs.Plan.{has};
 ghost use Rattle.sabr_model.specs.Arrival.{arrival_after};
 ghost use Rattle.sabr_model.specs.Route.{receivers, is_path, is_route};
 ghost use Rattle.sabr_model.specs.Fault.{fault_at, first_fault, fault_of};
-ghost use Rattle.sabr_model.specs.Following.{IsReachedBy, receives};
+ghost use Rattle.sabr_model.specs.Following.{AreMarked, IsReachedBy, receives};
 
 use crate::fault::HopFault;
 use crate::plan::{Plan, arrive_by_light};
@@ -43,15 +43,30 @@ fn is_received<A: Allocator + Copy>(plan: &Plan<A>, numbers: &[u32], node: u64) 
     false
 }
 
+/// Whether one of these contacts, of whose receivers the classes are marked, is received by the node.
+fn is_again<A: Allocator + Copy>(
+    plan: &Plan<A>,
+    marks: &[bool; 64],
+    numbers: &[u32],
+    node: u64,
+) -> bool
+    requires { AreMarked marks.now (receivers plan.now.plan numbers.now) }
+    ensures { result ≡ has node (receivers plan.now.plan numbers.now) }
+{
+    marks[(node % 64) as usize] && is_received(plan, numbers, node)
+}
+
 /// One hop more, behind those in `front`, which have no fault and lead to `here`.
 fn take_hop<A: Allocator + Copy>(
     plan: &Plan<A>,
     request: &Request,
+    marks: &[bool; 64],
     front: &[u32],
     here: Reached,
     number: u32,
 ) -> Result<Reached, HopFault>
     requires place { length front.now + 1 < 2 ^ 64 }
+    requires marks { AreMarked marks.now (receivers plan.now.plan front.now) }
     requires reached { IsReachedBy plan.now.plan request.now front.now here }
     ensures good { IfOk result (λ _. fault_at plan.now.plan request.now front.now number ≡ None) }
     ensures ok { IfOk result (IsReachedBy plan.now.plan request.now (front.now ++ number ∷ [])) }
@@ -64,7 +79,7 @@ fn take_hop<A: Allocator + Copy>(
     if here.node != contact.from {
         return Err(HopFault::NotChained(place));
     }
-    if contact.to == request.from() || is_received(plan, front, contact.to) {
+    if contact.to == request.from() || is_again(plan, marks, front, contact.to) {
         return Err(HopFault::NodeAgain(place));
     }
     let Some(light) = light else {
@@ -110,8 +125,33 @@ pub fn follow<A: Allocator + Copy>(
     let Some((last, prefix)) = contacts.split_last() else {
         return Err(HopFault::Empty);
     };
-    let here = follow_prefix(plan, request, prefix)?;
-    follow_on(plan, request, prefix, here, *last)
+    let mut marks = [false; 64];
+    let here = follow_marking(plan, request, &mut marks, prefix)?;
+    end_on(plan, request, &marks, prefix, here, *last)
+}
+
+/// What [`follow_prefix`] answers, and a mark for each class of nodes that holds a receiver: those whose numbers leave one
+/// remainder by 64.
+fn follow_marking<A: Allocator + Copy>(
+    plan: &Plan<A>,
+    request: &Request,
+    marks: &mut [bool; 64],
+    prefix: &[u32],
+) -> Result<Reached, HopFault>
+    ensures path { IfOk result (λ _. IsTrue (is_path plan.now.plan request.now prefix.now)) }
+    ensures reached { IfOk result (IsReachedBy plan.now.plan request.now prefix.now) }
+    ensures marks { OnOk result (AreMarked marks.new (receivers plan.now.plan prefix.now)) }
+    ensures fault { IfErr result (λ f. first_fault plan.now.plan request.now [] prefix.now ≡ Some f) }
+{
+    let mut here = Reached {
+        node: request.from(),
+        at: request.at(),
+    };
+    for (i, number) in prefix.iter().enumerate() {
+        here = take_hop(plan, request, marks, &prefix[..i], here, *number)?;
+        marks[(here.node % 64) as usize] = true;
+    }
+    Ok(here)
 }
 
 /// Where the contacts of these numbers lead, one after the other, from the source on: the source itself for none.
@@ -130,14 +170,7 @@ pub fn follow_prefix<A: Allocator + Copy>(
     ensures reached { IfOk result (IsReachedBy plan.now.plan request.now prefix.now) }
     ensures fault { IfErr result (λ f. first_fault plan.now.plan request.now [] prefix.now ≡ Some f) }
 {
-    let mut here = Reached {
-        node: request.from(),
-        at: request.at(),
-    };
-    for (i, number) in prefix.iter().enumerate() {
-        here = take_hop(plan, request, &prefix[..i], here, *number)?;
-    }
-    Ok(here)
+    follow_marking(plan, request, &mut [false; 64], prefix)
 }
 
 /// What [`follow`] answers for a prefix and one number more, where `here` is what [`follow_prefix`] answered for the
@@ -161,7 +194,26 @@ pub fn follow_on<A: Allocator + Copy>(
     ensures delivery { IfOk result (λ d. arrival_after plan.now.plan request.now request.now.at (prefix.now ++ number ∷ []) ≡ Some d) }
     ensures fault { IfErr result (λ f. fault_of plan.now.plan request.now (prefix.now ++ number ∷ []) ≡ Some f) }
 {
-    let here = take_hop(plan, request, prefix, here, number)?;
+    end_on(plan, request, &[true; 64], prefix, here, number)
+}
+
+/// What [`follow_on`] answers, where the classes of the prefix's receivers are marked.
+fn end_on<A: Allocator + Copy>(
+    plan: &Plan<A>,
+    request: &Request,
+    marks: &[bool; 64],
+    prefix: &[u32],
+    here: Reached,
+    number: u32,
+) -> Result<u64, HopFault>
+    requires path { IsTrue (is_path plan.now.plan request.now prefix.now) }
+    requires marks { AreMarked marks.now (receivers plan.now.plan prefix.now) }
+    requires reached { IsReachedBy plan.now.plan request.now prefix.now here }
+    ensures route { IfOk result (λ _. IsTrue (is_route plan.now.plan request.now (prefix.now ++ number ∷ []))) }
+    ensures delivery { IfOk result (λ d. arrival_after plan.now.plan request.now request.now.at (prefix.now ++ number ∷ []) ≡ Some d) }
+    ensures fault { IfErr result (λ f. fault_of plan.now.plan request.now (prefix.now ++ number ∷ []) ≡ Some f) }
+{
+    let here = take_hop(plan, request, marks, prefix, here, number)?;
     if here.node != request.to() {
         return Err(HopFault::WrongEnd);
     }

@@ -13,14 +13,11 @@ mod node_list;
 mod node_table;
 mod numbers;
 mod opening;
+mod openings;
 mod plan;
 mod request;
 mod route;
 mod rows;
-mod sent;
-mod tabling;
-#[cfg(test)]
-mod tests;
 
 pub use contact::{Contact, Range};
 pub use devices::{Device, Failed, Read, Write, WriteFault, write_text};

@@ -1,152 +1,160 @@
 //! The table of nodes: under each node the numbers of the contacts that it sends.
 
-ghost use Rattle.std.specs.Prelude.{◌≡◌, ℕ, ◌==◌, ◌<◌, ◌≤◌, ◌+◌, [], ◌∷◌, ◌++◌, Some, None, IsTrue, map, find, not, ◌&&◌, ◌||◌, filter, insert, length, nat_eq, unwrap_or, OnOk, OnErr, IsOk, if◌then◌else◌};
+ghost use Rattle.std.specs.Prelude.{◌≡◌, ℕ, ◌==◌, ◌<◌, ◌≤◌, ◌+◌, ◌∷◌, ◌++◌, Some, None, IsTrue, map, find, not, ◌&&◌, ◌||◌, filter, nat_eq, slice_get, IfOk, OnOk, OnErr, IsOk, if◌then◌else◌};
 ghost use Rattle.std.specs.Option.{option_map};
 ghost use Rattle.indexmap.specs.IndexMap.{IsUnique, keys, spare};
-ghost use Rattle.std.specs.List.{AllByRecursion, list_any};
+ghost use Rattle.std.specs.List.{list_any};
 ghost use Rattle.sabr_model.specs.Plan.{rises_above};
-ghost use Rattle.sabr_model.specs.Table.{without_number, list_at, starts_at, with_number, with_node, with_start, IsPlaceFor, IsTableOf};
+ghost use Rattle.sabr_model.specs.Table.{without_number, list_at, with_number, with_node, with_ends, KeepsPlaces, IsTableOf};
+ghost use Rattle.sabr_model.specs.Stretches.{AreEndsOf, AreEnds};
 
 use crate::contact::Contact;
-use crate::plan::places::place_of_start;
-use crate::sent::Sent;
+use crate::plan::ends::Ends;
 use indexmap::IndexMap;
 use std::alloc::{AllocError, Allocator};
 use std::hash::{BuildHasherDefault, FoldHasher};
 
-/// Under each node the numbers of the contacts that it sends.
-pub type NodeTable<A> = IndexMap<u64, Sent<A>, BuildHasherDefault<FoldHasher>, A>;
+/// Under each node the rising numbers of the contacts that it sends.
+pub type NodeTable<A> = IndexMap<u64, Vec<u32, A>, BuildHasherDefault<FoldHasher>, A>;
 
-/// Puts the number behind those that the node sends, and at `place` of them by start.
+/// Puts the number behind those that the node sends, and answers the node's index.
 fn add_number<A: Allocator + Copy>(
     alloc: A,
     table: &mut NodeTable<A>,
     node: u64,
     number: u32,
-    place: usize,
-) -> Result<(), AllocError>
-    requires unique { IsUnique nat_eq table.old }
-    requires place { place ≤ length (unwrap_or (starts_at table.old node) []) }
+) -> Result<usize, AllocError>
+    requires { IsUnique nat_eq table.old }
     ensures ok { OnOk result ((q : ℕ) → list_at table.new q ≡ with_number (list_at table.old q) (q == node) number) }
-    ensures ok_starts { OnOk result ((q : ℕ) → starts_at table.new q ≡ with_start (starts_at table.old q) (q == node) place number) }
+    ensures index { IfOk result (λ i. slice_get (keys table.new) i ≡ Some node) }
+    ensures places { OnOk result (KeepsPlaces (keys table.old) (keys table.new)) }
     ensures err { OnErr result ((q : ℕ) → list_at table.new q ≡ list_at table.old q) }
-    ensures err_starts { OnErr result ((q : ℕ) → starts_at table.new q ≡ starts_at table.old q) }
     ensures err_nodes { OnErr result (keys table.new ≡ keys table.old) }
     ensures unique { IsUnique nat_eq table.new }
     ensures room { spare table.old ≤ spare table.new + 1 }
 {
-    if let Some(sent) = table.get_mut(&node) {
-        sent.put(number, place)?;
-    } else {
-        let mut sent = Sent::new(alloc);
-        sent.put(number, place)?;
-        table.insert(node, sent)?;
+    match table.get_index_of(&node) {
+        Some(index) => {
+            push_number(table, node, index, number)?;
+            Ok(index)
+        }
+        None => {
+            let index = table.len();
+            let mut numbers = Vec::new(alloc);
+            numbers.push(number)?;
+            table.insert(node, numbers)?;
+            Ok(index)
+        }
+    }
+}
+
+/// Puts the number behind those that the node at an index sends.
+fn push_number<A: Allocator + Copy>(
+    table: &mut NodeTable<A>,
+    node: u64,
+    index: usize,
+    number: u32,
+) -> Result<(), AllocError>
+    requires unique { IsUnique nat_eq table.old }
+    requires there { slice_get (keys table.old) index ≡ Some node }
+    ensures ok { OnOk result ((q : ℕ) → list_at table.new q ≡ with_number (list_at table.old q) (q == node) number) }
+    ensures err { OnErr result ((q : ℕ) → list_at table.new q ≡ list_at table.old q) }
+    ensures nodes { keys table.new ≡ keys table.old }
+    ensures unique { IsUnique nat_eq table.new }
+    ensures room { spare table.old ≤ spare table.new }
+{
+    let _ = node;
+    if let Some(numbers) = table.get_index_mut(index) {
+        numbers.push(number)?;
     }
     Ok(())
 }
 
-/// Makes sure that the node is in the table.
-pub fn add_node<A: Allocator + Copy>(
+/// Makes sure that the node is in the table, and answers its index.
+fn add_node<A: Allocator + Copy>(
     alloc: A,
     table: &mut NodeTable<A>,
     node: u64,
-) -> Result<(), AllocError>
+) -> Result<usize, AllocError>
     requires { IsUnique nat_eq table.old }
     ensures ok { OnOk result ((q : ℕ) → list_at table.new q ≡ with_node (list_at table.old q) (q == node)) }
-    ensures ok_starts { OnOk result ((q : ℕ) → starts_at table.new q ≡ with_node (starts_at table.old q) (q == node)) }
+    ensures index { IfOk result (λ i. slice_get (keys table.new) i ≡ Some node) }
+    ensures places { OnOk result (KeepsPlaces (keys table.old) (keys table.new)) }
     ensures err { OnErr result ((q : ℕ) → list_at table.new q ≡ list_at table.old q) }
-    ensures err_starts { OnErr result ((q : ℕ) → starts_at table.new q ≡ starts_at table.old q) }
     ensures err_nodes { OnErr result (keys table.new ≡ keys table.old) }
     ensures unique { IsUnique nat_eq table.new }
     ensures succeeds { 0 < spare table.old → IsOk result }
 {
-    if !table.contains_key(&node) {
-        table.insert(node, Sent::new(alloc))?;
+    match table.get_index_of(&node) {
+        Some(index) => Ok(index),
+        None => {
+            let index = table.len();
+            table.insert(node, Vec::new(alloc))?;
+            Ok(index)
+        }
     }
-    Ok(())
 }
 
-/// Puts the number under its sender, at `place` of the sender's numbers by start, and makes sure of its receiver.
-fn put_numbers<A: Allocator + Copy>(
+/// Notes a contact that is to be added behind the others, and answers the indexes of its nodes, each found in one look-up.
+pub fn note_contact<A: Allocator + Copy>(
     alloc: A,
     table: &mut NodeTable<A>,
-    from: u64,
-    to: u64,
-    number: u32,
-    place: usize,
-) -> Result<(), AllocError>
-    requires unique { IsUnique nat_eq table.old }
-    requires place { place ≤ length (unwrap_or (starts_at table.old from) []) }
-    ensures ok { OnOk result ((q : ℕ) → list_at table.new q ≡ with_node (with_number (list_at table.old q) (q == from) number) (q == to)) }
-    ensures ok_starts { OnOk result ((q : ℕ) → starts_at table.new q ≡ with_node (with_start (starts_at table.old q) (q == from) place number) (q == to)) }
+    contact: &Contact,
+) -> Result<Ends, AllocError>
+    requires { IsUnique nat_eq table.old }
+    ensures ok { OnOk result ((q : ℕ) → list_at table.new q ≡ with_ends (list_at table.old q) (q == contact.now.from) (q == contact.now.to) contact.now.number) }
+    ensures ends { IfOk result (λ e. AreEndsOf (keys table.new) contact.now e) }
+    ensures places { OnOk result (KeepsPlaces (keys table.old) (keys table.new)) }
     ensures err { OnErr result ((q : ℕ) → list_at table.new q ≡ list_at table.old q) }
-    ensures err_starts { OnErr result ((q : ℕ) → starts_at table.new q ≡ starts_at table.old q) }
     ensures err_nodes { OnErr result (keys table.new ≡ keys table.old) }
     ensures unique { IsUnique nat_eq table.new }
 {
     table.reserve(2)?;
-    add_number(alloc, table, from, number, place)?;
-    add_node(alloc, table, to)
+    let from = add_number(alloc, table, contact.from, contact.number)?;
+    let to = add_node(alloc, table, contact.to)?;
+    Ok(Ends { from, to })
 }
 
-/// The place of a contact that is to be added among those that its sender sends, by start.
-fn place_in_table<A: Allocator + Copy>(
-    table: &NodeTable<A>,
-    contacts: &[Contact],
-    contact: &Contact,
-) -> usize
-    requires numbered { IsTrue (rises_above 0 (map (λ c. c.number) contacts.now)) }
-    requires table { IsTableOf contacts.now table.now }
-    ensures { IsPlaceFor contacts.now contact.now.start contact.now.to (unwrap_or (starts_at table.now contact.now.from) []) result }
-{
-    match table.get(&contact.from) {
-        Some(sent) => place_of_start(contacts, &sent.by_start, contact.start, contact.to),
-        None => 0,
-    }
-}
-
-/// Notes a contact that is to be added behind the others.
-pub fn note_contact<A: Allocator + Copy>(
+/// The table of the nodes of contacts by number, and the ends of each contact.
+pub fn table_of<A: Allocator + Copy>(
     alloc: A,
-    table: &mut NodeTable<A>,
     contacts: &[Contact],
-    contact: &Contact,
-) -> Result<(), AllocError>
-    requires numbered { IsTrue (rises_above 0 (map (λ c. c.number) contacts.now)) }
-    requires fresh { AllByRecursion (λ c. c.number < contact.now.number) contacts.now }
-    requires table { IsTableOf contacts.now table.old }
-    ensures ok { OnOk result (IsTableOf (contacts.now ++ contact.now ∷ []) table.new) }
-    ensures err { OnErr result (IsTableOf contacts.now table.new) }
-    ensures err_nodes { OnErr result (keys table.new ≡ keys table.old) }
+) -> Result<(NodeTable<A>, Vec<Ends, A>), AllocError>
+    ensures table { IfOk result (λ t. IsTableOf contacts.now t.0) }
+    ensures ends { IfOk result (λ t. AreEnds (keys t.0) contacts.now t.1.items) }
 {
-    let place = place_in_table(table, contacts, contact);
-    put_numbers(
-        alloc,
-        table,
-        contact.from,
-        contact.to,
-        contact.number,
-        place,
-    )
+    let mut table = IndexMap::new(alloc);
+    let mut ends = Vec::new(alloc);
+    ends.reserve(contacts.len())?;
+    for contact in contacts {
+        let both = note_contact(alloc, &mut table, contact)?;
+        ends.push(both)?;
+    }
+    Ok((table, ends))
 }
 
 /// Takes the number out of those that the node sends.
 fn take_number<A: Allocator + Copy>(table: &mut NodeTable<A>, node: u64, number: u32)
     requires { IsUnique nat_eq table.old }
     ensures lists { (q : ℕ) → list_at table.new q ≡ (if q == node then option_map (filter (λ n. not (n == number))) (list_at table.old q) else list_at table.old q) }
-    ensures starts { (q : ℕ) → starts_at table.new q ≡ (if q == node then option_map (filter (λ n. not (n == number))) (starts_at table.old q) else starts_at table.old q) }
     ensures unique { IsUnique nat_eq table.new }
 {
-    if let Some(sent) = table.get_mut(&node) {
-        sent.take_out(number);
+    if let Some(numbers) = table.get_mut(&node) {
+        take_out(numbers, number);
     }
+}
+
+/// Takes the number out of the list.
+fn take_out<A: Allocator + Copy>(numbers: &mut Vec<u32, A>, number: u32)
+    ensures { numbers.new.items ≡ filter (λ n. not (n == number)) numbers.old.items }
+{
+    numbers.retain(|n| !(*n == number));
 }
 
 /// Takes the node out of the table unless it is in use.
 fn keep_node<A: Allocator + Copy>(table: &mut NodeTable<A>, node: u64, used: bool)
     requires { IsUnique nat_eq table.old }
     ensures lists { (q : ℕ) → list_at table.new q ≡ (if q == node && not used then None else list_at table.old q) }
-    ensures starts { (q : ℕ) → starts_at table.new q ≡ (if q == node && not used then None else starts_at table.old q) }
     ensures unique { IsUnique nat_eq table.new }
 {
     if !used {

@@ -4,7 +4,7 @@ mod add_contact;
 mod add_range;
 mod arriving;
 mod delete;
-mod ends;
+pub mod ends;
 mod gathered;
 mod gathered_contacts;
 mod gathered_ranges;
@@ -24,7 +24,9 @@ ghost use Rattle.std.specs.Prelude.{◌≡◌, []};
 use crate::contact::{Contact, Range};
 use crate::hop::Hop;
 use crate::node_table::NodeTable;
+use crate::openings::Openings;
 pub use arriving::{arrive, arrive_by_light};
+use ends::Ends;
 pub use gathered_contacts::GatheredContacts;
 pub use gathered_ranges::GatheredRanges;
 use indexmap::IndexMap;
@@ -43,8 +45,9 @@ pub struct Plan<A: Allocator + Copy = Global> {
     ranges: Vec<Range, A>,
     table: NodeTable<A>,
     greatest: u32,
+    openings: Openings<A>,
     hops: Vec<Hop, A>,
-    longest: Vec<u64, A>,
+    ends: Vec<Ends, A>,
     linked: Vec<NodeLinks<A>, A>,
     incoming: IncomingLinks<A>,
     settled: bool,
@@ -55,12 +58,13 @@ impl<A: Allocator + Copy> Model for Plan<A> {
     ghost use Rattle.sabr_model.specs.Plan.{TabledPlan, IsPlan};
     ghost use Rattle.sabr_model.specs.Table.{IsTableOf};
     ghost use Rattle.sabr_model.specs.Ready.{IsReady};
+    ghost use Rattle.sabr_model.specs.Gathering.{KnowsOpenings};
 
     ghost Value = { TabledPlan };
 
     ghost view = { λ a. record { plan = record { contacts = a.contacts.items; ranges = a.ranges.items; greatest = a.greatest }; table = keys a.table } };
 
-    ghost invariant = { λ a. IsPlan (record { contacts = a.contacts.items; ranges = a.ranges.items; greatest = a.greatest }) × IsTableOf a.contacts.items a.table × IsReady a.settled (record { plan = record { contacts = a.contacts.items; ranges = a.ranges.items; greatest = a.greatest }; table = keys a.table }) a.hops.items a.longest.items a.linked.items a.incoming.starts.items a.incoming.named.items };
+    ghost invariant = { λ a. IsPlan (record { contacts = a.contacts.items; ranges = a.ranges.items; greatest = a.greatest }) × IsTableOf a.contacts.items a.table × IsReady a.settled (record { plan = record { contacts = a.contacts.items; ranges = a.ranges.items; greatest = a.greatest }; table = keys a.table }) a.hops.items a.ends.items a.linked.items a.incoming.starts.items a.incoming.named.items × KnowsOpenings a.openings.kept a.openings.set.keys a.contacts.items };
 }
 
 impl<A: Allocator + Copy> Plan<A> {
@@ -74,8 +78,9 @@ impl<A: Allocator + Copy> Plan<A> {
             ranges: Vec::new(alloc),
             table: IndexMap::new(alloc),
             greatest: 0,
+            openings: Openings::new(alloc),
             hops: Vec::new(alloc),
-            longest: Vec::new(alloc),
+            ends: Vec::new(alloc),
             linked: Vec::new(alloc),
             incoming: IncomingLinks::new(alloc),
             settled: false,

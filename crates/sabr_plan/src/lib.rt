@@ -11,8 +11,6 @@ mod read;
 mod reading;
 mod record_line;
 mod swift_line;
-#[cfg(test)]
-mod tests;
 mod time;
 mod words;
 

@@ -8,7 +8,6 @@ ghost use Rattle.sabr_model.specs.declared.fault.AddFault.TheVariants.{NoMemory}
 ghost use Rattle.sabr_model.specs.Adding.{next_contact, contact_refusal, with_contact};
 
 use super::Plan;
-use super::places::has_start;
 use crate::contact::Contact;
 use crate::fault::AddFault;
 use crate::node_table::note_contact;
@@ -36,10 +35,7 @@ impl<A: Allocator + Copy> Plan<A> {
     fn has_opening(&self, from: u64, to: u64, start: u64) -> bool
         ensures { result ≡ list_any (opens from to start) self.now.plan.contacts }
     {
-        match self.table.get(&from) {
-            Some(sent) => has_start(&self.contacts, &sent.by_start, start, to),
-            None => false,
-        }
+        self.openings.has(&self.contacts, from, to, start)
     }
 
     /// Adds a contact that is not refused.
@@ -60,6 +56,7 @@ impl<A: Allocator + Copy> Plan<A> {
         ensures err { OnErr result (self.new ≡ self.old) }
     {
         self.settled = false;
+        self.ends.clear();
         let number = self.greatest + 1;
         let contact = Contact {
             number,
@@ -70,7 +67,9 @@ impl<A: Allocator + Copy> Plan<A> {
             rate,
         };
         self.contacts.reserve(1)?;
-        note_contact(self.alloc, &mut self.table, &self.contacts, &contact)?;
+        self.openings.reserve()?;
+        note_contact(self.alloc, &mut self.table, &contact)?;
+        self.openings.note(&self.contacts, &contact);
         self.contacts.push_reserved(contact);
         self.greatest = number;
         Ok(number)

@@ -28,7 +28,9 @@ impl<A: Allocator + Copy> Plan<A> {
         };
         let contact = *contact;
         self.settled = false;
+        self.ends.clear();
         forget_contact(&mut self.table, &self.contacts, &contact);
+        self.openings.forget(&self.contacts, from, to, start);
         self.contacts.retain(|c| !(c.number == contact.number));
         Ok(contact.number)
     }

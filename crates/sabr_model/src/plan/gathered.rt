@@ -7,13 +7,14 @@ use super::gathered_contacts::GatheredContacts;
 use super::gathered_ranges::GatheredRanges;
 use super::linked::IncomingLinks;
 use crate::fault::NoMemory;
-use crate::tabling::table_of;
+use crate::node_table::table_of;
+use crate::openings::Openings;
 use std::alloc::Allocator;
 
 impl<A: Allocator + Copy> Plan<A> {
     /// The plan of these contacts and ranges; `NoMemory` where memory for its tables is refused.
     ///
-    /// It puts the contacts in order of their start once, and takes some steps for each contact and range.
+    /// It takes some steps for each contact and range.
     pub fn gathered(
         alloc: A,
         contacts: GatheredContacts<A>,
@@ -23,15 +24,16 @@ impl<A: Allocator + Copy> Plan<A> {
     {
         let (contacts, greatest) = contacts.into_contacts();
         let ranges = ranges.into_ranges()?;
-        let table = table_of(alloc, &contacts)?;
+        let (table, ends) = table_of(alloc, &contacts)?;
         Ok(Plan {
             alloc,
             contacts,
             ranges,
             table,
             greatest,
+            openings: Openings::without_set(alloc),
             hops: Vec::new(alloc),
-            longest: Vec::new(alloc),
+            ends,
             linked: Vec::new(alloc),
             incoming: IncomingLinks::new(alloc),
             settled: false,

@@ -1,15 +1,13 @@
 //! The nodes of a plan, each by its index in the table, and the contacts that one node sends.
 
-ghost use Rattle.std.specs.Prelude.{◌≡◌, ◌<◌, [], ℕ, Some, None, MatchOption, IfSome, IsFalse, length, slice_get, slice_index_or, ◌≤◌};
-ghost use Rattle.std.specs.List.Sorted.{IsNonDecreasingBy};
-ghost use Rattle.sabr_model.specs.declared.contact.Contact.{Contact};
-ghost use Rattle.sabr_model.specs.Plan.{IsPlan, contact_named, has};
+ghost use Rattle.std.specs.Prelude.{◌≡◌, ◌<◌, ℕ, Some, None, MatchOption, IsFalse, length, slice_get};
+ghost use Rattle.sabr_model.specs.Plan.{contact_named, has};
 ghost use Rattle.sabr_model.specs.Table.{sent_by, node_count};
-ghost use Rattle.sabr_model.specs.Tabled.{IsTabled, IsOpenList, IsHopNamed, start_named};
+ghost use Rattle.sabr_model.specs.Tabled.{IsTabled, IsHopNamed};
 
 use super::Plan;
-use super::places::{first_open, place_of_number};
-use super::ready::{hop_of_contact, length_at};
+use super::places::place_of_number;
+use super::ready::hop_of_contact;
 use crate::contact::Contact;
 use crate::hop::Hop;
 use std::alloc::Allocator;
@@ -29,7 +27,7 @@ impl<A: Allocator + Copy> Plan<A> {
         ensures { result.now ≡ sent_by self.now.plan.contacts node }
     {
         match self.table.get(&node) {
-            Some(sent) => &sent.numbers,
+            Some(numbers) => numbers,
             None => &[],
         }
     }
@@ -60,33 +58,14 @@ impl<A: Allocator + Copy> Plan<A> {
         self.table.get_index_of(&contact.to).unwrap_or(0)
     }
 
-    /// The numbers of the contacts that a node sends, by start, without such as have ended by `at`, or with some of these.
-    ///
-    /// Where the plan is settled, those are left out that start so early that none of the node's contacts lasts until then.
-    pub fn open_contacts(&self, index: usize, at: u64) -> &[u32]
+    /// The rising numbers of the standing contacts that the node at an index of the table sends.
+    pub(crate) fn from_index(&self, index: usize) -> &[u32]
         requires { index < length self.now.table }
-        ensures { (node : ℕ) → slice_get self.now.table index ≡ Some node → IsOpenList self.now.plan node at result.now }
+        ensures { (node : ℕ) → slice_get self.now.table index ≡ Some node → result.now ≡ sent_by self.now.plan.contacts node }
     {
         match self.table.get_index(index) {
-            Some((_, sent)) => {
-                let numbers: &[u32] = &sent.by_start;
-                let first = self.first_open_of(index, numbers, at);
-                &numbers[first..]
-            }
+            Some((_, numbers)) => numbers,
             None => &[],
-        }
-    }
-
-    /// A place of a node's numbers by start before which all contacts have ended by `at`.
-    fn first_open_of(&self, index: usize, numbers: &[u32], at: u64) -> usize
-        requires { IsNonDecreasingBy (start_named self.now.plan) numbers.now }
-        ensures within { result ≤ length numbers.now }
-        ensures ended { (node : ℕ) → slice_get self.now.table index ≡ Some node → (k d : ℕ) (c : Contact) → k < result → contact_named self.now.plan (slice_index_or numbers.now k d) ≡ Some c → c.from ≡ node → c.end ≤ at }
-    {
-        if self.settled {
-            first_open(&self.contacts, numbers, length_at(&self.longest, index), at)
-        } else {
-            0
         }
     }
 

@@ -1,25 +1,27 @@
-//! What a plan keeps ready for searches: a hop beside each contact, and by node its links and how long a contact of it
-//! lasts at most.
+//! What a plan keeps ready for searches: a hop beside each contact, and by node its links.
 
-ghost use Rattle.std.specs.Prelude.{◌≡◌, ◌<◌, ◌≤◌, ◌+◌, ℕ, [], Some, IsTrue, OnOk, length, nat_eq, slice_get, slice_index, slice_index_or};
+ghost use Rattle.std.specs.Prelude.{◌≡◌, ◌<◌, ℕ, [], IsTrue, IfOk, OnOk, length, nat_eq, slice_index_or};
 ghost use Rattle.indexmap.specs.IndexMap.{IsUnique, keys};
 ghost use Rattle.sabr_model.specs.declared.contact.Contact.{Contact};
-ghost use Rattle.sabr_model.specs.Plan.{has};
+ghost use Rattle.sabr_model.specs.Plan.{IsPlan, has};
 ghost use Rattle.sabr_model.specs.RangeOrder.{IsRangeList};
 ghost use Rattle.sabr_model.specs.Tabled.{IsHopOf};
-ghost use Rattle.sabr_model.specs.Ready.{AreHops, NoneLastsLonger};
+ghost use Rattle.sabr_model.specs.Ready.{AreHops, BeginEnds};
+ghost use Rattle.sabr_model.specs.Linking.{AreLinked};
+ghost use Rattle.sabr_model.specs.Incoming.{AreSenders};
 ghost use Rattle.sabr_model.specs.Stretches.{AreEndsOf, AreEnds, AreStretches};
 
 use super::Plan;
 use super::ends::{Ends, ends_of_contacts, index_of};
 use super::light::{light_in_stretches, light_of_contact};
-use super::linked::{incoming_links, link_nodes};
+use super::linked::{IncomingLinks, NodeLinks, incoming_links, link_nodes};
 use super::stretches::{Stretch, stretches_of};
 use crate::contact::{Contact, Range};
 use crate::fault::NoMemory;
 use crate::hop::Hop;
 use crate::node_table::NodeTable;
 use std::alloc::{AllocError, Allocator};
+use std::mem;
 
 impl<A: Allocator + Copy> Plan<A> {
     /// Makes the plan ready for searches: from then on, until the plan changes, they find what they read of a contact in one
@@ -29,23 +31,42 @@ impl<A: Allocator + Copy> Plan<A> {
     pub fn settle(&mut self) -> Result<(), NoMemory>
         ensures { self.new ≡ self.old }
     {
+        self.put_hops()?;
+        let linked = link_nodes(self.alloc, self)?;
+        let incoming = incoming_links(self.alloc, &linked)?;
+        self.keep_links(linked, incoming);
+        Ok(())
+    }
+
+    /// Forgets the links that were kept, and puts the hop of each contact beside it.
+    fn put_hops(&mut self) -> Result<(), AllocError>
+        ensures same { self.new ≡ self.old }
+        ensures rules { IsPlan self.new.plan }
+    {
         self.settled = false;
         self.linked.clear();
         self.incoming.forget();
+        let known = mem::replace(&mut self.ends, Vec::new(self.alloc));
         fill(
             self.alloc,
             &mut self.hops,
-            &mut self.longest,
+            known,
             &self.contacts,
             &self.ranges,
             &self.table,
         )?;
         self.settled = true;
-        let linked = link_nodes(self.alloc, self)?;
-        let incoming = incoming_links(self.alloc, &linked)?;
+        Ok(())
+    }
+
+    /// Keeps these links of each node.
+    fn keep_links(&mut self, linked: Vec<NodeLinks<A>, A>, incoming: IncomingLinks<A>)
+        requires links { AreLinked self.old linked.items }
+        requires senders { AreSenders self.old linked.items incoming.starts.items incoming.named.items }
+        ensures { self.new ≡ self.old }
+    {
         self.linked = linked;
         self.incoming = incoming;
-        Ok(())
     }
 }
 
@@ -67,28 +88,43 @@ pub fn hop_of_contact<A: Allocator + Copy>(
     }
 }
 
-/// Puts the hop of each contact beside it, and beside each node how long the longest of its contacts lasts.
-///
-/// What is looked up for both goes again before it returns.
+/// Puts the hop of each contact beside it. What is looked up for that goes again before it returns.
 fn fill<A: Allocator + Copy>(
     alloc: A,
     hops: &mut Vec<Hop, A>,
-    longest: &mut Vec<u64, A>,
+    known: Vec<Ends, A>,
     contacts: &[Contact],
     ranges: &[Range],
     table: &NodeTable<A>,
 ) -> Result<(), AllocError>
     requires ranges { IsRangeList ranges.now }
     requires unique { IsUnique nat_eq table.now }
+    requires known { BeginEnds (keys table.now) contacts.now known.items }
     requires from { (k : ℕ) (d : Contact) → k < length contacts.now → IsTrue (has (slice_index_or contacts.now k d).from (keys table.now)) }
     requires to { (k : ℕ) (d : Contact) → k < length contacts.now → IsTrue (has (slice_index_or contacts.now k d).to (keys table.now)) }
-    ensures hops { OnOk result (AreHops (record { plan = record { contacts = []; ranges = ranges.now; greatest = 0 }; table = keys table.now }) contacts.now hops.new.items) }
-    ensures longest { OnOk result (NoneLastsLonger (keys table.now) contacts.now longest.new.items) }
+    ensures { OnOk result (AreHops (record { plan = record { contacts = []; ranges = ranges.now; greatest = 0 }; table = keys table.now }) contacts.now hops.new.items) }
 {
-    let ends = ends_of_contacts(alloc, contacts, table)?;
+    let ends = all_ends(alloc, known, contacts, table)?;
     let stretches = stretches_of(alloc, ranges, table)?;
-    fill_hops(hops, contacts, &ends, ranges, &stretches, table)?;
-    fill_longest(longest, contacts, &ends, table)
+    fill_hops(hops, contacts, &ends, ranges, &stretches, table)
+}
+
+/// The ends of each contact: those that are known, or else all looked up.
+fn all_ends<A: Allocator + Copy>(
+    alloc: A,
+    known: Vec<Ends, A>,
+    contacts: &[Contact],
+    table: &NodeTable<A>,
+) -> Result<Vec<Ends, A>, AllocError>
+    requires known { BeginEnds (keys table.now) contacts.now known.items }
+    requires from { (k : ℕ) (d : Contact) → k < length contacts.now → IsTrue (has (slice_index_or contacts.now k d).from (keys table.now)) }
+    requires to { (k : ℕ) (d : Contact) → k < length contacts.now → IsTrue (has (slice_index_or contacts.now k d).to (keys table.now)) }
+    ensures { IfOk result (λ v. AreEnds (keys table.now) contacts.now v.items) }
+{
+    if known.len() == contacts.len() {
+        return Ok(known);
+    }
+    ends_of_contacts(alloc, contacts, table)
 }
 
 /// Puts the hop of each contact beside it.
@@ -135,66 +171,5 @@ fn hop_between<A: Allocator + Copy>(
         end: contact.end,
         receiver: ends.to,
         light: light_in_stretches(ranges, of_sender, of_receiver, contact),
-    }
-}
-
-/// Puts beside each node how long the longest of its contacts lasts.
-fn fill_longest<A: Allocator + Copy>(
-    longest: &mut Vec<u64, A>,
-    contacts: &[Contact],
-    ends: &[Ends],
-    table: &NodeTable<A>,
-) -> Result<(), AllocError>
-    requires unique { IsUnique nat_eq table.now }
-    requires ends { AreEnds (keys table.now) contacts.now ends.now }
-    ensures { OnOk result (NoneLastsLonger (keys table.now) contacts.now longest.new.items) }
-{
-    longest.clear();
-    longest.resize(table.len(), 0)?;
-    for place in 0..contacts.len() {
-        note_contact_length(longest, &contacts[place], ends[place], table);
-    }
-    Ok(())
-}
-
-/// Notes beside its sender how long a contact lasts.
-fn note_contact_length<A: Allocator + Copy>(
-    longest: &mut [u64],
-    contact: &Contact,
-    ends: Ends,
-    table: &NodeTable<A>,
-)
-    requires unique { IsUnique nat_eq table.now }
-    requires ends { AreEndsOf (keys table.now) contact.now ends }
-    requires as_many { length longest.old ≡ length (keys table.now) }
-    ensures here { (k : ℕ) → slice_get (keys table.now) k ≡ Some contact.now.from → contact.now.end ≤ contact.now.start + slice_index longest.new k }
-    ensures kept { (k : ℕ) → slice_index longest.old k ≤ slice_index longest.new k }
-{
-    let _ = table;
-    note_length(
-        longest,
-        ends.from,
-        contact.end.saturating_sub(contact.start),
-    );
-}
-
-/// Notes beside a node how long a contact lasts.
-fn note_length(longest: &mut [u64], index: usize, lasts: u64)
-    requires { index < length longest.old }
-    ensures here { lasts ≤ slice_index longest.new index }
-    ensures kept { (k : ℕ) → slice_index longest.old k ≤ slice_index longest.new k }
-{
-    if longest[index] < lasts {
-        longest[index] = lasts;
-    }
-}
-
-/// How long a contact of the node of this index lasts at most.
-pub fn length_at(longest: &[u64], index: usize) -> u64
-    ensures { result ≡ slice_index longest.now index }
-{
-    match longest.get(index) {
-        Some(length) => *length,
-        None => 0,
     }
 }

@@ -9,4 +9,4 @@ returns g c =
     c.requires.numbered c.requires.stands c.requires.table c.keep_node-2.ensures.unique
     (c.is_in_use-from_used.ensures ∙ in_use_is c.args.contact.now.number c.args.contact.now.from c.args.contacts.now)
     (c.is_in_use-to_used.ensures ∙ in_use_is c.args.contact.now.number c.args.contact.now.to c.args.contacts.now)
-    c.take_number.ensures.lists c.take_number.ensures.starts c.keep_node.ensures.lists c.keep_node.ensures.starts c.keep_node-2.ensures.lists c.keep_node-2.ensures.starts
+    c.take_number.ensures.lists c.keep_node.ensures.lists c.keep_node-2.ensures.lists

@@ -41,7 +41,7 @@ pub fn links_of_node<A: Allocator + Copy>(
     requires index { index < length plan.now.table }
     ensures { IfOk result (λ s. (node : ℕ) → slice_get plan.now.table index ≡ Some node → AreLinksOf plan.now node s.links.items s.passes.items) }
 {
-    let mut passes = passes_of(alloc, plan, plan.open_contacts(index, 0))?;
+    let mut passes = passes_of(alloc, plan, plan.from_index(index))?;
     order_passes(&mut passes);
     let links = links_over(alloc, &passes)?;
     Ok(NodeLinks { links, passes })

@@ -1,10 +1,11 @@
-use Rattle.std.proofs.Common.{◌≡◌, ◌∙◌, ap, sym, not, eqb, rules, find, Some, List}
+use Rattle.std.proofs.Common.{◌≡◌, ◌∙◌, ap, sym, not, eqb, rules, filter, find, Some, List}
 use Rattle.std.proofs.lemmas.Fn.{filter_same}
 use Rattle.sabr_model.specs.declared.contact.Contact.{Contact}
 use Rattle.sabr_model.specs.Plan.{ContactPlan, TabledPlan, opens}
 use Rattle.sabr_model.specs.Adding.{without_contact}
+use Rattle.sabr_model.specs.Gathering.{openings_of}
 use Rattle.sabr_model.proofs.Deletions.{found_by_number, without_opening, IsPlan-fewer_contacts}
-use Rattle.sabr_model.proofs.ReadyLemmas.{not_ready}
+use Rattle.sabr_model.proofs.ReadyLemmas.{no_ends, not_ready}
 use Rattle.sabr_model.proofs.plan.Plan.delete_contact.Goals as goal
 
 pub forget_contact-requires : goal.forget_contact-requires
@@ -22,10 +23,15 @@ pub invariant_of-self : goal.invariant_of-self
 invariant_of-self g c =
     let p : ContactPlan = record { contacts = c.self.inside.contacts.items; ranges = c.self.inside.ranges.items; greatest = c.self.inside.greatest } in
     let kept = filter_same _ (λ (d : Contact). not (eqb d.number c.in-Some.contact.now.number)) _ (λ d b f' k. search rules) _ _ c.retain.ensures.filtered in
-    rw kept (
+    rw (kept, c.clear.ensures.items) (
       IsPlan-fewer_contacts p (λ d. not (eqb d.number c.in-Some.contact.now.number)) c.self.invariant.0,
       rw c.deref-2.ensures.value at c.forget_contact.ensures,
-      not_ready _ _ _,
+      not_ready _ _ _ (no_ends _ _),
+      λ e.
+          let cs = c.self.inside.contacts.items in
+          let found : find (opens c.args.from c.args.to c.args.start) cs ≡ Some c.in-Some.contact.now = ap (find (opens c.args.from c.args.to c.args.start)) (sym c.deref.ensures.value) ∙ sym c.in-Some.ensures in
+          c.forget.ensures e
+          ∙ ap openings_of (ap (filter (λ d. not (opens c.args.from c.args.to c.args.start d))) c.deref-3.ensures.value ∙ without_opening p c.args.from c.args.to c.args.start c.in-Some.contact.now c.self.invariant.0 found),
     )
 
 pub returns-clause-ok : goal.returns-clause-ok

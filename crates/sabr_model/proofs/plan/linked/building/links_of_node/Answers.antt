@@ -2,8 +2,9 @@ use Rattle.std.proofs.Common.{◌≡◌, List, length, take, drop, ◌++◌, sym
 use Rattle.std.proofs.lemmas.List.{take_at}
 use Rattle.sabr_model.specs.declared.link.Pass.{Pass}
 use Rattle.sabr_model.specs.Links.{AreLinksOf}
-use Rattle.sabr_model.specs.Linking.{AreOrdered, AreRows}
+use Rattle.sabr_model.specs.Linking.{AreSent, AreOrdered, AreRows}
 use Rattle.sabr_model.proofs.LinkLemmas.{are_links}
+use Rattle.sabr_model.proofs.Tabled.{are_sent}
 use Rattle.sabr_model.proofs.plan.linked.building.links_of_node.Goals as goal
 
 pub returns : goal.returns
@@ -18,4 +19,5 @@ returns g c = λ node e.
     let back : take c.in_ok-passes.passes.len (ready ++ drop (length ready) made) ≡ ready = take_at ready (drop (length ready) made) c.in_ok-passes.passes.len many in
     let rows : AreRows ready links (length ready) = subst (λ (xs : List Pass). AreRows xs links (length xs)) (c.deref.ensures.value ∙ back) c.in_ok-links.ensures in
     subst (λ (xs : List Pass). AreLinksOf p node links xs) (sym back)
-    (are_links p node c.open_contacts.result.now made ready links c.requires.rules (c.open_contacts.ensures node e) c.in_ok-passes.ensures.are ordered rows)
+    (are_links p node c.from_index.result.now made ready links
+    (subst (AreSent p.plan node) (sym (c.from_index.ensures node e)) (are_sent p.plan node c.requires.rules)) c.in_ok-passes.ensures.are ordered rows)

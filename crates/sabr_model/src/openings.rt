@@ -1,0 +1,97 @@
+//! The openings of contacts, in a set in which a duplicate is found in one step.
+
+ghost use Rattle.std.specs.Prelude.{◌≡◌, [], ◌∷◌, ◌++◌, false, not, filter};
+ghost use Rattle.std.specs.List.{list_any};
+ghost use Rattle.sabr_model.specs.Plan.{opens};
+ghost use Rattle.sabr_model.specs.Gathering.{KnowsOpenings};
+
+use crate::contact::Contact;
+use crate::opening::Opening;
+use indexmap::IndexSet;
+use std::alloc::{AllocError, Allocator};
+use std::hash::{BuildHasherDefault, FoldHasher};
+
+/// The openings of contacts; nothing where they weren't kept from the first contact on.
+#[derive(Drop)]
+pub struct Openings<A: Allocator + Copy> {
+    /// What no two contacts share.
+    pub set: IndexSet<Opening, BuildHasherDefault<FoldHasher>, A>,
+    /// Whether the set is kept.
+    pub kept: bool,
+}
+
+impl<A: Allocator + Copy> Openings<A> {
+    /// The openings of no contact. It takes no memory.
+    pub fn new(alloc: A) -> Openings<A>
+        ensures { result.set.keys ≡ [] }
+    {
+        Openings {
+            set: IndexSet::new(alloc),
+            kept: true,
+        }
+    }
+
+    /// No set, for contacts that are there already. It takes no memory.
+    pub fn without_set(alloc: A) -> Openings<A>
+        ensures { result.kept ≡ false }
+    {
+        Openings {
+            set: IndexSet::new(alloc),
+            kept: false,
+        }
+    }
+
+    /// Whether one of the contacts has this sender, receiver and start. One step where the set is kept.
+    pub fn has(&self, contacts: &[Contact], from: u64, to: u64, start: u64) -> bool
+        requires { KnowsOpenings self.now.kept self.now.set.keys contacts.now }
+        ensures { result ≡ list_any (opens from to start) contacts.now }
+    {
+        if self.kept {
+            let opening = Opening { from, to, start };
+            self.set.contains(&opening)
+        } else {
+            contacts
+                .iter()
+                .any(|c| from == c.from && to == c.to && start == c.start)
+        }
+    }
+
+    /// Makes room for one more.
+    pub fn reserve(&mut self) -> Result<(), AllocError>
+        ensures kept { self.new.kept ≡ self.old.kept }
+        ensures set { self.new.set.keys ≡ self.old.set.keys }
+    {
+        if self.kept {
+            self.set.reserve(1)?;
+        }
+        Ok(())
+    }
+
+    /// Puts down that of a contact that goes behind the others.
+    pub fn note(&mut self, contacts: &[Contact], contact: &Contact)
+        requires known { KnowsOpenings self.old.kept self.old.set.keys contacts.now }
+        requires fresh { list_any (opens contact.now.from contact.now.to contact.now.start) contacts.now ≡ false }
+        ensures { KnowsOpenings self.new.kept self.new.set.keys (contacts.now ++ contact.now ∷ []) }
+    {
+        let _ = contacts;
+        let opening = Opening {
+            from: contact.from,
+            to: contact.to,
+            start: contact.start,
+        };
+        let Ok(_) = self.set.insert(opening) else {
+            self.kept = false;
+            return;
+        };
+    }
+
+    /// Takes out that of the contact with this sender, receiver and start. It takes no memory.
+    pub fn forget(&mut self, contacts: &[Contact], from: u64, to: u64, start: u64)
+        requires { KnowsOpenings self.old.kept self.old.set.keys contacts.now }
+        ensures { KnowsOpenings self.new.kept self.new.set.keys (filter (λ c. not (opens from to start c)) contacts.now) }
+    {
+        let _ = contacts;
+        self.set
+            .retain(|o| !(from == o.from && to == o.to && start == o.start));
+    }
+}
