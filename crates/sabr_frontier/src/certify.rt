@@ -6,6 +6,7 @@ ghost use Rattle.std.specs.Option.{option_and_then, option_copied};
 ghost use Rattle.std.specs.Ordering.{is_lt};
 ghost use Rattle.sabr_model.specs.Plan.{IsPlan};
 ghost use Rattle.sabr_model.specs.Record.{by_record};
+ghost use Rattle.sabr_search.specs.Kept.{IsKept};
 ghost use Rattle.sabr_frontier.specs.Laws.{CarriesLeast};
 ghost use Rattle.sabr_frontier.specs.Listing.{state_at};
 ghost use Rattle.sabr_frontier.specs.Shape.{shape_of, shown};
@@ -17,7 +18,7 @@ use crate::finder::ask;
 use crate::places::{carried, prefix};
 use crate::tree::Tree;
 use sabr_model::{NoMemory, Plan, Request, Route};
-use sabr_search::BestOf;
+use sabr_search::{BestOf, Kept};
 use std::alloc::Allocator;
 use std::cmp::Ordering;
 
@@ -69,14 +70,17 @@ impl<A: Allocator + Copy> Tree<A> {
         plan: &Plan<A>,
         request: &Request,
         finder: &mut B,
+        kept: &mut Kept<A>,
     ) -> Result<bool, NoMemory>
-        requires { IsTree plan.now.plan request.now (shape_of self.now) }
+        requires tree { IsTree plan.now.plan request.now (shape_of self.now) }
+        requires kept { IsKept plan.now request.now kept.old }
         ensures least { IfOk result (λ yes. IsTrue yes ↔ CarriesLeast plan.now.plan request.now (shown (shape_of self.now))) }
         ensures called { B.calls_of finder.new ≤ B.calls_of finder.old + length self.now.nodes.items }
+        ensures kept { IsKept plan.now request.now kept.new }
     {
         for node in self.nodes.iter() {
             let front = prefix(self.leaves.as_slice(), node);
-            let found = ask(finder, plan, request, front, node.excluded.as_slice())?;
+            let found = ask(finder, kept, plan, request, front, node.excluded.as_slice())?;
             if !is_same(&found, &node.route) {
                 return Ok(false);
             }
@@ -91,12 +95,15 @@ impl<A: Allocator + Copy> Tree<A> {
         plan: &Plan<A>,
         request: &Request,
         finder: &mut B,
+        kept: &mut Kept<A>,
     ) -> Result<bool, NoMemory>
         requires plan { IsPlan plan.now.plan }
         requires tree { IsTree plan.now.plan request.now (shape_of self.now) }
         requires room { IsRoomy self.now }
+        requires kept { IsKept plan.now request.now kept.old }
         ensures placed { IfOk result (λ yes. IsTrue yes ↔ (shown (shape_of self.now) ≡ state_at plan.now.plan request.now (shown (shape_of self.now)).emitted)) }
         ensures called { B.calls_of finder.new ≤ B.calls_of finder.old + length self.now.nodes.items }
+        ensures kept { IsKept plan.now request.now kept.new }
     {
         if let Some(last) = self.last_given() {
             if is_passed(last, self.leaves.as_slice()) {
@@ -108,6 +115,6 @@ impl<A: Allocator + Copy> Tree<A> {
                 }
             }
         }
-        self.carries_least(plan, request, finder)
+        self.carries_least(plan, request, finder, kept)
     }
 }

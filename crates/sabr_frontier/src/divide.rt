@@ -2,6 +2,7 @@
 
 ghost use Rattle.std.specs.Prelude.{◌≡◌, ℕ, ◌+◌, ◌≤◌, ◌<◌, take, drop, slice_index, slice_get, length, vec_len, vec_capacity, Some, [], ◌∷◌, IfOk, OnOk, OnErr, IsTrue};
 ghost use Rattle.sabr_model.specs.Route.{is_route};
+ghost use Rattle.sabr_search.specs.Kept.{IsKept};
 ghost use Rattle.sabr_frontier.specs.Best.{best_of};
 ghost use Rattle.sabr_frontier.specs.Undo.{modify};
 ghost use Rattle.sabr_frontier.specs.Taking.{fresh_nodes, wide_of};
@@ -12,7 +13,7 @@ use crate::excluded::Excluded;
 use crate::finder::ask;
 use crate::tree::{Node, NodeId};
 use sabr_model::{NoMemory, Numbers, Plan, Request, Route};
-use sabr_search::BestOf;
+use sabr_search::{BestOf, Kept};
 use std::alloc::{Allocator, Global};
 
 /// What a part carries once its route is given, and the new parts.
@@ -50,17 +51,27 @@ fn fresh_node<B: BestOf<A>, A: Allocator + Copy>(
     plan: &Plan<A>,
     request: &Request,
     finder: &mut B,
+    kept: &mut Kept<A>,
     leaf: usize,
     route: &[u32],
     count: usize,
 ) -> Result<Node<A>, NoMemory>
     requires route { IsTrue (is_route plan.now.plan request.now route.now) }
+    requires kept { IsKept plan.now request.now kept.old }
     requires longer { count < length route.now }
     ensures node { IfOk result (λ n. n ≡ record { leaf = leaf; length = count; excluded = slice_index route.now count ∷ []; route = best_of plan.now.plan request.now (take count route.now) (slice_index route.now count ∷ []) }) }
     ensures called { OnOk result (B.calls_of finder.new ≡ B.calls_of finder.old + 1) }
+    ensures kept { IsKept plan.now request.now kept.new }
 {
     let excluded = Excluded::one(alloc, route[count])?;
-    let found = ask(finder, plan, request, &route[..count], excluded.as_slice())?;
+    let found = ask(
+        finder,
+        kept,
+        plan,
+        request,
+        &route[..count],
+        excluded.as_slice(),
+    )?;
     Ok(Node {
         leaf,
         length: count,
@@ -76,20 +87,23 @@ fn fresh_nodes<B: BestOf<A>, A: Allocator + Copy>(
     plan: &Plan<A>,
     request: &Request,
     finder: &mut B,
+    kept: &mut Kept<A>,
     leaf: usize,
     route: &[u32],
     first: usize,
 ) -> Result<Vec<Node<A>, A>, NoMemory>
     requires route { IsTrue (is_route plan.now.plan request.now route.now) }
+    requires kept { IsKept plan.now request.now kept.old }
     requires within { first ≤ length route.now }
     ensures nodes { IfOk result (λ v. v.items ≡ fresh_nodes (best_of plan.now.plan request.now) leaf (take first route.now) (drop first route.now)) }
     ensures called { IfOk result (λ v. B.calls_of finder.new ≡ B.calls_of finder.old + length v.items) }
+    ensures kept { IsKept plan.now request.now kept.new }
 {
     let Ok(mut nodes) = Vec::with_capacity(alloc, route.len() - first) else {
         return Err(NoMemory);
     };
     for count in first..route.len() {
-        let node = fresh_node(alloc, plan, request, finder, leaf, route, count)?;
+        let node = fresh_node(alloc, plan, request, finder, kept, leaf, route, count)?;
         nodes.push_reserved(node);
     }
     Ok(nodes)
@@ -102,25 +116,29 @@ fn search<B: BestOf<A>, A: Allocator + Copy>(
     plan: &Plan<A>,
     request: &Request,
     finder: &mut B,
+    kept: &mut Kept<A>,
     node: &Node<A>,
     route: &[u32],
     leaf: usize,
 ) -> Result<Division<A>, NoMemory>
     requires route { IsTrue (is_route plan.now.plan request.now route.now) }
+    requires kept { IsKept plan.now request.now kept.old }
     requires longer { node.now.length < length route.now }
     ensures found { IfOk result (λ w. w.found ≡ best_of plan.now.plan request.now (take node.now.length route.now) node.now.excluded) }
     ensures fresh { IfOk result (λ w. w.fresh.items ≡ fresh_nodes (best_of plan.now.plan request.now) leaf (take (node.now.length + 1) route.now) (drop (node.now.length + 1) route.now)) }
     ensures called { IfOk result (λ w. B.calls_of finder.new ≡ B.calls_of finder.old + (length w.fresh.items + 1)) }
+    ensures kept { IsKept plan.now request.now kept.new }
 {
     let count = node.length;
     let found = ask(
         finder,
+        kept,
         plan,
         request,
         &route[..count],
         node.excluded.as_slice(),
     )?;
-    let fresh = fresh_nodes(alloc, plan, request, finder, leaf, route, count + 1)?;
+    let fresh = fresh_nodes(alloc, plan, request, finder, kept, leaf, route, count + 1)?;
     Ok(Division { found, fresh })
 }
 
@@ -163,6 +181,7 @@ pub fn divide<B: BestOf<A>, A: Allocator + Copy>(
     plan: &Plan<A>,
     request: &Request,
     finder: &mut B,
+    kept: &mut Kept<A>,
     nodes: &mut Vec<Node<A>, A>,
     node: NodeId,
     route: &[u32],
@@ -170,17 +189,28 @@ pub fn divide<B: BestOf<A>, A: Allocator + Copy>(
 ) -> Result<Division<A>, NoMemory>
     requires in_range { node.0 < vec_len nodes.old }
     requires route { IsTrue (is_route plan.now.plan request.now route.now) }
+    requires kept { IsKept plan.now request.now kept.old }
     requires next { (n : Node A) → slice_get nodes.old.items node.0 ≡ Some n → CanExclude n route.now }
     ensures ok { OnOk result (nodes.new.items ≡ modify (excluding route.now) nodes.old.items node.0) }
     ensures found { IfOk result (λ w. (n : Node A) → slice_get nodes.old.items node.0 ≡ Some n → w.found ≡ best_of plan.now.plan request.now (take n.length route.now) (wide_of n route.now)) }
     ensures fresh { IfOk result (λ w. (n : Node A) → slice_get nodes.old.items node.0 ≡ Some n → w.fresh.items ≡ fresh_nodes (best_of plan.now.plan request.now) leaf (take (n.length + 1) route.now) (drop (n.length + 1) route.now)) }
     ensures called { IfOk result (λ w. B.calls_of finder.new ≡ B.calls_of finder.old + (length w.fresh.items + 1)) }
+    ensures kept { IsKept plan.now request.now kept.new }
     ensures err { OnErr result (nodes.new.items ≡ nodes.old.items) }
     ensures len { vec_len nodes.new ≡ vec_len nodes.old }
     ensures capacity { vec_capacity nodes.new ≡ vec_capacity nodes.old }
 {
     exclude_next(nodes, node, route)?;
-    match search(alloc, plan, request, finder, &nodes[node.0], route, leaf) {
+    match search(
+        alloc,
+        plan,
+        request,
+        finder,
+        kept,
+        &nodes[node.0],
+        route,
+        leaf,
+    ) {
         Ok(division) => Ok(division),
         Err(refused) => {
             include_next(nodes, node, route);

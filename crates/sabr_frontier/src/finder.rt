@@ -2,24 +2,28 @@
 
 ghost use Rattle.std.specs.Prelude.{◌≡◌, ◌+◌, IfOk, IsTrue};
 ghost use Rattle.sabr_model.specs.Route.{is_prefix};
+ghost use Rattle.sabr_search.specs.Kept.{IsKept};
 ghost use Rattle.sabr_frontier.specs.Best.{IsBest};
 
 use sabr_model::{NoMemory, Plan, Request, Route};
-use sabr_search::{BestOf, Part};
+use sabr_search::{BestOf, Kept, Part};
 use std::alloc::Allocator;
 
-/// Asks a finder for the least route of a part.
+/// Asks a finder for the least route of a part, with what is kept for the plan and the request.
 #[tactic(auto, unfolding(crate::specs::Best::best_of))]
 pub fn ask<B: BestOf<A>, A: Allocator + Copy>(
     finder: &mut B,
+    kept: &mut Kept<A>,
     plan: &Plan<A>,
     request: &Request,
     prefix: &[u32],
     excluded: &[u32],
 ) -> Result<Option<Route<A>>, NoMemory>
-    requires { IsTrue (is_prefix plan.now.plan request.now prefix.now) }
+    requires fits { IsTrue (is_prefix plan.now.plan request.now prefix.now) }
+    requires kept { IsKept plan.now request.now kept.old }
     ensures best { IfOk result (IsBest plan.now.plan request.now prefix.now excluded.now) }
     ensures called { B.calls_of finder.new ≡ B.calls_of finder.old + 1 }
+    ensures kept { IsKept plan.now request.now kept.new }
 {
-    finder.best(plan, request, Part { prefix, excluded })
+    finder.best_beside(kept, plan, request, Part { prefix, excluded })
 }

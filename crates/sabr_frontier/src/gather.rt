@@ -3,6 +3,7 @@
 ghost use Rattle.std.specs.Prelude.{◌≡◌, ℕ, ◌+◌, ◌*◌, ◌≤◌, ◌++◌, map, length, IfOk, OnOk};
 ghost use Rattle.sabr_model.specs.Plan.{IsPlan};
 ghost use Rattle.sabr_model.specs.Record.{record_of};
+ghost use Rattle.sabr_search.specs.Kept.{IsKept};
 ghost use Rattle.sabr_frontier.specs.Listing.{searches_in, steps};
 ghost use Rattle.sabr_frontier.specs.Shape.{shape_of, shown};
 ghost use Rattle.sabr_frontier.specs.Undo.{IsRoomy};
@@ -10,7 +11,7 @@ ghost use Rattle.sabr_frontier.specs.Session.{IsSound, tree_before};
 
 use crate::tree::Tree;
 use sabr_model::{NoMemory, Plan, Request, Route};
-use sabr_search::BestOf;
+use sabr_search::{BestOf, Kept};
 use std::alloc::Allocator;
 
 impl<A: Allocator + Copy> Tree<A> {
@@ -22,6 +23,7 @@ impl<A: Allocator + Copy> Tree<A> {
         plan: &Plan<A>,
         request: &Request,
         finder: &mut B,
+        kept: &mut Kept<A>,
         count: u32,
         given: &mut Vec<Route<A>, A>,
     ) -> Result<u64, NoMemory>
@@ -30,6 +32,7 @@ impl<A: Allocator + Copy> Tree<A> {
         requires count { count ≤ 10000 }
         requires sound { IsSound plan.now.plan request.now (shape_of self.old) }
         requires room { IsRoomy self.old }
+        requires kept { IsKept plan.now request.now kept.old }
         ensures routes { OnOk result (given.new.items ≡ given.old.items ++ map (record_of plan.now.plan request.now) (steps plan.now.plan request.now count (shown (shape_of self.old))).0) }
         ensures state { OnOk result (shown (shape_of self.new) ≡ (steps plan.now.plan request.now count (shown (shape_of self.old))).1) }
         ensures entries { OnOk result (length self.new.journal.items ≡ length self.old.journal.items + length (steps plan.now.plan request.now count (shown (shape_of self.old))).0) }
@@ -39,13 +42,14 @@ impl<A: Allocator + Copy> Tree<A> {
         ensures longer { length self.old.journal.items ≤ length self.new.journal.items }
         ensures back { tree_before (length self.old.journal.items) (shape_of self.new) ≡ shape_of self.old }
         ensures room { IsRoomy self.new }
+        ensures kept { IsKept plan.now request.now kept.new }
     {
         let mut searches = 0;
         for _ in 0..count {
             if self.is_empty() {
                 return Ok(searches);
             }
-            searches += self.take(alloc, plan, request, finder, given)?;
+            searches += self.take(alloc, plan, request, finder, kept, given)?;
         }
         Ok(searches)
     }

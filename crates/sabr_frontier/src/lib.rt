@@ -20,8 +20,6 @@ mod root;
 mod rows;
 mod session;
 mod take;
-#[cfg(test)]
-mod tests;
 mod tree;
 mod undo;
 mod views;

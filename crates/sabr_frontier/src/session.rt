@@ -14,7 +14,7 @@ use crate::finder::ask;
 use crate::tree::Tree;
 use crate::views::Parts;
 use sabr_model::{NoMemory, Plan, Request, Route};
-use sabr_search::BestOf;
+use sabr_search::{BestOf, Kept};
 use std::alloc::{Allocator, Global};
 use std::marker::Model;
 
@@ -27,6 +27,7 @@ pub struct Session<'p, B: BestOf<A>, A: Allocator + Copy = Global> {
     plan: &'p Plan<A>,
     request: Request,
     finder: B,
+    kept: Kept<A>,
     tree: Tree<A>,
     pages: Vec<usize, A>,
     searches: u64,
@@ -39,7 +40,7 @@ impl<'p, B: BestOf<A>, A: Allocator + Copy> Model for Session<'p, B, A> {
 
     ghost view = { λ s. seen s.plan.now s.request s.tree s.pages.items s.searches (B.calls_of s.finder) };
 
-    ghost invariant = { λ s. IsSession s.plan.now s.request s.tree s.pages.items };
+    ghost invariant = { λ s. IsSession s.plan.now s.request s.tree s.pages.items s.kept };
 }
 
 impl<'p, B: BestOf<A>, A: Allocator + Copy> Session<'p, B, A> {
@@ -59,13 +60,15 @@ impl<'p, B: BestOf<A>, A: Allocator + Copy> Session<'p, B, A> {
         // contracts learn here that the plan and the request keep their rules
         let _ = plan.contacts();
         let _ = request.max_hops();
-        let found = ask(&mut finder, plan, &request, &[], &[])?;
+        let mut kept = Kept::new(alloc);
+        let found = ask(&mut finder, &mut kept, plan, &request, &[], &[])?;
         let tree = Tree::root(alloc, found)?;
         Ok(Session {
             alloc,
             plan,
             request,
             finder,
+            kept,
             tree,
             pages: Vec::new(alloc),
             searches: 1,
@@ -88,11 +91,13 @@ impl<'p, B: BestOf<A>, A: Allocator + Copy> Session<'p, B, A> {
         // contracts learn here that the plan and the request keep their rules
         let _ = plan.contacts();
         let _ = request.max_hops();
+        let kept = Kept::new(alloc);
         Session {
             alloc,
             plan,
             request,
             finder,
+            kept,
             tree,
             pages: Vec::new(alloc),
             searches: 0,
@@ -135,6 +140,7 @@ impl<'p, B: BestOf<A>, A: Allocator + Copy> Session<'p, B, A> {
             self.plan,
             &self.request,
             &mut self.finder,
+            &mut self.kept,
             count,
             &mut given,
         ) {
@@ -182,7 +188,7 @@ impl<'p, B: BestOf<A>, A: Allocator + Copy> Session<'p, B, A> {
         ensures ok { IfOk result (λ yes. IsTrue yes ↔ (self.old.state ≡ state_at self.old.plan.plan self.old.request self.old.state.emitted)) }
     {
         self.tree
-            .is_placed(self.plan, &self.request, &mut self.finder)
+            .is_placed(self.plan, &self.request, &mut self.finder, &mut self.kept)
     }
 
     /// Whether there is a page to take back: one that gave routes and wasn't taken back yet.

@@ -3,6 +3,7 @@
 ghost use Rattle.std.specs.Prelude.{◌≡◌, ℕ, ◌+◌, ◌<◌, ◌≤◌, ◌∷◌, ◌++◌, [], length, vec_len, slice_get, Some, IsSome, IfOk, IfSome, OnOk, OnErr};
 ghost use Rattle.sabr_model.specs.Plan.{IsPlan};
 ghost use Rattle.sabr_model.specs.Record.{RouteRecord};
+ghost use Rattle.sabr_search.specs.Kept.{IsKept};
 ghost use Rattle.sabr_frontier.specs.Shape.{shape_of, route_at};
 ghost use Rattle.sabr_frontier.specs.Undo.{IsRoomy};
 ghost use Rattle.sabr_frontier.specs.Queue.{InPairs, IsBefore};
@@ -14,7 +15,7 @@ use crate::divide::{copied, divide, numbers};
 use crate::places::index_place;
 use crate::tree::{Node, NodeId, Tree};
 use sabr_model::{NoMemory, Plan, Request, Route};
-use sabr_search::BestOf;
+use sabr_search::{BestOf, Kept};
 use std::alloc::{Allocator, Global};
 
 /// What is known before the tree changes: a copy of the route, the place of the new nodes in the index, and how many
@@ -64,17 +65,20 @@ impl<A: Allocator + Copy> Tree<A> {
         plan: &Plan<A>,
         request: &Request,
         finder: &mut B,
+        kept: &mut Kept<A>,
         given: &mut Vec<Route<A>, A>,
     ) -> Result<u64, NoMemory>
         requires plan { IsPlan plan.now.plan }
         requires tree { IsTree plan.now.plan request.now (shape_of self.old) }
         requires waiting { 0 < length (shape_of self.old).queue }
         requires room { IsRoomy self.old }
+        requires kept { IsKept plan.now request.now kept.old }
         ensures ok { OnOk result (shape_of self.new ≡ taken plan.now.plan request.now (shape_of self.old)) }
         ensures given { OnOk result (IfSome (least_route (shape_of self.old)) (λ x. given.new.items ≡ given.old.items ++ x ∷ [])) }
         ensures count { IfOk result (λ n. n ≡ new_count (shape_of self.old)) }
         ensures called { IfOk result (λ n. B.calls_of finder.new ≡ B.calls_of finder.old + n) }
         ensures err { OnErr result (shape_of self.new ≡ shape_of self.old) }
+        ensures kept { IsKept plan.now request.now kept.new }
         ensures room { IsRoomy self.new }
     {
         let Some(node) = self.queue.least(self.nodes.as_slice()) else {
@@ -90,6 +94,7 @@ impl<A: Allocator + Copy> Tree<A> {
             plan,
             request,
             finder,
+            kept,
             &mut self.nodes,
             node,
             numbers(&prepared.route),

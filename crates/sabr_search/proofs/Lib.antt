@@ -31,3 +31,6 @@ pub mod Shortness
 pub mod FirstLimits
 pub mod Cuts
 pub mod FaultsOfPrefixes
+pub mod Tables
+pub mod AllLayers
+pub mod Beside

@@ -15,3 +15,6 @@ pub mod Picks
 pub mod Told
 pub mod Entering
 pub mod Part
+pub mod Kept
+pub mod Following
+pub mod Laying

@@ -21,7 +21,7 @@ use std::alloc::Allocator;
 const LAST_TIME: u64 = 253370764799;
 
 /// The record of a route: one look for each of its contacts.
-fn record<A: Allocator + Copy>(
+pub fn record<A: Allocator + Copy>(
     task: &Task<'_, A>,
     looks: &mut Looks,
     contacts: Vec<u32, A>,

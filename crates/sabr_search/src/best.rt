@@ -2,10 +2,12 @@
 
 ghost use Rattle.std.specs.Prelude.{◌≡◌, ℕ, ◌+◌, ◌*◌, ◌≤◌, IfOk, IsTrue, length};
 ghost use Rattle.sabr_search.specs.Part.{IsLeast};
+ghost use Rattle.sabr_search.specs.Kept.{IsKept};
 ghost use Rattle.sabr_model.specs.Route.{is_prefix};
 ghost use Rattle.sabr_model.specs.Table.{node_count};
 ghost use Rattle.sabr_search.specs.Told.{hops_told};
 
+use crate::kept::Kept;
 use crate::part::Part;
 use sabr_model::{NoMemory, Plan, Request, Route};
 use std::alloc::Allocator;
@@ -37,6 +39,32 @@ pub trait BestOf<A: Allocator + Copy>: Drop {
         ensures bound { looks_of self.new ≤ (3 * node_count plan.now.plan.contacts + 1) * length plan.now.plan.contacts }
         ensures counted { IfOk result (λ answer. hops_told answer ≤ looks_of self.new) }
         ensures called { calls_of self.new ≡ calls_of self.old + 1 };
+
+    /// The same, with what is kept for the searches of this plan and request.
+    ///
+    /// The answer doesn't depend on what is kept. The call counts as one of `best`.
+    ///
+    /// # Errors
+    ///
+    /// [`NoMemory`] where a growth was refused. The finder and what is kept can be used again.
+    fn best_beside(
+        &mut self,
+        kept: &mut Kept<A>,
+        plan: &Plan<A>,
+        request: &Request,
+        part: Part<'_>,
+    ) -> Result<Option<Route<A>>, NoMemory>
+        requires fits { IsTrue (is_prefix plan.now.plan request.now part.prefix.now) }
+        requires kept { IsKept plan.now request.now kept.old }
+        ensures least { IfOk result (IsLeast plan.now.plan request.now part.entry.prefix.now part.entry.excluded.now) }
+        ensures bound { looks_of self.new ≤ (3 * node_count plan.now.plan.contacts + 1) * length plan.now.plan.contacts }
+        ensures counted { IfOk result (λ answer. hops_told answer ≤ looks_of self.new) }
+        ensures called { calls_of self.new ≡ calls_of self.old + 1 }
+        ensures kept { IsKept plan.now request.now kept.new }
+    {
+        let _kept = kept;
+        self.best(plan, request, part)
+    }
 
     /// How many times the last call of `best` read a contact's record, 0 before the first.
     fn looks(&self) -> u64

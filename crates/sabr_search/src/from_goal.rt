@@ -212,7 +212,7 @@ impl<A: Allocator + Copy> Layers<A> {
 
     /// Makes the layer in front of layer `left`; tells whether the start is in time for an entry of `left`, or nothing
     /// as `take_senders` does.
-    fn next_back(
+    pub fn next_back(
         &mut self,
         task: &Task<'_, A>,
         looks: &mut Looks,
@@ -251,7 +251,7 @@ impl<A: Allocator + Copy> Layers<A> {
     }
 
     /// Layer 0: the goal alone.
-    fn first_back(&mut self, task: &Task<'_, A>, delivery: u64) -> Result<(), NoMemory>
+    pub fn first_back(&mut self, task: &Task<'_, A>, delivery: u64) -> Result<(), NoMemory>
         requires task { IsTask task.now }
         requires early { delivery < never }
         ensures ends { OnOk result (self.new.ends.items ≡ 0 ∷ 1 ∷ []) }

@@ -1,14 +1,17 @@
 //! The finder that settles nodes first, and then makes only the layers that the least route needs.
 
-ghost use Rattle.std.specs.Prelude.{◌≡◌, ◌≤◌, ◌+◌, ◌-◌, ◌*◌, IfOk, IsTrue, length};
+ghost use Rattle.std.specs.Prelude.{◌≡◌, ◌⊎◌, ◌≤◌, ◌<◌, ◌+◌, ◌-◌, ◌*◌, IfOk, IfSome, IfNone, IsTrue, length};
 ghost use Rattle.sabr_model.specs.Route.{is_prefix};
 ghost use Rattle.sabr_model.specs.Table.{node_count};
 ghost use Rattle.sabr_search.specs.Part.{IsLeast};
 ghost use Rattle.sabr_search.specs.Task.{IsTask, IsBehind};
 ghost use Rattle.sabr_search.specs.Told.{hops_told};
+ghost use Rattle.sabr_search.specs.Kept.{IsKept};
+ghost use Rattle.sabr_search.specs.Following.{tabled_of};
 
 use crate::best::BestOf;
 use crate::enter::enter;
+use crate::kept::Kept;
 use crate::layers::Layers;
 use crate::limits::limits_of;
 use crate::looks::Looks;
@@ -33,11 +36,12 @@ fn least_route<A: Allocator + Copy>(
     requires fits { IsTrue (is_prefix task.now.plan task.now.request prefix.now) }
     requires hops { max_hops ≡ task.now.request.max_hops }
     requires nodes { length task.now.table ≤ 40000 }
-    requires few { looks.old.count ≤ length prefix.now }
+    requires few { looks.old.count ≤ length task.now.plan.contacts }
     ensures least { IfOk result (IsLeast task.now.plan task.now.request prefix.now task.now.excluded) }
     ensures bound { looks.new.count ≤ (3 * length task.now.table + 1) * length task.now.plan.contacts }
     ensures counted { IfOk result (λ answer. hops_told answer ≤ looks.new.count) }
     ensures cut { IfOk result (λ answer. max_hops ≡ 20000 → looks.new.count ≤ (3 * (hops_told answer - length prefix.now) + 3) * length task.now.plan.contacts) }
+    ensures longer { IfOk result (λ answer. IfSome answer (λ route. length prefix.now < length route.contacts)) }
 {
     let first = settling.run(task, looks)?;
     if first.hops == 0 {
@@ -45,6 +49,67 @@ fn least_route<A: Allocator + Copy>(
     }
     let limits = limits_of(max_hops, prefix.len(), first);
     layers.answer_by(alloc, task, looks, prefix, limits, &settling.arrival, first)
+}
+
+/// The least route behind the prefix: read off a table that is kept, or else by a search.
+fn least_beside<A: Allocator + Copy>(
+    alloc: A,
+    settling: &mut Settling<A>,
+    layers: &mut Layers<A>,
+    kept: &mut Kept<A>,
+    task: &Task<'_, A>,
+    looks: &mut Looks,
+    max_hops: u32,
+    prefix: &[u32],
+) -> Result<Option<Route<A>>, NoMemory>
+    requires task { IsTask task.now }
+    requires behind { IsBehind task.now prefix.now }
+    requires fits { IsTrue (is_prefix task.now.plan task.now.request prefix.now) }
+    requires hops { max_hops ≡ task.now.request.max_hops }
+    requires nodes { length task.now.table ≤ 40000 }
+    requires few { looks.old.count ≤ length prefix.now }
+    requires kept { IsKept (tabled_of task.now) task.now.request kept.old }
+    ensures kept { kept.new.rungs ≡ kept.old.rungs }
+    ensures least { IfOk result (IsLeast task.now.plan task.now.request prefix.now task.now.excluded) }
+    ensures bound { looks.new.count ≤ (3 * length task.now.table + 1) * length task.now.plan.contacts }
+    ensures counted { IfOk result (λ answer. hops_told answer ≤ looks.new.count) }
+    ensures cut { IfOk result (λ answer. max_hops ≡ 20000 → looks.new.count ≤ (3 * (hops_told answer - length prefix.now) + 3) * length task.now.plan.contacts) }
+    ensures longer { IfOk result (λ answer. IfSome answer (λ route. length prefix.now < length route.contacts)) }
+{
+    let most = task.one_pass();
+    let followed = kept.follow(task, looks, most, prefix, max_hops)?;
+    if let Some(route) = followed {
+        return Ok(Some(route));
+    }
+    least_route(alloc, settling, layers, task, looks, max_hops, prefix)
+}
+
+/// Keeps what makes later searches with this answer shorter. Where there is one, no more looks than two passes over all
+/// contacts take; and none where the search took more.
+fn learn<A: Allocator + Copy>(
+    layers: &mut Layers<A>,
+    kept: &mut Kept<A>,
+    looks: &mut Looks,
+    plan: &Plan<A>,
+    request: &Request,
+    answer: &Option<Route<A>>,
+)
+    requires kept { IsKept plan.now request.now kept.old }
+    ensures kept { IsKept plan.now request.now kept.new }
+    ensures looked { looks.old.count ≤ looks.new.count }
+    ensures none { IfNone answer.now (looks.new.count ≡ looks.old.count) }
+    ensures looks { (looks.new.count ≡ looks.old.count) ⊎ (looks.new.count ≤ 4 * length plan.now.plan.contacts) }
+{
+    let Some(route) = answer else {
+        return;
+    };
+    let most = 2 * plan.contacts().len() as u64;
+    if looks.count > most {
+        return;
+    }
+    let mut making = Looks::new();
+    kept.learn(layers, &mut making, plan, request, route.delivery, most);
+    looks.count += making.count;
 }
 
 /// A finder that settles nodes in order of their arrival up to the first delivery, and then makes only as many hop layers
@@ -120,6 +185,57 @@ impl<A: Allocator + Copy> BestOf<A> for Settled<A> {
             request.max_hops(),
             part.prefix,
         )
+    }
+
+    fn best_beside(
+        &mut self,
+        kept: &mut Kept<A>,
+        plan: &Plan<A>,
+        request: &Request,
+        part: Part<'_>,
+    ) -> Result<Option<Route<A>>, NoMemory>
+        requires fits { IsTrue (is_prefix plan.now.plan request.now part.prefix.now) }
+        requires kept { IsKept plan.now request.now kept.old }
+        ensures least { IfOk result (IsLeast plan.now.plan request.now part.entry.prefix.now part.entry.excluded.now) }
+        ensures bound { self.new.looks.count ≤ (3 * node_count plan.now.plan.contacts + 1) * length plan.now.plan.contacts }
+        ensures counted { IfOk result (λ answer. hops_told answer ≤ self.new.looks.count) }
+        ensures called { self.new.calls.count ≡ self.old.calls.count + 1 }
+        ensures kept { IsKept plan.now request.now kept.new }
+        ensures cut { IfOk result (λ answer. request.now.max_hops ≡ 20000 → self.new.looks.count ≤ (3 * (hops_told answer - length part.entry.prefix.now) + 3) * length plan.now.plan.contacts) }
+    {
+        self.calls.add();
+        self.looks = Looks::new();
+        let _nodes = plan.nodes();
+        let Some((standing, goal)) = enter(
+            &mut self.shut,
+            &mut self.looks,
+            plan,
+            request,
+            part.prefix,
+        )?
+        else {
+            return Ok(None);
+        };
+        let task = Task::new(plan, request, &self.shut, part.excluded, standing, goal);
+        let answer = least_beside(
+            self.alloc,
+            &mut self.settling,
+            &mut self.layers,
+            kept,
+            &task,
+            &mut self.looks,
+            request.max_hops(),
+            part.prefix,
+        )?;
+        learn(
+            &mut self.layers,
+            kept,
+            &mut self.looks,
+            plan,
+            request,
+            &answer,
+        );
+        Ok(answer)
     }
 
     fn looks(&self) -> u64 {

@@ -131,6 +131,15 @@ impl<'a, A: Allocator + Copy> Task<'a, A> {
         self.shut
     }
 
+    /// As many looks as one pass over all contacts takes.
+    pub fn one_pass(&self) -> u64
+        requires task { IsTask self.now }
+        ensures value { result ≡ length self.now.plan.contacts }
+        ensures limit { result ≤ 2 ^ 60 }
+    {
+        self.plan.contacts().len() as u64
+    }
+
     /// As many looks as two passes over all contacts take.
     pub fn two_passes(&self) -> u64
         requires task { IsTask self.now }

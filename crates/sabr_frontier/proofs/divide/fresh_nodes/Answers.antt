@@ -10,6 +10,7 @@ loop-count-init g c = record {
   whole = ap (λ z. z ++ fresh_nodes (best_of c.args.plan.now.plan c.args.request.now) c.args.leaf (take c.args.first c.args.route.now) (drop c.args.first c.args.route.now)) c.in-Ok.ensures.items;
   called = omega (arith, ap (length {A = Node g.row.A.Denot}) c.in-Ok.ensures.items);
   room = omega (arith, c.in-Ok.ensures.len, c.in-Ok.ensures.exact);
+  kept = c.requires.kept;
 }
 
 pub loop-count-preserved : goal.loop-count-preserved
@@ -17,6 +18,7 @@ loop-count-preserved g c = record {
   whole = fresh_push (best_of c.args.plan.now.plan c.args.request.now) c.args.leaf c.args.route.now c.loop-count.count c.loop-count.nodes.items c.push_reserved.new.self.items _ c.in_ok-node.node c.loop-count-test.true c.loop-count.invariant.whole c.push_reserved.ensures.items c.in_ok-node.ensures.node;
   called = omega (arith, c.in_ok-node.ensures.called, c.loop-count.invariant.called, ap (length {A = Node g.row.A.Denot}) c.push_reserved.ensures.items, length-append c.loop-count.nodes.items (c.in_ok-node.node ∷ []));
   room = omega (arith, c.push_reserved.ensures.len, c.push_reserved.ensures.capacity, c.loop-count.invariant.room);
+  kept = c.fresh_node.ensures.kept;
 }
 
 pub returns-clause-nodes : goal.returns-clause-nodes

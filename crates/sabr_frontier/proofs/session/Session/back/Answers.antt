@@ -24,4 +24,5 @@ invariant_of-self-2 g c =
       sound = subst (IsSound s.plan.now.plan s.request) (sym same) before.0;
       starts = subst (AreStarts (reverse c.pop.new.self.items)) (sym (ap (λ (z : Shape g.row.A.Denot). length z.journal) same ∙ before.1)) starts.1;
       room = c.undo_to.ensures.room;
+      tables = c.self.invariant.tables;
     }

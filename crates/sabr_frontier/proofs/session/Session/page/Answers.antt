@@ -71,6 +71,7 @@ invariant_of-self-in-Ok-gather g c =
       sound = c.in-Ok-gather.ensures.sound;
       starts = subst (λ z. AreStarts z (length c.gather.new.self.journal.items)) (sym pages) (more, subst (AreStarts (reverse s.pages.items)) (sym start) c.self.invariant.starts);
       room = c.in-Ok-gather.ensures.room;
+      tables = c.gather.ensures.kept;
     }
 
 pub undo_to-requires-clause-possible : goal.undo_to-requires-clause-possible
@@ -91,6 +92,7 @@ invariant_of-self-in-Err-gather g c =
       sound = subst (IsSound s.plan.now.plan s.request) (sym same) c.self.invariant.sound;
       starts = subst (λ z. AreStarts (reverse z) (length c.undo_to.new.self.journal.items)) (sym c.reserve.ensures.items) (subst (AreStarts (reverse s.pages.items)) (sym (ap (λ (z : Shape g.row.A.Denot). length z.journal) same)) c.self.invariant.starts);
       room = c.undo_to.ensures.room;
+      tables = c.gather.ensures.kept;
     }
 
 pub returns-in-Ok-gather-clause-former : goal.returns-in-Ok-gather-clause-former

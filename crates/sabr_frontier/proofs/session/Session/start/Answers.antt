@@ -1,4 +1,4 @@
-use Rattle.std.proofs.Common.{◌≡◌, [], length, reverse, ap, sym, subst, ◌∙◌}
+use Rattle.std.proofs.Common.{◌≡◌, [], arith, length, reverse, ap, sym, subst, ◌∙◌}
 use Rattle.sabr_model.proofs.Prefixes.{empty_is_prefix}
 use Rattle.sabr_frontier.specs.Shape.{Shape, shape_of, shown}
 use Rattle.sabr_frontier.specs.Session.{AreStarts, IsSound, former_of}
@@ -7,8 +7,11 @@ use Rattle.sabr_frontier.specs.Best.{best_of}
 use Rattle.sabr_frontier.proofs.Roots.{root_is_tree, shown_root}
 use Rattle.sabr_frontier.proofs.session.Session.start.Goals as goal
 
-pub ask-requires : goal.ask-requires
-ask-requires g c = empty_is_prefix c.args.plan.now.plan c.args.request
+pub ask-requires-clause-fits : goal.ask-requires-clause-fits
+ask-requires-clause-fits g c = empty_is_prefix c.args.plan.now.plan c.args.request
+
+pub ask-requires-clause-kept : goal.ask-requires-clause-kept
+ask-requires-clause-kept g c = λ k d less. absurd (omega (arith, less, ap length c.new-kept.ensures))
 
 pub invariant_of-result : goal.invariant_of-result
 invariant_of-result g c =
@@ -21,6 +24,7 @@ invariant_of-result g c =
       sound = subst (IsSound p r) (sym same) (root_is_tree g.row.A.Denot p r c.contacts.ensures.rules);
       starts = subst (λ z. AreStarts (reverse z) (length c.in_ok-tree.tree.journal.items)) (sym c.new.ensures.items) (ap (λ (z : Shape g.row.A.Denot). length z.journal) same);
       room = c.in_ok-tree.ensures.room;
+      tables = c.ask.ensures.kept;
     }
 
 pub returns : goal.returns

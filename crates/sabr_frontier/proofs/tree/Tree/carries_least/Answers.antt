@@ -10,14 +10,14 @@ use Rattle.sabr_frontier.proofs.Nodes.{get_within}
 use Rattle.sabr_frontier.proofs.Verdicts.{front_is, least_best, best_least}
 use Rattle.sabr_frontier.proofs.tree.Tree.carries_least.Goals as goal
 
-pub ask-requires : goal.ask-requires
-ask-requires g c =
+pub ask-requires-clause-fits : goal.ask-requires-clause-fits
+ask-requires-clause-fits g c =
     let p = c.args.plan.now.plan in
     let r = c.args.request.now in
     let t = shape_of c.args.self.now in
     let n = c.node-item.result in
     let here = subst (λ (xs : List (Node g.row.A.Denot)). slice_get xs c.loop-node.node-index ≡ Some n) c.deref-node-items.ensures.value (get_there c.deref-node-items.result.now c.loop-node.node-index n c.loop-node-test.true c.node-item.is) in
-    ap (is_prefix p r) (c.prefix-front.ensures ∙ ap (λ l. prefix_of l n) c.as_slice.ensures.value) ∙ front_is p r t c.requires c.loop-node.node-index n here
+    ap (is_prefix p r) (c.prefix-front.ensures ∙ ap (λ l. prefix_of l n) c.as_slice.ensures.value) ∙ front_is p r t c.requires.tree c.loop-node.node-index n here
 
 pub returns-then-not-is_same-clause-least : goal.returns-then-not-is_same-clause-least
 returns-then-not-is_same-clause-least g c =
@@ -28,7 +28,7 @@ returns-then-not-is_same-clause-least g c =
     let here = subst (λ (xs : List (Node g.row.A.Denot)). slice_get xs c.loop-node.node-index ≡ Some n) c.deref-node-items.ensures.value (get_there c.deref-node-items.result.now c.loop-node.node-index n c.loop-node-test.true c.node-item.is) in
     let front = c.prefix-front.ensures ∙ ap (λ l. prefix_of l n) c.as_slice.ensures.value in
     let found = c.in_ok-found.ensures.best ∙ (λ i. best_of p r (front i) (c.as_slice-in-loop-node.ensures i)) in
-    ((λ h. absurd (true≢false (sym h))), (λ h. absurd (true≢false (sym (c.is_same.ensures.1 (found ∙ sym (least_best p r t c.requires h c.loop-node.node-index n here))) ∙ c.if-not-is_same.true))))
+    ((λ h. absurd (true≢false (sym h))), (λ h. absurd (true≢false (sym (c.is_same.ensures.1 (found ∙ sym (least_best p r t c.requires.tree h c.loop-node.node-index n here))) ∙ c.if-not-is_same.true))))
 
 pub loop-node-preserved : goal.loop-node-preserved
 loop-node-preserved g c = record {
@@ -48,11 +48,12 @@ loop-node-preserved g c = record {
             subst (λ (z : Node g.row.A.Denot). z.route ≡ best_of p r (prefix_of c.args.self.now.leaves.items z) z.excluded) same (sym (c.is_same.ensures.0 c.if-not-is_same.false) ∙ found)
       ];
   called = omega (arith, c.in_ok-found.ensures.called, c.loop-node.invariant.called);
+  kept = c.ask.ensures.kept;
 }
 
 pub returns-clause-least : goal.returns-clause-least
 returns-clause-least g c = (
-  (λ _. best_least c.args.plan.now.plan c.args.request.now (shape_of c.args.self.now) c.requires (λ i n e.
+  (λ _. best_least c.args.plan.now.plan c.args.request.now (shape_of c.args.self.now) c.requires.tree (λ i n e.
       c.loop-node.invariant.least i n (let s = subst (λ (xs : List (Node g.row.A.Denot)). length xs ≡ length c.args.self.now.nodes.items) (sym c.deref-node-items.ensures.value) refl in let k = get_within c.args.self.now.nodes.items i n e in let z = c.loop-node-test.false in omega arith) e)),
   (λ _. refl),
 )

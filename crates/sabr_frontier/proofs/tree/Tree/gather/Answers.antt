@@ -14,6 +14,7 @@ loop-init g c = record {
   sum = (let e : c.args.count - 0 ≡ c.args.count = omega arith in ap (λ n. 0 + searches_in c.args.plan.now.plan c.args.request.now n (shown (shape_of c.args.self.now))) e ∙ zero-add _);
   called = omega arith;
   few = omega arith;
+  kept = c.requires.kept;
 }
 
 pub returns-then-is_empty-clause-routes : goal.returns-then-is_empty-clause-routes
@@ -69,6 +70,7 @@ loop-preserved g c =
           (subst (λ n. c.loop.searches + searches_in p r n (shown t) ≡ searches_in p r c.args.count (shown first)) left c.loop.invariant.sum));
       called = omega (arith, c.in_ok-searches.ensures.called, c.loop.invariant.called);
       few = omega (arith, step.few, c.in_ok-searches.ensures.count, c.loop.invariant.few, c.requires.hops);
+      kept = c.take.ensures.kept;
     }
 
 pub returns-clause-routes : goal.returns-clause-routes

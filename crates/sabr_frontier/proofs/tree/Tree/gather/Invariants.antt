@@ -1,4 +1,5 @@
 use Rattle.std.proofs.Common.{◌≡◌, ◌+◌, ◌-◌, ◌*◌, ◌≤◌}
+use Rattle.sabr_search.specs.Kept.{IsKept}
 use Rattle.sabr_frontier.specs.Listing.{searches_in}
 use Rattle.sabr_frontier.specs.Shape.{shape_of, shown}
 use Rattle.sabr_frontier.specs.Undo.{IsRoomy}
@@ -12,4 +13,5 @@ invariant-loop g l = record {
   sum : l.searches + searches_in l.plan.plan l.request (l.count - l.counter) (shown (shape_of l.self)) ≡ searches_in l.plan.plan l.request l.count (shown (shape_of l.fn.self));
   called : g.B.BestOf.calls_of l.finder ≡ g.B.BestOf.calls_of l.fn.finder + l.searches;
   few : l.searches ≤ l.counter * 20000;
+  kept : IsKept l.plan l.request l.kept;
 }

@@ -50,3 +50,7 @@ least_route-requires-clause-fits g c = rw c.new-task.ensures c.requires.fits
 
 pub least_route-requires-clause-nodes : goal.least_route-requires-clause-nodes
 least_route-requires-clause-nodes g c = rw c.new-task.ensures (nodes_few c.args.plan.now c.enter.ensures.plan c.nodes-nodes.ensures.tabled)
+
+pub least_route-requires-clause-few : goal.least_route-requires-clause-few
+least_route-requires-clause-few g c =
+    rw c.new-task.ensures (omega (arith, c.enter.ensures.looks, c.new-self.ensures, prefix_few c.args.plan.now.plan c.args.request.now c.args.part.prefix.now (prefix_facts c.args.plan.now.plan c.args.request.now c.args.part.prefix.now c.requires.fits)))

@@ -1,0 +1,21 @@
+use Rattle.std.proofs.Common.{◌≡◌, ◌+◌, ◌≤◌, length, refl, arith}
+use Rattle.sabr_search.proofs.Told.{named_in_route}
+use Rattle.sabr_search.proofs.Tables.{no_sooner, no_fewer, least_walked}
+use Rattle.sabr_search.proofs.task.Task.follow_rung.Goals as goal
+
+pub record-requires-clause-named : goal.record-requires-clause-named
+record-requires-clause-named g c =
+    let walked = rw c.in-Some.is at c.in_ok-walked.ensures.some in
+    λ i n at. named_in_route c.args.self.now c.args.prefix.now c.requires.behind walked.0 c.args.self.now.goal walked.2.e walked.2.way i n (rw walked.1 at at)
+
+pub returns-clause-some : goal.returns-clause-some
+returns-clause-some g c =
+    let task = c.args.self.now in
+    let rung = c.args.rung.now in
+    let prefix = c.args.prefix.now in
+    let rest = c.least_hops-rest.result in
+    let walked = rw c.in-Some.is at c.in_ok-walked.ensures.some in
+    let sooner = no_sooner task c.requires.task prefix c.requires.behind rung.deadline rung.before.items c.args.first.now c.requires.rung.floor c.requires.first (c.if-not-comes_no_sooner.ensures refl) in
+    let fewer = no_fewer task c.requires.task prefix c.requires.behind rung.deadline rest rung.dues.items c.args.first.now c.requires.rung.dues c.requires.first c.least_hops-rest.ensures in
+    let least = least_walked task c.requires.task prefix c.requires.behind rung.deadline rest (rest + 1) c.args.max_hops walked.0 refl (omega (arith, c.if-rest-max_hops.false)) sooner fewer walked.2 in
+    rw c.record.ensures.value (walked.0, walked.1, omega (arith, walked.2.many, c.if-rest-max_hops.false, c.if-prefix-max_hops.false), least, record { until_is = refl; entry_is = refl })

@@ -1,0 +1,39 @@
+-- Reading a least way off a table.
+use Rattle.std.specs.Prelude.{◌≡◌, ℕ, ◌≤◌, ◌<◌, List, length, slice_get, slice_index}
+use Rattle.std.specs.declared.option.Option.TheVariants.{Some}
+use Rattle.sabr_model.specs.Plan.{TabledPlan}
+use Rattle.sabr_search.specs.declared.rung.Due.{Due}
+use Rattle.sabr_search.specs.declared.pick.Standing.{Standing}
+use Rattle.sabr_search.specs.declared.pick.Step.{Step}
+use Rattle.sabr_search.specs.Ways.{Leads}
+use Rattle.sabr_search.specs.Front.{IsNotAfter}
+use Rattle.sabr_search.specs.Task.{SearchTask, Takes}
+
+-- the plan of a search with its table
+abbrev pub tabled_of : SearchTask → TabledPlan
+tabled_of task = record { plan = task.plan; table = task.table }
+
+-- one of these is at node w by second b
+abbrev pub ComesTo : List Standing → ℕ → ℕ → Type 0
+ComesTo first w b = (k : ℕ) × (s : Standing) × (slice_get first k ≡ Some s) × (s.node ≡ w) × (s.at ≤ b)
+
+-- each first step comes to one of the nodes, then or later
+abbrev pub AreFirstSteps : SearchTask → List Standing → Type 0
+AreFirstSteps task first = (n w b : ℕ) → Takes task n task.start task.at w b → ComesTo first w b
+
+-- the dues let a way on through that is at node w at b, with so many hops left
+abbrev pub LetsThrough : List Due → ℕ → ℕ → ℕ → Type 0
+LetsThrough dues rest w b = (k : ℕ) × (d : Due) × (slice_get dues k ≡ Some d) × (d.node ≡ w) × (d.hops ≤ rest) × (b < d.late)
+
+-- a step from node u at t, with the least number of those that the dues let through
+pub record IsLeastDue (task : SearchTask) (dues : List Due) (rest u t : ℕ) (s : Step) : Type 0 where
+  pub step : Takes task s.number u t s.node s.at
+  pub least : (n w b : ℕ) → Takes task n u t w b → LetsThrough dues rest w b → s.number ≤ n
+
+-- the numbers lead to the goal by the deadline, and none of as many come before them
+pub record IsWalked (task : SearchTask) (deadline hops : ℕ) (s : List ℕ) : Type 0 where
+  pub many : length s ≡ hops
+  pub e : ℕ
+  pub by : e ≤ deadline
+  pub way : Leads (Takes task) task.start task.at s task.goal e
+  pub front : (ns : List ℕ) (x : ℕ) → length ns ≡ hops → Leads (Takes task) task.start task.at ns task.goal x → x ≤ deadline → IsNotAfter s ns

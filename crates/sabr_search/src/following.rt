@@ -1,0 +1,303 @@
+//! The least route of a part, read off a table that is kept for its delivery.
+
+ghost use Rattle.std.specs.Prelude.{◌≡◌, ◌⊎◌, ◌++◌, ℕ, List, ◌+◌, ◌*◌, ◌^◌, ◌≤◌, ◌<◌, Some, IfOk, IfSome, OnOk, OnErr, IsTrue, length, slice_get, slice_index};
+ghost use Rattle.sabr_search.specs.Ways.{Leads};
+ghost use Rattle.sabr_search.specs.Task.{IsTask, IsBehind, Takes, never};
+ghost use Rattle.sabr_search.specs.Told.{hops_told, IsTold};
+ghost use Rattle.sabr_search.specs.Picks.{IsLeastWay};
+ghost use Rattle.sabr_search.specs.Kept.{AreSpans, IsRung, IsKept};
+ghost use Rattle.sabr_search.specs.Following.{tabled_of, ComesTo, AreFirstSteps, IsLeastDue, IsWalked};
+
+use crate::answer::record;
+use crate::kept::Kept;
+use crate::layers::NEVER;
+use crate::looks::Looks;
+use crate::over_link::link_passes;
+use crate::pick::{Standing, Step};
+use crate::rung::Rung;
+use crate::task::Task;
+use sabr_model::{NoMemory, Route};
+use std::alloc::Allocator;
+
+/// Puts a node and when it is reached behind the others, where it is reached at all.
+fn put_step<A: Allocator + Copy>(
+    first: &mut Vec<Standing, A>,
+    step: Standing,
+) -> Result<(), NoMemory>
+    ensures kept { OnOk result ((k : ℕ) (s : Standing) → slice_get first.old.items k ≡ Some s → slice_get first.new.items k ≡ Some s) }
+    ensures put { OnOk result (step.at < never → (k : ℕ) × (slice_get first.new.items k ≡ Some step)) }
+    ensures only { OnOk result ((k : ℕ) (s : Standing) → slice_get first.new.items k ≡ Some s → (slice_get first.old.items k ≡ Some s) ⊎ (step ≡ s)) }
+{
+    if step.at == NEVER {
+        return Ok(());
+    }
+    first.push(step)?;
+    Ok(())
+}
+
+impl<'a, A: Allocator + Copy> Task<'a, A> {
+    /// Gathers where the steps from a node come to, and when; tells whether these are all, or more than `most` looks might
+    /// be needed.
+    fn steps_from(
+        &self,
+        looks: &mut Looks,
+        most: u64,
+        from: Standing,
+        first: &mut Vec<Standing, A>,
+    ) -> Result<bool, NoMemory>
+        requires task { IsTask self.now }
+        requires node { from.node < length self.now.table }
+        requires few { looks.old.count ≤ most }
+        requires most { most ≤ 2 ^ 62 }
+        ensures looks { looks.new.count ≤ most }
+        ensures inside { IfOk result (λ all. (k : ℕ) (s : Standing) → slice_get first.new.items k ≡ Some s → s.node < length self.now.table) }
+        ensures whole { IfOk result (λ all. IsTrue all → (n w b : ℕ) → Takes self.now n from.node from.at w b → ComesTo first.new.items w b) }
+    {
+        first.clear();
+        let outgoing = self.links(from.node)?;
+        let links = outgoing.all();
+        for link in links.links {
+            let passes = link_passes(links, link);
+            if passes.len() as u64 > most - looks.count {
+                return Ok(false);
+            }
+            if self.shut()[link.receiver] {
+                continue;
+            }
+            let at = self.arrive_over(
+                looks,
+                from.node,
+                link.receiver,
+                passes,
+                link.bounds,
+                from.at,
+                NEVER,
+            );
+            let step = Standing {
+                node: link.receiver,
+                at,
+            };
+            put_step(first, step)?;
+        }
+        Ok(true)
+    }
+
+    /// Gathers where the first steps come to, and when; tells whether these are all, or more than `most` looks might be
+    /// needed.
+    pub fn first_steps(
+        &self,
+        looks: &mut Looks,
+        most: u64,
+        first: &mut Vec<Standing, A>,
+    ) -> Result<bool, NoMemory>
+        requires task { IsTask self.now }
+        requires few { looks.old.count ≤ most }
+        requires most { most ≤ 2 ^ 62 }
+        ensures looks { looks.new.count ≤ most }
+        ensures inside { IfOk result (λ all. (k : ℕ) (s : Standing) → slice_get first.new.items k ≡ Some s → s.node < length self.now.table) }
+        ensures whole { IfOk result (λ all. IsTrue all → AreFirstSteps self.now first.new.items) }
+    {
+        let from = Standing {
+            node: self.start(),
+            at: self.at(),
+        };
+        let all = self.steps_from(looks, most, from, first)?;
+        Ok(all)
+    }
+
+    /// The step of least number from a node that a table lets through, with so many hops left; none where there is none,
+    /// or where more than `most` looks might be needed.
+    fn least_due(
+        &self,
+        looks: &mut Looks,
+        most: u64,
+        rung: &Rung<A>,
+        from: Standing,
+        rest: usize,
+    ) -> Result<Option<Step>, NoMemory>
+        requires task { IsTask self.now }
+        requires few { looks.old.count ≤ most }
+        requires most { most ≤ 2 ^ 62 }
+        requires node { from.node < length self.now.table }
+        requires places { length rung.now.spans.items ≡ length self.now.table }
+        requires spans { AreSpans rung.now.dues.items rung.now.spans.items }
+        ensures looks { looks.new.count ≤ most }
+        ensures some { IfOk result (λ o. IfSome o (IsLeastDue self.now rung.now.dues.items rest from.node from.at)) }
+    {
+        let outgoing = self.links(from.node)?;
+        let links = outgoing.all();
+        let mut least: Option<Step> = None;
+        for link in links.links {
+            let passes = link_passes(links, link);
+            if passes.len() as u64 > most - looks.count {
+                return Ok(None);
+            }
+            if self.shut()[link.receiver] {
+                continue;
+            }
+            let before = rung.within(link.receiver, rest);
+            least = self.least_over(
+                looks,
+                from.node,
+                link.receiver,
+                passes,
+                link.bounds,
+                from.at,
+                before,
+                least,
+            );
+        }
+        Ok(least)
+    }
+
+    /// The least numbers that lead from the start to the goal by the deadline of a table, with so many hops, behind the
+    /// prefix; none where it leads to a dead end, or where more than `most` looks might be needed.
+    fn walk(
+        &self,
+        alloc: A,
+        looks: &mut Looks,
+        most: u64,
+        rung: &Rung<A>,
+        hops: usize,
+        prefix: &[u32],
+    ) -> Result<Option<Vec<u32, A>>, NoMemory>
+        requires task { IsTask self.now }
+        requires behind { IsBehind self.now prefix.now }
+        requires few { looks.old.count ≤ most }
+        requires most { most ≤ 2 ^ 62 }
+        requires many { length prefix.now + hops < 2 ^ 32 }
+        requires rung { IsRung (tabled_of self.now) self.now.request rung.now }
+        ensures looks { looks.new.count ≤ most }
+        ensures some { IfOk result (λ o. IfSome o (λ v. (s : List ℕ) × (v.items ≡ prefix.now ++ s) × IsWalked self.now rung.now.deadline hops s)) }
+    {
+        let mut contacts = Vec::with_capacity(alloc, prefix.len() + hops)?;
+        contacts.extend_from_slice(prefix)?;
+        let mut from = Standing {
+            node: self.start(),
+            at: self.at(),
+        };
+        for hop in 0..hops {
+            let least = self.least_due(looks, most, rung, from, hops - 1 - hop)?;
+            let Some(step) = least else {
+                return Ok(None);
+            };
+            contacts.push(step.number)?;
+            from = Standing {
+                node: step.node,
+                at: step.at,
+            };
+        }
+        if from.node != self.goal() || from.at > rung.deadline {
+            return Ok(None);
+        }
+        Ok(Some(contacts))
+    }
+
+    /// The least route behind the prefix, where a table shows that it delivers by its deadline and none does before.
+    fn follow_rung(
+        &self,
+        alloc: A,
+        looks: &mut Looks,
+        most: u64,
+        rung: &Rung<A>,
+        first: &[Standing],
+        prefix: &[u32],
+        max_hops: u32,
+    ) -> Result<Option<Route<A>>, NoMemory>
+        requires task { IsTask self.now }
+        requires behind { IsBehind self.now prefix.now }
+        requires few { looks.old.count ≤ most }
+        requires most { most ≤ 2 ^ 60 }
+        requires rung { IsRung (tabled_of self.now) self.now.request rung.now }
+        requires inside { (k : ℕ) (s : Standing) → slice_get first.now k ≡ Some s → s.node < length self.now.table }
+        requires first { AreFirstSteps self.now first.now }
+        ensures refused { OnErr result (looks.new.count ≤ most) }
+        ensures looks { IfOk result (λ o. looks.new.count ≤ most + hops_told o) }
+        ensures counted { IfOk result (λ o. hops_told o ≤ looks.new.count) }
+        ensures some { IfOk result (λ o. IfSome o (λ route. (s : List ℕ) × (route.contacts ≡ prefix.now ++ s) × (length prefix.now + length s ≤ max_hops) × IsLeastWay self.now max_hops (route.delivery + 1) s route.delivery × IsTold self.now.plan route)) }
+    {
+        if !rung.comes_no_sooner(first) {
+            return Ok(None);
+        }
+        let rest = rung.least_hops(first);
+        if prefix.len() >= max_hops as usize || rest >= max_hops as usize - prefix.len() {
+            return Ok(None);
+        }
+        let walked = self.walk(alloc, looks, most, rung, rest + 1, prefix)?;
+        let Some(contacts) = walked else {
+            return Ok(None);
+        };
+        Ok(Some(record(self, looks, contacts, rung.deadline)))
+    }
+}
+
+/// Whether a first step is in time for a delivery by the deadline of a table.
+fn meets<A: Allocator + Copy>(rung: &Rung<A>, first: &[Standing]) -> bool
+    requires inside { (k : ℕ) (s : Standing) → slice_get first.now k ≡ Some s → s.node < length rung.now.spans.items }
+    requires spans { AreSpans rung.now.dues.items rung.now.spans.items }
+{
+    rung.least_hops(first) < usize::MAX
+}
+
+impl<A: Allocator + Copy> Kept<A> {
+    /// The table of the least deadline for which a first step is in time.
+    fn met(&self, _task: &Task<'_, A>, first: &[Standing]) -> Option<usize>
+        requires kept { IsKept (tabled_of _task.now) _task.now.request self.now }
+        requires inside { (k : ℕ) (s : Standing) → slice_get first.now k ≡ Some s → s.node < length _task.now.table }
+        ensures { IfSome result (λ place. place < length self.now.rungs.items) }
+    {
+        let mut least = NEVER;
+        let mut found = None;
+        for place in 0..self.rungs.len() {
+            let rung = &self.rungs[place];
+            if rung.deadline < least && meets(rung, first) {
+                least = rung.deadline;
+                found = Some(place);
+            }
+        }
+        found
+    }
+
+    /// The least route behind the prefix, where a table tells it within `most` looks.
+    pub fn follow(
+        &mut self,
+        task: &Task<'_, A>,
+        looks: &mut Looks,
+        most: u64,
+        prefix: &[u32],
+        max_hops: u32,
+    ) -> Result<Option<Route<A>>, NoMemory>
+        requires task { IsTask task.now }
+        requires behind { IsBehind task.now prefix.now }
+        requires few { looks.old.count ≤ most }
+        requires most { most ≤ 2 ^ 60 }
+        requires kept { IsKept (tabled_of task.now) task.now.request self.old }
+        ensures kept { self.new.rungs ≡ self.old.rungs }
+        ensures refused { OnErr result (looks.new.count ≤ most) }
+        ensures looks { IfOk result (λ o. looks.new.count ≤ most + hops_told o) }
+        ensures counted { IfOk result (λ o. hops_told o ≤ looks.new.count) }
+        ensures some { IfOk result (λ o. IfSome o (λ route. (s : List ℕ) × (route.contacts ≡ prefix.now ++ s) × (length prefix.now + length s ≤ max_hops) × IsLeastWay task.now max_hops (route.delivery + 1) s route.delivery × IsTold task.now.plan route)) }
+    {
+        if !self.pays() {
+            return Ok(None);
+        }
+        let whole = task.first_steps(looks, most, &mut self.first)?;
+        if !whole {
+            return Ok(None);
+        }
+        let Some(place) = self.met(task, &self.first) else {
+            return Ok(None);
+        };
+        let found = task.follow_rung(
+            self.alloc,
+            looks,
+            most,
+            &self.rungs[place],
+            &self.first,
+            prefix,
+            max_hops,
+        )?;
+        self.count_answer(found.is_some());
+        Ok(found)
+    }
+}

@@ -1,0 +1,168 @@
+//! What a session keeps for its searches, all of one plan and request.
+
+ghost use Rattle.std.specs.Prelude.{◌≡◌, ◌≤◌, ◌^◌, [], length};
+ghost use Rattle.sabr_search.specs.Kept.{IsKept};
+
+use crate::layers::Layers;
+use crate::laying::rung_for;
+use crate::looks::Looks;
+use crate::pick::Standing;
+use crate::rung::Rung;
+use sabr_model::{Plan, Request};
+use std::alloc::{Allocator, Global};
+
+/// How many deliveries are counted at a time.
+const SLOTS: u64 = 1024;
+
+/// A delivery gets its table when it is the answer for so many times.
+const TIMES: u32 = 8;
+
+/// There are no more tables than these.
+const MOST_RUNGS: usize = 128;
+
+/// Where fewer than half of so many tries were answered, tables rest.
+const TRIES: u32 = 64;
+
+/// How many searches go by before they are tried again.
+const REST: u32 = 4096;
+
+/// How often a delivery was the answer.
+#[derive(Clone, Copy)]
+pub struct Seen {
+    pub delivery: u64,
+    pub times: u32,
+}
+
+/// What is kept for the searches of one plan and request: tables for deliveries that come again.
+///
+/// A table is a bound alone, so an answer doesn't depend on what is kept. Where its growth is refused, it is left out.
+#[derive(Drop)]
+pub struct Kept<A: Allocator + Copy = Global> {
+    pub alloc: A,
+    pub rungs: Vec<Rung<A>, A>,
+    pub seen: Vec<Seen, A>,
+    pub first: Vec<Standing, A>,
+    pub tried: u32,
+    pub answered: u32,
+}
+
+impl<A: Allocator + Copy> Kept<A> {
+    /// Nothing so far. It has taken no memory.
+    pub fn new(alloc: A) -> Kept<A>
+        ensures { result.rungs.items ≡ [] }
+    {
+        Kept {
+            alloc,
+            rungs: Vec::new(alloc),
+            seen: Vec::new(alloc),
+            first: Vec::new(alloc),
+            tried: 0,
+            answered: 0,
+        }
+    }
+    /// Whether tables are to be tried: there are some, and they have answered often enough.
+    pub fn pays(&mut self) -> bool
+        ensures { self.new.rungs ≡ self.old.rungs }
+    {
+        if self.rungs.is_empty() {
+            return false;
+        }
+        if self.tried < TRIES || self.answered >= self.tried / 2 {
+            return true;
+        }
+        if self.tried >= REST {
+            self.tried = 0;
+            self.answered = 0;
+            return false;
+        }
+        self.tried += 1;
+        false
+    }
+
+    /// Counts a try, and whether it answered.
+    pub fn count_answer(&mut self, answered: bool)
+        ensures { self.new.rungs ≡ self.old.rungs }
+    {
+        if self.tried >= REST {
+            self.tried = 0;
+            self.answered = 0;
+        }
+        self.tried += 1;
+        if answered && self.answered < REST {
+            self.answered += 1;
+        }
+    }
+
+    /// Counts a delivery that was an answer; tells whether it is now worth a table.
+    fn note(&mut self, delivery: u64) -> bool
+        ensures { self.new.rungs ≡ self.old.rungs }
+    {
+        if self.seen.is_empty() {
+            let fresh = Seen {
+                delivery: 0,
+                times: 0,
+            };
+            if self.seen.resize(SLOTS as usize, fresh).is_err() {
+                return false;
+            }
+        }
+        let slot = (delivery % SLOTS) as usize;
+        let Some(seen) = self.seen.get(slot) else {
+            return false;
+        };
+        let times = if seen.delivery == delivery {
+            seen.times
+        } else {
+            0
+        };
+        if times >= TIMES {
+            return false;
+        }
+        self.seen[slot] = Seen {
+            delivery,
+            times: times + 1,
+        };
+        times + 1 == TIMES && self.is_new(delivery)
+    }
+
+    /// Whether there is room for a table of a deadline, and none yet.
+    fn is_new(&self, deadline: u64) -> bool {
+        for place in 0..self.rungs.len() {
+            if self.rungs[place].deadline == deadline {
+                return false;
+            }
+        }
+        self.rungs.len() < MOST_RUNGS
+    }
+
+    /// Keeps what makes later searches with this answer shorter, within `most` looks; or not, where a growth is refused.
+    pub fn learn(
+        &mut self,
+        layers: &mut Layers<A>,
+        looks: &mut Looks,
+        plan: &Plan<A>,
+        request: &Request,
+        delivery: u64,
+        most: u64,
+    )
+        requires kept { IsKept plan.now request.now self.old }
+        requires few { looks.old.count ≤ most }
+        requires most { most ≤ 2 ^ 62 }
+        ensures kept { IsKept plan.now request.now self.new }
+        ensures looks { looks.new.count ≤ most }
+    {
+        if !self.note(delivery) {
+            return;
+        }
+        let Ok(made) = rung_for(self.alloc, layers, looks, plan, request, delivery, most) else {
+            return;
+        };
+        let Some(rung) = made else {
+            return;
+        };
+        if self.rungs.reserve(1).is_err() {
+            return;
+        }
+        self.rungs.push_reserved(rung);
+    }
+}

@@ -1,0 +1,232 @@
+//! Making the table of a deadline: layers backward from the goal over the whole graph.
+
+ghost use Rattle.std.specs.Prelude.{◌≡◌, ◌≢◌, ℕ, ◌+◌, ◌-◌, ◌^◌, ◌≤◌, ◌<◌, IfOk, IfSome, OnOk, Some, Contains, All, length, slice_get, slice_index};
+ghost use Rattle.sabr_search.specs.declared.rung.Due.{Due};
+ghost use Rattle.sabr_search.specs.declared.layers.Reached.{Reached};
+ghost use Rattle.sabr_search.specs.Task.{IsTask, never};
+ghost use Rattle.sabr_search.specs.Laying.{IsWhole, AreAllLate, AreGathered};
+ghost use Rattle.sabr_search.specs.Kept.{IsRung, IsFloor, AreDues, AreSpans};
+ghost use Rattle.sabr_search.specs.Following.{tabled_of};
+
+use crate::enter::enter;
+use crate::layers::{Layers, NEVER};
+use crate::looks::Looks;
+use crate::pick::Standing;
+use crate::rung::{Due, Rung, Span};
+use crate::task::Task;
+use sabr_model::{NoMemory, Plan, Request};
+use std::alloc::Allocator;
+
+/// After every contact: nothing leaves then.
+const LATEST: u64 = 253372764799;
+
+impl<A: Allocator + Copy> Layers<A> {
+    /// Layers backward from the goal until one has no entry: answers how many there are before that one. None where the
+    /// plan isn't settled, where the start is in time for one, or where more than `most` looks might be needed.
+    fn make_all(
+        &mut self,
+        task: &Task<'_, A>,
+        looks: &mut Looks,
+        since: &[u64],
+        delivery: u64,
+        most: u64,
+    ) -> Result<Option<usize>, NoMemory>
+        requires task { IsTask task.now }
+        requires many { length since.now ≡ length task.now.table }
+        requires zero { (u : ℕ) → slice_index since.now u ≡ 0 }
+        requires early { delivery < never }
+        requires few { looks.old.count ≤ most }
+        requires most { most ≤ 2 ^ 62 }
+        ensures looks { looks.new.count ≤ most }
+        ensures made { IfOk result (λ o. IfSome o (λ left. AreAllLate task.now delivery left self.new.ends.items self.new.late.items self.new.reached.items)) }
+    {
+        self.first_back(task, delivery)?;
+        for left in 0..task.shut().len() {
+            if self.ends[left] == self.ends[left + 1] {
+                return Ok(Some(left));
+            }
+            let told = self.next_back(task, looks, since, delivery, left, most)?;
+            let Some(met) = told else {
+                return Ok(None);
+            };
+            if met {
+                return Ok(None);
+            }
+            let end = self.reached.len();
+            self.ends.push(end)?;
+        }
+        Ok(None)
+    }
+
+    /// By node the first second too late for a delivery before the deadline, from all layers for the second before it.
+    fn floors(
+        &self,
+        alloc: A,
+        task: &Task<'_, A>,
+        _left: usize,
+        deadline: u64,
+    ) -> Result<Vec<u64, A>, NoMemory>
+        requires whole { IsWhole task.now }
+        requires some { 0 < deadline }
+        requires made { AreAllLate task.now (deadline - 1) _left self.now.ends.items self.now.late.items self.now.reached.items }
+        ensures floors { IfOk result (λ v. length v.items ≡ length task.now.table) }
+        ensures floor { IfOk result (λ v. IsFloor (tabled_of task.now) task.now.request deadline v.items) }
+    {
+        let Ok(mut before) = Vec::from_slice(alloc, &self.late) else {
+            return Err(NoMemory);
+        };
+        before[task.goal()] = deadline;
+        Ok(before)
+    }
+
+    /// Puts the entries of a layer behind the dues.
+    fn gather_layer(
+        &self,
+        _task: &Task<'_, A>,
+        _delivery: u64,
+        _all: usize,
+        left: usize,
+        dues: &mut Vec<Due, A>,
+    ) -> Result<(), NoMemory>
+        requires made { AreAllLate _task.now _delivery _all self.now.ends.items self.now.late.items self.now.reached.items }
+        requires left { left < _all }
+        requires gathered { AreGathered self.now.ends.items self.now.reached.items left dues.old.items }
+        ensures gathered { OnOk result (AreGathered self.now.ends.items self.now.reached.items (left + 1) dues.new.items) }
+    {
+        for place in self.ends[left]..self.ends[left + 1] {
+            let entry = self.reached[place];
+            dues.push(Due {
+                node: entry.node,
+                hops: left,
+                late: entry.deadline,
+            })?;
+        }
+        Ok(())
+    }
+
+    /// The dues of all layers, by node.
+    fn gather(
+        &self,
+        alloc: A,
+        task: &Task<'_, A>,
+        delivery: u64,
+        all: usize,
+    ) -> Result<Vec<Due, A>, NoMemory>
+        requires whole { IsWhole task.now }
+        requires made { AreAllLate task.now delivery all self.now.ends.items self.now.late.items self.now.reached.items }
+        ensures dues { IfOk result (λ v. AreDues (tabled_of task.now) task.now.request delivery v.items) }
+    {
+        let mut dues = Vec::new(alloc);
+        for left in 0..all {
+            self.gather_layer(task, delivery, all, left, &mut dues)?;
+        }
+        dues.sort_unstable_by_key(|due| due.node);
+        Ok(dues)
+    }
+
+    /// The table of a deadline; none where the plan isn't settled, or where more than `most` looks might be needed.
+    fn lay(
+        &mut self,
+        alloc: A,
+        task: &Task<'_, A>,
+        looks: &mut Looks,
+        deadline: u64,
+        most: u64,
+    ) -> Result<Option<Rung<A>>, NoMemory>
+        requires whole { IsWhole task.now }
+        requires some { 0 < deadline }
+        requires early { deadline < never }
+        requires few { looks.old.count ≤ most }
+        requires most { most ≤ 2 ^ 62 }
+        ensures looks { looks.new.count ≤ most }
+        ensures rung { IfOk result (λ o. IfSome o (IsRung (tabled_of task.now) task.now.request)) }
+    {
+        let nodes = task.shut().len();
+        let mut since = Vec::new(alloc);
+        since.resize(nodes, 0)?;
+        let Some(left) = self.make_all(task, looks, &since, deadline - 1, most)? else {
+            return Ok(None);
+        };
+        let before = self.floors(alloc, task, left, deadline)?;
+        let Some(all) = self.make_all(task, looks, &since, deadline, most)? else {
+            return Ok(None);
+        };
+        let dues = self.gather(alloc, task, deadline, all)?;
+        let spans = spans_of(alloc, &dues, nodes)?;
+        Ok(Some(Rung {
+            deadline,
+            before,
+            dues,
+            spans,
+        }))
+    }
+}
+
+/// A span with a place more, behind its others.
+fn widened(span: Span, place: usize) -> Span
+    requires few { place < 2 ^ 62 }
+    ensures here { result.first ≤ place }
+    ensures kept { 0 < span.end → result.first ≤ span.first }
+    ensures end { result.end ≡ place + 1 }
+{
+    Span {
+        first: if span.end == 0 {
+            place
+        } else {
+            span.first.min(place)
+        },
+        end: place + 1,
+    }
+}
+
+/// By node the places of its dues.
+fn spans_of<A: Allocator + Copy>(
+    alloc: A,
+    dues: &[Due],
+    nodes: usize,
+) -> Result<Vec<Span, A>, NoMemory>
+    ensures many { IfOk result (λ v. length v.items ≡ nodes) }
+    ensures spans { IfOk result (λ v. AreSpans dues.now v.items) }
+{
+    let mut spans = Vec::new(alloc);
+    spans.resize(nodes, Span { first: 0, end: 0 })?;
+    for place in 0..dues.len() {
+        let node = dues[place].node;
+        if node >= nodes {
+            continue;
+        }
+        spans[node] = widened(spans[node], place);
+    }
+    Ok(spans)
+}
+
+/// The table of a deadline for a plan and a request; none where there is none, where the plan isn't settled, or where more
+/// than `most` looks might be needed.
+pub fn rung_for<A: Allocator + Copy>(
+    alloc: A,
+    layers: &mut Layers<A>,
+    looks: &mut Looks,
+    plan: &Plan<A>,
+    request: &Request,
+    deadline: u64,
+    most: u64,
+) -> Result<Option<Rung<A>>, NoMemory>
+    requires few { looks.old.count ≤ most }
+    requires most { most ≤ 2 ^ 62 }
+    ensures looks { looks.new.count ≤ most }
+    ensures rung { IfOk result (λ o. IfSome o (IsRung plan.now request.now)) }
+{
+    if deadline == 0 || deadline == NEVER {
+        return Ok(None);
+    }
+    let mut shut = Vec::new(alloc);
+    let Some((standing, goal)) = enter(&mut shut, looks, plan, request, &[])? else {
+        return Ok(None);
+    };
+    let source = Standing {
+        node: standing.node,
+        at: LATEST,
+    };
+    let task = Task::new(plan, request, &shut, &[], source, goal);
+    layers.lay(alloc, &task, looks, deadline, most)
+}

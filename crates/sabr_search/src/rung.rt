@@ -1,0 +1,98 @@
+//! What is kept for one deadline: by node how late a way on to the destination can begin.
+
+ghost use Rattle.std.specs.Prelude.{◌≡◌, ℕ, ◌≤◌, ◌<◌, IsTrue, Some, length, slice_get, slice_index};
+ghost use Rattle.sabr_search.specs.Kept.{AreSpans};
+
+use crate::pick::Standing;
+use std::alloc::Allocator;
+
+/// The first second too late at a node for a way on of at most so many hops.
+#[derive(Clone, Copy)]
+pub struct Due {
+    pub node: usize,
+    pub hops: usize,
+    pub late: u64,
+}
+
+/// The places of a node's dues.
+#[derive(Clone, Copy)]
+pub struct Span {
+    pub first: usize,
+    pub end: usize,
+}
+
+/// What is kept for one deadline: by node the first second too late for a delivery before it, and the dues for a delivery
+/// by then, each node's within its span.
+#[derive(Drop)]
+pub struct Rung<A: Allocator + Copy> {
+    pub deadline: u64,
+    pub before: Vec<u64, A>,
+    pub dues: Vec<Due, A>,
+    pub spans: Vec<Span, A>,
+}
+
+impl<A: Allocator + Copy> Rung<A> {
+    /// The first second too late at a node for a way on of at most so many hops.
+    pub fn within(&self, node: usize, rest: usize) -> u64
+        requires node { node < length self.now.spans.items }
+        requires spans { AreSpans self.now.dues.items self.now.spans.items }
+        ensures { (k : ℕ) (d : Due) → slice_get self.now.dues.items k ≡ Some d → d.node ≡ node → d.hops ≤ rest → d.late ≤ result }
+    {
+        let span = self.spans[node];
+        let mut latest = 0;
+        for place in span.first..span.end.min(self.dues.len()) {
+            let due = self.dues[place];
+            if due.node == node && due.hops <= rest && latest < due.late {
+                latest = due.late;
+            }
+        }
+        latest
+    }
+
+    /// No more hops than a way on has from a node at a second.
+    pub fn hops_from(&self, from: Standing) -> usize
+        requires node { from.node < length self.now.spans.items }
+        requires spans { AreSpans self.now.dues.items self.now.spans.items }
+        ensures { (k : ℕ) (d : Due) → slice_get self.now.dues.items k ≡ Some d → d.node ≡ from.node → from.at < d.late → result ≤ d.hops }
+    {
+        let span = self.spans[from.node];
+        let mut least = usize::MAX;
+        for place in span.first..span.end.min(self.dues.len()) {
+            let due = self.dues[place];
+            if due.node == from.node && from.at < due.late && due.hops < least {
+                least = due.hops;
+            }
+        }
+        least
+    }
+
+    /// No more hops than a way on has from any of these.
+    pub fn least_hops(&self, first: &[Standing]) -> usize
+        requires inside { (k : ℕ) (s : Standing) → slice_get first.now k ≡ Some s → s.node < length self.now.spans.items }
+        requires spans { AreSpans self.now.dues.items self.now.spans.items }
+        ensures { (i k : ℕ) (s : Standing) (d : Due) → slice_get first.now i ≡ Some s → slice_get self.now.dues.items k ≡ Some d → d.node ≡ s.node → s.at < d.late → result ≤ d.hops }
+    {
+        let mut least = usize::MAX;
+        for place in 0..first.len() {
+            let hops = self.hops_from(first[place]);
+            if hops < least {
+                least = hops;
+            }
+        }
+        least
+    }
+
+    /// Whether none of these is in time for a delivery before the deadline.
+    pub fn comes_no_sooner(&self, first: &[Standing]) -> bool
+        requires inside { (k : ℕ) (s : Standing) → slice_get first.now k ≡ Some s → s.node < length self.now.before.items }
+        ensures { IsTrue result → (k : ℕ) (s : Standing) → slice_get first.now k ≡ Some s → slice_index self.now.before.items s.node ≤ s.at }
+    {
+        for place in 0..first.len() {
+            let step = first[place];
+            if step.at < self.before[step.node] {
+                return false;
+            }
+        }
+        true
+    }
+}
