@@ -17,8 +17,6 @@ mod request_line;
 mod rows;
 mod session_fault;
 mod session_writing;
-#[cfg(test)]
-mod tests;
 mod text_buffer;
 mod text_laws;
 mod verifying;

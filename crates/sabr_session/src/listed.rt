@@ -14,6 +14,9 @@ use std::alloc::Allocator;
 /// The most numbers of a list.
 const MOST_NUMBERS: usize = 20000;
 
+/// How many numbers a list mostly has at most: room for so many is made at once.
+const USUAL_NUMBERS: usize = 16;
+
 /// The greatest number of a contact.
 const MOST_NUMBER: u64 = 4294967295;
 
@@ -51,7 +54,7 @@ fn numbers_to_slash<'a, A: Allocator + Copy>(
 ) -> Result<Option<Listed<'a, A>>, NoMemory>
     ensures { IfOk result (λ found. MatchOption found (counted 20000 (all_of (map (number_within 1 4294967295) (before_slash (words_of text.now)))) ≡ None) (λ l. (all_of (map (number_within 1 4294967295) (before_slash (words_of text.now))) ≡ Some l.numbers) × (length l.numbers ≤ 20000) × (l.stopped ≡ list_any is_slash (words_of text.now)) × (words_behind (option_copied l.rest) ≡ after_slash (words_of text.now)))) }
 {
-    let mut numbers = Vec::new(alloc);
+    let mut numbers = Vec::with_capacity(alloc, USUAL_NUMBERS)?;
     let mut left = Some(text);
     while let Some(behind) = left {
         let (word, others) = first_word(behind);

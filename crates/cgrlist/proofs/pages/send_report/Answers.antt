@@ -1,5 +1,0 @@
-use Rattle.cgrlist.proofs.PageTexts.{flush_failed}
-use Rattle.cgrlist.proofs.pages.send_report.Goals as goal
-
-pub returns-in_default-clause-text : goal.returns-in_default-clause-text
-returns-in_default-clause-text g c = flush_failed _ _ _ _ _ _ _ c.in_ok-write_report.ensures c.in_default.ensures.bytes c.in_default.ensures.count

@@ -1,0 +1,5 @@
+-- Pages and sessions.
+pub mod SessionPages
+pub mod PageTexts
+pub mod OldSessions
+pub mod RunsFollow

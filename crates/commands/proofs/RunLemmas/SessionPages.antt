@@ -1,0 +1,59 @@
+-- What a page of a session just started gives of the listing.
+use Rattle.std.proofs.Common.{◌≡◌, ℕ, zero, suc, ◌+◌, ◌<◌, ◌≤◌, List, [], ◌∷◌, map, length, take, refl, ◌∙◌, ap, arith, ◌⊎◌, inl, inr}
+use Rattle.std.specs.Prelude.{is_some, nat_lt}
+use Rattle.std.proofs.lemmas.Bool.Decides.{nat_tests}
+use Rattle.sabr_model.specs.Plan.{ContactPlan, IsPlan}
+use Rattle.sabr_model.specs.Arrival.{RouteRequest}
+use Rattle.sabr_model.specs.Listing.{routes, page_of}
+use Rattle.sabr_model.specs.Record.{record_of}
+use Rattle.sabr_frontier.specs.State.{State}
+use Rattle.sabr_frontier.specs.Listing.{state_at, steps, next_route}
+use Rattle.sabr_frontier.proofs.Lawful.{steps_follow}
+use Rattle.sabr_session.specs.ReportText.{report_text}
+use Rattle.commands.specs.runs.Runs.{first_report}
+use Rattle.commands.specs.runs.SessionRuns.{next_report, report_behind}
+
+none_before : (n : ℕ) → 0 + n ≡ n
+none_before n = omega arith
+
+-- the first page, and the place behind it
+first_steps : (p : ContactPlan) (r : RouteRequest) (k : ℕ) → IsPlan p
+    → steps p r k (state_at p r 0) ≡ (page_of p r 0 k, state_at p r (length (page_of p r 0 k)))
+first_steps p r k rules =
+    (steps_follow p r rules).pages 0 k (omega arith)
+    ∙ ap (λ n. (page_of p r 0 k, state_at p r n)) (none_before (length (page_of p r 0 k)))
+
+taken : {X : Type 0} (k : ℕ) (xs : List X) → ((k < length xs) × (length (take k xs) ≡ k)) ⊎ ((length xs ≤ k) × (length (take k xs) ≡ length xs))
+taken zero [] = inr (omega arith, refl)
+taken zero (x ∷ xs) = inl (omega arith, refl)
+taken (suc k) [] = inr (omega arith, refl)
+taken (suc k) (x ∷ xs) = elim (taken k xs) [
+  | inl h ↦ inl (omega arith, ap suc h.1)
+  | inr h ↦ inr (omega arith, ap suc h.1)
+]
+
+-- the list goes on behind its first k members exactly where it has more than k
+behind : {X : Type 0} (k : ℕ) (xs : List X) → nat_lt (length (take k xs)) (length xs) ≡ nat_lt k (length xs)
+behind k xs = elim (taken k xs) [
+  | inl h ↦ ap (λ n. nat_lt n (length xs)) h.1
+  | inr h ↦ let e = h.1 in let le = h.0 in rw e (grind (arith, nat_tests))
+]
+
+within : {X : Type 0} (k : ℕ) (xs : List X) → length (take k xs) ≤ length xs
+within k xs = elim (taken k xs) [ inl h ↦ let e = h.1 in let lt = h.0 in omega arith | inr h ↦ let e = h.1 in omega arith ]
+
+-- a route is carried behind the first page exactly where the list goes on
+more_behind : (p : ContactPlan) (r : RouteRequest) (k : ℕ) → IsPlan p
+    → is_some (next_route p r (state_at p r (length (page_of p r 0 k)))) ≡ nat_lt k (length (routes p r))
+more_behind p r k rules = (steps_follow p r rules).carries (length (take k (routes p r))) (within k (routes p r)) ∙ behind k (routes p r)
+
+-- the report of the steps from the first place is that of the first page
+pub first_report_is : (p : ContactPlan) (r : RouteRequest) (k : ℕ) → IsPlan p → next_report p r (state_at p r 0) k ≡ first_report p r k
+unfolding state_at
+first_report_is p r k rules =
+    ap (report_behind p r 0) (first_steps p r k rules)
+    ∙ ap (report_text (map (record_of p r) (page_of p r 0 k)) 1) (more_behind p r k rules)
+
+-- and they lead to the place that it reaches
+pub first_place : (p : ContactPlan) (r : RouteRequest) (k : ℕ) → IsPlan p → (steps p r k (state_at p r 0)).1 ≡ state_at p r (length (page_of p r 0 k))
+first_place p r k rules = ap (λ (x : List (List ℕ) × State). x.1) (first_steps p r k rules)

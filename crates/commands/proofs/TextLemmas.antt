@@ -1,0 +1,5 @@
+-- Texts, part by part.
+pub mod TextsInTurn
+pub mod SpelledTimes
+pub mod Explained
+pub mod HopLine

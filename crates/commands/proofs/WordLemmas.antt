@@ -1,0 +1,3 @@
+-- Lists on the command line.
+pub mod CommaPieces
+pub mod ListedNumbers

@@ -1,0 +1,10 @@
+use Rattle.std.proofs.Common.{Err, refl, ap, ◌∙◌}
+use Rattle.std.proofs.lemmas.Result.{err_from_is_err_and}
+use Rattle.sabr_session.specs.declared.session_fault.SessionFault.TheVariants.{NoMemory}
+use Rattle.commands.proofs.runs.next.read_and_write_next.Goals as goal
+
+-- a session that isn't read has no answer, and nothing is asked of one
+pub returns-in_err-plan : goal.returns-in_err-plan
+returns-in_err-plan g c =
+    let (failure, is, told) = err_from_is_err_and c.from_residual.result c.from_residual.ensures.1 in
+    (Err c.in_err-plan.field-0.0, (Err NoMemory, (c.in_err-plan.ensures {u = tt}).read, (refl, refl), (is ∙ ap Err told, (refl, refl), (refl, refl))))

@@ -1,0 +1,28 @@
+use Rattle.commands.proofs.texts.messages.write_message.Goals as goal
+
+pub returns-in-BadValue : goal.returns-in-BadValue
+returns-in-BadValue g c = rw c.in-BadValue.is (rw (c.text.ensures) at c.write_texts.ensures)
+
+pub returns-in-SameNode : goal.returns-in-SameNode
+returns-in-SameNode g c = rw c.in-SameNode.is c.write_text.ensures
+
+pub returns-in-BadAvoid : goal.returns-in-BadAvoid
+returns-in-BadAvoid g c = rw c.in-BadAvoid.is c.write_text-in-BadAvoid.ensures
+
+pub returns-in-CannotOpenPlan : goal.returns-in-CannotOpenPlan
+returns-in-CannotOpenPlan g c = rw c.in-CannotOpenPlan.is c.write_text-in-CannotOpenPlan.ensures
+
+pub returns-in-Write : goal.returns-in-Write
+returns-in-Write g c = rw c.in-Write.is c.write_text-in-Write.ensures
+
+pub returns-in-NoMemory : goal.returns-in-NoMemory
+returns-in-NoMemory g c = rw c.in-NoMemory.is c.write_text-in-NoMemory.ensures
+
+pub returns-in-CannotOpenSession : goal.returns-in-CannotOpenSession
+returns-in-CannotOpenSession g c = rw c.in-CannotOpenSession.is c.write_text-in-CannotOpenSession.ensures
+
+pub returns-in-CannotMakeSession : goal.returns-in-CannotMakeSession
+returns-in-CannotMakeSession g c = rw c.in-CannotMakeSession.is c.write_text-in-CannotMakeSession.ensures
+
+pub returns-in-SessionRead : goal.returns-in-SessionRead
+returns-in-SessionRead g c = rw c.in-SessionRead.is c.write_text-in-SessionRead.ensures

@@ -1,0 +1,3 @@
+pub mod words
+pub mod texts
+pub mod runs

@@ -1,0 +1,4 @@
+-- What runs leave on their writers.
+pub mod Runs
+pub mod SessionRuns
+pub mod EveryRun

@@ -1,0 +1,34 @@
+-- What a run leaves on its writers, over the plan that reading gave.
+use Rattle.std.specs.Prelude.{◌≡◌, ℕ, nat_lt, Bool, List, Result, Ok, Err, Option, map, length, if◌then◌else◌}
+use Rattle.sabr_model.specs.Plan.{ContactPlan}
+use Rattle.sabr_model.specs.Arrival.{RouteRequest}
+use Rattle.sabr_model.specs.Listing.{routes, page_of}
+use Rattle.sabr_model.specs.Record.{record_of}
+use Rattle.sabr_session.specs.ReportText.{report_text}
+use Rattle.commands.specs.declared.status.Status.{Status}
+use Rattle.commands.specs.declared.status.Status.TheVariants as status
+use Rattle.commands.specs.declared.failure.Failure.{Failure}
+use Rattle.commands.specs.texts.Messages.{message_text, status_of, TellsText}
+
+-- the report of the first page, from rank 1, and whether the listing goes on behind it
+abbrev pub first_report : ContactPlan → RouteRequest → ℕ → List ℕ
+first_report p r count = report_text (map (record_of p r) (page_of p r 0 count)) 1 (nat_lt count (length (routes p r)))
+
+-- nothing was written, and nothing failed
+abbrev pub Untouched : Option (List ℕ) → ℕ → Option (List ℕ) → ℕ → Type 0
+Untouched old before new after = (new ≡ old) × (after ≡ before)
+
+-- the status of a run that ended so
+abbrev pub status_at : Result (Unit {0}) Failure → Status
+status_at (Ok _) = status.Done
+status_at (Err f) = status_of f
+
+-- the status of a run that ended with yes or no
+abbrev pub status_of_answer : Result Bool Failure → Status
+status_of_answer (Ok answer) = if answer then status.Done else status.No
+status_of_answer (Err f) = status_of f
+
+-- nothing is told of a run that did what it was asked, and else its failure's message
+abbrev pub TellsEnd : {A : Type 0} → Result A Failure → Option (List ℕ) → ℕ → Option (List ℕ) → ℕ → Type 0
+TellsEnd (Ok _) old before new after = Untouched old before new after
+TellsEnd (Err f) old before new after = TellsText old before (message_text f) new after

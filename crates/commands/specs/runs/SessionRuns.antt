@@ -1,0 +1,105 @@
+-- What a run leaves on its writers that keeps a session, goes on from one, or verifies one.
+use Rattle.std.specs.Prelude.{◌≡◌, ℕ, ◌+◌, ◌⊎◌, Bool, is_some, IsTrue, List, [], Result, Ok, Err, Option, map, length, codes, if◌then◌else◌}
+use Rattle.sabr_model.specs.Plan.{ContactPlan, TabledPlan}
+use Rattle.sabr_model.specs.Arrival.{RouteRequest}
+use Rattle.sabr_model.specs.Listing.{page_of}
+use Rattle.sabr_model.specs.Record.{record_of}
+use Rattle.sabr_model.specs.Devices.{Written, WrittenAndFlushed, WrittenInPart}
+use Rattle.sabr_plan.specs.declared.fault.PlanFault.{PlanFault}
+use Rattle.sabr_frontier.specs.State.{State}
+use Rattle.sabr_frontier.specs.Session.{Seen}
+use Rattle.sabr_frontier.specs.Listing.{state_at, steps, next_route}
+use Rattle.sabr_session.specs.ReportText.{report_text}
+use Rattle.sabr_plan.specs.Canonical.{digest_of}
+use Rattle.sabr_session.specs.SessionText.{text_of}
+use Rattle.sabr_session.specs.SessionGiven.{ReadsSession}
+use Rattle.sabr_session.specs.Verifying.{VerifiesText}
+use Rattle.sabr_session.specs.declared.session_fault.SessionFault.{SessionFault}
+use Rattle.commands.specs.declared.failure.Failure.{Failure}
+use Rattle.commands.specs.declared.failure.Failure.TheVariants as failure
+use Rattle.commands.specs.texts.Messages.{failure_of_plan, failure_of_session}
+use Rattle.commands.specs.runs.Runs.{Untouched, first_report}
+
+-- the report of a page that begins behind so many routes, and whether a route is left behind it
+abbrev pub report_behind : ContactPlan → RouteRequest → ℕ → List (List ℕ) × State → List ℕ
+report_behind p r given page = report_text (map (record_of p r) page.0) (given + 1) (is_some (next_route p r page.1))
+
+-- the report of at most `count` steps from a state, ranked on from the routes that it counts as given
+abbrev pub next_report : ContactPlan → RouteRequest → State → ℕ → List ℕ
+next_report p r s count = report_behind p r s.emitted (steps p r count s)
+
+-- the text of a state where it is to be kept, and none where it isn't
+abbrev pub kept_text : Bool → ContactPlan → RouteRequest → State → List ℕ
+kept_text keep p r s = if keep then text_of (digest_of p) r s else []
+
+-- what a page leaves on `out` and on the session's writer: both texts, whole and flushed; or, where one of them failed,
+-- a beginning of the report and no session, or the report, whole and flushed, and a beginning of the session; or nothing
+-- where memory was refused
+abbrev pub WritesPage : Bool → List ℕ → List ℕ → Result (Unit {0}) Failure
+    → Option (List ℕ) → ℕ → Option (List ℕ) → ℕ → Bool → Option (List ℕ) → ℕ → Option (List ℕ) → ℕ → Bool → Type 0
+WritesPage keep report text (Ok _) old before new after flushed old₁ before₁ new₁ after₁ flushed₁ =
+    WrittenAndFlushed old before report new after flushed × Written old₁ before₁ text new₁ after₁ × (IsTrue keep → IsTrue flushed₁)
+WritesPage keep report text (Err failure.Write) old before new after flushed old₁ before₁ new₁ after₁ flushed₁ =
+    (WrittenInPart old before report new after × Untouched old₁ before₁ new₁ after₁)
+    ⊎ (IsTrue keep × WrittenAndFlushed old before report new after flushed × WrittenInPart old₁ before₁ text new₁ after₁)
+WritesPage keep report text (Err failure.NoMemory) old before new after flushed old₁ before₁ new₁ after₁ flushed₁ =
+    Untouched old before new after × Untouched old₁ before₁ new₁ after₁
+WritesPage keep report text (Err _) old before new after flushed old₁ before₁ new₁ after₁ flushed₁ = ⊥
+
+-- what a first run leaves over what reading gave: over a plan the report of the first page and the session of the place
+-- that it reaches; nothing where the plan was refused
+abbrev pub WritesFirstPage : Result TabledPlan PlanFault → RouteRequest → Bool → ℕ → Result (Unit {0}) Failure
+    → Option (List ℕ) → ℕ → Option (List ℕ) → ℕ → Bool → Option (List ℕ) → ℕ → Option (List ℕ) → ℕ → Bool → Type 0
+WritesFirstPage (Err fault) r keep count end old before new after flushed old₁ before₁ new₁ after₁ flushed₁ =
+    (end ≡ Err (failure_of_plan fault)) × Untouched old before new after × Untouched old₁ before₁ new₁ after₁
+WritesFirstPage (Ok p) r keep count end old before new after flushed old₁ before₁ new₁ after₁ flushed₁ =
+    WritesPage keep (first_report p.plan r count) (kept_text keep p.plan r (state_at p.plan r (length (page_of p.plan r 0 count)))) end
+    old before new after flushed old₁ before₁ new₁ after₁ flushed₁
+
+-- the request and the state of an old session
+abbrev pub place_of : Result Seen SessionFault → Result (RouteRequest × State) SessionFault
+place_of (Ok s) = Ok (s.request, s.state)
+place_of (Err fault) = Err fault
+
+-- an old session is read over what reading the plan gave: where the plan was refused it isn't, and nothing is asked of
+-- the answer
+abbrev pub ReadsOldSession : Result TabledPlan PlanFault → Option (List ℕ) → ℕ → Result Seen SessionFault → Option (List ℕ) → ℕ → Type 0
+ReadsOldSession (Err fault) old before answer new after = Untouched old before new after
+ReadsOldSession (Ok p) old before answer new after = ReadsSession p old before answer new after
+
+-- what a next run leaves over what reading the plan and then the session gave: the report of the steps from that
+-- session's state, and the session of the state that they reach; nothing where either was refused, the plan first
+abbrev pub WritesNextPage : Result TabledPlan PlanFault → Result (RouteRequest × State) SessionFault → Bool → ℕ → Result (Unit {0}) Failure
+    → Option (List ℕ) → ℕ → Option (List ℕ) → ℕ → Bool → Option (List ℕ) → ℕ → Option (List ℕ) → ℕ → Bool → Type 0
+WritesNextPage (Err fault) session keep count end old before new after flushed old₁ before₁ new₁ after₁ flushed₁ =
+    (end ≡ Err (failure_of_plan fault)) × Untouched old before new after × Untouched old₁ before₁ new₁ after₁
+WritesNextPage (Ok p) (Err fault) keep count end old before new after flushed old₁ before₁ new₁ after₁ flushed₁ =
+    (end ≡ Err (failure_of_session fault)) × Untouched old before new after × Untouched old₁ before₁ new₁ after₁
+WritesNextPage (Ok p) (Ok s) keep count end old before new after flushed old₁ before₁ new₁ after₁ flushed₁ =
+    WritesPage keep (next_report p.plan s.0 s.1 count) (kept_text keep p.plan s.0 (steps p.plan s.0 count s.1).1) end
+    old before new after flushed old₁ before₁ new₁ after₁ flushed₁
+
+-- an answer as a line
+abbrev pub answer_line : Bool → List ℕ
+answer_line answer = if answer then codes "yes\n" else codes "no\n"
+
+-- what is told of a session that was verified: the answer as a line, whole and flushed, or a beginning of it where the
+-- writer failed; nothing where the session's reader failed or memory was refused
+abbrev pub WritesVerified : Result Bool SessionFault → Result Bool Failure → Option (List ℕ) → ℕ → Option (List ℕ) → ℕ → Bool → Type 0
+WritesVerified (Err fault) end old before new after flushed = (end ≡ Err (failure_of_session fault)) × Untouched old before new after
+WritesVerified (Ok answer) (Ok told) old before new after flushed = (told ≡ answer) × WrittenAndFlushed old before (answer_line answer) new after flushed
+WritesVerified (Ok answer) (Err failure.Write) old before new after flushed = WrittenInPart old before (answer_line answer) new after
+WritesVerified (Ok answer) (Err _) old before new after flushed = ⊥
+
+-- an old session is verified over what reading the plan gave: where the plan was refused it isn't read, and nothing is
+-- asked of the answer
+abbrev pub VerifiesOldSession : Result TabledPlan PlanFault → Option (List ℕ) → ℕ → Result Bool SessionFault → Option (List ℕ) → ℕ → Type 0
+VerifiesOldSession (Err fault) old before answer new after = Untouched old before new after
+VerifiesOldSession (Ok p) old before answer new after = VerifiesText p.plan old before answer new after
+
+-- what a verifying run leaves over what reading the plan and then verifying the session gave: nothing where the plan
+-- was refused
+abbrev pub WritesAnswer : Result TabledPlan PlanFault → Result Bool SessionFault → Result Bool Failure
+    → Option (List ℕ) → ℕ → Option (List ℕ) → ℕ → Bool → Type 0
+WritesAnswer (Err fault) verified end old before new after flushed = (end ≡ Err (failure_of_plan fault)) × Untouched old before new after
+WritesAnswer (Ok p) verified end old before new after flushed = WritesVerified verified end old before new after flushed

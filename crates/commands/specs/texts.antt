@@ -1,0 +1,6 @@
+-- The texts that runs write, but for reports and sessions.
+pub mod Messages
+pub mod CheckText
+pub mod Followed
+pub mod Explanation
+pub mod ExplanationRows

@@ -1,0 +1,44 @@
+-- The text that tells what a plan holds, and its digest.
+use Rattle.std.specs.Prelude.{◌≡◌, ℕ, Bool, List, [], ◌∷◌, ◌++◌, codes, decimal, length, Result, Ok, Err, Option, is_none}
+use Rattle.std.specs.List.{concat, filter}
+use Rattle.hex.specs.Hex.{encode_lower}
+use Rattle.sabr_model.specs.declared.contact.Contact.{Contact}
+use Rattle.sabr_model.specs.Plan.{ContactPlan, TabledPlan}
+use Rattle.sabr_model.specs.Light.{light_of}
+use Rattle.sabr_model.specs.Table.{node_count}
+use Rattle.sabr_model.specs.Devices.{WrittenAndFlushed, WrittenInPart}
+use Rattle.sabr_plan.specs.declared.fault.PlanFault.{PlanFault}
+use Rattle.sabr_plan.specs.Canonical.{digest_of}
+use Rattle.commands.specs.declared.failure.Failure.{Failure}
+use Rattle.commands.specs.declared.failure.Failure.TheVariants as failure
+use Rattle.commands.specs.texts.Messages.{failure_of_plan}
+use Rattle.commands.specs.runs.Runs.{Untouched}
+
+-- the standing contacts that have no light time at their start
+abbrev pub without_light : ContactPlan → List Contact
+without_light p = filter (λ c. is_none (light_of p c)) p.contacts
+
+-- how many contacts and ranges stand, how many nodes send or receive a standing contact, and how many standing
+-- contacts have no light time: each in a line of its own
+abbrev pub counts_text : ContactPlan → List ℕ
+counts_text p =
+    concat (codes "contacts " ∷ decimal (length p.contacts) ∷ codes "\nranges " ∷ decimal (length p.ranges)
+    ∷ codes "\nnodes " ∷ decimal (node_count p.contacts)
+    ∷ codes "\nwithout light " ∷ decimal (length (without_light p)) ∷ codes "\n" ∷ [])
+
+-- the digest of the plan's canonical text, as hex digits in lower case
+abbrev pub digest_digits : ContactPlan → List ℕ
+digest_digits p = encode_lower (digest_of p)
+
+-- the lines of the counts, and that of the digest
+unfoldable pub check_text : ContactPlan → List ℕ
+check_text p = counts_text p ++ codes "digest " ++ digest_digits p ++ codes "\n"
+
+-- what a check writes over what reading gave: over a plan its text, whole and flushed, or a beginning of it where the
+-- writer failed, and no memory is wanted; nothing where the plan was refused
+abbrev pub WritesCheck : Result TabledPlan PlanFault → Result (Unit {0}) Failure
+    → Option (List ℕ) → ℕ → Option (List ℕ) → ℕ → Bool → Type 0
+WritesCheck (Err fault) end old before new after flushed = (end ≡ Err (failure_of_plan fault)) × Untouched old before new after
+WritesCheck (Ok p) (Ok _) old before new after flushed = WrittenAndFlushed old before (check_text p.plan) new after flushed
+WritesCheck (Ok p) (Err failure.Write) old before new after flushed = WrittenInPart old before (check_text p.plan) new after
+WritesCheck (Ok p) (Err _) old before new after flushed = ⊥

@@ -1,0 +1,78 @@
+-- What is told of a list of contacts: its hops up to the first fault, and how it ends.
+use Rattle.std.specs.Prelude.{◌≡◌, ℕ, ◌+◌, max, Bool, is_none, List, [], ◌∷◌, ◌++◌, length, decimal, codes, Result, Ok, Err, if◌then◌else◌}
+use Rattle.std.specs.List.{concat}
+use Rattle.std.specs.Option.{option_map_or}
+use Rattle.std.specs.declared.option.Option.{Option}
+use Rattle.sabr_model.specs.declared.contact.Contact.{Contact}
+use Rattle.sabr_model.specs.declared.fault.HopFault.{HopFault}
+use Rattle.sabr_model.specs.declared.fault.HopFault.TheVariants.{Empty, NoSuchContact, NotChained, NodeAgain, NoLight, TooLate, WrongEnd, AvoidedNode, TooManyHops}
+use Rattle.sabr_model.specs.Plan.{ContactPlan, TabledPlan, contact_named}
+use Rattle.sabr_model.specs.Arrival.{RouteRequest}
+use Rattle.sabr_model.specs.Route.{delivery_of, is_route}
+use Rattle.sabr_model.specs.Record.{record_of}
+use Rattle.sabr_model.specs.Fault.{fault_at, fault_of}
+use Rattle.sabr_model.specs.Devices.{WrittenAndFlushed, WrittenInPart}
+use Rattle.sabr_plan.specs.Times.{time_text_of}
+use Rattle.sabr_plan.specs.declared.fault.PlanFault.{PlanFault}
+use Rattle.sabr_session.specs.ReportText.{route_line}
+use Rattle.commands.specs.declared.failure.Failure.{Failure}
+use Rattle.commands.specs.declared.failure.Failure.TheVariants as failure
+use Rattle.commands.specs.texts.Messages.{failure_of_plan}
+use Rattle.commands.specs.runs.Runs.{Untouched}
+
+-- a hop as a line: its place, its contact, and the times of sending and of arrival
+abbrev pub hop_line : ℕ → Contact → ℕ → ℕ → List ℕ
+hop_line place c sent arrived = concat (
+    codes "hop " ∷ decimal place
+    ∷ codes " contact " ∷ decimal c.number
+    ∷ codes " from " ∷ decimal c.from
+    ∷ codes " to " ∷ decimal c.to
+    ∷ codes " send " ∷ time_text_of sent
+    ∷ codes " arrive " ∷ time_text_of arrived ∷ codes "\n" ∷ []
+    )
+
+-- the line of a number that follows the list `front`: it is sent on arrival there, or as soon as its contact starts
+abbrev pub line_behind : ContactPlan → RouteRequest → List ℕ → ℕ → List ℕ
+line_behind p r front n =
+    option_map_or (λ c. hop_line (length front + 1) c (max (delivery_of p r front) c.start) (delivery_of p r (front ++ n ∷ [])))
+    (contact_named p n) []
+
+-- the lines of the numbers behind `front`, up to the first fault
+abbrev pub hop_lines : ContactPlan → RouteRequest → List ℕ → List ℕ → List ℕ
+hop_lines p r front [] = []
+hop_lines p r front (n ∷ s) =
+    if is_none (fault_at p r front n) then line_behind p r front n ++ hop_lines p r (front ++ n ∷ []) s else []
+
+-- the fault of a place, by its name
+abbrev pub refused_at : ℕ → List ℕ → List ℕ
+refused_at place kind = concat (codes "refused hop " ∷ decimal place ∷ codes ": " ∷ kind ∷ codes "\n" ∷ [])
+
+-- a fault as a line
+abbrev pub fault_line : HopFault → List ℕ
+fault_line Empty = codes "refused: Empty\n"
+fault_line (NoSuchContact place) = refused_at place (codes "NoSuchContact")
+fault_line (NotChained place) = refused_at place (codes "NotChained")
+fault_line (NodeAgain place) = refused_at place (codes "NodeAgain")
+fault_line (NoLight place) = refused_at place (codes "NoLight")
+fault_line (TooLate place) = refused_at place (codes "TooLate")
+fault_line WrongEnd = codes "refused: WrongEnd\n"
+fault_line (AvoidedNode place) = refused_at place (codes "AvoidedNode")
+fault_line (TooManyHops place) = refused_at place (codes "TooManyHops")
+
+-- how a list ends: the line of the route that it is, or that of its fault
+abbrev pub ending_line : ContactPlan → RouteRequest → List ℕ → List ℕ
+ending_line p r s = option_map_or fault_line (fault_of p r s) (route_line (record_of p r s))
+
+-- the explanation of a list of contacts
+unfoldable pub explanation_text : ContactPlan → RouteRequest → List ℕ → List ℕ
+explanation_text p r s = hop_lines p r [] s ++ ending_line p r s
+
+-- what an explanation writes over what reading gave: over a plan its text, whole and flushed, and the answer is
+-- whether the list is a route; or a beginning of it where the writer failed, and no memory is wanted; nothing where
+-- the plan was refused
+abbrev pub WritesExplanation : Result TabledPlan PlanFault → RouteRequest → List ℕ → Result Bool Failure
+    → Option (List ℕ) → ℕ → Option (List ℕ) → ℕ → Bool → Type 0
+WritesExplanation (Err fault) r s end old before new after flushed = (end ≡ Err (failure_of_plan fault)) × Untouched old before new after
+WritesExplanation (Ok p) r s (Ok answer) old before new after flushed = (answer ≡ is_route p.plan r s) × WrittenAndFlushed old before (explanation_text p.plan r s) new after flushed
+WritesExplanation (Ok p) r s (Err failure.Write) old before new after flushed = WrittenInPart old before (explanation_text p.plan r s) new after
+WritesExplanation (Ok p) r s (Err _) old before new after flushed = ⊥

@@ -1,0 +1,119 @@
+-- What is told on standard error where a run ends early, the status that it ends with, and the numbers of statuses.
+use Rattle.std.specs.Prelude.{ℕ, ◌⊎◌, List, [], ◌∷◌, Option, Some, None, decimal, codes}
+use Rattle.std.specs.List.{concat}
+use Rattle.std.specs.Option.{option_map_or}
+use Rattle.sabr_model.specs.Devices.{Written, WrittenInPart}
+use Rattle.sabr_plan.specs.declared.fault.PlanKind.{PlanKind}
+use Rattle.sabr_plan.specs.declared.fault.PlanKind.TheVariants.{LineTooLong, BadByte, UnknownCommand, WrongOperands, BadTime, NoReference, BadNode, BadNumber, EmptyWindow, SelfPair, DuplicateContact, RangeOverlap, TooMany, Read, NoMemory, NothingToDelete}
+use Rattle.sabr_plan.specs.declared.fault.PlanFault.{PlanFault}
+use Rattle.sabr_session.specs.declared.session_fault.SessionFault.{SessionFault}
+use Rattle.sabr_session.specs.declared.session_fault.SessionFault.TheVariants as session
+use Rattle.commands.specs.declared.status.Status.{Status}
+use Rattle.commands.specs.declared.status.Status.TheVariants as status
+use Rattle.commands.specs.declared.failure.Failure.{Failure}
+use Rattle.commands.specs.declared.failure.Failure.TheVariants as failure
+use Rattle.commands.specs.words.Values.{name_text}
+
+-- a kind of a bad line, by its name
+abbrev pub kind_text : PlanKind → List ℕ
+kind_text LineTooLong = codes "LineTooLong"
+kind_text BadByte = codes "BadByte"
+kind_text UnknownCommand = codes "UnknownCommand"
+kind_text WrongOperands = codes "WrongOperands"
+kind_text BadTime = codes "BadTime"
+kind_text NoReference = codes "NoReference"
+kind_text BadNode = codes "BadNode"
+kind_text BadNumber = codes "BadNumber"
+kind_text EmptyWindow = codes "EmptyWindow"
+kind_text SelfPair = codes "SelfPair"
+kind_text DuplicateContact = codes "DuplicateContact"
+kind_text RangeOverlap = codes "RangeOverlap"
+kind_text TooMany = codes "TooMany"
+kind_text Read = codes "Read"
+kind_text NoMemory = codes "NoMemory"
+kind_text NothingToDelete = codes "NothingToDelete"
+
+-- the failure that a refused plan is: a failed reader and refused memory aren't a line's fault
+abbrev pub failure_of_kind : PlanFault → PlanKind → Failure
+failure_of_kind fault Read = failure.PlanRead
+failure_of_kind fault NoMemory = failure.NoMemory
+failure_of_kind fault _ = failure.PlanLine fault
+
+abbrev pub failure_of_plan : PlanFault → Failure
+failure_of_plan fault = failure_of_kind fault fault.kind
+
+-- a fault of a session text, by its name
+abbrev pub session_kind_text : SessionFault → List ℕ
+session_kind_text session.BadHeader = codes "BadHeader"
+session_kind_text (session.BadLine line) = codes "BadLine"
+session_kind_text session.OtherPlan = codes "OtherPlan"
+session_kind_text session.BadRequest = codes "BadRequest"
+session_kind_text session.NotClosed = codes "NotClosed"
+session_kind_text (session.BadRoute line) = codes "BadRoute"
+session_kind_text session.BadCount = codes "BadCount"
+session_kind_text session.Read = codes "Read"
+session_kind_text session.NoMemory = codes "NoMemory"
+
+-- the failure that a refused session is: a failed reader and refused memory aren't the text's fault
+abbrev pub failure_of_session : SessionFault → Failure
+failure_of_session session.Read = failure.SessionRead
+failure_of_session session.NoMemory = failure.NoMemory
+failure_of_session fault = failure.Session fault
+
+-- the line of a session text that a fault names
+abbrev pub session_line : SessionFault → Option ℕ
+session_line (session.BadLine line) = Some line
+session_line (session.BadRoute line) = Some line
+session_line _ = None
+
+-- a fault of a session text as a line: with the line that it names, or of the whole text
+abbrev pub session_message : SessionFault → List ℕ
+session_message fault =
+    option_map_or (λ line. concat (codes "cgrlist: session line " ∷ decimal line ∷ codes ": " ∷ session_kind_text fault ∷ codes "\n" ∷ []))
+    (session_line fault)
+    (concat (codes "cgrlist: session: " ∷ session_kind_text fault ∷ codes "\n" ∷ []))
+
+-- the line that tells a failure
+abbrev pub message_text : Failure → List ℕ
+message_text (failure.BadValue name) = concat (codes "cgrlist: bad --" ∷ name_text name ∷ codes "\n" ∷ [])
+message_text failure.SameNode = codes "cgrlist: request: SameNode\n"
+message_text failure.BadAvoid = codes "cgrlist: request: BadAvoid\n"
+message_text failure.CannotOpenPlan = codes "cgrlist: cannot open the plan\n"
+message_text failure.CannotOpenSession = codes "cgrlist: cannot open the session\n"
+message_text failure.CannotMakeSession = codes "cgrlist: cannot make the session file\n"
+message_text (failure.PlanLine fault) =
+    concat (codes "cgrlist: plan line " ∷ decimal fault.line ∷ codes ": " ∷ kind_text fault.kind ∷ codes "\n" ∷ [])
+message_text failure.PlanRead = codes "cgrlist: plan: read failed\n"
+message_text (failure.Session fault) = session_message fault
+message_text failure.SessionRead = codes "cgrlist: session: read failed\n"
+message_text failure.Write = codes "cgrlist: write failed\n"
+message_text failure.NoMemory = codes "cgrlist: no memory\n"
+
+-- the status that a failure ends with
+abbrev pub status_of : Failure → Status
+status_of (failure.BadValue name) = status.Usage
+status_of failure.SameNode = status.Usage
+status_of failure.BadAvoid = status.Usage
+status_of failure.CannotOpenPlan = status.Io
+status_of failure.CannotOpenSession = status.Io
+status_of failure.CannotMakeSession = status.Io
+status_of (failure.PlanLine fault) = status.Plan
+status_of failure.PlanRead = status.Io
+status_of (failure.Session fault) = status.Session
+status_of failure.SessionRead = status.Io
+status_of failure.Write = status.Io
+status_of failure.NoMemory = status.Memory
+
+-- the program's exit status
+abbrev pub number_of : Status → ℕ
+number_of status.Done = 0
+number_of status.No = 1
+number_of status.Usage = 2
+number_of status.Plan = 3
+number_of status.Session = 4
+number_of status.Io = 5
+number_of status.Memory = 6
+
+-- the text was taken, or a beginning of it by a writer that failed
+abbrev pub TellsText : Option (List ℕ) → ℕ → List ℕ → Option (List ℕ) → ℕ → Type 0
+TellsText old before text new after = Written old before text new after ⊎ WrittenInPart old before text new after

@@ -1,0 +1,3 @@
+-- What the words of the command line say.
+pub mod Lists
+pub mod Values

@@ -1,0 +1,150 @@
+-- The strict reading of a command's texts. The order in which bad ones are told is this project's profile.
+use Rattle.std.specs.Prelude.{ℕ, ◌<◌, ◌≤◌, Bool, true, false, not, ◌==◌, List, [], Result, Ok, Err, codes, if◌then◌else◌}
+use Rattle.std.specs.declared.option.Option.{Option}
+use Rattle.std.specs.declared.option.Option.TheVariants.{Some, None}
+use Rattle.clap.specs.declared.parser.matches.Found.{Found}
+use Rattle.clap.specs.Matches.{first_value}
+use Rattle.sabr_model.specs.Plan.{IsNode, last_time}
+use Rattle.sabr_model.specs.Arrival.{RouteRequest}
+use Rattle.sabr_model.specs.Asking.{may_avoid, unlimited, with_limits, most_margin, most_hops}
+use Rattle.sabr_plan.specs.Times.{time_of}
+use Rattle.commands.specs.declared.words.value_name.ValueName.{ValueName}
+use Rattle.commands.specs.declared.words.value_name.ValueName.TheVariants.{From, To, At, MarginPpm, MaxHops, Avoid, Count, Contacts}
+use Rattle.commands.specs.declared.command.CommandName.{CommandName}
+use Rattle.commands.specs.declared.command.CommandName.TheVariants as command
+use Rattle.commands.specs.declared.failure.Failure.{Failure}
+use Rattle.commands.specs.declared.failure.Failure.TheVariants.{BadValue, SameNode, BadAvoid}
+use Rattle.commands.specs.declared.words.request_words.RequestWords.{RequestWords}
+use Rattle.commands.specs.words.Lists.{numbers_within, nodes_listed}
+use Rattle.sabr_plan.specs.Numbers.{number_within}
+
+-- the word of the command line that gives a value, without its two dashes
+abbrev pub name_text : ValueName → List ℕ
+name_text From = codes "from"
+name_text To = codes "to"
+name_text At = codes "at"
+name_text MarginPpm = codes "margin-ppm"
+name_text MaxHops = codes "max-hops"
+name_text Avoid = codes "avoid"
+name_text Count = codes "count"
+name_text Contacts = codes "contacts"
+
+-- the text that was given under a name
+abbrev pub text_under : Found → ValueName → Option (List ℕ)
+text_under found name = first_value found (name_text name)
+
+-- a value, or its name as a bad one
+abbrev pub or_bad : {A : Type 0} → ValueName → Option A → Result A Failure
+or_bad name None = Err (BadValue name)
+or_bad name (Some a) = Ok a
+
+-- what a text that has to be there says
+abbrev pub needed : {A : Type 0} → (List ℕ → Option A) → Option (List ℕ) → Option A
+needed reads None = None
+needed reads (Some text) = reads text
+
+-- what a text says, or what stands where none is given
+abbrev pub given_or : {A : Type 0} → A → (List ℕ → Option A) → Option (List ℕ) → Option A
+given_or otherwise reads None = Some otherwise
+given_or otherwise reads (Some text) = reads text
+
+-- goes on where nothing was refused
+abbrev pub and_then : {A B : Type 0} → Result A Failure → (A → Result B Failure) → Result B Failure
+and_then (Ok a) k = k a
+and_then (Err e) k = Err e
+
+-- a value that has to be there
+abbrev pub value_of : {A : Type 0} → (List ℕ → Option A) → Found → ValueName → Result A Failure
+value_of reads found name = or_bad name (needed reads (text_under found name))
+
+-- a value that may be left out
+abbrev pub value_or : {A : Type 0} → A → (List ℕ → Option A) → Found → ValueName → Result A Failure
+value_or otherwise reads found name = or_bad name (given_or otherwise reads (text_under found name))
+
+-- a node on the command line
+abbrev pub node_of : List ℕ → Option ℕ
+node_of text = number_within 1 18446744073709551615 text
+
+-- the limits and avoided nodes, behind the values of a request without limits
+unfoldable pub limits_of : ℕ → ℕ → ℕ → ℕ → Found → Result RequestWords Failure
+limits_of from to at margin found =
+    and_then (value_or 20000 (number_within 1 20000) found MaxHops) (λ hops.
+    and_then (value_or [] nodes_listed found Avoid) (λ avoid.
+    Ok (record { from = from; to = to; at = at; margin_ppm = margin; max_hops = hops; avoid = avoid })))
+
+-- what is asked for, word by word; the first bad word in this order is told
+unfoldable pub request_words : Found → Result RequestWords Failure
+request_words found =
+    and_then (value_of node_of found From) (λ from.
+    and_then (value_of node_of found To) (λ to.
+    and_then (value_of time_of found At) (λ at.
+    and_then (value_or 0 (number_within 0 1000000) found MarginPpm) (λ margin.
+    limits_of from to at margin found))))
+
+-- these words lie in the ranges of a request's values
+pub record IsInRange (w : RequestWords) : Type 0 where
+  pub from : IsNode w.from
+  pub to : IsNode w.to
+  pub at : w.at ≤ last_time
+  pub margin : w.margin_ppm ≤ most_margin
+  pub hops : (0 < w.max_hops) × (w.max_hops ≤ most_hops)
+
+-- the request of these words: different nodes first, then nodes that may be avoided
+unfoldable pub request_of : RequestWords → Result RouteRequest Failure
+request_of w =
+    if w.from == w.to then Err SameNode
+    else if not (may_avoid w.from w.to w.avoid) then Err BadAvoid
+    else Ok (with_limits (unlimited w.from w.to w.at w.margin_ppm) w.max_hops w.avoid)
+
+-- commands with a request
+abbrev pub has_request : CommandName → Bool
+has_request command.First = true
+has_request command.Explain = true
+has_request _ = false
+
+-- commands with a count of routes
+abbrev pub has_count : CommandName → Bool
+has_count command.First = true
+has_count command.Next = true
+has_count _ = false
+
+-- commands with contacts
+abbrev pub has_contacts : CommandName → Bool
+has_contacts command.Explain = true
+has_contacts _ = false
+
+-- what a command's values are; what it hasn't is none or empty
+pub record ValuesRead : Type 0 where
+  pub request : Option RouteRequest
+  pub count : Option ℕ
+  pub contacts : List ℕ
+
+-- something that a command has, or nothing
+abbrev pub where_asked : {A : Type 0} → Bool → Result A Failure → Result (Option A) Failure
+where_asked asked value = if asked then and_then value (λ a. Ok (Some a)) else Ok None
+
+-- the words of a request, where the command has one
+abbrev pub words_where_asked : CommandName → Found → Result (Option RequestWords) Failure
+words_where_asked name found = where_asked (has_request name) (request_words found)
+
+-- the count of routes, where the command has one
+abbrev pub count_where_asked : CommandName → Found → Result (Option ℕ) Failure
+count_where_asked name found = where_asked (has_count name) (value_of (number_within 1 10000) found Count)
+
+-- the contacts, where the command has them
+abbrev pub contacts_where_asked : CommandName → Found → Result (List ℕ) Failure
+contacts_where_asked name found = if has_contacts name then value_of (numbers_within 1 4294967295) found Contacts else Ok []
+
+-- the request of words that are there
+abbrev pub request_where_asked : Option RequestWords → Result (Option RouteRequest) Failure
+request_where_asked None = Ok None
+request_where_asked (Some words) = and_then (request_of words) (λ request. Ok (Some request))
+
+-- the strict reading of a command's texts
+unfoldable pub values_of : CommandName → Found → Result ValuesRead Failure
+values_of name found =
+    and_then (words_where_asked name found) (λ words.
+    and_then (count_where_asked name found) (λ count.
+    and_then (contacts_where_asked name found) (λ contacts.
+    and_then (request_where_asked words) (λ request.
+    Ok (record { request = request; count = count; contacts = contacts })))))

@@ -1,0 +1,145 @@
+//! The calls of the commands: each reads the values of its words, opens the files that they name, and runs over these.
+//!
+//! A call fails where its values are bad, or a file can't be opened or made, before its run.
+
+ghost use Rattle.std.specs.Prelude.{◌≤◌, IsTrue};
+ghost use Rattle.commands.specs.words.Values.{has_count};
+
+use crate::command::CommandName;
+use crate::failure::Failure;
+use crate::files::{make_session, open_plan, open_session, remove_unless_done, session_out};
+use crate::runs::{run_check, run_explain, run_first, run_next, run_verify};
+use crate::status::Status;
+use crate::words::read_values;
+use clap::ArgMatches;
+use sabr_model::{Device, Request, Write};
+use std::alloc::Global;
+use std::io;
+use std::rt::Files;
+
+/// What a page begins with.
+#[derive(Drop)]
+enum Beginning<F> {
+    /// The listing's first route, for this request.
+    Request(Request),
+    /// The routes behind this session.
+    Session(Device<F>),
+}
+
+// Begins with the request, or else with the old session, which it opens.
+fn begin<R: Files>(
+    rt: &R,
+    words: &ArgMatches<'_>,
+    request: Option<Request>,
+) -> Result<Beginning<R::File>, Failure> {
+    match request {
+        Some(request) => Ok(Beginning::Request(request)),
+        None => Ok(Beginning::Session(open_session(rt, words)?)),
+    }
+}
+
+// Lists a page over opened files.
+fn list_over<F: io::Read + Drop, O: Write, S: Write, E: Write>(
+    alloc: Global,
+    plan: &mut Device<F>,
+    beginning: Beginning<F>,
+    count: u32,
+    out: &mut O,
+    keep: bool,
+    session: &mut S,
+    err: &mut E,
+) -> Status
+    requires { (1 ≤ count) × (count ≤ 10000) }
+{
+    match beginning {
+        Beginning::Request(request) => {
+            run_first(alloc, plan, request, count, out, keep, session, err)
+        }
+        Beginning::Session(mut old) => {
+            run_next(alloc, plan, &mut old, count, out, keep, session, err)
+        }
+    }
+}
+
+/// Lists a page: the first one of a request, or the one behind an old session. Keeps the session behind it where the
+/// words say so.
+pub fn list<R: Files + AllocGlobal, O: Write, E: Write>(
+    rt: &R,
+    command: CommandName,
+    words: &ArgMatches<'_>,
+    out: &mut O,
+    err: &mut E,
+) -> Result<Status, Failure>
+    requires { IsTrue (has_count command) }
+{
+    let alloc = rt.alloc();
+    let values = read_values(alloc, command, words)?;
+    let count = values.count.unwrap();
+    let mut plan = open_plan(rt, words)?;
+    let beginning = begin(rt, words, values.request)?;
+    let Some(path) = session_out(words) else {
+        let mut nowhere = Device::new(io::sink());
+        let status = list_over(
+            alloc,
+            &mut plan,
+            beginning,
+            count,
+            out,
+            false,
+            &mut nowhere,
+            err,
+        );
+        return Ok(status);
+    };
+    let mut session = make_session(rt, path)?;
+    let status = list_over(
+        alloc,
+        &mut plan,
+        beginning,
+        count,
+        out,
+        true,
+        &mut session,
+        err,
+    );
+    remove_unless_done(rt, path, status);
+    Ok(status)
+}
+
+/// Tells whether a session is one of a plan's.
+pub fn verify<R: Files + AllocGlobal, O: Write, E: Write>(
+    rt: &R,
+    words: &ArgMatches<'_>,
+    out: &mut O,
+    err: &mut E,
+) -> Result<Status, Failure> {
+    let mut plan = open_plan(rt, words)?;
+    let mut old = open_session(rt, words)?;
+    Ok(run_verify(rt.alloc(), &mut plan, &mut old, out, err))
+}
+
+/// Tells what a plan holds.
+pub fn check<R: Files + AllocGlobal, O: Write, E: Write>(
+    rt: &R,
+    words: &ArgMatches<'_>,
+    out: &mut O,
+    err: &mut E,
+) -> Result<Status, Failure> {
+    let mut plan = open_plan(rt, words)?;
+    Ok(run_check(rt.alloc(), &mut plan, out, err))
+}
+
+/// Explains contacts over a plan.
+pub fn explain<R: Files + AllocGlobal, O: Write, E: Write>(
+    rt: &R,
+    words: &ArgMatches<'_>,
+    out: &mut O,
+    err: &mut E,
+) -> Result<Status, Failure> {
+    let alloc = rt.alloc();
+    let values = read_values(alloc, CommandName::Explain, words)?;
+    let request = values.request.unwrap();
+    let contacts = values.contacts.as_slice();
+    let mut plan = open_plan(rt, words)?;
+    Ok(run_explain(alloc, &mut plan, request, contacts, out, err))
+}

@@ -1,0 +1,151 @@
+//! The commands, each declared in one place: its name, what help tells of it, its words, and its run.
+
+ghost use Rattle.std.specs.Prelude.{◌≡◌};
+ghost use Rattle.commands.specs.words.Values.{has_request, has_count, has_contacts};
+
+use crate::calls::{check, explain, list, verify};
+use crate::failure::Failure;
+use crate::status::Status;
+use clap::ArgMatches;
+use sabr_model::Write;
+use std::rt::Files;
+
+/// A command of the program.
+#[derive(Clone, Copy, Debug, PartialEq, Eq)]
+pub enum CommandName {
+    /// Lists the first routes of a plan.
+    First,
+    /// Lists the routes that follow an old session.
+    Next,
+    /// Tells whether a session is one of a plan's.
+    Verify,
+    /// Tells what a plan holds.
+    Check,
+    /// Explains contacts over a plan.
+    Explain,
+}
+
+/// The commands, in the order in which help lists them.
+pub const COMMANDS: [CommandName; 5] = [
+    CommandName::First,
+    CommandName::Next,
+    CommandName::Verify,
+    CommandName::Check,
+    CommandName::Explain,
+];
+
+/// What is declared of a command. Each has a plan; its other words come in this order.
+#[derive(Clone, Copy)]
+pub struct Declared<'a> {
+    /// Its name on the command line.
+    pub name: &'a str,
+    /// What it does, in a line.
+    pub about: &'a str,
+    /// Calls of it, for its help.
+    pub examples: &'a str,
+    /// It has words that say what is asked for.
+    pub has_request: bool,
+    /// It has the word for an old session.
+    pub has_session: bool,
+    /// It has words that say how many routes a page has, and where its session is kept.
+    pub has_count: bool,
+    /// It has the word for contacts.
+    pub has_contacts: bool,
+}
+
+impl CommandName {
+    /// Tells what is declared of the command.
+    pub fn declared<'a>(self) -> Declared<'a>
+        ensures request { result.has_request ≡ has_request self }
+        ensures count { result.has_count ≡ has_count self }
+        ensures contacts { result.has_contacts ≡ has_contacts self }
+    {
+        match self {
+            CommandName::First => Declared {
+                name: "first",
+                about: "Lists the first routes, best first, and whether there are more",
+                examples: "Examples:
+  cgrlist first --plan plan.txt --from 31 --to 1 --at 2030/01/01-00:45:00 --count 5
+  cgrlist first --plan plan.txt --from 31 --to 1 --at 2030/01/01-00:45:00 --count 3 --avoid 12 --max-hops 4
+  cgrlist first --plan plan.txt --from 31 --to 1 --at 2030/01/01-00:45:00 --count 5 --session-out page1",
+                has_request: true,
+                has_session: false,
+                has_count: true,
+                has_contacts: false,
+            },
+            CommandName::Next => Declared {
+                name: "next",
+                about: "Lists the routes that follow a session, best first, and whether there are more",
+                examples: "Examples:
+  cgrlist next --plan plan.txt --session page1 --count 5
+  cgrlist next --plan plan.txt --session page1 --count 5 --session-out page2",
+                has_request: false,
+                has_session: true,
+                has_count: true,
+                has_contacts: false,
+            },
+            CommandName::Verify => Declared {
+                name: "verify",
+                about: "Tells whether a session is one of the plan's, whoever wrote it",
+                examples: "Examples:
+  cgrlist verify --plan plan.txt --session page1",
+                has_request: false,
+                has_session: true,
+                has_count: false,
+                has_contacts: false,
+            },
+            CommandName::Check => Declared {
+                name: "check",
+                about: "Tells what a plan holds: contacts, ranges, nodes, contacts without light time, digest",
+                examples: "Examples:
+  cgrlist check --plan plan.txt
+  cgrlist check --plan /dev/stdin <plan.txt",
+                has_request: false,
+                has_session: false,
+                has_count: false,
+                has_contacts: false,
+            },
+            CommandName::Explain => Declared {
+                name: "explain",
+                about: "Tells what a list of contacts does, hop by hop, and whether it is a route",
+                examples: "Examples:
+  cgrlist explain --plan plan.txt --from 31 --to 1 --at 2030/01/01-00:45:00 --contacts 4,11,2
+  cgrlist explain --plan plan.txt --from 31 --to 1 --at 2030/01/01-00:45:00 --contacts 5,12,2 --margin-ppm 1000",
+                has_request: true,
+                has_session: false,
+                has_count: false,
+                has_contacts: true,
+            },
+        }
+    }
+
+    /// Runs the command over the words that were given to it. The report goes to `out`, and messages go to `err`.
+    ///
+    /// # Errors
+    ///
+    /// What stopped the command before its run: a bad value, or a file that can't be opened or made.
+    pub fn run<R: Files + AllocGlobal, O: Write, E: Write>(
+        self,
+        rt: &R,
+        words: &ArgMatches<'_>,
+        out: &mut O,
+        err: &mut E,
+    ) -> Result<Status, Failure> {
+        match self {
+            CommandName::First | CommandName::Next => list(rt, self, words, out, err),
+            CommandName::Verify => verify(rt, words, out, err),
+            CommandName::Check => check(rt, words, out, err),
+            CommandName::Explain => explain(rt, words, out, err),
+        }
+    }
+}
+
+/// Finds the command of a name.
+pub fn command_named(name: &str) -> Option<CommandName> {
+    for command in COMMANDS {
+        if command.declared().name == name {
+            return Some(command);
+        }
+    }
+    None
+}

@@ -1,0 +1,104 @@
+//! Why a run ended early.
+
+ghost use Rattle.std.specs.Prelude.{◌≡◌};
+ghost use Rattle.commands.specs.declared.failure.Failure.TheVariants as failure;
+ghost use Rattle.commands.specs.texts.Messages.{status_of, failure_of_plan, failure_of_session};
+
+use crate::status::Status;
+use crate::words::ValueName;
+use sabr_model::{NoMemory, WriteFault};
+use sabr_plan::{PlanFault, PlanKind};
+use sabr_session::SessionFault;
+
+/// Why a run ended early. Each has a message and a status.
+#[derive(Clone, Copy, Debug, PartialEq, Eq)]
+pub enum Failure {
+    /// A value of the command line is missing or not spelled as it must be, or out of its range.
+    BadValue(ValueName),
+    /// The source is the destination.
+    SameNode,
+    /// The avoided nodes don't rise strictly, or hold the source or the destination.
+    BadAvoid,
+    /// The plan's file can't be opened.
+    CannotOpenPlan,
+    /// The old session's file can't be opened.
+    CannotOpenSession,
+    /// The new session's file can't be made.
+    CannotMakeSession,
+    /// A line of the plan is bad.
+    PlanLine(PlanFault),
+    /// The plan's reader failed.
+    PlanRead,
+    /// The session's text is refused.
+    Session(SessionFault),
+    /// The session's reader failed.
+    SessionRead,
+    /// A writer failed.
+    Write,
+    /// Memory was refused.
+    NoMemory,
+}
+
+impl Failure {
+    /// Tells the status that a run ends with.
+    pub fn status(self) -> Status
+        ensures { result ≡ status_of self }
+    {
+        match self {
+            Failure::BadValue(_) | Failure::SameNode | Failure::BadAvoid => Status::Usage,
+            Failure::PlanLine(_) => Status::Plan,
+            Failure::Session(_) => Status::Session,
+            Failure::CannotOpenPlan | Failure::CannotOpenSession | Failure::CannotMakeSession => {
+                Status::Io
+            }
+            Failure::PlanRead | Failure::SessionRead | Failure::Write => Status::Io,
+            Failure::NoMemory => Status::Memory,
+        }
+    }
+}
+
+/// The failure that a refused plan is.
+impl From<PlanFault> for Failure {
+    ghost from_gives = { λ fault e. e ≡ failure_of_plan fault };
+
+    // Tells a failed reader and refused memory from a bad line.
+    fn from(fault: PlanFault) -> Failure {
+        match fault.kind {
+            PlanKind::Read => Failure::PlanRead,
+            PlanKind::NoMemory => Failure::NoMemory,
+            _ => Failure::PlanLine(fault),
+        }
+    }
+}
+
+/// The failure that a refused session is.
+impl From<SessionFault> for Failure {
+    ghost from_gives = { λ fault e. e ≡ failure_of_session fault };
+
+    // Tells a failed reader and refused memory from a bad text.
+    fn from(fault: SessionFault) -> Failure {
+        match fault {
+            SessionFault::Read => Failure::SessionRead,
+            SessionFault::NoMemory => Failure::NoMemory,
+            _ => Failure::Session(fault),
+        }
+    }
+}
+
+/// A writer's failure.
+impl From<WriteFault> for Failure {
+    ghost from_gives = { λ _ e. e ≡ failure.Write };
+
+    fn from(_fault: WriteFault) -> Failure {
+        Failure::Write
+    }
+}
+
+/// Refused memory.
+impl From<NoMemory> for Failure {
+    ghost from_gives = { λ _ e. e ≡ failure.NoMemory };
+
+    fn from(_refused: NoMemory) -> Failure {
+        Failure::NoMemory
+    }
+}

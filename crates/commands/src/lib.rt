@@ -1,0 +1,23 @@
+//! The commands of the program `cgrlist`: their words, their runs over readers and writers, and their texts.
+#![tactic(auto)]
+
+mod accepted;
+mod calls;
+mod command;
+mod failure;
+mod files;
+mod headline;
+mod program;
+mod rows;
+mod runs;
+mod status;
+mod texts;
+mod words;
+
+pub use failure::Failure;
+pub use headline::every_run;
+pub use program::{run_arguments, run_words};
+pub use rows::explanations_of_plan_a;
+pub use runs::{run_check, run_explain, run_first, run_next, run_verify};
+pub use status::Status;
+pub use words::ValueName;

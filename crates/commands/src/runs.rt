@@ -1,0 +1,16 @@
+//! The runs: each reads from readers, writes to writers, and tells how it ended.
+
+mod answer;
+mod check;
+mod ending;
+mod explain;
+mod first;
+mod next;
+mod pages;
+mod verify;
+
+pub use check::run_check;
+pub use explain::run_explain;
+pub use first::run_first;
+pub use next::run_next;
+pub use verify::run_verify;

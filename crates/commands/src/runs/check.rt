@@ -1,0 +1,79 @@
+//! The run that tells what a plan holds.
+
+ghost use Rattle.std.specs.Prelude.{◌≡◌, Result, IfOk, IsTrue};
+ghost use Rattle.sabr_model.specs.Plan.{TabledPlan};
+ghost use Rattle.sabr_model.specs.Devices.{WritesText};
+ghost use Rattle.sabr_plan.specs.PlanRead.{ReadsPlan};
+ghost use Rattle.sabr_plan.specs.declared.fault.PlanFault.{PlanFault};
+ghost use Rattle.commands.specs.declared.failure.Failure.{Failure};
+ghost use Rattle.commands.specs.runs.Runs.{TellsEnd, status_at};
+ghost use Rattle.commands.specs.texts.CheckText.{check_text, WritesCheck};
+
+use crate::failure::Failure;
+use crate::runs::ending::tell_end;
+use crate::status::Status;
+use crate::texts::write_check_text;
+use sabr_model::{Plan, Read, Write, WriteFault};
+use sabr_plan::read_plan;
+use std::alloc::Allocator;
+
+// Writes and flushes the text of a check.
+fn write_and_flush<O: Write, A: Allocator + Copy>(
+    plan: &Plan<A>,
+    out: &mut O,
+) -> Result<(), WriteFault>
+    ensures text { WritesText (O.contents out.old) (O.failures out.old) (check_text plan.now.plan) result (O.contents out.new) (O.failures out.new) }
+    ensures flushed { IfOk result (λ _. IsTrue (O.flushed out.new)) }
+{
+    write_check_text(plan, out)?;
+    let Ok(()) = out.flush() else {
+        return Err(WriteFault);
+    };
+    Ok(())
+}
+
+// Tells what a plan holds.
+fn write_check<O: Write, A: Allocator + Copy>(plan: &Plan<A>, out: &mut O) -> Result<(), Failure>
+    ensures { WritesCheck (Ok plan.now) result (O.contents out.old) (O.failures out.old) (O.contents out.new) (O.failures out.new) (O.flushed out.new) }
+{
+    write_and_flush(plan, out)?;
+    Ok(())
+}
+
+// Reads the plan and tells what it holds.
+fn read_and_write_check<P: Read, O: Write, A: Allocator + Copy>(
+    alloc: A,
+    plan: &mut P,
+    out: &mut O,
+) -> Result<(), Failure>
+    ensures { (planned : Result TabledPlan PlanFault)
+        × ReadsPlan (P.remaining plan.old) (P.failures plan.old) planned (P.remaining plan.new) (P.failures plan.new)
+        × WritesCheck planned result (O.contents out.old) (O.failures out.old) (O.contents out.new) (O.failures out.new) (O.flushed out.new) }
+{
+    let plan = read_plan(alloc, plan)?;
+    write_check(&plan, out)
+}
+
+/// Tells what the plan that `plan` gives holds: reads it whole, and writes and flushes to `out` how many
+/// contacts and ranges stand, how many nodes send or receive a contact, how many contacts have no light time
+/// at their start, and the plan's digest.
+///
+/// A failure's message goes to `err`; a failure of `err` changes nothing else. The status is
+/// [`Status::Plan`] where the plan is refused, [`Status::Io`] where its reader or `out` failed, and
+/// [`Status::Memory`] where a growth was refused while the plan was read. Only where `out` failed does it
+/// hold a beginning of the text, and else all of it or nothing.
+pub fn run_check<P: Read, O: Write, E: Write, A: Allocator + Copy>(
+    alloc: A,
+    plan: &mut P,
+    out: &mut O,
+    err: &mut E,
+) -> Status
+    ensures { (planned : Result TabledPlan PlanFault) × ((end : Result (Unit {0}) Failure)
+        × ReadsPlan (P.remaining plan.old) (P.failures plan.old) planned (P.remaining plan.new) (P.failures plan.new)
+        × WritesCheck planned end (O.contents out.old) (O.failures out.old) (O.contents out.new) (O.failures out.new) (O.flushed out.new)
+        × TellsEnd end (E.contents err.old) (E.failures err.old) (E.contents err.new) (E.failures err.new)
+        × (result ≡ status_at end)) }
+{
+    let end = read_and_write_check(alloc, plan, out);
+    tell_end(end, err)
+}

@@ -1,0 +1,34 @@
+//! How a run ends: its status, and a failure's message.
+
+ghost use Rattle.std.specs.Prelude.{◌≡◌};
+ghost use Rattle.commands.specs.runs.Runs.{TellsEnd, status_at, status_of_answer};
+
+use crate::failure::Failure;
+use crate::status::Status;
+use crate::texts::tell;
+use sabr_model::Write;
+
+/// Answers the status of a run that ended so. A failure's message goes to `err`; a failure of `err` changes nothing
+/// else.
+pub fn tell_end<E: Write>(end: Result<(), Failure>, err: &mut E) -> Status
+    ensures told { TellsEnd end (E.contents err.old) (E.failures err.old) (E.contents err.new) (E.failures err.new) }
+    ensures status { result ≡ status_at end }
+{
+    match end {
+        Ok(()) => Status::Done,
+        Err(failure) => tell(err, failure),
+    }
+}
+
+/// Answers the status of a run that ended with yes or no, or failed. A failure's message goes to `err`; a failure of
+/// `err` changes nothing else.
+pub fn tell_answer<E: Write>(end: Result<bool, Failure>, err: &mut E) -> Status
+    ensures told { TellsEnd end (E.contents err.old) (E.failures err.old) (E.contents err.new) (E.failures err.new) }
+    ensures status { result ≡ status_of_answer end }
+{
+    match end {
+        Ok(true) => Status::Done,
+        Ok(false) => Status::No,
+        Err(failure) => tell_end(Err(failure), err),
+    }
+}

@@ -1,0 +1,93 @@
+//! The run that tells what a list of contacts does.
+
+ghost use Rattle.std.specs.Prelude.{◌≡◌, Bool, Result, IfOk, IsTrue};
+ghost use Rattle.sabr_model.specs.Plan.{TabledPlan};
+ghost use Rattle.sabr_model.specs.Route.{is_route};
+ghost use Rattle.sabr_model.specs.Devices.{WritesText};
+ghost use Rattle.sabr_plan.specs.PlanRead.{ReadsPlan};
+ghost use Rattle.sabr_plan.specs.declared.fault.PlanFault.{PlanFault};
+ghost use Rattle.commands.specs.declared.failure.Failure.{Failure};
+ghost use Rattle.commands.specs.runs.Runs.{TellsEnd, status_of_answer};
+ghost use Rattle.commands.specs.texts.Explanation.{explanation_text, WritesExplanation};
+
+use crate::failure::Failure;
+use crate::runs::ending::tell_answer;
+use crate::status::Status;
+use crate::texts::write_explanation;
+use sabr_model::{Plan, Read, Request, Write, WriteFault};
+use sabr_plan::read_plan;
+use std::alloc::Allocator;
+
+// Writes and flushes the explanation, and answers whether the contacts make a route.
+fn write_and_flush<O: Write, A: Allocator + Copy>(
+    plan: &Plan<A>,
+    request: &Request,
+    contacts: &[u32],
+    out: &mut O,
+) -> Result<bool, WriteFault>
+    ensures text { WritesText (O.contents out.old) (O.failures out.old) (explanation_text plan.now.plan request.now contacts.now) result (O.contents out.new) (O.failures out.new) }
+    ensures route { IfOk result (λ answer. answer ≡ is_route plan.now.plan request.now contacts.now) }
+    ensures flushed { IfOk result (λ _. IsTrue (O.flushed out.new)) }
+{
+    let is_route = write_explanation(plan, request, contacts, out)?;
+    let Ok(()) = out.flush() else {
+        return Err(WriteFault);
+    };
+    Ok(is_route)
+}
+
+// Explains the contacts over the plan.
+fn explain<O: Write, A: Allocator + Copy>(
+    plan: &Plan<A>,
+    request: &Request,
+    contacts: &[u32],
+    out: &mut O,
+) -> Result<bool, Failure>
+    ensures { WritesExplanation (Ok plan.now) request.now contacts.now result (O.contents out.old) (O.failures out.old) (O.contents out.new) (O.failures out.new) (O.flushed out.new) }
+{
+    let is_route = write_and_flush(plan, request, contacts, out)?;
+    Ok(is_route)
+}
+
+// Reads the plan and explains the contacts over it.
+fn read_and_explain<P: Read, O: Write, A: Allocator + Copy>(
+    alloc: A,
+    plan: &mut P,
+    request: &Request,
+    contacts: &[u32],
+    out: &mut O,
+) -> Result<bool, Failure>
+    ensures { (planned : Result TabledPlan PlanFault)
+        × ReadsPlan (P.remaining plan.old) (P.failures plan.old) planned (P.remaining plan.new) (P.failures plan.new)
+        × WritesExplanation planned request.now contacts.now result (O.contents out.old) (O.failures out.old) (O.contents out.new) (O.failures out.new) (O.flushed out.new) }
+{
+    let plan = read_plan(alloc, plan)?;
+    explain(&plan, request, contacts, out)
+}
+
+/// Explains the contacts of these numbers over the plan that `plan` gives: reads it whole, and writes and
+/// flushes to `out` a line for each hop before the first fault, with its contact and the times of sending and
+/// of arrival, and then the line of the route that they make, or that of the fault.
+///
+/// A failure's message goes to `err`; a failure of `err` changes nothing else. The status is
+/// [`Status::Done`] for a route and [`Status::No`] for another list, [`Status::Plan`] where the plan is
+/// refused, [`Status::Io`] where its reader or `out` failed, and [`Status::Memory`] where a growth was
+/// refused while the plan was read. Only where `out` failed does it hold a beginning of the text, and else all
+/// of it or nothing.
+pub fn run_explain<P: Read, O: Write, E: Write, A: Allocator + Copy>(
+    alloc: A,
+    plan: &mut P,
+    request: Request,
+    contacts: &[u32],
+    out: &mut O,
+    err: &mut E,
+) -> Status
+    ensures { (planned : Result TabledPlan PlanFault) × ((end : Result Bool Failure)
+        × ReadsPlan (P.remaining plan.old) (P.failures plan.old) planned (P.remaining plan.new) (P.failures plan.new)
+        × WritesExplanation planned request contacts.now end (O.contents out.old) (O.failures out.old) (O.contents out.new) (O.failures out.new) (O.flushed out.new)
+        × TellsEnd end (E.contents err.old) (E.failures err.old) (E.contents err.new) (E.failures err.new)
+        × (result ≡ status_of_answer end)) }
+{
+    let end = read_and_explain(alloc, plan, &request, contacts, out);
+    tell_answer(end, err)
+}

@@ -1,0 +1,94 @@
+//! The run that lists the first page, over readers and writers.
+
+ghost use Rattle.std.specs.Prelude.{◌≡◌, ◌≤◌, Result};
+ghost use Rattle.sabr_model.specs.Plan.{TabledPlan};
+ghost use Rattle.sabr_plan.specs.PlanRead.{ReadsPlan};
+ghost use Rattle.sabr_plan.specs.declared.fault.PlanFault.{PlanFault};
+ghost use Rattle.commands.specs.declared.failure.Failure.{Failure};
+ghost use Rattle.commands.specs.runs.Runs.{TellsEnd, status_at};
+ghost use Rattle.commands.specs.runs.SessionRuns.{WritesFirstPage};
+
+use crate::accepted::obeys_rules;
+use crate::failure::Failure;
+use crate::runs::ending::tell_end;
+use crate::runs::pages::write_page;
+use crate::status::Status;
+use sabr_frontier::Session;
+use sabr_model::{Plan, Read, Request, Write};
+use sabr_plan::{digest, read_plan};
+use sabr_search::Settled;
+use std::alloc::Allocator;
+
+// Writes the first page of the listing over a plan.
+fn write_first<O: Write, S: Write, A: Allocator + Copy>(
+    alloc: A,
+    plan: &Plan<A>,
+    request: Request,
+    count: u32,
+    out: &mut O,
+    keep: bool,
+    session: &mut S,
+) -> Result<(), Failure>
+    requires { count ≤ 10000 }
+    ensures { WritesFirstPage (Ok plan.now) request keep count result
+        (O.contents out.old) (O.failures out.old) (O.contents out.new) (O.failures out.new) (O.flushed out.new)
+        (S.contents session.old) (S.failures session.old) (S.contents session.new) (S.failures session.new) (S.flushed session.new) }
+{
+    obeys_rules(plan);
+    let listing = Session::start(alloc, plan, request, Settled::new(alloc))?;
+    let digest = if keep { Some(digest(plan)) } else { None };
+    write_page(listing, count, out, digest, session)
+}
+
+// Reads the plan and writes the first page of its listing.
+fn read_and_write_first<P: Read, O: Write, S: Write, A: Allocator + Copy>(
+    alloc: A,
+    plan: &mut P,
+    request: Request,
+    count: u32,
+    out: &mut O,
+    keep: bool,
+    session: &mut S,
+) -> Result<(), Failure>
+    requires { count ≤ 10000 }
+    ensures { (planned : Result TabledPlan PlanFault)
+        × ReadsPlan (P.remaining plan.old) (P.failures plan.old) planned (P.remaining plan.new) (P.failures plan.new)
+        × WritesFirstPage planned request keep count result
+        (O.contents out.old) (O.failures out.old) (O.contents out.new) (O.failures out.new) (O.flushed out.new)
+        (S.contents session.old) (S.failures session.old) (S.contents session.new) (S.failures session.new) (S.flushed session.new) }
+{
+    let plan = read_plan(alloc, plan)?;
+    write_first(alloc, &plan, request, count, out, keep, session)
+}
+
+/// Lists the first `count` routes, from 1 to 10000, of the plan that `plan` gives, best first, and whether
+/// the listing goes on: reads the plan whole, gathers the routes, and writes and flushes the report to `out`.
+/// Where `keep` says so, it then writes and flushes to `session` the text of the session behind them, from which a
+/// later run goes on; else nothing is written there.
+///
+/// A failure's message goes to `err`; a failure of `err` changes nothing else. The status is
+/// [`Status::Plan`] where the plan is refused, [`Status::Io`] where its reader or a writer failed, and
+/// [`Status::Memory`] where a growth was refused. Only where `out` or `session` failed does it hold a beginning
+/// of its text, `session` none unless the report was written whole and flushed; else each holds all of it or nothing.
+pub fn run_first<P: Read, O: Write, S: Write, E: Write, A: Allocator + Copy>(
+    alloc: A,
+    plan: &mut P,
+    request: Request,
+    count: u32,
+    out: &mut O,
+    keep: bool,
+    session: &mut S,
+    err: &mut E,
+) -> Status
+    requires { (1 ≤ count) × (count ≤ 10000) }
+    ensures { (planned : Result TabledPlan PlanFault) × ((end : Result (Unit {0}) Failure)
+        × ReadsPlan (P.remaining plan.old) (P.failures plan.old) planned (P.remaining plan.new) (P.failures plan.new)
+        × WritesFirstPage planned request keep count end
+        (O.contents out.old) (O.failures out.old) (O.contents out.new) (O.failures out.new) (O.flushed out.new)
+        (S.contents session.old) (S.failures session.old) (S.contents session.new) (S.failures session.new) (S.flushed session.new)
+        × TellsEnd end (E.contents err.old) (E.failures err.old) (E.contents err.new) (E.failures err.new)
+        × (result ≡ status_at end)) }
+{
+    let end = read_and_write_first(alloc, plan, request, count, out, keep, session);
+    tell_end(end, err)
+}

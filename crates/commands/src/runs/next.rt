@@ -1,0 +1,100 @@
+//! The run that lists the page behind an old session, over readers and writers.
+
+ghost use Rattle.std.specs.Prelude.{◌≡◌, ◌≤◌, Result};
+ghost use Rattle.sabr_model.specs.Plan.{TabledPlan};
+ghost use Rattle.sabr_plan.specs.PlanRead.{ReadsPlan};
+ghost use Rattle.sabr_plan.specs.declared.fault.PlanFault.{PlanFault};
+ghost use Rattle.sabr_frontier.specs.Session.{Seen};
+ghost use Rattle.sabr_session.specs.declared.session_fault.SessionFault.{SessionFault};
+ghost use Rattle.commands.specs.declared.failure.Failure.{Failure};
+ghost use Rattle.commands.specs.runs.Runs.{TellsEnd, status_at};
+ghost use Rattle.commands.specs.runs.SessionRuns.{ReadsOldSession, WritesNextPage, place_of};
+
+use crate::failure::Failure;
+use crate::runs::ending::tell_end;
+use crate::runs::pages::write_page;
+use crate::status::Status;
+use sabr_model::{Plan, Read, Write};
+use sabr_plan::{digest, read_plan};
+use sabr_search::Settled;
+use sabr_session::read_session;
+use std::alloc::Allocator;
+
+// Reads an old session over a plan, and writes the next page of it.
+fn write_next<I: Read, O: Write, S: Write, A: Allocator + Copy>(
+    alloc: A,
+    plan: &Plan<A>,
+    old: &mut I,
+    count: u32,
+    out: &mut O,
+    keep: bool,
+    session: &mut S,
+) -> Result<(), Failure>
+    requires { count ≤ 10000 }
+    ensures { (told : Result Seen SessionFault)
+        × ReadsOldSession (Ok plan.now) (I.remaining old.old) (I.failures old.old) told (I.remaining old.new) (I.failures old.new)
+        × WritesNextPage (Ok plan.now) (place_of told) keep count result
+        (O.contents out.old) (O.failures out.old) (O.contents out.new) (O.failures out.new) (O.flushed out.new)
+        (S.contents session.old) (S.failures session.old) (S.contents session.new) (S.failures session.new) (S.flushed session.new) }
+{
+    let digest = digest(plan);
+    let listing = read_session(alloc, old, plan, &digest, Settled::new(alloc))?;
+    let keep = if keep { Some(digest) } else { None };
+    write_page(listing, count, out, keep, session)
+}
+
+// Reads the plan, and then the old session over it, and writes the next page of that.
+fn read_and_write_next<P: Read, I: Read, O: Write, S: Write, A: Allocator + Copy>(
+    alloc: A,
+    plan: &mut P,
+    old: &mut I,
+    count: u32,
+    out: &mut O,
+    keep: bool,
+    session: &mut S,
+) -> Result<(), Failure>
+    requires { count ≤ 10000 }
+    ensures { (planned : Result TabledPlan PlanFault) × ((told : Result Seen SessionFault)
+        × ReadsPlan (P.remaining plan.old) (P.failures plan.old) planned (P.remaining plan.new) (P.failures plan.new)
+        × ReadsOldSession planned (I.remaining old.old) (I.failures old.old) told (I.remaining old.new) (I.failures old.new)
+        × WritesNextPage planned (place_of told) keep count result
+        (O.contents out.old) (O.failures out.old) (O.contents out.new) (O.failures out.new) (O.flushed out.new)
+        (S.contents session.old) (S.failures session.old) (S.contents session.new) (S.failures session.new) (S.flushed session.new)) }
+{
+    let plan = read_plan(alloc, plan)?;
+    write_next(alloc, &plan, old, count, out, keep, session)
+}
+
+/// Lists the `count` routes, from 1 to 10000, that follow the old session that `old` gives, over the plan that `plan`
+/// gives, and whether the listing goes on: reads the plan whole and then the session, gathers the routes, and writes
+/// and flushes the report to `out`, ranked on from the routes that the session counts as given. Where `keep` says
+/// so, it then writes and flushes to `session` the text of the session behind them; else nothing is written there.
+///
+/// A failure's message goes to `err`; a failure of `err` changes nothing else. The status is [`Status::Plan`] where
+/// the plan is refused, and then `old` isn't read; [`Status::Session`] where the session is refused; [`Status::Io`]
+/// where a reader or a writer failed; and [`Status::Memory`] where a growth was refused. Only where `out` or `session`
+/// failed does it hold a beginning of its text, `session` none unless the report was written whole and flushed; else
+/// each holds all of it or nothing.
+pub fn run_next<P: Read, I: Read, O: Write, S: Write, E: Write, A: Allocator + Copy>(
+    alloc: A,
+    plan: &mut P,
+    old: &mut I,
+    count: u32,
+    out: &mut O,
+    keep: bool,
+    session: &mut S,
+    err: &mut E,
+) -> Status
+    requires { (1 ≤ count) × (count ≤ 10000) }
+    ensures { (planned : Result TabledPlan PlanFault) × ((told : Result Seen SessionFault) × ((end : Result (Unit {0}) Failure)
+        × ReadsPlan (P.remaining plan.old) (P.failures plan.old) planned (P.remaining plan.new) (P.failures plan.new)
+        × ReadsOldSession planned (I.remaining old.old) (I.failures old.old) told (I.remaining old.new) (I.failures old.new)
+        × WritesNextPage planned (place_of told) keep count end
+        (O.contents out.old) (O.failures out.old) (O.contents out.new) (O.failures out.new) (O.flushed out.new)
+        (S.contents session.old) (S.failures session.old) (S.contents session.new) (S.failures session.new) (S.flushed session.new)
+        × TellsEnd end (E.contents err.old) (E.failures err.old) (E.contents err.new) (E.failures err.new)
+        × (result ≡ status_at end))) }
+{
+    let end = read_and_write_next(alloc, plan, old, count, out, keep, session);
+    tell_end(end, err)
+}

@@ -1,0 +1,86 @@
+//! Writing a page: its report, and behind it the session that it leaves, where that is kept.
+
+ghost use Rattle.std.specs.Prelude.{◌≡◌, ℕ, ◌+◌, ◌^◌, ◌<◌, ◌≤◌, All, IfOk, IfSome, IsTrue, is_some, length};
+ghost use Rattle.sabr_model.specs.Devices.{WritesText};
+ghost use Rattle.sabr_plan.specs.Canonical.{digest_of};
+ghost use Rattle.sabr_frontier.specs.Listing.{steps};
+ghost use Rattle.sabr_session.specs.ReportText.{HasSpelledTimes, report_text};
+ghost use Rattle.sabr_session.specs.SessionText.{text_of};
+ghost use Rattle.commands.specs.runs.SessionRuns.{next_report, kept_text, WritesPage};
+
+use crate::accepted::{is_within_limits, obeys_rules};
+use crate::failure::Failure;
+use sabr_frontier::Session;
+use sabr_model::{Route, Write, WriteFault};
+use sabr_search::BestOf;
+use sabr_session::{write_report, write_session};
+use std::alloc::Allocator;
+
+// Writes and flushes the report of a page.
+fn send_report<O: Write, A: Allocator + Copy>(
+    routes: &[Route<A>],
+    first_rank: u128,
+    more: bool,
+    out: &mut O,
+) -> Result<(), WriteFault>
+    requires ranks { first_rank + length routes.now < 2 ^ 128 }
+    requires times { All HasSpelledTimes routes.now }
+    ensures text { WritesText (O.contents out.old) (O.failures out.old) (report_text routes.now first_rank more) result (O.contents out.new) (O.failures out.new) }
+    ensures flushed { IfOk result (λ _. IsTrue (O.flushed out.new)) }
+{
+    write_report(routes, first_rank, more, out)?;
+    let Ok(()) = out.flush() else {
+        return Err(WriteFault);
+    };
+    Ok(())
+}
+
+// Writes and flushes the text of a session.
+fn send_session<S: Write, B: BestOf<A>, A: Allocator + Copy>(
+    listing: &Session<'_, B, A>,
+    digest: &[u8; 32],
+    session: &mut S,
+) -> Result<(), WriteFault>
+    requires { digest.now ≡ digest_of listing.now.plan.plan }
+    ensures text { WritesText (S.contents session.old) (S.failures session.old) (text_of (digest_of listing.now.plan.plan) listing.now.request listing.now.state) result (S.contents session.new) (S.failures session.new) }
+    ensures flushed { IfOk result (λ _. IsTrue (S.flushed session.new)) }
+{
+    write_session(listing, digest, session)?;
+    let Ok(()) = session.flush() else {
+        return Err(WriteFault);
+    };
+    Ok(())
+}
+
+/// Writes the next `count` routes of a listing, ranked on from those given before, and whether it goes on, to `out`;
+/// and then, where `keep` is the digest of its plan, the session behind them to `session`. All routes are found first,
+/// and each writer is flushed behind its text, `out` before anything is written to `session`.
+///
+/// # Errors
+///
+/// [`Failure::NoMemory`] where a growth was refused; then nothing was written. [`Failure::Write`] where a writer
+/// failed: `out`, with a beginning of the report, or else `session`, with a beginning of the session.
+pub fn write_page<O: Write, S: Write, B: BestOf<A>, A: Allocator + Copy>(
+    mut listing: Session<'_, B, A>,
+    count: u32,
+    out: &mut O,
+    keep: Option<[u8; 32]>,
+    session: &mut S,
+) -> Result<(), Failure>
+    requires count { count ≤ 10000 }
+    requires digest { IfSome keep (λ digest. digest ≡ digest_of listing.plan.plan) }
+    ensures { WritesPage (is_some keep) (next_report listing.entry.plan.plan listing.entry.request listing.entry.state count) (kept_text (is_some keep) listing.entry.plan.plan listing.entry.request (steps listing.entry.plan.plan listing.entry.request count listing.entry.state).1) result
+        (O.contents out.old) (O.failures out.old) (O.contents out.new) (O.failures out.new) (O.flushed out.new)
+        (S.contents session.old) (S.failures session.old) (S.contents session.new) (S.failures session.new) (S.flushed session.new) }
+{
+    obeys_rules(listing.plan());
+    is_within_limits(listing.request());
+    let first_rank = listing.emitted() + 1;
+    let routes = listing.page(count)?;
+    send_report(routes.as_slice(), first_rank, listing.more(), out)?;
+    let Some(digest) = keep else {
+        return Ok(());
+    };
+    send_session(&listing, &digest, session)?;
+    Ok(())
+}

@@ -1,0 +1,63 @@
+//! The run that tells whether a session is that of a plan.
+
+ghost use Rattle.std.specs.Prelude.{◌≡◌, Bool, Result};
+ghost use Rattle.sabr_model.specs.Plan.{TabledPlan};
+ghost use Rattle.sabr_plan.specs.PlanRead.{ReadsPlan};
+ghost use Rattle.sabr_plan.specs.declared.fault.PlanFault.{PlanFault};
+ghost use Rattle.sabr_session.specs.declared.session_fault.SessionFault.{SessionFault};
+ghost use Rattle.commands.specs.declared.failure.Failure.{Failure};
+ghost use Rattle.commands.specs.runs.Runs.{TellsEnd, status_of_answer};
+ghost use Rattle.commands.specs.runs.SessionRuns.{VerifiesOldSession, WritesAnswer};
+
+use crate::failure::Failure;
+use crate::runs::answer::write_verified;
+use crate::runs::ending::tell_answer;
+use crate::status::Status;
+use sabr_model::{Read, Write};
+use sabr_plan::{digest, read_plan};
+use sabr_search::Settled;
+use sabr_session::verify;
+use std::alloc::Allocator;
+
+// Reads the plan, verifies the old session over it, and tells the answer.
+fn read_and_verify<P: Read, I: Read, O: Write, A: Allocator + Copy>(
+    alloc: A,
+    plan: &mut P,
+    old: &mut I,
+    out: &mut O,
+) -> Result<bool, Failure>
+    ensures { (planned : Result TabledPlan PlanFault) × ((verified : Result Bool SessionFault)
+        × ReadsPlan (P.remaining plan.old) (P.failures plan.old) planned (P.remaining plan.new) (P.failures plan.new)
+        × VerifiesOldSession planned (I.remaining old.old) (I.failures old.old) verified (I.remaining old.new) (I.failures old.new)
+        × WritesAnswer planned verified result (O.contents out.old) (O.failures out.old) (O.contents out.new) (O.failures out.new) (O.flushed out.new)) }
+{
+    let plan = read_plan(alloc, plan)?;
+    let verified = verify(alloc, old, &plan, &digest(&plan), Settled::new(alloc));
+    write_verified(verified, out)
+}
+
+/// Tells whether the old session that `old` gives is that of some request and some place in its listing, over the plan
+/// that `plan` gives: reads the plan whole and then the session, compares it with the listing, and writes and flushes
+/// `yes` or `no` to `out` as a line. Who wrote the session isn't trusted; a text that isn't one is told as `no`.
+///
+/// A failure's message goes to `err`; a failure of `err` changes nothing else. The status is [`Status::Done`] for yes
+/// and [`Status::No`] for no; [`Status::Plan`] where the plan is refused, and then `old` isn't read; [`Status::Io`]
+/// where a reader or `out` failed; and [`Status::Memory`] where a growth was refused. Only where `out` failed does it
+/// hold a beginning of the line, and else all of it or nothing.
+pub fn run_verify<P: Read, I: Read, O: Write, E: Write, A: Allocator + Copy>(
+    alloc: A,
+    plan: &mut P,
+    old: &mut I,
+    out: &mut O,
+    err: &mut E,
+) -> Status
+    ensures { (planned : Result TabledPlan PlanFault) × ((verified : Result Bool SessionFault) × ((end : Result Bool Failure)
+        × ReadsPlan (P.remaining plan.old) (P.failures plan.old) planned (P.remaining plan.new) (P.failures plan.new)
+        × VerifiesOldSession planned (I.remaining old.old) (I.failures old.old) verified (I.remaining old.new) (I.failures old.new)
+        × WritesAnswer planned verified end (O.contents out.old) (O.failures out.old) (O.contents out.new) (O.failures out.new) (O.flushed out.new)
+        × TellsEnd end (E.contents err.old) (E.failures err.old) (E.contents err.new) (E.failures err.new)
+        × (result ≡ status_of_answer end))) }
+{
+    let end = read_and_verify(alloc, plan, old, out);
+    tell_answer(end, err)
+}

@@ -1,0 +1,40 @@
+//! How a run ended.
+
+ghost use Rattle.std.specs.Prelude.{◌≡◌};
+ghost use Rattle.commands.specs.texts.Messages.{number_of};
+
+/// How a run of the program ended.
+#[derive(Clone, Copy, Debug, PartialEq, Eq)]
+pub enum Status {
+    /// The run did what it was asked.
+    Done,
+    /// The answer is no: a refused explanation, or a session that is none of the plan's.
+    No,
+    /// The words of the command line were refused.
+    Usage,
+    /// The plan was refused.
+    Plan,
+    /// The session was refused.
+    Session,
+    /// Input or output failed.
+    Io,
+    /// Memory was refused.
+    Memory,
+}
+
+impl Status {
+    /// Tells the program's exit status, from 0 to 6.
+    pub fn number(self) -> u8
+        ensures { result ≡ number_of self }
+    {
+        match self {
+            Status::Done => 0,
+            Status::No => 1,
+            Status::Usage => 2,
+            Status::Plan => 3,
+            Status::Session => 4,
+            Status::Io => 5,
+            Status::Memory => 6,
+        }
+    }
+}

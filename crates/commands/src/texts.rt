@@ -1,0 +1,11 @@
+//! The texts that runs write, but for reports and sessions.
+
+mod check_text;
+mod ending_line;
+mod explanation;
+mod hop_lines;
+mod messages;
+
+pub use check_text::write_check_text;
+pub use explanation::write_explanation;
+pub use messages::tell;

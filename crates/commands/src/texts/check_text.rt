@@ -1,0 +1,79 @@
+//! The text that tells what a plan holds, and its digest.
+
+ghost use Rattle.std.specs.Prelude.{◌≡◌, length};
+ghost use Rattle.sabr_model.specs.Devices.{WritesText};
+ghost use Rattle.commands.specs.texts.CheckText.{without_light, counts_text, digest_digits, check_text};
+
+use crate::texts::messages::write_texts;
+use hex::encode_to_slice;
+use itoa::Buffer;
+use sabr_model::{Plan, Write, WriteFault, write_text};
+use sabr_plan::digest;
+use std::alloc::Allocator;
+
+// Counts the standing contacts that have no light time at their start.
+fn without_light<A: Allocator + Copy>(plan: &Plan<A>) -> usize
+    ensures { result ≡ length (without_light plan.now.plan) }
+{
+    plan.contacts()
+        .iter()
+        .filter(|contact| plan.light(contact).is_none())
+        .count()
+}
+
+// Spells the plan's digest as 64 hex digits in lower case.
+fn digest_digits<A: Allocator + Copy>(plan: &Plan<A>) -> [u8; 64]
+    ensures { result ≡ digest_digits plan.now.plan }
+{
+    let mut digits = [0; 64];
+    let _ = encode_to_slice(digest(plan), &mut digits);
+    digits
+}
+
+// Writes the lines of the counts.
+fn write_counts<W: Write, A: Allocator + Copy>(
+    plan: &Plan<A>,
+    writer: &mut W,
+) -> Result<(), WriteFault>
+    ensures { WritesText (W.contents writer.old) (W.failures writer.old) (counts_text plan.now.plan) result (W.contents writer.new) (W.failures writer.new) }
+{
+    let mut contacts = Buffer::new();
+    let mut ranges = Buffer::new();
+    let mut nodes = Buffer::new();
+    let mut unlit = Buffer::new();
+    write_texts(
+        writer,
+        &[
+            "contacts ",
+            contacts.format(plan.contacts().len()),
+            "\nranges ",
+            ranges.format(plan.ranges().len()),
+            "\nnodes ",
+            nodes.format(plan.nodes()),
+            "\nwithout light ",
+            unlit.format(without_light(plan)),
+            "\n",
+        ],
+    )
+}
+
+/// Writes what the plan holds in five lines: how many contacts and ranges stand, how many nodes send or
+/// receive a contact, how many contacts have no light time at their start, and the plan's digest.
+///
+/// It takes no memory and doesn't flush.
+///
+/// # Errors
+///
+/// [`WriteFault`] where the writer failed. Then a beginning of the text was written.
+pub fn write_check_text<W: Write, A: Allocator + Copy>(
+    plan: &Plan<A>,
+    writer: &mut W,
+) -> Result<(), WriteFault>
+    ensures { WritesText (W.contents writer.old) (W.failures writer.old) (check_text plan.now.plan) result (W.contents writer.new) (W.failures writer.new) }
+{
+    let digits = digest_digits(plan);
+    write_counts(plan, writer)?;
+    write_text(writer, b"digest ")?;
+    write_text(writer, &digits)?;
+    write_text(writer, b"\n")
+}

@@ -1,0 +1,75 @@
+//! The text that tells what a list of contacts does.
+
+ghost use Rattle.std.specs.Prelude.{◌≡◌, ◌≤◌, [], IfOk, IsTrue, length};
+ghost use Rattle.sabr_model.specs.Route.{is_path, is_route};
+ghost use Rattle.sabr_model.specs.Devices.{WritesText};
+ghost use Rattle.commands.specs.texts.Explanation.{hop_lines, explanation_text};
+ghost use Rattle.commands.specs.texts.Followed.{hops_before, Follows};
+
+use crate::accepted::{is_within_limits, obeys_rules};
+use crate::texts::ending_line::put_ending;
+use crate::texts::hop_lines::put_hops;
+use sabr_model::{HopFault, Plan, Request, Write, WriteFault, follow};
+use sabr_session::TextBuffer;
+use std::alloc::Allocator;
+
+// Counts how many of so many hops come before a fault. Places count from 1.
+fn hops_before(fault: HopFault, hops: usize) -> usize
+    ensures { result ≡ hops_before fault hops }
+{
+    match fault {
+        HopFault::Empty | HopFault::WrongEnd => hops,
+        HopFault::NoSuchContact(place)
+        | HopFault::NotChained(place)
+        | HopFault::NodeAgain(place)
+        | HopFault::NoLight(place)
+        | HopFault::TooLate(place)
+        | HopFault::AvoidedNode(place)
+        | HopFault::TooManyHops(place) => place.saturating_sub(1),
+    }
+}
+
+// Follows the whole list, and tells the hops before the first fault.
+fn followed<'a, A: Allocator + Copy>(
+    plan: &Plan<A>,
+    request: &Request,
+    contacts: &'a [u32],
+) -> (&'a [u32], Result<u64, HopFault>)
+    ensures path { IsTrue (is_path plan.now.plan request.now result.0.now) }
+    ensures lines { hop_lines plan.now.plan request.now [] contacts.now ≡ hop_lines plan.now.plan request.now [] result.0.now }
+    ensures outcome { Follows plan.now.plan request.now contacts.now result.1 }
+{
+    match follow(plan, request, contacts) {
+        Ok(delivery) => (contacts, Ok(delivery)),
+        Err(fault) => (&contacts[..hops_before(fault, contacts.len())], Err(fault)),
+    }
+}
+
+/// Writes what the contacts of these numbers do, one after the other: a line for each hop before the first
+/// fault, with its contact and the times of sending and of arrival, and then the line of the route that they
+/// make, or that of the fault. Answers whether they make a route.
+///
+/// It takes no memory and doesn't flush. The time grows with the square of the number of hops, as that of
+/// [`follow`].
+///
+/// # Errors
+///
+/// [`WriteFault`] where the writer failed. Then a beginning of the text was written.
+pub fn write_explanation<W: Write, A: Allocator + Copy>(
+    plan: &Plan<A>,
+    request: &Request,
+    contacts: &[u32],
+    writer: &mut W,
+) -> Result<bool, WriteFault>
+    ensures text { WritesText (W.contents writer.old) (W.failures writer.old) (explanation_text plan.now.plan request.now contacts.now) result (W.contents writer.new) (W.failures writer.new) }
+    ensures route { IfOk result (λ answer. answer ≡ is_route plan.now.plan request.now contacts.now) }
+{
+    obeys_rules(plan);
+    is_within_limits(request);
+    let (hops, outcome) = followed(plan, request, contacts);
+    let mut text = TextBuffer::new();
+    put_hops(&mut text, writer, plan, request, hops)?;
+    put_ending(&mut text, writer, plan, request, contacts, outcome)?;
+    text.send(writer)?;
+    Ok(outcome.is_ok())
+}

@@ -1,0 +1,93 @@
+//! The lines of hops without a fault.
+
+ghost use Rattle.std.specs.Prelude.{◌≡◌, ◌≤◌, ◌<◌, ◌^◌, ◌+◌, ◌++◌, [], ◌∷◌, Some, IfOk, IsTrue, length};
+ghost use Rattle.sabr_model.specs.Plan.{IsPlan};
+ghost use Rattle.sabr_model.specs.Asking.{IsRequest};
+ghost use Rattle.sabr_model.specs.Arrival.{arrival_after};
+ghost use Rattle.sabr_model.specs.Route.{is_path};
+ghost use Rattle.sabr_session.specs.Gathering.{Gathers};
+ghost use Rattle.commands.specs.texts.Explanation.{hop_line, line_behind, hop_lines};
+
+use sabr_model::{Contact, Plan, Request, Write, WriteFault, arrive};
+use sabr_session::{TextBuffer, put_number, put_time};
+use std::alloc::Allocator;
+
+// Puts the line of a hop. Times are seconds from the beginning of 1970.
+fn put_hop_line<W: Write>(
+    text: &mut TextBuffer,
+    writer: &mut W,
+    place: usize,
+    contact: &Contact,
+    sent: u64,
+    arrived: u64,
+) -> Result<(), WriteFault>
+    requires { (sent ≤ 253402300799) × (arrived ≤ 253402300799) }
+    ensures { Gathers (W.contents writer.old) (W.failures writer.old) text.old (hop_line place contact.now sent arrived) result (W.contents writer.new) (W.failures writer.new) text.new }
+{
+    put_number(text, writer, b"hop ", place as u64)?;
+    put_number(text, writer, b" contact ", u64::from(contact.number))?;
+    put_number(text, writer, b" from ", contact.from)?;
+    put_number(text, writer, b" to ", contact.to)?;
+    put_time(text, writer, b" send ", sent)?;
+    put_time(text, writer, b" arrive ", arrived)?;
+    text.put(writer, b"\n")
+}
+
+// Puts the line of the number that follows `front`, where a bundle arrives at `at`. Answers when it arrives next.
+fn put_hop<W: Write, A: Allocator + Copy>(
+    text: &mut TextBuffer,
+    writer: &mut W,
+    plan: &Plan<A>,
+    request: &Request,
+    front: &[u32],
+    at: u64,
+    number: u32,
+) -> Result<u64, WriteFault>
+    requires rules { IsPlan plan.now.plan }
+    requires limits { IsRequest request.now }
+    requires place { length front.now + 1 < 2 ^ 64 }
+    requires path { IsTrue (is_path plan.now.plan request.now (front.now ++ number ∷ [])) }
+    requires at { arrival_after plan.now.plan request.now request.now.at front.now ≡ Some at }
+    ensures line { Gathers (W.contents writer.old) (W.failures writer.old) text.old (line_behind plan.now.plan request.now front.now number) result (W.contents writer.new) (W.failures writer.new) text.new }
+    ensures arrived { IfOk result (λ t. arrival_after plan.now.plan request.now request.now.at (front.now ++ number ∷ []) ≡ Some t) }
+{
+    let Some(contact) = plan.contact(number) else {
+        unreachable!()
+    };
+    let Some(arrived) = arrive(plan, request, at, contact) else {
+        unreachable!()
+    };
+    put_hop_line(
+        text,
+        writer,
+        front.len() + 1,
+        contact,
+        at.max(contact.start),
+        arrived,
+    )?;
+    Ok(arrived)
+}
+
+/// Puts a line for each of these hops, which have no fault.
+///
+/// # Errors
+///
+/// [`WriteFault`] where the writer failed. Then a beginning of the texts put so far was written.
+pub fn put_hops<W: Write, A: Allocator + Copy>(
+    text: &mut TextBuffer,
+    writer: &mut W,
+    plan: &Plan<A>,
+    request: &Request,
+    hops: &[u32],
+) -> Result<(), WriteFault>
+    requires rules { IsPlan plan.now.plan }
+    requires limits { IsRequest request.now }
+    requires path { IsTrue (is_path plan.now.plan request.now hops.now) }
+    ensures { Gathers (W.contents writer.old) (W.failures writer.old) text.old (hop_lines plan.now.plan request.now [] hops.now) result (W.contents writer.new) (W.failures writer.new) text.new }
+{
+    let mut at = request.at();
+    for (i, number) in hops.iter().enumerate() {
+        at = put_hop(text, writer, plan, request, &hops[..i], at, *number)?;
+    }
+    Ok(())
+}

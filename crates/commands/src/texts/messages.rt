@@ -1,0 +1,133 @@
+//! Messages on standard error, each a line.
+
+ghost use Rattle.std.specs.Prelude.{◌≡◌, map};
+ghost use Rattle.std.specs.List.{concat};
+ghost use Rattle.sabr_model.specs.Devices.{WritesText};
+ghost use Rattle.commands.specs.texts.Messages.{kind_text, session_kind_text, session_line, session_message, message_text, status_of, TellsText};
+
+use crate::failure::Failure;
+use crate::status::Status;
+use itoa::Buffer;
+use sabr_model::{Write, WriteFault, write_text};
+use sabr_plan::{PlanFault, PlanKind};
+use sabr_session::SessionFault;
+
+// Names the kind of a bad line.
+fn kind_text(kind: PlanKind) -> &'static str
+    ensures { result.now ≡ kind_text kind }
+{
+    match kind {
+        PlanKind::LineTooLong => "LineTooLong",
+        PlanKind::BadByte => "BadByte",
+        PlanKind::UnknownCommand => "UnknownCommand",
+        PlanKind::WrongOperands => "WrongOperands",
+        PlanKind::BadTime => "BadTime",
+        PlanKind::NoReference => "NoReference",
+        PlanKind::BadNode => "BadNode",
+        PlanKind::BadNumber => "BadNumber",
+        PlanKind::EmptyWindow => "EmptyWindow",
+        PlanKind::SelfPair => "SelfPair",
+        PlanKind::DuplicateContact => "DuplicateContact",
+        PlanKind::RangeOverlap => "RangeOverlap",
+        PlanKind::TooMany => "TooMany",
+        PlanKind::Read => "Read",
+        PlanKind::NoMemory => "NoMemory",
+        PlanKind::NothingToDelete => "NothingToDelete",
+    }
+}
+
+/// Writes the texts one behind the other.
+///
+/// # Errors
+///
+/// [`WriteFault`] at the writer's first failure. Then a beginning of the texts was written.
+pub fn write_texts<W: Write>(writer: &mut W, texts: &[&str]) -> Result<(), WriteFault>
+    ensures { WritesText (W.contents writer.old) (W.failures writer.old) (concat (map (λ t. t.now) texts.now)) result (W.contents writer.new) (W.failures writer.new) }
+{
+    for text in texts {
+        write_text(writer, text.as_bytes())?;
+    }
+    Ok(())
+}
+
+// Writes the message of a bad line of a plan.
+fn write_plan_line<W: Write>(writer: &mut W, fault: PlanFault) -> Result<(), WriteFault>
+    ensures { WritesText (W.contents writer.old) (W.failures writer.old) (message_text (Failure.PlanLine fault)) result (W.contents writer.new) (W.failures writer.new) }
+{
+    let mut buffer = Buffer::new();
+    let line = buffer.format(fault.line);
+    let kind = kind_text(fault.kind);
+    write_texts(writer, &["cgrlist: plan line ", line, ": ", kind, "\n"])
+}
+
+// Names a fault of a session.
+fn session_kind_text(fault: SessionFault) -> &'static str
+    ensures { result.now ≡ session_kind_text fault }
+{
+    match fault {
+        SessionFault::BadHeader => "BadHeader",
+        SessionFault::BadLine(_) => "BadLine",
+        SessionFault::OtherPlan => "OtherPlan",
+        SessionFault::BadRequest => "BadRequest",
+        SessionFault::NotClosed => "NotClosed",
+        SessionFault::BadRoute(_) => "BadRoute",
+        SessionFault::BadCount => "BadCount",
+        SessionFault::Read => "Read",
+        SessionFault::NoMemory => "NoMemory",
+    }
+}
+
+// Tells the line that a fault of a session names, counted from 1.
+fn session_line(fault: SessionFault) -> Option<u128>
+    ensures { result ≡ session_line fault }
+{
+    match fault {
+        SessionFault::BadLine(line) | SessionFault::BadRoute(line) => Some(line),
+        _ => None,
+    }
+}
+
+// Writes the message of a refused session.
+fn write_session_fault<W: Write>(writer: &mut W, fault: SessionFault) -> Result<(), WriteFault>
+    ensures { WritesText (W.contents writer.old) (W.failures writer.old) (session_message fault) result (W.contents writer.new) (W.failures writer.new) }
+{
+    let kind = session_kind_text(fault);
+    let Some(number) = session_line(fault) else {
+        return write_texts(writer, &["cgrlist: session: ", kind, "\n"]);
+    };
+    let mut buffer = Buffer::new();
+    let line = buffer.format(number);
+    write_texts(writer, &["cgrlist: session line ", line, ": ", kind, "\n"])
+}
+
+// Writes a failure's message.
+fn write_message<W: Write>(writer: &mut W, failure: Failure) -> Result<(), WriteFault>
+    ensures { WritesText (W.contents writer.old) (W.failures writer.old) (message_text failure) result (W.contents writer.new) (W.failures writer.new) }
+{
+    match failure {
+        Failure::BadValue(name) => write_texts(writer, &["cgrlist: bad --", name.text(), "\n"]),
+        Failure::SameNode => write_text(writer, b"cgrlist: request: SameNode\n"),
+        Failure::BadAvoid => write_text(writer, b"cgrlist: request: BadAvoid\n"),
+        Failure::CannotOpenPlan => write_text(writer, b"cgrlist: cannot open the plan\n"),
+        Failure::CannotOpenSession => write_text(writer, b"cgrlist: cannot open the session\n"),
+        Failure::CannotMakeSession => {
+            write_text(writer, b"cgrlist: cannot make the session file\n")
+        }
+        Failure::PlanLine(fault) => write_plan_line(writer, fault),
+        Failure::PlanRead => write_text(writer, b"cgrlist: plan: read failed\n"),
+        Failure::Session(fault) => write_session_fault(writer, fault),
+        Failure::SessionRead => write_text(writer, b"cgrlist: session: read failed\n"),
+        Failure::Write => write_text(writer, b"cgrlist: write failed\n"),
+        Failure::NoMemory => write_text(writer, b"cgrlist: no memory\n"),
+    }
+}
+
+/// Writes the failure's message and answers its status. Where the writer fails, a beginning of the message
+/// was written, and the status is the same.
+pub fn tell<W: Write>(writer: &mut W, failure: Failure) -> Status
+    ensures status { result ≡ status_of failure }
+    ensures message { TellsText (W.contents writer.old) (W.failures writer.old) (message_text failure) (W.contents writer.new) (W.failures writer.new) }
+{
+    let _ = write_message(writer, failure);
+    failure.status()
+}

@@ -1,0 +1,12 @@
+//! The words of the command line, and the strict reading of their values.
+
+mod command_line;
+mod first_piece;
+mod lists;
+mod request_words;
+mod value_name;
+mod values;
+
+pub use command_line::parsed;
+pub use value_name::ValueName;
+pub use values::read_values;

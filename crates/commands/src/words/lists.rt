@@ -1,0 +1,52 @@
+//! Lists of numbers on the command line, parted by single commas.
+
+ghost use Rattle.std.specs.Prelude.{◌≡◌, None, Some, MatchOption, IfOk};
+ghost use Rattle.commands.specs.words.Lists.{nodes_listed, numbers_within};
+
+use crate::words::first_piece::first_piece;
+use sabr_model::{NoMemory, NodeList, Numbers};
+use sabr_plan::number_within;
+use std::alloc::Allocator;
+
+/// Reads the nodes that the text lists, at most 16. None where it lists none or more.
+pub fn nodes_listed(text: &[u8]) -> Option<NodeList>
+    ensures { MatchOption result (nodes_listed text.now ≡ None) (λ nodes. nodes_listed text.now ≡ Some nodes) }
+{
+    let mut nodes = NodeList::new();
+    let mut rest = Some(text);
+    while let Some(behind) = rest {
+        let (piece, others) = first_piece(behind);
+        let Some(node) = number_within(piece, 1, u64::MAX) else {
+            return None;
+        };
+        let Some(()) = nodes.push(node) else {
+            return None;
+        };
+        rest = others;
+    }
+    Some(nodes)
+}
+
+/// Reads the contact numbers that the text lists. None where it lists none.
+///
+/// # Errors
+///
+/// [`NoMemory`] where a growth was refused.
+pub fn contacts_listed<A: Allocator + Copy>(
+    alloc: A,
+    text: &[u8],
+) -> Result<Option<Numbers<A>>, NoMemory>
+    ensures { IfOk result (λ found. found ≡ numbers_within 1 4294967295 text.now) }
+{
+    let mut contacts = Vec::new(alloc);
+    let mut rest = Some(text);
+    while let Some(behind) = rest {
+        let (piece, others) = first_piece(behind);
+        let Some(number) = number_within(piece, 1, 4294967295) else {
+            return Ok(None);
+        };
+        contacts.push(number as u32)?;
+        rest = others;
+    }
+    Ok(Some(Numbers::new(contacts)))
+}

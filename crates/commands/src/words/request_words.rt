@@ -1,0 +1,165 @@
+//! The words that say what is asked for.
+
+ghost use Rattle.std.specs.Prelude.{◌≡◌, ℕ, ◌≤◌, [], List, Option, option_map, IfOk, IsErrOf};
+ghost use Rattle.clap.specs.Matches.{found_of};
+ghost use Rattle.sabr_plan.specs.Times.{time_of};
+ghost use Rattle.commands.specs.words.Lists.{nodes_listed};
+ghost use Rattle.sabr_plan.specs.Numbers.{number_within};
+ghost use Rattle.commands.specs.words.Values.{text_under, value_of, value_or, limits_of, request_words, request_of, IsInRange};
+ghost use Rattle.sabr_model.specs.Plan.{IsNode, last_time};
+ghost use Rattle.sabr_model.specs.Asking.{most_margin};
+
+use crate::failure::Failure;
+use crate::words::lists::nodes_listed;
+use crate::words::value_name::ValueName;
+use clap::ArgMatches;
+use sabr_model::{NodeList, Request};
+use sabr_plan::{number_within, parse_time};
+
+/// What is asked for, word by word, each within its range.
+#[derive(Drop)]
+pub struct RequestWords {
+    /// The source, a node.
+    pub from: u64,
+    /// The destination, a node.
+    pub to: u64,
+    /// When the bundle is at the source, in seconds from the beginning of 1970.
+    pub at: u64,
+    /// The margin on light times, in parts in a million.
+    pub margin_ppm: u32,
+    /// At most so many hops.
+    pub max_hops: u32,
+    /// The nodes that no route passes.
+    pub avoid: NodeList,
+}
+
+/// Finds the text that was given under a name.
+pub fn text_under<'a>(matches: &ArgMatches<'a>, name: ValueName) -> Option<&'a [u8]>
+    ensures { option_map (λ s. s.now) result ≡ text_under (found_of matches.now) name }
+{
+    match matches.get_str(name.text()) {
+        Some(text) => Some(text.as_bytes()),
+        None => None,
+    }
+}
+
+/// Reads a number from `low` to `high` that has to be there.
+///
+/// # Errors
+///
+/// [`Failure::BadValue`] where it isn't there, or isn't spelled as it must be.
+pub fn number_given(
+    matches: &ArgMatches<'_>,
+    name: ValueName,
+    low: u64,
+    high: u64,
+) -> Result<u64, Failure>
+    ensures value { result ≡ value_of (number_within low high) (found_of matches.now) name }
+    ensures range { IfOk result (λ n. (low ≤ n) × (n ≤ high)) }
+{
+    let text = text_under(matches, name).ok_or(Failure::BadValue(name))?;
+    number_within(text, low, high).ok_or(Failure::BadValue(name))
+}
+
+// Reads a number from `low` to `high` that may be left out.
+fn number_or(
+    matches: &ArgMatches<'_>,
+    name: ValueName,
+    low: u64,
+    high: u64,
+    otherwise: u64,
+) -> Result<u64, Failure>
+    requires { (low ≤ otherwise) × (otherwise ≤ high) }
+    ensures value { result ≡ value_or otherwise (number_within low high) (found_of matches.now) name }
+    ensures range { IfOk result (λ n. (low ≤ n) × (n ≤ high)) }
+{
+    let Some(text) = text_under(matches, name) else {
+        return Ok(otherwise);
+    };
+    number_within(text, low, high).ok_or(Failure::BadValue(name))
+}
+
+// Reads when the bundle is at the source.
+fn time_given(matches: &ArgMatches<'_>) -> Result<u64, Failure>
+    ensures value { result ≡ value_of time_of (found_of matches.now) ValueName.At }
+    ensures range { IfOk result (λ t. t ≤ last_time) }
+{
+    let bad = Failure::BadValue(ValueName::At);
+    let text = text_under(matches, ValueName::At).ok_or(bad)?;
+    parse_time(text).ok_or(bad)
+}
+
+// Reads the nodes to avoid.
+fn avoided(matches: &ArgMatches<'_>) -> Result<NodeList, Failure>
+    ensures { result ≡ value_or [] nodes_listed (found_of matches.now) ValueName.Avoid }
+{
+    let Some(text) = text_under(matches, ValueName::Avoid) else {
+        return Ok(NodeList::new());
+    };
+    nodes_listed(text).ok_or(Failure::BadValue(ValueName::Avoid))
+}
+
+// Reads the limits, behind the values of a request without limits.
+#[tactic(auto, unfolding(crate::specs::words::Values::limits_of))]
+fn with_limit_words(
+    from: u64,
+    to: u64,
+    at: u64,
+    margin_ppm: u32,
+    matches: &ArgMatches<'_>,
+) -> Result<RequestWords, Failure>
+    requires { IsNode from × IsNode to × (at ≤ last_time) × (margin_ppm ≤ most_margin) }
+    ensures value { result ≡ limits_of from to at margin_ppm (found_of matches.now) }
+    ensures range { IfOk result IsInRange }
+    ensures memory { ¬ IsErrOf result Failure.NoMemory }
+{
+    let max_hops = number_or(matches, ValueName::MaxHops, 1, 20000, 20000)? as u32;
+    let avoid = avoided(matches)?;
+    Ok(RequestWords {
+        from,
+        to,
+        at,
+        margin_ppm,
+        max_hops,
+        avoid,
+    })
+}
+
+/// Reads what is asked for, word by word.
+///
+/// # Errors
+///
+/// [`Failure::BadValue`] with the first bad word in the order of [`ValueName`].
+#[tactic(auto, unfolding(crate::specs::words::Values::request_words))]
+pub fn request_words(matches: &ArgMatches<'_>) -> Result<RequestWords, Failure>
+    ensures value { result ≡ request_words (found_of matches.now) }
+    ensures range { IfOk result IsInRange }
+    ensures memory { ¬ IsErrOf result Failure.NoMemory }
+{
+    let from = number_given(matches, ValueName::From, 1, u64::MAX)?;
+    let to = number_given(matches, ValueName::To, 1, u64::MAX)?;
+    let at = time_given(matches)?;
+    let margin_ppm = number_or(matches, ValueName::MarginPpm, 0, 1000000, 0)? as u32;
+    with_limit_words(from, to, at, margin_ppm, matches)
+}
+
+/// Makes the request of these words.
+///
+/// # Errors
+///
+/// [`Failure::SameNode`] where source and destination are one node; and else [`Failure::BadAvoid`] where the avoided
+/// nodes don't rise strictly, or hold the source or the destination.
+#[tactic(auto, unfolding(crate::specs::words::Values::request_of))]
+pub fn request_of(words: &RequestWords) -> Result<Request, Failure>
+    requires { IsInRange words.now }
+    ensures value { result ≡ request_of words.now }
+    ensures memory { ¬ IsErrOf result Failure.NoMemory }
+{
+    let Ok(request) = Request::new(words.from, words.to, words.at, words.margin_ppm) else {
+        return Err(Failure::SameNode);
+    };
+    let Ok(limited) = request.with_limits(words.max_hops, words.avoid.as_slice()) else {
+        return Err(Failure::BadAvoid);
+    };
+    Ok(limited)
+}

@@ -1,0 +1,129 @@
+//! The values of a command, read strictly.
+
+ghost use Rattle.std.specs.Prelude.{◌≡◌, [], Ok, Err, IfOk, IfErr, IfSome, IsTrue, IsErrOf, ◌⊎◌, ◌≤◌, is_some};
+ghost use Rattle.clap.specs.Matches.{found_of};
+ghost use Rattle.commands.specs.words.Lists.{numbers_within};
+ghost use Rattle.commands.specs.words.Values.{has_request, has_count, has_contacts, value_of, values_of, words_where_asked, count_where_asked, contacts_where_asked, request_where_asked, IsInRange};
+
+use crate::command::CommandName;
+use crate::failure::Failure;
+use crate::words::lists::contacts_listed;
+use crate::words::request_words::{
+    RequestWords, number_given, request_of, request_words, text_under,
+};
+use crate::words::value_name::ValueName;
+use clap::ArgMatches;
+use sabr_model::{Numbers, Request};
+use std::alloc::{Allocator, Global};
+
+/// The values of a command. What the command hasn't is none or empty.
+#[derive(Drop)]
+pub struct Values<A: Allocator + Copy = Global> {
+    /// What is asked for.
+    pub request: Option<Request>,
+    /// How many routes, 1 to 10000.
+    pub count: Option<u32>,
+    /// The contacts to explain.
+    pub contacts: Numbers<A>,
+}
+
+// Reads the words of a request, where the command has them.
+#[tactic(auto, unfolding(crate::specs::words::Values::words_where_asked))]
+fn words_where_asked(
+    command: CommandName,
+    matches: &ArgMatches<'_>,
+) -> Result<Option<RequestWords>, Failure>
+    ensures value { result ≡ words_where_asked command (found_of matches.now) }
+    ensures range { IfOk result (λ words. IfSome words IsInRange) }
+    ensures asked { IfOk result (λ words. is_some words ≡ has_request command) }
+    ensures memory { ¬ IsErrOf result Failure.NoMemory }
+{
+    if !command.declared().has_request {
+        return Ok(None);
+    }
+    let words = request_words(matches)?;
+    Ok(Some(words))
+}
+
+// Reads the count of routes, where the command has one.
+#[tactic(auto, unfolding(crate::specs::words::Values::count_where_asked))]
+fn count_where_asked(command: CommandName, matches: &ArgMatches<'_>) -> Result<Option<u32>, Failure>
+    ensures value { result ≡ count_where_asked command (found_of matches.now) }
+    ensures asked { IfOk result (λ count. is_some count ≡ has_count command) }
+    ensures range { IfOk result (λ count. IfSome count (λ n. (1 ≤ n) × (n ≤ 10000))) }
+{
+    if !command.declared().has_count {
+        return Ok(None);
+    }
+    let count = number_given(matches, ValueName::Count, 1, 10000)?;
+    Ok(Some(count as u32))
+}
+
+// Reads the contacts, where the command has them.
+#[tactic(auto, unfolding(crate::specs::words::Values::contacts_where_asked))]
+fn contacts_where_asked<A: Allocator + Copy>(
+    alloc: A,
+    command: CommandName,
+    matches: &ArgMatches<'_>,
+) -> Result<Numbers<A>, Failure>
+    ensures ok { IfOk result (λ contacts. contacts_where_asked command (found_of matches.now) ≡ Ok contacts) }
+    ensures err { IfErr result (λ e. (e ≡ Failure.NoMemory) ⊎ (contacts_where_asked command (found_of matches.now) ≡ Err e)) }
+    ensures memory { IsErrOf result Failure.NoMemory → IsTrue (has_contacts command) }
+{
+    if !command.declared().has_contacts {
+        return Ok(Numbers::new(Vec::new(alloc)));
+    }
+    let bad = Failure::BadValue(ValueName::Contacts);
+    let text = text_under(matches, ValueName::Contacts).ok_or(bad)?;
+    contacts_listed(alloc, text)?.ok_or(bad)
+}
+
+// Makes the request of words that are there.
+#[tactic(auto, unfolding(crate::specs::words::Values::request_where_asked))]
+fn request_where_asked(words: &Option<RequestWords>) -> Result<Option<Request>, Failure>
+    requires { IfSome words.now IsInRange }
+    ensures value { result ≡ request_where_asked words.now }
+    ensures asked { IfOk result (λ request. is_some request ≡ is_some words.now) }
+    ensures memory { ¬ IsErrOf result Failure.NoMemory }
+{
+    let Some(words) = words else {
+        return Ok(None);
+    };
+    let request = request_of(words)?;
+    Ok(Some(request))
+}
+
+/// Reads the values of a command strictly: `matches` holds the texts that were given under the names of its words.
+///
+/// Nodes, numbers and counts are decimal without a sign or leading zero and within their limits, a time
+/// is `yyyy/mm/dd-hh:mm:ss`, and lists are joined by single commas. The margin is 0 and the limit on hops
+/// 20000 where they aren't given, and then no node is avoided.
+///
+/// # Errors
+///
+/// The first that holds: [`Failure::BadValue`] with the first bad word in the order of [`ValueName`],
+/// [`Failure::SameNode`], [`Failure::BadAvoid`]. [`Failure::NoMemory`] comes only where memory
+/// for contacts was refused.
+#[tactic(auto, unfolding(crate::specs::words::Values::values_of))]
+pub fn read_values<A: Allocator + Copy>(
+    alloc: A,
+    command: CommandName,
+    matches: &ArgMatches<'_>,
+) -> Result<Values<A>, Failure>
+    ensures ok { IfOk result (λ v. values_of command (found_of matches.now) ≡ Ok (record { request = v.request; count = v.count; contacts = v.contacts })) }
+    ensures err { IfErr result (λ e. (e ≡ Failure.NoMemory) ⊎ (values_of command (found_of matches.now) ≡ Err e)) }
+    ensures memory { IsErrOf result Failure.NoMemory → IsTrue (has_contacts command) }
+    ensures request { IfOk result (λ v. is_some v.request ≡ has_request command) }
+    ensures count { IfOk result (λ v. is_some v.count ≡ has_count command) }
+    ensures count_range { IfOk result (λ v. IfSome v.count (λ n. (1 ≤ n) × (n ≤ 10000))) }
+{
+    let words = words_where_asked(command, matches)?;
+    let count = count_where_asked(command, matches)?;
+    let contacts = contacts_where_asked(alloc, command, matches)?;
+    let request = request_where_asked(&words)?;
+    Ok(Values {
+        request,
+        count,
+        contacts,
+    })
+}

@@ -1,7 +1,0 @@
-//! What no contract says: texts written over small plans, which were worked out by hand.
-
-mod lines;
-mod reading;
-mod reports;
-mod sessions;
-mod verifying;
