@@ -5,8 +5,6 @@ mod hop;
 mod kept;
 mod next;
 mod page;
-#[cfg(test)]
-mod tests;
 mod walk;
 mod way;
 

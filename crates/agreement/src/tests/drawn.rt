@@ -2,9 +2,9 @@
 
 use crate::tests::cases::{Case, Wrong};
 use crate::tests::draws::Draws;
-use crate::tests::plans::{BEGIN, add_light, add_window};
 use sabr_model::{AddFault, Plan, Request};
 use std::alloc::Global;
+use worked_plans::{BEGIN, add_light, add_window};
 
 /// How many plans are drawn.
 pub const DRAWN: u64 = 500;

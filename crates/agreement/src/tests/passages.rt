@@ -6,7 +6,7 @@ use crate::tests::cases::{Case, Wrong};
 use crate::tests::changes::{changed_request, same_request, with_another_digit, with_request_of};
 use crate::tests::drawn::{DRAWN, draw_case};
 use crate::tests::draws::Draws;
-use crate::tests::plans::{ASKED, WORKED};
+use crate::tests::plans::{ASKED, WORKED, case_of};
 use crate::tests::texts::{Fresh, is_among, is_verified, session_of, text_of, texts_of};
 use crate::tests::walks::Walk;
 use pieces::LimitedWriter;
@@ -168,7 +168,7 @@ fn pass_worked<B: Fresh>(alloc: Global, seed: u64) -> Result<(), Wrong> {
     let mut draws = Draws::new(seed);
     for worked in &WORKED {
         for asked in ASKED {
-            let case = worked.case(alloc, asked)?;
+            let case = case_of(alloc, worked, asked)?;
             pass_through_texts::<B>(alloc, &case, &mut draws)?;
         }
     }

@@ -1,15 +1,15 @@
 //! A page that is refused, and then the session through its text: the pages behind are those of the listing.
 
 use crate::tests::cases::Wrong;
-use crate::tests::plans::{BEGIN, PLAN_C};
 use crate::tests::texts::{session_of, text_of};
 use pieces::LimitedWriter;
 use ration::Ration;
 use sabr_frontier::Session;
-use sabr_model::{Plan, Request, Route};
+use sabr_model::{Plan, Route};
 use sabr_search::{BestOf, Settled};
 use std::alloc::{Allocator, Global};
 use std::test::Fail;
+use worked_plans::{ALL, PLAN_C, request_of};
 
 /// The routes of plan C behind the best two.
 const BEHIND_TWO: [&[u32]; 3] = [&[4, 5], &[1, 6, 5], &[4, 7, 2]];
@@ -53,7 +53,7 @@ fn begun<'p, A: Allocator + Copy>(
     alloc: A,
     plan: &'p Plan<A>,
 ) -> Result<Session<'p, Settled<A>, A>, Wrong> {
-    let request = Request::new(1, 3, BEGIN, 0)?;
+    let request = request_of(ALL)?;
     let mut session = Session::start(alloc, plan, request, Settled::new(alloc))?;
     session.page(2)?;
     Ok(session)

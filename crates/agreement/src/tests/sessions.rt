@@ -3,7 +3,7 @@
 use crate::tests::cases::{Case, Wrong};
 use crate::tests::drawn::{DRAWN, draw_case};
 use crate::tests::draws::Draws;
-use crate::tests::plans::{ASKED, WORKED};
+use crate::tests::plans::{ASKED, WORKED, case_of};
 use crate::tests::walks::Walk;
 use sabr_frontier::Session;
 use sabr_search::{BestOf, Layered, Settled};
@@ -71,9 +71,9 @@ fn walk_worked(alloc: Global, seed: u64) -> Result<(), Wrong> {
     let mut draws = Draws::new(seed);
     for worked in &WORKED {
         for asked in ASKED {
-            let case = worked.case(alloc, asked)?;
+            let case = case_of(alloc, worked, asked)?;
             walk_case(alloc, case, Settled::new(alloc), &mut draws)?;
-            let case = worked.case(alloc, asked)?;
+            let case = case_of(alloc, worked, asked)?;
             walk_case(alloc, case, Layered::new(alloc), &mut draws)?;
         }
     }

@@ -1,0 +1,167 @@
+//! The plans as tables.
+
+use crate::asked::BEGIN;
+use sabr_model::{AddFault, Plan};
+use std::alloc::Allocator;
+
+/// Two nodes and the light time between them in seconds.
+pub type Pair = (u64, u64, u32);
+
+/// A contact: sender, receiver, and its window in seconds after `BEGIN`.
+pub type Window = (u64, u64, u32, u32);
+
+/// A plan as a table: its light times for 1000 seconds from `BEGIN` on, its contacts, those of them that are deleted,
+/// and the contacts behind these.
+#[derive(Clone, Copy)]
+pub struct PlanTable {
+    pub pairs: &'static [Pair],
+    pub windows: &'static [Window],
+    pub deleted: &'static [Window],
+    pub more: &'static [Window],
+}
+
+const LIGHTS_OF_A: [Pair; 3] = [(1, 2, 10), (2, 3, 5), (1, 3, 40)];
+
+const WINDOWS_OF_A: [Window; 4] = [
+    (1, 2, 0, 100),
+    (2, 3, 20, 60),
+    (1, 3, 50, 90),
+    (2, 3, 0, 200),
+];
+
+const NO_LIGHT: [Pair; 6] = [
+    (1, 2, 0),
+    (2, 3, 0),
+    (1, 3, 0),
+    (1, 4, 0),
+    (3, 4, 0),
+    (2, 4, 0),
+];
+
+const WINDOWS_OF_B: [Window; 5] = [
+    (1, 2, 0, 100),
+    (2, 3, 10, 100),
+    (1, 3, 10, 100),
+    (1, 4, 0, 100),
+    (4, 3, 10, 100),
+];
+
+const MORE_OF_C: [Window; 2] = [(2, 4, 0, 100), (4, 2, 0, 100)];
+
+/// Two relays between 1 and 3, and a direct contact.
+pub const PLAN_A: PlanTable = PlanTable {
+    pairs: &LIGHTS_OF_A,
+    windows: &WINDOWS_OF_A,
+    deleted: &[],
+    more: &[],
+};
+
+/// Three ways from 1 to 3 without light time.
+pub const PLAN_B: PlanTable = PlanTable {
+    pairs: &NO_LIGHT,
+    windows: &WINDOWS_OF_B,
+    deleted: &[],
+    more: &[],
+};
+
+/// The same with contacts between the two relays.
+pub const PLAN_C: PlanTable = PlanTable {
+    pairs: &NO_LIGHT,
+    windows: &WINDOWS_OF_B,
+    deleted: &[],
+    more: &MORE_OF_C,
+};
+
+/// Plan A, of which the last contact was deleted and added again: number 4 is none, and number 5 is what it was.
+pub const PLAN_A_WITH_A_GAP: PlanTable = PlanTable {
+    pairs: &LIGHTS_OF_A,
+    windows: &WINDOWS_OF_A,
+    deleted: &[(2, 3, 0, 200)],
+    more: &[(2, 3, 0, 200)],
+};
+
+/// Plan C, of which contacts 1 and 3 were deleted and the first was added again as number 8.
+pub const PLAN_C_WITH_GAPS: PlanTable = PlanTable {
+    pairs: &NO_LIGHT,
+    windows: &WINDOWS_OF_B,
+    deleted: &[(1, 2, 0, 100), (1, 3, 10, 100)],
+    more: &[(2, 4, 0, 100), (4, 2, 0, 100), (1, 2, 0, 100)],
+};
+
+/// Adds a light time over a window in seconds after `BEGIN`.
+pub fn add_light<A: Allocator + Copy>(
+    plan: &mut Plan<A>,
+    pair: &Pair,
+    start: u32,
+    end: u32,
+) -> Result<(), AddFault> {
+    let (one, other, light) = *pair;
+    if one > 0 && other > 0 && light <= 1000000 {
+        plan.add_range(one, other, BEGIN + start as u64, BEGIN + end as u64, light)?;
+    }
+    Ok(())
+}
+
+/// Adds a contact.
+pub fn add_window<A: Allocator + Copy>(
+    plan: &mut Plan<A>,
+    window: &Window,
+) -> Result<(), AddFault> {
+    let (from, to, start, end) = *window;
+    if from > 0 && to > 0 {
+        plan.add_contact(from, to, BEGIN + start as u64, BEGIN + end as u64, 1000)?;
+    }
+    Ok(())
+}
+
+fn add_windows<A: Allocator + Copy>(
+    plan: &mut Plan<A>,
+    windows: &[Window],
+) -> Result<(), AddFault> {
+    for window in windows {
+        add_window(plan, window)?;
+    }
+    Ok(())
+}
+
+// Makes the plan ready for searches.
+fn settled<A: Allocator + Copy>(mut plan: Plan<A>) -> Result<Plan<A>, AddFault> {
+    match plan.settle() {
+        Ok(()) => Ok(plan),
+        Err(_) => Err(AddFault::NoMemory),
+    }
+}
+
+impl PlanTable {
+    /// Builds the plan.
+    pub fn plan<A: Allocator + Copy>(&self, alloc: A) -> Result<Plan<A>, AddFault> {
+        let mut plan = Plan::new(alloc);
+        for pair in self.pairs {
+            add_light(&mut plan, pair, 0, 1000)?;
+        }
+        add_windows(&mut plan, self.windows)?;
+        for (from, to, start, _) in self.deleted {
+            plan.delete_contact(*from, *to, BEGIN + *start as u64)?;
+        }
+        add_windows(&mut plan, self.more)?;
+        Ok(plan)
+    }
+
+    /// Builds the plan, ready for searches.
+    pub fn settled<A: Allocator + Copy>(&self, alloc: A) -> Result<Plan<A>, AddFault> {
+        settled(self.plan(alloc)?)
+    }
+}
+
+/// Builds plan D, ready for searches: a thousand contacts from node 1 to node 2, and two from there to node 3.
+pub fn plan_d<A: Allocator + Copy>(alloc: A) -> Result<Plan<A>, AddFault> {
+    let mut plan = Plan::new(alloc);
+    add_light(&mut plan, &(1, 2, 0), 0, 9000)?;
+    add_light(&mut plan, &(2, 3, 0), 0, 9000)?;
+    for start in 1..=1000u32 {
+        add_window(&mut plan, &(1, 2, start, 5000))?;
+    }
+    add_window(&mut plan, &(2, 3, 2000, 5000))?;
+    add_window(&mut plan, &(2, 3, 2001, 5000))?;
+    settled(plan)
+}
