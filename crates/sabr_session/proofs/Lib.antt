@@ -21,6 +21,7 @@ pub mod GoingOn
 pub mod SessionGivenSoFar
 mod PiecesJoined
 pub mod SessionOutcomes
+pub mod FormedSessions
 mod ShortStates
 mod TextsRead
 pub mod OneAnswer
