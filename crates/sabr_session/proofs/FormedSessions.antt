@@ -17,5 +17,5 @@ formed_from plan (Ok t) (Ok s) from =
     let request_is : s.request ≡ t.request = ap (λ (x : RouteRequest × State). x.0) from.1.0 in
     let state_is : s.state ≡ state_of t = ap (λ (x : RouteRequest × State). x.1) from.1.0 in
     subst (λ (q : TabledPlan). IsState q.plan s.request s.state) (sym plan_is)
-      (subst (λ (r : RouteRequest). IsState plan.plan r s.state) (sym request_is)
-        (subst (λ (u : State). IsState plan.plan t.request u) (sym state_is) from.1.1))
+    (subst (λ (r : RouteRequest). IsState plan.plan r s.state) (sym request_is)
+    (subst (λ (u : State). IsState plan.plan t.request u) (sym state_is) from.1.1))
