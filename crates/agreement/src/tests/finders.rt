@@ -7,12 +7,9 @@ use crate::tests::draws::Draws;
 use crate::tests::least::{least, same};
 use crate::tests::plans::{ASKED, WORKED, case_of};
 use sabr_model::{Plan, Route};
-use sabr_search::{BestOf, Kept, Layered, Part, Settled, fits};
+use sabr_search::{BestOf, Layered, Part, Settled, fits};
 use std::alloc::Global;
 use std::test::Fail;
-
-/// How often a part is asked for beside what is kept: often enough that its delivery gets a table, which then answers.
-const TIMES: u32 = 10;
 
 /// Both finders, kept from part to part and from plan to plan: no answer depends on what was asked before.
 #[derive(Drop)]
@@ -47,28 +44,6 @@ fn asked<F: BestOf<Global>>(
         return Err(Wrong::Setting);
     }
     let answer = finder.best(&case.plan, &case.request, part)?;
-    is_least(finder, case, part, &answer)?;
-    Ok(answer)
-}
-
-fn asked_beside<F: BestOf<Global>>(
-    finder: &mut F,
-    kept: &mut Kept,
-    case: &Case,
-    part: Part<'_>,
-) -> Result<Option<Route>, Wrong> {
-    let answer = finder.best_beside(kept, &case.plan, &case.request, part)?;
-    is_least(finder, case, part, &answer)?;
-    Ok(answer)
-}
-
-// The answer is that of the plain listing, within the bound on looks.
-fn is_least<F: BestOf<Global>>(
-    finder: &F,
-    case: &Case,
-    part: Part<'_>,
-    answer: &Option<Route>,
-) -> Result<(), Wrong> {
     if !same(answer.as_ref(), least(&case.listing, part)) {
         return Err(Wrong::Answer);
     }
@@ -77,7 +52,7 @@ fn is_least<F: BestOf<Global>>(
     if finder.looks() > most || finder.looks() < hops_of(answer.as_ref()) {
         return Err(Wrong::Looks);
     }
-    Ok(())
+    Ok(answer)
 }
 
 // Without a limit on hops, `Settled` looks no more often than its answer needs.
@@ -98,15 +73,8 @@ impl Finders {
     }
 
     // Asks both for the least route of a part, and answers with which number it goes on behind the prefix.
-    fn ask(&mut self, kept: &mut Kept, case: &Case, part: Part<'_>) -> Result<Option<u32>, Wrong> {
+    fn ask(&mut self, case: &Case, part: Part<'_>) -> Result<Option<u32>, Wrong> {
         asked(&mut self.layered, case, part)?;
-        asked_beside(&mut self.layered, kept, case, part)?;
-        for _ in 0..TIMES {
-            let answer = asked_beside(&mut self.settled, kept, case, part)?;
-            if !is_cut(&self.settled, case, part, answer.as_ref()) {
-                return Err(Wrong::Looks);
-            }
-        }
         let answer = asked(&mut self.settled, case, part)?;
         if !is_cut(&self.settled, case, part, answer.as_ref()) {
             return Err(Wrong::Looks);
@@ -126,7 +94,6 @@ impl Finders {
     // Asks for the least route, then for the least that goes on otherwise, and so on, a few times.
     fn ask_on(
         &mut self,
-        kept: &mut Kept,
         case: &Case,
         prefix: &[u32],
         excluded: &mut Vec<u32>,
@@ -136,7 +103,7 @@ impl Finders {
                 prefix,
                 excluded: excluded.as_slice(),
             };
-            let Some(next) = self.ask(kept, case, part)? else {
+            let Some(next) = self.ask(case, part)? else {
                 return Ok(());
             };
             excluded.push(next)?;
@@ -151,12 +118,11 @@ fn ask_parts(
     case: &Case,
     draws: &mut Draws,
 ) -> Result<(), Wrong> {
-    let mut kept = Kept::new(alloc);
-    finders.ask_on(&mut kept, case, &[], &mut Vec::new(alloc))?;
+    finders.ask_on(case, &[], &mut Vec::new(alloc))?;
     for _ in 0..4u32 {
         let prefix = draw_prefix(alloc, case, draws)?;
         let mut excluded = draw_excluded(alloc, draws)?;
-        finders.ask_on(&mut kept, case, prefix.as_slice(), &mut excluded)?;
+        finders.ask_on(case, prefix.as_slice(), &mut excluded)?;
     }
     Ok(())
 }

@@ -1,9 +1,9 @@
-//! The least routes of parts by both finders, beside kept tables too, and each growth of a search refused in turn.
+//! The least routes of parts by both finders, and each growth of a search refused in turn.
 
 use crate::tests::listed::is_route;
 use ration::Ration;
-use sabr_model::{AddFault, NoMemory, Plan, Request};
-use sabr_search::{BestOf, Kept, Layered, Part, Settled, fits};
+use sabr_model::{AddFault, Plan, Request};
+use sabr_search::{BestOf, Layered, Part, Settled, fits};
 use std::alloc::Allocator;
 use std::test::Fail;
 use worked_plans::{ALL, Asked, LISTED_A, LISTED_C, Listed, PLAN_A, PLAN_C, PlanTable, request_of};
@@ -207,53 +207,6 @@ fn each_growth_is_refused_in_turn(rt: HostRuntime) -> Result<(), Fail> {
         assert!(rt; layered.is_some_and(|growths| growths > 4));
         let settled = refused_settled(&ration, &ration, &plan, &worked);
         assert!(rt; settled.is_some_and(|growths| growths > 7));
-    }
-    Ok(())
-}
-
-// Whether the least route of all is the first that is listed, each time that it is asked for beside the same tables: often
-// enough that its delivery gets a table, which then answers. One time it may be refused.
-fn comes_again<A: Allocator + Copy>(alloc: A, plan: &Plan<A>, worked: &Worked) -> bool {
-    let mut finder = Settled::new(alloc);
-    let mut kept = Kept::new(alloc);
-    let mut refused = 0u32;
-    let Ok(request) = request_of(ALL) else {
-        return false;
-    };
-    let Some(first) = worked.listed.first() else {
-        return false;
-    };
-    for _ in 0..12u32 {
-        let part = Part {
-            prefix: &[],
-            excluded: &[],
-        };
-        if !fits(plan, &request, part) {
-            return false;
-        }
-        match finder.best_beside(&mut kept, plan, &request, part) {
-            Ok(Some(route)) if is_route(&route, first) => (),
-            Err(NoMemory) => refused = refused.wrapping_add(1),
-            _ => return false,
-        }
-    }
-    refused < 2
-}
-
-#[test]
-fn a_table_that_is_refused_is_left_out(rt: HostRuntime) -> Result<(), Fail> {
-    let ration = Ration::new(rt.alloc(), 0);
-    for worked in [OVER_A, OVER_C] {
-        let plan = worked.table.settled(&ration).ok().ok_or("plan")?;
-        ration.refuse(0);
-        assert!(rt; comes_again(&ration, &plan, &worked));
-        let growths = ration.requests();
-        assert!(rt; growths > 20);
-        for growth in 1..=growths {
-            ration.refuse(growth);
-            assert!(rt; comes_again(&ration, &plan, &worked), "growth {growth}");
-        }
-        ration.refuse(0);
     }
     Ok(())
 }
