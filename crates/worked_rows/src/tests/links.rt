@@ -79,12 +79,10 @@ fn are_from_1(links: &[Link], passes: &[Pass]) -> bool {
 }
 
 #[test]
-fn a_settled_plan_keeps_the_links_that_another_makes(rt: HostRuntime) -> Result<(), Fail> {
+fn a_settled_plan_keeps_links(rt: HostRuntime) -> Result<(), Fail> {
     let mut plan = plan_of_links(rt.alloc())?;
     let node = plan.node_index(1).ok_or("node")?;
     assert!(rt; plan.links(node).is_none());
-    let made = plan.outgoing(node)?;
-    assert!(rt; are_from_1(made.all().links, made.all().passes));
     assert!(rt; plan.settle().is_ok());
     let node = plan.node_index(1).ok_or("node")?;
     let kept = plan.links(node).ok_or("links")?;
