@@ -28,7 +28,7 @@ no_ends table contacts k d e lt = absurd (omega (arith, lt))
 pub all_ends : (table : List ℕ) (contacts : List Contact) (ends : List Ends) → AreEnds table contacts ends → BeginEnds table contacts ends
 all_ends table contacts ends h k d e lt = h.each k d e (omega (arith, lt, h.as_many))
 
--- a plan that is not settled promises the ends of contacts alone
+-- a plan that is not ready promises the ends of contacts alone
 pub not_ready : {A : Type 0} {linked : List (NodeLinks A)} {starts : List ℕ} {named : List Incoming} (p : TabledPlan) (hops : List Hop) (known : List Ends) → BeginEnds p.table p.plan.contacts known → IsReady false p hops known linked starts named
 not_ready p hops known begin = record { ends = begin; hops = λ e. absurd cc; links = λ e. absurd cc; senders = λ e. absurd cc }
 

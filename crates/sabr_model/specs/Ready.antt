@@ -20,9 +20,9 @@ pub record AreHops (p : TabledPlan) (contacts : List Contact) (hops : List Hop) 
 abbrev pub BeginEnds : List ℕ → List Contact → List Ends → Type 0
 BeginEnds table contacts ends = (k : ℕ) (d : Contact) (e : Ends) → k < length ends → AreEndsOf table (slice_index_or contacts k d) (slice_index_or ends k e)
 
--- the ends are right, and where the plan is settled, all of it is
-pub record IsReady {A : Type 0} (settled : Bool) (p : TabledPlan) (kept_hops : List Hop) (known : List Ends) (linked : List (NodeLinks A)) (starts : List ℕ) (named : List Incoming) : Type 0 where
+-- the ends are right, and where the plan is ready, all of it is
+pub record IsReady {A : Type 0} (ready : Bool) (p : TabledPlan) (kept_hops : List Hop) (known : List Ends) (linked : List (NodeLinks A)) (starts : List ℕ) (named : List Incoming) : Type 0 where
   pub ends : BeginEnds p.table p.plan.contacts known
-  pub hops : settled ≡ true → AreHops p p.plan.contacts kept_hops
-  pub links : settled ≡ true → AreLinked p linked
-  pub senders : settled ≡ true → AreSenders p linked starts named
+  pub hops : ready ≡ true → AreHops p p.plan.contacts kept_hops
+  pub links : ready ≡ true → AreLinked p linked
+  pub senders : ready ≡ true → AreSenders p linked starts named

@@ -50,7 +50,7 @@ pub struct Plan<A: Allocator + Copy = Global> {
     ends: Vec<Ends, A>,
     linked: Vec<NodeLinks<A>, A>,
     incoming: IncomingLinks<A>,
-    settled: bool,
+    ready: bool,
 }
 
 impl<A: Allocator + Copy> Model for Plan<A> {
@@ -64,7 +64,7 @@ impl<A: Allocator + Copy> Model for Plan<A> {
 
     ghost view = { λ a. record { plan = record { contacts = a.contacts.items; ranges = a.ranges.items; greatest = a.greatest }; table = keys a.table } };
 
-    ghost invariant = { λ a. IsPlan (record { contacts = a.contacts.items; ranges = a.ranges.items; greatest = a.greatest }) × IsTableOf a.contacts.items a.table × IsReady a.settled (record { plan = record { contacts = a.contacts.items; ranges = a.ranges.items; greatest = a.greatest }; table = keys a.table }) a.hops.items a.ends.items a.linked.items a.incoming.starts.items a.incoming.named.items × KnowsOpenings a.openings.kept a.openings.set.keys a.contacts.items };
+    ghost invariant = { λ a. IsPlan (record { contacts = a.contacts.items; ranges = a.ranges.items; greatest = a.greatest }) × IsTableOf a.contacts.items a.table × IsReady a.ready (record { plan = record { contacts = a.contacts.items; ranges = a.ranges.items; greatest = a.greatest }; table = keys a.table }) a.hops.items a.ends.items a.linked.items a.incoming.starts.items a.incoming.named.items × KnowsOpenings a.openings.kept a.openings.set.keys a.contacts.items };
 }
 
 impl<A: Allocator + Copy> Plan<A> {
@@ -83,7 +83,7 @@ impl<A: Allocator + Copy> Plan<A> {
             ends: Vec::new(alloc),
             linked: Vec::new(alloc),
             incoming: IncomingLinks::new(alloc),
-            settled: false,
+            ready: false,
         }
     }
 }

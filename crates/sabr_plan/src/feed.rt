@@ -115,7 +115,7 @@ impl<A: Allocator + Copy> PlanFeed<A> {
             held_count: _,
         } = self;
         let mut plan = reading.into_plan()?;
-        let _ = plan.settle();
+        let _ = plan.make_ready();
         Ok(plan)
     }
 

@@ -156,7 +156,7 @@ impl<A: Allocator + Copy> Layers<A> {
     }
 
     /// Takes every link to the node of an entry; tells whether the start is in time for it, or nothing where the plan
-    /// isn't settled, or more than `most` looks might be needed.
+    /// isn't ready, or more than `most` looks might be needed.
     fn take_senders(
         &mut self,
         task: &Task<'_, A>,
@@ -276,7 +276,7 @@ impl<A: Allocator + Copy> Layers<A> {
     }
 
     /// Layers backward from the goal, until the start is in time for one: answers how many hops that one is from the
-    /// goal. None where the plan isn't settled, or more than `most` looks might be needed.
+    /// goal. None where the plan isn't ready, or more than `most` looks might be needed.
     fn make_back(
         &mut self,
         task: &Task<'_, A>,
@@ -357,7 +357,7 @@ impl<A: Allocator + Copy> Layers<A> {
     }
 
     /// Layers with deadlines for the first delivery, made backward from the goal: answers the delivery and the hops. None
-    /// where the plan isn't settled, or more than `most` looks might be needed.
+    /// where the plan isn't ready, or more than `most` looks might be needed.
     pub fn from_goal(
         &mut self,
         task: &Task<'_, A>,

@@ -22,7 +22,7 @@ const LATEST: u64 = 253372764799;
 
 impl<A: Allocator + Copy> Layers<A> {
     /// Layers backward from the goal until one has no entry: answers how many there are before that one. None where the
-    /// plan isn't settled, where the start is in time for one, or where more than `most` looks might be needed.
+    /// plan isn't ready, where the start is in time for one, or where more than `most` looks might be needed.
     fn make_all(
         &mut self,
         task: &Task<'_, A>,
@@ -124,7 +124,7 @@ impl<A: Allocator + Copy> Layers<A> {
         Ok(dues)
     }
 
-    /// The table of a deadline; none where the plan isn't settled, or where more than `most` looks might be needed.
+    /// The table of a deadline; none where the plan isn't ready, or where more than `most` looks might be needed.
     fn lay(
         &mut self,
         alloc: A,
@@ -200,7 +200,7 @@ fn spans_of<A: Allocator + Copy>(
     Ok(spans)
 }
 
-/// The table of a deadline for a plan and a request; none where there is none, where the plan isn't settled, or where more
+/// The table of a deadline for a plan and a request; none where there is none, where the plan isn't ready, or where more
 /// than `most` looks might be needed.
 pub fn rung_for<A: Allocator + Copy>(
     alloc: A,

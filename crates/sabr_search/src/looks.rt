@@ -25,8 +25,8 @@ impl Looks {
     /// Counts a look and hands on what leads to the record: the contact's number, or its pass.
     ///
     /// Searches read no record but behind this call, one for each use. The halvings of a link compare keys and bounds
-    /// that the index keeps, and read no record. A plan that isn't settled makes the index of a node when it is asked for
-    /// it: that isn't counted, as it isn't where a plan is settled.
+    /// that the index keeps, and read no record. A plan that isn't ready makes the index of a node when it is asked for
+    /// it: that isn't counted, as it isn't where a plan is ready.
     pub fn look<T>(&mut self, contact: T) -> T
         requires few { self.old.count < 2 ^ 62 }
         ensures counted { self.new.count ≡ self.old.count + 1 }

@@ -66,7 +66,7 @@ impl<'a, A: Allocator + Copy> Task<'a, A> {
         }
     }
 
-    /// The links of a node, on which every step from there is. Takes memory where the plan isn't settled.
+    /// The links of a node, on which every step from there is. Takes memory where the plan isn't ready.
     pub fn links(&self, node: usize) -> Result<Outgoing<'_, A>, NoMemory>
         requires task { IsTask self.now }
         requires node { node < length self.now.table }
@@ -75,7 +75,7 @@ impl<'a, A: Allocator + Copy> Task<'a, A> {
         self.plan.outgoing(node)
     }
 
-    /// The links to a node, on which every step to there is; none where the plan isn't settled.
+    /// The links to a node, on which every step to there is; none where the plan isn't ready.
     pub fn senders(&self, node: usize) -> Option<Senders<'_, A>>
         requires task { IsTask self.now }
         requires node { node < length self.now.table }

@@ -125,8 +125,8 @@ fn add_windows<A: Allocator + Copy>(
 }
 
 // Makes the plan ready for searches.
-fn settled<A: Allocator + Copy>(mut plan: Plan<A>) -> Result<Plan<A>, AddFault> {
-    match plan.settle() {
+fn made_ready<A: Allocator + Copy>(mut plan: Plan<A>) -> Result<Plan<A>, AddFault> {
+    match plan.make_ready() {
         Ok(()) => Ok(plan),
         Err(_) => Err(AddFault::NoMemory),
     }
@@ -148,8 +148,8 @@ impl PlanTable {
     }
 
     /// Builds the plan, ready for searches.
-    pub fn settled<A: Allocator + Copy>(&self, alloc: A) -> Result<Plan<A>, AddFault> {
-        settled(self.plan(alloc)?)
+    pub fn made_ready<A: Allocator + Copy>(&self, alloc: A) -> Result<Plan<A>, AddFault> {
+        made_ready(self.plan(alloc)?)
     }
 }
 
@@ -163,5 +163,5 @@ pub fn plan_d<A: Allocator + Copy>(alloc: A) -> Result<Plan<A>, AddFault> {
     }
     add_window(&mut plan, &(2, 3, 2000, 5000))?;
     add_window(&mut plan, &(2, 3, 2001, 5000))?;
-    settled(plan)
+    made_ready(plan)
 }

@@ -95,7 +95,7 @@ fn draw_plan(alloc: Global, draws: &mut Draws, nodes: u32) -> Result<Plan, Wrong
         }
     }
     if draws.once_in(2) {
-        plan.settle()?;
+        plan.make_ready()?;
     }
     Ok(plan)
 }

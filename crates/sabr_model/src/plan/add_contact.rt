@@ -55,7 +55,7 @@ impl<A: Allocator + Copy> Plan<A> {
         ensures ok { OnOk result (self.new.plan ≡ with_contact self.old.plan (next_contact self.old.plan from to start end rate)) }
         ensures err { OnErr result (self.new ≡ self.old) }
     {
-        self.settled = false;
+        self.ready = false;
         self.ends.clear();
         let number = self.greatest + 1;
         let contact = Contact {

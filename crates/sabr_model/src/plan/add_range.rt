@@ -40,7 +40,7 @@ impl<A: Allocator + Copy> Plan<A> {
         ensures ok { OnOk result (self.new ≡ record { plan = with_range self.old.plan range; table = self.old.table }) }
         ensures err { OnErr result (self.new ≡ self.old) }
     {
-        self.settled = false;
+        self.ready = false;
         let place = ranges_until(&self.ranges, range.one, range.other, range.start);
         self.ranges.insert(place, range)?;
         Ok(())

@@ -27,7 +27,7 @@ impl<A: Allocator + Copy> Plan<A> {
             return Err(AddFault::NothingToDelete);
         };
         let contact = *contact;
-        self.settled = false;
+        self.ready = false;
         self.ends.clear();
         forget_contact(&mut self.table, &self.contacts, &contact);
         self.openings.forget(&self.contacts, from, to, start);
@@ -47,7 +47,7 @@ impl<A: Allocator + Copy> Plan<A> {
         if !self.has_range(one, other, start) {
             return Err(AddFault::NothingToDelete);
         }
-        self.settled = false;
+        self.ready = false;
         self.ranges.retain(|r| !(one == r.one && other == r.other && start == r.start));
         Ok(())
     }

@@ -36,7 +36,7 @@ impl<A: Allocator + Copy> Plan<A> {
             ends,
             linked: Vec::new(alloc),
             incoming: IncomingLinks::new(alloc),
-            settled: false,
+            ready: false,
         })
     }
 }

@@ -25,7 +25,7 @@ impl<A: Allocator + Copy> Plan<A> {
         light_of_contact(&self.ranges, contact)
     }
 
-    /// The standing contact of a number, and its light time. No range is read where the plan is settled.
+    /// The standing contact of a number, and its light time. No range is read where the plan is ready.
     pub(crate) fn contact_with_light(&self, number: u32) -> Option<(&Contact, Option<u32>)>
         ensures contact { MatchOption result (contact_named self.now.plan number ≡ None) (λ x. contact_named self.now.plan number ≡ Some x.0.now) }
         ensures light { IfSome result (λ x. x.1 ≡ light_of self.now.plan x.0.now) }
@@ -42,7 +42,7 @@ impl<A: Allocator + Copy> Plan<A> {
         requires there { contact.now ≡ slice_index_or self.now.plan.contacts place contact.now }
         ensures { result ≡ light_of self.now.plan contact.now }
     {
-        if self.settled {
+        if self.ready {
             self.hops[place].light
         } else {
             light_of_contact(&self.ranges, contact)

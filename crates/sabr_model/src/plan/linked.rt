@@ -1,4 +1,4 @@
-//! The links of each node of a settled plan.
+//! The links of each node of a ready plan.
 
 mod bounds;
 mod building;
@@ -19,7 +19,7 @@ pub use outgoing::Outgoing;
 pub use senders::Senders;
 use std::alloc::Allocator;
 
-/// What a settled plan keeps of one node: its links, and the passes over which they lie.
+/// What a ready plan keeps of one node: its links, and the passes over which they lie.
 #[derive(Drop)]
 pub struct NodeLinks<A: Allocator + Copy> {
     pub links: Vec<Link, A>,
@@ -27,12 +27,12 @@ pub struct NodeLinks<A: Allocator + Copy> {
 }
 
 impl<A: Allocator + Copy> Plan<A> {
-    /// The links of the node at an index of the table; none where the plan isn't settled.
+    /// The links of the node at an index of the table; none where the plan isn't ready.
     pub fn links(&self, index: usize) -> Option<Links<'_>>
         requires { index < length self.now.table }
         ensures { IfSome result (λ l. (node : ℕ) → slice_get self.now.table index ≡ Some node → AreLinksOf self.now node l.links.now l.passes.now) }
     {
-        if !self.settled {
+        if !self.ready {
             return None;
         }
         match self.linked.get(index) {
@@ -44,12 +44,12 @@ impl<A: Allocator + Copy> Plan<A> {
         }
     }
 
-    /// The links to the node at an index of the table, each with its sender; none where the plan isn't settled.
+    /// The links to the node at an index of the table, each with its sender; none where the plan isn't ready.
     pub fn senders(&self, index: usize) -> Option<Senders<'_, A>>
         requires { index < length self.now.table }
         ensures { IfSome result (λ s. (node : ℕ) → slice_get self.now.table index ≡ Some node → AreLinksTo self.now node s) }
     {
-        if !self.settled {
+        if !self.ready {
             return None;
         }
         let incoming = self.incoming.of(index)?;

@@ -69,12 +69,12 @@ impl<A: Allocator + Copy> Plan<A> {
         }
     }
 
-    /// The standing contact of a number, as a search reads it. One step where the plan is settled.
+    /// The standing contact of a number, as a search reads it. One step where the plan is ready.
     pub fn hop(&self, number: u32) -> Option<Hop>
         ensures { MatchOption result (contact_named self.now.plan number ≡ None) (IsHopNamed self.now number) }
     {
         let place = place_of_number(&self.contacts, number)?;
-        if self.settled {
+        if self.ready {
             Some(self.hops[place])
         } else {
             Some(hop_of_contact(&self.contacts[place], &self.ranges, &self.table))

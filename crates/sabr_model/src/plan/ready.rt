@@ -28,7 +28,7 @@ impl<A: Allocator + Copy> Plan<A> {
     /// step. The plan stays as it is; where memory is short searches answer the same, but take longer.
     ///
     /// It takes a halving or two of one node's ranges for each contact, and sorts the contacts of each node.
-    pub fn settle(&mut self) -> Result<(), NoMemory>
+    pub fn make_ready(&mut self) -> Result<(), NoMemory>
         ensures { self.new ≡ self.old }
     {
         self.put_hops()?;
@@ -43,7 +43,7 @@ impl<A: Allocator + Copy> Plan<A> {
         ensures same { self.new ≡ self.old }
         ensures rules { IsPlan self.new.plan }
     {
-        self.settled = false;
+        self.ready = false;
         self.linked.clear();
         self.incoming.forget();
         let known = mem::replace(&mut self.ends, Vec::new(self.alloc));
@@ -55,7 +55,7 @@ impl<A: Allocator + Copy> Plan<A> {
             &self.ranges,
             &self.table,
         )?;
-        self.settled = true;
+        self.ready = true;
         Ok(())
     }
 

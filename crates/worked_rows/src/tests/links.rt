@@ -1,4 +1,4 @@
-//! The links of a settled plan.
+//! The links of a ready plan.
 
 use sabr_model::{AddFault, Link, LinkBounds, Pass, Plan};
 use std::alloc::Allocator;
@@ -79,11 +79,11 @@ fn are_from_1(links: &[Link], passes: &[Pass]) -> bool {
 }
 
 #[test]
-fn a_settled_plan_keeps_links(rt: HostRuntime) -> Result<(), Fail> {
+fn a_ready_plan_keeps_links(rt: HostRuntime) -> Result<(), Fail> {
     let mut plan = plan_of_links(rt.alloc())?;
     let node = plan.node_index(1).ok_or("node")?;
     assert!(rt; plan.links(node).is_none());
-    assert!(rt; plan.settle().is_ok());
+    assert!(rt; plan.make_ready().is_ok());
     let node = plan.node_index(1).ok_or("node")?;
     let kept = plan.links(node).ok_or("links")?;
     assert!(rt; are_from_1(kept.links, kept.passes));
@@ -91,9 +91,9 @@ fn a_settled_plan_keeps_links(rt: HostRuntime) -> Result<(), Fail> {
 }
 
 #[test]
-fn a_settled_plan_tells_its_senders(rt: HostRuntime) -> Result<(), Fail> {
+fn a_ready_plan_tells_its_senders(rt: HostRuntime) -> Result<(), Fail> {
     let mut plan = plan_of_links(rt.alloc())?;
-    assert!(rt; plan.settle().is_ok());
+    assert!(rt; plan.make_ready().is_ok());
     let node = plan.node_index(2).ok_or("node")?;
     let told = plan.senders(node).ok_or("senders")?;
     assert_eq!(rt; told.len(), 2);

@@ -76,7 +76,7 @@ fn takes_all_back<B: BestOf<A>, A: Allocator + Copy>(
 
 // With both finders.
 fn walks(alloc: Global, row: &Row, size: u32) -> bool {
-    let Ok(plan) = row.table.settled(alloc) else {
+    let Ok(plan) = row.table.made_ready(alloc) else {
         return false;
     };
     let settled = started(alloc, &plan, Settled::new(alloc));

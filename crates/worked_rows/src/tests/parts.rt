@@ -116,7 +116,7 @@ fn answers_all<A: Allocator + Copy, B: BestOf<A>>(
     true
 }
 
-// Whether the finder answers over a plan, and over the same plan once it is settled.
+// Whether the finder answers over a plan, and over the same plan once it is ready.
 fn serves<A: Allocator + Copy, B: BestOf<A>>(
     alloc: A,
     finder: &mut B,
@@ -124,8 +124,8 @@ fn serves<A: Allocator + Copy, B: BestOf<A>>(
 ) -> Result<bool, AddFault> {
     let mut plan = worked.table.plan(alloc)?;
     let answered = answers_all(finder, &plan, worked);
-    let is_settled = plan.settle().is_ok();
-    Ok(answered && is_settled && answers_all(finder, &plan, worked))
+    let is_ready = plan.make_ready().is_ok();
+    Ok(answered && is_ready && answers_all(finder, &plan, worked))
 }
 
 #[test]
@@ -202,7 +202,7 @@ fn each_growth_is_refused_in_turn(rt: HostRuntime) -> Result<(), Fail> {
     for (worked, is_ready) in [(OVER_A, false), (OVER_C, false), (OVER_C, true)] {
         let ration = Ration::new(rt.alloc(), 0);
         let mut plan = worked.table.plan(&ration).ok().ok_or("plan")?;
-        assert!(rt; !is_ready || plan.settle().is_ok());
+        assert!(rt; !is_ready || plan.make_ready().is_ok());
         let layered = refused_layered(&ration, &ration, &plan, &worked);
         assert!(rt; layered.is_some_and(|growths| growths > 4));
         let settled = refused_settled(&ration, &ration, &plan, &worked);

@@ -1,4 +1,4 @@
-//! Each growth of a plan refused in turn: of one that is settled, and of one whose contacts and ranges are gathered.
+//! Each growth of a plan refused in turn: of one that is made ready, and of one whose contacts and ranges are gathered.
 
 ghost use Rattle.std.specs.Prelude.{◌<◌, ◌≤◌};
 
@@ -44,15 +44,15 @@ fn gathered_contacts<A: Allocator + Copy>(alloc: A) -> Result<GatheredContacts<A
 /// What grows.
 #[derive(Clone, Copy, Debug)]
 enum Growing {
-    /// A plan of additions, which is then settled.
-    Settled,
+    /// A plan of additions, which is then made ready.
+    Ready,
     /// A plan of gathered contacts and ranges.
     Gathered,
 }
 
 fn grown<A: Allocator + Copy>(alloc: A, growing: Growing) -> Result<Plan<A>, AddFault> {
     match growing {
-        Growing::Settled => PLAN_C.settled(alloc),
+        Growing::Ready => PLAN_C.made_ready(alloc),
         Growing::Gathered => {
             let contacts = gathered_contacts(alloc)?;
             let ranges = gathered_ranges(alloc)?;
@@ -64,7 +64,7 @@ fn grown<A: Allocator + Copy>(alloc: A, growing: Growing) -> Result<Plan<A>, Add
 #[test]
 fn each_growth_is_refused_in_turn(rt: HostRuntime) {
     let ration = Ration::new(rt.alloc(), 0);
-    for growing in [Growing::Settled, Growing::Gathered] {
+    for growing in [Growing::Ready, Growing::Gathered] {
         ration.refuse(0);
         assert!(rt; grown(&ration, growing).is_ok(), "{growing:?}");
         let growths = ration.requests();
@@ -83,8 +83,8 @@ fn a_refused_settling_can_be_done_again(rt: HostRuntime) -> Result<(), Fail> {
     let mut plan = PLAN_A.plan(&ration).ok().ok_or("plan")?;
     for growth in 1..=5u64 {
         ration.refuse(growth);
-        assert!(rt; plan.settle().is_err(), "at {growth}");
+        assert!(rt; plan.make_ready().is_err(), "at {growth}");
     }
-    assert!(rt; plan.settle().is_ok());
+    assert!(rt; plan.make_ready().is_ok());
     Ok(())
 }

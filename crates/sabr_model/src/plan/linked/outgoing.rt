@@ -11,7 +11,7 @@ use crate::link::Links;
 use crate::plan::Plan;
 use std::alloc::{Allocator, Global};
 
-/// The links of one node: those that a settled plan keeps, or links that were made for one who asked.
+/// The links of one node: those that a ready plan keeps, or links that were made for one who asked.
 #[derive(Drop)]
 pub enum Outgoing<'a, A: Allocator + Copy = Global> {
     Kept(Links<'a>),
@@ -35,7 +35,7 @@ impl<'a, A: Allocator + Copy> Outgoing<'a, A> {
 }
 
 impl<A: Allocator + Copy> Plan<A> {
-    /// The links of the node at an index of the table. A plan that isn't settled makes them for each call, and only then
+    /// The links of the node at an index of the table. A plan that isn't ready makes them for each call, and only then
     /// does this take memory.
     pub fn outgoing(&self, index: usize) -> Result<Outgoing<'_, A>, NoMemory>
         requires { index < length self.now.table }

@@ -2,7 +2,7 @@ use Rattle.std.proofs.Common.{List, sym, subst}
 use Rattle.sabr_model.specs.declared.plan.linked.NodeLinks.{NodeLinks}
 use Rattle.sabr_model.specs.Incoming.{AreGrouped, HaveReceivers}
 use Rattle.sabr_model.proofs.SenderLemmas.{have_receivers}
-use Rattle.sabr_model.proofs.plan.Plan.settle.Goals as goal
+use Rattle.sabr_model.proofs.plan.Plan.make_ready.Goals as goal
 
 pub incoming_links-requires : goal.incoming_links-requires
 incoming_links-requires g c =
