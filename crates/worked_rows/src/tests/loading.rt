@@ -1,6 +1,5 @@
-//! States that are loaded part by part, those that are refused, and each growth refused in turn.
+//! A state that is loaded part by part, each growth refused in turn.
 
-use crate::tests::listed::are_routes;
 use crate::tests::standing::stands_at;
 use ration::Ration;
 use sabr_frontier::{LoadFault, Loader, Session};
@@ -8,9 +7,7 @@ use sabr_model::Plan;
 use sabr_search::Settled;
 use std::alloc::Allocator;
 use std::test::Fail;
-use worked_plans::{
-    ALL, LISTED_A, LISTED_C, Listed, PLAN_A, PLAN_C, STATES_A, STATES_C, Shown, State, request_of,
-};
+use worked_plans::{ALL, PLAN_C, STATES_C, Shown, request_of};
 
 fn loader_of<'p, A: Allocator + Copy>(
     alloc: A,
@@ -43,137 +40,6 @@ fn loaded<'p, A: Allocator + Copy>(
         add(&mut loader, part)?;
     }
     loader.finish(emitted, last)
-}
-
-// Whether the state of a place is loaded as it is shown, and its page goes on as the listing does.
-fn resumes<A: Allocator + Copy>(
-    alloc: A,
-    plan: &Plan<A>,
-    states: &[State],
-    listed: &[Listed],
-    place: usize,
-) -> Result<bool, LoadFault> {
-    let (Some((last, parts)), Some(left)) = (states.get(place), listed.get(place..)) else {
-        return Ok(false);
-    };
-    let mut session = loaded(alloc, plan, parts, place as u128, last)?;
-    let stands = stands_at(&session, states, place) && !session.can_back();
-    match session.page(9) {
-        Ok(routes) => Ok(stands && are_routes(routes.as_slice(), left)),
-        Err(_) => Err(LoadFault::NoMemory),
-    }
-}
-
-#[test]
-fn loaded_states_go_on_as_the_listing(rt: HostRuntime) -> Result<(), Fail> {
-    let a = PLAN_A.made_ready(rt.alloc())?;
-    for place in 0..STATES_A.len() {
-        let resumed = resumes(rt.alloc(), &a, &STATES_A, &LISTED_A, place);
-        assert!(rt; resumed == Ok(true), "plan A at {place}");
-    }
-    let c = PLAN_C.made_ready(rt.alloc())?;
-    for place in 0..STATES_C.len() {
-        let resumed = resumes(rt.alloc(), &c, &STATES_C, &LISTED_C, place);
-        assert!(rt; resumed == Ok(true), "plan C at {place}");
-    }
-    Ok(())
-}
-
-/// Parts, a count and a last route over plan A, and why they are refused.
-type Forged<'a> = (&'a [Shown<'a>], u128, &'a [u32], LoadFault);
-
-const FORGED: [Forged<'static>; 15] = [
-    (
-        &[(&[], &[1], &[3]), (&[1], &[4, 2], &[])],
-        2,
-        &[1, 2],
-        LoadFault::BadOrder,
-    ),
-    (
-        &[(&[], &[1], &[3]), (&[1], &[2, 2], &[])],
-        2,
-        &[1, 2],
-        LoadFault::BadOrder,
-    ),
-    (
-        &[
-            (&[], &[1], &[3]),
-            (&[1], &[2, 4], &[]),
-            (&[1], &[2, 4], &[]),
-        ],
-        2,
-        &[1, 2],
-        LoadFault::BadOrder,
-    ),
-    (
-        &[(&[1], &[2, 4], &[]), (&[], &[1], &[3])],
-        2,
-        &[1, 2],
-        LoadFault::BadOrder,
-    ),
-    (
-        &[(&[], &[1], &[1, 4]), (&[1], &[2, 4], &[])],
-        2,
-        &[1, 2],
-        LoadFault::BadRoute,
-    ),
-    (
-        &[(&[], &[1], &[2]), (&[1], &[2, 4], &[])],
-        2,
-        &[1, 2],
-        LoadFault::BadRoute,
-    ),
-    (&[(&[], &[1], &[3])], 2, &[1, 2], LoadFault::NotClosed),
-    (&[], 0, &[], LoadFault::NotClosed),
-    (&[(&[1], &[2, 4], &[])], 2, &[1, 2], LoadFault::NotClosed),
-    (
-        &[(&[], &[1], &[3]), (&[1], &[], &[])],
-        0,
-        &[],
-        LoadFault::NotClosed,
-    ),
-    (
-        &[(&[], &[1], &[3]), (&[1], &[2, 4], &[]), (&[1, 4], &[], &[])],
-        2,
-        &[1, 2],
-        LoadFault::NotClosed,
-    ),
-    (
-        &[(&[], &[1, 9], &[3]), (&[1], &[2, 4], &[])],
-        2,
-        &[1, 2],
-        LoadFault::NotClosed,
-    ),
-    (
-        &[(&[], &[1], &[3]), (&[1], &[2], &[])],
-        2,
-        &[1, 2],
-        LoadFault::BadCount,
-    ),
-    (
-        &[(&[], &[1, 3], &[]), (&[1], &[2, 4], &[])],
-        2,
-        &[1, 2],
-        LoadFault::BadCount,
-    ),
-    (
-        &[(&[], &[1], &[3]), (&[1], &[2, 4], &[])],
-        2,
-        &[],
-        LoadFault::BadCount,
-    ),
-];
-
-#[test]
-fn forged_states_are_refused(rt: HostRuntime) -> Result<(), Fail> {
-    let plan = PLAN_A.made_ready(rt.alloc())?;
-    for (place, (parts, emitted, last, fault)) in FORGED.iter().enumerate() {
-        let answer = loaded(rt.alloc(), &plan, parts, *emitted, last);
-        assert!(rt; answer.err() == Some(*fault), "state {place}");
-    }
-    let mut loader = loader_of(rt.alloc(), &plan)?;
-    assert!(rt; loader.add_part(&[], &[], Some(&[])) == Err(LoadFault::BadRoute));
-    Ok(())
 }
 
 // Adds a part with one growth refused, and then again with memory; whether it was refused.

@@ -1,4 +1,4 @@
-//! Each growth of a start, of a page and of a judgement refused in turn, and a page that copies no part.
+//! Each growth of a start, of a page and of a judgement refused in turn; a table left out; and no part copied.
 
 use crate::tests::listed::are_routes;
 use crate::tests::standing::{stands_at, started};
@@ -182,5 +182,37 @@ fn a_route_from_a_thousand_parts_copies_no_part(rt: HostRuntime) -> Result<(), F
     let next = session.page(1)?;
     assert!(rt; are_routes(next.as_slice(), &[(&[1, 1002], 2001, 5000, 2)]));
     assert!(rt; ration.requests() < 500);
+    Ok(())
+}
+
+// Whether the page gives the best twenty routes over plan D; none where it was refused.
+fn gives_twenty<A: Allocator + Copy>(session: &mut Session<Settled<A>, A>) -> Option<bool> {
+    let routes = session.page(20).ok()?;
+    for (place, route) in routes.iter().enumerate() {
+        let first = (place as u32).wrapping_add(1);
+        if route.contacts.as_slice() != [first, 1001].as_slice() {
+            return Some(false);
+        }
+    }
+    Some(routes.len() == 20)
+}
+
+// All these routes are delivered in one second, so a table is made for it on the way.
+#[test]
+fn a_table_without_memory_is_left_out(rt: HostRuntime) -> Result<(), Fail> {
+    let ration = Ration::new(rt.alloc(), 0);
+    let plan = plan_d(&ration).ok().ok_or("plan")?;
+    let mut left_out = 0u64;
+    for growth in 1..300u64 {
+        ration.refuse(0);
+        let mut session = started(&ration, &plan, Settled::new(&ration)).ok_or("start")?;
+        ration.refuse(growth);
+        let given = gives_twenty(&mut session);
+        assert!(rt; given != Some(false), "at {growth}");
+        if given == Some(true) && growth <= ration.requests() {
+            left_out = left_out.wrapping_add(1);
+        }
+    }
+    assert!(rt; left_out > 3, "{left_out} left out");
     Ok(())
 }
