@@ -6,6 +6,7 @@ ghost use Rattle.sabr_search.specs.Task.{IsTask, Takes};
 ghost use Rattle.sabr_search.specs.Picks.{IsAtMost};
 ghost use Rattle.sabr_search.specs.Linked.{IsLinkAt, HasNumber};
 
+use crate::finger::Finger;
 use crate::looks::Looks;
 use crate::over_link::{first_open, rules_out};
 use crate::pick::{Step, is_at_most};
@@ -41,21 +42,22 @@ impl<'a, A: Allocator + Copy> Task<'a, A> {
             return least;
         }
         let mut chosen = least;
+        let mut finger = Finger::new();
         for place in first_open(self, node, to, passes, at)..passes.len() {
             let pass = looks.look(&passes[place]);
-            if self.comes_late(pass, at, before) {
+            if is_at_most(chosen, pass.least_number_behind) {
                 return chosen;
             }
-            if is_at_most(chosen, pass.least_number_behind) {
+            if self.is_excluded(node, pass.number, &mut finger) {
+                continue;
+            }
+            if self.comes_late(pass, at, before) {
                 return chosen;
             }
             if is_at_most(chosen, pass.number) {
                 continue;
             }
             let hop = self.hop_over(node, to, pass);
-            if self.is_excluded(node, pass.number) {
-                continue;
-            }
             if let Some(arrival) = self.arrive_before(at, &hop, before) {
                 chosen = Some(Step {
                     number: pass.number,

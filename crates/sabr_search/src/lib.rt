@@ -5,6 +5,7 @@ mod answer;
 mod best;
 mod deadlines;
 mod enter;
+mod finger;
 mod fitting;
 mod following;
 mod from_goal;

@@ -9,6 +9,7 @@ ghost use Rattle.sabr_search.specs.Task.{IsTask, Takes};
 ghost use Rattle.sabr_search.specs.Steps.{IsHopAt};
 ghost use Rattle.sabr_search.specs.Linked.{IsPassAt, IsLinkAt, HasNumber, passes_of};
 
+use crate::finger::Finger;
 use crate::looks::Looks;
 use crate::task::Task;
 use sabr_model::{Hop, Link, LinkBounds, Links, Pass};
@@ -110,15 +111,16 @@ impl<'a, A: Allocator + Copy> Task<'a, A> {
             return before;
         }
         let mut least = before;
+        let mut finger = Finger::new();
         for place in first_open(self, node, to, passes, at)..passes.len() {
             let pass = looks.look(&passes[place]);
+            if self.is_excluded(node, pass.number, &mut finger) {
+                continue;
+            }
             if self.comes_late(pass, at, least) {
                 return least;
             }
             let hop = self.hop_over(node, to, pass);
-            if self.is_excluded(node, pass.number) {
-                continue;
-            }
             if let Some(arrival) = self.arrive_before(at, &hop, least) {
                 least = arrival;
             }

@@ -1,6 +1,6 @@
 //! What does not change during a search, and the arrival over one contact.
 
-ghost use Rattle.std.specs.Prelude.{◌≡◌, ◌↔◌, Contains, ◌==◌, ◌&&◌, ℕ, ◌≤◌, ◌<◌, ◌+◌, ◌*◌, ◌^◌, None, Some, MatchOption, IfOk, IfSome, IfNone, IsTrue, length, slice_get};
+ghost use Rattle.std.specs.Prelude.{◌≡◌, ◌==◌, ◌&&◌, ℕ, ◌≤◌, ◌<◌, ◌+◌, ◌*◌, ◌^◌, None, Some, MatchOption, IfOk, IfSome, IfNone, IsTrue, length, slice_get};
 ghost use Rattle.std.specs.List.Sorted.{IsNonDecreasing};
 ghost use Rattle.sabr_model.specs.Arrival.{cost};
 ghost use Rattle.sabr_model.specs.Plan.{has};
@@ -11,6 +11,7 @@ ghost use Rattle.sabr_search.specs.Task.{IsTask};
 ghost use Rattle.sabr_search.specs.Steps.{IsHopAt};
 ghost use Rattle.sabr_search.specs.Linked.{AreLinksAt, AreSendersAt};
 
+use crate::finger::Finger;
 use crate::looks::Looks;
 use crate::pick::Standing;
 use sabr_model::{Hop, NoMemory, Outgoing, Plan, Request, Senders};
@@ -149,11 +150,11 @@ impl<'a, A: Allocator + Copy> Task<'a, A> {
         2 * self.plan.contacts().len() as u64
     }
 
-    /// Whether a route may not take this number behind the prefix.
-    pub fn is_excluded(&self, node: usize, number: u32) -> bool
+    /// Whether a route may not take this number behind the prefix. A walk over passes keeps the finger.
+    pub fn is_excluded(&self, node: usize, number: u32, finger: &mut Finger) -> bool
         ensures { result ≡ (node == self.now.start && has number self.now.excluded) }
     {
-        node == self.start && is_among(self.excluded, self.in_order, number)
+        node == self.start && finger.finds(self.excluded, self.in_order, number)
     }
 
     /// A light time with the margin, in seconds.
@@ -231,29 +232,4 @@ pub fn never_falls(numbers: &[u32]) -> bool
     ensures { IsTrue result → IsNonDecreasing numbers.now }
 {
     numbers.is_sorted()
-}
-
-/// Whether the number stands where it does if the list runs from its first number on without a gap.
-fn stands_in_row(numbers: &[u32], number: u32) -> bool
-    ensures { IsTrue result → Contains numbers.now number }
-{
-    if numbers.is_empty() || number < numbers[0] {
-        return false;
-    }
-    match numbers.get((number - numbers[0]) as usize) {
-        Some(there) => *there == number,
-        None => false,
-    }
-}
-
-/// Whether the number is in the list, of which the caller has asked whether it never falls.
-fn is_among(numbers: &[u32], in_order: bool, number: u32) -> bool
-    requires { IsTrue in_order → IsNonDecreasing numbers.now }
-    ensures { IsTrue result ↔ Contains numbers.now number }
-{
-    if in_order {
-        stands_in_row(numbers, number) || numbers.binary_search(&number).is_ok()
-    } else {
-        numbers.contains(&number)
-    }
 }

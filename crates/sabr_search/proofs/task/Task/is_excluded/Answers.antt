@@ -8,5 +8,5 @@ pub returns-then-node-self : goal.returns-then-node-self
 returns-then-node-self g c =
     let own = c.self.inside in
     rw (← c.self.view_is)
-    (has_from_iff c.is_among.result own.excluded.now c.args.number c.is_among.ensures
+    (has_from_iff c.finds.result own.excluded.now c.args.number c.finds.ensures
     ∙ sym (ap (λ b. b && has c.args.number own.excluded.now) (eq-eqb c.args.node own.start c.if-node-self.true)))
