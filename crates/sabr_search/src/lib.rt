@@ -24,6 +24,7 @@ mod rung;
 mod settled;
 mod settling;
 mod task;
+mod trying;
 
 pub use best::BestOf;
 pub use fitting::fits;
