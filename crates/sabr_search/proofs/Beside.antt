@@ -1,5 +1,5 @@
 -- What a route read off a table comes to: the answer, and the looks at contacts.
-use Rattle.std.proofs.Common.{◌≡◌, inl, inr, ℕ, ◌+◌, ◌-◌, ◌*◌, ◌<◌, ◌≤◌, ◌⊎◌, List, ◌++◌, length, Option, Some, None, ap, arith, length-append}
+use Rattle.std.proofs.Common.{◌≡◌, inl, inr, ℕ, ◌+◌, ◌-◌, ◌*◌, ◌<◌, ◌≤◌, ◌⊎◌, List, ◌++◌, length, Option, Some, None, ap, ◌∙◌, arith, length-append}
 use Rattle.std.specs.Prelude.{IfSome, IfNone}
 use Rattle.std.proofs.Math.Nat.{mul-le-mul_right}
 use Rattle.sabr_model.specs.Record.{RouteRecord}
@@ -7,11 +7,16 @@ use Rattle.sabr_search.specs.Task.{SearchTask, Takes, IsTask, IsBehind}
 use Rattle.sabr_search.specs.Picks.{IsLeastWay}
 use Rattle.sabr_search.specs.Told.{hops_told}
 use Rattle.sabr_search.proofs.Prefixes.{IsPrefix}
-use Rattle.sabr_search.proofs.Shortness.{way_few}
+use Rattle.sabr_search.proofs.PartWays.{way_is_route}
+use Rattle.sabr_search.proofs.Law.{behind_sizes}
 
-pub followed_few : (task : SearchTask) (prefix : List ℕ) → IsBehind task prefix → IsPrefix task.plan task.request prefix → (most : ℕ) (s : List ℕ) (route : RouteRecord) → route.contacts ≡ prefix ++ s → IsLeastWay task most (route.delivery + 1) s route.delivery →
-    length route.contacts ≤ length task.plan.contacts
-followed_few task prefix behind facts most s route contacts least = omega (arith, ap length contacts, length-append prefix s, way_few task prefix behind facts s route.delivery least.way least.fewest)
+pub followed_sizes : (task : SearchTask) → IsTask task → (prefix : List ℕ) → IsBehind task prefix → IsPrefix task.plan task.request prefix → (most : ℕ) (s : List ℕ) (route : RouteRecord) → route.contacts ≡ prefix ++ s → length prefix + length s ≤ task.request.max_hops →
+    IsLeastWay task most (route.delivery + 1) s route.delivery → (length route.contacts ≤ length task.plan.contacts) × (length route.contacts - length prefix ≤ length task.table)
+followed_sizes task is prefix behind facts most s route contacts short least =
+    let own = way_is_route task prefix behind facts s route.delivery least.some least.way least.fewest short in
+    let sizes = behind_sizes task is prefix s own.0 in
+    let many : length route.contacts ≡ length prefix + length s = ap length contacts ∙ length-append prefix s in
+    (omega (arith, sizes.2), omega (arith, sizes.1))
 
 pub followed_longer : (task : SearchTask) (prefix : List ℕ) (most : ℕ) (s : List ℕ) (route : RouteRecord) → route.contacts ≡ prefix ++ s → IsLeastWay task most (route.delivery + 1) s route.delivery → length prefix < length route.contacts
 followed_longer task prefix most s route contacts least = omega (arith, ap length contacts, length-append prefix s, least.some)
@@ -22,8 +27,16 @@ passes_within n c looks some le =
     let product : 1 * c ≤ n * c = mul-le-mul_right c some in
     omega (arith, product)
 
-pub passes_cut : (x c looks : ℕ) → looks ≤ 3 * c → looks ≤ (3 * x + 3) * c
-passes_cut x c looks le = omega (arith, le)
+-- so is one pass with the picks over as many layers as there are nodes, answered or refused, and for an answer as many as
+-- it has hops
+pub picks_within : (n c x told looks : ℕ) → 1 ≤ n → x ≤ n → told ≤ c → looks ≤ c + x * c + told → looks ≤ (3 * n + 1) * c
+picks_within n c x told looks some few short le =
+    let product : x * c ≤ n * c = mul-le-mul_right c few in
+    let one : 1 * c ≤ n * c = mul-le-mul_right c some in
+    omega (arith, product, one)
+
+pub picks_cut : (x c told looks : ℕ) → told ≤ c → looks ≤ c + x * c + told → looks ≤ (3 * x + 3) * c
+picks_cut x c told looks short le = omega arith
 
 pub passes_more : (x c looks : ℕ) → 0 < x → looks ≤ 4 * c → looks ≤ (3 * x + 3) * c
 passes_more x c looks some le =

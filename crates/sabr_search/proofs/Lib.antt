@@ -34,3 +34,4 @@ pub mod FaultsOfPrefixes
 pub mod Tables
 pub mod AllLayers
 pub mod Beside
+pub mod Tries

@@ -112,6 +112,39 @@ impl<A: Allocator + Copy> Layers<A> {
         Ok(record(task, looks, contacts, best.delivery))
     }
 
+    /// The least route behind the prefix, where no way delivers before `first` and layers made backward from the goal show
+    /// one that does then, with no more hops. None as `from_goal` does.
+    pub fn answer_back(
+        &mut self,
+        alloc: A,
+        task: &Task<'_, A>,
+        looks: &mut Looks,
+        prefix: &[u32],
+        arrival: &[u64],
+        first: Best,
+        most: u64,
+    ) -> Result<Option<Route<A>>, NoMemory>
+        requires task { IsTask task.now }
+        requires behind { IsBehind task.now prefix.now }
+        requires looked { looks.old.count ≤ most }
+        requires few { most + first.hops * length task.now.plan.contacts + length prefix.now + first.hops ≤ 2 ^ 62 }
+        requires many { length prefix.now + first.hops < 2 ^ 32 }
+        requires early { first.delivery < never }
+        requires arrivals { AreArrivals task.now arrival.now first.delivery }
+        requires least { (ns : List ℕ) (e : ℕ) → Leads (Takes task.now) task.now.start task.now.at ns task.now.goal e → first.delivery ≤ e }
+        ensures some { IfOk result (λ o. IfSome o (λ route. (s : List ℕ) × (route.contacts ≡ prefix.now ++ s) × IsLeastWay task.now first.hops (first.delivery + 1) s route.delivery × IsTold task.now.plan route)) }
+        ensures refused { OnErr result (looks.new.count ≤ most + first.hops * length task.now.plan.contacts) }
+        ensures looks { IfOk result (λ o. looks.new.count ≤ most + (hops_told o - length prefix.now) * length task.now.plan.contacts + hops_told o) }
+        ensures counted { IfOk result (λ o. hops_told o ≤ looks.new.count) }
+    {
+        let backward = self.from_goal(task, looks, arrival, first, most)?;
+        let Some(best) = backward else {
+            return Ok(None);
+        };
+        let route = self.finish(alloc, task, looks, best, prefix)?;
+        Ok(Some(route))
+    }
+
     /// The least route behind the prefix within the limits that a first way leaves: by layers made backward from the goal
     /// where its hops are allowed, and else, or where that takes too many looks, by layers made forward.
     pub fn answer_by(
@@ -146,12 +179,11 @@ impl<A: Allocator + Copy> Layers<A> {
             return Ok(forward);
         }
         let most = task.two_passes();
-        let backward = self.from_goal(task, looks, arrival, first, most)?;
-        let Some(best) = backward else {
-            let forward = self.answer(alloc, task, looks, prefix, limits)?;
-            return Ok(forward);
-        };
-        let route = self.finish(alloc, task, looks, best, prefix)?;
-        Ok(Some(route))
+        let backward = self.answer_back(alloc, task, looks, prefix, arrival, first, most)?;
+        if let Some(route) = backward {
+            return Ok(Some(route));
+        }
+        let forward = self.answer(alloc, task, looks, prefix, limits)?;
+        Ok(forward)
     }
 }

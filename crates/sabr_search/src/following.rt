@@ -1,6 +1,6 @@
-//! The least route of a part, read off a table that is kept for its delivery.
+//! The least route of a part, by a table that is kept for its delivery.
 
-ghost use Rattle.std.specs.Prelude.{◌≡◌, ◌⊎◌, ◌++◌, ℕ, List, ◌+◌, ◌*◌, ◌^◌, ◌≤◌, ◌<◌, Some, IfOk, IfSome, OnOk, OnErr, IsTrue, length, slice_get, slice_index};
+ghost use Rattle.std.specs.Prelude.{◌≡◌, ◌⊎◌, ◌++◌, ℕ, List, ◌+◌, ◌-◌, ◌*◌, ◌^◌, ◌≤◌, ◌<◌, Some, IfOk, IfSome, OnOk, OnErr, IsTrue, length, slice_get, slice_index};
 ghost use Rattle.sabr_search.specs.Ways.{Leads};
 ghost use Rattle.sabr_search.specs.Task.{IsTask, IsBehind, Takes, never};
 ghost use Rattle.sabr_search.specs.Told.{hops_told, IsTold};
@@ -10,7 +10,7 @@ ghost use Rattle.sabr_search.specs.Following.{tabled_of, ComesTo, AreFirstSteps,
 
 use crate::answer::record;
 use crate::kept::Kept;
-use crate::layers::NEVER;
+use crate::layers::{Layers, NEVER};
 use crate::looks::Looks;
 use crate::over_link::link_passes;
 use crate::pick::{Standing, Step};
@@ -193,7 +193,7 @@ impl<'a, A: Allocator + Copy> Task<'a, A> {
         Ok(Some(contacts))
     }
 
-    /// The least route behind the prefix, where a table shows that it delivers by its deadline and none does before.
+    /// The least route behind the prefix, where a table leads to one by its deadline, before which none delivers.
     fn follow_rung(
         &self,
         alloc: A,
@@ -208,19 +208,18 @@ impl<'a, A: Allocator + Copy> Task<'a, A> {
         requires behind { IsBehind self.now prefix.now }
         requires few { looks.old.count ≤ most }
         requires most { most ≤ 2 ^ 60 }
+        requires short { length prefix.now < max_hops }
         requires rung { IsRung (tabled_of self.now) self.now.request rung.now }
         requires inside { (k : ℕ) (s : Standing) → slice_get first.now k ≡ Some s → s.node < length self.now.table }
         requires first { AreFirstSteps self.now first.now }
+        requires least { (ns : List ℕ) (e : ℕ) → Leads (Takes self.now) self.now.start self.now.at ns self.now.goal e → rung.now.deadline ≤ e }
         ensures refused { OnErr result (looks.new.count ≤ most) }
         ensures looks { IfOk result (λ o. looks.new.count ≤ most + hops_told o) }
         ensures counted { IfOk result (λ o. hops_told o ≤ looks.new.count) }
         ensures some { IfOk result (λ o. IfSome o (λ route. (s : List ℕ) × (route.contacts ≡ prefix.now ++ s) × (length prefix.now + length s ≤ max_hops) × IsLeastWay self.now max_hops (route.delivery + 1) s route.delivery × IsTold self.now.plan route)) }
     {
-        if !rung.comes_no_sooner(first) {
-            return Ok(None);
-        }
         let rest = rung.least_hops(first);
-        if prefix.len() >= max_hops as usize || rest >= max_hops as usize - prefix.len() {
+        if rest >= max_hops as usize - prefix.len() {
             return Ok(None);
         }
         let walked = self.walk(alloc, looks, most, rung, rest + 1, prefix)?;
@@ -258,9 +257,48 @@ impl<A: Allocator + Copy> Kept<A> {
         found
     }
 
-    /// The least route behind the prefix, where a table tells it within `most` looks.
+    /// The least route behind the prefix, where a table shows that none delivers before its deadline: read off it, or else
+    /// by a short try backward from the goal.
+    fn answer_at(
+        &mut self,
+        layers: &mut Layers<A>,
+        task: &Task<'_, A>,
+        looks: &mut Looks,
+        most: u64,
+        place: usize,
+        prefix: &[u32],
+        max_hops: u32,
+    ) -> Result<Option<Route<A>>, NoMemory>
+        requires task { IsTask task.now }
+        requires behind { IsBehind task.now prefix.now }
+        requires few { looks.old.count ≤ most }
+        requires most { most ≤ 2 ^ 60 }
+        requires kept { IsKept (tabled_of task.now) task.now.request self.old }
+        requires place { place < length self.old.rungs.items }
+        requires inside { (k : ℕ) (s : Standing) → slice_get self.old.first.items k ≡ Some s → s.node < length task.now.table }
+        requires first { AreFirstSteps task.now self.old.first.items }
+        ensures kept { self.new.rungs ≡ self.old.rungs }
+        ensures refused { OnErr result (looks.new.count ≤ most + length task.now.table * length task.now.plan.contacts) }
+        ensures looks { IfOk result (λ o. looks.new.count ≤ most + (hops_told o - length prefix.now) * length task.now.plan.contacts + hops_told o) }
+        ensures counted { IfOk result (λ o. hops_told o ≤ looks.new.count) }
+        ensures some { IfOk result (λ o. IfSome o (λ route. (s : List ℕ) × (route.contacts ≡ prefix.now ++ s) × (length prefix.now + length s ≤ max_hops) × IsLeastWay task.now max_hops (route.delivery + 1) s route.delivery × IsTold task.now.plan route)) }
+    {
+        let rung = &self.rungs[place];
+        let deadline = rung.deadline;
+        if prefix.len() >= max_hops as usize || !rung.comes_no_sooner(&self.first) {
+            return Ok(None);
+        }
+        let read = task.follow_rung(self.alloc, looks, most, rung, &self.first, prefix, max_hops)?;
+        if let Some(route) = read {
+            return Ok(Some(route));
+        }
+        self.try_back(layers, task, looks, most, deadline, prefix, max_hops)
+    }
+
+    /// The least route behind the prefix, where a table helps to tell it within `most` looks.
     pub fn follow(
         &mut self,
+        layers: &mut Layers<A>,
         task: &Task<'_, A>,
         looks: &mut Looks,
         most: u64,
@@ -273,8 +311,8 @@ impl<A: Allocator + Copy> Kept<A> {
         requires most { most ≤ 2 ^ 60 }
         requires kept { IsKept (tabled_of task.now) task.now.request self.old }
         ensures kept { self.new.rungs ≡ self.old.rungs }
-        ensures refused { OnErr result (looks.new.count ≤ most) }
-        ensures looks { IfOk result (λ o. looks.new.count ≤ most + hops_told o) }
+        ensures refused { OnErr result (looks.new.count ≤ most + length task.now.table * length task.now.plan.contacts) }
+        ensures looks { IfOk result (λ o. looks.new.count ≤ most + (hops_told o - length prefix.now) * length task.now.plan.contacts + hops_told o) }
         ensures counted { IfOk result (λ o. hops_told o ≤ looks.new.count) }
         ensures some { IfOk result (λ o. IfSome o (λ route. (s : List ℕ) × (route.contacts ≡ prefix.now ++ s) × (length prefix.now + length s ≤ max_hops) × IsLeastWay task.now max_hops (route.delivery + 1) s route.delivery × IsTold task.now.plan route)) }
     {
@@ -288,15 +326,7 @@ impl<A: Allocator + Copy> Kept<A> {
         let Some(place) = self.met(task, &self.first) else {
             return Ok(None);
         };
-        let found = task.follow_rung(
-            self.alloc,
-            looks,
-            most,
-            &self.rungs[place],
-            &self.first,
-            prefix,
-            max_hops,
-        )?;
+        let found = self.answer_at(layers, task, looks, most, place, prefix, max_hops)?;
         self.count_answer(found.is_some());
         Ok(found)
     }

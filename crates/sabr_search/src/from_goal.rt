@@ -276,7 +276,7 @@ impl<A: Allocator + Copy> Layers<A> {
     }
 
     /// Layers backward from the goal, until the start is in time for one: answers how many hops that one is from the
-    /// goal. None where the plan isn't ready, or more than `most` looks might be needed.
+    /// goal. None where the plan isn't ready, where a layer is empty, or where more than `most` looks might be needed.
     fn make_back(
         &mut self,
         task: &Task<'_, A>,
@@ -297,6 +297,9 @@ impl<A: Allocator + Copy> Layers<A> {
     {
         self.first_back(task, first.delivery)?;
         for left in 0..first.hops {
+            if self.ends[left] == self.ends[left + 1] {
+                return Ok(None);
+            }
             let told = self.next_back(task, looks, arrival, first.delivery, left, most)?;
             let Some(met) = told else {
                 return Ok(None);
@@ -357,7 +360,8 @@ impl<A: Allocator + Copy> Layers<A> {
     }
 
     /// Layers with deadlines for the first delivery, made backward from the goal: answers the delivery and the hops. None
-    /// where the plan isn't ready, or more than `most` looks might be needed.
+    /// where no way of so many hops delivers then, where the plan isn't ready, or where more than `most` looks might be
+    /// needed.
     pub fn from_goal(
         &mut self,
         task: &Task<'_, A>,

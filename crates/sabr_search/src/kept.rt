@@ -42,6 +42,7 @@ pub struct Kept<A: Allocator + Copy = Global> {
     pub rungs: Vec<Rung<A>, A>,
     pub seen: Vec<Seen, A>,
     pub first: Vec<Standing, A>,
+    pub since: Vec<u64, A>,
     pub tried: u32,
     pub answered: u32,
 }
@@ -56,6 +57,7 @@ impl<A: Allocator + Copy> Kept<A> {
             rungs: Vec::new(alloc),
             seen: Vec::new(alloc),
             first: Vec::new(alloc),
+            since: Vec::new(alloc),
             tried: 0,
             answered: 0,
         }

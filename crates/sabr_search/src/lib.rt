@@ -25,6 +25,7 @@ mod rung;
 mod settled;
 mod settling;
 mod task;
+mod trying;
 
 pub use best::BestOf;
 pub use fitting::fits;

@@ -51,7 +51,7 @@ fn least_route<A: Allocator + Copy>(
     layers.answer_by(alloc, task, looks, prefix, limits, &settling.arrival, first)
 }
 
-/// The least route behind the prefix: read off a table that is kept, or else by a search.
+/// The least route behind the prefix: by a table that is kept, or else by a search.
 fn least_beside<A: Allocator + Copy>(
     alloc: A,
     settling: &mut Settling<A>,
@@ -77,7 +77,7 @@ fn least_beside<A: Allocator + Copy>(
     ensures longer { IfOk result (λ answer. IfSome answer (λ route. length prefix.now < length route.contacts)) }
 {
     let most = task.one_pass();
-    let followed = kept.follow(task, looks, most, prefix, max_hops)?;
+    let followed = kept.follow(layers, task, looks, most, prefix, max_hops)?;
     if let Some(route) = followed {
         return Ok(Some(route));
     }

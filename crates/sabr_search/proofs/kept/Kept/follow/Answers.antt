@@ -1,4 +1,4 @@
 use Rattle.sabr_search.proofs.kept.Kept.follow.Goals as goal
 
-pub follow_rung-requires-clause-first : goal.follow_rung-requires-clause-first
-follow_rung-requires-clause-first g c = λ n w b s. rw c.deref-2.ensures.value (c.in_ok-whole.ensures.whole c.if-not-whole.false n w b s)
+pub answer_at-requires-clause-first : goal.answer_at-requires-clause-first
+answer_at-requires-clause-first g c = λ n w b s. c.in_ok-whole.ensures.whole c.if-not-whole.false n w b s
