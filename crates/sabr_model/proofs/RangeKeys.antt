@@ -226,7 +226,7 @@ module _ (rs : List Range) (h : IsRangeList rs) where
         ]))
         ∙ elim (in_force one other t (get_or rs j e)) as (λ b. option_map (λ (r : Range). r.light) (cond b (Some (get_or rs j e)) None) ≡ cond b (Some (get_or rs j e).light) None) [ true ↦ refl | false ↦ refl ]
 
-  module _ (r : Range) (window : r.start < r.end) (fits_other : r.other < 2 ^ 64) (fits_end : r.end < 2 ^ 64) where
+  module _ (r : Range) (fits_other : r.other < 2 ^ 64) (fits_end : r.end < 2 ^ 64) where
     none_overlaps : IsCountUntil rs (place_number r.one r.other (r.end - 1)) 0 → list_any (overlap r) rs ≡ false
     none_overlaps c =
         any_from_none (overlap r) rs (λ k d lt yes.
@@ -258,7 +258,7 @@ module _ (rs : List Range) (h : IsRangeList rs) where
                   let s = squeezed r.one r.other x.start y.one y.other y.start (r.end - 1) fits_other fx.2 fy.1 fy.2 (omega (arith, fits_end)) (omega (arith, own, low)) high in
                   let ends = earlier_ends k j d less (omega (arith, most)) (sym parts.0 ∙ s.0) (sym parts.1 ∙ s.1) s.2 in
                   let last = h.windows j d (omega (arith, most)) in
-                  both_ways (overlap r y) (ap (overlap r) same ∙ not_here) (overlap_from r y s.0 s.1 (omega (arith, parts.2, ends, last)) (omega (arith, s.3, window)))
+                  both_ways (overlap r y) (ap (overlap r) same ∙ not_here) (overlap_from r y s.0 s.1 (omega (arith, parts.2, ends, last)) (omega (arith, s.3, parts.3)))
               | inr (inr more) ↦
                   let behind = c.behind k d (omega (arith, more)) lt in
                   omega (arith, parts.0, parts.1, parts.3, behind)
@@ -275,17 +275,17 @@ pub light_told : (rs : List Range) (one other t count : ℕ) (e : Range) → IsR
 light_told rs one other t count e h a b c ne = last_in_force rs h one other t a b (count - 1) e (count_above rs (place_number one other t) count c ne)
 
 -- whether a range overlaps, told by the last that begins before its end
-pub overlap_told : (rs : List Range) (r : Range) (count : ℕ) (e : Range) → IsRangeList rs → r.start < r.end → r.other < 2 ^ 64 → r.end < 2 ^ 64 → IsCountUntil rs (place_number r.one r.other (r.end - 1)) count → (count ≡ 0 → ⊥)
+pub overlap_told : (rs : List Range) (r : Range) (count : ℕ) (e : Range) → IsRangeList rs → r.other < 2 ^ 64 → r.end < 2 ^ 64 → IsCountUntil rs (place_number r.one r.other (r.end - 1)) count → (count ≡ 0 → ⊥)
     → list_any (overlap r) rs ≡ overlap r (get_or rs (count - 1) e)
-overlap_told rs r count e h w a b c ne = last_overlaps rs h r w a b (count - 1) e (count_above rs (place_number r.one r.other (r.end - 1)) count c ne)
+overlap_told rs r count e h a b c ne = last_overlaps rs h r a b (count - 1) e (count_above rs (place_number r.one r.other (r.end - 1)) count c ne)
 
 -- no range gives a light time where none comes by then
 pub light_none : (rs : List Range) (one other t count : ℕ) → IsRangeList rs → other < 2 ^ 64 → t < 2 ^ 64 → IsCountUntil rs (place_number one other t) count → count ≡ 0 → light_of_pair rs one other t ≡ None
 light_none rs one other t count h a b c e = none_in_force rs h one other t a b (subst (IsCountUntil rs (place_number one other t)) e c)
 
 -- no range overlaps where none begins before its end
-pub overlap_none : (rs : List Range) (r : Range) (count : ℕ) → IsRangeList rs → r.start < r.end → r.other < 2 ^ 64 → r.end < 2 ^ 64 → IsCountUntil rs (place_number r.one r.other (r.end - 1)) count → count ≡ 0 → list_any (overlap r) rs ≡ false
-overlap_none rs r count h w a b c e = none_overlaps rs h r w a b (subst (IsCountUntil rs (place_number r.one r.other (r.end - 1))) e c)
+pub overlap_none : (rs : List Range) (r : Range) (count : ℕ) → IsRangeList rs → r.other < 2 ^ 64 → r.end < 2 ^ 64 → IsCountUntil rs (place_number r.one r.other (r.end - 1)) count → count ≡ 0 → list_any (overlap r) rs ≡ false
+overlap_none rs r count h a b c e = none_overlaps rs h r a b (subst (IsCountUntil rs (place_number r.one r.other (r.end - 1))) e c)
 
 -- ---- light times
 

@@ -71,13 +71,13 @@ value_there [] i n key value = absurd cc
 value_there (e ∷ es) zero n key value = absurd cc
 value_there (e ∷ es) (suc i) n key value = value_there es i n key value
 
+-- no two nodes are the same behind a write
+pub unique_kept : {V S : Type 0} (table : IndexMap ℕ V S) (i : ℕ) (w : V) → IsUnique nat_eq table → IsUnique nat_eq (with_value_at table i w)
+unique_kept table i w unique = subst (IsDistinct nat_eq) (sym (keys-with_value_at table i w)) unique
+
 module _ {A S : Type 0} (table : IndexMap ℕ (Vec ℕ A) S) (i node : ℕ) (v w : Vec ℕ A) (unique : IsUnique nat_eq table) (key : slice_get (keys table) i ≡ Some node) (value : Some v ≡ slice_get (values table) i) where
   written : (q : ℕ) → get nat_eq (with_value_at table i w) q ≡ cond (eqb node q) (Some w) (get nat_eq table q)
   written = (updates-with_value_at table i w nat_eq_equiv unique node v (entry_at table.entries i node v key value)).0
-
-  -- no two nodes are the same behind a write
-  pub unique_kept : IsUnique nat_eq (with_value_at table i w)
-  unique_kept = subst (IsDistinct nat_eq) (sym (keys-with_value_at table i w)) unique
 
   -- a number behind the others of the node
   pub list_pushed : (number : ℕ) → w.items ≡ v.items ++ number ∷ [] → (q : ℕ) → list_at (with_value_at table i w) q ≡ with_number (list_at table q) (eqb q node) number

@@ -35,7 +35,7 @@ fn add_number<A: Allocator + Copy>(
 {
     match table.get_index_of(&node) {
         Some(index) => {
-            push_number(table, node, index, number)?;
+            push_number(table, index, number)?;
             Ok(index)
         }
         None => {
@@ -51,19 +51,16 @@ fn add_number<A: Allocator + Copy>(
 /// Puts the number behind those that the node at an index sends.
 fn push_number<A: Allocator + Copy>(
     table: &mut NodeTable<A>,
-    node: u64,
     index: usize,
     number: u32,
 ) -> Result<(), AllocError>
-    requires unique { IsUnique nat_eq table.old }
-    requires there { slice_get (keys table.old) index ≡ Some node }
-    ensures ok { OnOk result ((q : ℕ) → list_at table.new q ≡ with_number (list_at table.old q) (q == node) number) }
-    ensures err { OnErr result ((q : ℕ) → list_at table.new q ≡ list_at table.old q) }
+    requires { IsUnique nat_eq table.old }
+    ensures ok { OnOk result ((node q : ℕ) → slice_get (keys table.old) index ≡ Some node → list_at table.new q ≡ with_number (list_at table.old q) (q == node) number) }
+    ensures err { OnErr result ((node q : ℕ) → slice_get (keys table.old) index ≡ Some node → list_at table.new q ≡ list_at table.old q) }
     ensures nodes { keys table.new ≡ keys table.old }
     ensures unique { IsUnique nat_eq table.new }
     ensures room { spare table.old ≤ spare table.new }
 {
-    let _ = node;
     if let Some(numbers) = table.get_index_mut(index) {
         numbers.push(number)?;
     }

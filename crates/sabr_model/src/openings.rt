@@ -1,7 +1,8 @@
 //! The openings of contacts, in a set in which a duplicate is found in one step.
 
-ghost use Rattle.std.specs.Prelude.{◌≡◌, [], ◌∷◌, ◌++◌, false, not, filter};
+ghost use Rattle.std.specs.Prelude.{◌≡◌, List, [], ◌∷◌, ◌++◌, false, not, filter};
 ghost use Rattle.std.specs.List.{list_any};
+ghost use Rattle.sabr_model.specs.declared.contact.Contact.{Contact};
 ghost use Rattle.sabr_model.specs.Plan.{opens};
 ghost use Rattle.sabr_model.specs.Gathering.{KnowsOpenings};
 
@@ -68,12 +69,9 @@ impl<A: Allocator + Copy> Openings<A> {
     }
 
     /// Puts down that of a contact that goes behind the others.
-    pub fn note(&mut self, contacts: &[Contact], contact: &Contact)
-        requires known { KnowsOpenings self.old.kept self.old.set.keys contacts.now }
-        requires fresh { list_any (opens contact.now.from contact.now.to contact.now.start) contacts.now ≡ false }
-        ensures { KnowsOpenings self.new.kept self.new.set.keys (contacts.now ++ contact.now ∷ []) }
+    pub fn note(&mut self, contact: &Contact)
+        ensures { (contacts : List Contact) → KnowsOpenings self.old.kept self.old.set.keys contacts → list_any (opens contact.now.from contact.now.to contact.now.start) contacts ≡ false → KnowsOpenings self.new.kept self.new.set.keys (contacts ++ contact.now ∷ []) }
     {
-        let _ = contacts;
         let opening = Opening {
             from: contact.from,
             to: contact.to,
@@ -86,11 +84,9 @@ impl<A: Allocator + Copy> Openings<A> {
     }
 
     /// Takes out that of the contact with this sender, receiver and start. It takes no memory.
-    pub fn forget(&mut self, contacts: &[Contact], from: u64, to: u64, start: u64)
-        requires { KnowsOpenings self.old.kept self.old.set.keys contacts.now }
-        ensures { KnowsOpenings self.new.kept self.new.set.keys (filter (λ c. not (opens from to start c)) contacts.now) }
+    pub fn forget(&mut self, from: u64, to: u64, start: u64)
+        ensures { (contacts : List Contact) → KnowsOpenings self.old.kept self.old.set.keys contacts → KnowsOpenings self.new.kept self.new.set.keys (filter (λ c. not (opens from to start c)) contacts) }
     {
-        let _ = contacts;
         self.set
             .retain(|o| !(from == o.from && to == o.to && start == o.start));
     }

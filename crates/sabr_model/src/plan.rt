@@ -16,6 +16,7 @@ mod nodes;
 pub mod places;
 mod ranges;
 mod ready;
+mod refusals;
 mod stretches;
 mod views;
 

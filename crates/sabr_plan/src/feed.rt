@@ -104,7 +104,7 @@ impl<A: Allocator + Copy> PlanFeed<A> {
         }
     }
 
-    /// The plan that the lines leave, ready for searches; where memory is short for that, they take longer.
+    /// The plan that the lines leave.
     fn into_plan(self) -> Result<Plan<A>, NoMemory>
         ensures { IfOk result (λ p. p.plan ≡ self.reading.plan) }
     {
@@ -114,9 +114,7 @@ impl<A: Allocator + Copy> PlanFeed<A> {
             held: _,
             held_count: _,
         } = self;
-        let mut plan = reading.into_plan()?;
-        let _ = plan.make_ready();
-        Ok(plan)
+        reading.into_plan()
     }
 
     /// The reader has failed.

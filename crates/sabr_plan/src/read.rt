@@ -15,7 +15,7 @@ use std::alloc::Allocator;
 /// that line the least kind. `Read` comes only where the reader failed, and `NoMemory` only where a growth was
 /// refused; then no plan is given. How many bytes behind a bad line the reader has given up is open.
 ///
-/// One pass over the text; then the contacts are put in order of their start once, and the plan is made ready for searches.
+/// One pass over the text. The plan isn't made ready for searches ([`Plan::make_ready`]).
 pub fn read_plan<R: Read, A: Allocator + Copy>(
     alloc: A,
     reader: &mut R,

@@ -61,7 +61,8 @@ fn run<R: Env + Files + Clock + AllocGlobal>(rt: &R) -> Option<Figures> {
     let request = Request::new(from.parse().ok()?, to.parse().ok()?, at, 0).ok()?;
     let count = count.parse::<u32>().ok()?;
     let file = fs::open(rt, file.as_str()).ok()?;
-    let plan = read_plan(rt.alloc(), &mut Device::new(file)).ok()?;
+    let mut plan = read_plan(rt.alloc(), &mut Device::new(file)).ok()?;
+    plan.make_ready().ok()?;
     match finder.as_str() {
         "layered" => measured(rt, &plan, request, count, Layered::new(rt.alloc())),
         "settled" => measured(rt, &plan, request, count, Settled::new(rt.alloc())),

@@ -90,10 +90,12 @@ fn verified<R: Files + Clock + AllocGlobal>(rt: &R, plan: &Plan, path: &str) -> 
     })
 }
 
-// The plan of this file.
+// The plan of this file, ready for searches.
 fn plan_of<R: Files + AllocGlobal>(rt: &R, path: &str) -> Option<Plan> {
     let file = fs::open(rt, path).ok()?;
-    read_plan(rt.alloc(), &mut Device::new(file)).ok()
+    let mut plan = read_plan(rt.alloc(), &mut Device::new(file)).ok()?;
+    plan.make_ready().ok()?;
+    Some(plan)
 }
 
 // Reads the words, and does what they say.

@@ -13,9 +13,10 @@ ghost use Rattle.commands.specs.runs.SessionRuns.{ReadsOldSession, WritesNextPag
 use crate::failure::Failure;
 use crate::runs::ending::tell_end;
 use crate::runs::pages::write_page;
+use crate::runs::searched_plan::read_searched_plan;
 use crate::status::Status;
 use sabr_model::{Plan, Read, Write};
-use sabr_plan::{digest, read_plan};
+use sabr_plan::digest;
 use sabr_search::Settled;
 use sabr_session::read_session;
 use std::alloc::Allocator;
@@ -61,7 +62,7 @@ fn read_and_write_next<P: Read, I: Read, O: Write, S: Write, A: Allocator + Copy
         (O.contents out.old) (O.failures out.old) (O.contents out.new) (O.failures out.new) (O.flushed out.new)
         (S.contents session.old) (S.failures session.old) (S.contents session.new) (S.failures session.new) (S.flushed session.new)) }
 {
-    let plan = read_plan(alloc, plan)?;
+    let plan = read_searched_plan(alloc, plan)?;
     write_next(alloc, &plan, old, count, out, keep, session)
 }
 

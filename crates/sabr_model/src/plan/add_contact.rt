@@ -8,6 +8,7 @@ ghost use Rattle.sabr_model.specs.declared.fault.AddFault.TheVariants.{NoMemory}
 ghost use Rattle.sabr_model.specs.Adding.{next_contact, contact_refusal, with_contact};
 
 use super::Plan;
+use super::refusals::refusal;
 use crate::contact::Contact;
 use crate::fault::AddFault;
 use crate::node_table::note_contact;
@@ -18,17 +19,17 @@ impl<A: Allocator + Copy> Plan<A> {
     fn contact_refusal(&self, from: u64, to: u64, start: u64, end: u64) -> Option<AddFault>
         ensures { result ≡ contact_refusal self.now.plan from to start end }
     {
-        if start >= end {
-            Some(AddFault::EmptyWindow)
-        } else if from == to {
-            Some(AddFault::SelfPair)
-        } else if self.has_opening(from, to, start) {
-            Some(AddFault::DuplicateContact)
-        } else if self.greatest >= 20000 {
-            Some(AddFault::TooMany)
-        } else {
-            None
-        }
+        let clashes = self.has_opening(from, to, start);
+        let given = self.greatest as usize;
+        refusal(
+            from,
+            to,
+            start,
+            end,
+            clashes,
+            AddFault::DuplicateContact,
+            given,
+        )
     }
 
     /// Whether a contact with this sender, receiver and start stands.
@@ -69,7 +70,7 @@ impl<A: Allocator + Copy> Plan<A> {
         self.contacts.reserve(1)?;
         self.openings.reserve()?;
         note_contact(self.alloc, &mut self.table, &contact)?;
-        self.openings.note(&self.contacts, &contact);
+        self.openings.note(&contact);
         self.contacts.push_reserved(contact);
         self.greatest = number;
         Ok(number)

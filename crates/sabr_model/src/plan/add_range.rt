@@ -8,6 +8,7 @@ ghost use Rattle.sabr_model.specs.Adding.{new_range, range_refusal, with_range};
 
 use super::Plan;
 use super::ranges::{overlaps_some, ranges_until};
+use super::refusals::refusal;
 use crate::contact::Range;
 use crate::fault::AddFault;
 use std::alloc::{AllocError, Allocator};
@@ -17,17 +18,23 @@ impl<A: Allocator + Copy> Plan<A> {
     fn range_refusal(&self, range: &Range) -> Option<AddFault>
         ensures { result ≡ range_refusal self.now.plan range.now }
     {
-        if range.start >= range.end {
-            Some(AddFault::EmptyWindow)
-        } else if range.one == range.other {
-            Some(AddFault::SelfPair)
-        } else if overlaps_some(&self.ranges, range) {
-            Some(AddFault::RangeOverlap)
-        } else if self.ranges.len() >= 20000 {
-            Some(AddFault::TooMany)
-        } else {
-            None
-        }
+        let Range {
+            one,
+            other,
+            start,
+            end,
+            ..
+        } = *range;
+        let clashes = overlaps_some(&self.ranges, range);
+        refusal(
+            one,
+            other,
+            start,
+            end,
+            clashes,
+            AddFault::RangeOverlap,
+            self.ranges.len(),
+        )
     }
 
     /// Adds a range that is not refused.

@@ -9,6 +9,7 @@ ghost use Rattle.sabr_model.specs.declared.fault.AddFault.TheVariants.{NothingTo
 ghost use Rattle.sabr_model.specs.Adding.{number_of_opening, without_contact, begins, without_range};
 
 use super::Plan;
+use super::ranges::has_range;
 use crate::contact::Contact;
 use crate::fault::AddFault;
 use crate::node_table::forget_contact;
@@ -30,7 +31,7 @@ impl<A: Allocator + Copy> Plan<A> {
         self.ready = false;
         self.ends.clear();
         forget_contact(&mut self.table, &self.contacts, &contact);
-        self.openings.forget(&self.contacts, from, to, start);
+        self.openings.forget(from, to, start);
         self.contacts.retain(|c| !(c.number == contact.number));
         Ok(contact.number)
     }
@@ -44,21 +45,12 @@ impl<A: Allocator + Copy> Plan<A> {
         ensures ok { OnOk result (self.new ≡ record { plan = without_range self.old.plan one other start; table = self.old.table }) }
         ensures err { OnErr result (self.new ≡ self.old) }
     {
-        if !self.has_range(one, other, start) {
+        if !has_range(&self.ranges, one, other, start) {
             return Err(AddFault::NothingToDelete);
         }
         self.ready = false;
         self.ranges.retain(|r| !(one == r.one && other == r.other && start == r.start));
         Ok(())
-    }
-
-    /// Whether a range of this ordered pair that begins at this start stands.
-    fn has_range(&self, one: u64, other: u64, start: u64) -> bool
-        ensures { result ≡ list_any (begins one other start) self.now.plan.ranges }
-    {
-        self.ranges
-            .iter()
-            .any(|r| one == r.one && other == r.other && start == r.start)
     }
 }
 

@@ -8,6 +8,7 @@ ghost use Rattle.sabr_model.specs.declared.fault.AddFault.TheVariants.{NoMemory,
 ghost use Rattle.sabr_model.specs.Adding.{next_contact, contact_refusal, with_contact, number_of_opening, without_contact};
 
 use super::delete::contact_of_opening;
+use super::refusals::refusal;
 use crate::contact::Contact;
 use crate::fault::AddFault;
 use crate::opening::Opening;
@@ -79,25 +80,18 @@ impl<A: Allocator + Copy> GatheredContacts<A> {
     fn fault(&self, from: u64, to: u64, start: u64, end: u64) -> AddFault
         ensures { result ≡ unwrap_or (contact_refusal self.now from to start end) NoMemory }
     {
-        self.refusal(from, to, start, end)
-            .unwrap_or(AddFault::NoMemory)
-    }
-
-    /// Why a contact would be refused, unless memory is short.
-    fn refusal(&self, from: u64, to: u64, start: u64, end: u64) -> Option<AddFault>
-        ensures { result ≡ contact_refusal self.now from to start end }
-    {
-        if start >= end {
-            Some(AddFault::EmptyWindow)
-        } else if from == to {
-            Some(AddFault::SelfPair)
-        } else if self.has_opening(from, to, start) {
-            Some(AddFault::DuplicateContact)
-        } else if self.greatest >= 20000 {
-            Some(AddFault::TooMany)
-        } else {
-            None
-        }
+        let clashes = self.has_opening(from, to, start);
+        let given = self.greatest as usize;
+        refusal(
+            from,
+            to,
+            start,
+            end,
+            clashes,
+            AddFault::DuplicateContact,
+            given,
+        )
+        .unwrap_or(AddFault::NoMemory)
     }
 
     /// Whether one of the contacts has this sender, receiver and start.

@@ -52,7 +52,6 @@ impl<A: Allocator + Copy> LateRanges<A> {
 
     /// Whether one of the ranges holds at some second of a range of the same ordered pair.
     pub fn overlaps(&self, range: &Range) -> bool
-        requires { range.now.start < range.now.end }
         ensures { result ≡ list_any (overlap range.now) self.now }
     {
         overlaps_some(&self.late, range) || overlaps_some(&self.placed, range)

@@ -4,6 +4,7 @@ ghost use Rattle.std.specs.Prelude.{◌≡◌, ◌<◌, ◌≤◌, ◌-◌, ◌�
 ghost use Rattle.std.specs.List.{list_any};
 ghost use Rattle.sabr_model.specs.declared.contact.Range.{Range};
 ghost use Rattle.sabr_model.specs.Plan.{overlap};
+ghost use Rattle.sabr_model.specs.Adding.{begins};
 ghost use Rattle.sabr_model.specs.Light.{is_within, light_of_pair};
 ghost use Rattle.sabr_model.specs.RangeOrder.{place_number, number_of_range, IsRangeList, IsCountUntil};
 
@@ -67,6 +68,15 @@ pub fn light_in_force(ranges: &[Range], one: u64, other: u64, t: u64) -> Option<
     light_of_range(&ranges[count - 1], one, other, t)
 }
 
+/// Whether a range of this ordered pair that begins at this start stands.
+pub fn has_range(ranges: &[Range], one: u64, other: u64, start: u64) -> bool
+    ensures { result ≡ list_any (begins one other start) ranges.now }
+{
+    ranges
+        .iter()
+        .any(|r| one == r.one && other == r.other && start == r.start)
+}
+
 /// Whether two ranges of one ordered pair hold at some second.
 fn overlap(range: &Range, other: &Range) -> bool
     ensures { result ≡ overlap range.now other.now }
@@ -79,11 +89,11 @@ fn overlap(range: &Range, other: &Range) -> bool
 
 /// Whether one of the ranges holds at some second of a range of the same ordered pair.
 pub fn overlaps_some(ranges: &[Range], range: &Range) -> bool
-    requires list { IsRangeList ranges.now }
-    requires window { range.now.start < range.now.end }
+    requires { IsRangeList ranges.now }
     ensures { result ≡ list_any (overlap range.now) ranges.now }
 {
-    let count = ranges_until(ranges, range.one, range.other, range.end - 1);
+    let last = range.end.saturating_sub(1);
+    let count = ranges_until(ranges, range.one, range.other, last);
     if count == 0 {
         return false;
     }

@@ -1,9 +1,9 @@
 //! Ways to read plan texts.
 
 use pieces::{End, PieceReader};
-use sabr_model::Plan;
+use sabr_model::{Device, Plan};
 use sabr_plan::{PlanFault, PlanKind, read_plan};
-use std::alloc::Global;
+use std::alloc::{Allocator, Global};
 use std::process::Abort;
 use std::test::Fail;
 
@@ -19,6 +19,13 @@ pub const PIECES: [usize; 3] = [1, 7, 4096];
 /// Reads the plan of a text in pieces of this size.
 pub fn read_in_pieces(alloc: Global, text: &[u8], piece: usize) -> Result<Plan, PlanFault> {
     read_plan(alloc, &mut PieceReader::new(text, piece.max(1), End::Ended))
+}
+
+/// Reads the plan of a text and makes it ready for searches; where memory is short for that, they take longer.
+pub fn ready_plan<A: Allocator + Copy>(alloc: A, text: &str) -> Result<Plan<A>, PlanFault> {
+    let mut plan = read_plan(alloc, &mut Device::new(text.as_bytes()))?;
+    let _ = plan.make_ready();
+    Ok(plan)
 }
 
 /// Puts the bytes behind the text.

@@ -1,11 +1,12 @@
 //! Session texts that are read in pieces, end too early or meet a reader that fails, and each growth refused in turn.
 
+use crate::tests::plan_reading::ready_plan;
 use crate::tests::session_refusals::GREATEST_COUNT;
 use pieces::{End, LimitedWriter, PieceReader};
 use ration::Ration;
 use sabr_frontier::Session;
-use sabr_model::{Device, NoMemory, Plan};
-use sabr_plan::{digest, read_plan};
+use sabr_model::{NoMemory, Plan};
+use sabr_plan::digest;
 use sabr_search::Settled;
 use sabr_session::{SessionFault, SessionFeed, read_session, write_session};
 use std::alloc::{Allocator, Global};
@@ -37,7 +38,7 @@ fn read<'p, A: Allocator + Copy>(
 
 /// Reads the text over plan A, and tells its fault, where it has one.
 pub fn fault_of(alloc: Global, text: &[u8], piece: usize, end: End) -> Option<SessionFault> {
-    let plan = read_plan(alloc, &mut Device::new(TEXT_OF_A.as_bytes())).ok()?;
+    let plan = ready_plan(alloc, TEXT_OF_A).ok()?;
     read(alloc, &plan, text, piece, end).err()
 }
 
@@ -63,7 +64,7 @@ fn goes_on(alloc: Global, plan: &Plan, text: &[u8], piece: usize, again: &[u8]) 
 
 #[test]
 fn a_text_is_read_and_goes_on(rt: HostRuntime) -> Result<(), Fail> {
-    let plan = read_plan(rt.alloc(), &mut Device::new(TEXT_OF_A.as_bytes()))?;
+    let plan = ready_plan(rt.alloc(), TEXT_OF_A)?;
     let again = joined(rt.alloc(), HEAD, BEHIND_TWO)?;
     for head in [HEAD, OLD_HEAD] {
         let text = joined(rt.alloc(), head, BEHIND_TWO)?;
@@ -107,7 +108,7 @@ fn a_text_that_ends_too_early_is_refused(rt: HostRuntime) -> Result<(), Fail> {
 
 // What a feed over plan A answers to a line of digits behind the head, a byte before it is too long and then.
 fn long_line(alloc: Global, head: &str) -> Option<(usize, SessionFault)> {
-    let plan = read_plan(alloc, &mut Device::new(TEXT_OF_A.as_bytes())).ok()?;
+    let plan = ready_plan(alloc, TEXT_OF_A).ok()?;
     let mut feed = SessionFeed::new(alloc, &plan, &digest(&plan), Settled::new(alloc));
     feed.feed(head.as_bytes()).ok()?;
     feed.feed(b"emitted 2\n").ok()?;
@@ -132,7 +133,7 @@ fn a_line_that_is_too_long_is_refused_before_its_end(rt: HostRuntime) -> Result<
 // How many growths were refused, none where another answer came.
 fn refused_growths(alloc: Global, plan: &str, text: &[u8]) -> Option<u64> {
     let ration = Ration::new(alloc, 0);
-    let plan = read_plan(&ration, &mut Device::new(plan.as_bytes())).ok()?;
+    let plan = ready_plan(&ration, plan).ok()?;
     let mut refused = 0u64;
     for growth in 0..200u64 {
         ration.refuse(growth);
@@ -164,7 +165,7 @@ fn each_growth_is_refused_in_turn(rt: HostRuntime) -> Result<(), Fail> {
 // How many growths reading the text over plan A makes, whatever comes of it.
 fn growths(alloc: Global, text: &[u8]) -> Option<u64> {
     let ration = Ration::new(alloc, 0);
-    let plan = read_plan(&ration, &mut Device::new(TEXT_OF_A.as_bytes())).ok()?;
+    let plan = ready_plan(&ration, TEXT_OF_A).ok()?;
     ration.refuse(0);
     let _ = read(&ration, &plan, text, 4096, End::Ended);
     Some(ration.requests())

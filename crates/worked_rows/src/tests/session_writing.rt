@@ -1,9 +1,10 @@
 //! The texts of sessions over plans A and C. The digests were taken with another program.
 
+use crate::tests::plan_reading::ready_plan;
 use pieces::LimitedWriter;
 use sabr_frontier::Session;
-use sabr_model::{Device, Plan, Write};
-use sabr_plan::{digest, read_plan};
+use sabr_model::{Plan, Write};
+use sabr_plan::digest;
 use sabr_search::{BestOf, Layered, Settled};
 use sabr_session::write_session;
 use std::alloc::Global;
@@ -143,7 +144,7 @@ fn is_written<B: BestOf<Global>>(alloc: Global, plan: &Plan, row: &Row, finder: 
 fn texts_follow_the_pages(rt: HostRuntime) -> Result<(), Fail> {
     let alloc = rt.alloc();
     for (number, row) in ROWS.iter().enumerate() {
-        let plan = read_plan(alloc, &mut Device::new(row.plan.as_bytes()))?;
+        let plan = ready_plan(alloc, row.plan)?;
         let settled = is_written(alloc, &plan, row, Settled::new(alloc));
         let layered = is_written(alloc, &plan, row, Layered::new(alloc));
         assert!(rt; settled && layered, "row {number}");
@@ -163,7 +164,7 @@ fn stops_at(alloc: Global, session: &Session<Settled>, whole: &[u8], limit: usiz
 
 #[test]
 fn a_text_stops_where_its_writer_does(rt: HostRuntime) -> Result<(), Fail> {
-    let plan = read_plan(rt.alloc(), &mut Device::new(AFTER_2.plan.as_bytes()))?;
+    let plan = ready_plan(rt.alloc(), AFTER_2.plan)?;
     let finder = Settled::new(rt.alloc());
     let session = paged(rt.alloc(), &plan, &AFTER_2, finder).ok_or("session")?;
     let mut whole = LimitedWriter::new(rt.alloc(), 4096, 1);

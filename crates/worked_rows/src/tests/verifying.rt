@@ -1,10 +1,11 @@
 //! Texts that are verified, in both versions: those of places, and those that a reader takes for sessions.
 
+use crate::tests::plan_reading::ready_plan;
 use crate::tests::session_reading::{PIECES, joined};
 use pieces::{End, PieceReader};
 use ration::Ration;
-use sabr_model::{Device, Plan};
-use sabr_plan::{digest, read_plan};
+use sabr_model::Plan;
+use sabr_plan::digest;
 use sabr_search::{BestOf, Layered, Settled};
 use sabr_session::{SessionFault, verify};
 use std::alloc::{Allocator, Global};
@@ -76,7 +77,7 @@ fn is_answered(alloc: Global, plan: &Plan, text: &[u8], piece: usize, yes: bool)
 
 #[test]
 fn yes_to_texts_of_places_alone(rt: HostRuntime) -> Result<(), Fail> {
-    let plan = read_plan(rt.alloc(), &mut Device::new(TEXT_OF_A.as_bytes()))?;
+    let plan = ready_plan(rt.alloc(), TEXT_OF_A)?;
     for head in [HEAD, OLD_HEAD] {
         for (number, (lines, yes)) in ROWS.iter().enumerate() {
             let text = joined(rt.alloc(), head, lines)?;
@@ -91,7 +92,7 @@ fn yes_to_texts_of_places_alone(rt: HostRuntime) -> Result<(), Fail> {
 
 #[test]
 fn no_to_texts_that_end_too_early(rt: HostRuntime) -> Result<(), Fail> {
-    let plan = read_plan(rt.alloc(), &mut Device::new(TEXT_OF_A.as_bytes()))?;
+    let plan = ready_plan(rt.alloc(), TEXT_OF_A)?;
     let text = joined(rt.alloc(), HEAD, BEHIND_TWO)?;
     for limit in 0..text.len() {
         let cut = &text[..limit];
@@ -110,7 +111,7 @@ fn no_to_texts_that_end_too_early(rt: HostRuntime) -> Result<(), Fail> {
 // How many growths were refused, none where another answer came.
 fn refused_growths(alloc: Global, plan: &str, text: &[u8]) -> Option<u64> {
     let ration = Ration::new(alloc, 0);
-    let plan = read_plan(&ration, &mut Device::new(plan.as_bytes())).ok()?;
+    let plan = ready_plan(&ration, plan).ok()?;
     let mut refused = 0u64;
     for growth in 0..200u64 {
         ration.refuse(growth);

@@ -1,11 +1,17 @@
 use Rattle.std.proofs.Common.{ap, ◌∙◌}
 use Rattle.std.specs.Prelude.{slice_get}
 use Rattle.indexmap.specs.IndexMap.{keys}
+use Rattle.sabr_model.proofs.Answered.{on_err}
 use Rattle.sabr_model.proofs.TableSteps.{found_at, new_at, new_places}
 use Rattle.sabr_model.proofs.node_table.add_number.Goals as goal
 
-pub push_number-requires-clause-there : goal.push_number-requires-clause-there
-push_number-requires-clause-there g c = found_at (keys c.args.table.now) c.args.node c.in-Some.index c.in-Some.ensures.index
+pub returns-in_err-push_number-in-Some-clause-err : goal.returns-in_err-push_number-in-Some-clause-err
+returns-in_err-push_number-in-Some-clause-err g c =
+    on_err c.from_residual.result (λ q. c.in_err-push_number-in-Some.ensures.err c.args.node q (found_at (keys c.args.table.now) c.args.node c.in-Some.index c.in-Some.ensures.index))
+
+pub returns-in_ok-push_number-in-Some-clause-ok : goal.returns-in_ok-push_number-in-Some-clause-ok
+returns-in_ok-push_number-in-Some-clause-ok g c = λ q.
+    c.in_ok-push_number-in-Some.ensures.ok c.args.node q (found_at (keys c.args.table.now) c.args.node c.in-Some.index c.in-Some.ensures.index)
 
 pub returns-in_ok-push_number-in-Some-clause-index : goal.returns-in_ok-push_number-in-Some-clause-index
 returns-in_ok-push_number-in-Some-clause-index g c =

@@ -44,7 +44,6 @@ impl<A: Allocator + Copy> Plan<A> {
         if let Some(links) = self.links(index) {
             return Ok(Outgoing::Kept(links));
         }
-        let _standing = self.contacts();
         let made = links_of_node(self.alloc, self, index)?;
         Ok(Outgoing::Made(made))
     }

@@ -5,13 +5,12 @@ use Rattle.sabr_model.proofs.GatheredOpenings.{opening_known, openings_push}
 use Rattle.sabr_model.proofs.openings.Openings.note.Goals as goal
 
 pub returns : goal.returns
-returns g c = λ e.
+returns g c = λ cs is fresh e.
     let x = c.args.contact.now in
-    let cs = c.args.contacts.now in
     let known = c.args.self.now.set.keys in
     let opening : Opening = record { from = x.from; to = x.to; start = x.start } in
-    let new : list_any (λ (o : Opening). eqb x.from o.from && (eqb x.to o.to && eqb x.start o.start)) known ≡ false = opening_known x.from x.to x.start cs known (c.requires.known e) ∙ c.requires.fresh in
+    let new : list_any (λ (o : Opening). eqb x.from o.from && (eqb x.to o.to && eqb x.start o.start)) known ≡ false = opening_known x.from x.to x.start cs known (is e) ∙ fresh in
     c.in-Ok.ensures.keys
     ∙ ap (λ b. cond b known (known ++ opening ∷ [])) new
-    ∙ ap (λ os. os ++ opening ∷ []) (c.requires.known e)
+    ∙ ap (λ os. os ++ opening ∷ []) (is e)
     ∙ openings_push cs x

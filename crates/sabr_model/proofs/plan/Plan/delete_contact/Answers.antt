@@ -30,8 +30,8 @@ invariant_of-self g c =
       λ e.
           let cs = c.self.inside.contacts.items in
           let found : find (opens c.args.from c.args.to c.args.start) cs ≡ Some c.in-Some.contact.now = ap (find (opens c.args.from c.args.to c.args.start)) (sym c.deref.ensures.value) ∙ sym c.in-Some.ensures in
-          c.forget.ensures e
-          ∙ ap openings_of (ap (filter (λ d. not (opens c.args.from c.args.to c.args.start d))) c.deref-3.ensures.value ∙ without_opening p c.args.from c.args.to c.args.start c.in-Some.contact.now c.self.invariant.0 found),
+          c.forget.ensures cs c.self.invariant.3 e
+          ∙ ap openings_of (without_opening p c.args.from c.args.to c.args.start c.in-Some.contact.now c.self.invariant.0 found),
     )
 
 pub returns-clause-ok : goal.returns-clause-ok

@@ -4,7 +4,7 @@ use Rattle.sabr_model.specs.RangeOrder.{IsRangeList}
 use Rattle.sabr_model.proofs.RangeKeys.{range_list}
 use Rattle.sabr_model.proofs.plan.Plan.range_refusal.Goals as goal
 
-pub overlaps_some-requires-clause-list : goal.overlaps_some-requires-clause-list
-overlaps_some-requires-clause-list g c =
+pub overlaps_some-clashes-requires : goal.overlaps_some-clashes-requires
+overlaps_some-clashes-requires g c =
     let p : ContactPlan = record { contacts = c.self.inside.contacts.items; ranges = c.self.inside.ranges.items; greatest = c.self.inside.greatest } in
     subst IsRangeList (sym c.deref.ensures.value) (range_list p c.self.invariant.0)

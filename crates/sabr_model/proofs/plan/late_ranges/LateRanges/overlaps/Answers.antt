@@ -8,11 +8,11 @@ use Rattle.sabr_model.proofs.RangeKeys.{range_list}
 use Rattle.sabr_model.proofs.Gathers.{any_of_both}
 use Rattle.sabr_model.proofs.plan.late_ranges.LateRanges.overlaps.Goals as goal
 
-pub overlaps_some-requires-clause-list : goal.overlaps_some-requires-clause-list
-overlaps_some-requires-clause-list g c = subst IsRangeList (sym c.deref.ensures.value) (range_list (plan_of_ranges c.self.inside.late.items) c.self.invariant.late_obey)
+pub overlaps_some-requires : goal.overlaps_some-requires
+overlaps_some-requires g c = subst IsRangeList (sym c.deref.ensures.value) (range_list (plan_of_ranges c.self.inside.late.items) c.self.invariant.late_obey)
 
-pub overlaps_some-requires-else-overlaps_some-clause-list : goal.overlaps_some-requires-else-overlaps_some-clause-list
-overlaps_some-requires-else-overlaps_some-clause-list g c = subst IsRangeList (sym c.deref-else-overlaps_some.ensures.value) (range_list (plan_of_ranges c.self.inside.placed.items) c.self.invariant.placed_obey)
+pub overlaps_some-requires-else-overlaps_some : goal.overlaps_some-requires-else-overlaps_some
+overlaps_some-requires-else-overlaps_some g c = subst IsRangeList (sym c.deref-else-overlaps_some.ensures.value) (range_list (plan_of_ranges c.self.inside.placed.items) c.self.invariant.placed_obey)
 
 pub returns-then-overlaps_some : goal.returns-then-overlaps_some
 returns-then-overlaps_some g c =

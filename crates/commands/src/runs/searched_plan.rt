@@ -1,0 +1,23 @@
+//! The plan of a run that searches.
+
+ghost use Rattle.sabr_plan.specs.PlanRead.{ReadsPlan};
+
+use sabr_model::{Plan, Read};
+use sabr_plan::{PlanFault, read_plan};
+use std::alloc::Allocator;
+
+/// Reads the plan that a text spells, and makes it ready for searches; where memory is short for that, they take longer.
+///
+/// # Errors
+///
+/// The fault of the plan's text or reader, or want of memory for the plan.
+pub fn read_searched_plan<P: Read, A: Allocator + Copy>(
+    alloc: A,
+    reader: &mut P,
+) -> Result<Plan<A>, PlanFault>
+    ensures { ReadsPlan (P.remaining reader.old) (P.failures reader.old) result (P.remaining reader.new) (P.failures reader.new) }
+{
+    let mut plan = read_plan(alloc, reader)?;
+    let _ = plan.make_ready();
+    Ok(plan)
+}

@@ -1,0 +1,35 @@
+//! Why a contact or a range is refused.
+
+ghost use Rattle.std.specs.Prelude.{◌≡◌, ◌==◌, nat_le, Some, None, if◌then◌else◌};
+ghost use Rattle.sabr_model.specs.declared.fault.AddFault.TheVariants.{EmptyWindow, SelfPair, TooMany};
+
+use crate::fault::AddFault;
+
+/// So many numbers of contacts are given, and so many ranges stand.
+const LIMIT: usize = 20000;
+
+/// The least refusal of a contact or a range between two nodes, from a start to an end, unless memory is short: `clash`
+/// where another clashes with it, `TooMany` where the count is at the limit.
+pub fn refusal(
+    one: u64,
+    other: u64,
+    start: u64,
+    end: u64,
+    clashes: bool,
+    clash: AddFault,
+    count: usize,
+) -> Option<AddFault>
+    ensures { result ≡ (if nat_le end start then Some EmptyWindow else if one == other then Some SelfPair else if clashes then Some clash else if nat_le 20000 count then Some TooMany else None) }
+{
+    if start >= end {
+        Some(AddFault::EmptyWindow)
+    } else if one == other {
+        Some(AddFault::SelfPair)
+    } else if clashes {
+        Some(clash)
+    } else if count >= LIMIT {
+        Some(AddFault::TooMany)
+    } else {
+        None
+    }
+}
