@@ -1,6 +1,6 @@
 -- What is held stays in order and answered where a part comes behind the others, and is paid exactly where the parts are closed.
-use Rattle.std.proofs.Common.{◌≡◌, ℕ, zero, suc, ◌+◌, ◌<◌, Bool, true, false, cond, not, ◌&&◌, nat_lt, List, [], ◌∷◌, ◌++◌, map, flat_map, reverse, length, refl, sym, ap, subst, ◌∙◌, ◌⊎◌, inl, inr, arith, true≢false, Option, Some, None, length-append}
-use Rattle.std.specs.Prelude.{◌==◌}
+use Rattle.std.proofs.Common.{◌≡◌, ℕ, zero, suc, ◌+◌, ◌<◌, Bool, true, false, not, ◌&&◌, nat_lt, List, [], ◌∷◌, ◌++◌, map, flat_map, reverse, length, refl, sym, ap, subst, ◌∙◌, ◌⊎◌, inl, inr, arith, true≢false, Option, Some, None, length-append}
+use Rattle.std.specs.Prelude.{◌==◌, unwrap_or}
 use Rattle.std.specs.Option.{option_map, option_map_or}
 use Rattle.std.specs.Ordering.{nat_cmp, is_lt, is_eq}
 use Rattle.std.specs.declared.cmp.Ordering.TheVariants.{Less}
@@ -168,32 +168,41 @@ due_first : {A : Type 0} (h : Holding A) (q : List ℕ) → length h.prefixes �
 due_first h q paired first due = elim (zero_or_more (length h.nodes)) [
   | inl e ↦
       let none = no_parts h paired e in
-      let empty : q ≡ [] = no_numbers q (test_zero (length q) (sym (ap (λ b. cond b (length q == 0) (option_map_or (same_numbers q) (last_item h.owed) false)) (zero_test (length h.nodes) e)) ∙ due)) in
+      let d : (length h.nodes == 0 && length q == 0) ≡ true = sym (ap (λ (z : List (List ℕ)). option_map_or (same_numbers q) (last_item z) (length h.nodes == 0 && length q == 0)) (first none)) ∙ due in
+      let empty : q ≡ [] = no_numbers q (test_zero (length q) (and_parts (length h.nodes == 0) (length q == 0) d).1) in
       ap (λ z. owing z h.owed) none ∙ (λ i. sym empty i ∷ reverse (front (sym (first none) i)))
   | inr l ↦
       let some = some_part h paired l in
-      let d : option_map_or (same_numbers q) (last_item h.owed) false ≡ true = sym (ap (λ b. cond b (length q == 0) (option_map_or (same_numbers q) (last_item h.owed) false)) (more_test (length h.nodes) l)) ∙ due in
-      let last : h.owed ≡ front h.owed ++ q ∷ [] = elim (last_item h.owed) as (λ o. last_item h.owed ≡ o → option_map_or (same_numbers q) o false ≡ true → h.owed ≡ front h.owed ++ q ∷ []) [
-        | None ↦ λ _ k. absurd (true≢false (sym k))
+      let last : h.owed ≡ front h.owed ++ q ∷ [] = elim (last_item h.owed) as (λ o. last_item h.owed ≡ o → option_map_or (same_numbers q) o (length h.nodes == 0 && length q == 0) ≡ true → h.owed ≡ front h.owed ++ q ∷ []) [
+        | None ↦ λ _ k. absurd (true≢false (sym (and_parts (length h.nodes == 0) (length q == 0) k).0 ∙ more_test (length h.nodes) l))
         | Some o ↦ λ e k. last_split h.owed o e ∙ ap (λ z. front h.owed ++ z ∷ []) (sym (same_from_test q o k))
-      ] refl d in
+      ] refl due in
       ap (λ z. owing z h.owed) some.2 ∙ ap reverse last ∙ reverse-append (front h.owed) (q ∷ [])
 ]
 
 -- and the least that is owed is due
-first_due : {A : Type 0} (h : Holding A) (q : List ℕ) (rest : Owing) → length h.prefixes ≡ length h.nodes → owing (parts_in h) h.owed ≡ q ∷ rest → is_due h q ≡ true
-first_due h q rest paired o = elim (zero_or_more (length h.nodes)) [
+first_due : {A : Type 0} (h : Holding A) (q : List ℕ) (rest : Owing) → length h.prefixes ≡ length h.nodes → (parts_in h ≡ [] → h.owed ≡ []) → owing (parts_in h) h.owed ≡ q ∷ rest → is_due h q ≡ true
+first_due h q rest paired first o = elim (zero_or_more (length h.nodes)) [
   | inl e ↦
-      let is : [] ∷ [] ≡ q ∷ rest = sym (ap (λ z. owing z h.owed) (no_parts h paired e)) ∙ o in
+      let none = no_parts h paired e in
+      let is : [] ∷ [] ≡ q ∷ rest = sym (ap (λ z. owing z h.owed) none) ∙ o in
       let empty : [] ≡ q = cc in
-      ap (λ b. cond b (length q == 0) (option_map_or (same_numbers q) (last_item h.owed) false)) (zero_test (length h.nodes) e) ∙ zero_test (length q) (sym (ap (length {A = ℕ}) empty))
+      ap (λ (z : List (List ℕ)). option_map_or (same_numbers q) (last_item z) (length h.nodes == 0 && length q == 0)) (first none)
+      ∙ (λ i. zero_test (length h.nodes) e i && zero_test (length q) (sym (ap (length {A = ℕ}) empty)) i)
   | inr l ↦
       let some = some_part h paired l in
       let is : reverse h.owed ≡ q ∷ rest = sym (ap (λ z. owing z h.owed) some.2) ∙ o in
       let back : h.owed ≡ reverse rest ++ q ∷ [] = sym (reverse-reverse h.owed) ∙ ap reverse is ∙ reverse-append (q ∷ []) rest in
       let last : last_item h.owed ≡ Some q = Rattle.sabr_frontier.proofs.Ends.last_item_push h.owed (reverse rest) q back in
-      ap (λ b. cond b (length q == 0) (option_map_or (same_numbers q) (last_item h.owed) false)) (more_test (length h.nodes) l) ∙ ap (λ o. option_map_or (same_numbers q) o false) last ∙ same_itself q
+      ap (λ o. option_map_or (same_numbers q) o (length h.nodes == 0 && length q == 0)) last ∙ same_itself q
 ]
+
+-- what is taken from the end of those owed is the due prefix, the empty one where nothing is owed
+pub due_taken : {A : Type 0} (h : Holding A) (q : List ℕ) → is_due h q ≡ true → unwrap_or (last_item h.owed) [] ≡ q
+due_taken h q due = elim (last_item h.owed) as (λ o. option_map_or (same_numbers q) o (length h.nodes == 0 && length q == 0) ≡ true → unwrap_or o [] ≡ q) [
+  | None ↦ λ k. sym (no_numbers q (test_zero (length q) (and_parts (length h.nodes == 0) (length q == 0) k).1))
+  | Some o ↦ λ k. sym (same_from_test q o k)
+] due
 
 module _ (p : ContactPlan) (r : RouteRequest) where
   abbrev route : List ℕ → Bool
@@ -257,7 +266,7 @@ module _ (p : ContactPlan) (r : RouteRequest) where
           elim (true_or_false h.sound) [
             | inl k ↦
                 let a = held.answered k in
-                none k (first_due h q w.2.0 held.paired (Owes-one route path (pairs_in h) ([] ∷ []) (owing (parts_in h) h.owed) w.0 a.owes w.1 ∙ w.2.1)) w.2.2
+                none k (first_due h q w.2.0 held.paired a.first (Owes-one route path (pairs_in h) ([] ∷ []) (owing (parts_in h) h.owed) w.0 a.owes w.1 ∙ w.2.1)) w.2.2
             | inr k ↦ held.broken k w.0 w.1
           ]
 

@@ -13,6 +13,7 @@ pub mod Owed
 pub mod GoesOn
 pub mod Answering
 pub mod Judges
+pub mod Tellings
 pub mod PartRefusals
 pub mod Loads
 pub mod Forget

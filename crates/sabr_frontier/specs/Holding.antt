@@ -1,5 +1,5 @@
 -- What a loader has gathered: nodes with their prefixes, leaves, and the prefixes that are owed.
-use Rattle.std.specs.Prelude.{◌≡◌, ℕ, ◌+◌, ◌<◌, ◌≤◌, Bool, true, false, ◌==◌, ◌&&◌, ◌⊎◌, not, List, [], ◌∷◌, ◌++◌, map, filter, flat_map, vec_len, vec_capacity, reverse, length, Option, Some, None, if◌then◌else◌}
+use Rattle.std.specs.Prelude.{◌≡◌, ℕ, ◌+◌, ◌<◌, ◌≤◌, Bool, true, false, ◌==◌, ◌&&◌, ◌⊎◌, not, List, [], ◌∷◌, ◌++◌, map, filter, flat_map, vec_len, vec_capacity, reverse, length, Option, Some, None}
 use Rattle.std.specs.Option.{option_map, option_map_or}
 use Rattle.std.specs.Ordering.{nat_cmp}
 use Rattle.sabr_frontier.specs.Rising.{has}
@@ -56,9 +56,9 @@ abbrev pub owing : List PartState → List (List ℕ) → Owing
 owing [] owed = [] ∷ []
 owing (t ∷ ts) owed = reverse owed
 
--- whether the prefix is the least that is owed
+-- whether the prefix is the least that is owed: the empty one before any part
 abbrev pub is_due : {A : Type 0} → Holding A → List ℕ → Bool
-is_due h q = if length h.nodes == 0 then length q == 0 else option_map_or (same_numbers q) (last_item h.owed) false
+is_due h q = option_map_or (same_numbers q) (last_item h.owed) (length h.nodes == 0 && length q == 0)
 
 -- whether nothing is owed
 abbrev pub is_paid : {A : Type 0} → Holding A → Bool
@@ -104,15 +104,12 @@ answered_by h (Some j) = record h { leaves = h.leaves ++ j.leaves.items; owed = 
 abbrev pub held_then : {A : Type 0} → Holding A → List ℕ → List ℕ → Option RouteRecord → Option (Judged A) → Holding A
 held_then h q X route j = answered_by (with_node h q X route) j
 
--- there are places for a part and what it leads to
-abbrev pub HasPlacesFor : {A : Type 0} → Held A → Option (Judged A) → Type 0
-HasPlacesFor h None = Unit {0}
-HasPlacesFor h (Some j) = (vec_len h.leaves + length j.leaves.items ≤ vec_capacity h.leaves) × (vec_len h.owed + length j.onward.items ≤ vec_capacity h.owed)
-
-pub record HasPlaces {A : Type 0} (h : Held A) (j : Option (Judged A)) : Type 0 where
+-- there are places for a part, so many leaves and so many that are owed
+pub record HasPlaces {A : Type 0} (h : Held A) (leaves onward : ℕ) : Type 0 where
   pub one_prefix : vec_len h.prefixes < vec_capacity h.prefixes
   pub one_node : vec_len h.nodes < vec_capacity h.nodes
-  pub others : HasPlacesFor h j
+  pub for_leaves : vec_len h.leaves + leaves ≤ vec_capacity h.leaves
+  pub for_owed : vec_len h.owed + onward ≤ vec_capacity h.owed
 
 -- with a part more, for the verdict on it
 abbrev pub IsTakenIn : {A : Type 0} → ContactPlan → RouteRequest → Holding A → List ℕ → List ℕ → Option RouteRecord → Holding A → Type 0

@@ -3,6 +3,7 @@ pub mod Tree
 pub mod State
 pub mod Formed
 pub mod Owing
+pub mod Telling
 pub mod Step
 pub mod Listing
 pub mod Waiting

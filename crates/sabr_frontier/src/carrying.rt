@@ -8,7 +8,7 @@ ghost use Rattle.sabr_model.specs.Record.{record_of};
 ghost use Rattle.sabr_frontier.specs.Loading.{IsCarryFault, may_carry};
 
 use crate::load_fault::LoadFault;
-use crate::record::record;
+use crate::record::Told;
 use sabr_model::{Plan, Request, Route, follow};
 use std::alloc::Allocator;
 
@@ -61,5 +61,5 @@ pub fn carried<A: Allocator + Copy>(
     let Ok(numbers) = Vec::from_slice(alloc, route) else {
         return Err(LoadFault::NoMemory);
     };
-    Ok(Some(record(plan, numbers, delivery)))
+    Ok(Some(Told::of(plan, route).route(numbers, delivery)))
 }

@@ -1,11 +1,11 @@
 //! What a loader has gathered, and the tree that comes of it.
 
-ghost use Rattle.std.specs.Prelude.{◌≡◌, [], true, IfOk, IfSome, IfNone, OnOk, OnErr};
+ghost use Rattle.std.specs.Prelude.{◌≡◌, [], true, Some, None, IfOk, IfSome, IfNone, OnOk, OnErr};
 ghost use Rattle.std.specs.Option.{option_map_or};
 ghost use Rattle.sabr_model.specs.Order.{numbers_before};
 ghost use Rattle.sabr_frontier.specs.Shape.{shape_of};
 ghost use Rattle.sabr_frontier.specs.Undo.{IsRoomy, last_item};
-ghost use Rattle.sabr_frontier.specs.Holding.{HasPlaces, HasPlacesFor, IsLastPlace, IsTakenIn, IsVerdict, IsWrongLast, answered_by, held_then, holding_of, is_due, is_paid, loaded_tree, nothing_held};
+ghost use Rattle.sabr_frontier.specs.Holding.{HasPlaces, IsLastPlace, IsTakenIn, IsVerdict, IsWrongLast, held_then, holding_of, is_due, is_paid, loaded_tree, nothing_held};
 
 use crate::excluded::Excluded;
 use crate::judge::{Judged, judge};
@@ -15,9 +15,11 @@ use crate::tree::{Node, Tree};
 use sabr_model::{NoMemory, Numbers, Plan, Request, Route};
 use std::alloc::{Allocator, Global};
 use std::cmp::Ordering;
+use std::mem::replace;
 
 /// The prefixes of the parts, and their nodes; the leaves that the parts made; the prefixes that are to be parts, the
 /// least last; and whether each part so far was the least that was to come. Where one wasn't, the parts alone are kept.
+/// In `room` the next part is judged.
 #[derive(Debug, Drop)]
 pub struct Held<A: Allocator + Copy = Global> {
     pub prefixes: Vec<Numbers<A>, A>,
@@ -25,6 +27,7 @@ pub struct Held<A: Allocator + Copy = Global> {
     pub leaves: Vec<Route<A>, A>,
     pub owed: Vec<Numbers<A>, A>,
     pub sound: bool,
+    pub room: Judged<A>,
 }
 
 /// Where the last route is among the leaves, none inside where there is no leaf; none where the count or the last is
@@ -62,6 +65,7 @@ impl<A: Allocator + Copy> Held<A> {
             leaves: Vec::new(alloc),
             owed: Vec::new(alloc),
             sound: true,
+            room: Judged::none(alloc),
         }
     }
 
@@ -75,30 +79,28 @@ impl<A: Allocator + Copy> Held<A> {
         }
     }
 
-    // Whether a prefix is the least that is to come.
+    // Whether a prefix is the least that is to come: the first is empty.
     fn is_due(&self, prefix: &[u32]) -> bool
         ensures { result ≡ is_due (holding_of self.now) prefix.now }
     {
-        if self.nodes.is_empty() {
-            return prefix.is_empty();
-        }
         match self.owed.last() {
             Some(owed) => prefix.cmp(owed.as_slice()) == Ordering::Equal,
-            None => false,
+            None => self.nodes.is_empty() && prefix.is_empty(),
         }
     }
 
     // What a part leads to, or none where it isn't the least that is to come, or one of its excluded numbers makes no
     // path, or it excludes none and isn't the first.
     fn judge(
-        &self,
+        &mut self,
         alloc: A,
         plan: &Plan<A>,
         request: &Request,
         prefix: &[u32],
         excluded: &[u32],
     ) -> Result<Option<Judged<A>>, NoMemory>
-        ensures { IfOk result (IsVerdict plan.now.plan request.now (holding_of self.now) (prefix.now, excluded.now)) }
+        ensures verdict { IfOk result (IsVerdict plan.now.plan request.now (holding_of self.old) (prefix.now, excluded.now)) }
+        ensures same { holding_of self.new ≡ holding_of self.old }
     {
         if !self.sound || !self.is_due(prefix) {
             return Ok(None);
@@ -106,18 +108,15 @@ impl<A: Allocator + Copy> Held<A> {
         if !prefix.is_empty() && excluded.is_empty() {
             return Ok(None);
         }
-        judge(alloc, plan, request, prefix, excluded)
+        let room = replace(&mut self.room, Judged::none(alloc));
+        judge(alloc, plan, request, prefix, excluded, room)
     }
 
     // Makes room for a part and what it leads to.
-    fn reserve(&mut self, judged: &Option<Judged<A>>) -> Result<(), NoMemory>
+    fn reserve(&mut self, leaves: usize, onward: usize) -> Result<(), NoMemory>
         ensures same { holding_of self.new ≡ holding_of self.old }
-        ensures ok { OnOk result (HasPlaces self.new judged.now) }
+        ensures ok { OnOk result (HasPlaces self.new leaves onward) }
     {
-        let (leaves, onward) = match judged {
-            Some(judged) => (judged.leaves.len(), judged.onward.len()),
-            None => (0, 0),
-        };
         let Ok(()) = self.prefixes.reserve(1) else {
             return Err(NoMemory);
         };
@@ -133,43 +132,60 @@ impl<A: Allocator + Copy> Held<A> {
         }
     }
 
-    // Takes in what a part leads to, for which there is room.
-    fn answer(&mut self, judged: Option<Judged<A>>)
-        requires { HasPlacesFor self.old judged }
-        ensures { holding_of self.new ≡ answered_by (holding_of self.old) judged }
-    {
-        let Some(mut judged) = judged else {
-            self.sound = false;
-            return;
-        };
-        self.owed.pop();
-        judged.onward.reverse();
-        let appended = self.owed.append(&mut judged.onward);
-        let Ok(()) = appended else { unreachable!() };
-        let appended = self.leaves.append(&mut judged.leaves);
-        let Ok(()) = appended else { unreachable!() };
-    }
-
-    // Adds a part, and takes in what it leads to. What may be refused comes before the first change.
-    fn add(
+    // Adds the part that was due, and takes in what it leads to. What may be refused comes before the first change.
+    fn answer(
         &mut self,
-        prefix: Numbers<A>,
+        alloc: A,
+        prefix: &[u32],
         excluded: Excluded<A>,
         route: Option<Route<A>>,
-        judged: Option<Judged<A>>,
+        mut judged: Judged<A>,
     ) -> Result<(), NoMemory>
-        ensures ok { OnOk result (holding_of self.new ≡ held_then (holding_of self.old) prefix excluded route judged) }
+        requires { is_due (holding_of self.old) prefix.now ≡ true }
+        ensures ok { OnOk result (holding_of self.new ≡ held_then (holding_of self.old) prefix.now excluded route (Some judged)) }
         ensures err { OnErr result (holding_of self.new ≡ holding_of self.old) }
     {
-        self.reserve(&judged)?;
+        self.reserve(judged.leaves.len(), judged.onward.len())?;
         self.nodes.push_reserved(Node {
             leaf: self.leaves.len(),
             length: prefix.len(),
             excluded,
             route,
         });
-        self.prefixes.push_reserved(prefix);
-        self.answer(judged);
+        let due = self.owed.pop().unwrap_or(Numbers::new(Vec::new(alloc)));
+        self.prefixes.push_reserved(due);
+        judged.onward.reverse();
+        let appended = self.owed.append(&mut judged.onward);
+        let Ok(()) = appended else { unreachable!() };
+        let appended = self.leaves.append(&mut judged.leaves);
+        let Ok(()) = appended else { unreachable!() };
+        self.room = judged;
+        Ok(())
+    }
+
+    // Adds a part that wasn't due, or isn't good: from now on the parts alone are kept.
+    fn add(
+        &mut self,
+        alloc: A,
+        prefix: &[u32],
+        excluded: Excluded<A>,
+        route: Option<Route<A>>,
+    ) -> Result<(), NoMemory>
+        ensures ok { OnOk result (holding_of self.new ≡ held_then (holding_of self.old) prefix.now excluded route None) }
+        ensures err { OnErr result (holding_of self.new ≡ holding_of self.old) }
+    {
+        let Ok(numbers) = Vec::from_slice(alloc, prefix) else {
+            return Err(NoMemory);
+        };
+        self.reserve(0, 0)?;
+        self.nodes.push_reserved(Node {
+            leaf: self.leaves.len(),
+            length: prefix.len(),
+            excluded,
+            route,
+        });
+        self.prefixes.push_reserved(Numbers::new(numbers));
+        self.sound = false;
         Ok(())
     }
 
@@ -187,11 +203,11 @@ impl<A: Allocator + Copy> Held<A> {
         ensures err { OnErr result (holding_of self.new ≡ holding_of self.old) }
     {
         let judged = self.judge(alloc, plan, request, prefix, excluded)?;
-        let Ok(numbers) = Vec::from_slice(alloc, prefix) else {
-            return Err(NoMemory);
-        };
         let excluded = Excluded::of(alloc, excluded)?;
-        self.add(Numbers::new(numbers), excluded, route, judged)
+        match judged {
+            Some(judged) => self.answer(alloc, prefix, excluded, route, judged),
+            None => self.add(alloc, prefix, excluded, route),
+        }
     }
 
     /// Whether there is a part, each part was the least that was to come, and none is left to come.

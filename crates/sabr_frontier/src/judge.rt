@@ -4,9 +4,10 @@ ghost use Rattle.std.specs.Prelude.{◌≡◌, true, ◌∷◌, ◌++◌, [], ma
 ghost use Rattle.sabr_model.specs.Route.{is_path};
 ghost use Rattle.sabr_model.specs.Record.{record_of};
 ghost use Rattle.sabr_model.specs.Following.{IsReachedBy};
+ghost use Rattle.sabr_frontier.specs.Telling.{told_of};
 ghost use Rattle.sabr_frontier.specs.Holding.{AllGoOn, IsJudged, onward_of, routes_of};
 
-use crate::record::record;
+use crate::record::Told;
 use sabr_model::{
     HopFault, NoMemory, Numbers, Plan, Reached, Request, Route, follow_on, follow_prefix,
 };
@@ -27,16 +28,27 @@ fn longer<A: Allocator + Copy>(
 ) -> Result<Vec<u32, A>, NoMemory>
     ensures { IfOk result (λ v. v.items ≡ prefix.now ++ number ∷ []) }
 {
-    let Ok(mut numbers) = Vec::from_slice(alloc, prefix) else {
+    let Ok(mut numbers) = Vec::with_capacity(alloc, prefix.len() + 1) else {
         return Err(NoMemory);
     };
-    match numbers.push(number) {
-        Ok(()) => Ok(numbers),
-        Err(_) => Err(NoMemory),
-    }
+    let extended = numbers.extend_from_slice(prefix);
+    let Ok(()) = extended else { unreachable!() };
+    numbers.push_reserved(number);
+    Ok(numbers)
 }
 
 impl<A: Allocator + Copy> Judged<A> {
+    /// Nothing. It takes no memory.
+    pub fn none(alloc: A) -> Judged<A>
+        ensures leaves { result.leaves.items ≡ [] }
+        ensures onward { result.onward.items ≡ [] }
+    {
+        Judged {
+            leaves: Vec::new(alloc),
+            onward: Vec::new(alloc),
+        }
+    }
+
     // Puts the path of a prefix and one number more behind the others of its kind; false where they make none.
     fn put(
         &mut self,
@@ -45,10 +57,12 @@ impl<A: Allocator + Copy> Judged<A> {
         request: &Request,
         prefix: &[u32],
         here: Reached,
+        told: Told,
         number: u32,
     ) -> Result<bool, NoMemory>
         requires path { IsTrue (is_path plan.now.plan request.now prefix.now) }
         requires reached { IsReachedBy plan.now.plan request.now prefix.now here }
+        requires told { told ≡ told_of plan.now.plan prefix.now }
         ensures path { IfOk result (λ is. is ≡ is_path plan.now.plan request.now (prefix.now ++ number ∷ [])) }
         ensures leaves { IfOk result (λ is. is ≡ true → self.new.leaves.items ≡ self.old.leaves.items ++ map (record_of plan.now.plan request.now) (routes_of plan.now.plan request.now (prefix.now ++ number ∷ []))) }
         ensures onward { IfOk result (λ is. is ≡ true → self.new.onward.items ≡ self.old.onward.items ++ onward_of plan.now.plan request.now (prefix.now ++ number ∷ [])) }
@@ -56,7 +70,8 @@ impl<A: Allocator + Copy> Judged<A> {
         match follow_on(plan, request, prefix, here, number) {
             Ok(delivery) => {
                 let numbers = longer(alloc, prefix, number)?;
-                let Ok(()) = self.leaves.push(record(plan, numbers, delivery)) else {
+                let route = told.extended(plan, prefix, number).route(numbers, delivery);
+                let Ok(()) = self.leaves.push(route) else {
                     return Err(NoMemory);
                 };
                 Ok(true)
@@ -75,29 +90,30 @@ impl<A: Allocator + Copy> Judged<A> {
     }
 }
 
-/// What the excluded numbers of a prefix lead to, or none where one of them makes no path. The prefix is followed once.
+/// What the excluded numbers of a prefix lead to, or none where one of them makes no path. It is gathered in `judged`,
+/// in place of what that held. The prefix is followed once.
 pub fn judge<A: Allocator + Copy>(
     alloc: A,
     plan: &Plan<A>,
     request: &Request,
     prefix: &[u32],
     excluded: &[u32],
+    mut judged: Judged<A>,
 ) -> Result<Option<Judged<A>>, NoMemory>
     ensures some { IfOk result (λ o. IfSome o (λ j. AllGoOn plan.now.plan request.now (prefix.now, excluded.now) × IsJudged plan.now.plan request.now (prefix.now, excluded.now) j)) }
     ensures none { IfOk result (λ o. IfNone o (AllGoOn plan.now.plan request.now (prefix.now, excluded.now) → ⊥)) }
 {
-    let mut judged = Judged {
-        leaves: Vec::new(alloc),
-        onward: Vec::new(alloc),
-    };
+    judged.leaves.clear();
+    judged.onward.clear();
     if excluded.is_empty() {
         return Ok(Some(judged));
     }
     let Ok(here) = follow_prefix(plan, request, prefix) else {
         return Ok(None);
     };
+    let told = Told::of(plan, prefix);
     for number in excluded {
-        if !judged.put(alloc, plan, request, prefix, here, *number)? {
+        if !judged.put(alloc, plan, request, prefix, here, told, *number)? {
             return Ok(None);
         }
     }

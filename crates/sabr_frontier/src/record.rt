@@ -1,7 +1,7 @@
-//! The record of a route.
+//! What the record of a route tells beside its numbers and its delivery.
 
-ghost use Rattle.std.specs.Prelude.{◌≡◌};
-ghost use Rattle.sabr_model.specs.Route.{entry_of, until_of};
+ghost use Rattle.std.specs.Prelude.{◌≡◌, ◌∷◌, ◌++◌, []};
+ghost use Rattle.sabr_frontier.specs.Telling.{told_of};
 
 use sabr_model::{Numbers, Plan, Route};
 use std::alloc::Allocator;
@@ -9,42 +9,60 @@ use std::alloc::Allocator;
 /// The last second of the year 9998, after which no contact ends.
 const LAST_TIME: u64 = 253370764799;
 
-// The termination time: the least end of the contacts.
-fn until<A: Allocator + Copy>(plan: &Plan<A>, numbers: &[u32]) -> u64
-    ensures { result ≡ until_of plan.now.plan numbers.now }
-{
-    let mut until = LAST_TIME;
-    for number in numbers {
-        if let Some(contact) = plan.contact(*number) {
-            until = until.min(contact.end);
+/// What the record of a list of numbers tells beside them and their delivery.
+#[derive(Clone, Copy, Debug, PartialEq, Eq)]
+pub struct Told {
+    /// The termination time: the least end of the contacts.
+    pub until: u64,
+    /// The entry node: the receiver of the first contact; 0 where there is none.
+    pub entry: u64,
+}
+
+impl Told {
+    /// That of these numbers.
+    pub fn of<A: Allocator + Copy>(plan: &Plan<A>, numbers: &[u32]) -> Told
+        ensures { result ≡ told_of plan.now.plan numbers.now }
+    {
+        let mut told = Told {
+            until: LAST_TIME,
+            entry: 0,
+        };
+        for (i, number) in numbers.iter().enumerate() {
+            told = told.extended(plan, &numbers[..i], *number);
+        }
+        told
+    }
+
+    /// That of a prefix and one number more, where this is that of the prefix. It reads the one contact.
+    pub fn extended<A: Allocator + Copy>(self, plan: &Plan<A>, prefix: &[u32], number: u32) -> Told
+        requires { self ≡ told_of plan.now.plan prefix.now }
+        ensures { result ≡ told_of plan.now.plan (prefix.now ++ number ∷ []) }
+    {
+        let Some(contact) = plan.contact(number) else {
+            return self;
+        };
+        let until = self.until.min(contact.end);
+        if prefix.is_empty() {
+            return Told {
+                until,
+                entry: contact.to,
+            };
+        }
+        Told {
+            until,
+            entry: self.entry,
         }
     }
-    until
-}
 
-// The entry node: the receiver of the first contact.
-fn entry<A: Allocator + Copy>(plan: &Plan<A>, numbers: &[u32]) -> u64
-    ensures { result ≡ entry_of plan.now.plan numbers.now }
-{
-    let Some(first) = numbers.first() else {
-        return 0;
-    };
-    match plan.contact(*first) {
-        Some(contact) => contact.to,
-        None => 0,
-    }
-}
-
-/// The record of a list of numbers with this delivery. It takes no memory.
-pub fn record<A: Allocator + Copy>(plan: &Plan<A>, numbers: Vec<u32, A>, delivery: u64) -> Route<A>
-    ensures { result ≡ record { contacts = numbers.items; delivery = delivery; until = until_of plan.now.plan numbers.items; entry = entry_of plan.now.plan numbers.items } }
-{
-    let until = until(plan, numbers.as_slice());
-    let entry = entry(plan, numbers.as_slice());
-    Route {
-        contacts: Numbers::new(numbers),
-        delivery,
-        until,
-        entry,
+    /// The record of a list of which this is told, with this delivery. It takes no memory.
+    pub fn route<A: Allocator + Copy>(self, numbers: Vec<u32, A>, delivery: u64) -> Route<A>
+        ensures { result ≡ record { contacts = numbers.items; delivery = delivery; until = self.until; entry = self.entry } }
+    {
+        Route {
+            contacts: Numbers::new(numbers),
+            delivery,
+            until: self.until,
+            entry: self.entry,
+        }
     }
 }

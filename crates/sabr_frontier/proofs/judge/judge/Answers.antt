@@ -8,7 +8,7 @@ use Rattle.sabr_frontier.proofs.Judges.{faulty_front, judged_more, number_in, pa
 use Rattle.sabr_frontier.proofs.judge.judge.Goals as goal
 
 pub loop-number-init : goal.loop-number-init
-loop-number-init g c = record { so_far = record { leaves_are = c.new.ensures.items; onward_are = c.new-2.ensures.items }; paths = λ x h. absurd (true≢false (sym h)) }
+loop-number-init g c = record { so_far = record { leaves_are = c.clear.ensures.items; onward_are = c.clear-2.ensures.items }; paths = λ x h. absurd (true≢false (sym h)) }
 
 pub returns-in_default-clause-none : goal.returns-in_default-clause-none
 returns-in_default-clause-none g c all =

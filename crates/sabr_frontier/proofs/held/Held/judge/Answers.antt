@@ -6,8 +6,8 @@ use Rattle.sabr_frontier.proofs.Judges.{empty_list, some_number, verdict_from}
 use Rattle.sabr_frontier.proofs.held.Held.judge.Goals as goal
 use Rattle.sabr_frontier.proofs.held.Held.judge.Goals.{else-not-is_empty-via-then-not-is_empty+else-is_empty, else-not-is_empty-via-else-not-is_empty}
 
-pub returns : goal.returns
-returns g c =
+pub returns-clause-verdict : goal.returns-clause-verdict
+returns-clause-verdict g c =
     let q = c.args.prefix.now in
     let X = c.args.excluded.now in
     let busy : (q ≡ []) ⊎ ((x : ℕ) × (has nat_cmp x X ≡ true)) = elim c.else-not-is_empty.branch [
