@@ -11,6 +11,7 @@ mod Pieces
 mod SessionPieces
 mod SessionRowProofs
 mod SpelledWords
+mod PlainNumbers
 mod SpelledLines
 mod SpelledDigests
 mod SpelledHead

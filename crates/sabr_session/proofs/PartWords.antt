@@ -1,5 +1,6 @@
 -- The three lists of a part, one after the other.
-use Rattle.std.proofs.Common.{◌≡◌, ℕ, List, [], refl}
+use Rattle.std.proofs.Common.{◌≡◌, ℕ, Bool, true, false, List, [], refl}
+use Rattle.std.specs.Prelude.{if◌then◌else◌}
 use Rattle.std.specs.declared.option.Option.TheVariants.{Some, None}
 use Rattle.sabr_session.specs.SessionWords.{list_within, contacts_of, before_slash, after_slash}
 use Rattle.sabr_session.specs.SessionLines.{carried_of, lists_of}
@@ -18,7 +19,7 @@ pub bad_excluded : (ws us : List (List ℕ)) (p : List ℕ) → contacts_of (bef
 unfolding lists_of
 bad_excluded ws us p e behind x = rw (e, ← behind, x) refl
 
-pub bad_route : (ws us vs : List (List ℕ)) (p x : List ℕ) → contacts_of (before_slash ws) ≡ Some p → us ≡ after_slash ws
+bad_route : (ws us vs : List (List ℕ)) (p x : List ℕ) → contacts_of (before_slash ws) ≡ Some p → us ≡ after_slash ws
     → contacts_of (before_slash us) ≡ Some x → vs ≡ after_slash us → contacts_of vs ≡ None → lists_of ws ≡ None
 unfolding lists_of
 bad_route ws us vs p x e behind f beyond r = rw (e, ← behind, f, ← beyond, r) refl
@@ -28,3 +29,10 @@ pub three_lists : (ws us vs : List (List ℕ)) (p x r : List ℕ) → contacts_o
     → lists_of ws ≡ Some (record { prefix = p; excluded = x; carried = carried_of r })
 unfolding lists_of
 three_lists ws us vs p x r e behind f beyond l = rw (e, ← behind, f, ← beyond, l) refl
+
+-- the third list, if it is one
+pub third_list : (ws us vs : List (List ℕ)) (p x r : List ℕ) → contacts_of (before_slash ws) ≡ Some p → us ≡ after_slash ws
+    → contacts_of (before_slash us) ≡ Some x → vs ≡ after_slash us → (found : Bool) → contacts_of vs ≡ (if found then Some r else None)
+    → lists_of ws ≡ (if found then Some (record { prefix = p; excluded = x; carried = carried_of r }) else None)
+third_list ws us vs p x r e behind f beyond true l = three_lists ws us vs p x r e behind f beyond l
+third_list ws us vs p x r e behind f beyond false l = bad_route ws us vs p x e behind f beyond l

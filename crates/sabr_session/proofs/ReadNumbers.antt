@@ -1,5 +1,5 @@
 -- Lists of numbers, as far as they are read.
-use Rattle.std.proofs.Common.{◌≡◌, ℕ, ◌<◌, ◌≤◌, eqb, leb, ltb, cond, ◌&&◌, true, false, List, [], ◌∷◌, ◌++◌, length, map, option_map, refl, sym, ap, ◌∙◌, arith, append-nil, append_assoc, length-append}
+use Rattle.std.proofs.Common.{◌≡◌, ℕ, ◌<◌, ◌≤◌, leb, ltb, cond, ◌&&◌, true, false, List, [], ◌∷◌, ◌++◌, length, map, option_map, refl, sym, ap, ◌∙◌, arith, append-nil, append_assoc, length-append}
 use Rattle.std.proofs.lemmas.Bool.{le-leb}
 use Rattle.std.proofs.lemmas.Bool.Decides.{nat_tests}
 use Rattle.std.proofs.Math.Bool.{and-false}
@@ -66,10 +66,3 @@ counted-some most found ns e a b =
 pub counted-none : (most : ℕ) (found : Option (List ℕ)) (ns : List ℕ) → found ≡ Some ns → length ns ≡ 0 → counted most found ≡ None
 counted-none most found [] e h = ap (counted most) e
 counted-none most found (n ∷ ns) e h = absurd (omega arith)
-
--- a length that is told to be 0, or not to be
-pub no_length : (a : ℕ) → eqb a 0 ≡ true → a ≡ 0
-no_length a e = grind (arith, nat_tests)
-
-pub some_length : (a : ℕ) → eqb a 0 ≡ false → 0 < a
-some_length a e = grind (arith, nat_tests)

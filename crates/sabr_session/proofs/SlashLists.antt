@@ -1,14 +1,12 @@
 -- The words up to a `/`, and those behind it.
 use Rattle.std.proofs.Common.{◌≡◌, ℕ, ◌<◌, arith, Bool, true, false, List, [], ◌∷◌, map, option_map, refl, sym, ap, ◌∙◌}
 use Rattle.std.specs.List.{list_any}
-use Rattle.std.specs.Prelude.{codes}
+use Rattle.std.specs.Prelude.{codes, not, if◌then◌else◌}
 use Rattle.std.specs.Str.{bytes_eq}
-use Rattle.std.specs.Str.Parse.{IsNumeral}
-use Rattle.std.proofs.lemmas.Fmt.{decimal_is_IsNumeral}
 use Rattle.std.proofs.lemmas.Slice.Eq.{bytes_eq-Decides}
 use Rattle.std.specs.declared.option.Option.{Option}
 use Rattle.std.specs.declared.option.Option.TheVariants.{Some, None}
-use Rattle.sabr_plan.proofs.SpelledNumbers.{number_within-unspelled}
+use Rattle.sabr_plan.proofs.SpelledNumbers.{within_none}
 use Rattle.sabr_session.specs.SessionWords.{all_of, counted, is_dash, list_within, contacts_of, is_slash, before_slash, after_slash}
 use Rattle.sabr_plan.specs.Numbers.{number_within}
 
@@ -43,13 +41,12 @@ before-all (w ∷ ws) e = by_first (is_slash w) refl (before-all ws)
         absurd cc
     by_first false is rest = before-on w ws is ∙ ap (λ vs. w ∷ vs) (rest (sym (has-on w ws is) ∙ e))
 
--- `/` is no number
+-- `/` is no number, and neither is `-`
 no_number : (low high : ℕ) → high < 18446744073709551616 → number_within low high (codes "/") ≡ None
-no_number low high h =
-    number_within-unspelled 18446744073709551616 low high (codes "/") h (λ n small e. no_digit (rw (← e) at ((decimal_is_IsNumeral n small).0)))
-  where
-    no_digit : IsNumeral 10 (codes "/") → ⊥
-    no_digit numeral = omega (arith, numeral.1.0)
+no_number low high h = within_none low high (codes "/") h refl
+
+no_dash : (low high : ℕ) → high < 18446744073709551616 → number_within low high (codes "-") ≡ None
+no_dash low high h = within_none low high (codes "-") h refl
 
 unnumbered : (low high : ℕ) (ws : List (List ℕ)) → high < 18446744073709551616 → list_any is_slash ws ≡ true → all_of (map (number_within low high) ws) ≡ None
 unnumbered low high [] h e = absurd cc
@@ -80,10 +77,38 @@ undashed (w ∷ []) e = by_first (is_slash w) refl
         let no : false ≡ true = sym (has-on w [] is) ∙ e in
         absurd cc
 
--- so it is refused
+-- neither are numbers
+pub numbers-undashed : (ws : List (List ℕ)) (ns : List ℕ) → all_of (map (number_within 1 4294967295) ws) ≡ Some ns → is_dash ws ≡ false
+numbers-undashed [] ns e = refl
+numbers-undashed (w ∷ v ∷ ws) ns e = refl
+numbers-undashed (w ∷ []) ns e = by_word (bytes_eq w (codes "-")) refl
+  where
+    by_word : (b : Bool) → bytes_eq w (codes "-") ≡ b → b ≡ false
+    by_word false is = refl
+    by_word true is =
+        let same : w ≡ codes "-" = (bytes_eq-Decides w (codes "-")).0 is in
+        let none : number_within 1 4294967295 w ≡ None = ap (number_within 1 4294967295) same ∙ no_dash 1 4294967295 (omega arith) in
+        let no : None ≡ Some ns = sym (ap (λ o. all_of (o ∷ [])) none) ∙ e in
+        absurd cc
+
+-- a list with `/` in it is refused
 pub slash_refused : (ws : List (List ℕ)) → list_any is_slash ws ≡ true → contacts_of ws ≡ None
 unfolding list_within
 slash_refused ws e = rw (undashed ws e) (ap (counted 20000) (unnumbered 1 4294967295 ws (omega arith) e))
+
+-- numbers or `-` up to the end, and nothing behind them
+pub list-ended : (ws : List (List ℕ)) (ns : List ℕ) (stopped : Bool) → contacts_of (before_slash ws) ≡ Some ns → stopped ≡ list_any is_slash ws
+    → contacts_of ws ≡ (if not stopped then Some ns else None)
+list-ended ws ns true found is = slash_refused ws (sym is)
+list-ended ws ns false found is = sym (ap contacts_of (before-all ws (sym is))) ∙ found
+
+-- no list up to `/` or to the end
+pub list-missing : (ws : List (List ℕ)) → contacts_of (before_slash ws) ≡ None → contacts_of ws ≡ None
+list-missing ws none = by_slash (list_any is_slash ws) refl
+  where
+    by_slash : (b : Bool) → list_any is_slash ws ≡ b → contacts_of ws ≡ None
+    by_slash true has = slash_refused ws has
+    by_slash false has = sym (ap contacts_of (before-all ws has)) ∙ none
 
 -- `-` alone
 pub dashed : (ws : List (List ℕ)) → is_dash ws ≡ true → contacts_of ws ≡ Some []

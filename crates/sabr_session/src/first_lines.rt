@@ -95,7 +95,12 @@ pub(crate) fn last_listed<A: Allocator + Copy>(
     let Some(text) = behind_label(b"last ", line) else {
         return Ok(None);
     };
-    list_to_end(alloc, text)
+    let mut numbers = Vec::new(alloc);
+    if list_to_end(&mut numbers, text)? {
+        Ok(Some(Numbers::new(numbers)))
+    } else {
+        Ok(None)
+    }
 }
 
 /// The number of `parts M`.

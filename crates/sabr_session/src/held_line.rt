@@ -40,7 +40,6 @@ impl<A: Allocator + Copy> HeldLine<A> {
     /// The bytes.
     pub(crate) fn as_slice(&self) -> &[u8]
         ensures value { result.now ≡ self.now }
-        ensures line { IsTrue (is_one_line self.now) }
         ensures limit { length self.now ≤ 660008 }
     {
         self.bytes.as_slice()
@@ -50,7 +49,6 @@ impl<A: Allocator + Copy> HeldLine<A> {
     pub(crate) fn len(&self) -> usize
         ensures value { result ≡ length self.now }
         ensures limit { result ≤ 660008 }
-        ensures line { IsTrue (is_one_line self.now) }
     {
         self.bytes.len()
     }
@@ -61,6 +59,7 @@ impl<A: Allocator + Copy> HeldLine<A> {
         requires line { IsTrue (is_one_line more.now) }
         ensures ok { OnOk result (self.new ≡ self.old ++ more.now) }
         ensures err { OnErr result (self.new ≡ self.old) }
+        ensures line { IsTrue (is_one_line self.new) }
     {
         self.bytes.extend_from_slice(more)?;
         Ok(())

@@ -3,6 +3,7 @@
 #![tactic(auto)]
 
 mod first_lines;
+mod first_number;
 mod head;
 mod held_line;
 mod listed;

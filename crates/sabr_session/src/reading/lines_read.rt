@@ -8,6 +8,7 @@ ghost use Rattle.sabr_session.specs.SessionStage.{said_with};
 
 use crate::first_lines::is_end;
 use crate::head::Head;
+use crate::part_line::PartLine;
 use crate::reading::stage::Stage;
 use crate::session_fault::SessionFault;
 use sabr_frontier::{LoadFault, Session};
@@ -19,12 +20,14 @@ use std::marker::Model;
 /// How many lines stand before and behind those of the parts.
 const OTHER_LINES: u128 = 7;
 
-/// How many lines there are, and what they say. Contracts see a text of which no byte is held.
+/// How many lines there are, what they say, and room for the lists of a part. Contracts see a text of which no byte is
+/// held.
 #[derive(Drop)]
 pub(crate) struct LinesRead<'p, B: BestOf<A>, A: Allocator + Copy> {
     lines: u128,
     head: Head<A>,
     stage: Stage<'p, B, A>,
+    part: PartLine<A>,
 }
 
 impl<'p, B: BestOf<A>, A: Allocator + Copy> Model for LinesRead<'p, B, A> {
@@ -43,6 +46,7 @@ impl<'p, B: BestOf<A>, A: Allocator + Copy> Model for LinesRead<'p, B, A> {
 fn read_said<'p, B: BestOf<A>, A: Allocator + Copy>(
     head: &mut Head<A>,
     stage: &mut Stage<'p, B, A>,
+    part: &mut PartLine<A>,
     digest: &[u8; 32],
     number: u128,
     line: &[u8],
@@ -72,7 +76,7 @@ fn read_said<'p, B: BestOf<A>, A: Allocator + Copy>(
     } else if number == 6 {
         head.read_count(line)
     } else {
-        read_other(head, stage, number, line)
+        read_other(head, stage, part, number, line)
     }
 }
 
@@ -80,6 +84,7 @@ fn read_said<'p, B: BestOf<A>, A: Allocator + Copy>(
 fn read_other<'p, B: BestOf<A>, A: Allocator + Copy>(
     head: &Head<A>,
     stage: &mut Stage<'p, B, A>,
+    part: &mut PartLine<A>,
     number: u128,
     line: &[u8],
 ) -> Result<(), SessionFault>
@@ -94,7 +99,7 @@ fn read_other<'p, B: BestOf<A>, A: Allocator + Copy>(
 {
     let end = OTHER_LINES + u128::from(head.count());
     if number < end {
-        return stage.read_part(number, line);
+        return stage.read_part(part, number, line);
     }
     if number == end && is_end(line) {
         Ok(())
@@ -112,6 +117,7 @@ impl<'p, B: BestOf<A>, A: Allocator + Copy> LinesRead<'p, B, A> {
             lines: 0,
             head: Head::new(alloc),
             stage: Stage::new(alloc, plan, finder),
+            part: PartLine::new(alloc),
         }
     }
 
@@ -138,7 +144,14 @@ impl<'p, B: BestOf<A>, A: Allocator + Copy> LinesRead<'p, B, A> {
         ensures lines { OnOk result (self.new.fed.lines ≡ self.old.fed.lines + 1) }
     {
         let number = self.lines + 1;
-        read_said(&mut self.head, &mut self.stage, digest, number, line)?;
+        read_said(
+            &mut self.head,
+            &mut self.stage,
+            &mut self.part,
+            digest,
+            number,
+            line,
+        )?;
         self.lines = number;
         Ok(())
     }
@@ -153,6 +166,7 @@ impl<'p, B: BestOf<A>, A: Allocator + Copy> LinesRead<'p, B, A> {
             lines: _,
             head,
             stage,
+            part: _,
         } = self;
         match stage.into_session(head.emitted(), head.last()) {
             Ok(session) => Ok(session),

@@ -1,15 +1,13 @@
 //! What the lines of a session text lead to: a loader, once there is a request.
 
 ghost use Rattle.std.specs.Prelude.{◌≡◌, ◌≤◌, [], true, false, Some, None, IfOk, IfErr, OnOk, OnErr};
-ghost use Rattle.std.specs.Option.{option_copied};
 ghost use Rattle.sabr_frontier.specs.Listing.{IsState};
 ghost use Rattle.sabr_frontier.specs.Loading.{IsRefusedBy, state_with};
-ghost use Rattle.sabr_session.specs.SessionLines.{carried_of};
 ghost use Rattle.sabr_session.specs.SessionRead.{nothing_said, placed, part_said};
 ghost use Rattle.sabr_session.specs.SessionLeaving.{Leaves};
 ghost use Rattle.sabr_session.specs.SessionStage.{said_with, staged};
 
-use crate::part_line::{PartLine, part_of};
+use crate::part_line::PartLine;
 use crate::session_fault::SessionFault;
 use sabr_frontier::{LoadFault, Loader, Session};
 use sabr_model::{Plan, Request};
@@ -37,13 +35,6 @@ impl<'p, B: BestOf<A>, A: Allocator + Copy> Model for Stage<'p, B, A> {
     ghost invariant = { λ s. IsStage s.plan.now s.finder s.loader };
 }
 
-/// What a part carries whose third list this is: where it is empty, no route.
-fn carried_of(list: &[u32]) -> Option<&[u32]>
-    ensures { option_copied result ≡ carried_of list.now }
-{
-    if list.is_empty() { None } else { Some(list) }
-}
-
 impl<'p, B: BestOf<A>, A: Allocator + Copy> Stage<'p, B, A> {
     /// Before the request.
     pub(crate) fn new(alloc: A, plan: &'p Plan<A>, finder: B) -> Stage<'p, B, A>
@@ -67,36 +58,40 @@ impl<'p, B: BestOf<A>, A: Allocator + Copy> Stage<'p, B, A> {
         }
     }
 
-    /// Takes in the line of a part, which has this number.
-    pub(crate) fn read_part(&mut self, number: u128, line: &[u8]) -> Result<(), SessionFault>
+    /// Takes in the line of a part, which has this number, by the room for its lists.
+    pub(crate) fn read_part(
+        &mut self,
+        part: &mut PartLine<A>,
+        number: u128,
+        line: &[u8],
+    ) -> Result<(), SessionFault>
         requires request { self.old.has_request ≡ true }
         requires number { 7 ≤ number }
         ensures value { Leaves (part_said self.old.plan.plan number (said_with nothing_said self.old) line.now) result (said_with nothing_said self.new) }
         ensures kept { (self.new.plan ≡ self.old.plan) × (self.new.calls ≡ self.old.calls) × (self.new.has_request ≡ true) }
         ensures err { OnErr result (self.new ≡ self.old) }
     {
-        let Ok(found) = part_of(self.alloc, line) else {
+        let Ok(found) = part.read(line) else {
             return Err(SessionFault::NoMemory);
         };
-        let Some(part) = found else {
-            return Err(SessionFault::BadLine(number));
-        };
-        self.add_part(number, &part)
+        if found {
+            self.add_part(number, part)
+        } else {
+            Err(SessionFault::BadLine(number))
+        }
     }
 
     /// Adds the part of a line of this number.
     fn add_part(&mut self, number: u128, part: &PartLine<A>) -> Result<(), SessionFault>
         requires { self.old.has_request ≡ true }
-        ensures value { Leaves (placed self.old.plan.plan number (said_with nothing_said self.old) (record { prefix = part.now.prefix; excluded = part.now.excluded; carried = carried_of part.now.route })) result (said_with nothing_said self.new) }
+        ensures value { Leaves (placed self.old.plan.plan number (said_with nothing_said self.old) part.now) result (said_with nothing_said self.new) }
         ensures kept { (self.new.plan ≡ self.old.plan) × (self.new.calls ≡ self.old.calls) × (self.new.has_request ≡ true) }
         ensures err { OnErr result (self.new ≡ self.old) }
     {
         let Some(loader) = &mut self.loader else {
             return Err(SessionFault::NoMemory);
         };
-        let prefix = part.prefix.as_slice();
-        let excluded = part.excluded.as_slice();
-        match loader.add_part(prefix, excluded, carried_of(part.route.as_slice())) {
+        match loader.add_part(part.prefix(), part.excluded(), part.carried()) {
             Ok(()) => Ok(()),
             Err(LoadFault::BadOrder) => Err(SessionFault::BadLine(number)),
             Err(LoadFault::BadRoute) => Err(SessionFault::BadRoute(number)),

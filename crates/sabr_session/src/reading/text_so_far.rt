@@ -27,9 +27,9 @@ pub(crate) struct TextSoFar<'p, B: BestOf<A>, A: Allocator + Copy> {
 }
 
 impl<'p, B: BestOf<A>, A: Allocator + Copy> Model for TextSoFar<'p, B, A> {
-    ghost use Rattle.std.specs.Prelude.{◌≡◌, ◌+◌, ◌&&◌, false};
+    ghost use Rattle.std.specs.Prelude.{◌≡◌, ◌+◌, ◌&&◌, false, IsTrue};
     ghost use Rattle.sabr_plan.specs.Canonical.{digest_of};
-    ghost use Rattle.sabr_plan.specs.Words.{has_bytes};
+    ghost use Rattle.sabr_plan.specs.Words.{has_bytes, is_one_line};
     ghost use Rattle.sabr_session.specs.SessionRead.{is_behind};
     ghost use Rattle.sabr_session.specs.SessionFed.{OpenText};
 
@@ -37,7 +37,7 @@ impl<'p, B: BestOf<A>, A: Allocator + Copy> Model for TextSoFar<'p, B, A> {
 
     ghost view = { λ t. record { plan = t.lines.plan; calls = t.lines.calls; fed = record { lines = t.lines.fed.lines; said = t.lines.fed.said; held = t.held } } };
 
-    ghost invariant = { λ t. (t.digest ≡ digest_of t.lines.plan.plan) × ((is_behind (t.lines.fed.lines + 1) t.lines.fed.said && has_bytes t.held) ≡ false) };
+    ghost invariant = { λ t. (t.digest ≡ digest_of t.lines.plan.plan) × ((is_behind (t.lines.fed.lines + 1) t.lines.fed.said && has_bytes t.held) ≡ false) × IsTrue (is_one_line t.held) };
 }
 
 /// The fault of a line of this number that isn't spelled as it has to be.
@@ -146,8 +146,6 @@ impl<'p, B: BestOf<A>, A: Allocator + Copy> TextSoFar<'p, B, A> {
         ensures from { IsSessionFrom self.entry.plan (outcome_of self.entry [] true) result }
         ensures calls { IfOk result (λ s. s.calls ≡ self.entry.calls) }
     {
-        // contracts learn here that what is held is a line
-        let _ = self.held.len();
         if !self.lines.has_end() {
             return Err(misspelled(self.lines.next_number()));
         }

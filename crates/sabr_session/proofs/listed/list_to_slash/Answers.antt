@@ -1,26 +1,32 @@
-use Rattle.std.proofs.Common.{Some, None, length, sym, ap, ◌∙◌}
-use Rattle.sabr_session.specs.SessionWords.{words_of, before_slash}
-use Rattle.sabr_session.proofs.ReadNumbers.{counted-some, counted-none, no_length, some_length}
-use Rattle.sabr_session.proofs.SlashLists.{dashed, numbered}
+-- Numbers, or `-` where there are none.
+use Rattle.std.proofs.Common.{◌≡◌, ℕ, true, false, List, Option, Some, None, [], map, length, ◌<◌, sym, ap, ◌∙◌, arith}
+use Rattle.std.proofs.lemmas.Bool.Decides.{nat_tests}
+use Rattle.std.specs.Option.{MatchOption}
+use Rattle.sabr_session.specs.SessionWords.{words_of, all_of, counted, is_dash, contacts_of, before_slash}
+use Rattle.sabr_plan.specs.Numbers.{number_within}
+use Rattle.sabr_session.proofs.ReadNumbers.{counted-some, counted-none}
+use Rattle.sabr_session.proofs.SlashLists.{dashed, numbered, numbers-undashed}
 use Rattle.sabr_session.proofs.listed.list_to_slash.Goals as goal
 
-pub returns-in_default-2 : goal.returns-in_default-2
-returns-in_default-2 g c =
-    numbered (before_slash (words_of c.args.text.now)) None c.in_default.ensures (rw c.in_default-2.is at (c.in_ok-listed.ensures {u = tt}))
+-- without numbers the list is `-` or none
+dash_or_none : {X : Type 0} (ws : List (List ℕ)) (ns : List ℕ) (r : Option X) (P Q : X → Type 0) → counted 20000 (all_of (map (number_within 1 4294967295) ws)) ≡ None → ns ≡ []
+    → MatchOption r (is_dash ws ≡ false) (λ e. (is_dash ws ≡ true) × P e × Q e)
+    → MatchOption r (contacts_of ws ≡ None) (λ e. (contacts_of ws ≡ Some ns) × P e × Q e)
+dash_or_none ws ns None P Q none empty h = numbered ws None h none
+dash_or_none ws ns (Some e) P Q none empty h = (dashed ws h.0 ∙ ap Some (sym empty), h.1, h.2)
 
-pub returns-in-Some : goal.returns-in-Some
-returns-in-Some g c =
-    let h = c.in-Some.ensures in
-    (dashed (before_slash (words_of c.args.text.now)) h.0 ∙ ap Some (sym (c.new-in-Some.ensures ∙ c.new.ensures.items)), h.1, h.2)
+pub returns-in_default : goal.returns-in_default
+returns-in_default g c =
+    dash_or_none (before_slash (words_of c.args.text.now)) _ c.dash_to_slash.result _ _ (rw c.in_default.is at (c.in_ok-end.ensures {u = tt})) c.clear.ensures.items c.dash_to_slash.ensures
 
 pub returns-then-is_empty : goal.returns-then-is_empty
 returns-then-is_empty g c =
-    let h = rw c.in-Some-2.is at (c.in_ok-listed.ensures {u = tt}) in
-    let none = no_length (length c.in-Some-2.listed.numbers) (sym c.is_empty.ensures ∙ c.if-is_empty.true) in
-    numbered (before_slash (words_of c.args.text.now)) None c.in_default.ensures (counted-none 20000 _ c.in-Some-2.listed.numbers h.0 none)
+    let h = rw c.in-Some.is at (c.in_ok-end.ensures {u = tt}) in
+    let none : length c.numbers_to_slash.new.numbers.items ≡ 0 = grind (arith, nat_tests) in
+    numbered (before_slash (words_of c.args.text.now)) None (numbers-undashed _ _ h.0) (counted-none 20000 _ _ h.0 none)
 
 pub returns : goal.returns
 returns g c =
-    let h = rw c.in-Some-2.is at (c.in_ok-listed.ensures {u = tt}) in
-    let some = some_length (length c.in-Some-2.listed.numbers) (sym c.is_empty.ensures ∙ c.if-is_empty.false) in
-    (numbered (before_slash (words_of c.args.text.now)) (Some c.in-Some-2.listed.numbers) c.in_default.ensures (counted-some 20000 _ c.in-Some-2.listed.numbers h.0 some h.1), h.2, h.3)
+    let h = rw c.in-Some.is at (c.in_ok-end.ensures {u = tt}) in
+    let some : 0 < length c.numbers_to_slash.new.numbers.items = grind (arith, nat_tests) in
+    (numbered (before_slash (words_of c.args.text.now)) (Some c.numbers_to_slash.new.numbers.items) (numbers-undashed _ _ h.0) (counted-some 20000 _ _ h.0 some h.1), h.2, h.3)

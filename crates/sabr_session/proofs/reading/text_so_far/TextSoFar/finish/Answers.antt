@@ -9,10 +9,10 @@ pub returns-then-not-has_end-clause-from : goal.returns-then-not-has_end-clause-
 returns-then-not-has_end-clause-from g c =
     let i = c.self.inside in
     let s : OpenText = record { plan = i.lines.plan; calls = i.lines.calls; fed = record { lines = i.lines.fed.lines; said = i.lines.fed.said; held = i.held } } in
-    rw (← c.self.view_is) (ended_early s c.len.ensures.line c.misspelled.result _ (sym c.has_end.ensures ∙ c.if-not-has_end.true) (c.misspelled.ensures ∙ ap misspelled c.next_number.ensures.value) refl)
+    rw (← c.self.view_is) (ended_early s c.self.invariant.2 c.misspelled.result _ (sym c.has_end.ensures ∙ c.if-not-has_end.true) (c.misspelled.ensures ∙ ap misspelled c.next_number.ensures.value) refl)
 
 pub returns-clause-from : goal.returns-clause-from
 returns-clause-from g c =
     let i = c.self.inside in
     let s : OpenText = record { plan = i.lines.plan; calls = i.lines.calls; fed = record { lines = i.lines.fed.lines; said = i.lines.fed.said; held = i.held } } in
-    rw (← c.self.view_is) (ended_well s c.len.ensures.line _ (sym c.has_end.ensures ∙ c.if-not-has_end.false) c.self.invariant.1 c.into_session.ensures.from)
+    rw (← c.self.view_is) (ended_well s c.self.invariant.2 _ (sym c.has_end.ensures ∙ c.if-not-has_end.false) c.self.invariant.1 c.into_session.ensures.from)
