@@ -18,7 +18,7 @@ use Rattle.sabr_search.specs.Following.{tabled_of}
 use Rattle.sabr_search.specs.Laying.{IsWhole, AreAllLate, AreGathered}
 use Rattle.sabr_search.proofs.Ways.{Leads-later}
 use Rattle.sabr_search.proofs.Bridge.{takes_timely}
-use Rattle.sabr_search.proofs.MadeLayers.{index_past}
+use Rattle.sabr_search.proofs.Ended.{inside, late_way}
 use Rattle.sabr_search.proofs.OverLinks.{same_some}
 use Rattle.sabr_search.proofs.LateLayers.{base}
 
@@ -42,38 +42,15 @@ module _ (task : SearchTask) (whole : IsWhole task) where
   leads_takes (n ∷ ns) u t v e way = (way.0, way.1, takes_of n u t way.0 way.1 way.2, leads_takes ns way.0 way.1 v e way.3)
 
   module _ (d left : ℕ) (ends late : List ℕ) (reached : List Reached) (all : AreAllLate task d left ends late reached) where
-    -- no entry is in the last layer or behind it
-    inside : (j v a x : ℕ) → Entry ends reached j v a x → j < left
-    inside j v a x e = elim (cases_lt j left) [
-      | inl less ↦ less
-      | inr le ↦ elim (cases_eq j left) [
-        | inl same ↦ absurd (omega (arith, e.1, e.2, all.last, ap (slice_index ends) same, ap (λ k. slice_index ends (k + 1)) same))
-        | inr other ↦ absurd (omega (arith, index_past ends (j + 1) (omega (arith, all.made.many)), e.2))
-      ]
-    ]
-
-    goal_entry : Entry ends reached 0 task.goal all.made.goal_first.0 (d + 1)
-    goal_entry = (0, omega (arith, all.made.first_end), omega (arith, all.made.second_end), all.made.goal_first.1)
-
-    -- each way on by d has an entry, of no more hops
-    late_way : (ns : List ℕ) (v t e : ℕ) → slice_index_or task.shut v false ≡ false → Leads (Takes task) v t ns task.goal e → e ≤ d →
-        (j : ℕ) × (a : ℕ) × (x : ℕ) × (j ≤ length ns) × Entry ends reached j v a x × (t < x)
-    late_way [] v t e unshut way le = (0, all.made.goal_first.0, d + 1, omega arith, rw (way.0) goal_entry, omega (arith, way.1))
-    late_way (n ∷ ns) v t e unshut way le =
-        let step : Takes task n v t way.0 way.1 = way.2 in
-        let r = late_way ns way.0 way.1 e step.unshut way.3 le in
-        elim (cases_eq v task.goal) [
-          | inl same ↦ (0, all.made.goal_first.0, d + 1, omega arith, rw same goal_entry, omega (arith, Leads-later (Takes task) (takes_timely task whole.is.nodes) (n ∷ ns) v t task.goal e way))
-          | inr other ↦
-              (let told = (all.made.taken r.0 way.0 r.1 r.2 n v t way.1 (inside r.0 way.0 r.1 r.2 r.4) r.4 r.5 step).1 unshut other (soonest_zero all.since d v t (all.zero v)) in
-              (told.0, told.1, told.2, omega (arith, told.3, r.3), told.4, told.5))
-        ]
+    in_layers : (j v a x : ℕ) → Entry ends reached j v a x → j < left
+    in_layers = inside task whole.is all.since d left ends late all.place reached all.made all.last
 
     pub entry_of_way : (ns : List ℕ) (v t e : ℕ) → IsWayOn (tabled_of task) task.request v t ns e → e ≤ d → (j : ℕ) × (a : ℕ) × (x : ℕ) × (j ≤ length ns) × Entry ends reached j v a x × (t < x)
     entry_of_way ns v t e on le =
         let to : on.goal ≡ task.goal = whole.is.nodes.apart on.goal task.goal task.request.destination on.goal_is whole.goal_is in
         let way : Leads (Takes task) v t ns task.goal e = leads_takes ns v t task.goal e (subst (λ g. Leads (Goes (tabled_of task) task.request) v t ns g e) to on.way) in
-        late_way ns v t e (whole.shuts v on.open_node.node on.open_node.stands ∙ on.open_node.unshut) way le
+        late_way task whole.is all.since d left ends late all.place reached all.made all.last (λ (u s : ℕ). 0 ≤ s) (λ n u s w b at step. omega arith) (λ u s at. soonest_zero all.since d u s (all.zero u)) ns v t e
+        (omega arith) (whole.shuts v on.open_node.node on.open_node.stands ∙ on.open_node.unshut) way le
 
     -- so the latest seconds are a floor, once the goal has its own
     pub floor_of : (deadline : ℕ) → d + 1 ≡ deadline → (before : List ℕ) → before ≡ slice_set late task.goal deadline → IsFloor (tabled_of task) task.request deadline before
@@ -100,7 +77,7 @@ module _ (task : SearchTask) (whole : IsWhole task) where
     dues_of gathered dues are moved = λ ns v t e on le.
         (let r = entry_of_way ns v t e on le in
         let due : Due = record { node = v; hops = r.0; late = r.2 } in
-        let at = moved due (are r.0 v r.1 r.2 (inside r.0 v r.1 r.2 r.4) r.4) in
+        let at = moved due (are r.0 v r.1 r.2 (in_layers r.0 v r.1 r.2 r.4) r.4) in
         (at.0, due, at.1, refl, r.3, r.5))
 
 -- where layers end rises

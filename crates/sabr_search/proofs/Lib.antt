@@ -35,3 +35,4 @@ pub mod Tables
 pub mod AllLayers
 pub mod Beside
 pub mod Tries
+pub mod Ended

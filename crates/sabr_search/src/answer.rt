@@ -8,7 +8,8 @@ ghost use Rattle.sabr_search.specs.Ways.{Leads};
 ghost use Rattle.sabr_search.specs.Task.{IsTask, IsBehind, Takes, never};
 ghost use Rattle.sabr_search.specs.Picks.{IsLeastWay, IsPicked};
 ghost use Rattle.sabr_search.specs.Deadlines.{AreTimed};
-ghost use Rattle.sabr_search.specs.Late.{AreArrivals};
+ghost use Rattle.sabr_search.specs.Late.{AreArrivals, IsEnded};
+ghost use Rattle.sabr_search.specs.Following.{IsNoneBefore};
 ghost use Rattle.sabr_search.specs.Told.{hops_told, IsTold};
 
 use crate::layers::{Best, Layers, Limits};
@@ -133,6 +134,7 @@ impl<A: Allocator + Copy> Layers<A> {
         requires arrivals { AreArrivals task.now arrival.now first.delivery }
         requires least { (ns : List ℕ) (e : ℕ) → Leads (Takes task.now) task.now.start task.now.at ns task.now.goal e → first.delivery ≤ e }
         ensures some { IfOk result (λ o. IfSome o (λ route. (s : List ℕ) × (route.contacts ≡ prefix.now ++ s) × IsLeastWay task.now first.hops (first.delivery + 1) s route.delivery × IsTold task.now.plan route)) }
+        ensures ended { IfOk result (λ o. IfNone o (IsEnded self.new.ends.items → IsNoneBefore task.now (first.delivery + 1))) }
         ensures refused { OnErr result (looks.new.count ≤ most + first.hops * length task.now.plan.contacts) }
         ensures looks { IfOk result (λ o. looks.new.count ≤ most + (hops_told o - length prefix.now) * length task.now.plan.contacts + hops_told o) }
         ensures counted { IfOk result (λ o. hops_told o ≤ looks.new.count) }

@@ -6,7 +6,7 @@ ghost use Rattle.sabr_search.specs.Task.{IsTask, IsBehind, Takes, never};
 ghost use Rattle.sabr_search.specs.Told.{hops_told, IsTold};
 ghost use Rattle.sabr_search.specs.Picks.{IsLeastWay};
 ghost use Rattle.sabr_search.specs.Kept.{AreSpans, IsRung, IsKept};
-ghost use Rattle.sabr_search.specs.Following.{tabled_of, ComesTo, AreFirstSteps, IsLeastDue, IsWalked};
+ghost use Rattle.sabr_search.specs.Following.{tabled_of, ComesTo, AreFirstSteps, IsNoneBefore, IsLeastDue, IsWalked};
 
 use crate::answer::record;
 use crate::kept::Kept;
@@ -212,7 +212,7 @@ impl<'a, A: Allocator + Copy> Task<'a, A> {
         requires rung { IsRung (tabled_of self.now) self.now.request rung.now }
         requires inside { (k : ℕ) (s : Standing) → slice_get first.now k ≡ Some s → s.node < length self.now.table }
         requires first { AreFirstSteps self.now first.now }
-        requires least { (ns : List ℕ) (e : ℕ) → Leads (Takes self.now) self.now.start self.now.at ns self.now.goal e → rung.now.deadline ≤ e }
+        requires least { IsNoneBefore self.now rung.now.deadline }
         ensures refused { OnErr result (looks.new.count ≤ most) }
         ensures looks { IfOk result (λ o. looks.new.count ≤ most + hops_told o) }
         ensures counted { IfOk result (λ o. hops_told o ≤ looks.new.count) }
@@ -239,17 +239,17 @@ fn meets<A: Allocator + Copy>(rung: &Rung<A>, first: &[Standing]) -> bool
 }
 
 impl<A: Allocator + Copy> Kept<A> {
-    /// The table of the least deadline for which a first step is in time.
-    fn met(&self, _task: &Task<'_, A>, first: &[Standing]) -> Option<usize>
+    /// The table of the least deadline from the floor on for which a first step is in time.
+    fn met(&self, _task: &Task<'_, A>) -> Option<usize>
         requires kept { IsKept (tabled_of _task.now) _task.now.request self.now }
-        requires inside { (k : ℕ) (s : Standing) → slice_get first.now k ≡ Some s → s.node < length _task.now.table }
+        requires inside { (k : ℕ) (s : Standing) → slice_get self.now.first.items k ≡ Some s → s.node < length _task.now.table }
         ensures { IfSome result (λ place. place < length self.now.rungs.items) }
     {
         let mut least = NEVER;
         let mut found = None;
         for place in 0..self.rungs.len() {
             let rung = &self.rungs[place];
-            if rung.deadline < least && meets(rung, first) {
+            if self.floor <= rung.deadline && rung.deadline < least && meets(rung, &self.first) {
                 least = rung.deadline;
                 found = Some(place);
             }
@@ -257,8 +257,8 @@ impl<A: Allocator + Copy> Kept<A> {
         found
     }
 
-    /// The least route behind the prefix, where a table shows that none delivers before its deadline: read off it, or else
-    /// by a short try backward from the goal.
+    /// The least route behind the prefix, where none delivers before the deadline of a table: read off it, or else by a
+    /// short try backward from the goal. Raises the floor.
     fn answer_at(
         &mut self,
         layers: &mut Layers<A>,
@@ -273,29 +273,78 @@ impl<A: Allocator + Copy> Kept<A> {
         requires behind { IsBehind task.now prefix.now }
         requires few { looks.old.count ≤ most }
         requires most { most ≤ 2 ^ 60 }
+        requires short { length prefix.now < max_hops }
         requires kept { IsKept (tabled_of task.now) task.now.request self.old }
         requires place { place < length self.old.rungs.items }
         requires inside { (k : ℕ) (s : Standing) → slice_get self.old.first.items k ≡ Some s → s.node < length task.now.table }
         requires first { AreFirstSteps task.now self.old.first.items }
-        ensures kept { self.new.rungs ≡ self.old.rungs }
+        requires floor { IsNoneBefore task.now self.old.floor }
+        ensures rungs { self.new.rungs ≡ self.old.rungs }
+        ensures first { self.new.first ≡ self.old.first }
+        ensures floor { IsNoneBefore task.now self.new.floor }
         ensures refused { OnErr result (looks.new.count ≤ most + length task.now.table * length task.now.plan.contacts) }
         ensures looks { IfOk result (λ o. looks.new.count ≤ most + (hops_told o - length prefix.now) * length task.now.plan.contacts + hops_told o) }
         ensures counted { IfOk result (λ o. hops_told o ≤ looks.new.count) }
         ensures some { IfOk result (λ o. IfSome o (λ route. (s : List ℕ) × (route.contacts ≡ prefix.now ++ s) × (length prefix.now + length s ≤ max_hops) × IsLeastWay task.now max_hops (route.delivery + 1) s route.delivery × IsTold task.now.plan route)) }
     {
+        self.raise_floor(layers, task, looks, most, place)?;
         let rung = &self.rungs[place];
-        let deadline = rung.deadline;
-        if prefix.len() >= max_hops as usize || !rung.comes_no_sooner(&self.first) {
+        if self.floor != rung.deadline {
             return Ok(None);
         }
         let read = task.follow_rung(self.alloc, looks, most, rung, &self.first, prefix, max_hops)?;
         if let Some(route) = read {
             return Ok(Some(route));
         }
-        self.try_back(layers, task, looks, most, deadline, prefix, max_hops)
+        let tried = self.try_back(layers, task, looks, most, prefix, max_hops)?;
+        Ok(tried)
     }
 
-    /// The least route behind the prefix, where a table helps to tell it within `most` looks.
+    /// The least route behind the prefix, by the table that is met first, or else by the next one where none delivers by
+    /// the first one's deadline.
+    fn answer_met(
+        &mut self,
+        layers: &mut Layers<A>,
+        task: &Task<'_, A>,
+        looks: &mut Looks,
+        most: u64,
+        prefix: &[u32],
+        max_hops: u32,
+    ) -> Result<Option<Route<A>>, NoMemory>
+        requires task { IsTask task.now }
+        requires behind { IsBehind task.now prefix.now }
+        requires few { looks.old.count ≤ most }
+        requires most { most ≤ 2 ^ 60 }
+        requires short { length prefix.now < max_hops }
+        requires kept { IsKept (tabled_of task.now) task.now.request self.old }
+        requires inside { (k : ℕ) (s : Standing) → slice_get self.old.first.items k ≡ Some s → s.node < length task.now.table }
+        requires first { AreFirstSteps task.now self.old.first.items }
+        requires floor { IsNoneBefore task.now self.old.floor }
+        ensures rungs { self.new.rungs ≡ self.old.rungs }
+        ensures refused { OnErr result (looks.new.count ≤ most + length task.now.table * length task.now.plan.contacts) }
+        ensures looks { IfOk result (λ o. looks.new.count ≤ most + (hops_told o - length prefix.now) * length task.now.plan.contacts + hops_told o) }
+        ensures counted { IfOk result (λ o. hops_told o ≤ looks.new.count) }
+        ensures some { IfOk result (λ o. IfSome o (λ route. (s : List ℕ) × (route.contacts ≡ prefix.now ++ s) × (length prefix.now + length s ≤ max_hops) × IsLeastWay task.now max_hops (route.delivery + 1) s route.delivery × IsTold task.now.plan route)) }
+    {
+        let Some(place) = self.met(task) else {
+            return Ok(None);
+        };
+        let deadline = self.rungs[place].deadline;
+        let read = self.answer_at(layers, task, looks, most, place, prefix, max_hops)?;
+        if let Some(route) = read {
+            return Ok(Some(route));
+        }
+        if self.floor <= deadline {
+            return Ok(None);
+        }
+        let Some(next) = self.met(task) else {
+            return Ok(None);
+        };
+        let later = self.answer_at(layers, task, looks, most, next, prefix, max_hops)?;
+        Ok(later)
+    }
+
+    /// The least route behind the prefix, where tables help to tell it within `most` looks.
     pub fn follow(
         &mut self,
         layers: &mut Layers<A>,
@@ -316,17 +365,15 @@ impl<A: Allocator + Copy> Kept<A> {
         ensures counted { IfOk result (λ o. hops_told o ≤ looks.new.count) }
         ensures some { IfOk result (λ o. IfSome o (λ route. (s : List ℕ) × (route.contacts ≡ prefix.now ++ s) × (length prefix.now + length s ≤ max_hops) × IsLeastWay task.now max_hops (route.delivery + 1) s route.delivery × IsTold task.now.plan route)) }
     {
-        if !self.pays() {
+        if prefix.len() >= max_hops as usize || !self.pays() {
             return Ok(None);
         }
         let whole = task.first_steps(looks, most, &mut self.first)?;
         if !whole {
             return Ok(None);
         }
-        let Some(place) = self.met(task, &self.first) else {
-            return Ok(None);
-        };
-        let found = self.answer_at(layers, task, looks, most, place, prefix, max_hops)?;
+        self.floor = 0;
+        let found = self.answer_met(layers, task, looks, most, prefix, max_hops)?;
         self.count_answer(found.is_some());
         Ok(found)
     }

@@ -1,11 +1,12 @@
 //! Hop layers made backward from the goal, once the first delivery is known: by number of hops the nodes from which so
 //! many lead to the goal by then, where fewer don't from as late on.
 
-ghost use Rattle.std.specs.Prelude.{◌≡◌, ◌≢◌, ℕ, ◌+◌, ◌^◌, ◌≤◌, ◌<◌, min, take, length, true, false, IsTrue, slice_get, slice_index, slice_index_or, slice_set, Some, None, OnOk, IfOk, IfSome, List, [], ◌∷◌, ◌++◌, ◌-◌, replicate, reverse};
+ghost use Rattle.std.specs.Prelude.{◌≡◌, ◌≢◌, ℕ, ◌+◌, ◌^◌, ◌≤◌, ◌<◌, min, take, length, true, false, IsTrue, slice_get, slice_index, slice_index_or, slice_set, Some, None, OnOk, IfOk, IfSome, IfNone, List, [], ◌∷◌, ◌++◌, ◌-◌, replicate, reverse};
 ghost use Rattle.sabr_model.specs.Links.{AreWithin};
 ghost use Rattle.sabr_search.specs.Task.{IsTask, Takes, never};
 ghost use Rattle.sabr_search.specs.Linked.{IsLinkAt, HasNumber};
-ghost use Rattle.sabr_search.specs.Late.{soonest, InTimeFor, AreLate, IsNotedLate, IsToldLate, AreTold, AreArrivals, AreLateLayers, IsMet};
+ghost use Rattle.sabr_search.specs.Late.{soonest, InTimeFor, AreLate, IsNotedLate, IsToldLate, AreTold, AreArrivals, AreLateLayers, IsMet, IsEnded};
+ghost use Rattle.sabr_search.specs.Following.{IsNoneBefore};
 ghost use Rattle.sabr_search.specs.Ways.{Leads};
 ghost use Rattle.sabr_search.specs.Deadlines.{AreTimed};
 
@@ -277,7 +278,7 @@ impl<A: Allocator + Copy> Layers<A> {
 
     /// Layers backward from the goal, until the start is in time for one: answers how many hops that one is from the
     /// goal. None where the plan isn't ready, where a layer is empty, or where more than `most` looks might be needed.
-    fn make_back(
+    pub fn make_back(
         &mut self,
         task: &Task<'_, A>,
         looks: &mut Looks,
@@ -286,7 +287,7 @@ impl<A: Allocator + Copy> Layers<A> {
         most: u64,
     ) -> Result<Option<usize>, NoMemory>
         requires task { IsTask task.now }
-        requires arrivals { length arrival.now ≡ length task.now.table }
+        requires arrivals { AreArrivals task.now arrival.now first.delivery }
         requires early { first.delivery < never }
         requires few { looks.old.count ≤ most }
         requires most { most ≤ 2 ^ 62 }
@@ -294,6 +295,7 @@ impl<A: Allocator + Copy> Layers<A> {
         ensures within { IfOk result (λ o. IfSome o (λ left. left < first.hops)) }
         ensures made { IfOk result (λ o. IfSome o (λ left. (late place : List ℕ) × AreLateLayers task.now arrival.now first.delivery left self.new.ends.items late place self.new.reached.items)) }
         ensures met { IfOk result (λ o. IfSome o (λ left. IsMet task.now left self.new.ends.items self.new.reached.items)) }
+        ensures ended { IfOk result (λ o. IfNone o (IsEnded self.new.ends.items → IsNoneBefore task.now (first.delivery + 1))) }
     {
         self.first_back(task, first.delivery)?;
         for left in 0..first.hops {
@@ -313,6 +315,17 @@ impl<A: Allocator + Copy> Layers<A> {
             self.ends.push(end)?;
         }
         Ok(None)
+    }
+
+    /// Whether the layers that were made backward end with an empty one.
+    pub fn have_ended(&self) -> bool
+        ensures { IsTrue result → IsEnded self.now.ends.items }
+    {
+        let count = self.ends.len();
+        if count < 2 {
+            return false;
+        }
+        self.ends[count - 2] == self.ends[count - 1]
     }
 
     /// Turns the entries that were made backward round; the start takes the goal's place and stands in front as well.
@@ -380,6 +393,7 @@ impl<A: Allocator + Copy> Layers<A> {
         ensures delivery { IfOk result (λ o. IfSome o (λ best. best.delivery ≡ first.delivery)) }
         ensures within { IfOk result (λ o. IfSome o (λ best. (0 < best.hops) × (best.hops ≤ first.hops))) }
         ensures timed { IfOk result (λ o. IfSome o (λ best. AreTimed task.now best 1 self.new.bounds.items self.new.place.items self.new.reached.items)) }
+        ensures ended { IfOk result (λ o. IfNone o (IsEnded self.new.ends.items → IsNoneBefore task.now (first.delivery + 1))) }
     {
         let made = self.make_back(task, looks, arrival, first, most)?;
         let Some(left) = made else {

@@ -43,6 +43,7 @@ pub struct Kept<A: Allocator + Copy = Global> {
     pub seen: Vec<Seen, A>,
     pub first: Vec<Standing, A>,
     pub since: Vec<u64, A>,
+    pub floor: u64,
     pub tried: u32,
     pub answered: u32,
 }
@@ -58,6 +59,7 @@ impl<A: Allocator + Copy> Kept<A> {
             seen: Vec::new(alloc),
             first: Vec::new(alloc),
             since: Vec::new(alloc),
+            floor: 0,
             tried: 0,
             answered: 0,
         }

@@ -1,11 +1,12 @@
-//! A short try backward from the goal, where a table tells the delivery and its walk comes to a dead end.
+//! Short tries backward from the goal: they show before which second none delivers, and what a table's dead end hides.
 
-ghost use Rattle.std.specs.Prelude.{◌≡◌, ◌++◌, ℕ, List, ◌+◌, ◌-◌, ◌*◌, ◌^◌, ◌≤◌, ◌<◌, Some, IfOk, IfSome, OnErr, length, slice_get};
-ghost use Rattle.sabr_search.specs.Ways.{Leads};
-ghost use Rattle.sabr_search.specs.Task.{IsTask, IsBehind, Takes};
+ghost use Rattle.std.specs.Prelude.{◌≡◌, ◌++◌, ℕ, List, ◌+◌, ◌-◌, ◌*◌, ◌^◌, ◌≤◌, ◌<◌, Some, IfOk, IfSome, OnOk, OnErr, length, slice_get};
+ghost use Rattle.sabr_search.specs.Task.{IsTask, IsBehind};
+ghost use Rattle.sabr_search.specs.Late.{AreArrivals};
+ghost use Rattle.sabr_search.specs.Kept.{IsKept};
 ghost use Rattle.sabr_search.specs.Told.{hops_told, IsTold};
 ghost use Rattle.sabr_search.specs.Picks.{IsLeastWay};
-ghost use Rattle.sabr_search.specs.Following.{AreFirstSteps};
+ghost use Rattle.sabr_search.specs.Following.{tabled_of, AreFirstSteps, IsNoneBefore};
 
 use crate::kept::Kept;
 use crate::layers::{Best, Layers, NEVER};
@@ -31,15 +32,75 @@ fn soonest_of(first: &[Standing]) -> u64
 }
 
 impl<A: Allocator + Copy> Kept<A> {
-    /// The least route behind the prefix, where none delivers before the deadline, and a few looks backward from the goal
-    /// show one that does by then.
+    /// Makes ready for layers backward: no way comes to a node before the soonest of the first steps.
+    fn begin_back(&mut self, task: &Task<'_, A>) -> Result<(), NoMemory>
+        requires task { IsTask task.now }
+        requires first { AreFirstSteps task.now self.old.first.items }
+        ensures rungs { self.new.rungs ≡ self.old.rungs }
+        ensures first { self.new.first ≡ self.old.first }
+        ensures floor { self.new.floor ≡ self.old.floor }
+        ensures since { OnOk result ((d : ℕ) → AreArrivals task.now self.new.since.items d) }
+    {
+        let soonest = soonest_of(&self.first);
+        self.since.clear();
+        self.since.resize(task.shut().len(), soonest)?;
+        Ok(())
+    }
+
+    /// Raises the floor to the deadline of a table, where none delivers before it: by the table's floors, or else where a
+    /// few looks backward from the goal show it.
+    pub fn raise_floor(
+        &mut self,
+        layers: &mut Layers<A>,
+        task: &Task<'_, A>,
+        looks: &mut Looks,
+        most: u64,
+        place: usize,
+    ) -> Result<(), NoMemory>
+        requires task { IsTask task.now }
+        requires behind { (prefix : List ℕ) × IsBehind task.now prefix }
+        requires few { looks.old.count ≤ most }
+        requires most { most ≤ 2 ^ 60 }
+        requires kept { IsKept (tabled_of task.now) task.now.request self.old }
+        requires place { place < length self.old.rungs.items }
+        requires inside { (k : ℕ) (s : Standing) → slice_get self.old.first.items k ≡ Some s → s.node < length task.now.table }
+        requires first { AreFirstSteps task.now self.old.first.items }
+        requires floor { IsNoneBefore task.now self.old.floor }
+        ensures looks { looks.new.count ≤ most }
+        ensures rungs { self.new.rungs ≡ self.old.rungs }
+        ensures first { self.new.first ≡ self.old.first }
+        ensures floor { IsNoneBefore task.now self.new.floor }
+    {
+        let rung = &self.rungs[place];
+        let deadline = rung.deadline;
+        if deadline <= self.floor || deadline == NEVER {
+            return Ok(());
+        }
+        if rung.comes_no_sooner(&self.first) {
+            self.floor = deadline;
+            return Ok(());
+        }
+        self.begin_back(task)?;
+        let before = Best {
+            delivery: deadline - 1,
+            hops: task.shut().len(),
+        };
+        let end = most.min(looks.count + TRY);
+        let met = layers.make_back(task, looks, &self.since, before, end)?;
+        if met.is_none() && layers.have_ended() {
+            self.floor = deadline;
+        }
+        Ok(())
+    }
+
+    /// The least route behind the prefix, where none delivers before the floor, and a few looks backward from the goal show
+    /// one that does by then; where they show that none does, the floor is raised.
     pub fn try_back(
         &mut self,
         layers: &mut Layers<A>,
         task: &Task<'_, A>,
         looks: &mut Looks,
         most: u64,
-        deadline: u64,
         prefix: &[u32],
         max_hops: u32,
     ) -> Result<Option<Route<A>>, NoMemory>
@@ -49,25 +110,29 @@ impl<A: Allocator + Copy> Kept<A> {
         requires most { most ≤ 2 ^ 60 }
         requires short { length prefix.now < max_hops }
         requires first { AreFirstSteps task.now self.old.first.items }
-        requires least { (ns : List ℕ) (e : ℕ) → Leads (Takes task.now) task.now.start task.now.at ns task.now.goal e → deadline ≤ e }
-        ensures kept { self.new.rungs ≡ self.old.rungs }
+        requires floor { IsNoneBefore task.now self.old.floor }
+        ensures rungs { self.new.rungs ≡ self.old.rungs }
+        ensures first { self.new.first ≡ self.old.first }
+        ensures floor { IsNoneBefore task.now self.new.floor }
         ensures refused { OnErr result (looks.new.count ≤ most + length task.now.table * length task.now.plan.contacts) }
         ensures looks { IfOk result (λ o. looks.new.count ≤ most + (hops_told o - length prefix.now) * length task.now.plan.contacts + hops_told o) }
         ensures counted { IfOk result (λ o. hops_told o ≤ looks.new.count) }
         ensures some { IfOk result (λ o. IfSome o (λ route. (s : List ℕ) × (route.contacts ≡ prefix.now ++ s) × (length prefix.now + length s ≤ max_hops) × IsLeastWay task.now max_hops (route.delivery + 1) s route.delivery × IsTold task.now.plan route)) }
     {
+        let deadline = self.floor;
         if deadline == NEVER {
             return Ok(None);
         }
-        let nodes = task.shut().len();
-        let soonest = soonest_of(&self.first);
-        self.since.clear();
-        self.since.resize(nodes, soonest)?;
+        self.begin_back(task)?;
         let first = Best {
             delivery: deadline,
-            hops: nodes.min(max_hops as usize - prefix.len()),
+            hops: task.shut().len().min(max_hops as usize - prefix.len()),
         };
         let end = most.min(looks.count + TRY);
-        layers.answer_back(self.alloc, task, looks, prefix, &self.since, first, end)
+        let found = layers.answer_back(self.alloc, task, looks, prefix, &self.since, first, end)?;
+        if found.is_none() && layers.have_ended() {
+            self.floor = deadline + 1;
+        }
+        Ok(found)
     }
 }

@@ -1,6 +1,8 @@
 use Rattle.std.proofs.Common.{◌≡◌, ◌+◌, ◌++◌, [], ◌∷◌, Some, length, take, slice_index, ap, ◌∙◌, arith}
 use Rattle.sabr_search.proofs.Between.{read_at}
 use Rattle.sabr_search.proofs.LateMade.{late_first, late_next, met_at, take_whole}
+use Rattle.sabr_search.specs.Late.{IsEnded}
+use Rattle.sabr_search.proofs.Ended.{ended}
 use Rattle.sabr_search.proofs.layers.Layers.make_back.Goals as goal
 
 pub loop-left-init : goal.loop-left-init
@@ -41,3 +43,20 @@ loop-left-preserved g c =
           c.push.new.self.items next.late.items next.place.items next.reached.items one.lists one.kept (one.told (c.in-Some.is ∙ ap Some c.if-met.false))
           (c.in_ok-push.ensures.items ∙ ap (λ xs. xs ++ c.len-end.result ∷ []) same_ends ∙ ap (λ k. old.ends.items ++ k ∷ []) many);
     }
+
+pub returns-in_default-clause-ended : goal.returns-in_default-clause-ended
+returns-in_default-clause-ended g c = λ empty.
+    let old = c.loop-left.self in
+    let same_ends : c.next_back.new.self.ends.items ≡ old.ends.items = ap (λ v. v.items) c.next_back.ensures.ends in
+    let kept : IsEnded old.ends.items = rw same_ends at empty in
+    ended c.args.task.now c.requires.task c.args.arrival.now c.args.first.delivery c.loop-left.left old.ends.items old.late.items old.place.items old.reached.items c.loop-left.invariant.made c.requires.arrivals kept
+
+pub returns-clause-ended : goal.returns-clause-ended
+returns-clause-ended g c = λ empty.
+    let old = c.loop-left.self in
+    ended c.args.task.now c.requires.task c.args.arrival.now c.args.first.delivery c.loop-left.left old.ends.items old.late.items old.place.items old.reached.items c.loop-left.invariant.made c.requires.arrivals empty
+
+pub returns-then-index-clause-ended : goal.returns-then-index-clause-ended
+returns-then-index-clause-ended g c = λ empty.
+    let old = c.loop-left.self in
+    ended c.args.task.now c.requires.task c.args.arrival.now c.args.first.delivery c.loop-left.left old.ends.items old.late.items old.place.items old.reached.items c.loop-left.invariant.made c.requires.arrivals empty
