@@ -22,10 +22,8 @@ impl<A: Allocator + Copy> Plan<A> {
         let clashes = self.has_opening(from, to, start);
         let given = self.greatest as usize;
         refusal(
-            from,
-            to,
-            start,
-            end,
+            (from, to),
+            (start, end),
             clashes,
             AddFault::DuplicateContact,
             given,

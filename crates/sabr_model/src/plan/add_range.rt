@@ -18,19 +18,12 @@ impl<A: Allocator + Copy> Plan<A> {
     fn range_refusal(&self, range: &Range) -> Option<AddFault>
         ensures { result ≡ range_refusal self.now.plan range.now }
     {
-        let Range {
-            one,
-            other,
-            start,
-            end,
-            ..
-        } = *range;
+        let nodes = (range.one, range.other);
+        let window = (range.start, range.end);
         let clashes = overlaps_some(&self.ranges, range);
         refusal(
-            one,
-            other,
-            start,
-            end,
+            nodes,
+            window,
             clashes,
             AddFault::RangeOverlap,
             self.ranges.len(),

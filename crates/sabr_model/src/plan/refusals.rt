@@ -8,22 +8,20 @@ use crate::fault::AddFault;
 /// So many numbers of contacts are given, and so many ranges stand.
 const LIMIT: usize = 20000;
 
-/// The least refusal of a contact or a range between two nodes, from a start to an end, unless memory is short: `clash`
+/// The least refusal of a contact or a range between two nodes, over a window, unless memory is short: `clash`
 /// where another clashes with it, `TooMany` where the count is at the limit.
 pub fn refusal(
-    one: u64,
-    other: u64,
-    start: u64,
-    end: u64,
+    nodes: (u64, u64),
+    window: (u64, u64),
     clashes: bool,
     clash: AddFault,
     count: usize,
 ) -> Option<AddFault>
-    ensures { result ≡ (if nat_le end start then Some EmptyWindow else if one == other then Some SelfPair else if clashes then Some clash else if nat_le 20000 count then Some TooMany else None) }
+    ensures { result ≡ (if nat_le window.1 window.0 then Some EmptyWindow else if nodes.0 == nodes.1 then Some SelfPair else if clashes then Some clash else if nat_le 20000 count then Some TooMany else None) }
 {
-    if start >= end {
+    if window.0 >= window.1 {
         Some(AddFault::EmptyWindow)
-    } else if one == other {
+    } else if nodes.0 == nodes.1 {
         Some(AddFault::SelfPair)
     } else if clashes {
         Some(clash)
