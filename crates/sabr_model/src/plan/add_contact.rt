@@ -21,13 +21,8 @@ impl<A: Allocator + Copy> Plan<A> {
     {
         let clashes = self.has_opening(from, to, start);
         let given = self.greatest as usize;
-        refusal(
-            (from, to),
-            (start, end),
-            clashes,
-            AddFault::DuplicateContact,
-            given,
-        )
+        let clash = AddFault::DuplicateContact;
+        refusal((from, to), (start, end), clashes, clash, given)
     }
 
     /// Whether a contact with this sender, receiver and start stands.

@@ -21,13 +21,8 @@ impl<A: Allocator + Copy> Plan<A> {
         let nodes = (range.one, range.other);
         let window = (range.start, range.end);
         let clashes = overlaps_some(&self.ranges, range);
-        refusal(
-            nodes,
-            window,
-            clashes,
-            AddFault::RangeOverlap,
-            self.ranges.len(),
-        )
+        let count = self.ranges.len();
+        refusal(nodes, window, clashes, AddFault::RangeOverlap, count)
     }
 
     /// Adds a range that is not refused.

@@ -82,14 +82,8 @@ impl<A: Allocator + Copy> GatheredContacts<A> {
     {
         let clashes = self.has_opening(from, to, start);
         let given = self.greatest as usize;
-        refusal(
-            (from, to),
-            (start, end),
-            clashes,
-            AddFault::DuplicateContact,
-            given,
-        )
-        .unwrap_or(AddFault::NoMemory)
+        let clash = AddFault::DuplicateContact;
+        refusal((from, to), (start, end), clashes, clash, given).unwrap_or(AddFault::NoMemory)
     }
 
     /// Whether one of the contacts has this sender, receiver and start.

@@ -1,4 +1,4 @@
-use Rattle.std.proofs.Common.{◌≡◌, ◌∙◌, ap, sym, not, eqb, rules, filter, find, Some, List}
+use Rattle.std.proofs.Common.{◌≡◌, ◌∙◌, ap, sym, not, eqb, rules, find, Some, List}
 use Rattle.std.proofs.lemmas.Fn.{filter_same}
 use Rattle.sabr_model.specs.declared.contact.Contact.{Contact}
 use Rattle.sabr_model.specs.Plan.{ContactPlan, TabledPlan, opens}
