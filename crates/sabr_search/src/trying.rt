@@ -15,8 +15,8 @@ use crate::task::Task;
 use sabr_model::{NoMemory, Route};
 use std::alloc::Allocator;
 
-/// A try takes no more looks than these. Most dead ends need a few dozen; where a try needs more, a search from the start
-/// takes hardly more than it.
+/// A try takes no more looks than these. With fewer, tries over plans of more than thousand nodes give up too often; with
+/// more, those that give up cost more than the others save.
 const TRY: u64 = 1000;
 
 /// A second before which none of these is there.
