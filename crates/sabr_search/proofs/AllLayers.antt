@@ -1,6 +1,6 @@
 -- All layers backward from the goal over the whole graph bound each way on.
-use Rattle.std.proofs.Common.{◌≡◌, ◌⊎◌, inl, inr, ℕ, zero, suc, ◌+◌, ◌-◌, ◌<◌, ◌≤◌, Bool, false, get_or, List, [], ◌∷◌, ◌++◌, length, Some, slice_get, slice_index, slice_set, slice_index_or, refl, ap, sym, subst, ◌∙◌, arith}
-use Rattle.std.specs.Prelude.{Contains, min}
+use Rattle.std.proofs.Common.{◌≡◌, inl, inr, ℕ, zero, suc, ◌+◌, ◌-◌, ◌<◌, ◌≤◌, Bool, get_or, List, [], ◌∷◌, length, Some, slice_get, slice_index, slice_set, refl, ap, sym, subst, ◌∙◌, arith}
+use Rattle.std.specs.Prelude.{Contains}
 use Rattle.std.proofs.lemmas.Bool.{cases_lt, cases_eq}
 use Rattle.std.proofs.lemmas.List.{get_or-set_same, get_or-set_other, length-set}
 use Rattle.std.proofs.lemmas.Option.{slice_get_within, slice_get-get_or, get_or_from_slice_get}
@@ -12,7 +12,7 @@ use Rattle.sabr_search.specs.declared.rung.Span.{Span}
 use Rattle.sabr_search.specs.Ways.{Leads}
 use Rattle.sabr_search.specs.Task.{SearchTask, Takes, IsTask, IsBehind}
 use Rattle.sabr_search.specs.Made.{Entry}
-use Rattle.sabr_search.specs.Late.{AreLateLayers, soonest}
+use Rattle.sabr_search.specs.Late.{soonest}
 use Rattle.sabr_search.specs.Kept.{Goes, IsWayOn, IsFloor, AreDues}
 use Rattle.sabr_search.specs.Following.{tabled_of}
 use Rattle.sabr_search.specs.Laying.{IsWhole, AreAllLate, AreGathered}
@@ -20,7 +20,6 @@ use Rattle.sabr_search.proofs.Ways.{Leads-later}
 use Rattle.sabr_search.proofs.Bridge.{takes_timely}
 use Rattle.sabr_search.proofs.Ended.{inside, late_way}
 use Rattle.sabr_search.proofs.OverLinks.{same_some}
-use Rattle.sabr_search.proofs.LateLayers.{base}
 
 soonest_zero : (since : List ℕ) (d u t : ℕ) → slice_index since u ≡ 0 → soonest since d u ≤ t
 soonest_zero since d u t zero_is = omega (arith, zero_is)

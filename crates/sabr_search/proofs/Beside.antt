@@ -3,7 +3,7 @@ use Rattle.std.proofs.Common.{◌≡◌, inl, inr, ℕ, ◌+◌, ◌-◌, ◌*�
 use Rattle.std.specs.Prelude.{IfSome, IfNone}
 use Rattle.std.proofs.Math.Nat.{mul-le-mul_right}
 use Rattle.sabr_model.specs.Record.{RouteRecord}
-use Rattle.sabr_search.specs.Task.{SearchTask, Takes, IsTask, IsBehind}
+use Rattle.sabr_search.specs.Task.{SearchTask, IsTask, IsBehind}
 use Rattle.sabr_search.specs.Picks.{IsLeastWay}
 use Rattle.sabr_search.specs.Told.{hops_told}
 use Rattle.sabr_search.proofs.Prefixes.{IsPrefix}

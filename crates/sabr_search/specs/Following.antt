@@ -1,13 +1,16 @@
 -- Reading a least way off a table.
-use Rattle.std.specs.Prelude.{◌≡◌, ℕ, ◌≤◌, ◌<◌, List, length, slice_get, slice_index}
+use Rattle.std.specs.Prelude.{◌≡◌, ℕ, ◌+◌, ◌≤◌, ◌<◌, List, ◌++◌, length, slice_get}
 use Rattle.std.specs.declared.option.Option.TheVariants.{Some}
 use Rattle.sabr_model.specs.Plan.{TabledPlan}
+use Rattle.sabr_model.specs.Record.{RouteRecord}
 use Rattle.sabr_search.specs.declared.rung.Due.{Due}
 use Rattle.sabr_search.specs.declared.pick.Standing.{Standing}
 use Rattle.sabr_search.specs.declared.pick.Step.{Step}
 use Rattle.sabr_search.specs.Ways.{Leads}
 use Rattle.sabr_search.specs.Front.{IsNotAfter}
 use Rattle.sabr_search.specs.Task.{SearchTask, Takes}
+use Rattle.sabr_search.specs.Picks.{IsLeastWay}
+use Rattle.sabr_search.specs.Told.{IsTold}
 
 -- the plan of a search with its table
 abbrev pub tabled_of : SearchTask → TabledPlan
@@ -41,3 +44,7 @@ pub record IsWalked (task : SearchTask) (deadline hops : ℕ) (s : List ℕ) : T
   pub by : e ≤ deadline
   pub way : Leads (Takes task) task.start task.at s task.goal e
   pub front : (ns : List ℕ) (x : ℕ) → length ns ≡ hops → Leads (Takes task) task.start task.at ns task.goal x → x ≤ deadline → IsNotAfter s ns
+
+-- the route has the numbers of the least way behind the prefix, of as many hops in all as are allowed
+abbrev pub IsFound : SearchTask → List ℕ → ℕ → RouteRecord → Type 0
+IsFound task prefix max_hops route = (s : List ℕ) × (route.contacts ≡ prefix ++ s) × (length prefix + length s ≤ max_hops) × IsLeastWay task max_hops (route.delivery + 1) s route.delivery × IsTold task.plan route

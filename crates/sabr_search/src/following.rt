@@ -1,12 +1,10 @@
 //! The least route of a part, by a table that is kept for its delivery.
 
 ghost use Rattle.std.specs.Prelude.{◌≡◌, ◌⊎◌, ◌++◌, ℕ, List, ◌+◌, ◌-◌, ◌*◌, ◌^◌, ◌≤◌, ◌<◌, Some, IfOk, IfSome, OnOk, OnErr, IsTrue, length, slice_get, slice_index};
-ghost use Rattle.sabr_search.specs.Ways.{Leads};
 ghost use Rattle.sabr_search.specs.Task.{IsTask, IsBehind, Takes, never};
-ghost use Rattle.sabr_search.specs.Told.{hops_told, IsTold};
-ghost use Rattle.sabr_search.specs.Picks.{IsLeastWay};
+ghost use Rattle.sabr_search.specs.Told.{hops_told};
 ghost use Rattle.sabr_search.specs.Kept.{AreSpans, IsRung, IsKept};
-ghost use Rattle.sabr_search.specs.Following.{tabled_of, ComesTo, AreFirstSteps, IsNoneBefore, IsLeastDue, IsWalked};
+ghost use Rattle.sabr_search.specs.Following.{tabled_of, ComesTo, AreFirstSteps, IsNoneBefore, IsFound, IsLeastDue, IsWalked};
 
 use crate::answer::record;
 use crate::kept::Kept;
@@ -216,7 +214,7 @@ impl<'a, A: Allocator + Copy> Task<'a, A> {
         ensures refused { OnErr result (looks.new.count ≤ most) }
         ensures looks { IfOk result (λ o. looks.new.count ≤ most + hops_told o) }
         ensures counted { IfOk result (λ o. hops_told o ≤ looks.new.count) }
-        ensures some { IfOk result (λ o. IfSome o (λ route. (s : List ℕ) × (route.contacts ≡ prefix.now ++ s) × (length prefix.now + length s ≤ max_hops) × IsLeastWay self.now max_hops (route.delivery + 1) s route.delivery × IsTold self.now.plan route)) }
+        ensures some { IfOk result (λ o. IfSome o (IsFound self.now prefix.now max_hops)) }
     {
         let rest = rung.least_hops(first);
         if rest >= max_hops as usize - prefix.len() {
@@ -285,7 +283,7 @@ impl<A: Allocator + Copy> Kept<A> {
         ensures refused { OnErr result (looks.new.count ≤ most + length task.now.table * length task.now.plan.contacts) }
         ensures looks { IfOk result (λ o. looks.new.count ≤ most + (hops_told o - length prefix.now) * length task.now.plan.contacts + hops_told o) }
         ensures counted { IfOk result (λ o. hops_told o ≤ looks.new.count) }
-        ensures some { IfOk result (λ o. IfSome o (λ route. (s : List ℕ) × (route.contacts ≡ prefix.now ++ s) × (length prefix.now + length s ≤ max_hops) × IsLeastWay task.now max_hops (route.delivery + 1) s route.delivery × IsTold task.now.plan route)) }
+        ensures some { IfOk result (λ o. IfSome o (IsFound task.now prefix.now max_hops)) }
     {
         self.raise_floor(layers, task, looks, most, place)?;
         let rung = &self.rungs[place];
@@ -324,7 +322,7 @@ impl<A: Allocator + Copy> Kept<A> {
         ensures refused { OnErr result (looks.new.count ≤ most + length task.now.table * length task.now.plan.contacts) }
         ensures looks { IfOk result (λ o. looks.new.count ≤ most + (hops_told o - length prefix.now) * length task.now.plan.contacts + hops_told o) }
         ensures counted { IfOk result (λ o. hops_told o ≤ looks.new.count) }
-        ensures some { IfOk result (λ o. IfSome o (λ route. (s : List ℕ) × (route.contacts ≡ prefix.now ++ s) × (length prefix.now + length s ≤ max_hops) × IsLeastWay task.now max_hops (route.delivery + 1) s route.delivery × IsTold task.now.plan route)) }
+        ensures some { IfOk result (λ o. IfSome o (IsFound task.now prefix.now max_hops)) }
     {
         let Some(place) = self.met(task) else {
             return Ok(None);
@@ -363,7 +361,7 @@ impl<A: Allocator + Copy> Kept<A> {
         ensures refused { OnErr result (looks.new.count ≤ most + length task.now.table * length task.now.plan.contacts) }
         ensures looks { IfOk result (λ o. looks.new.count ≤ most + (hops_told o - length prefix.now) * length task.now.plan.contacts + hops_told o) }
         ensures counted { IfOk result (λ o. hops_told o ≤ looks.new.count) }
-        ensures some { IfOk result (λ o. IfSome o (λ route. (s : List ℕ) × (route.contacts ≡ prefix.now ++ s) × (length prefix.now + length s ≤ max_hops) × IsLeastWay task.now max_hops (route.delivery + 1) s route.delivery × IsTold task.now.plan route)) }
+        ensures some { IfOk result (λ o. IfSome o (IsFound task.now prefix.now max_hops)) }
     {
         if prefix.len() >= max_hops as usize || !self.pays() {
             return Ok(None);

@@ -1,12 +1,11 @@
 //! Short tries backward from the goal: they show before which second none delivers, and what a table's dead end hides.
 
-ghost use Rattle.std.specs.Prelude.{◌≡◌, ◌++◌, ℕ, List, ◌+◌, ◌-◌, ◌*◌, ◌^◌, ◌≤◌, ◌<◌, Some, IfOk, IfSome, OnOk, OnErr, length, slice_get};
+ghost use Rattle.std.specs.Prelude.{◌≡◌, ℕ, List, ◌+◌, ◌-◌, ◌*◌, ◌^◌, ◌≤◌, ◌<◌, Some, IfOk, IfSome, OnOk, OnErr, length, slice_get};
 ghost use Rattle.sabr_search.specs.Task.{IsTask, IsBehind};
 ghost use Rattle.sabr_search.specs.Late.{AreArrivals};
 ghost use Rattle.sabr_search.specs.Kept.{IsKept};
-ghost use Rattle.sabr_search.specs.Told.{hops_told, IsTold};
-ghost use Rattle.sabr_search.specs.Picks.{IsLeastWay};
-ghost use Rattle.sabr_search.specs.Following.{tabled_of, AreFirstSteps, IsNoneBefore};
+ghost use Rattle.sabr_search.specs.Told.{hops_told};
+ghost use Rattle.sabr_search.specs.Following.{tabled_of, AreFirstSteps, IsNoneBefore, IsFound};
 
 use crate::kept::Kept;
 use crate::layers::{Best, Layers, NEVER};
@@ -16,8 +15,8 @@ use crate::task::Task;
 use sabr_model::{NoMemory, Route};
 use std::alloc::Allocator;
 
-/// A try takes no more looks than these. Most dead ends need a few dozen; where a try needs more, a search from the start
-/// takes hardly more than it.
+/// A try takes no more looks than these. With fewer, tries over plans of more than thousand nodes give up too often; with
+/// more, those that give up cost more than the others save.
 const TRY: u64 = 1000;
 
 /// A second before which none of these is there.
@@ -117,7 +116,7 @@ impl<A: Allocator + Copy> Kept<A> {
         ensures refused { OnErr result (looks.new.count ≤ most + length task.now.table * length task.now.plan.contacts) }
         ensures looks { IfOk result (λ o. looks.new.count ≤ most + (hops_told o - length prefix.now) * length task.now.plan.contacts + hops_told o) }
         ensures counted { IfOk result (λ o. hops_told o ≤ looks.new.count) }
-        ensures some { IfOk result (λ o. IfSome o (λ route. (s : List ℕ) × (route.contacts ≡ prefix.now ++ s) × (length prefix.now + length s ≤ max_hops) × IsLeastWay task.now max_hops (route.delivery + 1) s route.delivery × IsTold task.now.plan route)) }
+        ensures some { IfOk result (λ o. IfSome o (IsFound task.now prefix.now max_hops)) }
     {
         let deadline = self.floor;
         if deadline == NEVER {

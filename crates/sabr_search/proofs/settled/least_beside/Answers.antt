@@ -1,4 +1,4 @@
-use Rattle.std.proofs.Common.{◌≡◌, ◌≤◌, ◌-◌, ◌+◌, length, subst, arith}
+use Rattle.std.proofs.Common.{◌-◌, ◌+◌, length, subst, arith}
 use Rattle.sabr_search.specs.Picks.{IsLeastWay}
 use Rattle.sabr_search.proofs.Prefixes.{prefix_facts}
 use Rattle.sabr_search.proofs.Law.{prefix_few}

@@ -1,4 +1,4 @@
-use Rattle.std.proofs.Common.{◌≡◌, length, replicate, subst, sym, ◌∙◌, arith, rules}
+use Rattle.std.proofs.Common.{◌≡◌, length, replicate, subst, sym, rules}
 use Rattle.sabr_search.specs.Late.{AreArrivals}
 use Rattle.sabr_search.proofs.Tries.{arrivals_from}
 use Rattle.sabr_search.proofs.kept.Kept.begin_back.Goals as goal

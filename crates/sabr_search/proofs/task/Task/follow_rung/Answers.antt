@@ -1,4 +1,4 @@
-use Rattle.std.proofs.Common.{◌≡◌, ◌+◌, ◌≤◌, length, refl, arith}
+use Rattle.std.proofs.Common.{◌+◌, refl, arith}
 use Rattle.sabr_search.proofs.Told.{named_in_route}
 use Rattle.sabr_search.proofs.Tables.{no_fewer, least_walked}
 use Rattle.sabr_search.proofs.task.Task.follow_rung.Goals as goal
