@@ -165,6 +165,13 @@ put_gathered r placed late none = put_all_put by_range_key order_total r placed 
 pub any_of_both : (p : Range → Bool) (placed late : List Range) → AreGathered placed late → list_any p (gathered placed late) ≡ (list_any p late || list_any p placed)
 any_of_both p placed late h = any_gathered placed h.placed_obey.range_windows p late h.late_obey.range_windows h.late_obey.ranges_apart h.are_apart
 
+-- what passes a test is in one of three lists
+pub any_of_three : (p : Range → Bool) (placed late latest : List Range) → AreGathered placed (gathered late latest) → AreGathered late latest → list_any p (gathered placed (gathered late latest)) ≡ (list_any p latest || (list_any p late || list_any p placed))
+any_of_three p placed late latest h k =
+    any_of_both p placed (gathered late latest) h
+    ∙ ap (λ b. b || list_any p placed) (any_of_both p late latest k)
+    ∙ sym (or_assoc (list_any p latest) (list_any p late) (list_any p placed))
+
 -- there are as many as in both lists
 pub length_of_both : (placed late : List Range) → AreGathered placed late → length (gathered placed late) ≡ length placed + length late
 length_of_both placed late h = length_gathered placed h.placed_obey.range_windows late h.late_obey.range_windows h.late_obey.ranges_apart h.are_apart
@@ -184,10 +191,17 @@ pub deleted_or_not : {U E : Type 0} (r : Result U E) (t : Range → Bool) (all p
 deleted_or_not (Ok u) t all placed_then h a b = rw a (all_placed (filter t all) (IsPlan-fewer_ranges (plan_of_ranges all) t h))
 deleted_or_not (Err e) t all placed_then h a b = rw b (all_placed all h)
 
--- what is left where all went among others, or didn't for want of memory
-pub left_or_not : {U E : Type 0} (r : Result U E) (all placed_then : List Range) → IsPlan (plan_of_ranges all) → OnOk r (placed_then ≡ []) → OnErr r (placed_then ≡ all) → AreGathered placed_then []
-left_or_not (Ok u) all placed_then h a b = rw a (all_placed [] IsPlan-empty)
-left_or_not (Err e) all placed_then h a b = rw b (all_placed all h)
+-- what is left of two lists that are one, where that didn't go among others for want of memory
+pub left_or_not : {U E : Type 0} (r : Result U E) (late latest both late_then latest_then : List Range) → AreGathered late latest → both ≡ gathered late latest → latest_then ≡ [] → OnErr r (late_then ≡ both) → OnErr r (AreGathered late_then latest_then × (gathered late_then latest_then ≡ gathered late latest))
+left_or_not (Ok u) late latest both late_then latest_then h a b c = tt
+left_or_not (Err e) late latest both late_then latest_then h a b c = rw (c, a, b) (all_placed (gathered late latest) h.all_obey, refl)
+
+-- what three lists leave when all go to their places in the first, or don't for want of memory
+pub all_placed_or_not : {U E : Type 0} (r : Result U E) (placed late latest placed_then late_then latest_then : List Range) → AreGathered placed (gathered late latest)
+    → OnOk r (placed_then ≡ gathered placed (gathered late latest)) → OnOk r (late_then ≡ []) → OnOk r (latest_then ≡ []) → OnErr r (placed_then ≡ placed) → OnErr r (AreGathered late_then latest_then × (gathered late_then latest_then ≡ gathered late latest))
+    → (AreGathered placed_then (gathered late_then latest_then) × AreGathered late_then latest_then) × (gathered placed_then (gathered late_then latest_then) ≡ gathered placed (gathered late latest))
+all_placed_or_not (Ok u) placed late latest placed_then late_then latest_then h a b c d e = rw (a, b, c) ((all_placed (gathered placed (gathered late latest)) h.all_obey, all_placed [] IsPlan-empty), refl)
+all_placed_or_not (Err f) placed late latest placed_then late_then latest_then h a b c d e = rw (d, e.1) ((h, e.0), refl)
 
 -- one is false where both together are
 or_false : (a b : Bool) → (a || b) ≡ false → (a ≡ false) × (b ≡ false)
@@ -231,17 +245,16 @@ pub put_or_not : {U E : Type 0} (result : Result U E) (r : Range) (placed late l
 put_or_not (Ok u) r placed late late_then h accept one other ends light a b = rw a (gathered_more placed late h r accept one other ends light, put_among_all placed late h r accept, tt)
 put_or_not (Err e) r placed late late_then h accept one other ends light a b = rw b (h, tt, refl)
 
--- ---- merging
+-- one that goes among the latest of three lists, or doesn't
+pub put_among_three : {U E : Type 0} (result : Result U E) (r : Range) (placed late latest latest_then : List Range) → AreGathered placed (gathered late latest) → AreGathered late latest → range_refusal (plan_of_ranges (gathered placed (gathered late latest))) r ≡ None → IsNode r.one → IsNode r.other → r.end ≤ last_time → r.light ≤ 1000000
+    → OnOk result (latest_then ≡ put_in by_range_key r latest) → OnErr result (latest_then ≡ latest)
+    → (AreGathered placed (gathered late latest_then) × AreGathered late latest_then) × OnOk result (gathered placed (gathered late latest_then) ≡ put_in by_range_key r (gathered placed (gathered late latest)))
+put_among_three result r placed late latest latest_then h k accept one other ends light a b =
+    let inner = put_or_not result r late latest latest_then k (accept_late placed (gathered late latest) h r accept) one other ends light a b in
+    let outer = put_or_not result r placed (gathered late latest) (gathered late latest_then) h accept one other ends light inner.1 inner.2 in
+    ((outer.0, inner.0), outer.1)
 
--- what the rules say of two lists
-pub two_lists : (placed late : List Range) → AreGathered placed late → AreTwoLists placed late
-two_lists placed late h = record {
-  placed_rise = h.placed_obey.ranges_rise;
-  late_rise = h.late_obey.ranges_rise;
-  placed_windows = h.placed_obey.range_windows;
-  late_windows = h.late_obey.range_windows;
-  are_apart = h.are_apart;
-}
+-- ---- merging
 
 -- those behind y come behind what comes before y
 all_behind : (x y : Range) (ss : List Range) → by_range_key x y ≡ Less → AllByRecursion (λ k. by_numbers (range_key y) k ≡ Less) (map range_key ss) → AllByRecursion (λ s. by_range_key x s ≡ Less) ss
