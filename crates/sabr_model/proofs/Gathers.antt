@@ -166,11 +166,12 @@ pub any_of_both : (p : Range → Bool) (placed late : List Range) → AreGathere
 any_of_both p placed late h = any_gathered placed h.placed_obey.range_windows p late h.late_obey.range_windows h.late_obey.ranges_apart h.are_apart
 
 -- what passes a test is in one of three lists
-pub any_of_three : (p : Range → Bool) (placed late latest : List Range) → AreGathered placed (gathered late latest) → AreGathered late latest → list_any p (gathered placed (gathered late latest)) ≡ (list_any p latest || (list_any p late || list_any p placed))
-any_of_three p placed late latest h k =
-    any_of_both p placed (gathered late latest) h
-    ∙ ap (λ b. b || list_any p placed) (any_of_both p late latest k)
-    ∙ sym (or_assoc (list_any p latest) (list_any p late) (list_any p placed))
+pub any_of_three : (p : Range → Bool) (placed late latest all : List Range) → AreGathered placed (gathered late latest) × AreGathered late latest → gathered placed (gathered late latest) ≡ all → (list_any p latest || (list_any p late || list_any p placed)) ≡ list_any p all
+any_of_three p placed late latest all h same =
+    or_assoc (list_any p latest) (list_any p late) (list_any p placed)
+    ∙ ap (λ b. b || list_any p placed) (sym (any_of_both p late latest h.1))
+    ∙ sym (any_of_both p placed (gathered late latest) h.0)
+    ∙ ap (list_any p) same
 
 -- there are as many as in both lists
 pub length_of_both : (placed late : List Range) → AreGathered placed late → length (gathered placed late) ≡ length placed + length late
@@ -246,13 +247,14 @@ put_or_not (Ok u) r placed late late_then h accept one other ends light a b = rw
 put_or_not (Err e) r placed late late_then h accept one other ends light a b = rw b (h, tt, refl)
 
 -- one that goes among the latest of three lists, or doesn't
-pub put_among_three : {U E : Type 0} (result : Result U E) (r : Range) (placed late latest latest_then : List Range) → AreGathered placed (gathered late latest) → AreGathered late latest → range_refusal (plan_of_ranges (gathered placed (gathered late latest))) r ≡ None → IsNode r.one → IsNode r.other → r.end ≤ last_time → r.light ≤ 1000000
+pub put_among_three : {U E : Type 0} (result : Result U E) (r : Range) (placed late latest all latest_then : List Range) → AreGathered placed (gathered late latest) × AreGathered late latest → gathered placed (gathered late latest) ≡ all → range_refusal (plan_of_ranges all) r ≡ None → IsNode r.one → IsNode r.other → r.end ≤ last_time → r.light ≤ 1000000
     → OnOk result (latest_then ≡ put_in by_range_key r latest) → OnErr result (latest_then ≡ latest)
-    → (AreGathered placed (gathered late latest_then) × AreGathered late latest_then) × OnOk result (gathered placed (gathered late latest_then) ≡ put_in by_range_key r (gathered placed (gathered late latest)))
-put_among_three result r placed late latest latest_then h k accept one other ends light a b =
-    let inner = put_or_not result r late latest latest_then k (accept_late placed (gathered late latest) h r accept) one other ends light a b in
-    let outer = put_or_not result r placed (gathered late latest) (gathered late latest_then) h accept one other ends light inner.1 inner.2 in
-    ((outer.0, inner.0), outer.1)
+    → (AreGathered placed (gathered late latest_then) × AreGathered late latest_then) × OnOk result (gathered placed (gathered late latest_then) ≡ put_in by_range_key r all)
+put_among_three result r placed late latest all latest_then h same news one other ends light a b =
+    let accept = ap (λ rs. range_refusal (plan_of_ranges rs) r) same ∙ news in
+    let inner = put_or_not result r late latest latest_then h.1 (accept_late placed (gathered late latest) h.0 r accept) one other ends light a b in
+    let outer = put_or_not result r placed (gathered late latest) (gathered late latest_then) h.0 accept one other ends light inner.1 inner.2 in
+    ((outer.0, inner.0), rw (sym same) outer.1)
 
 -- ---- merging
 
