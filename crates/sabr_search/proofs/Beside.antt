@@ -1,12 +1,16 @@
 -- What a route read off a table comes to: the answer, and the looks at contacts.
-use Rattle.std.proofs.Common.{◌≡◌, inl, inr, ℕ, ◌+◌, ◌-◌, ◌*◌, ◌<◌, ◌≤◌, ◌⊎◌, List, ◌++◌, length, Option, Some, None, ap, arith, length-append}
+use Rattle.std.proofs.Common.{◌≡◌, inl, inr, ℕ, ◌+◌, ◌-◌, ◌*◌, ◌<◌, ◌≤◌, ◌⊎◌, List, ◌++◌, length, Option, Some, None, ap, arith, subst, length-append}
 use Rattle.std.specs.Prelude.{IfSome, IfNone}
 use Rattle.std.proofs.Math.Nat.{mul-le-mul_right}
 use Rattle.sabr_model.specs.Record.{RouteRecord}
 use Rattle.sabr_search.specs.Task.{SearchTask, Takes, IsTask, IsBehind}
 use Rattle.sabr_search.specs.Picks.{IsLeastWay}
-use Rattle.sabr_search.specs.Told.{hops_told}
+use Rattle.sabr_search.specs.Told.{hops_told, IsTold}
+use Rattle.sabr_search.specs.Part.{IsLeast}
+use Rattle.sabr_search.specs.Following.{HasNoWay}
 use Rattle.sabr_search.proofs.Prefixes.{IsPrefix}
+use Rattle.sabr_search.proofs.Law.{none_is_least}
+use Rattle.sabr_search.proofs.Tables.{followed_is_least}
 use Rattle.sabr_search.proofs.Shortness.{way_few}
 
 pub followed_few : (task : SearchTask) (prefix : List ℕ) → IsBehind task prefix → IsPrefix task.plan task.request prefix → (most : ℕ) (s : List ℕ) (route : RouteRecord) → route.contacts ≡ prefix ++ s → IsLeastWay task most (route.delivery + 1) s route.delivery →
@@ -15,6 +19,24 @@ followed_few task prefix behind facts most s route contacts least = omega (arith
 
 pub followed_longer : (task : SearchTask) (prefix : List ℕ) (most : ℕ) (s : List ℕ) (route : RouteRecord) → route.contacts ≡ prefix ++ s → IsLeastWay task most (route.delivery + 1) s route.delivery → length prefix < length route.contacts
 followed_longer task prefix most s route contacts least = omega (arith, ap length contacts, length-append prefix s, least.some)
+
+-- what is told of a part, where some way is told
+abbrev pub IsToldBehind : (task : SearchTask) → List ℕ → ℕ → Option RouteRecord → Type 0
+IsToldBehind task prefix most o = IfSome o (λ route. (s : List ℕ) × (route.contacts ≡ prefix ++ s) × (length prefix + length s ≤ most) × IsLeastWay task most (route.delivery + 1) s route.delivery × IsTold task.plan route)
+
+pub told_hops : (task : SearchTask) (prefix : List ℕ) → IsBehind task prefix → IsPrefix task.plan task.request prefix → (most : ℕ) (o : Option RouteRecord) → IsToldBehind task prefix most o → hops_told o ≤ length task.plan.contacts
+told_hops task prefix behind facts most None told = omega arith
+told_hops task prefix behind facts most (Some route) told = followed_few task prefix behind facts most told.0 route told.1 told.3
+
+pub told_longer : (task : SearchTask) (prefix : List ℕ) (most : ℕ) (o : Option RouteRecord) → IsToldBehind task prefix most o → IfSome o (λ route. length prefix < length route.contacts)
+told_longer task prefix most None told = tt
+told_longer task prefix most (Some route) told = followed_longer task prefix most told.0 route told.1 told.3
+
+pub told_is_least : (task : SearchTask) → IsTask task → (prefix : List ℕ) → IsBehind task prefix → IsPrefix task.plan task.request prefix → (most : ℕ) → most ≡ task.request.max_hops → (o : Option RouteRecord) → IfNone o (HasNoWay task) → IsToldBehind task prefix most o →
+    IsLeast task.plan task.request prefix task.excluded o
+told_is_least task is prefix behind facts most most_is None none told = none_is_least task is prefix behind (λ ns e route way. none ns e way)
+told_is_least task is prefix behind facts most most_is (Some route) none told =
+    followed_is_least task is prefix behind facts told.0 route told.1 (omega (arith, told.2, most_is)) (subst (λ m. IsLeastWay task m (route.delivery + 1) told.0 route.delivery) most_is told.3) told.4
 
 -- so many passes are within the bound of a finder, and within the bound for an answer
 pub passes_within : (n c looks : ℕ) → 1 ≤ n → looks ≤ 4 * c → looks ≤ (3 * n + 1) * c

@@ -21,6 +21,10 @@ ComesTo first w b = (k : ℕ) × (s : Standing) × (slice_get first k ≡ Some s
 abbrev pub AreFirstSteps : SearchTask → List Standing → Type 0
 AreFirstSteps task first = (n w b : ℕ) → Takes task n task.start task.at w b → ComesTo first w b
 
+-- no way leads to the goal
+abbrev pub HasNoWay : SearchTask → Type 0
+HasNoWay task = (ns : List ℕ) (e : ℕ) → Leads (Takes task) task.start task.at ns task.goal e → ⊥
+
 -- the dues let a way on through that is at node w at b, with so many hops left
 abbrev pub LetsThrough : List Due → ℕ → ℕ → ℕ → Type 0
 LetsThrough dues rest w b = (k : ℕ) × (d : Due) × (slice_get dues k ≡ Some d) × (d.node ≡ w) × (d.hops ≤ rest) × (b < d.late)

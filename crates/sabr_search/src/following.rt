@@ -1,16 +1,17 @@
 //! The least route of a part, read off a table that is kept for its delivery.
 
-ghost use Rattle.std.specs.Prelude.{◌≡◌, ◌⊎◌, ◌++◌, ℕ, List, ◌+◌, ◌*◌, ◌^◌, ◌≤◌, ◌<◌, Some, IfOk, IfSome, OnOk, OnErr, IsTrue, length, slice_get, slice_index};
+ghost use Rattle.std.specs.Prelude.{◌≡◌, ◌⊎◌, ◌++◌, ℕ, List, ◌+◌, ◌*◌, ◌^◌, ◌≤◌, ◌<◌, Some, IfOk, IfSome, IfNone, OnOk, OnErr, IsTrue, length, slice_get, slice_index};
 ghost use Rattle.sabr_search.specs.Ways.{Leads};
-ghost use Rattle.sabr_search.specs.Task.{IsTask, IsBehind, Takes, never};
+ghost use Rattle.sabr_search.specs.Task.{IsTask, IsBehind, Takes, never, latest_arrival};
 ghost use Rattle.sabr_search.specs.Told.{hops_told, IsTold};
 ghost use Rattle.sabr_search.specs.Picks.{IsLeastWay};
 ghost use Rattle.sabr_search.specs.Kept.{AreSpans, IsRung, IsKept};
-ghost use Rattle.sabr_search.specs.Following.{tabled_of, ComesTo, AreFirstSteps, IsLeastDue, IsWalked};
+ghost use Rattle.sabr_search.specs.Following.{tabled_of, ComesTo, AreFirstSteps, HasNoWay, IsLeastDue, IsWalked};
 
 use crate::answer::record;
 use crate::kept::Kept;
 use crate::layers::NEVER;
+use crate::laying::LATEST;
 use crate::looks::Looks;
 use crate::over_link::link_passes;
 use crate::pick::{Standing, Step};
@@ -167,6 +168,7 @@ impl<'a, A: Allocator + Copy> Task<'a, A> {
         requires most { most ≤ 2 ^ 62 }
         requires many { length prefix.now + hops < 2 ^ 32 }
         requires rung { IsRung (tabled_of self.now) self.now.request rung.now }
+        requires early { rung.now.deadline ≤ latest_arrival }
         ensures looks { looks.new.count ≤ most }
         ensures some { IfOk result (λ o. IfSome o (λ v. (s : List ℕ) × (v.items ≡ prefix.now ++ s) × IsWalked self.now rung.now.deadline hops s)) }
     {
@@ -216,6 +218,9 @@ impl<'a, A: Allocator + Copy> Task<'a, A> {
         ensures counted { IfOk result (λ o. hops_told o ≤ looks.new.count) }
         ensures some { IfOk result (λ o. IfSome o (λ route. (s : List ℕ) × (route.contacts ≡ prefix.now ++ s) × (length prefix.now + length s ≤ max_hops) × IsLeastWay self.now max_hops (route.delivery + 1) s route.delivery × IsTold self.now.plan route)) }
     {
+        if rung.deadline > LATEST {
+            return Ok(None);
+        }
         if !rung.comes_no_sooner(first) {
             return Ok(None);
         }
@@ -258,7 +263,7 @@ impl<A: Allocator + Copy> Kept<A> {
         found
     }
 
-    /// The least route behind the prefix, where a table tells it within `most` looks.
+    /// Tells within `most` looks the least route behind the prefix, or that there is none, where tables do.
     pub fn follow(
         &mut self,
         task: &Task<'_, A>,
@@ -266,7 +271,7 @@ impl<A: Allocator + Copy> Kept<A> {
         most: u64,
         prefix: &[u32],
         max_hops: u32,
-    ) -> Result<Option<Route<A>>, NoMemory>
+    ) -> Result<Option<Option<Route<A>>>, NoMemory>
         requires task { IsTask task.now }
         requires behind { IsBehind task.now prefix.now }
         requires few { looks.old.count ≤ most }
@@ -274,9 +279,11 @@ impl<A: Allocator + Copy> Kept<A> {
         requires kept { IsKept (tabled_of task.now) task.now.request self.old }
         ensures kept { self.new.rungs ≡ self.old.rungs }
         ensures refused { OnErr result (looks.new.count ≤ most) }
-        ensures looks { IfOk result (λ o. looks.new.count ≤ most + hops_told o) }
-        ensures counted { IfOk result (λ o. hops_told o ≤ looks.new.count) }
-        ensures some { IfOk result (λ o. IfSome o (λ route. (s : List ℕ) × (route.contacts ≡ prefix.now ++ s) × (length prefix.now + length s ≤ max_hops) × IsLeastWay task.now max_hops (route.delivery + 1) s route.delivery × IsTold task.now.plan route)) }
+        ensures untold { IfOk result (λ o. IfNone o (looks.new.count ≤ most)) }
+        ensures looks { IfOk result (λ o. IfSome o (λ answer. looks.new.count ≤ most + hops_told answer)) }
+        ensures counted { IfOk result (λ o. IfSome o (λ answer. hops_told answer ≤ looks.new.count)) }
+        ensures none { IfOk result (λ o. IfSome o (λ answer. IfNone answer (HasNoWay task.now))) }
+        ensures some { IfOk result (λ o. IfSome o (λ answer. IfSome answer (λ route. (s : List ℕ) × (route.contacts ≡ prefix.now ++ s) × (length prefix.now + length s ≤ max_hops) × IsLeastWay task.now max_hops (route.delivery + 1) s route.delivery × IsTold task.now.plan route))) }
     {
         if !self.pays() {
             return Ok(None);
@@ -284,6 +291,10 @@ impl<A: Allocator + Copy> Kept<A> {
         let whole = task.first_steps(looks, most, &mut self.first)?;
         if !whole {
             return Ok(None);
+        }
+        if self.shows_none(task, &self.first, prefix) {
+            self.count_answer(true);
+            return Ok(Some(None));
         }
         let Some(place) = self.met(task, &self.first) else {
             return Ok(None);
@@ -298,6 +309,9 @@ impl<A: Allocator + Copy> Kept<A> {
             max_hops,
         )?;
         self.count_answer(found.is_some());
-        Ok(found)
+        let Some(route) = found else {
+            return Ok(None);
+        };
+        Ok(Some(Some(route)))
     }
 }

@@ -16,6 +16,6 @@ returns-clause-some g c =
     let rest = c.least_hops-rest.result in
     let walked = rw c.in-Some.is at c.in_ok-walked.ensures.some in
     let sooner = no_sooner task c.requires.task prefix c.requires.behind rung.deadline rung.before.items c.args.first.now c.requires.rung.floor c.requires.first (c.if-not-comes_no_sooner.ensures refl) in
-    let fewer = no_fewer task c.requires.task prefix c.requires.behind rung.deadline rest rung.dues.items c.args.first.now c.requires.rung.dues c.requires.first c.least_hops-rest.ensures in
+    let fewer = no_fewer task c.requires.task prefix c.requires.behind rung.deadline rest rung.dues.items c.args.first.now (c.requires.rung.dues (omega arith)) c.requires.first c.least_hops-rest.ensures in
     let least = least_walked task c.requires.task prefix c.requires.behind rung.deadline rest (rest + 1) c.args.max_hops walked.0 refl (omega (arith, c.if-rest-max_hops.false)) sooner fewer walked.2 in
     rw c.record.ensures.value (walked.0, walked.1, omega (arith, walked.2.many, c.if-rest-max_hops.false, c.if-prefix-max_hops.false), least, record { until_is = refl; entry_is = refl })
