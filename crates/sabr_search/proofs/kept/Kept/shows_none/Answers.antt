@@ -1,4 +1,4 @@
-use Rattle.std.proofs.Common.{◌≡◌, ◌<◌, ◌≤◌, length, refl, sym, subst, arith}
+use Rattle.std.proofs.Common.{◌<◌, length, refl, sym, subst, arith}
 use Rattle.std.proofs.lemmas.List.Elements.{All-get_or}
 use Rattle.sabr_search.specs.Kept.{IsRung}
 use Rattle.sabr_search.specs.Following.{tabled_of}
@@ -16,4 +16,4 @@ returns-then-comes_no_sooner g c = λ shown ns e way.
     let is : IsRung (tabled_of task) task.request rung =
     subst (λ x. IsRung (tabled_of task) task.request x) (sym c.index-rung.ensures) (All-get_or (IsRung (tabled_of task) task.request) rungs i rung within c.requires.kept) in
     let late = no_sooner task c.requires.task c.args._prefix.now c.requires.behind rung.deadline rung.before.items c.args.first.now is.floor c.requires.first (c.if-comes_no_sooner.ensures refl) ns e way in
-    omega (arith, late, c.if-rung-gt-LATEST.true, way_early task c.requires.task ns task.start task.at task.goal e c.requires.task.time way)
+    omega (arith, late, way_early task c.requires.task ns task.start task.at task.goal e c.requires.task.time way)
