@@ -15,8 +15,8 @@ impl Finger {
         Finger { place: 0 }
     }
 
-    /// Whether the number is in the list, of which the caller has asked whether it never falls. Takes one comparison where
-    /// it stands behind the number that was asked before it, and else a halving.
+    /// Whether the number is in the list, of which the caller has asked whether it never falls. Takes one comparison
+    /// where it stands behind the number that was found last, and else a halving.
     #[inline(always)]
     pub fn finds(&mut self, numbers: &[u32], in_order: bool, number: u32) -> bool
         requires { IsTrue in_order → IsNonDecreasing numbers.now }
