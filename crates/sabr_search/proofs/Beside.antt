@@ -1,14 +1,17 @@
 -- What a route read off a table comes to: the answer, and the looks at contacts.
-use Rattle.std.proofs.Common.{◌≡◌, inl, inr, ℕ, ◌+◌, ◌-◌, ◌*◌, ◌<◌, ◌≤◌, ◌⊎◌, List, ◌++◌, length, Option, Some, None, ap, ◌∙◌, arith, length-append}
+use Rattle.std.proofs.Common.{◌≡◌, inl, inr, ℕ, ◌+◌, ◌-◌, ◌*◌, ◌<◌, ◌≤◌, ◌⊎◌, List, ◌++◌, length, Option, Some, None, ap, ◌∙◌, arith, subst, length-append}
 use Rattle.std.specs.Prelude.{IfSome, IfNone}
 use Rattle.std.proofs.Math.Nat.{mul-le-mul_right}
 use Rattle.sabr_model.specs.Record.{RouteRecord}
 use Rattle.sabr_search.specs.Task.{SearchTask, IsTask, IsBehind}
 use Rattle.sabr_search.specs.Picks.{IsLeastWay}
 use Rattle.sabr_search.specs.Told.{hops_told}
+use Rattle.sabr_search.specs.Part.{IsLeast}
+use Rattle.sabr_search.specs.Following.{HasNoWay, IsFound}
 use Rattle.sabr_search.proofs.Prefixes.{IsPrefix}
 use Rattle.sabr_search.proofs.PartWays.{way_is_route}
-use Rattle.sabr_search.proofs.Law.{behind_sizes}
+use Rattle.sabr_search.proofs.Law.{behind_sizes, none_is_least}
+use Rattle.sabr_search.proofs.Tables.{followed_is_least}
 
 pub followed_sizes : (task : SearchTask) → IsTask task → (prefix : List ℕ) → IsBehind task prefix → IsPrefix task.plan task.request prefix → (most : ℕ) (s : List ℕ) (route : RouteRecord) → route.contacts ≡ prefix ++ s → length prefix + length s ≤ task.request.max_hops →
     IsLeastWay task most (route.delivery + 1) s route.delivery → (length route.contacts ≤ length task.plan.contacts) × (length route.contacts - length prefix ≤ length task.table)
@@ -20,6 +23,22 @@ followed_sizes task is prefix behind facts most s route contacts short least =
 
 pub followed_longer : (task : SearchTask) (prefix : List ℕ) (most : ℕ) (s : List ℕ) (route : RouteRecord) → route.contacts ≡ prefix ++ s → IsLeastWay task most (route.delivery + 1) s route.delivery → length prefix < length route.contacts
 followed_longer task prefix most s route contacts least = omega (arith, ap length contacts, length-append prefix s, least.some)
+
+-- what is told of a part: a route that is found, or that there is none
+pub told_sizes : (task : SearchTask) → IsTask task → (prefix : List ℕ) → IsBehind task prefix → IsPrefix task.plan task.request prefix → (most : ℕ) → most ≡ task.request.max_hops → (o : Option RouteRecord) → IfSome o (IsFound task prefix most) →
+    (hops_told o ≤ length task.plan.contacts) × (hops_told o - length prefix ≤ length task.table)
+told_sizes task is prefix behind facts most most_is None told = (omega arith, omega arith)
+told_sizes task is prefix behind facts most most_is (Some route) told = followed_sizes task is prefix behind facts most told.0 route told.1 (omega (arith, told.2, most_is)) told.3
+
+pub told_longer : (task : SearchTask) (prefix : List ℕ) (most : ℕ) (o : Option RouteRecord) → IfSome o (IsFound task prefix most) → IfSome o (λ route. length prefix < length route.contacts)
+told_longer task prefix most None told = tt
+told_longer task prefix most (Some route) told = followed_longer task prefix most told.0 route told.1 told.3
+
+pub told_is_least : (task : SearchTask) → IsTask task → (prefix : List ℕ) → IsBehind task prefix → IsPrefix task.plan task.request prefix → (most : ℕ) → most ≡ task.request.max_hops → (o : Option RouteRecord) → IfNone o (HasNoWay task) → IfSome o (IsFound task prefix most) →
+    IsLeast task.plan task.request prefix task.excluded o
+told_is_least task is prefix behind facts most most_is None none told = none_is_least task is prefix behind (λ ns e route way. none ns e way)
+told_is_least task is prefix behind facts most most_is (Some route) none told =
+    followed_is_least task is prefix behind facts told.0 route told.1 (omega (arith, told.2, most_is)) (subst (λ m. IsLeastWay task m (route.delivery + 1) told.0 route.delivery) most_is told.3) told.4
 
 -- so many passes are within the bound of a finder, and within the bound for an answer
 pub passes_within : (n c looks : ℕ) → 1 ≤ n → looks ≤ 4 * c → looks ≤ (3 * n + 1) * c

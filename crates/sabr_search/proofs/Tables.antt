@@ -1,10 +1,10 @@
 -- A table that bounds the ways over the whole graph bounds those of each part, and what is read off it is a least way.
-use Rattle.std.proofs.Common.{◌≡◌, inl, inr, ℕ, zero, suc, ◌+◌, ◌-◌, ◌<◌, ◌≤◌, Bool, true, false, eqb, ◌||◌, List, [], ◌∷◌, ◌++◌, length, Option, Some, None, slice_get, slice_index, slice_index_or, refl, ap, sym, ◌∙◌, arith, length-append}
-use Rattle.std.specs.Prelude.{IsTrue, IfSome}
+use Rattle.std.proofs.Common.{◌≡◌, inl, inr, ℕ, ◌+◌, ◌-◌, ◌<◌, ◌≤◌, Bool, true, false, eqb, ◌||◌, List, [], ◌∷◌, ◌++◌, length, Option, Some, None, slice_get, slice_index, slice_index_or, refl, ap, sym, ◌∙◌, arith, length-append}
+use Rattle.std.specs.Prelude.{IfSome}
 use Rattle.std.proofs.lemmas.Bool.{cases_lt}
 use Rattle.sabr_model.specs.Plan.{has}
 use Rattle.sabr_model.specs.Record.{RouteRecord}
-use Rattle.sabr_model.specs.Route.{receivers, is_route}
+use Rattle.sabr_model.specs.Route.{receivers}
 use Rattle.sabr_search.specs.declared.rung.Due.{Due}
 use Rattle.sabr_search.specs.declared.pick.Standing.{Standing}
 use Rattle.sabr_search.specs.declared.pick.Step.{Step}
@@ -14,7 +14,7 @@ use Rattle.sabr_search.specs.Part.{IsLeast}
 use Rattle.sabr_search.specs.Task.{SearchTask, Takes, IsTask, IsBehind, is_closed}
 use Rattle.sabr_search.specs.Picks.{IsAtMost, IsLeastWay}
 use Rattle.sabr_search.specs.Told.{IsTold}
-use Rattle.sabr_search.specs.Kept.{Goes, IsOpenAt, IsWayOn, IsFloor, AreDues}
+use Rattle.sabr_search.specs.Kept.{Goes, IsWayOn, IsFloor, AreDues}
 use Rattle.sabr_search.specs.Following.{tabled_of, AreFirstSteps, LetsThrough, IsLeastDue, IsWalked}
 use Rattle.sabr_search.proofs.Ways.{Leads-append, Leads-split, Leads-one}
 use Rattle.sabr_search.proofs.Bridge.{takes_timely}

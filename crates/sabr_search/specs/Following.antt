@@ -24,6 +24,10 @@ ComesTo first w b = (k : ℕ) × (s : Standing) × (slice_get first k ≡ Some s
 abbrev pub AreFirstSteps : SearchTask → List Standing → Type 0
 AreFirstSteps task first = (n w b : ℕ) → Takes task n task.start task.at w b → ComesTo first w b
 
+-- no way leads to the goal
+abbrev pub HasNoWay : SearchTask → Type 0
+HasNoWay task = (ns : List ℕ) (e : ℕ) → Leads (Takes task) task.start task.at ns task.goal e → ⊥
+
 -- no way delivers before second d
 abbrev pub IsNoneBefore : SearchTask → ℕ → Type 0
 IsNoneBefore task d = (ns : List ℕ) (e : ℕ) → Leads (Takes task) task.start task.at ns task.goal e → d ≤ e

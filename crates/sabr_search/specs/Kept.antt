@@ -10,7 +10,7 @@ use Rattle.sabr_search.specs.declared.rung.Span.{Span}
 use Rattle.sabr_search.specs.declared.rung.Rung.{Rung}
 use Rattle.sabr_search.specs.declared.kept.Kept.{Kept}
 use Rattle.sabr_search.specs.Ways.{Leads}
-use Rattle.sabr_search.specs.Task.{is_closed}
+use Rattle.sabr_search.specs.Task.{is_closed, latest_arrival}
 
 -- contact n takes what is there at second t from the node at place u to the node at place w at second b, which is neither
 -- the source nor avoided
@@ -47,12 +47,12 @@ AreDues p r deadline dues = (ns : List ℕ) (v t e : ℕ) → IsWayOn p r v t ns
 abbrev pub AreSpans : List Due → List Span → Type 0
 AreSpans dues spans = (k : ℕ) (d : Due) (s : Span) → slice_get dues k ≡ Some d → slice_get spans d.node ≡ Some s → (s.first ≤ k) × (k < s.end)
 
--- what is kept for one deadline
+-- what is kept for one deadline; behind every arrival it has no dues
 pub record IsRung {A : Type 0} (p : TabledPlan) (r : RouteRequest) (rung : Rung A) : Type 0 where
   pub floors : length rung.before.items ≡ length p.table
   pub places : length rung.spans.items ≡ length p.table
   pub floor : IsFloor p r rung.deadline rung.before.items
-  pub dues : AreDues p r rung.deadline rung.dues.items
+  pub dues : rung.deadline ≤ latest_arrival → AreDues p r rung.deadline rung.dues.items
   pub spans : AreSpans rung.dues.items rung.spans.items
 
 -- what is kept is true of the plan and the request

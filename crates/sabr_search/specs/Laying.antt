@@ -1,7 +1,6 @@
 -- Making a table: what is asked, and the layers that it is made from.
-use Rattle.std.specs.Prelude.{◌≡◌, ℕ, ◌+◌, ◌≤◌, ◌<◌, List, [], length, false, Contains, slice_get, slice_index, slice_index_or}
+use Rattle.std.specs.Prelude.{◌≡◌, ℕ, ◌+◌, ◌<◌, List, [], false, Contains, slice_get, slice_index, slice_index_or}
 use Rattle.std.specs.declared.option.Option.TheVariants.{Some}
-use Rattle.sabr_model.specs.Plan.{has}
 use Rattle.sabr_search.specs.declared.layers.Reached.{Reached}
 use Rattle.sabr_search.specs.declared.rung.Due.{Due}
 use Rattle.sabr_search.specs.Task.{SearchTask, IsTask, is_closed}

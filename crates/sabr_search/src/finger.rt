@@ -15,8 +15,9 @@ impl Finger {
         Finger { place: 0 }
     }
 
-    /// Whether the number is in the list, of which the caller has asked whether it never falls. Takes one comparison where
-    /// it stands behind the number that was asked before it, and else a halving.
+    /// Whether the number is in the list, of which the caller has asked whether it never falls. Takes one comparison
+    /// where it stands behind the number that was found last, and else a halving.
+    #[inline(always)]
     pub fn finds(&mut self, numbers: &[u32], in_order: bool, number: u32) -> bool
         requires { IsTrue in_order → IsNonDecreasing numbers.now }
         ensures { IsTrue result ↔ Contains numbers.now number }
@@ -25,6 +26,15 @@ impl Finger {
             self.place += 1;
             return true;
         }
+        self.seeks(numbers, in_order, number)
+    }
+
+    // The same, wherever the number stands: the finger then stands behind it, or where it would stand.
+    #[inline(never)]
+    fn seeks(&mut self, numbers: &[u32], in_order: bool, number: u32) -> bool
+        requires { IsTrue in_order → IsNonDecreasing numbers.now }
+        ensures { IsTrue result ↔ Contains numbers.now number }
+    {
         if !in_order {
             return numbers.contains(&number);
         }

@@ -1,14 +1,15 @@
 //! The least route of a part, by a table that is kept for its delivery.
 
-ghost use Rattle.std.specs.Prelude.{◌≡◌, ◌⊎◌, ◌++◌, ℕ, List, ◌+◌, ◌-◌, ◌*◌, ◌^◌, ◌≤◌, ◌<◌, Some, IfOk, IfSome, OnOk, OnErr, IsTrue, length, slice_get, slice_index};
-ghost use Rattle.sabr_search.specs.Task.{IsTask, IsBehind, Takes, never};
+ghost use Rattle.std.specs.Prelude.{◌≡◌, ◌⊎◌, ◌++◌, ℕ, List, ◌+◌, ◌-◌, ◌*◌, ◌^◌, ◌≤◌, ◌<◌, Some, IfOk, IfSome, IfNone, OnOk, OnErr, IsTrue, length, slice_get, slice_index};
+ghost use Rattle.sabr_search.specs.Task.{IsTask, IsBehind, Takes, never, latest_arrival};
 ghost use Rattle.sabr_search.specs.Told.{hops_told};
 ghost use Rattle.sabr_search.specs.Kept.{AreSpans, IsRung, IsKept};
-ghost use Rattle.sabr_search.specs.Following.{tabled_of, ComesTo, AreFirstSteps, IsNoneBefore, IsFound, IsLeastDue, IsWalked};
+ghost use Rattle.sabr_search.specs.Following.{tabled_of, ComesTo, AreFirstSteps, HasNoWay, IsNoneBefore, IsFound, IsLeastDue, IsWalked};
 
 use crate::answer::record;
 use crate::kept::Kept;
 use crate::layers::{Layers, NEVER};
+use crate::laying::LATEST;
 use crate::looks::Looks;
 use crate::over_link::link_passes;
 use crate::pick::{Standing, Step};
@@ -165,6 +166,7 @@ impl<'a, A: Allocator + Copy> Task<'a, A> {
         requires most { most ≤ 2 ^ 62 }
         requires many { length prefix.now + hops < 2 ^ 32 }
         requires rung { IsRung (tabled_of self.now) self.now.request rung.now }
+        requires early { rung.now.deadline ≤ latest_arrival }
         ensures looks { looks.new.count ≤ most }
         ensures some { IfOk result (λ o. IfSome o (λ v. (s : List ℕ) × (v.items ≡ prefix.now ++ s) × IsWalked self.now rung.now.deadline hops s)) }
     {
@@ -216,6 +218,9 @@ impl<'a, A: Allocator + Copy> Task<'a, A> {
         ensures counted { IfOk result (λ o. hops_told o ≤ looks.new.count) }
         ensures some { IfOk result (λ o. IfSome o (IsFound self.now prefix.now max_hops)) }
     {
+        if rung.deadline > LATEST {
+            return Ok(None);
+        }
         let rest = rung.least_hops(first);
         if rest >= max_hops as usize - prefix.len() {
             return Ok(None);
@@ -237,13 +242,13 @@ fn meets<A: Allocator + Copy>(rung: &Rung<A>, first: &[Standing]) -> bool
 }
 
 impl<A: Allocator + Copy> Kept<A> {
-    /// The table of the least deadline from the floor on for which a first step is in time.
+    /// The table of the least deadline from the floor on, of those for a delivery, for which a first step is in time.
     fn met(&self, _task: &Task<'_, A>) -> Option<usize>
         requires kept { IsKept (tabled_of _task.now) _task.now.request self.now }
         requires inside { (k : ℕ) (s : Standing) → slice_get self.now.first.items k ≡ Some s → s.node < length _task.now.table }
         ensures { IfSome result (λ place. place < length self.now.rungs.items) }
     {
-        let mut least = NEVER;
+        let mut least = LATEST + 1;
         let mut found = None;
         for place in 0..self.rungs.len() {
             let rung = &self.rungs[place];
@@ -342,7 +347,7 @@ impl<A: Allocator + Copy> Kept<A> {
         Ok(later)
     }
 
-    /// The least route behind the prefix, where tables help to tell it within `most` looks.
+    /// Tells the least route behind the prefix, or that there is none, where tables help to within `most` looks.
     pub fn follow(
         &mut self,
         layers: &mut Layers<A>,
@@ -351,7 +356,7 @@ impl<A: Allocator + Copy> Kept<A> {
         most: u64,
         prefix: &[u32],
         max_hops: u32,
-    ) -> Result<Option<Route<A>>, NoMemory>
+    ) -> Result<Option<Option<Route<A>>>, NoMemory>
         requires task { IsTask task.now }
         requires behind { IsBehind task.now prefix.now }
         requires few { looks.old.count ≤ most }
@@ -359,9 +364,11 @@ impl<A: Allocator + Copy> Kept<A> {
         requires kept { IsKept (tabled_of task.now) task.now.request self.old }
         ensures kept { self.new.rungs ≡ self.old.rungs }
         ensures refused { OnErr result (looks.new.count ≤ most + length task.now.table * length task.now.plan.contacts) }
-        ensures looks { IfOk result (λ o. looks.new.count ≤ most + (hops_told o - length prefix.now) * length task.now.plan.contacts + hops_told o) }
-        ensures counted { IfOk result (λ o. hops_told o ≤ looks.new.count) }
-        ensures some { IfOk result (λ o. IfSome o (IsFound task.now prefix.now max_hops)) }
+        ensures untold { IfOk result (λ o. IfNone o (looks.new.count ≤ most)) }
+        ensures looks { IfOk result (λ o. IfSome o (λ answer. looks.new.count ≤ most + (hops_told answer - length prefix.now) * length task.now.plan.contacts + hops_told answer)) }
+        ensures counted { IfOk result (λ o. IfSome o (λ answer. hops_told answer ≤ looks.new.count)) }
+        ensures none { IfOk result (λ o. IfSome o (λ answer. IfNone answer (HasNoWay task.now))) }
+        ensures some { IfOk result (λ o. IfSome o (λ answer. IfSome answer (IsFound task.now prefix.now max_hops))) }
     {
         if prefix.len() >= max_hops as usize || !self.pays() {
             return Ok(None);
@@ -370,9 +377,16 @@ impl<A: Allocator + Copy> Kept<A> {
         if !whole {
             return Ok(None);
         }
+        if self.shows_none(task) {
+            self.count_answer(true);
+            return Ok(Some(None));
+        }
         self.floor = 0;
         let found = self.answer_met(layers, task, looks, most, prefix, max_hops)?;
         self.count_answer(found.is_some());
-        Ok(found)
+        let Some(route) = found else {
+            return Ok(None);
+        };
+        Ok(Some(Some(route)))
     }
 }

@@ -4,7 +4,7 @@ ghost use Rattle.std.specs.Prelude.{◌≡◌, ◌≤◌, ◌^◌, [], length};
 ghost use Rattle.sabr_search.specs.Kept.{IsKept};
 
 use crate::layers::Layers;
-use crate::laying::rung_for;
+use crate::laying::{LATEST, rung_for};
 use crate::looks::Looks;
 use crate::pick::Standing;
 use crate::rung::Rung;
@@ -139,7 +139,36 @@ impl<A: Allocator + Copy> Kept<A> {
         self.rungs.len() < MOST_RUNGS
     }
 
-    /// Keeps what makes later searches with this answer shorter, within `most` looks; or not, where a growth is refused.
+    /// Keeps the table of a deadline, where it is made within `most` looks and no growth is refused.
+    fn keep(
+        &mut self,
+        layers: &mut Layers<A>,
+        looks: &mut Looks,
+        plan: &Plan<A>,
+        request: &Request,
+        deadline: u64,
+        most: u64,
+    )
+        requires kept { IsKept plan.now request.now self.old }
+        requires few { looks.old.count ≤ most }
+        requires most { most ≤ 2 ^ 62 }
+        ensures kept { IsKept plan.now request.now self.new }
+        ensures looks { looks.new.count ≤ most }
+    {
+        let Ok(made) = rung_for(self.alloc, layers, looks, plan, request, deadline, most) else {
+            return;
+        };
+        let Some(rung) = made else {
+            return;
+        };
+        if self.rungs.reserve(1).is_err() {
+            return;
+        }
+        self.rungs.push_reserved(rung);
+    }
+
+    /// Keeps what makes later searches with this answer shorter, and beside the first table what shows that there is no
+    /// answer, within `most` looks; or not, where a growth is refused.
     pub fn learn(
         &mut self,
         layers: &mut Layers<A>,
@@ -158,15 +187,9 @@ impl<A: Allocator + Copy> Kept<A> {
         if !self.note(delivery) {
             return;
         }
-        let Ok(made) = rung_for(self.alloc, layers, looks, plan, request, delivery, most) else {
-            return;
-        };
-        let Some(rung) = made else {
-            return;
-        };
-        if self.rungs.reserve(1).is_err() {
-            return;
+        self.keep(layers, looks, plan, request, delivery, most);
+        if self.rungs.len() == 1 {
+            self.keep(layers, looks, plan, request, LATEST + 1, most);
         }
-        self.rungs.push_reserved(rung);
     }
 }

@@ -3,7 +3,7 @@
 ghost use Rattle.std.specs.Prelude.{◌≡◌, ◌≢◌, ℕ, ◌+◌, ◌-◌, ◌^◌, ◌≤◌, ◌<◌, IfOk, IfSome, OnOk, Some, Contains, All, length, slice_get, slice_index};
 ghost use Rattle.sabr_search.specs.declared.rung.Due.{Due};
 ghost use Rattle.sabr_search.specs.declared.layers.Reached.{Reached};
-ghost use Rattle.sabr_search.specs.Task.{IsTask, never};
+ghost use Rattle.sabr_search.specs.Task.{IsTask, never, latest_arrival};
 ghost use Rattle.sabr_search.specs.Laying.{IsWhole, AreAllLate, AreGathered};
 ghost use Rattle.sabr_search.specs.Kept.{IsRung, IsFloor, AreDues, AreSpans};
 ghost use Rattle.sabr_search.specs.Following.{tabled_of};
@@ -17,8 +17,8 @@ use crate::task::Task;
 use sabr_model::{NoMemory, Plan, Request};
 use std::alloc::Allocator;
 
-/// After every contact: nothing leaves then.
-const LATEST: u64 = 253372764799;
+/// After every contact: nothing leaves then, and nothing arrives later.
+pub const LATEST: u64 = 253372764799;
 
 impl<A: Allocator + Copy> Layers<A> {
     /// Layers backward from the goal until one has no entry: answers how many there are before that one. None where the
@@ -124,6 +124,35 @@ impl<A: Allocator + Copy> Layers<A> {
         Ok(dues)
     }
 
+    /// The dues of a deadline, and no entry of one that is behind every arrival; none where the plan isn't ready, or where
+    /// more than `most` looks might be needed.
+    fn dues_by(
+        &mut self,
+        alloc: A,
+        task: &Task<'_, A>,
+        looks: &mut Looks,
+        since: &[u64],
+        deadline: u64,
+        most: u64,
+    ) -> Result<Option<Vec<Due, A>>, NoMemory>
+        requires whole { IsWhole task.now }
+        requires many { length since.now ≡ length task.now.table }
+        requires zero { (u : ℕ) → slice_index since.now u ≡ 0 }
+        requires few { looks.old.count ≤ most }
+        requires most { most ≤ 2 ^ 62 }
+        ensures looks { looks.new.count ≤ most }
+        ensures dues { IfOk result (λ o. IfSome o (λ v. deadline ≤ latest_arrival → AreDues (tabled_of task.now) task.now.request deadline v.items)) }
+    {
+        if deadline > LATEST {
+            return Ok(Some(Vec::new(alloc)));
+        }
+        let Some(all) = self.make_all(task, looks, since, deadline, most)? else {
+            return Ok(None);
+        };
+        let dues = self.gather(alloc, task, deadline, all)?;
+        Ok(Some(dues))
+    }
+
     /// The table of a deadline; none where the plan isn't ready, or where more than `most` looks might be needed.
     fn lay(
         &mut self,
@@ -148,10 +177,9 @@ impl<A: Allocator + Copy> Layers<A> {
             return Ok(None);
         };
         let before = self.floors(alloc, task, left, deadline)?;
-        let Some(all) = self.make_all(task, looks, &since, deadline, most)? else {
+        let Some(dues) = self.dues_by(alloc, task, looks, &since, deadline, most)? else {
             return Ok(None);
         };
-        let dues = self.gather(alloc, task, deadline, all)?;
         let spans = spans_of(alloc, &dues, nodes)?;
         Ok(Some(Rung {
             deadline,

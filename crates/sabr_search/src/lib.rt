@@ -17,6 +17,7 @@ mod least_link;
 mod leave_link;
 mod limits;
 mod looks;
+mod nowhere;
 mod over_link;
 mod part;
 mod pick;

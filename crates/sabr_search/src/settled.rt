@@ -51,7 +51,7 @@ fn least_route<A: Allocator + Copy>(
     layers.answer_by(alloc, task, looks, prefix, limits, &settling.arrival, first)
 }
 
-/// The least route behind the prefix: by a table that is kept, or else by a search.
+/// The least route behind the prefix: told by the tables that are kept, or else by a search.
 fn least_beside<A: Allocator + Copy>(
     alloc: A,
     settling: &mut Settling<A>,
@@ -78,8 +78,8 @@ fn least_beside<A: Allocator + Copy>(
 {
     let most = task.one_pass();
     let followed = kept.follow(layers, task, looks, most, prefix, max_hops)?;
-    if let Some(route) = followed {
-        return Ok(Some(route));
+    if let Some(answer) = followed {
+        return Ok(answer);
     }
     least_route(alloc, settling, layers, task, looks, max_hops, prefix)
 }

@@ -151,6 +151,7 @@ impl<'a, A: Allocator + Copy> Task<'a, A> {
     }
 
     /// Whether a route may not take this number behind the prefix. A walk over passes keeps the finger.
+    #[inline(always)]
     pub fn is_excluded(&self, node: usize, number: u32, finger: &mut Finger) -> bool
         ensures { result ≡ (node == self.now.start && has number self.now.excluded) }
     {

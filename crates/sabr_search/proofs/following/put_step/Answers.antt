@@ -1,6 +1,4 @@
-use Rattle.std.proofs.Common.{◌≡◌, inl, inr, length, ap, sym, ◌∙◌}
-use Rattle.std.specs.Prelude.{slice_get}
-use Rattle.std.proofs.lemmas.Option.{slice_get_within}
+use Rattle.std.proofs.Common.{inl, inr, length}
 use Rattle.sabr_model.proofs.LinkLemmas.{push_new, push_old, push_cases}
 use Rattle.sabr_search.proofs.following.put_step.Goals as goal
 

@@ -1,4 +1,4 @@
-use Rattle.std.proofs.Common.{◌≡◌, ◌-◌, ◌+◌, refl, ap, ◌∙◌, arith}
+use Rattle.std.proofs.Common.{◌-◌, refl, arith}
 use Rattle.sabr_search.proofs.AllLayers.{floor_of}
 use Rattle.sabr_search.proofs.layers.Layers.floors.Goals as goal
 

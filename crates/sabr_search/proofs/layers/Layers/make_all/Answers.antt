@@ -1,4 +1,4 @@
-use Rattle.std.proofs.Common.{◌≡◌, ◌+◌, ◌++◌, [], ◌∷◌, Some, length, take, slice_index, ap, ◌∙◌, arith}
+use Rattle.std.proofs.Common.{◌≡◌, ◌++◌, [], ◌∷◌, Some, length, ap, ◌∙◌, arith}
 use Rattle.sabr_search.proofs.LateMade.{late_first, late_next}
 use Rattle.sabr_search.proofs.layers.Layers.make_all.Goals as goal
 

@@ -1,4 +1,4 @@
-use Rattle.std.proofs.Common.{◌≡◌, ◌<◌, ◌≤◌, slice_index, arith}
+use Rattle.std.proofs.Common.{◌≡◌, ◌<◌, slice_index, arith}
 use Rattle.sabr_search.proofs.Between.{read_at}
 use Rattle.sabr_search.proofs.LateLists.{late_noted, sound_back, set_here}
 use Rattle.sabr_search.proofs.layers.Layers.take_back.Goals as goal

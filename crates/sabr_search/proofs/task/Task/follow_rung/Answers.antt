@@ -15,6 +15,6 @@ returns-clause-some g c =
     let prefix = c.args.prefix.now in
     let rest = c.least_hops-rest.result in
     let walked = rw c.in-Some.is at c.in_ok-walked.ensures.some in
-    let fewer = no_fewer task c.requires.task prefix c.requires.behind rung.deadline rest rung.dues.items c.args.first.now c.requires.rung.dues c.requires.first c.least_hops-rest.ensures in
+    let fewer = no_fewer task c.requires.task prefix c.requires.behind rung.deadline rest rung.dues.items c.args.first.now (c.requires.rung.dues (omega arith)) c.requires.first c.least_hops-rest.ensures in
     let least = least_walked task c.requires.task prefix c.requires.behind rung.deadline rest (rest + 1) c.args.max_hops walked.0 refl (omega (arith, c.if-rest-max_hops.false)) (λ ns e way. c.requires.least ns e way) fewer walked.2 in
     rw c.record.ensures.value (walked.0, walked.1, omega (arith, walked.2.many, c.if-rest-max_hops.false, c.requires.short), least, record { until_is = refl; entry_is = refl })

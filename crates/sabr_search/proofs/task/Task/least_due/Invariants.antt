@@ -1,4 +1,4 @@
-use Rattle.std.proofs.Common.{◌≡◌, ℕ, ◌+◌, ◌<◌, ◌≤◌, Some, length, slice_get}
+use Rattle.std.proofs.Common.{◌≡◌, ℕ, ◌<◌, ◌≤◌, Some, slice_get}
 use Rattle.std.specs.Prelude.{IfSome}
 use Rattle.sabr_model.specs.declared.link.Link.{Link}
 use Rattle.sabr_search.specs.Task.{Takes}

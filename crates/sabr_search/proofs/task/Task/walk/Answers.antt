@@ -1,4 +1,4 @@
-use Rattle.std.proofs.Common.{◌≡◌, ◌≤◌, ◌+◌, ◌-◌, ◌++◌, [], ◌∷◌, length, ap, sym, ◌∙◌, arith}
+use Rattle.std.proofs.Common.{◌-◌, ◌++◌, [], ◌∷◌, ap, sym, ◌∙◌, arith}
 use Rattle.std.proofs.lemmas.Option.{slice_get_within}
 use Rattle.sabr_search.specs.Following.{IsLeastDue}
 use Rattle.sabr_search.proofs.Front.{append_none, append_back}
@@ -28,7 +28,7 @@ loop-hop-preserved g c =
       chosen = (
         so_far.0 ++ c.in-Some.step.number ∷ [],
         c.in_ok-push.ensures.items ∙ ap (λ xs. xs ++ c.in-Some.step.number ∷ []) so_far.1 ∙ append_back c.args.prefix.now so_far.0 (c.in-Some.step.number ∷ []),
-        walk_more task c.requires.task c.args.prefix.now c.requires.behind rung.deadline c.args.hops hop rung.dues.items c.requires.rung.dues c.loop-hop-test.true so_far.0 c.loop-hop.from.node c.loop-hop.from.at so_far.2 (c.args.hops - 1 - hop) (omega arith) c.in-Some.step least,
+        walk_more task c.requires.task c.args.prefix.now c.requires.behind rung.deadline c.args.hops hop rung.dues.items (c.requires.rung.dues c.requires.early) c.loop-hop-test.true so_far.0 c.loop-hop.from.node c.loop-hop.from.at so_far.2 (c.args.hops - 1 - hop) (omega arith) c.in-Some.step least,
       );
     }
 

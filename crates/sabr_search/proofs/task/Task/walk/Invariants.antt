@@ -1,4 +1,4 @@
-use Rattle.std.proofs.Common.{◌≡◌, ℕ, List, ◌++◌, ◌+◌, ◌≤◌, ◌<◌, length}
+use Rattle.std.proofs.Common.{◌≡◌, ℕ, List, ◌++◌, ◌≤◌, ◌<◌, length}
 use Rattle.sabr_search.proofs.Tables.{IsOnWalk}
 use Rattle.sabr_search.proofs.task.Task.walk.Given as goal
 

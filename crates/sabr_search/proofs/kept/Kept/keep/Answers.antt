@@ -2,7 +2,7 @@ use Rattle.std.proofs.Common.{◌≡◌, [], ◌∷◌, ◌++◌, subst, ap, sym
 use Rattle.std.specs.Prelude.{All}
 use Rattle.std.proofs.lemmas.List.Elements.{All-push}
 use Rattle.sabr_search.specs.Kept.{IsRung}
-use Rattle.sabr_search.proofs.kept.Kept.learn.Goals as goal
+use Rattle.sabr_search.proofs.kept.Kept.keep.Goals as goal
 
 pub returns-clause-kept : goal.returns-clause-kept
 returns-clause-kept g c =
@@ -12,5 +12,5 @@ returns-clause-kept g c =
     let rung = c.in-Some.rung in
     let one : IsRung p r rung = rw c.in-Some.is at c.in-Ok.ensures.rung in
     let more : All (IsRung p r) (old ++ rung ∷ []) = All-push (IsRung p r) old rung c.requires.kept one in
-    let is : c.push_reserved.new.self.items ≡ old ++ rung ∷ [] = c.push_reserved.ensures.items ∙ ap (λ xs. xs ++ rung ∷ []) (c.reserve.ensures.items ∙ ap (λ v. v.items) c.note.ensures) in
+    let is : c.push_reserved.new.self.items ≡ old ++ rung ∷ [] = c.push_reserved.ensures.items ∙ ap (λ xs. xs ++ rung ∷ []) (c.reserve.ensures.items) in
     subst (λ xs. All (IsRung p r) xs) (sym is) more
