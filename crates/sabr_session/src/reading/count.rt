@@ -1,4 +1,4 @@
-//! Numbers of a session text.
+//! A count that a session text spells exactly.
 
 ghost use Rattle.std.specs.Prelude.{◌≡◌, ℕ, ◌<◌, ◌≤◌, ◌^◌, decimal, IfSome, IfNone};
 ghost use Rattle.sabr_plan.specs.Numbers.{number_within};
@@ -24,7 +24,8 @@ fn spelled_count(text: &[u8]) -> Option<u128>
     }
 }
 
-/// The number that the text spells, decimal without a sign or leading zero, up to 340282366920938463463374607431768211455.
+/// The number that the text spells, decimal without a sign or leading zero, up to
+/// 340282366920938463463374607431768211455.
 pub(crate) fn count_within(text: &[u8]) -> Option<u128>
     ensures { result ≡ number_within 0 340282366920938463463374607431768211455 text.now }
 {

@@ -1,4 +1,4 @@
-//! Nodes in a session text.
+//! Lists of nodes in a session text.
 
 ghost use Rattle.std.specs.Prelude.{◌≡◌, None, Some, map, MatchOption};
 ghost use Rattle.sabr_session.specs.SessionWords.{words_of, all_of, counted, is_dash, nodes_of};

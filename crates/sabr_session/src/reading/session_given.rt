@@ -18,9 +18,9 @@ const PIECE_BYTES: usize = 4096;
 
 /// Reads the session that a text spells over a plan, to the text's end or up to its first fault.
 ///
-/// The digest is that of the plan. It runs no search, so nothing says that the text's routes are the least: a stranger's
-/// text may leave routes out. Whatever it says, the state is well formed, and each later page of the session gives
-/// routes that its text doesn't count as given. How many bytes behind a fault the reader has given up is open.
+/// The digest is that of the plan. It runs no search, so nothing says that the text's routes are the least: a
+/// stranger's text may leave routes out. Whatever it says, the state is well formed, and each later page of the session
+/// gives routes that its text doesn't count as given. How many bytes behind a fault the reader has given up is open.
 ///
 /// # Errors
 ///
