@@ -16,9 +16,9 @@ use Rattle.sabr_session.specs.SessionWords.{words_of, contacts_of, nodes_of, is_
 use Rattle.sabr_plan.specs.Numbers.{number_within}
 use Rattle.sabr_session.specs.SessionLines.{behind_label, header_of, is_digest, digest_named, four_of, unlimited_of, limited_of, values_of, request_of, emitted_of, last_listed, count_of, carried_of, lists_of, part_of, is_end}
 use Rattle.sabr_session.specs.SessionRead.{Said, same_plan, spelled_at, asked, digest_said}
-use Rattle.sabr_session.specs.declared.first_lines.Version.{Version}
-use Rattle.sabr_session.specs.declared.first_lines.Version.TheVariants.{One, Two}
-use Rattle.sabr_session.specs.declared.request_line.RequestValues.{RequestValues}
+use Rattle.sabr_session.specs.declared.reading.first_lines.Version.{Version}
+use Rattle.sabr_session.specs.declared.reading.first_lines.Version.TheVariants.{One, Two}
+use Rattle.sabr_session.specs.declared.reading.request_line.RequestValues.{RequestValues}
 use Rattle.sabr_session.specs.declared.session_fault.SessionFault.TheVariants.{OtherPlan, BadRequest}
 use Rattle.sabr_session.proofs.StepsTaken.{and_then_some, map_some, and_then_ok, spelled_at_ok, test_some}
 use Rattle.sabr_plan.proofs.SpelledNumbers.{number_within-range}

@@ -16,8 +16,8 @@ use Rattle.sabr_frontier.specs.Listing.{IsState}
 use Rattle.sabr_session.specs.SpacedNumbers.{list_text}
 use Rattle.sabr_session.specs.SessionText.{part_line, plan_line, request_line, old_request_line, state_lines, text_of, old_text_of, HasText, IsUnlimited}
 use Rattle.sabr_session.specs.SessionRead.{Said, nothing_said, line_said, read_lines, last_line, said_of, ComesTo, IsSessionOf}
-use Rattle.sabr_session.specs.declared.first_lines.Version.{Version}
-use Rattle.sabr_session.specs.declared.first_lines.Version.TheVariants.{One, Two}
+use Rattle.sabr_session.specs.declared.reading.first_lines.Version.{Version}
+use Rattle.sabr_session.specs.declared.reading.first_lines.Version.TheVariants.{One, Two}
 use Rattle.sabr_plan.proofs.SpelledNumbers.{same_text}
 use Rattle.sabr_session.proofs.SpelledWords.{decimal_is_word}
 use Rattle.sabr_session.proofs.SpelledLines.{joined, AreLines, lines_of-joined, lf_behind, line-append, concat_line, length-concat, word_line, list_line, list_length, nodes_length}

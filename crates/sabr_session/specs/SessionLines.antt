@@ -8,9 +8,9 @@ use Rattle.sabr_plan.specs.Times.{time_of}
 use Rattle.sabr_frontier.specs.State.{PartState}
 use Rattle.sabr_session.specs.SessionWords.{words_of, contacts_of, nodes_of, is_slash, before_slash, after_slash}
 use Rattle.sabr_plan.specs.Numbers.{number_within}
-use Rattle.sabr_session.specs.declared.first_lines.Version.{Version}
-use Rattle.sabr_session.specs.declared.first_lines.Version.TheVariants.{One, Two}
-use Rattle.sabr_session.specs.declared.request_line.RequestValues.{RequestValues}
+use Rattle.sabr_session.specs.declared.reading.first_lines.Version.{Version}
+use Rattle.sabr_session.specs.declared.reading.first_lines.Version.TheVariants.{One, Two}
+use Rattle.sabr_session.specs.declared.reading.request_line.RequestValues.{RequestValues}
 
 -- what stands behind the label, where the text begins with it
 unfoldable pub behind_label : List ℕ → List ℕ → Option (List ℕ)

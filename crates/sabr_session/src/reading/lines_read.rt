@@ -6,9 +6,9 @@ ghost use Rattle.sabr_session.specs.SessionFed.{opened_over, IsSessionFrom};
 ghost use Rattle.sabr_session.specs.SessionLeaving.{Leaves};
 ghost use Rattle.sabr_session.specs.SessionStage.{said_with};
 
-use crate::first_lines::is_end;
-use crate::head::Head;
-use crate::part_line::PartLine;
+use crate::reading::first_lines::is_end;
+use crate::reading::head::Head;
+use crate::reading::part_line::PartLine;
 use crate::reading::stage::Stage;
 use crate::session_fault::SessionFault;
 use sabr_frontier::{LoadFault, Session};

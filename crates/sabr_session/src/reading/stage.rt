@@ -7,7 +7,7 @@ ghost use Rattle.sabr_session.specs.SessionRead.{nothing_said, placed, part_said
 ghost use Rattle.sabr_session.specs.SessionLeaving.{Leaves};
 ghost use Rattle.sabr_session.specs.SessionStage.{said_with, staged};
 
-use crate::part_line::PartLine;
+use crate::reading::part_line::PartLine;
 use crate::session_fault::SessionFault;
 use sabr_frontier::{LoadFault, Loader, Session};
 use sabr_model::{Plan, Request};

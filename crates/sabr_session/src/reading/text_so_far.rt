@@ -8,7 +8,7 @@ ghost use Rattle.sabr_session.specs.SessionFed.{GoesOn, IsRefusedPiece, IsSessio
 ghost use Rattle.sabr_session.specs.SessionLeaving.{Leaves};
 ghost use Rattle.sabr_session.specs.declared.session_fault.SessionFault.TheVariants as fault;
 
-use crate::held_line::{HeldLine, MOST_BYTES};
+use crate::reading::held_line::{HeldLine, MOST_BYTES};
 use crate::reading::lines_read::LinesRead;
 use crate::session_fault::SessionFault;
 use sabr_frontier::Session;

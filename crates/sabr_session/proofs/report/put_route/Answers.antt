@@ -1,4 +1,0 @@
-use Rattle.sabr_session.proofs.report.put_route.Goals as goal
-
-pub returns : goal.returns
-returns g c = rw (← c.route.view_is) (rw c.as_slice-contacts.ensures at c.put_route_line.ensures)

@@ -1,0 +1,110 @@
+//! Lists of contact numbers in a session text.
+
+ghost use Rattle.std.specs.Prelude.{◌≡◌, ◌≤◌, None, Some, true, false, if◌then◌else◌, map, length, IfOk, MatchOption};
+ghost use Rattle.std.specs.List.{list_any};
+ghost use Rattle.std.specs.Option.{option_copied};
+ghost use Rattle.sabr_session.specs.SessionWords.{words_of, words_behind, all_of, counted, is_dash, contacts_of, is_slash, before_slash, after_slash};
+ghost use Rattle.sabr_plan.specs.Numbers.{number_within};
+
+use crate::reading::first_number::first_number;
+use crate::reading::words::{first_word, is_word};
+use sabr_model::NoMemory;
+use std::alloc::Allocator;
+
+/// The most numbers of a list.
+const MOST_NUMBERS: usize = 20000;
+
+/// What ends a list: whether it is `/`, and the words behind that.
+#[derive(Clone, Copy)]
+pub(crate) struct ListEnd<'a> {
+    pub(crate) stopped: bool,
+    pub(crate) rest: Option<&'a [u8]>,
+}
+
+/// Whether the list is `-`: then its end.
+fn dash_to_slash(text: &[u8]) -> Option<ListEnd<'_>>
+    ensures { MatchOption result (is_dash (before_slash (words_of text.now)) ≡ false) (λ e. (is_dash (before_slash (words_of text.now)) ≡ true) × (e.stopped ≡ list_any is_slash (words_of text.now)) × (words_behind (option_copied e.rest) ≡ after_slash (words_of text.now))) }
+{
+    let (word, others) = first_word(text);
+    if !is_word(word, b"-") {
+        return None;
+    }
+    let Some(behind) = others else {
+        return Some(ListEnd {
+            stopped: false,
+            rest: None,
+        });
+    };
+    let (next, rest) = first_word(behind);
+    if is_word(next, b"/") {
+        Some(ListEnd {
+            stopped: true,
+            rest,
+        })
+    } else {
+        None
+    }
+}
+
+/// Puts the numbers up to `/` or to the end in place of what the vector holds, if there are not too many.
+fn numbers_to_slash<'a, A: Allocator + Copy>(
+    numbers: &mut Vec<u32, A>,
+    text: &'a [u8],
+) -> Result<Option<ListEnd<'a>>, NoMemory>
+    ensures { IfOk result (λ found. MatchOption found (counted 20000 (all_of (map (number_within 1 4294967295) (before_slash (words_of text.now)))) ≡ None) (λ e. (all_of (map (number_within 1 4294967295) (before_slash (words_of text.now))) ≡ Some numbers.new.items) × (length numbers.new.items ≤ 20000) × (e.stopped ≡ list_any is_slash (words_of text.now)) × (words_behind (option_copied e.rest) ≡ after_slash (words_of text.now)))) }
+{
+    numbers.clear();
+    let mut left = Some(text);
+    while let Some(behind) = left {
+        let (word, number, others) = first_number(behind);
+        if is_word(word, b"/") {
+            return Ok(Some(ListEnd {
+                stopped: true,
+                rest: others,
+            }));
+        }
+        let Some(number) = number else {
+            return Ok(None);
+        };
+        if numbers.len() == MOST_NUMBERS {
+            return Ok(None);
+        }
+        numbers.push(number as u32)?;
+        left = others;
+    }
+    Ok(Some(ListEnd {
+        stopped: false,
+        rest: None,
+    }))
+}
+
+/// Puts the list up to `/` or to the end in place of what the vector holds: `-` for the empty one, or 1 to 20000
+/// numbers from 1 to 4294967295. Where there is no list, or no memory, what the vector holds is open.
+pub(crate) fn list_to_slash<'a, A: Allocator + Copy>(
+    numbers: &mut Vec<u32, A>,
+    text: &'a [u8],
+) -> Result<Option<ListEnd<'a>>, NoMemory>
+    ensures { IfOk result (λ found. MatchOption found (contacts_of (before_slash (words_of text.now)) ≡ None) (λ e. (contacts_of (before_slash (words_of text.now)) ≡ Some numbers.new.items) × (e.stopped ≡ list_any is_slash (words_of text.now)) × (words_behind (option_copied e.rest) ≡ after_slash (words_of text.now)))) }
+{
+    let Some(end) = numbers_to_slash(numbers, text)? else {
+        numbers.clear();
+        return Ok(dash_to_slash(text));
+    };
+    if numbers.is_empty() {
+        return Ok(None);
+    }
+    Ok(Some(end))
+}
+
+/// Puts the list of all the words in place of what the vector holds, and tells whether they are one.
+pub(crate) fn list_to_end<A: Allocator + Copy>(
+    numbers: &mut Vec<u32, A>,
+    text: &[u8],
+) -> Result<bool, NoMemory>
+    ensures { IfOk result (λ found. contacts_of (words_of text.now) ≡ (if found then Some numbers.new.items else None)) }
+{
+    match list_to_slash(numbers, text)? {
+        Some(end) => Ok(!end.stopped),
+        None => Ok(false),
+    }
+}

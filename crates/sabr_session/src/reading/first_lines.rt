@@ -1,0 +1,121 @@
+//! The first two lines of a session text, and those that hold one value.
+
+ghost use Rattle.std.specs.Prelude.{◌≡◌, IfOk, length};
+ghost use Rattle.std.specs.List.{list_all};
+ghost use Rattle.std.specs.Option.{option_copied};
+ghost use Rattle.sabr_session.specs.SessionLines.{behind_label, header_of, is_digest_digit, is_digest, digest_named, emitted_of, last_listed, count_of, is_end};
+
+use crate::reading::contact_list::list_to_end;
+use crate::reading::count::count_within;
+use sabr_model::{NoMemory, Numbers};
+use sabr_plan::number_within;
+use std::alloc::Allocator;
+
+/// How many digits a digest has.
+const DIGEST_DIGITS: usize = 64;
+
+/// The version of a session text.
+#[derive(Clone, Copy, Debug, PartialEq, Eq)]
+pub(crate) enum Version {
+    /// That of a request without limits.
+    One,
+    /// That of any request.
+    Two,
+}
+
+/// What stands behind the label, where the text begins with it.
+pub(crate) fn behind_label<'a>(label: &[u8], text: &'a [u8]) -> Option<&'a [u8]>
+    ensures { option_copied result ≡ behind_label label.now text.now }
+{
+    if text.len() < label.len() {
+        return None;
+    }
+    let (front, back) = text.split_at(label.len());
+    if front == label { Some(back) } else { None }
+}
+
+/// The version that `cgr-session 1` or `cgr-session 2` names.
+pub(crate) fn header_of(line: &[u8]) -> Option<Version>
+    ensures { result ≡ header_of line.now }
+{
+    if line == b"cgr-session 2".as_slice() {
+        return Some(Version::Two);
+    }
+    if line == b"cgr-session 1".as_slice() {
+        return Some(Version::One);
+    }
+    None
+}
+
+/// Whether a byte is `0` to `9` or `a` to `f`.
+fn is_digest_digit(byte: u8) -> bool
+    ensures { result ≡ is_digest_digit byte }
+{
+    (48 <= byte && byte <= 57) || (97 <= byte && byte <= 102)
+}
+
+/// Whether all bytes are `0` to `9` or `a` to `f`.
+fn are_digest_digits(text: &[u8]) -> bool
+    ensures { result ≡ list_all is_digest_digit text.now }
+{
+    text.iter().all(|byte| is_digest_digit(*byte))
+}
+
+/// The digits that `plan H` names.
+pub(crate) fn digest_named(line: &[u8]) -> Option<&[u8]>
+    ensures { option_copied result ≡ digest_named line.now }
+{
+    let Some(text) = behind_label(b"plan ", line) else {
+        return None;
+    };
+    if text.len() == DIGEST_DIGITS && are_digest_digits(text) {
+        Some(text)
+    } else {
+        None
+    }
+}
+
+/// The number of `emitted N`.
+pub(crate) fn emitted_of(line: &[u8]) -> Option<u128>
+    ensures { result ≡ emitted_of line.now }
+{
+    let Some(text) = behind_label(b"emitted ", line) else {
+        return None;
+    };
+    count_within(text)
+}
+
+/// The list of `last LIST`.
+pub(crate) fn last_listed<A: Allocator + Copy>(
+    alloc: A,
+    line: &[u8],
+) -> Result<Option<Numbers<A>>, NoMemory>
+    ensures { IfOk result (λ found. found ≡ last_listed line.now) }
+{
+    let Some(text) = behind_label(b"last ", line) else {
+        return Ok(None);
+    };
+    let mut numbers = Vec::new(alloc);
+    if list_to_end(&mut numbers, text)? {
+        Ok(Some(Numbers::new(numbers)))
+    } else {
+        Ok(None)
+    }
+}
+
+/// The number of `parts M`.
+pub(crate) fn count_of(line: &[u8]) -> Option<u64>
+    ensures { result ≡ count_of line.now }
+{
+    let Some(text) = behind_label(b"parts ", line) else {
+        return None;
+    };
+    number_within(text, 0, u64::MAX)
+}
+
+/// Whether the line is `end`.
+pub(crate) fn is_end(line: &[u8]) -> bool
+    ensures { result ≡ is_end line.now }
+{
+    line == b"end".as_slice()
+}

@@ -1,0 +1,170 @@
+//! The first six lines of a session text.
+
+ghost use Rattle.std.specs.Prelude.{◌≡◌, MatchResult, OnErr, Ok, Err};
+ghost use Rattle.std.specs.Str.{bytes_eq};
+ghost use Rattle.hex.specs.Hex.{encode_lower};
+ghost use Rattle.sabr_session.specs.SessionRead.{nothing_said, asked, header_said, digest_said, request_said, emitted_said, last_said, count_said};
+ghost use Rattle.sabr_session.specs.SessionLeaving.{Leaves};
+
+use crate::reading::first_lines::{
+    Version, count_of, digest_named, emitted_of, header_of, last_listed,
+};
+use crate::reading::request_line::{RequestValues, request_of};
+use crate::session_fault::SessionFault;
+use hex::encode_to_slice;
+use sabr_model::{Numbers, Request};
+use std::alloc::Allocator;
+use std::marker::Model;
+
+/// What the first six lines say but for the request. What none of them has said is 0 or empty.
+#[derive(Drop)]
+pub(crate) struct Head<A: Allocator + Copy> {
+    alloc: A,
+    version: Version,
+    emitted: u128,
+    last: Numbers<A>,
+    count: u64,
+}
+
+impl<A: Allocator + Copy> Model for Head<A> {
+    ghost use Rattle.std.specs.Prelude.{[]};
+    ghost use Rattle.sabr_model.specs.Asking.{unlimited};
+    ghost use Rattle.sabr_session.specs.SessionRead.{Said};
+
+    ghost Value = { Said };
+
+    ghost view = { λ h. record { version = h.version; request = unlimited 0 0 0 0; emitted = h.emitted; last_route = h.last; count = h.count; parts = [] } };
+}
+
+/// Whether the digits are those of the digest.
+fn is_digest_of(digits: &[u8], digest: &[u8; 32]) -> bool
+    ensures { result ≡ bytes_eq digits.now (encode_lower digest.now) }
+{
+    let mut text = [0; 64];
+    let _ = encode_to_slice(*digest, &mut text);
+    digits == text.as_slice()
+}
+
+/// The request of these values.
+fn asked(values: &RequestValues) -> Result<Request, SessionFault>
+    ensures { MatchResult result (λ r. asked values.now ≡ Ok r) (λ f. asked values.now ≡ Err f) }
+{
+    let Ok(request) = Request::new(values.from, values.to, values.at, values.margin_ppm) else {
+        return Err(SessionFault::BadRequest);
+    };
+    let Ok(request) = request.with_limits(values.max_hops, values.avoid.as_slice()) else {
+        return Err(SessionFault::BadRequest);
+    };
+    Ok(request)
+}
+
+impl<A: Allocator + Copy> Head<A> {
+    /// Before the first line.
+    pub(crate) fn new(alloc: A) -> Head<A>
+        ensures { result ≡ nothing_said }
+    {
+        Head {
+            alloc,
+            version: Version::Two,
+            emitted: 0,
+            last: Numbers::new(Vec::new(alloc)),
+            count: 0,
+        }
+    }
+
+    /// Takes in line 1.
+    pub(crate) fn read_header(&mut self, line: &[u8]) -> Result<(), SessionFault>
+        ensures value { Leaves (header_said self.old line.now) result self.new }
+        ensures refused { OnErr result (self.new ≡ self.old) }
+    {
+        let Some(version) = header_of(line) else {
+            return Err(SessionFault::BadHeader);
+        };
+        self.version = version;
+        Ok(())
+    }
+
+    /// Takes in line 2, over a plan of this digest.
+    pub(crate) fn read_digest(&mut self, digest: &[u8; 32], line: &[u8]) -> Result<(), SessionFault>
+        ensures value { Leaves (digest_said digest.now self.old line.now) result self.new }
+        ensures refused { OnErr result (self.new ≡ self.old) }
+    {
+        let Some(digits) = digest_named(line) else {
+            return Err(SessionFault::BadLine(2));
+        };
+        if !is_digest_of(digits, digest) {
+            return Err(SessionFault::OtherPlan);
+        }
+        Ok(())
+    }
+
+    /// The request of line 3.
+    pub(crate) fn read_request(&self, line: &[u8]) -> Result<Request, SessionFault>
+        ensures { MatchResult result (λ r. request_said self.now line.now ≡ Ok (record self.now { request = r })) (λ f. request_said self.now line.now ≡ Err f) }
+    {
+        let Some(values) = request_of(self.version, line) else {
+            return Err(SessionFault::BadLine(3));
+        };
+        asked(&values)
+    }
+
+    /// Takes in line 4.
+    pub(crate) fn read_emitted(&mut self, line: &[u8]) -> Result<(), SessionFault>
+        ensures value { Leaves (emitted_said self.old line.now) result self.new }
+        ensures refused { OnErr result (self.new ≡ self.old) }
+    {
+        let Some(emitted) = emitted_of(line) else {
+            return Err(SessionFault::BadLine(4));
+        };
+        self.emitted = emitted;
+        Ok(())
+    }
+
+    /// Takes in line 5.
+    pub(crate) fn read_last(&mut self, line: &[u8]) -> Result<(), SessionFault>
+        ensures value { Leaves (last_said self.old line.now) result self.new }
+        ensures refused { OnErr result (self.new ≡ self.old) }
+    {
+        let Ok(listed) = last_listed(self.alloc, line) else {
+            return Err(SessionFault::NoMemory);
+        };
+        let Some(last) = listed else {
+            return Err(SessionFault::BadLine(5));
+        };
+        self.last = last;
+        Ok(())
+    }
+
+    /// Takes in line 6.
+    pub(crate) fn read_count(&mut self, line: &[u8]) -> Result<(), SessionFault>
+        ensures value { Leaves (count_said self.old line.now) result self.new }
+        ensures refused { OnErr result (self.new ≡ self.old) }
+    {
+        let Some(count) = count_of(line) else {
+            return Err(SessionFault::BadLine(6));
+        };
+        self.count = count;
+        Ok(())
+    }
+
+    /// How many routes were given.
+    pub(crate) fn emitted(&self) -> u128
+        ensures { result ≡ self.now.emitted }
+    {
+        self.emitted
+    }
+
+    /// The last route given.
+    pub(crate) fn last(&self) -> &[u32]
+        ensures { result.now ≡ self.now.last_route }
+    {
+        self.last.as_slice()
+    }
+
+    /// How many parts there are to be.
+    pub(crate) fn count(&self) -> u64
+        ensures { result ≡ self.now.count }
+    {
+        self.count
+    }
+}

@@ -1,0 +1,49 @@
+//! Lists of nodes in a session text.
+
+ghost use Rattle.std.specs.Prelude.{◌≡◌, None, Some, map, MatchOption};
+ghost use Rattle.sabr_session.specs.SessionWords.{words_of, all_of, counted, is_dash, nodes_of};
+ghost use Rattle.sabr_plan.specs.Numbers.{number_within};
+
+use crate::reading::words::{first_word, is_word};
+use sabr_model::NodeList;
+use sabr_plan::number_within;
+
+/// The nodes that the words spell, if there are not too many.
+fn numbers_listed(text: &[u8]) -> Option<NodeList>
+    ensures { MatchOption result (counted 16 (all_of (map (number_within 0 18446744073709551615) (words_of text.now))) ≡ None) (λ nodes. counted 16 (all_of (map (number_within 0 18446744073709551615) (words_of text.now))) ≡ Some nodes) }
+{
+    let mut nodes = NodeList::new();
+    let mut left = Some(text);
+    while let Some(behind) = left {
+        let (word, others) = first_word(behind);
+        let Some(node) = number_within(word, 0, u64::MAX) else {
+            return None;
+        };
+        let Some(()) = nodes.push(node) else {
+            return None;
+        };
+        left = others;
+    }
+    Some(nodes)
+}
+
+/// Whether the text is the one word `-`.
+fn is_dash(text: &[u8]) -> bool
+    ensures { result ≡ is_dash (words_of text.now) }
+{
+    let (word, others) = first_word(text);
+    match others {
+        Some(_behind) => false,
+        None => is_word(word, b"-"),
+    }
+}
+
+/// The nodes of a list: `-` for none, or 1 to 16 numbers up to 18446744073709551615.
+pub(crate) fn nodes_of(text: &[u8]) -> Option<NodeList>
+    ensures { MatchOption result (nodes_of (words_of text.now) ≡ None) (λ nodes. nodes_of (words_of text.now) ≡ Some nodes) }
+{
+    if is_dash(text) {
+        return Some(NodeList::new());
+    }
+    numbers_listed(text)
+}

@@ -1,0 +1,98 @@
+//! The line of a part.
+
+ghost use Rattle.std.specs.Prelude.{◌≡◌, [], None, Some, if◌then◌else◌, IfOk};
+ghost use Rattle.std.specs.Option.{option_copied};
+ghost use Rattle.sabr_session.specs.SessionWords.{words_of};
+ghost use Rattle.sabr_session.specs.SessionLines.{carried_of, lists_of, part_of};
+
+use crate::reading::contact_list::{list_to_end, list_to_slash};
+use crate::reading::first_lines::behind_label;
+use sabr_model::NoMemory;
+use std::alloc::Allocator;
+use std::marker::Model;
+
+/// The three lists of a part, in room that is kept for those of the next; the third is empty where no route is carried.
+/// Contracts see the part.
+#[derive(Drop)]
+pub(crate) struct PartLine<A: Allocator + Copy> {
+    prefix: Vec<u32, A>,
+    excluded: Vec<u32, A>,
+    route: Vec<u32, A>,
+}
+
+impl<A: Allocator + Copy> Model for PartLine<A> {
+    ghost use Rattle.sabr_frontier.specs.State.{PartState};
+    ghost use Rattle.sabr_session.specs.SessionLines.{carried_of};
+
+    ghost Value = { PartState };
+
+    ghost view = { λ l. record { prefix = l.prefix.items; excluded = l.excluded.items; carried = carried_of l.route.items } };
+}
+
+impl<A: Allocator + Copy> PartLine<A> {
+    /// Three empty lists. It takes no memory.
+    pub(crate) fn new(alloc: A) -> PartLine<A>
+        ensures { result ≡ record { prefix = []; excluded = []; carried = None } }
+    {
+        PartLine {
+            prefix: Vec::new(alloc),
+            excluded: Vec::new(alloc),
+            route: Vec::new(alloc),
+        }
+    }
+
+    /// Takes the lists of `part LIST / LIST / LIST` in place of those before, and tells whether the line is that. Where
+    /// it isn't, or a growth was refused, what the lists hold is open.
+    pub(crate) fn read(&mut self, line: &[u8]) -> Result<bool, NoMemory>
+        ensures { IfOk result (λ found. part_of line.now ≡ (if found then Some self.new else None)) }
+    {
+        let Some(text) = behind_label(b"part ", line) else {
+            return Ok(false);
+        };
+        self.read_lists(text)
+    }
+
+    /// Takes the lists of `LIST / LIST / LIST`, and tells whether the text is that.
+    fn read_lists(&mut self, text: &[u8]) -> Result<bool, NoMemory>
+        ensures { IfOk result (λ found. lists_of (words_of text.now) ≡ (if found then Some self.new else None)) }
+    {
+        let Some(prefix) = list_to_slash(&mut self.prefix, text)? else {
+            return Ok(false);
+        };
+        let Some(behind) = prefix.rest else {
+            return Ok(false);
+        };
+        let Some(excluded) = list_to_slash(&mut self.excluded, behind)? else {
+            return Ok(false);
+        };
+        let Some(behind) = excluded.rest else {
+            return Ok(false);
+        };
+        list_to_end(&mut self.route, behind)
+    }
+
+    /// The numbers that the part's routes begin with.
+    pub(crate) fn prefix(&self) -> &[u32]
+        ensures { result.now ≡ self.now.prefix }
+    {
+        self.prefix.as_slice()
+    }
+
+    /// The numbers that the part leaves out behind the prefix.
+    pub(crate) fn excluded(&self) -> &[u32]
+        ensures { result.now ≡ self.now.excluded }
+    {
+        self.excluded.as_slice()
+    }
+
+    /// The numbers of the route that the part carries, if it carries one.
+    pub(crate) fn carried(&self) -> Option<&[u32]>
+        ensures { option_copied result ≡ self.now.carried }
+    {
+        if self.route.is_empty() {
+            None
+        } else {
+            Some(self.route.as_slice())
+        }
+    }
+}

@@ -1,0 +1,107 @@
+//! The line of a request.
+
+ghost use Rattle.std.specs.Prelude.{◌≡◌, ◌∷◌, ◌<◌, None, Some, length, MatchOption};
+ghost use Rattle.std.specs.Option.{option_copied};
+ghost use Rattle.sabr_session.specs.SessionWords.{words_of, words_behind};
+ghost use Rattle.sabr_session.specs.SessionLines.{four_of, unlimited_of, limited_of, values_of, request_of};
+
+use crate::reading::first_lines::{Version, behind_label};
+use crate::reading::node_list::nodes_of;
+use crate::reading::words::{first_word, is_word};
+use sabr_model::NodeList;
+use sabr_plan::{number_within, parse_time};
+
+/// The greatest margin or limit on hops that a line can name.
+const MOST_VALUE: u64 = 4294967295;
+
+/// The hops of a request without limits.
+const MOST_HOPS: u32 = 20000;
+
+/// The values of a request's line, which may be refused.
+#[derive(Drop)]
+pub(crate) struct RequestValues {
+    pub(crate) from: u64,
+    pub(crate) to: u64,
+    pub(crate) at: u64,
+    pub(crate) margin_ppm: u32,
+    pub(crate) max_hops: u32,
+    pub(crate) avoid: NodeList,
+}
+
+/// The first four words, and what stands behind them.
+fn four_words(text: &[u8]) -> Option<(&[u8], &[u8], &[u8], &[u8], Option<&[u8]>)>
+    ensures { MatchOption result (length (words_of text.now) < 4) (λ w. words_of text.now ≡ w.0.now ∷ w.1.now ∷ w.2.now ∷ w.3.now ∷ words_behind (option_copied w.4)) }
+{
+    let (one, rest) = first_word(text);
+    let (two, rest) = first_word(rest?);
+    let (three, rest) = first_word(rest?);
+    let (four, rest) = first_word(rest?);
+    Some((one, two, three, four, rest))
+}
+
+/// The values of these words.
+fn four_of(
+    from: &[u8],
+    to: &[u8],
+    time: &[u8],
+    margin: &[u8],
+    max_hops: u32,
+    avoid: NodeList,
+) -> Option<RequestValues>
+    ensures { result ≡ four_of from.now to.now time.now margin.now max_hops avoid }
+{
+    let from = number_within(from, 0, u64::MAX)?;
+    let to = number_within(to, 0, u64::MAX)?;
+    let at = parse_time(time)?;
+    let margin_ppm = number_within(margin, 0, MOST_VALUE)? as u32;
+    Some(RequestValues {
+        from,
+        to,
+        at,
+        margin_ppm,
+        max_hops,
+        avoid,
+    })
+}
+
+/// The values of `FROM TO AT PPM`.
+fn unlimited_of(text: &[u8]) -> Option<RequestValues>
+    ensures { result ≡ unlimited_of (words_of text.now) }
+{
+    let (from, to, time, margin, rest) = four_words(text)?;
+    if let Some(_behind) = rest {
+        return None;
+    }
+    four_of(from, to, time, margin, MOST_HOPS, NodeList::new())
+}
+
+/// The values of `FROM TO AT PPM HOPS / NODES`.
+fn limited_of(text: &[u8]) -> Option<RequestValues>
+    ensures { result ≡ limited_of (words_of text.now) }
+{
+    let (from, to, time, margin, rest) = four_words(text)?;
+    let (hops, rest) = first_word(rest?);
+    let (slash, rest) = first_word(rest?);
+    if !is_word(slash, b"/") {
+        return None;
+    }
+    let Some(nodes) = rest else {
+        return None;
+    };
+    let avoid = nodes_of(nodes)?;
+    let max_hops = number_within(hops, 0, MOST_VALUE)? as u32;
+    four_of(from, to, time, margin, max_hops, avoid)
+}
+
+/// The values of `request` and these words.
+pub(crate) fn request_of(version: Version, line: &[u8]) -> Option<RequestValues>
+    ensures { result ≡ request_of version line.now }
+{
+    let Some(text) = behind_label(b"request ", line) else {
+        return None;
+    };
+    match version {
+        Version::One => unlimited_of(text),
+        Version::Two => limited_of(text),
+    }
+}

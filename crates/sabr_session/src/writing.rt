@@ -1,0 +1,12 @@
+//! Writing a session text and the report of a page.
+
+mod put_lists;
+mod put_numbers;
+mod report;
+mod session_text;
+mod text_buffer;
+
+pub use put_numbers::{put_number, put_time};
+pub use report::{put_route_line, write_report, write_route};
+pub use session_text::write_session;
+pub use text_buffer::TextBuffer;

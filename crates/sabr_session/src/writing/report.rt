@@ -1,0 +1,141 @@
+//! The report of a page.
+
+ghost use Rattle.std.specs.Prelude.{◌≡◌, ℕ, ◌+◌, ◌^◌, ◌<◌, ◌≤◌, All, length};
+ghost use Rattle.sabr_model.specs.Devices.{WritesText};
+ghost use Rattle.sabr_session.specs.Gathering.{Gathers};
+ghost use Rattle.sabr_session.specs.ReportText.{HasSpelledTimes, route_line, report_line, report_lines, last_line, report_text};
+
+use crate::writing::put_numbers::{put_count, put_number, put_numbers, put_time};
+use crate::writing::text_buffer::TextBuffer;
+use sabr_model::{Route, Write, WriteFault};
+use std::alloc::Allocator;
+
+/// Writes a line for each route, with ranks counting up from the first one, and then `more` or `end`.
+///
+/// It takes no memory and doesn't flush. Where the writer fails, a beginning of the report was written.
+pub fn write_report<W: Write, A: Allocator + Copy>(
+    routes: &[Route<A>],
+    first_rank: u128,
+    more: bool,
+    writer: &mut W,
+) -> Result<(), WriteFault>
+    requires ranks { first_rank + length routes.now < 2 ^ 128 }
+    requires times { All HasSpelledTimes routes.now }
+    ensures { WritesText (W.contents writer.old) (W.failures writer.old) (report_text routes.now first_rank more) result (W.contents writer.new) (W.failures writer.new) }
+{
+    let mut text = TextBuffer::new();
+    put_lines(&mut text, writer, routes, first_rank)?;
+    put_last_line(&mut text, writer, more)?;
+    text.send(writer)
+}
+
+/// Writes the line of one route, without a rank.
+///
+/// It takes no memory and doesn't flush. Where the writer fails, a beginning of the line was written.
+pub fn write_route<W: Write, A: Allocator + Copy>(
+    route: &Route<A>,
+    writer: &mut W,
+) -> Result<(), WriteFault>
+    requires { HasSpelledTimes route.now }
+    ensures { WritesText (W.contents writer.old) (W.failures writer.old) (route_line route.now) result (W.contents writer.new) (W.failures writer.new) }
+{
+    let mut text = TextBuffer::new();
+    put_route(&mut text, writer, route)?;
+    text.send(writer)
+}
+
+// Puts a line for each route.
+fn put_lines<W: Write, A: Allocator + Copy>(
+    text: &mut TextBuffer,
+    writer: &mut W,
+    routes: &[Route<A>],
+    first_rank: u128,
+) -> Result<(), WriteFault>
+    requires ranks { first_rank + length routes.now < 2 ^ 128 }
+    requires times { All HasSpelledTimes routes.now }
+    ensures { Gathers (W.contents writer.old) (W.failures writer.old) text.old (report_lines first_rank routes.now) result (W.contents writer.new) (W.failures writer.new) text.new }
+{
+    let mut rank = first_rank;
+    for route in routes {
+        put_line(text, writer, rank, route)?;
+        rank += 1;
+    }
+    Ok(())
+}
+
+// Puts the rank and the line of the route.
+fn put_line<W: Write, A: Allocator + Copy>(
+    text: &mut TextBuffer,
+    writer: &mut W,
+    rank: u128,
+    route: &Route<A>,
+) -> Result<(), WriteFault>
+    requires { HasSpelledTimes route.now }
+    ensures { Gathers (W.contents writer.old) (W.failures writer.old) text.old (report_line rank route.now) result (W.contents writer.new) (W.failures writer.new) text.new }
+{
+    put_count(text, writer, rank)?;
+    text.put(writer, b" ")?;
+    put_route(text, writer, route)
+}
+
+// Puts the line of the route.
+fn put_route<W: Write, A: Allocator + Copy>(
+    text: &mut TextBuffer,
+    writer: &mut W,
+    route: &Route<A>,
+) -> Result<(), WriteFault>
+    requires { HasSpelledTimes route.now }
+    ensures { Gathers (W.contents writer.old) (W.failures writer.old) text.old (route_line route.now) result (W.contents writer.new) (W.failures writer.new) text.new }
+{
+    let contacts = route.contacts.as_slice();
+    put_route_line(
+        text,
+        writer,
+        contacts,
+        route.delivery,
+        route.until,
+        route.entry,
+    )
+}
+
+/// Puts the line of a route, given by the numbers of its contacts, its best-case delivery time, its
+/// termination time and its entry node. Both times are seconds since 1970-01-01T00:00:00Z, up to the end of
+/// the year 9999.
+///
+/// # Errors
+///
+/// [`WriteFault`] where the writer failed. Then a beginning of the bytes held and the line was written.
+pub fn put_route_line<W: Write>(
+    text: &mut TextBuffer,
+    writer: &mut W,
+    contacts: &[u32],
+    delivery: u64,
+    until: u64,
+    entry: u64,
+) -> Result<(), WriteFault>
+    requires { (delivery ≤ 253402300799) × (until ≤ 253402300799) }
+    ensures { Gathers (W.contents writer.old) (W.failures writer.old) text.old (route_line (record { contacts = contacts.now; delivery = delivery; until = until; entry = entry })) result (W.contents writer.new) (W.failures writer.new) text.new }
+{
+    put_time(text, writer, b"delivery ", delivery)?;
+    put_number(text, writer, b" hops ", contacts.len() as u64)?;
+    put_number(text, writer, b" entry ", entry)?;
+    put_time(text, writer, b" until ", until)?;
+    text.put(writer, b" contacts")?;
+    put_numbers(text, writer, contacts)?;
+    text.put(writer, b"\n")
+}
+
+// Puts whether the list goes on.
+fn put_last_line<W: Write>(
+    text: &mut TextBuffer,
+    writer: &mut W,
+    more: bool,
+) -> Result<(), WriteFault>
+    ensures { Gathers (W.contents writer.old) (W.failures writer.old) text.old (last_line more) result (W.contents writer.new) (W.failures writer.new) text.new }
+{
+    if more {
+        text.put(writer, b"more\n")
+    } else {
+        text.put(writer, b"end\n")
+    }
+}
