@@ -26,7 +26,7 @@ enum Beginning<F> {
     Session(Device<F>),
 }
 
-// Begins with the request, or else with the old session, which it opens.
+/// Begins with the request, or else with the old session, which it opens.
 fn begin<R: Files>(
     rt: &R,
     words: &ArgMatches<'_>,
@@ -38,7 +38,7 @@ fn begin<R: Files>(
     }
 }
 
-// Lists a page over opened files.
+/// Lists a page over opened files.
 fn list_over<F: io::Read + Drop, O: Write, S: Write, E: Write>(
     alloc: Global,
     plan: &mut Device<F>,

@@ -61,7 +61,7 @@ impl Failure {
 impl From<PlanFault> for Failure {
     ghost from_gives = { λ fault e. e ≡ failure_of_plan fault };
 
-    // Tells a failed reader and refused memory from a bad line.
+    /// Tells a failed reader and refused memory from a bad line.
     fn from(fault: PlanFault) -> Failure {
         match fault.kind {
             PlanKind::Read => Failure::PlanRead,
@@ -75,7 +75,7 @@ impl From<PlanFault> for Failure {
 impl From<SessionFault> for Failure {
     ghost from_gives = { λ fault e. e ≡ failure_of_session fault };
 
-    // Tells a failed reader and refused memory from a bad text.
+    /// Tells a failed reader and refused memory from a bad text.
     fn from(fault: SessionFault) -> Failure {
         match fault {
             SessionFault::Read => Failure::SessionRead,

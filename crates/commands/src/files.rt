@@ -17,7 +17,7 @@ pub const SESSION: &str = "session";
 /// The word for the new session's file.
 pub const SESSION_OUT: &str = "session-out";
 
-// Opens the file that a word names, which has to be there.
+/// Opens the file that a word names, which has to be there.
 fn open<R: Files>(
     rt: &R,
     words: &ArgMatches<'_>,

@@ -37,7 +37,7 @@ pub fn run_arguments<R: Env + Files + AllocGlobal, O: Write, E: Write>(
     run_words(rt, words.as_slice(), out, err)
 }
 
-// Tells that the words of the command line couldn't be read.
+/// Tells that the words of the command line couldn't be read.
 fn tell_unread<E: Write>(error: &io::Error, err: &mut E) -> Status {
     if error.kind() == io::ErrorKind::OutOfMemory {
         return tell(err, Failure::NoMemory);
@@ -65,7 +65,7 @@ pub fn run_words<R: Files + AllocGlobal, O: Write, E: Write>(
     }
 }
 
-// Tells why the words were refused, or the help that they ask for.
+/// Tells why the words were refused, or the help that they ask for.
 fn tell_usage<E: Write>(alloc: Global, refusal: &Error, err: &mut E) -> Status {
     if refusal.kind() == ErrorKind::OutOfMemory {
         return tell(err, Failure::NoMemory);
@@ -77,7 +77,7 @@ fn tell_usage<E: Write>(alloc: Global, refusal: &Error, err: &mut E) -> Status {
     Status::Usage
 }
 
-// Runs the command that the words name, or tells why it couldn't begin.
+/// Runs the command that the words name, or tells why it couldn't begin.
 fn run_command<R: Files + AllocGlobal, O: Write, E: Write>(
     rt: &R,
     matches: &ArgMatches<'_>,

@@ -19,7 +19,7 @@ pub struct LimitedWriter<A: Allocator + Copy = Global> {
 }
 
 impl<A: Allocator + Copy> LimitedWriter<A> {
-    /// A writer that takes up to `limit` bytes, `piece` at a time, and whose `flush` succeeds.
+    /// Makes a writer that takes up to `limit` bytes, `piece` at a time, and whose `flush` succeeds.
     pub fn new(alloc: A, limit: usize, piece: usize) -> LimitedWriter<A>
         ensures held { result.held.items ≡ [] }
         ensures failures { result.failures.count ≡ 0 }
@@ -34,7 +34,7 @@ impl<A: Allocator + Copy> LimitedWriter<A> {
         }
     }
 
-    /// The same, with a `flush` that fails.
+    /// Does the same, with a `flush` that fails.
     pub fn with_failing_flush(alloc: A, limit: usize, piece: usize) -> LimitedWriter<A>
         ensures held { result.held.items ≡ [] }
         ensures failures { result.failures.count ≡ 0 }
@@ -44,14 +44,14 @@ impl<A: Allocator + Copy> LimitedWriter<A> {
         writer
     }
 
-    /// The bytes that were taken.
+    /// Gives the bytes that were taken.
     pub fn held(&self) -> &[u8]
         ensures { result.now ≡ self.now.held.items }
     {
         &self.held
     }
 
-    /// Whether it was flushed, and has taken nothing and failed at nothing since.
+    /// Tells whether it was flushed, and has taken nothing and failed at nothing since.
     pub fn is_flushed(&self) -> bool
         ensures { result ≡ self.now.is_flushed }
     {

@@ -21,7 +21,7 @@ pub struct Kept<A: Allocator + Copy> {
 }
 
 impl<A: Allocator + Copy> Kept<A> {
-    /// No route yet.
+    /// Begins with no route yet.
     pub fn new(alloc: A, limit: usize) -> Kept<A>
         ensures limit { result.limit ≡ limit }
         ensures routes { result.routes.items ≡ [] }
@@ -33,7 +33,7 @@ impl<A: Allocator + Copy> Kept<A> {
         }
     }
 
-    /// Whether every route that is delivered from this time on would be let go.
+    /// Tells whether every route that is delivered from this time on would be let go.
     pub fn is_past(&self, time: u64) -> bool
         ensures { result ≡ is_past self.now.limit self.now.routes.items time }
     {

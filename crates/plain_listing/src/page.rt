@@ -20,7 +20,7 @@ pub struct Page<A: Allocator + Copy = Global> {
     pub more: bool,
 }
 
-/// Every plan obeys the rules of contact plans.
+/// Tells that every plan obeys the rules of contact plans.
 fn obeys_rules<A: Allocator + Copy>(plan: &Plan<A>)
     ensures { IsPlan plan.now.plan }
 {
@@ -46,7 +46,7 @@ fn gather<A: Allocator + Copy>(
     Ok(kept)
 }
 
-/// The first `count` routes of the listing, or all if they are fewer, and whether it goes on.
+/// Gives the first `count` routes of the listing, or all if they are fewer, and whether it goes on.
 ///
 /// It walks through every way that a route can begin with, which for a dense plan may be very many, and
 /// keeps the best `count + 1` routes on the way.

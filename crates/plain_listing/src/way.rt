@@ -12,7 +12,7 @@ use std::alloc::Allocator;
 /// The last second of the year 9998: no contact ends after it.
 const LAST_TIME: u64 = 253370764799;
 
-/// Where the way ends: at the source, or behind the last hop.
+/// Tells where the way ends: at the source, or behind the last hop.
 pub fn end_of(request: &Request, hops: &[Hop]) -> Stop
     ensures { result ≡ last_stop request.now hops.now }
 {
@@ -26,21 +26,21 @@ pub fn end_of(request: &Request, hops: &[Hop]) -> Stop
     }
 }
 
-/// Whether the node is one of these.
+/// Tells whether the node is one of these.
 fn is_among(nodes: &[u64], node: u64) -> bool
     ensures { result ≡ has node nodes.now }
 {
     nodes.iter().any(|n| node == *n)
 }
 
-/// Whether a hop arrives at the node.
+/// Tells whether a hop arrives at the node.
 fn is_passed(hops: &[Hop], node: u64) -> bool
     ensures { result ≡ is_passed hops.now node }
 {
     hops.iter().any(|hop| node == hop.stop.node)
 }
 
-/// Whether the way may go on to the node within the limits, and without meeting a node twice.
+/// Tells whether the way may go on to the node within the limits, and without meeting a node twice.
 fn may_visit(request: &Request, hops: &[Hop], node: u64) -> bool
     ensures { result ≡ may_visit request.now hops.now node }
 {
@@ -49,7 +49,7 @@ fn may_visit(request: &Request, hops: &[Hop], node: u64) -> bool
         && !is_among(request.avoided(), node)
 }
 
-/// The hop over a contact, where a route may begin with the way and this contact.
+/// Gives the hop over a contact, where a route may begin with the way and this contact.
 pub fn hop_over<A: Allocator + Copy>(
     plan: &Plan<A>,
     request: &Request,
@@ -76,7 +76,7 @@ pub fn hop_over<A: Allocator + Copy>(
     })
 }
 
-/// The route over the hops.
+/// Gives the route over the hops.
 pub fn route_over<A: Allocator + Copy>(
     alloc: A,
     request: &Request,

@@ -13,7 +13,7 @@ pub struct Ration<B: Allocator = Global> {
 }
 
 impl<B: Allocator> Ration<B> {
-    /// An allocator that refuses its request of this number, counted from 1, and none for 0.
+    /// Makes an allocator that refuses its request of this number, counted from 1, and none for 0.
     pub fn new(inner: B, refused: u64) -> Ration<B> {
         Ration {
             inner,
@@ -26,7 +26,7 @@ impl<B: Allocator> Ration<B> {
         self.tally.set(Tally { made: 0, refused });
     }
 
-    /// The requests made since the count began, the refused one among them.
+    /// Gives the requests made since the count began, the refused one among them.
     pub fn requests(&self) -> u64 {
         self.tally.get().made
     }

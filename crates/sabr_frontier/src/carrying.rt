@@ -12,14 +12,14 @@ use crate::record::Told;
 use sabr_model::{Plan, Request, Route, follow};
 use std::alloc::Allocator;
 
-// Whether the number is one of these.
+/// Tells whether the number is one of these.
 fn holds(numbers: &[u32], number: u32) -> bool
     ensures { result ≡ has number numbers.now }
 {
     numbers.iter().any(|other| number == *other)
 }
 
-/// Whether a list begins with the prefix, is longer, and takes none of the excluded numbers next.
+/// Tells whether a list begins with the prefix, is longer, and takes none of the excluded numbers next.
 fn goes_on(prefix: &[u32], excluded: &[u32], numbers: &[u32]) -> bool
     ensures { result ≡ goes_on prefix.now excluded.now numbers.now }
 {
@@ -32,7 +32,7 @@ fn goes_on(prefix: &[u32], excluded: &[u32], numbers: &[u32]) -> bool
     !holds(excluded, *next)
 }
 
-/// The record of what a part is to carry.
+/// Gives the record of what a part is to carry.
 ///
 /// # Errors
 ///

@@ -22,14 +22,14 @@ use sabr_search::{BestOf, Kept};
 use std::alloc::Allocator;
 use std::cmp::Ordering;
 
-/// Whether a route is below another.
+/// Tells whether a route is below another.
 fn is_below<A: Allocator + Copy>(route: &Route<A>, other: &Route<A>) -> bool
     ensures { result ≡ is_lt (by_record route.now other.now) }
 {
     route.cmp(other) == Ordering::Less
 }
 
-/// Whether both are there and are told alike, or neither is there.
+/// Tells whether both are there and are told alike, or neither is there.
 fn is_same<A: Allocator + Copy>(one: &Option<Route<A>>, other: &Option<Route<A>>) -> bool
     ensures { IsTrue result ↔ (one.now ≡ other.now) }
 {
@@ -40,7 +40,7 @@ fn is_same<A: Allocator + Copy>(one: &Option<Route<A>>, other: &Option<Route<A>>
     }
 }
 
-/// Whether one of the routes is above this one.
+/// Tells whether one of the routes is above this one.
 fn is_passed<A: Allocator + Copy>(route: &Route<A>, routes: &[Route<A>]) -> bool
     ensures { result ≡ list_any (λ x. is_lt (by_record route.now x)) routes.now }
 {
@@ -48,14 +48,14 @@ fn is_passed<A: Allocator + Copy>(route: &Route<A>, routes: &[Route<A>]) -> bool
 }
 
 impl<A: Allocator + Copy> Tree<A> {
-    /// The last route given, none where none was.
+    /// Gives the last route given, none where none was.
     fn last_given(&self) -> Option<&Route<A>>
         ensures { option_copied result ≡ option_and_then (slice_get self.now.leaves.items) self.now.last }
     {
         self.leaves.get(self.last?)
     }
 
-    /// The least route that a node carries.
+    /// Gives the least route that a node carries.
     fn next_carried(&self) -> Option<&Route<A>>
         requires { IsRoomy self.now }
         ensures { option_copied result ≡ least_route (shape_of self.now) }
@@ -64,7 +64,7 @@ impl<A: Allocator + Copy> Tree<A> {
         carried(nodes, self.queue.least(nodes)?)
     }
 
-    /// Whether each part carries its least route: one search for each. It needs the memory of a search.
+    /// Tells whether each part carries its least route: one search for each. It needs the memory of a search.
     fn carries_least<B: BestOf<A>>(
         &self,
         plan: &Plan<A>,
@@ -88,7 +88,7 @@ impl<A: Allocator + Copy> Tree<A> {
         Ok(true)
     }
 
-    /// Whether the state is that of the place that it counts: no route given is above the last one, that is below
+    /// Tells whether the state is that of the place that it counts: no route given is above the last one, that is below
     /// all that is carried, and each part carries its least route (law 5).
     pub fn is_placed<B: BestOf<A>>(
         &self,

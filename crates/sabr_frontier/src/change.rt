@@ -16,7 +16,7 @@ use sabr_model::{NoMemory, Route};
 use std::alloc::Allocator;
 use std::mem;
 
-// What the node carries then; answers what it carried.
+/// Sets what the node carries, and answers what it carried.
 fn carry<A: Allocator + Copy>(
     nodes: &mut Vec<Node<A>, A>,
     node: NodeId,
@@ -33,7 +33,7 @@ fn carry<A: Allocator + Copy>(
 }
 
 impl<A: Allocator + Copy> Tree<A> {
-    /// Whether no node carries a route.
+    /// Tells whether no node carries a route.
     pub fn is_empty(&self) -> bool
         requires { IsRoomy self.now }
         ensures { result ≡ nat_eq (length (shape_of self.now).queue) 0 }

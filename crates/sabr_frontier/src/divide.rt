@@ -23,7 +23,7 @@ pub struct Division<A: Allocator + Copy = Global> {
     pub fresh: Vec<Node<A>, A>,
 }
 
-/// A record of its own.
+/// Gives a record of its own.
 pub fn copied<A: Allocator + Copy>(alloc: A, route: &Route<A>) -> Result<Route<A>, NoMemory>
     ensures { IfOk result (λ x. x ≡ route.now) }
 {
@@ -38,14 +38,14 @@ pub fn copied<A: Allocator + Copy>(alloc: A, route: &Route<A>) -> Result<Route<A
     }
 }
 
-/// The numbers of a record.
+/// Gives the numbers of a record.
 pub fn numbers<A: Allocator + Copy>(route: &Route<A>) -> &[u32]
     ensures { result.now ≡ route.now.contacts }
 {
     route.contacts.as_slice()
 }
 
-/// A node of a leaf, for the first `count` numbers of a route and its next number.
+/// Gives a node of a leaf, for the first `count` numbers of a route and its next number.
 fn fresh_node<B: BestOf<A>, A: Allocator + Copy>(
     alloc: A,
     plan: &Plan<A>,
@@ -80,8 +80,7 @@ fn fresh_node<B: BestOf<A>, A: Allocator + Copy>(
     })
 }
 
-/// The nodes of a leaf for the beginnings of a route from `first` numbers on, each with its next number
-/// excluded.
+/// Gives the nodes of a leaf for the beginnings of a route from `first` numbers on, each with its next number excluded.
 fn fresh_nodes<B: BestOf<A>, A: Allocator + Copy>(
     alloc: A,
     plan: &Plan<A>,
@@ -109,8 +108,8 @@ fn fresh_nodes<B: BestOf<A>, A: Allocator + Copy>(
     Ok(nodes)
 }
 
-/// What a node carries next, for the numbers that it excludes, and the new nodes of its route, a leaf of the number
-/// `leaf` from then on: one search for the node itself, and one for each new node.
+/// Tells what a node carries next, for the numbers that it excludes, and the new nodes of its route, a leaf of the
+/// number `leaf` from then on: one search for the node itself, and one for each new node.
 fn search<B: BestOf<A>, A: Allocator + Copy>(
     alloc: A,
     plan: &Plan<A>,
@@ -142,7 +141,7 @@ fn search<B: BestOf<A>, A: Allocator + Copy>(
     Ok(Division { found, fresh })
 }
 
-// The node excludes the number that a route takes behind its prefix, or nothing changes.
+/// Puts the number that a route takes behind the node's prefix to those that it excludes, or changes nothing.
 fn exclude_next<A: Allocator + Copy>(
     nodes: &mut Vec<Node<A>, A>,
     node: NodeId,
@@ -161,7 +160,7 @@ fn exclude_next<A: Allocator + Copy>(
     Ok(())
 }
 
-// The node no longer excludes the number that a route takes behind its prefix. It takes no memory.
+/// Takes the number that a route takes behind the node's prefix out of those that it excludes. It takes no memory.
 fn include_next<A: Allocator + Copy>(nodes: &mut Vec<Node<A>, A>, node: NodeId, route: &[u32])
     requires in_range { node.0 < vec_len nodes.old }
     requires longer { (n : Node A) → slice_get nodes.old.items node.0 ≡ Some n → n.length < length route.now }

@@ -30,8 +30,8 @@ pub struct Held<A: Allocator + Copy = Global> {
     pub room: Judged<A>,
 }
 
-/// Where the last route is among the leaves, none inside where there is no leaf; none where the count or the last is
-/// wrong.
+/// Tells where the last route is among the leaves, none inside where there is no leaf; none where the count or the last
+/// is wrong.
 pub fn last_place<A: Allocator + Copy>(
     leaves: &[Route<A>],
     emitted: u128,
@@ -55,7 +55,7 @@ pub fn last_place<A: Allocator + Copy>(
 }
 
 impl<A: Allocator + Copy> Held<A> {
-    /// Nothing. It takes no memory.
+    /// Begins with nothing. It takes no memory.
     pub fn new(alloc: A) -> Held<A>
         ensures { holding_of result ≡ nothing_held }
     {
@@ -69,7 +69,7 @@ impl<A: Allocator + Copy> Held<A> {
         }
     }
 
-    /// Whether a prefix comes behind the last.
+    /// Tells whether a prefix comes behind the last.
     pub fn comes_behind(&self, prefix: &[u32]) -> bool
         ensures { result ≡ option_map_or (λ q. numbers_before q prefix.now) (last_item self.now.prefixes.items) true }
     {
@@ -79,7 +79,7 @@ impl<A: Allocator + Copy> Held<A> {
         }
     }
 
-    // Whether a prefix is the least that is to come: the first is empty.
+    /// Tells whether a prefix is the least that is to come: the first is empty.
     fn is_due(&self, prefix: &[u32]) -> bool
         ensures { result ≡ is_due (holding_of self.now) prefix.now }
     {
@@ -89,8 +89,8 @@ impl<A: Allocator + Copy> Held<A> {
         }
     }
 
-    // What a part leads to, or none where it isn't the least that is to come, or one of its excluded numbers makes no
-    // path, or it excludes none and isn't the first.
+    /// Tells what a part leads to, or none where it isn't the least that is to come, or one of its excluded numbers
+    /// makes no path, or it excludes none and isn't the first.
     fn judge(
         &mut self,
         alloc: A,
@@ -112,7 +112,7 @@ impl<A: Allocator + Copy> Held<A> {
         judge(alloc, plan, request, prefix, excluded, room)
     }
 
-    // Makes room for a part and what it leads to.
+    /// Makes room for a part and what it leads to.
     fn reserve(&mut self, leaves: usize, onward: usize) -> Result<(), NoMemory>
         ensures same { holding_of self.new ≡ holding_of self.old }
         ensures ok { OnOk result (HasPlaces self.new leaves onward) }
@@ -132,7 +132,7 @@ impl<A: Allocator + Copy> Held<A> {
         }
     }
 
-    // Adds the part that was due, and takes in what it leads to. What may be refused comes before the first change.
+    /// Adds the part that was due, and takes in what it leads to. What may be refused comes before the first change.
     fn answer(
         &mut self,
         alloc: A,
@@ -163,7 +163,7 @@ impl<A: Allocator + Copy> Held<A> {
         Ok(())
     }
 
-    // Adds a part that wasn't due, or isn't good: from now on the parts alone are kept.
+    /// Adds a part that wasn't due, or isn't good: from now on the parts alone are kept.
     fn add(
         &mut self,
         alloc: A,
@@ -210,14 +210,14 @@ impl<A: Allocator + Copy> Held<A> {
         }
     }
 
-    /// Whether there is a part, each part was the least that was to come, and none is left to come.
+    /// Tells whether there is a part, each part was the least that was to come, and none is left to come.
     pub fn is_paid(&self) -> bool
         ensures { result ≡ is_paid (holding_of self.now) }
     {
         self.sound && !self.nodes.is_empty() && self.owed.is_empty()
     }
 
-    /// The tree of the parts.
+    /// Gives the tree of the parts.
     pub fn into_tree(self, alloc: A, last: Option<usize>) -> Result<Tree<A>, NoMemory>
         ensures shape { IfOk result (λ t. shape_of t ≡ loaded_tree (holding_of self) last) }
         ensures room { IfOk result IsRoomy }

@@ -20,7 +20,7 @@ pub struct Judged<A: Allocator + Copy = Global> {
     pub onward: Vec<Numbers<A>, A>,
 }
 
-// A prefix with one number more.
+/// Gives a prefix with one number more.
 fn longer<A: Allocator + Copy>(
     alloc: A,
     prefix: &[u32],
@@ -38,7 +38,7 @@ fn longer<A: Allocator + Copy>(
 }
 
 impl<A: Allocator + Copy> Judged<A> {
-    /// Nothing. It takes no memory.
+    /// Begins with nothing. It takes no memory.
     pub fn none(alloc: A) -> Judged<A>
         ensures leaves { result.leaves.items ≡ [] }
         ensures onward { result.onward.items ≡ [] }
@@ -49,7 +49,7 @@ impl<A: Allocator + Copy> Judged<A> {
         }
     }
 
-    // Puts the path of a prefix and one number more behind the others of its kind; false where they make none.
+    /// Puts the path of a prefix and one number more behind the others of its kind; false where they make none.
     fn put(
         &mut self,
         alloc: A,
@@ -90,8 +90,8 @@ impl<A: Allocator + Copy> Judged<A> {
     }
 }
 
-/// What the excluded numbers of a prefix lead to, or none where one of them makes no path. It is gathered in `judged`,
-/// in place of what that held. The prefix is followed once.
+/// Tells what the excluded numbers of a prefix lead to, or none where one of them makes no path. It is gathered in
+/// `judged`, in place of what that held. The prefix is followed once.
 pub fn judge<A: Allocator + Copy>(
     alloc: A,
     plan: &Plan<A>,

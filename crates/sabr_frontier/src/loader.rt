@@ -41,7 +41,7 @@ impl<'p, B: BestOf<A>, A: Allocator + Copy> Model for Loader<'p, B, A> {
 }
 
 impl<'p, B: BestOf<A>, A: Allocator + Copy> Loader<'p, B, A> {
-    /// A loader without a part. It takes no memory.
+    /// Makes a loader without a part. It takes no memory.
     pub fn new(alloc: A, plan: &'p Plan<A>, request: Request, finder: B) -> Loader<'p, B, A>
         ensures { result ≡ record { plan = plan.now; request = request; parts = []; calls = B.calls_of finder } }
     {
@@ -110,8 +110,8 @@ impl<'p, B: BestOf<A>, A: Allocator + Copy> Loader<'p, B, A> {
         Ok(())
     }
 
-    /// The session of the parts, of which `emitted` routes were given, `last` the last of them, empty where none was.
-    /// No page can be taken back, and no search was counted.
+    /// Gives the session of the parts, of which `emitted` routes were given, `last` the last of them, empty where none
+    /// was. No page can be taken back, and no search was counted.
     ///
     /// # Errors
     ///

@@ -26,7 +26,7 @@ pub struct Queue<A: Allocator + Copy = Global> {
     pub late: Vec<NodeId, A>,
 }
 
-/// Whether a node carries a better route than another.
+/// Tells whether a node carries a better route than another.
 fn is_ahead<A: Allocator + Copy>(nodes: &[Node<A>], id: NodeId, other: NodeId) -> bool
     ensures { result ≡ is_ahead nodes.now id other }
 {
@@ -39,14 +39,14 @@ fn is_ahead<A: Allocator + Copy>(nodes: &[Node<A>], id: NodeId, other: NodeId) -
     }
 }
 
-/// The last of a list.
+/// Gives the last of a list.
 fn last_of(ids: &[NodeId]) -> Option<NodeId>
     ensures { result ≡ last_item ids.now }
 {
     ids.last().copied()
 }
 
-/// How many of a list carry worse routes than a node.
+/// Tells how many of a list carry worse routes than a node.
 fn place_for<A: Allocator + Copy>(nodes: &[Node<A>], ids: &[NodeId], id: NodeId) -> usize
     requires { InPairs (IsAtOrBehind nodes.now) ids.now }
     ensures value { (x : RouteRecord) → route_at nodes.now id ≡ Some x → result ≡ passing (λ y. beats x (route_at nodes.now y)) ids.now }
@@ -98,7 +98,7 @@ fn merge<A: Allocator + Copy>(nodes: &[Node<A>], ids: &mut [NodeId], first: usiz
 }
 
 impl<A: Allocator + Copy> Queue<A> {
-    /// No node. It takes no memory.
+    /// Begins with no node. It takes no memory.
     pub fn new(alloc: A) -> Queue<A>
         ensures placed { result.placed.items ≡ [] }
         ensures late { result.late.items ≡ [] }
@@ -128,14 +128,14 @@ impl<A: Allocator + Copy> Queue<A> {
         Ok(())
     }
 
-    /// Whether there is none.
+    /// Tells whether there is none.
     pub fn is_empty(&self) -> bool
         ensures { result ≡ nat_eq (length self.now.placed.items + length self.now.late.items) 0 }
     {
         self.placed.len() == 0 && self.late.len() == 0
     }
 
-    /// Whether the least route is that of the short list's last node.
+    /// Tells whether the least route is that of the short list's last node.
     fn is_last_late(&self, nodes: &[Node<A>]) -> bool
         requires { IsQueue nodes.now self.now }
         ensures late { IsTrue result → LastIsLate nodes.now self.now }
@@ -150,7 +150,7 @@ impl<A: Allocator + Copy> Queue<A> {
         is_ahead(nodes, *late, *placed)
     }
 
-    /// The node with the least route.
+    /// Gives the node with the least route.
     pub fn least(&self, nodes: &[Node<A>]) -> Option<NodeId>
         requires { IsQueue nodes.now self.now }
         ensures { result ≡ last_item (waiting nodes.now self.now) }
@@ -238,7 +238,7 @@ impl<A: Allocator + Copy> Queue<A> {
         }
     }
 
-    /// Only the nodes below a number stay, and a node goes.
+    /// Keeps only the nodes below a number, and not this node.
     pub fn keep_others(&mut self, count: usize, node: NodeId)
         ensures placed { self.new.placed.items ≡ filter (λ id. nat_lt id.0 count && not (nat_eq id.0 node.0)) self.old.placed.items }
         ensures late { self.new.late.items ≡ filter (λ id. nat_lt id.0 count && not (nat_eq id.0 node.0)) self.old.late.items }
@@ -249,7 +249,7 @@ impl<A: Allocator + Copy> Queue<A> {
     }
 }
 
-/// Only the nodes below a number stay, and a node goes.
+/// Keeps only the nodes below a number, and not this node.
 fn keep_others<A: Allocator + Copy>(ids: &mut Vec<NodeId, A>, count: usize, node: NodeId)
     ensures items { ids.new.items ≡ filter (λ id. nat_lt id.0 count && not (nat_eq id.0 node.0)) ids.old.items }
     ensures capacity { vec_capacity ids.new ≡ vec_capacity ids.old }

@@ -19,7 +19,7 @@ pub struct Told {
 }
 
 impl Told {
-    /// That of these numbers.
+    /// Finds the least end and the entry node of these numbers.
     pub fn of<A: Allocator + Copy>(plan: &Plan<A>, numbers: &[u32]) -> Told
         ensures { result ≡ told_of plan.now.plan numbers.now }
     {
@@ -33,7 +33,7 @@ impl Told {
         told
     }
 
-    /// That of a prefix and one number more, where this is that of the prefix. It reads the one contact.
+    /// Finds those of a prefix and one number more, where these are those of the prefix. It reads the one contact.
     pub fn extended<A: Allocator + Copy>(self, plan: &Plan<A>, prefix: &[u32], number: u32) -> Told
         requires { self ≡ told_of plan.now.plan prefix.now }
         ensures { result ≡ told_of plan.now.plan (prefix.now ++ number ∷ []) }
@@ -54,7 +54,7 @@ impl Told {
         }
     }
 
-    /// The record of a list of which this is told, with this delivery. It takes no memory.
+    /// Gives the record of a list of which this is told, with this delivery. It takes no memory.
     pub fn route<A: Allocator + Copy>(self, numbers: Vec<u32, A>, delivery: u64) -> Route<A>
         ensures { result ≡ record { contacts = numbers.items; delivery = delivery; until = self.until; entry = self.entry } }
     {

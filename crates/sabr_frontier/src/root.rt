@@ -12,7 +12,7 @@ use sabr_model::{NoMemory, Route};
 use std::alloc::Allocator;
 
 impl<A: Allocator + Copy> Tree<A> {
-    /// One part with all routes, which carries the best of them.
+    /// Gives one part with all routes, which carries the best of them.
     pub fn root(alloc: A, found: Option<Route<A>>) -> Result<Tree<A>, NoMemory>
         ensures shape { IfOk result (λ t. shape_of t ≡ root found) }
         ensures room { IfOk result IsRoomy }

@@ -44,7 +44,7 @@ impl<'p, B: BestOf<A>, A: Allocator + Copy> Model for Session<'p, B, A> {
 }
 
 impl<'p, B: BestOf<A>, A: Allocator + Copy> Session<'p, B, A> {
-    /// A session of which no route was given yet. It takes one search.
+    /// Gives a session of which no route was given yet. It takes one search.
     ///
     /// # Errors
     ///
@@ -75,7 +75,7 @@ impl<'p, B: BestOf<A>, A: Allocator + Copy> Session<'p, B, A> {
         })
     }
 
-    /// A session over a tree that no page has changed.
+    /// Makes a session over a tree that no page has changed.
     pub(crate) fn of_tree(
         alloc: A,
         plan: &'p Plan<A>,
@@ -104,7 +104,7 @@ impl<'p, B: BestOf<A>, A: Allocator + Copy> Session<'p, B, A> {
         }
     }
 
-    /// The next `count` routes, at most 10000, or all that are left if they are fewer. They come by key: by
+    /// Gives the next `count` routes, at most 10000, or all that are left if they are fewer. They come by key: by
     /// delivery, then by number of hops, then by contact numbers (this project's profile).
     ///
     /// A route takes a search for each of its hops behind the prefix of the part that carried it. No part is
@@ -175,9 +175,9 @@ impl<'p, B: BestOf<A>, A: Allocator + Copy> Session<'p, B, A> {
         true
     }
 
-    /// Whether the state is that of the place `emitted` in the listing: whether the routes that it counts as given
-    /// are the first of them, and each part carries its least route. All is shown as before, whatever is answered.
-    /// It takes a search for each part, and a pass over the routes given.
+    /// Tells whether the state is that of the place `emitted` in the listing: whether the routes that it counts as
+    /// given are the first of them, and each part carries its least route. All is shown as before, whatever is
+    /// answered. It takes a search for each part, and a pass over the routes given.
     ///
     /// # Errors
     ///
@@ -191,14 +191,14 @@ impl<'p, B: BestOf<A>, A: Allocator + Copy> Session<'p, B, A> {
             .is_placed(self.plan, &self.request, &mut self.finder, &mut self.kept)
     }
 
-    /// Whether there is a page to take back: one that gave routes and wasn't taken back yet.
+    /// Tells whether there is a page to take back: one that gave routes and wasn't taken back yet.
     pub fn can_back(&self) -> bool
         ensures { IsTrue result ↔ (0 < length self.now.former) }
     {
         !self.pages.is_empty()
     }
 
-    /// How many routes were given and not taken back.
+    /// Tells how many routes were given and not taken back.
     pub fn emitted(&self) -> u128
         ensures count { result ≡ self.now.state.emitted }
         ensures bound { result < 2 ^ 64 }
@@ -206,14 +206,14 @@ impl<'p, B: BestOf<A>, A: Allocator + Copy> Session<'p, B, A> {
         self.tree.leaves.len() as u128
     }
 
-    /// Whether routes are left: whether some part carries one.
+    /// Tells whether routes are left: whether some part carries one.
     pub fn more(&self) -> bool
         ensures { result ≡ is_some (next_route self.now.plan.plan self.now.request self.now.state) }
     {
         !self.tree.is_empty()
     }
 
-    /// The contact numbers of the last route given, none where none was.
+    /// Gives the contact numbers of the last route given, none where none was.
     pub fn last(&self) -> &[u32]
         ensures { result.now ≡ self.now.state.last }
     {
@@ -226,14 +226,15 @@ impl<'p, B: BestOf<A>, A: Allocator + Copy> Session<'p, B, A> {
         }
     }
 
-    /// How many parts there are, those without a route among them.
+    /// Tells how many parts there are, those without a route among them.
     pub fn part_count(&self) -> usize
         ensures { result ≡ length self.now.state.parts }
     {
         self.tree.index.len()
     }
 
-    /// The parts, rising by prefix, all borrowed; those without a route are among them. A step for each, and no memory.
+    /// Gives the parts, rising by prefix, all borrowed; those without a route are among them. A step for each, and no
+    /// memory.
     pub fn parts(&self) -> Parts<'_, A>
         ensures { told_left result ≡ map (told_part self.now.plan.plan self.now.request) self.now.state.parts }
     {
@@ -244,22 +245,22 @@ impl<'p, B: BestOf<A>, A: Allocator + Copy> Session<'p, B, A> {
         }
     }
 
-    /// How many searches the last call of `start` or `page` took that was answered, each a call of the finder, and
-    /// 0 after a `back` that was true.
+    /// Tells how many searches the last call of `start` or `page` took that was answered, each a call of the finder,
+    /// and 0 after a `back` that was true.
     pub fn searches(&self) -> u64
         ensures { result ≡ self.now.searches }
     {
         self.searches
     }
 
-    /// The plan whose routes are listed.
+    /// Gives the plan whose routes are listed.
     pub fn plan(&self) -> &'p Plan<A>
         ensures { result.now ≡ self.now.plan }
     {
         self.plan
     }
 
-    /// The request that they answer.
+    /// Gives the request that they answer.
     pub fn request(&self) -> &Request
         ensures { result.now ≡ self.now.request }
     {

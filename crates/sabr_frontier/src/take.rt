@@ -28,7 +28,7 @@ pub struct Prepared<A: Allocator + Copy = Global> {
 }
 
 impl<A: Allocator + Copy> Tree<A> {
-    /// What is known for giving the route of a node.
+    /// Tells what is known for giving the route of a node.
     fn prepare(&self, alloc: A, node: NodeId) -> Result<Prepared<A>, NoMemory>
         requires in_range { node.0 < vec_len self.now.nodes }
         requires carries { IsSome (route_at self.now.nodes.items node) }

@@ -9,7 +9,7 @@ use crate::tree::{Node, NodeId, Tree};
 use sabr_model::Route;
 use std::alloc::Allocator;
 
-// Only the nodes below a number stay.
+/// Keeps only the nodes below a number.
 fn keep_below<A: Allocator + Copy>(ids: &mut Vec<NodeId, A>, count: usize)
     ensures items { ids.new.items ≡ filter (λ id. nat_lt id.0 count) ids.old.items }
     ensures capacity { vec_capacity ids.new ≡ vec_capacity ids.old }
@@ -17,7 +17,7 @@ fn keep_below<A: Allocator + Copy>(ids: &mut Vec<NodeId, A>, count: usize)
     ids.retain(|id| id.0 < count);
 }
 
-// The node stands last, in a place that is kept.
+/// Puts the node last, in a place that is kept.
 fn put_back<A: Allocator + Copy>(ids: &mut Vec<NodeId, A>, node: NodeId)
     requires { vec_len ids.old < vec_capacity ids.old }
     ensures items { ids.new.items ≡ ids.old.items ++ node ∷ [] }
@@ -26,7 +26,7 @@ fn put_back<A: Allocator + Copy>(ids: &mut Vec<NodeId, A>, node: NodeId)
     ids.push_reserved(node);
 }
 
-// The route goes back into its node.
+/// Puts the route back into its node.
 fn give_back<A: Allocator + Copy>(nodes: &mut Vec<Node<A>, A>, node: NodeId, route: Route<A>)
     requires in_range { node.0 < vec_len nodes.old }
     requires longer { IsLonger nodes.old.items node.0 route }

@@ -28,7 +28,7 @@ pub struct Parts<'a, A: Allocator + Copy = Global> {
     pub leaves: &'a [Route<A>],
 }
 
-// The part of a node.
+/// Gives the part of a node.
 fn part_view<'a, A: Allocator + Copy>(
     leaves: &'a [Route<A>],
     nodes: &'a [Node<A>],

@@ -21,7 +21,7 @@ pub struct Reached {
     pub at: u64,
 }
 
-/// Whether the contact of a number is received by the node.
+/// Tells whether the contact of a number is received by the node.
 fn receives<A: Allocator + Copy>(plan: &Plan<A>, number: u32, node: u64) -> bool
     ensures { result ≡ receives plan.now.plan node number }
 {
@@ -31,7 +31,7 @@ fn receives<A: Allocator + Copy>(plan: &Plan<A>, number: u32, node: u64) -> bool
     }
 }
 
-/// Whether one of these contacts is received by the node.
+/// Tells whether one of these contacts is received by the node.
 fn is_received<A: Allocator + Copy>(plan: &Plan<A>, numbers: &[u32], node: u64) -> bool
     ensures { result ≡ has node (receivers plan.now.plan numbers.now) }
 {
@@ -43,7 +43,7 @@ fn is_received<A: Allocator + Copy>(plan: &Plan<A>, numbers: &[u32], node: u64) 
     false
 }
 
-/// Whether one of these contacts, of whose receivers the classes are marked, is received by the node.
+/// Tells whether one of these contacts, of whose receivers the classes are marked, is received by the node.
 fn is_again<A: Allocator + Copy>(
     plan: &Plan<A>,
     marks: &[bool; 64],
@@ -56,7 +56,7 @@ fn is_again<A: Allocator + Copy>(
     marks[(node % 64) as usize] && is_received(plan, numbers, node)
 }
 
-/// One hop more, behind those in `front`, which have no fault and lead to `here`.
+/// Gives one hop more, behind those in `front`, which have no fault and lead to `here`.
 fn take_hop<A: Allocator + Copy>(
     plan: &Plan<A>,
     request: &Request,
@@ -100,7 +100,7 @@ fn take_hop<A: Allocator + Copy>(
     })
 }
 
-/// The best-case delivery time of the route that the contacts of these numbers make, in seconds since
+/// Gives the best-case delivery time of the route that the contacts of these numbers make, in seconds since
 /// 1970-01-01T00:00:00Z (CCSDS 734.3-B-1: best-case delivery time).
 ///
 /// It takes no memory. It reads each contact and, against visiting a node twice, the contacts before it:
@@ -130,8 +130,8 @@ pub fn follow<A: Allocator + Copy>(
     end_on(plan, request, &marks, prefix, here, *last)
 }
 
-/// What [`follow_prefix`] answers, and a mark for each class of nodes that holds a receiver: those whose numbers leave one
-/// remainder by 64.
+/// Tells what [`follow_prefix`] answers, and a mark for each class of nodes that holds a receiver: those whose numbers
+/// leave one remainder by 64.
 fn follow_marking<A: Allocator + Copy>(
     plan: &Plan<A>,
     request: &Request,
@@ -154,7 +154,7 @@ fn follow_marking<A: Allocator + Copy>(
     Ok(here)
 }
 
-/// Where the contacts of these numbers lead, one after the other, from the source on: the source itself for none.
+/// Tells where the contacts of these numbers lead, one after the other, from the source on: the source itself for none.
 ///
 /// It takes as long as [`follow`], and no memory.
 ///
@@ -173,8 +173,8 @@ pub fn follow_prefix<A: Allocator + Copy>(
     follow_marking(plan, request, &mut [false; 64], prefix)
 }
 
-/// What [`follow`] answers for a prefix and one number more, where `here` is what [`follow_prefix`] answered for the
-/// prefix.
+/// Tells what [`follow`] answers for a prefix and one number more, where `here` is what [`follow_prefix`] answered for
+/// the prefix.
 ///
 /// It reads the one contact and, against visiting a node twice, those of the prefix.
 ///
@@ -197,7 +197,7 @@ pub fn follow_on<A: Allocator + Copy>(
     end_on(plan, request, &[true; 64], prefix, here, number)
 }
 
-/// What [`follow_on`] answers, where the classes of the prefix's receivers are marked.
+/// Tells what [`follow_on`] answers, where the classes of the prefix's receivers are marked.
 fn end_on<A: Allocator + Copy>(
     plan: &Plan<A>,
     request: &Request,

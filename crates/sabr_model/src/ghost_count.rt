@@ -16,14 +16,14 @@ impl Model for GhostCount {
 }
 
 impl GhostCount {
-    /// Nothing counted so far.
+    /// Begins with nothing counted so far.
     pub fn new() -> GhostCount
         ensures { result.count ≡ 0 }
     {
         GhostCount {}
     }
 
-    /// One more.
+    /// Gives one more.
     pub fn add(&mut self)
         ensures { self.new.count ≡ self.old.count + 1 }
     {}

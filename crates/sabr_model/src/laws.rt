@@ -2,27 +2,28 @@
 
 ghost use Rattle.sabr_model.specs.Laws.{ArrivalIsMonotone, NoRouteBeginsAnother, RoutesAreListed, CandidatesAreListed, FaultsTellRoutes};
 
-/// Whoever is at the sender earlier arrives, and no later.
+/// Tells that whoever is at the sender earlier arrives, and no later.
 pub fn law1()
     ensures { ArrivalIsMonotone }
 {}
 
-/// No route is a beginning of another.
+/// Tells that no route is a beginning of another.
 pub fn law2()
     ensures { NoRouteBeginsAnother }
 {}
 
-/// The list of all routes has exactly the routes, each once, and their keys rise strictly.
+/// Tells that the list of all routes has exactly the routes, each once, and their keys rise strictly.
 pub fn law3()
     ensures { RoutesAreListed }
 {}
 
-/// The candidates for routes over the numbers 1 to n are the lists of different numbers among them, each once.
+/// Tells that the candidates for routes over the numbers 1 to n are the lists of different numbers among them, each
+/// once.
 pub fn candidates_hold_each_once()
     ensures { CandidatesAreListed }
 {}
 
-/// A list of contacts has no fault exactly where it is a route.
+/// Gives a list of contacts has no fault exactly where it is a route.
 pub fn faults_tell_routes()
     ensures { FaultsTellRoutes }
 {}

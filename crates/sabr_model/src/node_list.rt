@@ -23,7 +23,7 @@ impl Model for NodeList {
 }
 
 impl NodeList {
-    /// Without a node.
+    /// Begins without a node.
     pub fn new() -> NodeList
         ensures { result ≡ [] }
     {
@@ -32,7 +32,7 @@ impl NodeList {
         }
     }
 
-    /// These nodes, if there is room.
+    /// Gives these nodes, if there is room.
     pub fn of(nodes: &[u64]) -> Option<NodeList>
         ensures { MatchOption result (16 < length nodes.now) (λ list. list ≡ nodes.now) }
     {
@@ -43,7 +43,7 @@ impl NodeList {
         }
     }
 
-    /// The nodes.
+    /// Gives the nodes.
     pub fn as_slice(&self) -> &[u64]
         ensures value { result.now ≡ self.now }
         ensures limit { length self.now ≤ 16 }

@@ -112,7 +112,7 @@ pub fn note_contact<A: Allocator + Copy>(
     Ok(Ends { from, to })
 }
 
-/// The table of the nodes of contacts by number, and the ends of each contact.
+/// Gives the table of the nodes of contacts by number, and the ends of each contact.
 pub fn table_of<A: Allocator + Copy>(
     alloc: A,
     contacts: &[Contact],
@@ -159,7 +159,7 @@ fn keep_node<A: Allocator + Copy>(table: &mut NodeTable<A>, node: u64, used: boo
     }
 }
 
-/// Whether the node sends or receives a contact of another number.
+/// Tells whether the node sends or receives a contact of another number.
 fn is_in_use(contacts: &[Contact], number: u32, node: u64) -> bool
     ensures { result ≡ list_any (λ c. not (c.number == number) && (node == c.from || node == c.to)) contacts.now }
 {

@@ -20,35 +20,35 @@ impl<A: Allocator + Copy> Model for Numbers<A> {
 }
 
 impl<A: Allocator + Copy> Numbers<A> {
-    /// The list that a vector holds. It takes no memory.
+    /// Makes the list that a vector holds. It takes no memory.
     pub fn new(items: Vec<u32, A>) -> Numbers<A>
         ensures { result ≡ items.items }
     {
         Numbers { items }
     }
 
-    /// The vector that holds the list. It takes no memory.
+    /// Gives the vector that holds the list. It takes no memory.
     pub fn into_vec(self) -> Vec<u32, A>
         ensures { result.items ≡ self }
     {
         self.items
     }
 
-    /// The numbers, from the first to the last.
+    /// Gives the numbers, from the first to the last.
     pub fn as_slice(&self) -> &[u32]
         ensures { result.now ≡ self.now }
     {
         self.items.as_slice()
     }
 
-    /// How many numbers there are.
+    /// Tells how many numbers there are.
     pub fn len(&self) -> usize
         ensures { result ≡ length self.now }
     {
         self.items.len()
     }
 
-    /// Whether there is none.
+    /// Tells whether there is none.
     pub fn is_empty(&self) -> bool
         ensures { result ≡ (length self.now == 0) }
     {

@@ -22,7 +22,7 @@ pub struct Openings<A: Allocator + Copy> {
 }
 
 impl<A: Allocator + Copy> Openings<A> {
-    /// The openings of no contact. It takes no memory.
+    /// Makes the openings of no contact. It takes no memory.
     pub fn new(alloc: A) -> Openings<A>
         ensures { result.set.keys ≡ [] }
     {
@@ -32,7 +32,7 @@ impl<A: Allocator + Copy> Openings<A> {
         }
     }
 
-    /// No set, for contacts that are there already. It takes no memory.
+    /// Gives no set, for contacts that are there already. It takes no memory.
     pub fn without_set(alloc: A) -> Openings<A>
         ensures { result.kept ≡ false }
     {
@@ -42,7 +42,7 @@ impl<A: Allocator + Copy> Openings<A> {
         }
     }
 
-    /// Whether one of the contacts has this sender, receiver and start. One step where the set is kept.
+    /// Tells whether one of the contacts has this sender, receiver and start. One step where the set is kept.
     pub fn has(&self, contacts: &[Contact], from: u64, to: u64, start: u64) -> bool
         requires { KnowsOpenings self.now.kept self.now.set.keys contacts.now }
         ensures { result ≡ list_any (opens from to start) contacts.now }

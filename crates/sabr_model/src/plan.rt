@@ -69,7 +69,7 @@ impl<A: Allocator + Copy> Model for Plan<A> {
 }
 
 impl<A: Allocator + Copy> Plan<A> {
-    /// An empty plan. It takes no memory.
+    /// Makes an empty plan. It takes no memory.
     pub fn new(alloc: A) -> Plan<A>
         ensures { result ≡ record { plan = record { contacts = []; ranges = []; greatest = 0 }; table = [] } }
     {

@@ -54,7 +54,7 @@ fn write_ranges<W: Write>(ranges: &[Range], writer: &mut W) -> Result<(), WriteF
     Ok(())
 }
 
-/// The digest of a plan: SHA-256 of its canonical text, which is fed line by line. It takes no memory.
+/// Gives the digest of a plan: SHA-256 of its canonical text, which is fed line by line. It takes no memory.
 pub fn digest<A: Allocator + Copy>(plan: &Plan<A>) -> [u8; 32]
     ensures { result ≡ digest_of plan.now.plan }
 {

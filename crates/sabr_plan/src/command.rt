@@ -43,7 +43,7 @@ pub enum Command {
     Delete(Target, Deletion),
 }
 
-/// What a line says, or the least of its refusals. Times are relative to the reference.
+/// Tells what a line says, or the least of its refusals. Times are relative to the reference.
 pub fn line_command(reference: Option<u64>, line: &[u8]) -> Result<Command, PlanKind>
     ensures value { result ≡ line_command reference line.now }
     ensures bounds { IfOk result HasBounds }
@@ -60,7 +60,7 @@ pub fn line_command(reference: Option<u64>, line: &[u8]) -> Result<Command, Plan
     command_of(reference, line)
 }
 
-/// What the words of a line say.
+/// Tells what the words of a line say.
 fn command_of(reference: Option<u64>, line: &[u8]) -> Result<Command, PlanKind>
     ensures value { result ≡ command_of reference (words_of line.now) }
     ensures bounds { IfOk result HasBounds }
@@ -79,7 +79,7 @@ fn command_of(reference: Option<u64>, line: &[u8]) -> Result<Command, PlanKind>
     }
 }
 
-/// The absolute time behind `@`.
+/// Gives the absolute time behind `@`.
 fn reference_of(text: &[u8]) -> Result<Command, PlanKind>
     ensures value { result ≡ reference_of (words_of text.now) }
     ensures bounds { IfOk result HasBounds }
@@ -93,7 +93,7 @@ fn reference_of(text: &[u8]) -> Result<Command, PlanKind>
     }
 }
 
-/// What the word behind `a` or `d` names.
+/// Tells what the word behind `a` or `d` names.
 fn target_of(word: &[u8]) -> Option<Target>
     ensures { result ≡ target_of word.now }
 {
@@ -106,7 +106,7 @@ fn target_of(word: &[u8]) -> Option<Target>
     }
 }
 
-/// What stands behind `a`.
+/// Tells what stands behind `a`.
 fn add_command(reference: Option<u64>, text: &[u8]) -> Result<Command, PlanKind>
     ensures value { result ≡ targeted (addition_of reference) (words_of text.now) }
     ensures bounds { IfOk result HasBounds }
@@ -120,7 +120,7 @@ fn add_command(reference: Option<u64>, text: &[u8]) -> Result<Command, PlanKind>
     }
 }
 
-/// What stands behind `d`.
+/// Tells what stands behind `d`.
 fn delete_command(reference: Option<u64>, text: &[u8]) -> Result<Command, PlanKind>
     ensures value { result ≡ targeted (deletion_of reference) (words_of text.now) }
     ensures bounds { IfOk result HasBounds }
@@ -134,7 +134,7 @@ fn delete_command(reference: Option<u64>, text: &[u8]) -> Result<Command, PlanKi
     }
 }
 
-/// Start, stop, two nodes, and a rate or a light time.
+/// Reads start, stop, two nodes, and a rate or a light time.
 fn addition_of(reference: Option<u64>, target: Target, text: &[u8]) -> Result<Command, PlanKind>
     ensures value { result ≡ addition_of reference target (words_of text.now) }
     ensures bounds { IfOk result HasBounds }
@@ -157,7 +157,7 @@ fn addition_of(reference: Option<u64>, target: Target, text: &[u8]) -> Result<Co
     ))
 }
 
-/// Start and two nodes.
+/// Reads start and two nodes.
 fn deletion_of(reference: Option<u64>, target: Target, text: &[u8]) -> Result<Command, PlanKind>
     ensures value { result ≡ deletion_of reference target (words_of text.now) }
     ensures bounds { IfOk result HasBounds }

@@ -39,7 +39,7 @@ impl<A: Allocator + Copy> Model for PlanFeed<A> {
     ghost invariant = { λ f. (f.lines ≤ 1000000) × (f.held_count ≤ 255 * (1000000 - f.lines)) × (f.held_count ≤ 255) × IsTrue (is_one_line (take f.held_count f.held)) };
 }
 
-/// Where the first LF stands.
+/// Tells where the first LF stands.
 pub fn line_end(text: &[u8]) -> Option<usize>
     ensures { MatchOption result (IsTrue (is_one_line text.now)) (λ end. (end < length text.now) × (slice_index text.now end ≡ 10) × IsTrue (is_one_line (take end text.now))) }
 {
@@ -50,7 +50,7 @@ impl<A: Allocator + Copy> PlanFeed<A> {
     ghost use Rattle.sabr_plan.specs.Reading.{judged, at_line, limited, read_line, ended_line, broken_line};
     ghost use Rattle.sabr_plan.specs.Feeding.{Fed, nothing_fed, outcome, IsFed, weight, Answers};
 
-    /// Before the first piece.
+    /// Begins before the first piece.
     pub fn new(alloc: A) -> PlanFeed<A>
         ensures { result ≡ nothing_fed }
     {
@@ -77,7 +77,7 @@ impl<A: Allocator + Copy> PlanFeed<A> {
         self.hold(rest)
     }
 
-    /// The text has ended.
+    /// Ends the text.
     pub fn finish(mut self) -> Result<Plan<A>, PlanFault>
         ensures { Answers (outcome self [] true) result }
     {
@@ -92,7 +92,7 @@ impl<A: Allocator + Copy> PlanFeed<A> {
         }
     }
 
-    /// What is held is a line, if there is a byte.
+    /// Ends what is held as a line, if there is a byte.
     fn end_text(&mut self) -> Result<(), PlanFault>
         ensures value { LeavesAt (ended_line (self.old.lines + 1) self.old.reading self.old.held) result self.new.reading }
         ensures held { IsTrue (is_one_line self.old.held) }
@@ -104,7 +104,7 @@ impl<A: Allocator + Copy> PlanFeed<A> {
         }
     }
 
-    /// The plan that the lines leave.
+    /// Gives the plan that the lines leave.
     fn into_plan(self) -> Result<Plan<A>, NoMemory>
         ensures { IfOk result (λ p. p.plan ≡ self.reading.plan) }
     {
@@ -117,7 +117,7 @@ impl<A: Allocator + Copy> PlanFeed<A> {
         reading.into_plan()
     }
 
-    /// The reader has failed.
+    /// Tells what the text ends with where the reader failed.
     pub fn failed(&self) -> PlanFault
         ensures kind { result.kind ≡ kind.Read }
         ensures value { outcome self.now [] false ≡ Err result }
@@ -128,7 +128,7 @@ impl<A: Allocator + Copy> PlanFeed<A> {
         }
     }
 
-    /// The line goes on with these bytes, and LF or the end of the text ends it.
+    /// Ends the line with these bytes, behind which LF or the end of the text stands.
     fn end_line(&mut self, back: &[u8]) -> Result<(), PlanFault>
         requires { IsTrue (is_one_line back.now) }
         ensures value { LeavesAt (read_line (self.old.lines + 1) self.old.reading (self.old.held ++ back.now)) result self.new.reading }

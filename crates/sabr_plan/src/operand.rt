@@ -9,7 +9,7 @@ use crate::fault::PlanKind;
 use crate::number::{digits_value, number_within};
 use crate::time::{LAST_TIME, parse_time};
 
-/// The seconds of a relative time: `+` and one to twelve digits.
+/// Gives the seconds of a relative time: `+` and one to twelve digits.
 fn relative_of(word: &[u8]) -> Option<u64>
     ensures { result ≡ relative_of word.now }
 {
@@ -19,7 +19,7 @@ fn relative_of(word: &[u8]) -> Option<u64>
     digits_value(&word[1..])
 }
 
-/// That many seconds after the reference.
+/// Gives the second so many seconds after the reference.
 pub fn after_reference(reference: Option<u64>, seconds: u64) -> Result<u64, PlanKind>
     ensures { result ≡ after_reference reference seconds }
 {
@@ -33,7 +33,7 @@ pub fn after_reference(reference: Option<u64>, seconds: u64) -> Result<u64, Plan
     }
 }
 
-/// An absolute time.
+/// Gives an absolute time.
 pub fn absolute_time(word: &[u8]) -> Result<u64, PlanKind>
     ensures value { result ≡ absolute_time word.now }
     ensures bound { IfOk result (λ t. t ≤ last_time) }
@@ -41,7 +41,7 @@ pub fn absolute_time(word: &[u8]) -> Result<u64, PlanKind>
     parse_time(word).ok_or(PlanKind::BadTime)
 }
 
-/// A time, absolute or relative to the reference.
+/// Gives a time, absolute or relative to the reference.
 pub fn time_at(reference: Option<u64>, word: &[u8]) -> Result<u64, PlanKind>
     ensures value { result ≡ time_at reference word.now }
     ensures bound { IfOk result (λ t. t ≤ last_time) }
@@ -52,7 +52,7 @@ pub fn time_at(reference: Option<u64>, word: &[u8]) -> Result<u64, PlanKind>
     }
 }
 
-/// A node.
+/// Gives a node.
 pub fn node_of(word: &[u8]) -> Result<u64, PlanKind>
     ensures value { result ≡ node_of word.now }
     ensures bound { IfOk result (λ n. 0 < n) }
@@ -60,7 +60,7 @@ pub fn node_of(word: &[u8]) -> Result<u64, PlanKind>
     number_within(word, 1, u64::MAX).ok_or(PlanKind::BadNode)
 }
 
-/// The greatest rate of a contact, in bytes a second, and light time of a range, in seconds.
+/// Gives the greatest rate of a contact, in bytes a second, and light time of a range, in seconds.
 pub fn greatest_value(target: Target) -> u64
     ensures { result ≡ greatest_value target }
 {
@@ -70,7 +70,7 @@ pub fn greatest_value(target: Target) -> u64
     }
 }
 
-/// A rate or a light time.
+/// Gives a rate or a light time.
 pub fn value_of(target: Target, word: &[u8]) -> Result<u64, PlanKind>
     ensures value { result ≡ value_of target word.now }
     ensures bound { IfOk result (λ v. v ≤ greatest_value target) }
@@ -78,7 +78,7 @@ pub fn value_of(target: Target, word: &[u8]) -> Result<u64, PlanKind>
     number_within(word, 0, greatest_value(target)).ok_or(PlanKind::BadNumber)
 }
 
-/// Both, or the lesser refusal.
+/// Gives both, or the lesser refusal.
 pub fn both_of(
     first: Result<u64, PlanKind>,
     second: Result<u64, PlanKind>,

@@ -30,7 +30,7 @@ impl<A: Allocator + Copy> Model for PlanReading<A> {
     ghost view = { λ r. record { plan = record { contacts = r.contacts.contacts; ranges = r.ranges; greatest = r.contacts.greatest }; reference = r.reference } };
 }
 
-/// A refusal of the plan, as a kind of bad line.
+/// Gives a refusal of the plan, as a kind of bad line.
 fn kind_of(fault: AddFault) -> PlanKind
     ensures { result ≡ kind_of fault }
 {
@@ -48,7 +48,7 @@ fn kind_of(fault: AddFault) -> PlanKind
 impl<A: Allocator + Copy> PlanReading<A> {
     ghost use Rattle.sabr_plan.specs.Reading.{nothing_read, obeyed, judged};
 
-    /// Before the first line.
+    /// Begins before the first line.
     pub fn new(alloc: A) -> PlanReading<A>
         ensures { result ≡ nothing_read }
     {
@@ -60,7 +60,7 @@ impl<A: Allocator + Copy> PlanReading<A> {
         }
     }
 
-    /// The plan that the lines leave.
+    /// Gives the plan that the lines leave.
     pub fn into_plan(self) -> Result<Plan<A>, NoMemory>
         ensures { IfOk result (λ p. p.plan ≡ self.plan) }
     {

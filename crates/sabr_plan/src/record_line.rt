@@ -26,7 +26,7 @@ impl Model for RecordLine {
 impl RecordLine {
     ghost use Rattle.sabr_plan.specs.Canonical.{contact_line, range_line};
 
-    /// The line of a contact, with its LF.
+    /// Makes the line of a contact, with its LF.
     pub fn of_contact(contact: &Contact) -> RecordLine
         ensures { result ≡ contact_line contact.now }
     {
@@ -41,7 +41,7 @@ impl RecordLine {
         line
     }
 
-    /// The line of a range, with its LF.
+    /// Makes the line of a range, with its LF.
     pub fn of_range(range: &Range) -> RecordLine
         ensures { result ≡ range_line range.now }
     {
@@ -55,14 +55,14 @@ impl RecordLine {
         line
     }
 
-    /// The line's bytes.
+    /// Gives the line's bytes.
     pub fn as_bytes(&self) -> &[u8]
         ensures { result.now ≡ self.now }
     {
         &self.bytes[..self.count]
     }
 
-    /// A line that begins with a letter.
+    /// Makes a line that begins with a letter.
     fn new(letter: u8) -> RecordLine
         ensures { result ≡ letter ∷ [] }
     {

@@ -15,7 +15,7 @@ use crate::command::{Addition, Command, Target};
 use crate::number::leads_with_zero;
 use crate::operand::{after_reference, greatest_value};
 
-/// The digits at the front of a text, at most 19, the number that they stand for, and what comes behind them.
+/// Gives the digits at the front of a text, at most 19, the number that they stand for, and what comes behind them.
 fn leading_digits(text: &[u8]) -> (u64, &[u8], &[u8])
     ensures parts { text.now ≡ result.1.now ++ result.2.now }
     ensures value { result.0 ≡ digits_value result.1.now }
@@ -33,7 +33,7 @@ fn leading_digits(text: &[u8]) -> (u64, &[u8], &[u8])
     (value, digits, rest)
 }
 
-/// The number behind the space that a text begins with, and what comes behind it.
+/// Gives the number behind the space that a text begins with, and what comes behind it.
 #[inline(always)]
 fn number_ahead(low: u64, high: u64, text: &[u8]) -> Option<(u64, &[u8])>
     ensures word { IfSome result (λ r. IsAhead (λ w. number_within low high w ≡ Some r.0) text.now r.1.now) }
@@ -47,7 +47,7 @@ fn number_ahead(low: u64, high: u64, text: &[u8]) -> Option<(u64, &[u8])>
     Some((value, rest))
 }
 
-/// The relative time behind the space that a text begins with, and what comes behind it.
+/// Gives the relative time behind the space that a text begins with, and what comes behind it.
 fn time_ahead(reference: Option<u64>, text: &[u8]) -> Option<(u64, &[u8])>
     ensures word { IfSome result (λ r. IsAhead (λ w. time_at reference w ≡ Ok r.0) text.now r.1.now) }
     ensures bound { IfSome result (λ r. r.0 ≤ last_time) }
@@ -63,7 +63,7 @@ fn time_ahead(reference: Option<u64>, text: &[u8]) -> Option<(u64, &[u8])>
     Some((time, rest))
 }
 
-/// What stands behind `a contact` or `a range`.
+/// Tells what stands behind `a contact` or `a range`.
 fn operands_ahead(reference: Option<u64>, target: Target, text: &[u8]) -> Option<Addition>
     ensures value { IfSome result (λ a. addition_of reference target (words_of text.now) ≡ Ok (Add target a)) }
     ensures bounds { IfSome result (λ a. HasBounds (Add target a)) }
@@ -86,7 +86,7 @@ fn operands_ahead(reference: Option<u64>, target: Target, text: &[u8]) -> Option
     })
 }
 
-/// The target of an addition that a line begins with, and what comes behind it.
+/// Gives the target of an addition that a line begins with, and what comes behind it.
 fn target_ahead(line: &[u8]) -> Option<(Target, &[u8])>
     ensures { IfSome result (λ r. line.now ≡ start_of r.0 ++ r.1.now) }
 {
@@ -97,7 +97,7 @@ fn target_ahead(line: &[u8]) -> Option<(Target, &[u8])>
     Some((Target::Range, text))
 }
 
-/// What a line says that is a plainly spelled addition. None for all other lines.
+/// Tells what a line says that is a plainly spelled addition. None for all other lines.
 pub fn swift_addition(reference: Option<u64>, line: &[u8]) -> Option<Command>
     ensures value { IfSome result (λ c. line_command reference line.now ≡ Ok c) }
     ensures bounds { IfSome result HasBounds }

@@ -24,7 +24,7 @@ pub struct TimeFields {
     pub second: u8,
 }
 
-/// The fields of a second.
+/// Gives the fields of a second.
 fn fields_of(second: u64) -> TimeFields
     requires { second ≤ 253402300799 }
     ensures { result ≡ fields_of second }
@@ -42,8 +42,8 @@ fn fields_of(second: u64) -> TimeFields
     }
 }
 
-/// How many days after 1970/01/01 a day of the calendar comes, if the calendar has it and it comes
-/// before none of them.
+/// Tells how many days after 1970/01/01 a day of the calendar comes, if the calendar has it and it comes before none of
+/// them.
 fn day_number(year: u16, month: u8, day: u8) -> Option<u32>
     requires year { year < 10000 }
     requires month { month < 100 }
@@ -58,7 +58,7 @@ fn day_number(year: u16, month: u8, day: u8) -> Option<u32>
     if days < 0 { None } else { Some(days as u32) }
 }
 
-/// The second that calendar and clock show so, if there is one up to the greatest time.
+/// Gives the second that calendar and clock show so, if there is one up to the greatest time.
 fn second_of(fields: TimeFields) -> Option<u64>
     requires { HasWidth fields }
     ensures some { IfSome result (λ t. (fields_of t ≡ fields) × (t ≤ last_time)) }
@@ -76,7 +76,7 @@ fn second_of(fields: TimeFields) -> Option<u64>
     Some(second)
 }
 
-/// Whether two digits stand from a place on.
+/// Tells whether two digits stand from a place on.
 fn is_pair(text: &[u8], at: usize) -> bool
     requires { at + 1 < length text.now }
     ensures { result ≡ is_pair text.now at }
@@ -84,7 +84,7 @@ fn is_pair(text: &[u8], at: usize) -> bool
     text[at].is_ascii_digit() && text[at + 1].is_ascii_digit()
 }
 
-/// The number that two digits stand for.
+/// Gives the number that two digits stand for.
 fn pair_at(text: &[u8], at: usize) -> u8
     requires room { at + 1 < length text.now }
     requires digits { IsTrue (is_pair text.now at) }
@@ -94,7 +94,7 @@ fn pair_at(text: &[u8], at: usize) -> u8
     (text[at] - b'0') * 10 + (text[at + 1] - b'0')
 }
 
-/// Whether the text has pairs of digits, and other bytes, where a time has them.
+/// Tells whether the text has pairs of digits, and other bytes, where a time has them.
 fn has_shape(text: &[u8]) -> bool
     ensures { result ≡ has_shape text.now }
 {
@@ -113,7 +113,7 @@ fn has_shape(text: &[u8]) -> bool
         && is_pair(text, 17)
 }
 
-/// The fields of a text of that shape.
+/// Gives the fields of a text of that shape.
 fn fields_at(text: &[u8]) -> TimeFields
     requires { IsTrue (has_shape text.now) }
     ensures value { result ≡ fields_at text.now }
@@ -129,8 +129,8 @@ fn fields_at(text: &[u8]) -> TimeFields
     }
 }
 
-/// The second of a text of exactly 19 bytes `yyyy/mm/dd-hh:mm:ss`, of the years 1970 to 9998, in
-/// seconds since 1970-01-01T00:00:00Z; each day has 86400. None for any other text.
+/// Gives the second of a text of exactly 19 bytes `yyyy/mm/dd-hh:mm:ss`, of the years 1970 to 9998, in seconds since
+/// 1970-01-01T00:00:00Z; each day has 86400. None for any other text.
 pub fn parse_time(text: &[u8]) -> Option<u64>
     ensures some { IfSome result (λ t. (text.now ≡ time_text_of t) × (t ≤ last_time)) }
     ensures all { (t : ℕ) → t ≤ last_time → text.now ≡ time_text_of t → result ≡ Some t }
@@ -142,7 +142,7 @@ pub fn parse_time(text: &[u8]) -> Option<u64>
     second_of(fields_at(text))
 }
 
-/// A digit.
+/// Gives a digit.
 fn digit(value: u8) -> u8
     requires { value < 10 }
     ensures { result ≡ 48 + value }
@@ -150,8 +150,8 @@ fn digit(value: u8) -> u8
     b'0' + value
 }
 
-/// The 19 bytes `yyyy/mm/dd-hh:mm:ss` of a second since 1970-01-01T00:00:00Z, which is at most
-/// 253402300799, the last of the year 9999.
+/// Gives the 19 bytes `yyyy/mm/dd-hh:mm:ss` of a second since 1970-01-01T00:00:00Z, which is at most 253402300799, the
+/// last of the year 9999.
 pub fn time_text(second: u64) -> [u8; 19]
     requires { second ≤ 253402300799 }
     ensures { result ≡ time_text_of second }
@@ -159,7 +159,7 @@ pub fn time_text(second: u64) -> [u8; 19]
     spelled(fields_of(second))
 }
 
-/// The fields in full width.
+/// Gives the fields in full width.
 fn spelled(fields: TimeFields) -> [u8; 19]
     requires { HasWidth fields }
     ensures { result ≡ spelled fields }

@@ -21,7 +21,7 @@ use std::alloc::Allocator;
 /// The last second of the year 9998, after which no contact ends.
 const LAST_TIME: u64 = 253370764799;
 
-/// The record of a route: one look for each of its contacts.
+/// Gives the record of a route: one look for each of its contacts.
 pub fn record<A: Allocator + Copy>(
     task: &Task<'_, A>,
     looks: &mut Looks,
@@ -54,7 +54,7 @@ pub fn record<A: Allocator + Copy>(
 }
 
 impl<A: Allocator + Copy> Layers<A> {
-    /// The least route behind the prefix within the limits.
+    /// Gives the least route behind the prefix within the limits.
     pub fn answer(
         &mut self,
         alloc: A,
@@ -86,7 +86,7 @@ impl<A: Allocator + Copy> Layers<A> {
         Ok(Some(record(task, looks, contacts, best.delivery)))
     }
 
-    /// The least route behind the prefix with the best delivery and hops, for which deadlines are set.
+    /// Gives the least route behind the prefix with the best delivery and hops, for which deadlines are set.
     fn finish(
         &mut self,
         alloc: A,
@@ -113,8 +113,8 @@ impl<A: Allocator + Copy> Layers<A> {
         Ok(record(task, looks, contacts, best.delivery))
     }
 
-    /// The least route behind the prefix, where no way delivers before `first` and layers made backward from the goal show
-    /// one that does then, with no more hops. None as `from_goal` does.
+    /// Gives the least route behind the prefix, where no way delivers before `first` and layers made backward from the
+    /// goal show one that does then, with no more hops. None as `from_goal` does.
     pub fn answer_back(
         &mut self,
         alloc: A,
@@ -147,8 +147,8 @@ impl<A: Allocator + Copy> Layers<A> {
         Ok(Some(route))
     }
 
-    /// The least route behind the prefix within the limits that a first way leaves: by layers made backward from the goal
-    /// where its hops are allowed, and else, or where that takes too many looks, by layers made forward.
+    /// Gives the least route behind the prefix within the limits that a first way leaves: by layers made backward from
+    /// the goal where its hops are allowed, and else, or where that takes too many looks, by layers made forward.
     pub fn answer_by(
         &mut self,
         alloc: A,

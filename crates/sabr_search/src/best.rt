@@ -20,8 +20,8 @@ pub trait BestOf<A: Allocator + Copy>: Drop {
     /// How often `best` was called, whether it answered or was refused.
     ghost calls_of: { Self → ℕ };
 
-    /// The least route of the part by key (delivery, number of hops, contact numbers), or none where the part has no
-    /// route.
+    /// Gives the least route of the part by key (delivery, number of hops, contact numbers), or none where the part has
+    /// no route.
     ///
     /// The part's prefix is one that `fits`. The answer doesn't depend on what was asked before.
     ///
@@ -40,7 +40,7 @@ pub trait BestOf<A: Allocator + Copy>: Drop {
         ensures counted { IfOk result (λ answer. hops_told answer ≤ looks_of self.new) }
         ensures called { calls_of self.new ≡ calls_of self.old + 1 };
 
-    /// The same, with what is kept for the searches of this plan and request.
+    /// Does the same, with what is kept for the searches of this plan and request.
     ///
     /// The answer doesn't depend on what is kept. The call counts as one of `best`.
     ///
@@ -66,7 +66,7 @@ pub trait BestOf<A: Allocator + Copy>: Drop {
         self.best(plan, request, part)
     }
 
-    /// How many times the last call of `best` read a contact's record, 0 before the first.
+    /// Tells how many times the last call of `best` read a contact's record, 0 before the first.
     fn looks(&self) -> u64
         ensures { result ≡ looks_of self.now };
 }

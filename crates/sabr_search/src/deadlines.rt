@@ -32,7 +32,7 @@ impl<A: Allocator + Copy> Layers<A> {
         }
     }
 
-    /// The first second at which it is too late at a node, after `hop` hops; 0 where it always is.
+    /// Gives the first second at which it is too late at a node, after `hop` hops; 0 where it always is.
     pub fn deadline(&self, task: &Task<'_, A>, best: Best, hop: usize, node: usize) -> u64
         requires pointed { ArePointed task.now hop self.now.bounds.items self.now.place.items self.now.reached.items }
         requires node { node < length task.now.table }
@@ -54,7 +54,7 @@ impl<A: Allocator + Copy> Layers<A> {
         }
     }
 
-    /// The deadline of an entry by those of layer `hop`.
+    /// Gives the deadline of an entry by those of layer `hop`.
     fn latest(
         &self,
         task: &Task<'_, A>,

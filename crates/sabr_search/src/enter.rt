@@ -14,7 +14,7 @@ use crate::task::arrive_by_hop;
 use sabr_model::{NoMemory, Plan, Request};
 use std::alloc::Allocator;
 
-/// As many nodes, all open.
+/// Makes as many nodes, all open.
 pub fn open_all<A: Allocator + Copy>(flags: &mut Vec<bool, A>, nodes: usize) -> Result<(), NoMemory>
     ensures many { OnOk result (length flags.new.items ≡ nodes) }
     ensures none { OnOk result ((k : ℕ) → slice_index_or flags.new.items k false ≡ false) }
@@ -24,7 +24,7 @@ pub fn open_all<A: Allocator + Copy>(flags: &mut Vec<bool, A>, nodes: usize) -> 
     Ok(())
 }
 
-/// Every node is open but those to avoid.
+/// Opens every node but those to avoid.
 fn shut_avoided<A: Allocator + Copy>(
     shut: &mut Vec<bool, A>,
     plan: &Plan<A>,
@@ -81,7 +81,8 @@ fn pass_prefix<A: Allocator + Copy>(
     standing
 }
 
-/// Where the search behind the prefix starts, and its goal; none where the plan has not both the source and the destination.
+/// Tells where the search behind the prefix starts, and its goal; none where the plan has not both the source and the
+/// destination.
 pub fn enter<A: Allocator + Copy>(
     shut: &mut Vec<bool, A>,
     looks: &mut Looks,

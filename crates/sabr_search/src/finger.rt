@@ -10,13 +10,13 @@ pub struct Finger {
 }
 
 impl Finger {
-    /// At the front of the list.
+    /// Begins at the front of the list.
     pub fn new() -> Finger {
         Finger { place: 0 }
     }
 
-    /// Whether the number is in the list, of which the caller has asked whether it never falls. Takes one comparison
-    /// where it stands behind the number that was found last, and else a halving.
+    /// Tells whether the number is in the list, of which the caller has asked whether it never falls. Takes one
+    /// comparison where it stands behind the number that was found last, and else a halving.
     #[inline(always)]
     pub fn finds(&mut self, numbers: &[u32], in_order: bool, number: u32) -> bool
         requires { IsTrue in_order → IsNonDecreasing numbers.now }
@@ -29,7 +29,7 @@ impl Finger {
         self.seeks(numbers, in_order, number)
     }
 
-    // The same, wherever the number stands: the finger then stands behind it, or where it would stand.
+    /// Does the same, wherever the number stands: the finger then stands behind it, or where it would stand.
     #[inline(never)]
     fn seeks(&mut self, numbers: &[u32], in_order: bool, number: u32) -> bool
         requires { IsTrue in_order → IsNonDecreasing numbers.now }

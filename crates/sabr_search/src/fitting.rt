@@ -8,7 +8,7 @@ use crate::part::Part;
 use sabr_model::{HopFault, Plan, Request, follow};
 use std::alloc::Allocator;
 
-/// Whether one of these contacts is received by the node.
+/// Tells whether one of these contacts is received by the node.
 fn enters<A: Allocator + Copy>(plan: &Plan<A>, numbers: &[u32], node: u64) -> bool
     ensures { result ≡ has node (receivers plan.now.plan numbers.now) }
 {
@@ -22,7 +22,7 @@ fn enters<A: Allocator + Copy>(plan: &Plan<A>, numbers: &[u32], node: u64) -> bo
     false
 }
 
-/// Whether routes may begin with the part's prefix and go on.
+/// Tells whether routes may begin with the part's prefix and go on.
 ///
 /// It is a chain of contacts from the source that can be followed in time, comes to no node twice and to no avoided node,
 /// is within the limit on hops, and doesn't come to the destination. The empty prefix fits. Which numbers are excluded

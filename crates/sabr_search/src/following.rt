@@ -104,8 +104,8 @@ impl<'a, A: Allocator + Copy> Task<'a, A> {
         Ok(all)
     }
 
-    /// The step of least number from a node that a table lets through, with so many hops left; none where there is none,
-    /// or where more than `most` looks might be needed.
+    /// Gives the step of least number from a node that a table lets through, with so many hops left; none where there
+    /// is none, or where more than `most` looks might be needed.
     fn least_due(
         &self,
         looks: &mut Looks,
@@ -149,8 +149,8 @@ impl<'a, A: Allocator + Copy> Task<'a, A> {
         Ok(least)
     }
 
-    /// The least numbers that lead from the start to the goal by the deadline of a table, with so many hops, behind the
-    /// prefix; none where it leads to a dead end, or where more than `most` looks might be needed.
+    /// Gives the least numbers that lead from the start to the goal by the deadline of a table, with so many hops,
+    /// behind the prefix; none where it leads to a dead end, or where more than `most` looks might be needed.
     fn walk(
         &self,
         alloc: A,
@@ -193,7 +193,7 @@ impl<'a, A: Allocator + Copy> Task<'a, A> {
         Ok(Some(contacts))
     }
 
-    /// The least route behind the prefix, where a table leads to one by its deadline, before which none delivers.
+    /// Gives the least route behind the prefix, where a table leads to one by its deadline, before which none delivers.
     fn follow_rung(
         &self,
         alloc: A,
@@ -233,7 +233,7 @@ impl<'a, A: Allocator + Copy> Task<'a, A> {
     }
 }
 
-/// Whether a first step is in time for a delivery by the deadline of a table.
+/// Tells whether a first step is in time for a delivery by the deadline of a table.
 fn meets<A: Allocator + Copy>(rung: &Rung<A>, first: &[Standing]) -> bool
     requires inside { (k : ℕ) (s : Standing) → slice_get first.now k ≡ Some s → s.node < length rung.now.spans.items }
     requires spans { AreSpans rung.now.dues.items rung.now.spans.items }
@@ -242,7 +242,8 @@ fn meets<A: Allocator + Copy>(rung: &Rung<A>, first: &[Standing]) -> bool
 }
 
 impl<A: Allocator + Copy> Kept<A> {
-    /// The table of the least deadline from the floor on, of those for a delivery, for which a first step is in time.
+    /// Gives the table of the least deadline from the floor on, of those for a delivery, for which a first step is in
+    /// time.
     fn met(&self, _task: &Task<'_, A>) -> Option<usize>
         requires kept { IsKept (tabled_of _task.now) _task.now.request self.now }
         requires inside { (k : ℕ) (s : Standing) → slice_get self.now.first.items k ≡ Some s → s.node < length _task.now.table }
@@ -260,8 +261,8 @@ impl<A: Allocator + Copy> Kept<A> {
         found
     }
 
-    /// The least route behind the prefix, where none delivers before the deadline of a table: read off it, or else by a
-    /// short try backward from the goal. Raises the floor.
+    /// Gives the least route behind the prefix, where none delivers before the deadline of a table: read off it, or
+    /// else by a short try backward from the goal. Raises the floor.
     fn answer_at(
         &mut self,
         layers: &mut Layers<A>,
@@ -303,8 +304,8 @@ impl<A: Allocator + Copy> Kept<A> {
         Ok(tried)
     }
 
-    /// The least route behind the prefix, by the table that is met first, or else by the next one where none delivers by
-    /// the first one's deadline.
+    /// Gives the least route behind the prefix, by the table that is met first, or else by the next one where none
+    /// delivers by the first one's deadline.
     fn answer_met(
         &mut self,
         layers: &mut Layers<A>,

@@ -16,7 +16,8 @@ use crate::task::Task;
 use sabr_model::{NoMemory, Sender};
 use std::alloc::Allocator;
 
-/// When the first of all ways may be at a node: at its least arrival, or at the first delivery, where the search stopped.
+/// Tells when the first of all ways may be at a node: at its least arrival, or at the first delivery, where the search
+/// stopped.
 pub fn soonest_at(arrival: &[u64], delivery: u64, node: usize) -> u64
     requires { node < length arrival.now }
     ensures { result ≡ soonest arrival.now delivery node }
@@ -251,7 +252,7 @@ impl<A: Allocator + Copy> Layers<A> {
         Ok(Some(false))
     }
 
-    /// Layer 0: the goal alone.
+    /// Makes layer 0: the goal alone.
     pub fn first_back(&mut self, task: &Task<'_, A>, delivery: u64) -> Result<(), NoMemory>
         requires task { IsTask task.now }
         requires early { delivery < never }
@@ -276,8 +277,9 @@ impl<A: Allocator + Copy> Layers<A> {
         Ok(())
     }
 
-    /// Layers backward from the goal, until the start is in time for one: answers how many hops that one is from the
-    /// goal. None where the plan isn't ready, where a layer is empty, or where more than `most` looks might be needed.
+    /// Makes layers backward from the goal, until the start is in time for one: answers how many hops that one is from
+    /// the goal. None where the plan isn't ready, where a layer is empty, or where more than `most` looks might be
+    /// needed.
     pub fn make_back(
         &mut self,
         task: &Task<'_, A>,
@@ -317,7 +319,7 @@ impl<A: Allocator + Copy> Layers<A> {
         Ok(None)
     }
 
-    /// Whether the layers that were made backward end with an empty one.
+    /// Tells whether the layers that were made backward end with an empty one.
     pub fn have_ended(&self) -> bool
         ensures { IsTrue result → IsEnded self.now.ends.items }
     {
@@ -349,7 +351,7 @@ impl<A: Allocator + Copy> Layers<A> {
         Ok(())
     }
 
-    /// Where the layers begin once their entries are turned round.
+    /// Sets where the layers begin once their entries are turned round.
     fn turn_bounds(&mut self, left: usize) -> Result<(), NoMemory>
         requires many { length self.old.ends.items ≡ left + 2 }
         requires below { (j : ℕ) → slice_index self.old.ends.items j ≤ length self.old.reached.items }
@@ -372,9 +374,9 @@ impl<A: Allocator + Copy> Layers<A> {
         Ok(())
     }
 
-    /// Layers with deadlines for the first delivery, made backward from the goal: answers the delivery and the hops. None
-    /// where no way of so many hops delivers then, where the plan isn't ready, or where more than `most` looks might be
-    /// needed.
+    /// Makes layers with deadlines for the first delivery, made backward from the goal: answers the delivery and the
+    /// hops. None where no way of so many hops delivers then, where the plan isn't ready, or where more than `most`
+    /// looks might be needed.
     pub fn from_goal(
         &mut self,
         task: &Task<'_, A>,

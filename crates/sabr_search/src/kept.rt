@@ -49,7 +49,7 @@ pub struct Kept<A: Allocator + Copy = Global> {
 }
 
 impl<A: Allocator + Copy> Kept<A> {
-    /// Nothing so far. It has taken no memory.
+    /// Begins with nothing so far. It has taken no memory.
     pub fn new(alloc: A) -> Kept<A>
         ensures { result.rungs.items ≡ [] }
     {
@@ -64,7 +64,7 @@ impl<A: Allocator + Copy> Kept<A> {
             answered: 0,
         }
     }
-    /// Whether tables are to be tried: there are some, and they have answered often enough.
+    /// Tells whether tables are to be tried: there are some, and they have answered often enough.
     pub fn pays(&mut self) -> bool
         ensures { self.new.rungs ≡ self.old.rungs }
     {
@@ -129,7 +129,7 @@ impl<A: Allocator + Copy> Kept<A> {
         times + 1 == TIMES && self.is_new(delivery)
     }
 
-    /// Whether there is room for a table of a deadline, and none yet.
+    /// Tells whether there is room for a table of a deadline, and none yet.
     fn is_new(&self, deadline: u64) -> bool {
         for place in 0..self.rungs.len() {
             if self.rungs[place].deadline == deadline {

@@ -25,7 +25,7 @@ pub struct Layered<A: Allocator + Copy = Global> {
 }
 
 impl<A: Allocator + Copy> Layered<A> {
-    /// A finder that has taken no memory and was not called.
+    /// Makes a finder that has taken no memory and was not called.
     pub fn new(alloc: A) -> Layered<A>
         ensures looks { result.looks.count ≡ 0 }
         ensures calls { result.calls.count ≡ 0 }

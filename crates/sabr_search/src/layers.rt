@@ -42,7 +42,7 @@ pub struct Limits {
 /// Later than every arrival.
 pub const NEVER: u64 = u64::MAX;
 
-/// Every open node is unreached, and nothing improves a shut one.
+/// Makes every open node unreached, and lets nothing improve a shut one.
 pub fn open_nodes<A: Allocator + Copy>(
     arrival: &mut Vec<u64, A>,
     task: &Task<'_, A>,
@@ -72,7 +72,7 @@ pub struct Layers<A: Allocator + Copy> {
 }
 
 impl<A: Allocator + Copy> Layers<A> {
-    /// No layers, and no memory taken.
+    /// Begins with no layers, and no memory taken.
     pub fn new(alloc: A) -> Layers<A> {
         Layers {
             arrival: Vec::new(alloc),
@@ -123,7 +123,7 @@ impl<A: Allocator + Copy> Layers<A> {
         Ok(())
     }
 
-    /// Before which an arrival at a node is news.
+    /// Tells before which second an arrival at a node is news.
     fn news_before(&self, task: &Task<'_, A>, to: usize, best: u64) -> u64
         requires many { length self.now.arrival.items ≡ length task.now.shut }
         requires task { IsTask task.now }
@@ -244,7 +244,7 @@ impl<A: Allocator + Copy> Layers<A> {
         Ok(least)
     }
 
-    /// Layer 0: the start alone.
+    /// Makes layer 0: the start alone.
     fn first_layer(&mut self, task: &Task<'_, A>) -> Result<(), NoMemory>
         requires { IsTask task.now }
         ensures bounds { OnOk result (self.new.bounds.items ≡ 0 ∷ 1 ∷ []) }
@@ -266,7 +266,7 @@ impl<A: Allocator + Copy> Layers<A> {
         Ok(())
     }
 
-    /// Layers until the goal is reached by `limits.lower`, no node is new, or the hops are used up.
+    /// Makes layers until the goal is reached by `limits.lower`, no node is new, or the hops are used up.
     pub fn make(
         &mut self,
         task: &Task<'_, A>,

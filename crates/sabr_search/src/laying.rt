@@ -21,8 +21,8 @@ use std::alloc::Allocator;
 pub const LATEST: u64 = 253372764799;
 
 impl<A: Allocator + Copy> Layers<A> {
-    /// Layers backward from the goal until one has no entry: answers how many there are before that one. None where the
-    /// plan isn't ready, where the start is in time for one, or where more than `most` looks might be needed.
+    /// Makes layers backward from the goal until one has no entry: answers how many there are before that one. None
+    /// where the plan isn't ready, where the start is in time for one, or where more than `most` looks might be needed.
     fn make_all(
         &mut self,
         task: &Task<'_, A>,
@@ -58,7 +58,8 @@ impl<A: Allocator + Copy> Layers<A> {
         Ok(None)
     }
 
-    /// By node the first second too late for a delivery before the deadline, from all layers for the second before it.
+    /// Gives by node the first second too late for a delivery before the deadline, from all layers for the second
+    /// before it.
     fn floors(
         &self,
         alloc: A,
@@ -104,7 +105,7 @@ impl<A: Allocator + Copy> Layers<A> {
         Ok(())
     }
 
-    /// The dues of all layers, by node.
+    /// Gives the dues of all layers, by node.
     fn gather(
         &self,
         alloc: A,
@@ -124,8 +125,8 @@ impl<A: Allocator + Copy> Layers<A> {
         Ok(dues)
     }
 
-    /// The dues of a deadline, and no entry of one that is behind every arrival; none where the plan isn't ready, or where
-    /// more than `most` looks might be needed.
+    /// Gives the dues of a deadline, and no entry of one that is behind every arrival; none where the plan isn't ready,
+    /// or where more than `most` looks might be needed.
     fn dues_by(
         &mut self,
         alloc: A,
@@ -153,7 +154,7 @@ impl<A: Allocator + Copy> Layers<A> {
         Ok(Some(dues))
     }
 
-    /// The table of a deadline; none where the plan isn't ready, or where more than `most` looks might be needed.
+    /// Gives the table of a deadline; none where the plan isn't ready, or where more than `most` looks might be needed.
     fn lay(
         &mut self,
         alloc: A,
@@ -190,7 +191,7 @@ impl<A: Allocator + Copy> Layers<A> {
     }
 }
 
-/// A span with a place more, behind its others.
+/// Gives a span with a place more, behind its others.
 fn widened(span: Span, place: usize) -> Span
     requires few { place < 2 ^ 62 }
     ensures here { result.first ≤ place }
@@ -207,7 +208,7 @@ fn widened(span: Span, place: usize) -> Span
     }
 }
 
-/// By node the places of its dues.
+/// Gives by node the places of its dues.
 fn spans_of<A: Allocator + Copy>(
     alloc: A,
     dues: &[Due],
@@ -228,8 +229,8 @@ fn spans_of<A: Allocator + Copy>(
     Ok(spans)
 }
 
-/// The table of a deadline for a plan and a request; none where there is none, where the plan isn't ready, or where more
-/// than `most` looks might be needed.
+/// Gives the table of a deadline for a plan and a request; none where there is none, where the plan isn't ready, or
+/// where more than `most` looks might be needed.
 pub fn rung_for<A: Allocator + Copy>(
     alloc: A,
     layers: &mut Layers<A>,

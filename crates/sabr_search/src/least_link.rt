@@ -15,8 +15,8 @@ use sabr_model::{LinkBounds, Pass};
 use std::alloc::Allocator;
 
 impl<'a, A: Allocator + Copy> Task<'a, A> {
-    /// The step of least number over a link for what is at its sender at `at`, that arrives before `before` and whose
-    /// number is less than that of `least`; where there is none, `least`.
+    /// Gives the step of least number over a link for what is at its sender at `at`, that arrives before `before` and
+    /// whose number is less than that of `least`; where there is none, `least`.
     pub fn least_over(
         &self,
         looks: &mut Looks,

@@ -13,8 +13,8 @@ use crate::task::Task;
 use sabr_model::{LinkBounds, Pass};
 use std::alloc::Allocator;
 
-/// How many passes of a link start before `before`: they are those in front. The only one may start later. A halving: it
-/// compares the starts as the keys by which a link's passes are in order.
+/// Tells how many passes of a link start before `before`: they are those in front. The only one may start later. A
+/// halving: it compares the starts as the keys by which a link's passes are in order.
 fn begun<A: Allocator + Copy>(
     _task: &Task<'_, A>,
     _node: usize,
@@ -34,8 +34,8 @@ fn begun<A: Allocator + Copy>(
 }
 
 impl<'a, A: Allocator + Copy> Task<'a, A> {
-    /// Whether no one who is at the sender at `since` or later, and at `latest` or later, arrives before `before` over
-    /// this pass or one in front of it.
+    /// Tells whether no one who is at the sender at `since` or later, and at `latest` or later, arrives before `before`
+    /// over this pass or one in front of it.
     fn leaves_no_later(&self, pass: &Pass, since: u64, before: u64, latest: u64) -> bool
         requires task { IsTask self.now }
         requires light { pass.now.least_light_before ≤ 1000000 }
@@ -47,9 +47,9 @@ impl<'a, A: Allocator + Copy> Task<'a, A> {
         before - latest <= self.cost(pass.least_light_before)
     }
 
-    /// The first second from which on nothing leaves over a link and arrives before `before`, where that is later than
-    /// `latest`, and else `latest`; of what is at the sender before `since` nothing is said. It takes a halving and as
-    /// many looks as passes come in question.
+    /// Gives the first second from which on nothing leaves over a link and arrives before `before`, where that is later
+    /// than `latest`, and else `latest`; of what is at the sender before `since` nothing is said. It takes a halving
+    /// and as many looks as passes come in question.
     pub fn leave_over(
         &self,
         looks: &mut Looks,

@@ -9,8 +9,9 @@ use crate::layers::{Best, Limits, NEVER};
 /// The limit on hops of a request without limits. No route has more contacts than a plan has.
 const MOST_HOPS: u32 = 20000;
 
-/// The first way does reach its delivery, so no more layers than it has hops are needed. Where so many hops are allowed
-/// behind the `used` contacts of a prefix, nothing later is needed; where they are not, its delivery is a lower bound.
+/// Limits the layers: the first way does reach its delivery, so no more of them than it has hops are needed. Where so
+/// many hops are allowed behind the `used` contacts of a prefix, nothing later is needed; where they are not, its
+/// delivery is a lower bound.
 pub fn limits_of(max_hops: u32, used: usize, first: Best) -> Limits
     requires fits { used ≤ max_hops }
     requires early { first.delivery < never }

@@ -15,7 +15,7 @@ pub struct Looks {
 }
 
 impl Looks {
-    /// Never so far.
+    /// Begins with no look.
     pub fn new() -> Looks
         ensures { result.count ≡ 0 }
     {
@@ -36,7 +36,7 @@ impl Looks {
         contact
     }
 
-    /// The record of a standing contact: one look.
+    /// Gives the record of a standing contact: one look.
     pub fn hop<A: Allocator + Copy>(&mut self, plan: &Plan<A>, number: u32) -> Option<Hop>
         requires plan { IsPlan plan.now.plan }
         requires few { self.old.count < 2 ^ 62 }

@@ -12,7 +12,7 @@ use crate::task::Task;
 use std::alloc::Allocator;
 
 impl<A: Allocator + Copy> Kept<A> {
-    /// Whether a table shows that no way leads to the goal: none of the first steps is in time for any delivery.
+    /// Tells whether a table shows that no way leads to the goal: none of the first steps is in time for any delivery.
     pub fn shows_none(&self, _task: &Task<'_, A>) -> bool
         requires task { IsTask _task.now }
         requires behind { (prefix : List ℕ) × IsBehind _task.now prefix }

@@ -15,7 +15,7 @@ use crate::task::Task;
 use sabr_model::{Hop, Link, LinkBounds, Links, Pass};
 use std::alloc::Allocator;
 
-/// The passes of a link.
+/// Gives the passes of a link.
 pub fn link_passes<'a>(links: Links<'a>, link: &Link) -> &'a [Pass]
     requires ordered { link.now.first ≤ link.now.end }
     requires within { link.now.end ≤ length links.passes.now }
@@ -24,8 +24,8 @@ pub fn link_passes<'a>(links: Links<'a>, link: &Link) -> &'a [Pass]
     &links.passes[link.first..link.end]
 }
 
-/// Whether nothing that is at the sender of a link at `at` or later arrives over it before `before`, by the bounds of the
-/// whole link.
+/// Tells whether nothing that is at the sender of a link at `at` or later arrives over it before `before`, by the
+/// bounds of the whole link.
 pub fn rules_out(bounds: LinkBounds, at: u64, before: u64) -> bool
     ensures late { IsTrue result → (bounds.latest_end ≤ at) ⊎ ((before ≤ bounds.soonest) ⊎ (before ≤ at + bounds.least_light)) }
     ensures early { result ≡ false → at < before }
@@ -36,8 +36,8 @@ pub fn rules_out(bounds: LinkBounds, at: u64, before: u64) -> bool
     before.saturating_sub(at) <= bounds.least_light as u64
 }
 
-/// How many passes from the front of a link have ended by `at`; those behind, or the only one, may have ended as well.
-/// A halving: it compares the bounds that stand beside the passes.
+/// Tells how many passes from the front of a link have ended by `at`; those behind, or the only one, may have ended as
+/// well. A halving: it compares the bounds that stand beside the passes.
 pub fn first_open<A: Allocator + Copy>(
     _task: &Task<'_, A>,
     _node: usize,
@@ -57,7 +57,7 @@ pub fn first_open<A: Allocator + Copy>(
 }
 
 impl<'a, A: Allocator + Copy> Task<'a, A> {
-    /// The record of a pass that was looked at.
+    /// Gives the record of a pass that was looked at.
     pub fn hop_over(&self, _node: usize, to: usize, pass: &Pass) -> Hop
         requires pass { IsPassAt self.now _node to pass.now }
         requires task { IsTask self.now }
@@ -73,7 +73,7 @@ impl<'a, A: Allocator + Copy> Task<'a, A> {
         }
     }
 
-    /// Whether what is at the sender at `at` arrives at `before` or later over this pass and over each behind it.
+    /// Tells whether what is at the sender at `at` arrives at `before` or later over this pass and over each behind it.
     pub fn comes_late(&self, pass: &Pass, at: u64, before: u64) -> bool
         requires task { IsTask self.now }
         requires light { pass.now.least_light_behind ≤ 1000000 }
@@ -83,8 +83,8 @@ impl<'a, A: Allocator + Copy> Task<'a, A> {
         sent >= before || self.cost(pass.least_light_behind) >= before - sent
     }
 
-    /// The least arrival over a link of what is at its sender at `at`, where it is before `before`, and else `before`.
-    /// It takes a halving and as many looks as passes come in question, mostly two.
+    /// Gives the least arrival over a link of what is at its sender at `at`, where it is before `before`, and else
+    /// `before`. It takes a halving and as many looks as passes come in question, mostly two.
     pub fn arrive_over(
         &self,
         looks: &mut Looks,

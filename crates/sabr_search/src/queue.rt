@@ -49,7 +49,7 @@ impl<A: Allocator + Copy> Model for Queue<A> {
 }
 
 impl<A: Allocator + Copy> Queue<A> {
-    /// No events. Takes no memory.
+    /// Begins with no events. Takes no memory.
     pub fn new(alloc: A) -> Queue<A>
         ensures { result ≡ [] }
     {
@@ -65,7 +65,7 @@ impl<A: Allocator + Copy> Queue<A> {
         self.events.clear();
     }
 
-    /// One event more; refused where the queue has to grow and memory is refused.
+    /// Gives one event more; refused where the queue has to grow and memory is refused.
     pub fn push(&mut self, event: Event) -> Result<(), NoMemory>
         ensures ok { OnOk result (IsPermutation (event ∷ self.old) self.new) }
         ensures err { OnErr result (self.new ≡ self.old) }

@@ -32,7 +32,7 @@ pub struct Rung<A: Allocator + Copy> {
 }
 
 impl<A: Allocator + Copy> Rung<A> {
-    /// The first second too late at a node for a way on of at most so many hops.
+    /// Gives the first second too late at a node for a way on of at most so many hops.
     pub fn within(&self, node: usize, rest: usize) -> u64
         requires node { node < length self.now.spans.items }
         requires spans { AreSpans self.now.dues.items self.now.spans.items }
@@ -49,7 +49,7 @@ impl<A: Allocator + Copy> Rung<A> {
         latest
     }
 
-    /// No more hops than a way on has from a node at a second.
+    /// Gives no more hops than a way on has from a node at a second.
     pub fn hops_from(&self, from: Standing) -> usize
         requires node { from.node < length self.now.spans.items }
         requires spans { AreSpans self.now.dues.items self.now.spans.items }
@@ -66,7 +66,7 @@ impl<A: Allocator + Copy> Rung<A> {
         least
     }
 
-    /// No more hops than a way on has from any of these.
+    /// Gives no more hops than a way on has from any of these.
     pub fn least_hops(&self, first: &[Standing]) -> usize
         requires inside { (k : ℕ) (s : Standing) → slice_get first.now k ≡ Some s → s.node < length self.now.spans.items }
         requires spans { AreSpans self.now.dues.items self.now.spans.items }
@@ -82,7 +82,7 @@ impl<A: Allocator + Copy> Rung<A> {
         least
     }
 
-    /// Whether none of these is in time for a delivery before the deadline.
+    /// Tells whether none of these is in time for a delivery before the deadline.
     pub fn comes_no_sooner(&self, first: &[Standing]) -> bool
         requires inside { (k : ℕ) (s : Standing) → slice_get first.now k ≡ Some s → s.node < length self.now.before.items }
         ensures { IsTrue result → (k : ℕ) (s : Standing) → slice_get first.now k ≡ Some s → slice_index self.now.before.items s.node ≤ s.at }

@@ -21,7 +21,7 @@ use crate::task::Task;
 use sabr_model::{GhostCount, NoMemory, Plan, Request, Route};
 use std::alloc::{Allocator, Global};
 
-/// The least route behind the prefix: the first delivery says how many layers are needed, and what is too late.
+/// Gives the least route behind the prefix: the first delivery says how many layers are needed, and what is too late.
 fn least_route<A: Allocator + Copy>(
     alloc: A,
     settling: &mut Settling<A>,
@@ -51,7 +51,7 @@ fn least_route<A: Allocator + Copy>(
     layers.answer_by(alloc, task, looks, prefix, limits, &settling.arrival, first)
 }
 
-/// The least route behind the prefix: told by the tables that are kept, or else by a search.
+/// Gives the least route behind the prefix: told by the tables that are kept, or else by a search.
 fn least_beside<A: Allocator + Copy>(
     alloc: A,
     settling: &mut Settling<A>,
@@ -128,7 +128,7 @@ pub struct Settled<A: Allocator + Copy = Global> {
 }
 
 impl<A: Allocator + Copy> Settled<A> {
-    /// A finder that has taken no memory and was not called.
+    /// Makes a finder that has taken no memory and was not called.
     pub fn new(alloc: A) -> Settled<A>
         ensures looks { result.looks.count ≡ 0 }
         ensures calls { result.calls.count ≡ 0 }

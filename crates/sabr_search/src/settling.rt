@@ -38,7 +38,7 @@ impl<A: Allocator + Copy> Settling<A> {
         }
     }
 
-    /// No node is settled, no event waits, and nothing is reached but the start.
+    /// Begins with no node settled, no event waiting, and nothing reached but the start.
     fn first_events(&mut self, task: &Task<'_, A>) -> Result<(), NoMemory>
         requires { IsTask task.now }
         ensures arrivals { OnOk result (AreOpened task.now self.new.arrival.items) }
@@ -52,7 +52,7 @@ impl<A: Allocator + Copy> Settling<A> {
         Ok(())
     }
 
-    /// Before which an arrival at a node is news.
+    /// Tells before which second an arrival at a node is news.
     fn news_before(&self, task: &Task<'_, A>, to: usize, best: Best) -> u64
         requires many { length self.now.arrival.items ≡ length task.now.shut }
         requires task { IsTask task.now }

@@ -44,7 +44,7 @@ impl<'a, A: Allocator + Copy> Model for Task<'a, A> {
 }
 
 impl<'a, A: Allocator + Copy> Task<'a, A> {
-    /// A task from where the search stands.
+    /// Makes a task from where the search stands.
     pub fn new(
         plan: &'a Plan<A>,
         request: &'a Request,
@@ -67,7 +67,7 @@ impl<'a, A: Allocator + Copy> Task<'a, A> {
         }
     }
 
-    /// The links of a node, on which every step from there is. Takes memory where the plan isn't ready.
+    /// Gives the links of a node, on which every step from there is. Takes memory where the plan isn't ready.
     pub fn links(&self, node: usize) -> Result<Outgoing<'_, A>, NoMemory>
         requires task { IsTask self.now }
         requires node { node < length self.now.table }
@@ -76,7 +76,7 @@ impl<'a, A: Allocator + Copy> Task<'a, A> {
         self.plan.outgoing(node)
     }
 
-    /// The links to a node, on which every step to there is; none where the plan isn't ready.
+    /// Gives the links to a node, on which every step to there is; none where the plan isn't ready.
     pub fn senders(&self, node: usize) -> Option<Senders<'_, A>>
         requires task { IsTask self.now }
         requires node { node < length self.now.table }
@@ -85,7 +85,7 @@ impl<'a, A: Allocator + Copy> Task<'a, A> {
         self.plan.senders(node)
     }
 
-    /// The record of a contact.
+    /// Gives the record of a contact.
     pub fn look(&self, looks: &mut Looks, number: u32) -> Option<Hop>
         requires task { IsTask self.now }
         requires few { looks.old.count < 2 ^ 62 }
@@ -96,7 +96,7 @@ impl<'a, A: Allocator + Copy> Task<'a, A> {
         looks.hop(self.plan, number)
     }
 
-    /// The node at a place of the table.
+    /// Gives the node at a place of the table.
     pub fn node(&self, index: usize) -> u64
         requires { index < length self.now.table }
         ensures { slice_get self.now.table index ≡ Some result }
@@ -104,35 +104,35 @@ impl<'a, A: Allocator + Copy> Task<'a, A> {
         self.plan.node(index)
     }
 
-    /// Where the search starts.
+    /// Tells where the search starts.
     pub fn start(&self) -> usize
         ensures { result ≡ self.now.start }
     {
         self.start
     }
 
-    /// When the search starts.
+    /// Tells when the search starts.
     pub fn at(&self) -> u64
         ensures { result ≡ self.now.at }
     {
         self.at
     }
 
-    /// Where the search goes.
+    /// Tells where the search goes.
     pub fn goal(&self) -> usize
         ensures { result ≡ self.now.goal }
     {
         self.goal
     }
 
-    /// By node whether it is shut.
+    /// Tells by node whether it is shut.
     pub fn shut(&self) -> &[bool]
         ensures { result.now ≡ self.now.shut }
     {
         self.shut
     }
 
-    /// As many looks as one pass over all contacts takes.
+    /// Gives as many looks as one pass over all contacts takes.
     pub fn one_pass(&self) -> u64
         requires task { IsTask self.now }
         ensures value { result ≡ length self.now.plan.contacts }
@@ -141,7 +141,7 @@ impl<'a, A: Allocator + Copy> Task<'a, A> {
         self.plan.contacts().len() as u64
     }
 
-    /// As many looks as two passes over all contacts take.
+    /// Gives as many looks as two passes over all contacts take.
     pub fn two_passes(&self) -> u64
         requires task { IsTask self.now }
         ensures value { result ≡ 2 * length self.now.plan.contacts }
@@ -150,7 +150,7 @@ impl<'a, A: Allocator + Copy> Task<'a, A> {
         2 * self.plan.contacts().len() as u64
     }
 
-    /// Whether a route may not take this number behind the prefix. A walk over passes keeps the finger.
+    /// Tells whether a route may not take this number behind the prefix. A walk over passes keeps the finger.
     #[inline(always)]
     pub fn is_excluded(&self, node: usize, number: u32, finger: &mut Finger) -> bool
         ensures { result ≡ (node == self.now.start && has number self.now.excluded) }
@@ -158,7 +158,7 @@ impl<'a, A: Allocator + Copy> Task<'a, A> {
         node == self.start && finger.finds(self.excluded, self.in_order, number)
     }
 
-    /// A light time with the margin, in seconds.
+    /// Gives a light time with the margin, in seconds.
     pub fn cost(&self, light: u32) -> u64
         requires task { IsTask self.now }
         requires light { light ≤ 1000000 }
@@ -167,7 +167,7 @@ impl<'a, A: Allocator + Copy> Task<'a, A> {
         cost(light, self.request.margin_ppm())
     }
 
-    /// The arrival over the contact where it is before `before`.
+    /// Gives the arrival over the contact where it is before `before`.
     pub fn arrive_before(&self, at: u64, hop: &Hop, before: u64) -> Option<u64>
         requires task { IsTask self.now }
         requires small { IsSmall hop.now }
@@ -186,7 +186,7 @@ impl<'a, A: Allocator + Copy> Task<'a, A> {
         }
     }
 
-    /// The first second from which on the contact no longer arrives before `before`; 0 where it never does.
+    /// Gives the first second from which on the contact no longer arrives before `before`; 0 where it never does.
     pub fn leave_before(&self, hop: &Hop, before: u64) -> u64
         requires task { IsTask self.now }
         requires small { IsSmall hop.now }
@@ -201,7 +201,7 @@ impl<'a, A: Allocator + Copy> Task<'a, A> {
     }
 }
 
-/// The arrival over the contact of what is at its sender at `at`.
+/// Gives the arrival over the contact of what is at its sender at `at`.
 pub fn arrive_by_hop(margin_ppm: u32, at: u64, hop: &Hop) -> Option<u64>
     requires margin { margin_ppm ≤ 1000000 }
     requires small { IsSmall hop.now }
@@ -214,7 +214,7 @@ pub fn arrive_by_hop(margin_ppm: u32, at: u64, hop: &Hop) -> Option<u64>
     Some(sent + cost(hop.light?, margin_ppm))
 }
 
-/// Light time and margin, in seconds.
+/// Gives light time and margin, in seconds.
 fn cost(light: u32, margin_ppm: u32) -> u64
     requires light { light ≤ 1000000 }
     requires margin { margin_ppm ≤ 1000000 }
@@ -228,7 +228,7 @@ fn cost(light: u32, margin_ppm: u32) -> u64
     light + (light * margin_ppm as u64 + 999999) / 1000000
 }
 
-/// Whether the numbers never fall.
+/// Tells whether the numbers never fall.
 pub fn never_falls(numbers: &[u32]) -> bool
     ensures { IsTrue result → IsNonDecreasing numbers.now }
 {

@@ -19,7 +19,7 @@ use std::alloc::Allocator;
 /// more, those that give up cost more than the others save.
 const TRY: u64 = 1000;
 
-/// A second before which none of these is there.
+/// Gives a second before which none of these is there.
 fn soonest_of(first: &[Standing]) -> u64
     ensures { (k : ℕ) (s : Standing) → slice_get first.now k ≡ Some s → result ≤ s.at }
 {
@@ -92,8 +92,8 @@ impl<A: Allocator + Copy> Kept<A> {
         Ok(())
     }
 
-    /// The least route behind the prefix, where none delivers before the floor, and a few looks backward from the goal show
-    /// one that does by then; where they show that none does, the floor is raised.
+    /// Gives the least route behind the prefix, where none delivers before the floor, and a few looks backward from the
+    /// goal show one that does by then; where they show that none does, the floor is raised.
     pub fn try_back(
         &mut self,
         layers: &mut Layers<A>,

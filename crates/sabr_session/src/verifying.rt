@@ -10,9 +10,10 @@ use sabr_model::{Plan, Read};
 use sabr_search::BestOf;
 use std::alloc::Allocator;
 
-/// Whether the bytes are the text of a place in the list of all routes: whether [`write_session`](crate::write_session)
-/// would have written precisely them over this plan, for some request and once some number of its first routes was
-/// given, or they are the same in version 1. Nobody who wrote or kept the text is trusted.
+/// Tells whether the bytes are the text of a place in the list of all routes: whether
+/// [`write_session`](crate::write_session) would have written precisely them over this plan, for some request and once
+/// some number of its first routes was given, or they are the same in version 1. Nobody who wrote or kept the text is
+/// trusted.
 ///
 /// The digest is that of the plan. No comes as soon as the bytes read begin no such text, and how many bytes behind
 /// them the reader has given up is open. It takes a search for each part, and a pass over the routes given.

@@ -24,7 +24,7 @@ struct Figures {
     routes: usize,
 }
 
-// Starts a session over a finder, and asks for one page.
+/// Starts a session over a finder, and asks for one page.
 fn measured<R: Clock + AllocGlobal, B: BestOf<Global>>(
     rt: &R,
     plan: &Plan,
@@ -47,7 +47,7 @@ fn measured<R: Clock + AllocGlobal, B: BestOf<Global>>(
     })
 }
 
-// Reads the words and the plan that they name, and measures the finder that they name.
+/// Reads the words and the plan that they name, and measures the finder that they name.
 fn run<R: Env + Files + Clock + AllocGlobal>(rt: &R) -> Option<Figures> {
     let words = env::args(rt)
         .ok()?

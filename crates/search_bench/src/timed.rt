@@ -14,7 +14,7 @@ pub struct Watch<'r, R: Clock> {
 }
 
 impl<'r, R: Clock> Watch<'r, R> {
-    /// A watch that begins now.
+    /// Makes a watch that begins now.
     pub fn new(clock: &'r R) -> Watch<'r, R> {
         Watch {
             clock,
@@ -22,7 +22,7 @@ impl<'r, R: Clock> Watch<'r, R> {
         }
     }
 
-    /// The nanoseconds since it began; 0 where the clock fails.
+    /// Gives the nanoseconds since it began; 0 where the clock fails.
     pub fn nanoseconds(&self) -> u64 {
         let Some(begin) = self.begin else {
             return 0;
@@ -61,7 +61,7 @@ pub struct Timed<'s, R: Clock, B> {
 }
 
 impl<'s, R: Clock, B> Timed<'s, R, B> {
-    /// The finder, with what its searches take added to `searches`.
+    /// Makes the finder, with what its searches take added to `searches`.
     pub fn new(
         watch: &'s Watch<'s, R>,
         searches: &'s Cell<Searches>,

@@ -32,7 +32,7 @@ enum Told {
     },
 }
 
-// The nanoseconds since then; 0 where the clock fails.
+/// Gives the nanoseconds since then; 0 where the clock fails.
 fn nanoseconds_since<R: Clock>(rt: &R, begin: Instant) -> u64 {
     let Ok(passed) = begin.elapsed(rt) else {
         return 0;
@@ -40,7 +40,7 @@ fn nanoseconds_since<R: Clock>(rt: &R, begin: Instant) -> u64 {
     u64::try_from(passed.as_nanos()).unwrap_or(u64::MAX)
 }
 
-// Lists the first routes, and writes their session to a new file.
+/// Lists the first routes, and writes their session to a new file.
 fn written<R: Files + Clock + AllocGlobal>(
     rt: &R,
     plan: &Plan,
@@ -63,7 +63,7 @@ fn written<R: Files + Clock + AllocGlobal>(
     })
 }
 
-// Reads a session's file.
+/// Reads a session's file.
 fn read_back<R: Files + Clock + AllocGlobal>(rt: &R, plan: &Plan, path: &str) -> Option<Told> {
     let digest = digest(plan);
     let mut reader = Device::new(fs::open(rt, path).ok()?);
@@ -77,7 +77,7 @@ fn read_back<R: Files + Clock + AllocGlobal>(rt: &R, plan: &Plan, path: &str) ->
     })
 }
 
-// Verifies a session's file.
+/// Verifies a session's file.
 fn verified<R: Files + Clock + AllocGlobal>(rt: &R, plan: &Plan, path: &str) -> Option<Told> {
     let digest = digest(plan);
     let mut reader = Device::new(fs::open(rt, path).ok()?);
@@ -90,7 +90,7 @@ fn verified<R: Files + Clock + AllocGlobal>(rt: &R, plan: &Plan, path: &str) -> 
     })
 }
 
-// The plan of this file, ready for searches.
+/// Gives the plan of this file, ready for searches.
 fn plan_of<R: Files + AllocGlobal>(rt: &R, path: &str) -> Option<Plan> {
     let file = fs::open(rt, path).ok()?;
     let mut plan = read_plan(rt.alloc(), &mut Device::new(file)).ok()?;
@@ -98,7 +98,7 @@ fn plan_of<R: Files + AllocGlobal>(rt: &R, path: &str) -> Option<Plan> {
     Some(plan)
 }
 
-// Reads the words, and does what they say.
+/// Reads the words, and does what they say.
 fn run<R: Env + Files + Clock + AllocGlobal>(rt: &R) -> Option<Told> {
     let words = env::args(rt)
         .ok()?

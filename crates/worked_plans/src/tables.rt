@@ -124,7 +124,7 @@ fn add_windows<A: Allocator + Copy>(
     Ok(())
 }
 
-// Makes the plan ready for searches.
+/// Makes the plan ready for searches.
 fn made_ready<A: Allocator + Copy>(mut plan: Plan<A>) -> Result<Plan<A>, AddFault> {
     match plan.make_ready() {
         Ok(()) => Ok(plan),

@@ -70,7 +70,7 @@ pub struct Case<A: Allocator + Copy = Global> {
 }
 
 impl<A: Allocator + Copy> Case<A> {
-    /// The case of a plan and a request.
+    /// Makes the case of a plan and a request.
     pub fn new(alloc: A, plan: Plan<A>, request: Request) -> Result<Case<A>, Wrong> {
         let page = first_routes(alloc, &plan, &request, 10000)?;
         if page.more {

@@ -12,7 +12,7 @@ const BEFORE_REQUEST: usize = 2;
 
 const WITH_REQUEST: usize = 3;
 
-// The places of the digits behind the request's line.
+/// Gives the places of the digits behind the request's line.
 fn digit_places(alloc: Global, text: &[u8]) -> Result<Vec<usize>, Wrong> {
     let mut places = Vec::new(alloc);
     let mut line = 0usize;
@@ -27,14 +27,14 @@ fn digit_places(alloc: Global, text: &[u8]) -> Result<Vec<usize>, Wrong> {
     Ok(places)
 }
 
-// Another digit, drawn.
+/// Gives another digit, drawn.
 fn other_digit(digit: u8, draws: &mut Draws) -> u8 {
     let own = digit.saturating_sub(b'0') as usize;
     let drawn = draws.below(9) as usize;
     DIGITS[own.saturating_add(drawn).saturating_add(1) % 10]
 }
 
-/// The text with another digit in place of one behind the request's line, both drawn.
+/// Makes the text with another digit in place of one behind the request's line, both drawn.
 pub fn with_another_digit(alloc: Global, text: &[u8], draws: &mut Draws) -> Result<Vec<u8>, Wrong> {
     let places = digit_places(alloc, text)?;
     let drawn = (draws.below(1000000) as usize)
@@ -49,7 +49,7 @@ pub fn with_another_digit(alloc: Global, text: &[u8], draws: &mut Draws) -> Resu
     Ok(changed)
 }
 
-// Puts the lines behind so many, up to so many.
+/// Puts the lines behind so many, up to so many.
 fn put_lines(changed: &mut Vec<u8>, text: &[u8], start: usize, end: usize) -> Result<(), Wrong> {
     let mut line = 0usize;
     for byte in text {
@@ -63,7 +63,7 @@ fn put_lines(changed: &mut Vec<u8>, text: &[u8], start: usize, end: usize) -> Re
     Ok(())
 }
 
-/// The text with the request's line of another.
+/// Makes the text with the request's line of another.
 pub fn with_request_of(alloc: Global, text: &[u8], other: &[u8]) -> Result<Vec<u8>, Wrong> {
     let mut changed = Vec::new(alloc);
     put_lines(&mut changed, text, 0, BEFORE_REQUEST)?;
@@ -72,7 +72,7 @@ pub fn with_request_of(alloc: Global, text: &[u8], other: &[u8]) -> Result<Vec<u
     Ok(changed)
 }
 
-/// The request once more.
+/// Gives the request once more.
 pub fn same_request(request: &Request) -> Result<Request, Wrong> {
     let new = Request::new(
         request.from(),
@@ -83,7 +83,7 @@ pub fn same_request(request: &Request) -> Result<Request, Wrong> {
     Ok(new.with_limits(request.max_hops(), request.avoided())?)
 }
 
-/// The request with another time, limit on hops or margin, drawn; now and then it is the same.
+/// Gives the request with another time, limit on hops or margin, drawn; now and then it is the same.
 pub fn changed_request(request: &Request, draws: &mut Draws) -> Result<Request, Wrong> {
     let at = request.at().saturating_add(draws.below(3) as u64);
     let hops = request.max_hops().saturating_sub(draws.below(3)).max(1);

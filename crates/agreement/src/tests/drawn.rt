@@ -31,7 +31,7 @@ const PAIRS: [(u64, u64); 15] = [
 /// Margins in parts in a million.
 const MARGINS: [u32; 4] = [0, 0, 250000, 1000000];
 
-// What is refused for another reason than memory may be left out of a drawn plan.
+/// Leaves out of a drawn plan what is refused for another reason than memory.
 fn tolerated(added: Result<(), AddFault>) -> Result<(), Wrong> {
     match added {
         Err(AddFault::NoMemory) => Err(Wrong::Memory),
@@ -39,7 +39,8 @@ fn tolerated(added: Result<(), AddFault>) -> Result<(), Wrong> {
     }
 }
 
-// None, one way from the greater node, both ways, or both: for the whole time, or for a part of it.
+/// Draws a light time: none, one way from the greater node, both ways, or both: for the whole time, or for a part of
+/// it.
 fn draw_light(plan: &mut Plan, draws: &mut Draws, one: u64, other: u64) -> Result<(), Wrong> {
     let ways = draws.below(8);
     let light = draws.below(5);
@@ -55,7 +56,7 @@ fn draw_light(plan: &mut Plan, draws: &mut Draws, one: u64, other: u64) -> Resul
     Ok(())
 }
 
-// Two nodes, mostly the lesser first; now and then they are one, and the contact is refused.
+/// Gives two nodes, mostly the lesser first; now and then they are one, and the contact is refused.
 fn draw_nodes(draws: &mut Draws, nodes: u32) -> (u64, u64) {
     let one = draws.below(nodes).saturating_add(1) as u64;
     let other = draws.below(nodes).saturating_add(1) as u64;
@@ -73,7 +74,7 @@ fn draw_contact(plan: &mut Plan, draws: &mut Draws, nodes: u32) -> Result<(), Wr
     tolerated(add_window(plan, &(from, to, start, end)))
 }
 
-// Deletes one of the contacts, so that its number is a gap.
+/// Deletes one of the contacts, so that its number is a gap.
 fn delete_some(plan: &mut Plan, draws: &mut Draws) {
     let place = draws.below(16) as usize;
     if let Some(contact) = plan.contacts().get(place).copied() {
@@ -131,7 +132,7 @@ fn draw_request(alloc: Global, draws: &mut Draws, nodes: u32) -> Result<Request,
     Ok(request.with_limits(max_hops, avoided.as_slice())?)
 }
 
-/// A plan of 3 to 6 nodes and some 12 contacts, and a request over it.
+/// Gives a plan of 3 to 6 nodes and some 12 contacts, and a request over it.
 pub fn draw_case(alloc: Global, draws: &mut Draws) -> Result<Case, Wrong> {
     let nodes = draws.below(4).min(draws.below(4)).saturating_add(3);
     let plan = draw_plan(alloc, draws, nodes)?;

@@ -13,7 +13,7 @@ fn may_begin(case: &Case, prefix: &[u32]) -> bool {
     fits(&case.plan, &case.request, part)
 }
 
-// Puts the number behind the prefix where routes may begin so.
+/// Puts the number behind the prefix where routes may begin so.
 fn lengthen(case: &Case, prefix: &mut Vec<u32>, number: u32) -> Result<(), Wrong> {
     prefix.push(number)?;
     if !may_begin(case, prefix.as_slice()) {
@@ -22,7 +22,7 @@ fn lengthen(case: &Case, prefix: &mut Vec<u32>, number: u32) -> Result<(), Wrong
     Ok(())
 }
 
-/// A beginning of a listed route, or a chain that needn't lead to the destination.
+/// Gives a beginning of a listed route, or a chain that needn't lead to the destination.
 pub fn draw_prefix(alloc: Global, case: &Case, draws: &mut Draws) -> Result<Vec<u32>, Wrong> {
     let mut prefix = Vec::new(alloc);
     let hops = draws.below(4);
@@ -42,7 +42,7 @@ pub fn draw_prefix(alloc: Global, case: &Case, draws: &mut Draws) -> Result<Vec<
     Ok(prefix)
 }
 
-/// Some numbers, falling: the order of those excluded doesn't matter.
+/// Gives some numbers, falling: the order of those excluded doesn't matter.
 pub fn draw_excluded(alloc: Global, draws: &mut Draws) -> Result<Vec<u32>, Wrong> {
     let mut excluded = Vec::new(alloc);
     let times = draws.below(12).saturating_add(2);

@@ -7,14 +7,14 @@ pub struct Draws {
 }
 
 impl Draws {
-    /// The numbers of a seed.
+    /// Makes the numbers of a seed.
     pub fn new(seed: u64) -> Draws {
         Draws {
             state: seed.wrapping_mul(11400714819323198485),
         }
     }
 
-    /// A number below the bound; 0 where the bound is 0.
+    /// Gives a number below the bound; 0 where the bound is 0.
     pub fn below(&mut self, bound: u32) -> u32 {
         let product = self.state.wrapping_mul(6364136223846793005);
         self.state = product.wrapping_add(1442695040888963407);
@@ -22,7 +22,7 @@ impl Draws {
         high.checked_rem(bound).unwrap_or(0)
     }
 
-    /// True once in so many draws.
+    /// Tells true once in so many draws.
     pub fn once_in(&mut self, times: u32) -> bool {
         self.below(times) == 0
     }

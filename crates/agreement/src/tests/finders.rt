@@ -22,7 +22,7 @@ struct Finders {
     none: u64,
 }
 
-// How many hops the answer has, 0 for none.
+/// Tells how many hops the answer has, 0 for none.
 fn hops_of(answer: Option<&Route>) -> u64 {
     match answer {
         Some(route) => route.contacts.len() as u64,
@@ -30,7 +30,7 @@ fn hops_of(answer: Option<&Route>) -> u64 {
     }
 }
 
-// So many looks for each contact of the plan.
+/// Gives so many looks for each contact of the plan.
 fn looks_at_each(plan: &Plan, times: u64) -> u64 {
     times.saturating_mul(plan.contacts().len() as u64)
 }
@@ -55,7 +55,7 @@ fn asked<F: BestOf<Global>>(
     Ok(answer)
 }
 
-// Without a limit on hops, `Settled` looks no more often than its answer needs.
+/// Tells whether `Settled`, where there is no limit on hops, looks no more often than its answer needs.
 fn is_cut(settled: &Settled, case: &Case, part: Part<'_>, answer: Option<&Route>) -> bool {
     let behind = hops_of(answer).saturating_sub(part.prefix.len() as u64);
     let most = looks_at_each(&case.plan, behind.saturating_mul(3).saturating_add(3));
@@ -72,7 +72,7 @@ impl Finders {
         }
     }
 
-    // Asks both for the least route of a part, and answers with which number it goes on behind the prefix.
+    /// Asks both for the least route of a part, and answers with which number it goes on behind the prefix.
     fn ask(&mut self, case: &Case, part: Part<'_>) -> Result<Option<u32>, Wrong> {
         asked(&mut self.layered, case, part)?;
         let answer = asked(&mut self.settled, case, part)?;
@@ -91,7 +91,7 @@ impl Finders {
         }
     }
 
-    // Asks for the least route, then for the least that goes on otherwise, and so on, a few times.
+    /// Asks for the least route, then for the least that goes on otherwise, and so on, a few times.
     fn ask_on(
         &mut self,
         case: &Case,

@@ -4,7 +4,7 @@ use sabr_model::Route;
 use sabr_search::Part;
 use std::alloc::Allocator;
 
-/// Whether the route begins with the prefix, is longer, and goes on with a number that isn't excluded.
+/// Tells whether the route begins with the prefix, is longer, and goes on with a number that isn't excluded.
 pub fn is_in<A: Allocator + Copy>(route: &Route<A>, part: Part<'_>) -> bool {
     let numbers = route.contacts.as_slice();
     match numbers.get(part.prefix.len()) {
@@ -13,7 +13,7 @@ pub fn is_in<A: Allocator + Copy>(route: &Route<A>, part: Part<'_>) -> bool {
     }
 }
 
-/// The first route of the listing that is in the part.
+/// Gives the first route of the listing that is in the part.
 pub fn least<'a, A: Allocator + Copy>(
     listing: &'a [Route<A>],
     part: Part<'_>,
@@ -21,7 +21,7 @@ pub fn least<'a, A: Allocator + Copy>(
     listing.iter().find(|route| is_in(route, part))
 }
 
-/// Whether two routes are the same, or both are none.
+/// Tells whether two routes are the same, or both are none.
 pub fn same<A: Allocator + Copy>(one: Option<&Route<A>>, other: Option<&Route<A>>) -> bool {
     match (one, other) {
         (Some(one), Some(other)) => one == other,

@@ -26,7 +26,7 @@ fn piece_drawn(draws: &mut Draws) -> usize {
     }
 }
 
-// Whether the session's text is that of its place.
+/// Tells whether the session's text is that of its place.
 fn has_its_text<B: Fresh>(
     alloc: Global,
     walk: &Walk<'_, '_, B>,
@@ -39,7 +39,7 @@ fn has_its_text<B: Fresh>(
     }
 }
 
-// Goes on with the session that is read from the text.
+/// Goes on with the session that is read from the text.
 fn read_again<B: Fresh>(
     alloc: Global,
     walk: &mut Walk<'_, '_, B>,
@@ -51,7 +51,7 @@ fn read_again<B: Fresh>(
     walk.go_on_with(session)
 }
 
-// A page or a step back, and in half the cases a passage through the text.
+/// Gives a page or a step back, and in half the cases a passage through the text.
 fn take_step<B: Fresh>(
     alloc: Global,
     walk: &mut Walk<'_, '_, B>,
@@ -68,7 +68,7 @@ fn take_step<B: Fresh>(
     Ok(())
 }
 
-// Steps as drawn, and then all that is left.
+/// Steps as drawn, and then all that is left.
 fn walk_about<B: Fresh>(
     alloc: Global,
     walk: &mut Walk<'_, '_, B>,
@@ -95,7 +95,7 @@ fn walk_case<B: Fresh>(
     walk_about(alloc, &mut walk, texts, draws)
 }
 
-// Whether `verify` says of the text what comparing it with the texts of all places says.
+/// Tells whether `verify` says of the text what comparing it with the texts of all places says.
 fn judge<B: Fresh>(
     alloc: Global,
     plan: &Plan,
@@ -110,7 +110,7 @@ fn judge<B: Fresh>(
     }
 }
 
-// Each text is judged as it is, and with one number changed.
+/// Judges each text as it is, and with one number changed.
 fn judge_texts<B: Fresh>(
     alloc: Global,
     plan: &Plan,
@@ -125,7 +125,7 @@ fn judge_texts<B: Fresh>(
     Ok(())
 }
 
-// Over another request's line a text is judged by the texts of that request's listing.
+/// Judges a text over another request's line by the texts of that request's listing.
 fn judge_under_another<B: Fresh>(
     alloc: Global,
     plan: &Plan,

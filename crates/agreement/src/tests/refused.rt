@@ -23,7 +23,7 @@ fn are_behind_two<A: Allocator + Copy>(routes: &[Route<A>]) -> Result<(), Wrong>
     if is_same { Ok(()) } else { Err(Wrong::Routes) }
 }
 
-// Asks for the page of three with one growth refused, and tells whether it was refused.
+/// Asks for the page of three with one growth refused, and tells whether it was refused.
 fn is_refused<B: BestOf<A>, A: Allocator + Copy>(
     session: &mut Session<'_, B, A>,
     ration: &Ration,
@@ -41,14 +41,14 @@ fn is_refused<B: BestOf<A>, A: Allocator + Copy>(
     }
 }
 
-// The session read from the text gives the page of three.
+/// Tells whether the session read from the text gives the page of three.
 fn goes_on<A: Allocator + Copy>(alloc: A, plan: &Plan<A>, text: &[u8]) -> Result<(), Wrong> {
     let mut again = session_of(alloc, plan, text, 4096, Settled::new(alloc))?;
     let given = again.page(3)?;
     are_behind_two(given.as_slice())
 }
 
-// A session of which the best two routes were given.
+/// Gives a session of which the best two routes were given.
 fn begun<'p, A: Allocator + Copy>(
     alloc: A,
     plan: &'p Plan<A>,
@@ -59,7 +59,7 @@ fn begun<'p, A: Allocator + Copy>(
     Ok(session)
 }
 
-// The text of a session, which is the same as that before.
+/// Gives the text of a session, which is the same as that before.
 fn same_text<B: BestOf<A>, A: Allocator + Copy>(
     alloc: Global,
     session: &Session<'_, B, A>,
@@ -73,8 +73,8 @@ fn same_text<B: BestOf<A>, A: Allocator + Copy>(
     }
 }
 
-// A page of three is asked for with one growth refused; where that is refused, the text is the same as before, and the
-// session read from it gives the three. Whether it was refused.
+/// Gives a page of three is asked for with one growth refused; where that is refused, the text is the same as before,
+/// and the session read from it gives the three. Whether it was refused.
 fn goes_on_behind_a_refusal<B: BestOf<A>, A: Allocator + Copy>(
     alloc: Global,
     rationed: A,

@@ -10,7 +10,7 @@ use sabr_search::{BestOf, Layered, Settled};
 use std::alloc::Global;
 use std::test::Fail;
 
-// A few pages and steps back as drawn, then all that is left, and back to the start.
+/// Gives a few pages and steps back as drawn, then all that is left, and back to the start.
 fn walk_about<B: BestOf<Global>>(
     walk: &mut Walk<'_, '_, B>,
     draws: &mut Draws,

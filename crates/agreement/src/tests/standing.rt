@@ -7,7 +7,7 @@ use sabr_model::Route;
 use sabr_search::{BestOf, Part};
 use std::alloc::Allocator;
 
-// How many numbers from the front two lists share.
+/// Tells how many numbers from the front two lists share.
 fn shared(one: &[u32], other: &[u32]) -> usize {
     let mut count = 0usize;
     for (number, against) in one.iter().zip(other.iter()) {
@@ -19,7 +19,7 @@ fn shared(one: &[u32], other: &[u32]) -> usize {
     count
 }
 
-// How many numbers from the front the route at a place shares with some route before it, at most.
+/// Tells how many numbers from the front the route at a place shares with some route before it, at most.
 fn shared_before<A: Allocator + Copy>(
     listing: &[Route<A>],
     place: usize,
@@ -32,8 +32,8 @@ fn shared_before<A: Allocator + Copy>(
     most
 }
 
-/// How many searches a page takes that gives the routes from one place to another: for each route one for each hop
-/// behind the prefix of the part that carried it, which is what it shares with a route before it.
+/// Tells how many searches a page takes that gives the routes from one place to another: for each route one for each
+/// hop behind the prefix of the part that carried it, which is what it shares with a route before it.
 pub fn searches_of<A: Allocator + Copy>(listing: &[Route<A>], start: usize, end: usize) -> u64 {
     let mut searches = 0u64;
     for (place, route) in listing.iter().enumerate().take(end).skip(start) {
@@ -44,8 +44,8 @@ pub fn searches_of<A: Allocator + Copy>(listing: &[Route<A>], start: usize, end:
     searches
 }
 
-// How many parts are left at a place: at first one, and then one for each beginning of a given route that is shorter
-// than it, each once.
+/// Tells how many parts are left at a place: at first one, and then one for each beginning of a given route that is
+/// shorter than it, each once.
 fn parts_at<A: Allocator + Copy>(listing: &[Route<A>], place: usize) -> usize {
     let mut parts = 1usize;
     for (former, route) in listing.iter().enumerate().take(place) {
@@ -56,7 +56,7 @@ fn parts_at<A: Allocator + Copy>(listing: &[Route<A>], place: usize) -> usize {
     parts
 }
 
-// Whether some given route begins with the prefix and goes on with the number.
+/// Tells whether some given route begins with the prefix and goes on with the number.
 fn goes_on<A: Allocator + Copy>(given: &[Route<A>], prefix: &[u32], number: u32) -> bool {
     given.iter().any(|route| {
         let numbers = route.contacts.as_slice();
@@ -64,7 +64,7 @@ fn goes_on<A: Allocator + Copy>(given: &[Route<A>], prefix: &[u32], number: u32)
     })
 }
 
-// Whether exactly those numbers are excluded, rising, with which given routes that begin with the prefix go on.
+/// Tells whether exactly those numbers are excluded, rising, with which given routes that begin with the prefix go on.
 fn excludes<A: Allocator + Copy>(given: &[Route<A>], part: Part<'_>) -> bool {
     let mut low = 0;
     for number in part.excluded {
@@ -91,7 +91,7 @@ fn part_stands<A: Allocator + Copy>(
         && same(view.route, least(listing, part))
 }
 
-// The parts rise by prefix, each is one of those that are left, and none is missing.
+/// Tells whether the parts rise by prefix, each is one of those that are left, and none is missing.
 fn parts_stand<B: BestOf<A>, A: Allocator + Copy>(
     session: &Session<'_, B, A>,
     listing: &[Route<A>],
@@ -109,7 +109,7 @@ fn parts_stand<B: BestOf<A>, A: Allocator + Copy>(
     count == parts_at(listing, place) && count == session.part_count()
 }
 
-// The numbers of the last route that was given, none where no route was.
+/// Gives the numbers of the last route that was given, none where no route was.
 fn last_at<A: Allocator + Copy>(listing: &[Route<A>], place: usize) -> &[u32] {
     match listing.iter().take(place).last() {
         Some(route) => route.contacts.as_slice(),
@@ -117,7 +117,7 @@ fn last_at<A: Allocator + Copy>(listing: &[Route<A>], place: usize) -> &[u32] {
     }
 }
 
-/// Whether the session shows what it has to show where so many routes were given.
+/// Tells whether the session shows what it has to show where so many routes were given.
 pub fn stands_at<B: BestOf<A>, A: Allocator + Copy>(
     session: &Session<'_, B, A>,
     listing: &[Route<A>],

@@ -29,7 +29,7 @@ impl Fresh for Layered {
     }
 }
 
-/// The text of a session.
+/// Gives the text of a session.
 pub fn text_of<B: BestOf<A>, A: Allocator + Copy>(
     alloc: Global,
     session: &Session<'_, B, A>,
@@ -42,7 +42,7 @@ pub fn text_of<B: BestOf<A>, A: Allocator + Copy>(
     }
 }
 
-/// The session of a text that is given so many bytes at a time.
+/// Gives the session of a text that is given so many bytes at a time.
 pub fn session_of<'p, B: BestOf<A>, A: Allocator + Copy>(
     alloc: A,
     plan: &'p Plan<A>,
@@ -58,7 +58,7 @@ pub fn session_of<'p, B: BestOf<A>, A: Allocator + Copy>(
     }
 }
 
-/// What `verify` says of a text that is given so many bytes at a time.
+/// Tells what `verify` says of a text that is given so many bytes at a time.
 pub fn is_verified<B: Fresh>(
     alloc: Global,
     plan: &Plan,
@@ -74,7 +74,7 @@ pub fn is_verified<B: Fresh>(
     }
 }
 
-/// The texts of all places of a listing, from place 0 on.
+/// Gives the texts of all places of a listing, from place 0 on.
 pub fn texts_of<B: Fresh>(
     alloc: Global,
     plan: &Plan,
@@ -92,7 +92,7 @@ pub fn texts_of<B: Fresh>(
     Err(Wrong::Setting)
 }
 
-/// Whether the bytes are one of the texts.
+/// Tells whether the bytes are one of the texts.
 pub fn is_among(texts: &[LimitedWriter], text: &[u8]) -> bool {
     texts.iter().any(|known| known.held() == text)
 }

@@ -33,7 +33,7 @@ fn are_those<A: Allocator + Copy>(
 }
 
 impl<'p, 'l, B: BestOf<A>, A: Allocator + Copy> Walk<'p, 'l, B, A> {
-    /// A walk with a session that was just started.
+    /// Makes a walk with a session that was just started.
     pub fn new(
         alloc: Global,
         session: Session<'p, B, A>,
@@ -50,7 +50,7 @@ impl<'p, 'l, B: BestOf<A>, A: Allocator + Copy> Walk<'p, 'l, B, A> {
         Ok(walk)
     }
 
-    /// Whether everything that the session shows is that of the place.
+    /// Tells whether everything that the session shows is that of the place.
     pub fn stands(&self) -> Result<(), Wrong> {
         if self.session.can_back() == self.former.is_empty() {
             return Err(Wrong::Back);
@@ -61,12 +61,12 @@ impl<'p, 'l, B: BestOf<A>, A: Allocator + Copy> Walk<'p, 'l, B, A> {
         stands_at(&self.session, self.listing, self.place)
     }
 
-    /// The session.
+    /// Gives the session.
     pub fn session(&self) -> &Session<'p, B, A> {
         &self.session
     }
 
-    /// How many routes of the list were given.
+    /// Tells how many routes of the list were given.
     pub fn place(&self) -> usize {
         self.place
     }

@@ -21,7 +21,7 @@ hop 1 contact 1 from 1 to 2 send 2030/01/01-00:00:00 arrive 2030/01/01-00:00:10\
 hop 2 contact 2 from 2 to 3 send 2030/01/01-00:00:20 arrive 2030/01/01-00:00:25\n\
 delivery 2030/01/01-00:00:25 hops 2 entry 2 until 2030/01/01-00:01:00 contacts 1 2\n";
 
-// From node 1 to node 3 at the reference of the plans.
+/// Asks from node 1 to node 3 at the reference of the plans.
 fn request() -> Request {
     Request::new(1, 3, 1893456000, 0).unwrap()
 }
@@ -230,8 +230,8 @@ fn a_failed_reader_is_told(rt: HostRuntime) -> Result<(), Fail> {
     Ok(())
 }
 
-// Runs over the plan and an old session with each request for memory refused in turn: the run tells that, and else the
-// answer is that with ample memory.
+/// Runs over the plan and an old session with each request for memory refused in turn: the run tells that, and else the
+/// answer is that with ample memory.
 fn refused_in_turn<R: Abort + AllocGlobal>(
     rt: &R,
     run: Run,

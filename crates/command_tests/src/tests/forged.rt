@@ -192,7 +192,7 @@ struct Given<'a> {
     end: End,
 }
 
-// Asserts that `next` tells this of the text, with this report or message.
+/// Asserts that `next` tells this of the text, with this report or message.
 fn next_tells<R: Abort + AllocGlobal>(
     rt: &R,
     given: Given<'_>,
@@ -226,7 +226,7 @@ fn next_tells<R: Abort + AllocGlobal>(
     Ok(())
 }
 
-// Asserts that `verify` tells this of the text.
+/// Asserts that `verify` tells this of the text.
 fn verify_tells<R: Abort + AllocGlobal>(
     rt: &R,
     given: Given<'_>,
@@ -249,7 +249,7 @@ fn verify_tells<R: Abort + AllocGlobal>(
     Ok(())
 }
 
-// Asserts that both runs refuse the text, in pieces of each size.
+/// Asserts that both runs refuse the text, in pieces of each size.
 fn refused<R: Abort + AllocGlobal>(
     rt: &R,
     plan: &str,

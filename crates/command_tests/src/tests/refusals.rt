@@ -186,7 +186,7 @@ const PLANS: [Refusal; 14] = [
     },
 ];
 
-// The run ended so, with this message alone.
+/// Tells whether the run ended so, with this message alone.
 fn told<R: Abort + AllocGlobal>(
     rt: &R,
     outcome: &Outcome,

@@ -13,7 +13,7 @@ use worked_plans::{
 
 const REQUEST: &str = "--from 1 --to 3 --at 2030/01/01-00:00:00";
 
-// Asserts that the run ended so, with this text on standard output and this message.
+/// Asserts that the run ended so, with this text on standard output and this message.
 fn told<R: Abort>(
     rt: &R,
     words: &str,
@@ -28,7 +28,7 @@ fn told<R: Abort>(
     Ok(())
 }
 
-// Asserts that the file holds a session text of these two parts.
+/// Asserts that the file holds a session text of these two parts.
 fn holds<R: Abort + AllocGlobal + Files>(
     rt: &R,
     file: &str,

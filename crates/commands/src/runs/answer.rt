@@ -8,7 +8,7 @@ use crate::failure::Failure;
 use sabr_model::{Write, WriteFault, write_text};
 use sabr_session::SessionFault;
 
-// Writes and flushes an answer as a line.
+/// Writes and flushes an answer as a line.
 fn write_answer<O: Write>(answer: bool, out: &mut O) -> Result<(), WriteFault>
     ensures text { WritesText (O.contents out.old) (O.failures out.old) (answer_line answer) result (O.contents out.new) (O.failures out.new) }
     ensures flushed { IfOk result (λ _. IsTrue (O.flushed out.new)) }

@@ -17,7 +17,7 @@ use sabr_model::{Plan, Read, Write, WriteFault};
 use sabr_plan::read_plan;
 use std::alloc::Allocator;
 
-// Writes and flushes the text of a check.
+/// Writes and flushes the text of a check.
 fn write_and_flush<O: Write, A: Allocator + Copy>(
     plan: &Plan<A>,
     out: &mut O,
@@ -32,7 +32,7 @@ fn write_and_flush<O: Write, A: Allocator + Copy>(
     Ok(())
 }
 
-// Tells what a plan holds.
+/// Tells what a plan holds.
 fn write_check<O: Write, A: Allocator + Copy>(plan: &Plan<A>, out: &mut O) -> Result<(), Failure>
     ensures { WritesCheck (Ok plan.now) result (O.contents out.old) (O.failures out.old) (O.contents out.new) (O.failures out.new) (O.flushed out.new) }
 {
@@ -40,7 +40,7 @@ fn write_check<O: Write, A: Allocator + Copy>(plan: &Plan<A>, out: &mut O) -> Re
     Ok(())
 }
 
-// Reads the plan and tells what it holds.
+/// Reads the plan and tells what it holds.
 fn read_and_write_check<P: Read, O: Write, A: Allocator + Copy>(
     alloc: A,
     plan: &mut P,

@@ -18,7 +18,7 @@ use sabr_model::{Plan, Read, Request, Write, WriteFault};
 use sabr_plan::read_plan;
 use std::alloc::Allocator;
 
-// Writes and flushes the explanation, and answers whether the contacts make a route.
+/// Writes and flushes the explanation, and answers whether the contacts make a route.
 fn write_and_flush<O: Write, A: Allocator + Copy>(
     plan: &Plan<A>,
     request: &Request,
@@ -36,7 +36,7 @@ fn write_and_flush<O: Write, A: Allocator + Copy>(
     Ok(is_route)
 }
 
-// Explains the contacts over the plan.
+/// Explains the contacts over the plan.
 fn explain<O: Write, A: Allocator + Copy>(
     plan: &Plan<A>,
     request: &Request,
@@ -49,7 +49,7 @@ fn explain<O: Write, A: Allocator + Copy>(
     Ok(is_route)
 }
 
-// Reads the plan and explains the contacts over it.
+/// Reads the plan and explains the contacts over it.
 fn read_and_explain<P: Read, O: Write, A: Allocator + Copy>(
     alloc: A,
     plan: &mut P,

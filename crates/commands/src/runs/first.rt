@@ -20,7 +20,7 @@ use sabr_plan::digest;
 use sabr_search::Settled;
 use std::alloc::Allocator;
 
-// Writes the first page of the listing over a plan.
+/// Writes the first page of the listing over a plan.
 fn write_first<O: Write, S: Write, A: Allocator + Copy>(
     alloc: A,
     plan: &Plan<A>,
@@ -41,7 +41,7 @@ fn write_first<O: Write, S: Write, A: Allocator + Copy>(
     write_page(listing, count, out, digest, session)
 }
 
-// Reads the plan and writes the first page of its listing.
+/// Reads the plan and writes the first page of its listing.
 fn read_and_write_first<P: Read, O: Write, S: Write, A: Allocator + Copy>(
     alloc: A,
     plan: &mut P,

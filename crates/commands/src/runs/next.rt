@@ -21,7 +21,7 @@ use sabr_search::Settled;
 use sabr_session::read_session;
 use std::alloc::Allocator;
 
-// Reads an old session over a plan, and writes the next page of it.
+/// Reads an old session over a plan, and writes the next page of it.
 fn write_next<I: Read, O: Write, S: Write, A: Allocator + Copy>(
     alloc: A,
     plan: &Plan<A>,
@@ -44,7 +44,7 @@ fn write_next<I: Read, O: Write, S: Write, A: Allocator + Copy>(
     write_page(listing, count, out, keep, session)
 }
 
-// Reads the plan, and then the old session over it, and writes the next page of that.
+/// Reads the plan, and then the old session over it, and writes the next page of that.
 fn read_and_write_next<P: Read, I: Read, O: Write, S: Write, A: Allocator + Copy>(
     alloc: A,
     plan: &mut P,

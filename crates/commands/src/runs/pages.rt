@@ -16,7 +16,7 @@ use sabr_search::BestOf;
 use sabr_session::{write_report, write_session};
 use std::alloc::Allocator;
 
-// Writes and flushes the report of a page.
+/// Writes and flushes the report of a page.
 fn send_report<O: Write, A: Allocator + Copy>(
     routes: &[Route<A>],
     first_rank: u128,
@@ -35,7 +35,7 @@ fn send_report<O: Write, A: Allocator + Copy>(
     Ok(())
 }
 
-// Writes and flushes the text of a session.
+/// Writes and flushes the text of a session.
 fn send_session<S: Write, B: BestOf<A>, A: Allocator + Copy>(
     listing: &Session<'_, B, A>,
     digest: &[u8; 32],

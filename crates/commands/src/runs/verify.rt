@@ -20,7 +20,7 @@ use sabr_search::Settled;
 use sabr_session::verify;
 use std::alloc::Allocator;
 
-// Reads the plan, verifies the old session over it, and tells the answer.
+/// Reads the plan, verifies the old session over it, and tells the answer.
 fn read_and_verify<P: Read, I: Read, O: Write, A: Allocator + Copy>(
     alloc: A,
     plan: &mut P,

@@ -11,7 +11,7 @@ use sabr_model::{Plan, Write, WriteFault, write_text};
 use sabr_plan::digest;
 use std::alloc::Allocator;
 
-// Counts the standing contacts that have no light time at their start.
+/// Counts the standing contacts that have no light time at their start.
 fn without_light<A: Allocator + Copy>(plan: &Plan<A>) -> usize
     ensures { result ≡ length (without_light plan.now.plan) }
 {
@@ -21,7 +21,7 @@ fn without_light<A: Allocator + Copy>(plan: &Plan<A>) -> usize
         .count()
 }
 
-// Spells the plan's digest as 64 hex digits in lower case.
+/// Spells the plan's digest as 64 hex digits in lower case.
 fn digest_digits<A: Allocator + Copy>(plan: &Plan<A>) -> [u8; 64]
     ensures { result ≡ digest_digits plan.now.plan }
 {
@@ -30,7 +30,7 @@ fn digest_digits<A: Allocator + Copy>(plan: &Plan<A>) -> [u8; 64]
     digits
 }
 
-// Writes the lines of the counts.
+/// Writes the lines of the counts.
 fn write_counts<W: Write, A: Allocator + Copy>(
     plan: &Plan<A>,
     writer: &mut W,

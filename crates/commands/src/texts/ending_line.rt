@@ -16,7 +16,7 @@ use std::alloc::Allocator;
 /// The last second of the year 9998, after which no contact ends.
 const LAST_TIME: u64 = 253370764799;
 
-// Puts the line of a fault at a place.
+/// Puts the line of a fault at a place.
 fn put_refusal<W: Write>(
     text: &mut TextBuffer,
     writer: &mut W,
@@ -31,7 +31,7 @@ fn put_refusal<W: Write>(
     text.put(writer, b"\n")
 }
 
-// Puts the line of a fault.
+/// Puts the line of a fault.
 fn put_fault<W: Write>(
     text: &mut TextBuffer,
     writer: &mut W,
@@ -52,7 +52,7 @@ fn put_fault<W: Write>(
     }
 }
 
-// Takes the lesser of a second and the end of the contact of a number.
+/// Takes the lesser of a second and the end of the contact of a number.
 fn sooner_end<A: Allocator + Copy>(plan: &Plan<A>, until: u64, number: u32) -> u64
     ensures { result ≡ option_map_or (λ c. min until c.end) (contact_named plan.now.plan number) until }
 {
@@ -62,7 +62,7 @@ fn sooner_end<A: Allocator + Copy>(plan: &Plan<A>, until: u64, number: u32) -> u
     }
 }
 
-// Finds the least end of the contacts of these numbers.
+/// Finds the least end of the contacts of these numbers.
 fn until_of<A: Allocator + Copy>(plan: &Plan<A>, contacts: &[u32]) -> u64
     ensures { result ≡ until_of plan.now.plan contacts.now }
 {
@@ -73,7 +73,7 @@ fn until_of<A: Allocator + Copy>(plan: &Plan<A>, contacts: &[u32]) -> u64
     until
 }
 
-// Finds the receiver of the first of these contacts, 0 where there is none.
+/// Finds the receiver of the first of these contacts, 0 where there is none.
 fn entry_of<A: Allocator + Copy>(plan: &Plan<A>, contacts: &[u32]) -> u64
     ensures { result ≡ entry_of plan.now.plan contacts.now }
 {

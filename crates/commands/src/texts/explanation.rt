@@ -13,7 +13,7 @@ use sabr_model::{HopFault, Plan, Request, Write, WriteFault, follow};
 use sabr_session::TextBuffer;
 use std::alloc::Allocator;
 
-// Counts how many of so many hops come before a fault. Places count from 1.
+/// Counts how many of so many hops come before a fault. Places count from 1.
 fn hops_before(fault: HopFault, hops: usize) -> usize
     ensures { result ≡ hops_before fault hops }
 {
@@ -29,7 +29,7 @@ fn hops_before(fault: HopFault, hops: usize) -> usize
     }
 }
 
-// Follows the whole list, and tells the hops before the first fault.
+/// Follows the whole list, and tells the hops before the first fault.
 fn followed<'a, A: Allocator + Copy>(
     plan: &Plan<A>,
     request: &Request,

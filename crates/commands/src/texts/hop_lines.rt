@@ -12,7 +12,7 @@ use sabr_model::{Contact, Plan, Request, Write, WriteFault, arrive};
 use sabr_session::{TextBuffer, put_number, put_time};
 use std::alloc::Allocator;
 
-// Puts the line of a hop. Times are seconds from the beginning of 1970.
+/// Puts the line of a hop. Times are seconds from the beginning of 1970.
 fn put_hop_line<W: Write>(
     text: &mut TextBuffer,
     writer: &mut W,
@@ -33,7 +33,7 @@ fn put_hop_line<W: Write>(
     text.put(writer, b"\n")
 }
 
-// Puts the line of the number that follows `front`, where a bundle arrives at `at`. Answers when it arrives next.
+/// Puts the line of the number that follows `front`, where a bundle arrives at `at`. Answers when it arrives next.
 fn put_hop<W: Write, A: Allocator + Copy>(
     text: &mut TextBuffer,
     writer: &mut W,

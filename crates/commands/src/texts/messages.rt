@@ -12,7 +12,7 @@ use sabr_model::{Write, WriteFault, write_text};
 use sabr_plan::{PlanFault, PlanKind};
 use sabr_session::SessionFault;
 
-// Names the kind of a bad line.
+/// Names the kind of a bad line.
 fn kind_text(kind: PlanKind) -> &'static str
     ensures { result.now ≡ kind_text kind }
 {
@@ -50,7 +50,7 @@ pub fn write_texts<W: Write>(writer: &mut W, texts: &[&str]) -> Result<(), Write
     Ok(())
 }
 
-// Writes the message of a bad line of a plan.
+/// Writes the message of a bad line of a plan.
 fn write_plan_line<W: Write>(writer: &mut W, fault: PlanFault) -> Result<(), WriteFault>
     ensures { WritesText (W.contents writer.old) (W.failures writer.old) (message_text (Failure.PlanLine fault)) result (W.contents writer.new) (W.failures writer.new) }
 {
@@ -60,7 +60,7 @@ fn write_plan_line<W: Write>(writer: &mut W, fault: PlanFault) -> Result<(), Wri
     write_texts(writer, &["cgrlist: plan line ", line, ": ", kind, "\n"])
 }
 
-// Names a fault of a session.
+/// Names a fault of a session.
 fn session_kind_text(fault: SessionFault) -> &'static str
     ensures { result.now ≡ session_kind_text fault }
 {
@@ -77,7 +77,7 @@ fn session_kind_text(fault: SessionFault) -> &'static str
     }
 }
 
-// Tells the line that a fault of a session names, counted from 1.
+/// Tells the line that a fault of a session names, counted from 1.
 fn session_line(fault: SessionFault) -> Option<u128>
     ensures { result ≡ session_line fault }
 {
@@ -87,7 +87,7 @@ fn session_line(fault: SessionFault) -> Option<u128>
     }
 }
 
-// Writes the message of a refused session.
+/// Writes the message of a refused session.
 fn write_session_fault<W: Write>(writer: &mut W, fault: SessionFault) -> Result<(), WriteFault>
     ensures { WritesText (W.contents writer.old) (W.failures writer.old) (session_message fault) result (W.contents writer.new) (W.failures writer.new) }
 {
@@ -100,7 +100,7 @@ fn write_session_fault<W: Write>(writer: &mut W, fault: SessionFault) -> Result<
     write_texts(writer, &["cgrlist: session line ", line, ": ", kind, "\n"])
 }
 
-// Writes a failure's message.
+/// Writes a failure's message.
 fn write_message<W: Write>(writer: &mut W, failure: Failure) -> Result<(), WriteFault>
     ensures { WritesText (W.contents writer.old) (W.failures writer.old) (message_text failure) result (W.contents writer.new) (W.failures writer.new) }
 {

@@ -5,7 +5,7 @@ ghost use Rattle.std.specs.List.{position};
 ghost use Rattle.std.specs.Option.{option_copied};
 ghost use Rattle.commands.specs.words.Lists.{pieces_of, pieces_behind};
 
-// Finds the first comma.
+/// Finds the first comma.
 fn comma(text: &[u8]) -> Option<usize>
     ensures { result ≡ position (λ b. b == 44) text.now }
 {

@@ -61,7 +61,7 @@ pub fn number_given(
     number_within(text, low, high).ok_or(Failure::BadValue(name))
 }
 
-// Reads a number from `low` to `high` that may be left out.
+/// Reads a number from `low` to `high` that may be left out.
 fn number_or(
     matches: &ArgMatches<'_>,
     name: ValueName,
@@ -79,7 +79,7 @@ fn number_or(
     number_within(text, low, high).ok_or(Failure::BadValue(name))
 }
 
-// Reads when the bundle is at the source.
+/// Reads when the bundle is at the source.
 fn time_given(matches: &ArgMatches<'_>) -> Result<u64, Failure>
     ensures value { result ≡ value_of time_of (found_of matches.now) ValueName.At }
     ensures range { IfOk result (λ t. t ≤ last_time) }
@@ -89,7 +89,7 @@ fn time_given(matches: &ArgMatches<'_>) -> Result<u64, Failure>
     parse_time(text).ok_or(bad)
 }
 
-// Reads the nodes to avoid.
+/// Reads the nodes to avoid.
 fn avoided(matches: &ArgMatches<'_>) -> Result<NodeList, Failure>
     ensures { result ≡ value_or [] nodes_listed (found_of matches.now) ValueName.Avoid }
 {
@@ -99,7 +99,7 @@ fn avoided(matches: &ArgMatches<'_>) -> Result<NodeList, Failure>
     nodes_listed(text).ok_or(Failure::BadValue(ValueName::Avoid))
 }
 
-// Reads the limits, behind the values of a request without limits.
+/// Reads the limits, behind the values of a request without limits.
 #[tactic(auto, unfolding(crate::specs::words::Values::limits_of))]
 fn with_limit_words(
     from: u64,

@@ -27,7 +27,7 @@ pub struct Values<A: Allocator + Copy = Global> {
     pub contacts: Numbers<A>,
 }
 
-// Reads the words of a request, where the command has them.
+/// Reads the words of a request, where the command has them.
 #[tactic(auto, unfolding(crate::specs::words::Values::words_where_asked))]
 fn words_where_asked(
     command: CommandName,
@@ -45,7 +45,7 @@ fn words_where_asked(
     Ok(Some(words))
 }
 
-// Reads the count of routes, where the command has one.
+/// Reads the count of routes, where the command has one.
 #[tactic(auto, unfolding(crate::specs::words::Values::count_where_asked))]
 fn count_where_asked(command: CommandName, matches: &ArgMatches<'_>) -> Result<Option<u32>, Failure>
     ensures value { result ≡ count_where_asked command (found_of matches.now) }
@@ -59,7 +59,7 @@ fn count_where_asked(command: CommandName, matches: &ArgMatches<'_>) -> Result<O
     Ok(Some(count as u32))
 }
 
-// Reads the contacts, where the command has them.
+/// Reads the contacts, where the command has them.
 #[tactic(auto, unfolding(crate::specs::words::Values::contacts_where_asked))]
 fn contacts_where_asked<A: Allocator + Copy>(
     alloc: A,
@@ -78,7 +78,7 @@ fn contacts_where_asked<A: Allocator + Copy>(
     contacts_listed(alloc, text)?.ok_or(bad)
 }
 
-// Makes the request of words that are there.
+/// Makes the request of words that are there.
 #[tactic(auto, unfolding(crate::specs::words::Values::request_where_asked))]
 fn request_where_asked(words: &Option<RequestWords>) -> Result<Option<Request>, Failure>
     requires { IfSome words.now IsInRange }

@@ -16,14 +16,14 @@ impl Model for FlushMark {
 }
 
 impl FlushMark {
-    /// Something may be held back.
+    /// Notes that something may be held back.
     pub fn pending() -> FlushMark
         ensures { result.flushed ≡ false }
     {
         FlushMark {}
     }
 
-    /// All was flushed.
+    /// Notes that all was flushed.
     pub fn done() -> FlushMark
         ensures { result.flushed ≡ true }
     {

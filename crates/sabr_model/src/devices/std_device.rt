@@ -17,7 +17,7 @@ pub struct Device<T> {
 }
 
 impl<T> Device<T> {
-    /// The reader or writer as a device, with no failure and no flush so far.
+    /// Makes the reader or writer as a device, with no failure and no flush so far.
     pub fn new(inner: T) -> Device<T>
         ensures inner { result.inner ≡ inner }
         ensures failures { result.failures.count ≡ 0 }

@@ -15,7 +15,7 @@ use crate::node_table::note_contact;
 use std::alloc::{AllocError, Allocator};
 
 impl<A: Allocator + Copy> Plan<A> {
-    /// Why a contact would be refused, unless memory is short.
+    /// Tells why a contact would be refused, unless memory is short.
     fn contact_refusal(&self, from: u64, to: u64, start: u64, end: u64) -> Option<AddFault>
         ensures { result ≡ contact_refusal self.now.plan from to start end }
     {
@@ -25,7 +25,7 @@ impl<A: Allocator + Copy> Plan<A> {
         refusal((from, to), (start, end), clashes, clash, given)
     }
 
-    /// Whether a contact with this sender, receiver and start stands.
+    /// Tells whether a contact with this sender, receiver and start stands.
     fn has_opening(&self, from: u64, to: u64, start: u64) -> bool
         ensures { result ≡ list_any (opens from to start) self.now.plan.contacts }
     {

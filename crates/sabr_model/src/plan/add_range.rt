@@ -14,7 +14,7 @@ use crate::fault::AddFault;
 use std::alloc::{AllocError, Allocator};
 
 impl<A: Allocator + Copy> Plan<A> {
-    /// Why a range would be refused, unless memory is short.
+    /// Tells why a range would be refused, unless memory is short.
     fn range_refusal(&self, range: &Range) -> Option<AddFault>
         ensures { result ≡ range_refusal self.now.plan range.now }
     {

@@ -9,8 +9,8 @@ use crate::contact::Contact;
 use crate::request::Request;
 use std::alloc::Allocator;
 
-/// The second at which a bundle that is at the contact's sender at `t` arrives at its receiver (CCSDS 734.3-B-1: earliest
-/// transmission time, one-way light time and margin); none where it is too late or no light time is known.
+/// Gives the second at which a bundle that is at the contact's sender at `t` arrives at its receiver (CCSDS 734.3-B-1:
+/// earliest transmission time, one-way light time and margin); none where it is too late or no light time is known.
 pub fn arrive<A: Allocator + Copy>(
     plan: &Plan<A>,
     request: &Request,
@@ -24,7 +24,7 @@ pub fn arrive<A: Allocator + Copy>(
     arrive_by_light(request, t, contact, light)
 }
 
-/// The same over a contact of this light time; none where it is too late.
+/// Does the same over a contact of this light time; none where it is too late.
 pub fn arrive_by_light(request: &Request, t: u64, contact: &Contact, light: u32) -> Option<u64>
     requires end { contact.now.end ≤ last_time }
     requires light { light ≤ 1000000 }

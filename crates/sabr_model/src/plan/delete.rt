@@ -54,7 +54,7 @@ impl<A: Allocator + Copy> Plan<A> {
     }
 }
 
-/// The contact with this sender, receiver and start.
+/// Gives the contact with this sender, receiver and start.
 pub fn contact_of_opening(contacts: &[Contact], from: u64, to: u64, start: u64) -> Option<&Contact>
     ensures { option_copied result ≡ find (opens from to start) contacts.now }
 {

@@ -17,7 +17,7 @@ pub struct Ends {
     pub to: usize,
 }
 
-/// The ends of each contact.
+/// Gives the ends of each contact.
 pub fn ends_of_contacts<A: Allocator + Copy>(
     alloc: A,
     contacts: &[Contact],
@@ -35,7 +35,7 @@ pub fn ends_of_contacts<A: Allocator + Copy>(
     Ok(ends)
 }
 
-/// The ends of a contact of the table.
+/// Gives the ends of a contact of the table.
 fn ends_of_contact<A: Allocator + Copy>(contact: &Contact, table: &NodeTable<A>) -> Ends
     requires from { IsTrue (has contact.now.from (keys table.now)) }
     requires to { IsTrue (has contact.now.to (keys table.now)) }
@@ -47,7 +47,7 @@ fn ends_of_contact<A: Allocator + Copy>(contact: &Contact, table: &NodeTable<A>)
     }
 }
 
-/// The index of a node of the table.
+/// Gives the index of a node of the table.
 pub fn index_of<A: Allocator + Copy>(table: &NodeTable<A>, node: u64) -> usize
     requires { IsTrue (has node (keys table.now)) }
     ensures { slice_get (keys table.now) result ≡ Some node }

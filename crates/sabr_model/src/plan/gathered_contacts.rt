@@ -40,7 +40,7 @@ impl<A: Allocator + Copy> Model for GatheredContacts<A> {
 }
 
 impl<A: Allocator + Copy> GatheredContacts<A> {
-    /// No contact. It takes no memory.
+    /// Begins with no contact. It takes no memory.
     pub fn new(alloc: A) -> GatheredContacts<A>
         ensures { result ≡ record { contacts = []; ranges = []; greatest = 0 } }
     {
@@ -76,7 +76,7 @@ impl<A: Allocator + Copy> GatheredContacts<A> {
         self.put(from, to, start, end, rate)
     }
 
-    /// Why a contact is refused, where it is.
+    /// Tells why a contact is refused, where it is.
     fn fault(&self, from: u64, to: u64, start: u64, end: u64) -> AddFault
         ensures { result ≡ unwrap_or (contact_refusal self.now from to start end) NoMemory }
     {
@@ -86,7 +86,7 @@ impl<A: Allocator + Copy> GatheredContacts<A> {
         refusal((from, to), (start, end), clashes, clash, given).unwrap_or(AddFault::NoMemory)
     }
 
-    /// Whether one of the contacts has this sender, receiver and start.
+    /// Tells whether one of the contacts has this sender, receiver and start.
     fn has_opening(&self, from: u64, to: u64, start: u64) -> bool
         ensures { result ≡ list_any (opens from to start) self.now.contacts }
     {
@@ -149,7 +149,7 @@ impl<A: Allocator + Copy> GatheredContacts<A> {
         Ok(number)
     }
 
-    /// The contacts by number, and the greatest number that was given. It takes no memory.
+    /// Gives the contacts by number, and the greatest number that was given. It takes no memory.
     pub fn into_contacts(self) -> (Vec<Contact, A>, u32)
         ensures contacts { result.0.items ≡ self.contacts }
         ensures greatest { result.1 ≡ self.greatest }

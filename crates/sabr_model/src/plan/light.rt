@@ -14,7 +14,8 @@ use crate::contact::{Contact, Range};
 use std::alloc::Allocator;
 
 impl<A: Allocator + Copy> Plan<A> {
-    /// The one-way light time in seconds, 0 to 1000000, in force at the contact's start; none where no range gives one.
+    /// Gives the one-way light time in seconds, 0 to 1000000, in force at the contact's start; none where no range
+    /// gives one.
     ///
     /// A range from the greater node to the lesser holds that way alone, and there it wins over one that holds both ways
     /// (this project's profile). It takes a halving or two of the ranges.
@@ -25,7 +26,7 @@ impl<A: Allocator + Copy> Plan<A> {
         light_of_contact(&self.ranges, contact)
     }
 
-    /// The standing contact of a number, and its light time. No range is read where the plan is ready.
+    /// Gives the standing contact of a number, and its light time. No range is read where the plan is ready.
     pub(crate) fn contact_with_light(&self, number: u32) -> Option<(&Contact, Option<u32>)>
         ensures contact { MatchOption result (contact_named self.now.plan number ≡ None) (λ x. contact_named self.now.plan number ≡ Some x.0.now) }
         ensures light { IfSome result (λ x. x.1 ≡ light_of self.now.plan x.0.now) }
@@ -36,7 +37,7 @@ impl<A: Allocator + Copy> Plan<A> {
         Some((contact, self.light_at(place, contact)))
     }
 
-    /// The light time of the contact at a place.
+    /// Gives the light time of the contact at a place.
     fn light_at(&self, place: usize, contact: &Contact) -> Option<u32>
         requires within { place < length self.now.plan.contacts }
         requires there { contact.now ≡ slice_index_or self.now.plan.contacts place contact.now }
@@ -50,7 +51,7 @@ impl<A: Allocator + Copy> Plan<A> {
     }
 }
 
-/// The light time that ranges give a contact.
+/// Gives the light time that ranges give a contact.
 pub fn light_of_contact(ranges: &[Range], contact: &Contact) -> Option<u32>
     requires { IsRangeList ranges.now }
     ensures { result ≡ light_of (record { contacts = []; ranges = ranges.now; greatest = 0 }) contact.now }
@@ -64,7 +65,8 @@ pub fn light_of_contact(ranges: &[Range], contact: &Contact) -> Option<u32>
     }
 }
 
-/// The light time that ranges give a contact, where those from its sender and from its receiver stand in these stretches.
+/// Gives the light time that ranges give a contact, where those from its sender and from its receiver stand in these
+/// stretches.
 pub fn light_in_stretches(
     ranges: &[Range],
     of_sender: Stretch,

@@ -27,7 +27,7 @@ pub struct NodeLinks<A: Allocator + Copy> {
 }
 
 impl<A: Allocator + Copy> Plan<A> {
-    /// The links of the node at an index of the table; none where the plan isn't ready.
+    /// Gives the links of the node at an index of the table; none where the plan isn't ready.
     pub fn links(&self, index: usize) -> Option<Links<'_>>
         requires { index < length self.now.table }
         ensures { IfSome result (λ l. (node : ℕ) → slice_get self.now.table index ≡ Some node → AreLinksOf self.now node l.links.now l.passes.now) }
@@ -44,7 +44,7 @@ impl<A: Allocator + Copy> Plan<A> {
         }
     }
 
-    /// The links to the node at an index of the table, each with its sender; none where the plan isn't ready.
+    /// Gives the links to the node at an index of the table, each with its sender; none where the plan isn't ready.
     pub fn senders(&self, index: usize) -> Option<Senders<'_, A>>
         requires { index < length self.now.table }
         ensures { IfSome result (λ s. (node : ℕ) → slice_get self.now.table index ≡ Some node → AreLinksTo self.now node s) }

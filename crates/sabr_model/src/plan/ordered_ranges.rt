@@ -38,7 +38,7 @@ impl<A: Allocator + Copy> Model for OrderedRanges<A> {
 }
 
 impl<A: Allocator + Copy> OrderedRanges<A> {
-    /// No range. It takes no memory.
+    /// Begins with no range. It takes no memory.
     pub fn new(alloc: A) -> OrderedRanges<A>
         ensures { result ≡ [] }
     {
@@ -48,14 +48,14 @@ impl<A: Allocator + Copy> OrderedRanges<A> {
         }
     }
 
-    /// How many there are.
+    /// Tells how many there are.
     pub fn len(&self) -> usize
         ensures { result ≡ length self.now }
     {
         self.ranges.len()
     }
 
-    /// Whether one of the ranges holds at some second of a range of the same ordered pair.
+    /// Tells whether one of the ranges holds at some second of a range of the same ordered pair.
     pub fn overlaps(&self, range: &Range) -> bool
         ensures { result ≡ list_any (overlap range.now) self.now }
     {
@@ -105,7 +105,7 @@ impl<A: Allocator + Copy> OrderedRanges<A> {
         Ok(())
     }
 
-    /// The ranges as a list.
+    /// Gives the ranges as a list.
     pub fn into_list(self) -> Vec<Range, A>
         ensures { result.items ≡ self }
     {

@@ -70,7 +70,7 @@ impl<A: Allocator + Copy> Plan<A> {
     }
 }
 
-/// The hop of a contact of the table.
+/// Gives the hop of a contact of the table.
 pub fn hop_of_contact<A: Allocator + Copy>(
     contact: &Contact,
     ranges: &[Range],
@@ -109,7 +109,7 @@ fn fill<A: Allocator + Copy>(
     fill_hops(hops, contacts, &ends, ranges, &stretches, table)
 }
 
-/// The ends of each contact: those that are known, or else all looked up.
+/// Gives the ends of each contact: those that are known, or else all looked up.
 fn all_ends<A: Allocator + Copy>(
     alloc: A,
     known: Vec<Ends, A>,
@@ -150,7 +150,7 @@ fn fill_hops<A: Allocator + Copy>(
     Ok(())
 }
 
-/// The hop of a contact between its ends.
+/// Gives the hop of a contact between its ends.
 fn hop_between<A: Allocator + Copy>(
     contact: &Contact,
     ends: Ends,

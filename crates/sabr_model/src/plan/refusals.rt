@@ -8,7 +8,7 @@ use crate::fault::AddFault;
 /// So many numbers of contacts are given, and so many ranges stand.
 const LIMIT: usize = 20000;
 
-/// The least refusal of a contact or a range between two nodes, over a window, unless memory is short: `clash`
+/// Gives the least refusal of a contact or a range between two nodes, over a window, unless memory is short: `clash`
 /// where another clashes with it, `TooMany` where the count is at the limit.
 pub fn refusal(
     nodes: (u64, u64),

@@ -19,7 +19,7 @@ pub struct Stretch {
     pub end: usize,
 }
 
-/// By index of the table the stretch of the ranges that are written from each node.
+/// Gives by index of the table the stretch of the ranges that are written from each node.
 pub fn stretches_of<A: Allocator + Copy>(
     alloc: A,
     ranges: &[Range],
@@ -41,7 +41,7 @@ pub fn stretches_of<A: Allocator + Copy>(
     Ok(stretches)
 }
 
-/// The place behind those from `first` on that are written from its node.
+/// Gives the place behind those from `first` on that are written from its node.
 fn end_of_run(ranges: &[Range], first: usize) -> usize
     requires { first < length ranges.now }
     ensures behind { first < result }
@@ -56,7 +56,7 @@ fn end_of_run(ranges: &[Range], first: usize) -> usize
     end
 }
 
-/// A stretch, and a run of ranges behind it.
+/// Makes a stretch, and a run of ranges behind it.
 fn with_run(stretch: Stretch, first: usize, end: usize) -> Stretch
     ensures { result ≡ record { first = if stretch.end == 0 then first else stretch.first; end = end } }
 {
@@ -70,7 +70,8 @@ fn with_run(stretch: Stretch, first: usize, end: usize) -> Stretch
     }
 }
 
-/// The light time of the range of this ordered pair that is in force at `t`, where the ranges from `one` stand in the stretch.
+/// Gives the light time of the range of this ordered pair that is in force at `t`, where the ranges from `one` stand in
+/// the stretch.
 pub fn light_in_stretch(
     ranges: &[Range],
     stretch: Stretch,

@@ -10,7 +10,7 @@ use crate::contact::{Contact, Range};
 use std::alloc::Allocator;
 
 impl<A: Allocator + Copy> Plan<A> {
-    /// The standing contacts by number.
+    /// Gives the standing contacts by number.
     pub fn contacts(&self) -> &[Contact]
         ensures value { result.now ≡ self.now.plan.contacts }
         ensures rules { IsPlan self.now.plan }
@@ -18,21 +18,21 @@ impl<A: Allocator + Copy> Plan<A> {
         &self.contacts
     }
 
-    /// The standing ranges by (one, other, start).
+    /// Gives the standing ranges by (one, other, start).
     pub fn ranges(&self) -> &[Range]
         ensures { result.now ≡ self.now.plan.ranges }
     {
         &self.ranges
     }
 
-    /// The greatest number that a contact was ever given, 0 at first.
+    /// Gives the greatest number that a contact was ever given, 0 at first.
     pub fn greatest(&self) -> u32
         ensures { result ≡ self.now.plan.greatest }
     {
         self.greatest
     }
 
-    /// The standing contact of a number; none for a number that was never given, or whose contact was deleted.
+    /// Gives the standing contact of a number; none for a number that was never given, or whose contact was deleted.
     pub fn contact(&self, number: u32) -> Option<&Contact>
         ensures { option_copied result ≡ contact_named self.now.plan number }
     {

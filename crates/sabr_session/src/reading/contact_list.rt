@@ -21,7 +21,7 @@ pub(crate) struct ListEnd<'a> {
     pub(crate) rest: Option<&'a [u8]>,
 }
 
-/// Whether the list is `-`: then its end.
+/// Tells whether the list is `-`: then its end.
 fn dash_to_slash(text: &[u8]) -> Option<ListEnd<'_>>
     ensures { MatchOption result (is_dash (before_slash (words_of text.now)) ≡ false) (λ e. (is_dash (before_slash (words_of text.now)) ≡ true) × (e.stopped ≡ list_any is_slash (words_of text.now)) × (words_behind (option_copied e.rest) ≡ after_slash (words_of text.now))) }
 {

@@ -5,7 +5,7 @@ ghost use Rattle.sabr_plan.specs.Numbers.{number_within};
 
 use itoa::Buffer;
 
-/// The number that the text spells, decimal without a sign or leading zero, up to the greatest count.
+/// Gives the number that the text spells, decimal without a sign or leading zero, up to the greatest count.
 fn spelled_count(text: &[u8]) -> Option<u128>
     ensures value { IfSome result (λ n. text.now ≡ decimal n) }
     ensures finds { IfNone result ((n : ℕ) → n < 2 ^ 128 → text.now ≡ decimal n → ⊥) }
@@ -24,7 +24,7 @@ fn spelled_count(text: &[u8]) -> Option<u128>
     }
 }
 
-/// The number that the text spells, decimal without a sign or leading zero, up to
+/// Gives the number that the text spells, decimal without a sign or leading zero, up to
 /// 340282366920938463463374607431768211455.
 pub(crate) fn count_within(text: &[u8]) -> Option<u128>
     ensures { result ≡ number_within 0 340282366920938463463374607431768211455 text.now }

@@ -23,7 +23,7 @@ pub(crate) enum Version {
     Two,
 }
 
-/// What stands behind the label, where the text begins with it.
+/// Tells what stands behind the label, where the text begins with it.
 pub(crate) fn behind_label<'a>(label: &[u8], text: &'a [u8]) -> Option<&'a [u8]>
     ensures { option_copied result ≡ behind_label label.now text.now }
 {
@@ -34,7 +34,7 @@ pub(crate) fn behind_label<'a>(label: &[u8], text: &'a [u8]) -> Option<&'a [u8]>
     if front == label { Some(back) } else { None }
 }
 
-/// The version that `cgr-session 1` or `cgr-session 2` names.
+/// Gives the version that `cgr-session 1` or `cgr-session 2` names.
 pub(crate) fn header_of(line: &[u8]) -> Option<Version>
     ensures { result ≡ header_of line.now }
 {
@@ -47,21 +47,21 @@ pub(crate) fn header_of(line: &[u8]) -> Option<Version>
     None
 }
 
-/// Whether a byte is `0` to `9` or `a` to `f`.
+/// Tells whether a byte is `0` to `9` or `a` to `f`.
 fn is_digest_digit(byte: u8) -> bool
     ensures { result ≡ is_digest_digit byte }
 {
     (48 <= byte && byte <= 57) || (97 <= byte && byte <= 102)
 }
 
-/// Whether all bytes are `0` to `9` or `a` to `f`.
+/// Tells whether all bytes are `0` to `9` or `a` to `f`.
 fn are_digest_digits(text: &[u8]) -> bool
     ensures { result ≡ list_all is_digest_digit text.now }
 {
     text.iter().all(|byte| is_digest_digit(*byte))
 }
 
-/// The digits that `plan H` names.
+/// Gives the digits that `plan H` names.
 pub(crate) fn digest_named(line: &[u8]) -> Option<&[u8]>
     ensures { option_copied result ≡ digest_named line.now }
 {
@@ -75,7 +75,7 @@ pub(crate) fn digest_named(line: &[u8]) -> Option<&[u8]>
     }
 }
 
-/// The number of `emitted N`.
+/// Gives the number of `emitted N`.
 pub(crate) fn emitted_of(line: &[u8]) -> Option<u128>
     ensures { result ≡ emitted_of line.now }
 {
@@ -85,7 +85,7 @@ pub(crate) fn emitted_of(line: &[u8]) -> Option<u128>
     count_within(text)
 }
 
-/// The list of `last LIST`.
+/// Gives the list of `last LIST`.
 pub(crate) fn last_listed<A: Allocator + Copy>(
     alloc: A,
     line: &[u8],
@@ -103,7 +103,7 @@ pub(crate) fn last_listed<A: Allocator + Copy>(
     }
 }
 
-/// The number of `parts M`.
+/// Gives the number of `parts M`.
 pub(crate) fn count_of(line: &[u8]) -> Option<u64>
     ensures { result ≡ count_of line.now }
 {
@@ -113,7 +113,7 @@ pub(crate) fn count_of(line: &[u8]) -> Option<u64>
     number_within(text, 0, u64::MAX)
 }
 
-/// Whether the line is `end`.
+/// Tells whether the line is `end`.
 pub(crate) fn is_end(line: &[u8]) -> bool
     ensures { result ≡ is_end line.now }
 {

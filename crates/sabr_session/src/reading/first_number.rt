@@ -16,7 +16,7 @@ const MOST_NUMBER: u64 = 4294967295;
 /// How many digits that number has.
 const MOST_DIGITS: usize = 10;
 
-/// The digits at the front of a text, at most ten, the number that they stand for, and what comes behind them.
+/// Gives the digits at the front of a text, at most ten, the number that they stand for, and what comes behind them.
 fn leading_digits(text: &[u8]) -> (u64, &[u8], &[u8])
     ensures parts { text.now ≡ result.1.now ++ result.2.now }
     ensures value { result.0 ≡ digits_value result.1.now }
@@ -34,8 +34,8 @@ fn leading_digits(text: &[u8]) -> (u64, &[u8], &[u8])
     (value, digits, rest)
 }
 
-/// The first word where it is digits without a leading zero, the number from 1 to 4294967295 that it spells, and what
-/// stands behind its space. Of all other words nothing is said.
+/// Gives the first word where it is digits without a leading zero, the number from 1 to 4294967295 that it spells, and
+/// what stands behind its space. Of all other words nothing is said.
 #[inline(always)]
 fn plain_number(text: &[u8]) -> Option<(&[u8], u64, Option<&[u8]>)>
     ensures words { IfSome result (λ r. words_of text.now ≡ r.0.now ∷ words_behind (option_copied r.2)) }
@@ -53,7 +53,8 @@ fn plain_number(text: &[u8]) -> Option<(&[u8], u64, Option<&[u8]>)>
     Some((word, value, Some(rest)))
 }
 
-/// The first word, the number from 1 to 4294967295 that it spells, and what stands behind its space, if it has one.
+/// Gives the first word, the number from 1 to 4294967295 that it spells, and what stands behind its space, if it has
+/// one.
 #[inline(always)]
 pub(crate) fn first_number(text: &[u8]) -> (&[u8], Option<u64>, Option<&[u8]>)
     ensures words { words_of text.now ≡ result.0.now ∷ words_behind (option_copied result.2) }

@@ -36,7 +36,7 @@ impl<A: Allocator + Copy> Model for Head<A> {
     ghost view = { λ h. record { version = h.version; request = unlimited 0 0 0 0; emitted = h.emitted; last_route = h.last; count = h.count; parts = [] } };
 }
 
-/// Whether the digits are those of the digest.
+/// Tells whether the digits are those of the digest.
 fn is_digest_of(digits: &[u8], digest: &[u8; 32]) -> bool
     ensures { result ≡ bytes_eq digits.now (encode_lower digest.now) }
 {
@@ -45,7 +45,7 @@ fn is_digest_of(digits: &[u8], digest: &[u8; 32]) -> bool
     digits == text.as_slice()
 }
 
-/// The request of these values.
+/// Gives the request of these values.
 fn asked(values: &RequestValues) -> Result<Request, SessionFault>
     ensures { MatchResult result (λ r. asked values.now ≡ Ok r) (λ f. asked values.now ≡ Err f) }
 {
@@ -59,7 +59,7 @@ fn asked(values: &RequestValues) -> Result<Request, SessionFault>
 }
 
 impl<A: Allocator + Copy> Head<A> {
-    /// Before the first line.
+    /// Begins before the first line.
     pub(crate) fn new(alloc: A) -> Head<A>
         ensures { result ≡ nothing_said }
     {
@@ -98,7 +98,7 @@ impl<A: Allocator + Copy> Head<A> {
         Ok(())
     }
 
-    /// The request of line 3.
+    /// Gives the request of line 3.
     pub(crate) fn read_request(&self, line: &[u8]) -> Result<Request, SessionFault>
         ensures { MatchResult result (λ r. request_said self.now line.now ≡ Ok (record self.now { request = r })) (λ f. request_said self.now line.now ≡ Err f) }
     {
@@ -147,21 +147,21 @@ impl<A: Allocator + Copy> Head<A> {
         Ok(())
     }
 
-    /// How many routes were given.
+    /// Tells how many routes were given.
     pub(crate) fn emitted(&self) -> u128
         ensures { result ≡ self.now.emitted }
     {
         self.emitted
     }
 
-    /// The last route given.
+    /// Gives the last route given.
     pub(crate) fn last(&self) -> &[u32]
         ensures { result.now ≡ self.now.last_route }
     {
         self.last.as_slice()
     }
 
-    /// How many parts there are to be.
+    /// Tells how many parts there are to be.
     pub(crate) fn count(&self) -> u64
         ensures { result ≡ self.now.count }
     {

@@ -28,7 +28,7 @@ impl<A: Allocator + Copy> Model for HeldLine<A> {
 }
 
 impl<A: Allocator + Copy> HeldLine<A> {
-    /// Without a byte. It takes no memory.
+    /// Begins without a byte. It takes no memory.
     pub(crate) fn new(alloc: A) -> HeldLine<A>
         ensures { result ≡ [] }
     {
@@ -37,7 +37,7 @@ impl<A: Allocator + Copy> HeldLine<A> {
         }
     }
 
-    /// The bytes.
+    /// Gives the bytes.
     pub(crate) fn as_slice(&self) -> &[u8]
         ensures value { result.now ≡ self.now }
         ensures limit { length self.now ≤ 660008 }
@@ -45,7 +45,7 @@ impl<A: Allocator + Copy> HeldLine<A> {
         self.bytes.as_slice()
     }
 
-    /// How many bytes there are.
+    /// Tells how many bytes there are.
     pub(crate) fn len(&self) -> usize
         ensures value { result ≡ length self.now }
         ensures limit { result ≤ 660008 }

@@ -109,7 +109,7 @@ fn read_other<'p, B: BestOf<A>, A: Allocator + Copy>(
 }
 
 impl<'p, B: BestOf<A>, A: Allocator + Copy> LinesRead<'p, B, A> {
-    /// Before the first line.
+    /// Begins before the first line.
     pub(crate) fn new(alloc: A, plan: &'p Plan<A>, finder: B) -> LinesRead<'p, B, A>
         ensures { result ≡ opened_over plan.now (B.calls_of finder) }
     {
@@ -121,7 +121,7 @@ impl<'p, B: BestOf<A>, A: Allocator + Copy> LinesRead<'p, B, A> {
         }
     }
 
-    /// The number of the next line.
+    /// Gives the number of the next line.
     pub(crate) fn next_number(&self) -> u128
         ensures value { result ≡ self.now.fed.lines + 1 }
         ensures limit { result ≤ 18446744073709551623 }
@@ -129,7 +129,7 @@ impl<'p, B: BestOf<A>, A: Allocator + Copy> LinesRead<'p, B, A> {
         self.lines + 1
     }
 
-    /// Whether `end` was read.
+    /// Tells whether `end` was read.
     pub(crate) fn has_end(&self) -> bool
         ensures { result ≡ is_behind (self.now.fed.lines + 1) self.now.fed.said }
     {
@@ -156,7 +156,7 @@ impl<'p, B: BestOf<A>, A: Allocator + Copy> LinesRead<'p, B, A> {
         Ok(())
     }
 
-    /// The session of all lines, behind `end`.
+    /// Gives the session of all lines, behind `end`.
     pub(crate) fn into_session(self) -> Result<Session<'p, B, A>, SessionFault>
         requires { is_behind (self.fed.lines + 1) self.fed.said ≡ true }
         ensures from { IsSessionFrom self.entry.plan (Ok self.entry.fed.said) result }

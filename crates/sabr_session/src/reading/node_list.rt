@@ -8,7 +8,7 @@ use crate::reading::words::{first_word, is_word};
 use sabr_model::NodeList;
 use sabr_plan::number_within;
 
-/// The nodes that the words spell, if there are not too many.
+/// Gives the nodes that the words spell, if there are not too many.
 fn numbers_listed(text: &[u8]) -> Option<NodeList>
     ensures { MatchOption result (counted 16 (all_of (map (number_within 0 18446744073709551615) (words_of text.now))) ≡ None) (λ nodes. counted 16 (all_of (map (number_within 0 18446744073709551615) (words_of text.now))) ≡ Some nodes) }
 {
@@ -27,7 +27,7 @@ fn numbers_listed(text: &[u8]) -> Option<NodeList>
     Some(nodes)
 }
 
-/// Whether the text is the one word `-`.
+/// Tells whether the text is the one word `-`.
 fn is_dash(text: &[u8]) -> bool
     ensures { result ≡ is_dash (words_of text.now) }
 {
@@ -38,7 +38,7 @@ fn is_dash(text: &[u8]) -> bool
     }
 }
 
-/// The nodes of a list: `-` for none, or 1 to 16 numbers up to 18446744073709551615.
+/// Gives the nodes of a list: `-` for none, or 1 to 16 numbers up to 18446744073709551615.
 pub(crate) fn nodes_of(text: &[u8]) -> Option<NodeList>
     ensures { MatchOption result (nodes_of (words_of text.now) ≡ None) (λ nodes. nodes_of (words_of text.now) ≡ Some nodes) }
 {

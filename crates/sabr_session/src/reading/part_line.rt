@@ -30,7 +30,7 @@ impl<A: Allocator + Copy> Model for PartLine<A> {
 }
 
 impl<A: Allocator + Copy> PartLine<A> {
-    /// Three empty lists. It takes no memory.
+    /// Begins with three empty lists. It takes no memory.
     pub(crate) fn new(alloc: A) -> PartLine<A>
         ensures { result ≡ record { prefix = []; excluded = []; carried = None } }
     {
@@ -71,21 +71,21 @@ impl<A: Allocator + Copy> PartLine<A> {
         list_to_end(&mut self.route, behind)
     }
 
-    /// The numbers that the part's routes begin with.
+    /// Gives the numbers that the part's routes begin with.
     pub(crate) fn prefix(&self) -> &[u32]
         ensures { result.now ≡ self.now.prefix }
     {
         self.prefix.as_slice()
     }
 
-    /// The numbers that the part leaves out behind the prefix.
+    /// Gives the numbers that the part leaves out behind the prefix.
     pub(crate) fn excluded(&self) -> &[u32]
         ensures { result.now ≡ self.now.excluded }
     {
         self.excluded.as_slice()
     }
 
-    /// The numbers of the route that the part carries, if it carries one.
+    /// Gives the numbers of the route that the part carries, if it carries one.
     pub(crate) fn carried(&self) -> Option<&[u32]>
         ensures { option_copied result ≡ self.now.carried }
     {

@@ -28,7 +28,7 @@ pub(crate) struct RequestValues {
     pub(crate) avoid: NodeList,
 }
 
-/// The first four words, and what stands behind them.
+/// Gives the first four words, and what stands behind them.
 fn four_words(text: &[u8]) -> Option<(&[u8], &[u8], &[u8], &[u8], Option<&[u8]>)>
     ensures { MatchOption result (length (words_of text.now) < 4) (λ w. words_of text.now ≡ w.0.now ∷ w.1.now ∷ w.2.now ∷ w.3.now ∷ words_behind (option_copied w.4)) }
 {
@@ -39,7 +39,7 @@ fn four_words(text: &[u8]) -> Option<(&[u8], &[u8], &[u8], &[u8], Option<&[u8]>)
     Some((one, two, three, four, rest))
 }
 
-/// The values of these words.
+/// Gives the values of these words.
 fn four_of(
     from: &[u8],
     to: &[u8],
@@ -64,7 +64,7 @@ fn four_of(
     })
 }
 
-/// The values of `FROM TO AT PPM`.
+/// Gives the values of `FROM TO AT PPM`.
 fn unlimited_of(text: &[u8]) -> Option<RequestValues>
     ensures { result ≡ unlimited_of (words_of text.now) }
 {
@@ -75,7 +75,7 @@ fn unlimited_of(text: &[u8]) -> Option<RequestValues>
     four_of(from, to, time, margin, MOST_HOPS, NodeList::new())
 }
 
-/// The values of `FROM TO AT PPM HOPS / NODES`.
+/// Gives the values of `FROM TO AT PPM HOPS / NODES`.
 fn limited_of(text: &[u8]) -> Option<RequestValues>
     ensures { result ≡ limited_of (words_of text.now) }
 {
@@ -93,7 +93,7 @@ fn limited_of(text: &[u8]) -> Option<RequestValues>
     four_of(from, to, time, margin, max_hops, avoid)
 }
 
-/// The values of `request` and these words.
+/// Gives the values of `request` and these words.
 pub(crate) fn request_of(version: Version, line: &[u8]) -> Option<RequestValues>
     ensures { result ≡ request_of version line.now }
 {

@@ -32,7 +32,7 @@ impl<'p, B: BestOf<A>, A: Allocator + Copy> Model for SessionFeed<'p, B, A> {
 }
 
 impl<'p, B: BestOf<A>, A: Allocator + Copy> SessionFeed<'p, B, A> {
-    /// Before the first piece. The digest is that of the plan. It takes no memory.
+    /// Begins before the first piece. The digest is that of the plan. It takes no memory.
     pub fn new(alloc: A, plan: &'p Plan<A>, digest: &[u8; 32], finder: B) -> SessionFeed<'p, B, A>
         requires { digest.now ≡ digest_of plan.now.plan }
         ensures { result ≡ Ok (opened_over plan.now (B.calls_of finder)) }
@@ -70,7 +70,7 @@ impl<'p, B: BestOf<A>, A: Allocator + Copy> SessionFeed<'p, B, A> {
         Err(fault)
     }
 
-    /// The session of the text, which has ended. It runs no search, and no page of the session can be taken back.
+    /// Gives the session of the text, which has ended. It runs no search, and no page of the session can be taken back.
     ///
     /// # Errors
     ///
@@ -89,7 +89,7 @@ impl<'p, B: BestOf<A>, A: Allocator + Copy> SessionFeed<'p, B, A> {
         }
     }
 
-    /// How many bytes are held of the line that isn't complete.
+    /// Tells how many bytes are held of the line that isn't complete.
     pub fn held(&self) -> usize
         ensures value { MatchResult self.now (λ t. result ≡ length t.fed.held) (λ _. result ≡ 0) }
         ensures limit { result ≤ 660008 }

@@ -36,7 +36,7 @@ impl<'p, B: BestOf<A>, A: Allocator + Copy> Model for Stage<'p, B, A> {
 }
 
 impl<'p, B: BestOf<A>, A: Allocator + Copy> Stage<'p, B, A> {
-    /// Before the request.
+    /// Begins before the request.
     pub(crate) fn new(alloc: A, plan: &'p Plan<A>, finder: B) -> Stage<'p, B, A>
         ensures { result ≡ staged plan.now (Some (B.calls_of finder)) None }
     {
@@ -99,7 +99,7 @@ impl<'p, B: BestOf<A>, A: Allocator + Copy> Stage<'p, B, A> {
         }
     }
 
-    /// The session of the parts.
+    /// Gives the session of the parts.
     pub(crate) fn into_session(
         self,
         emitted: u128,

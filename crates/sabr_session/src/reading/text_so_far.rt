@@ -40,7 +40,7 @@ impl<'p, B: BestOf<A>, A: Allocator + Copy> Model for TextSoFar<'p, B, A> {
     ghost invariant = { λ t. (t.digest ≡ digest_of t.lines.plan.plan) × ((is_behind (t.lines.fed.lines + 1) t.lines.fed.said && has_bytes t.held) ≡ false) × IsTrue (is_one_line t.held) };
 }
 
-/// The fault of a line of this number that isn't spelled as it has to be.
+/// Gives the fault of a line of this number that isn't spelled as it has to be.
 fn misspelled(number: u128) -> SessionFault
     ensures { result ≡ misspelled number }
 {
@@ -52,7 +52,7 @@ fn misspelled(number: u128) -> SessionFault
 }
 
 impl<'p, B: BestOf<A>, A: Allocator + Copy> TextSoFar<'p, B, A> {
-    /// Before the first piece. It takes no memory.
+    /// Begins before the first piece. It takes no memory.
     pub(crate) fn new(
         alloc: A,
         plan: &'p Plan<A>,
@@ -69,7 +69,7 @@ impl<'p, B: BestOf<A>, A: Allocator + Copy> TextSoFar<'p, B, A> {
         }
     }
 
-    /// How many bytes of the line behind the last LF are held.
+    /// Tells how many bytes of the line behind the last LF are held.
     pub(crate) fn held(&self) -> usize
         ensures value { result ≡ length self.now.fed.held }
         ensures limit { result ≤ 660008 }
@@ -93,7 +93,7 @@ impl<'p, B: BestOf<A>, A: Allocator + Copy> TextSoFar<'p, B, A> {
         self.hold(rest)
     }
 
-    /// LF ends the line behind these bytes of it.
+    /// Ends by LF the line behind these bytes of it.
     fn end_line(&mut self, back: &[u8]) -> Result<(), SessionFault>
         requires { IsTrue (is_one_line back.now) }
         ensures value { Leaves (read_line self.old.plan.plan (digest_of self.old.plan.plan) (self.old.fed.lines + 1) self.old.fed.said (self.old.fed.held ++ back.now)) result self.new.fed.said }
@@ -141,7 +141,7 @@ impl<'p, B: BestOf<A>, A: Allocator + Copy> TextSoFar<'p, B, A> {
         Ok(())
     }
 
-    /// The session of the text, which has ended.
+    /// Gives the session of the text, which has ended.
     pub(crate) fn finish(self) -> Result<Session<'p, B, A>, SessionFault>
         ensures from { IsSessionFrom self.entry.plan (outcome_of self.entry [] true) result }
         ensures calls { IfOk result (λ s. s.calls ≡ self.entry.calls) }

@@ -6,14 +6,14 @@ ghost use Rattle.std.specs.Option.{option_copied};
 ghost use Rattle.std.specs.Str.{bytes_eq};
 ghost use Rattle.sabr_session.specs.SessionWords.{is_space, words_of, words_behind};
 
-/// Where the first space stands.
+/// Tells where the first space stands.
 fn first_space(text: &[u8]) -> Option<usize>
     ensures { result ≡ position is_space text.now }
 {
     text.iter().position(|b| *b == b' ')
 }
 
-/// The first word, and what stands behind its space, if it has one.
+/// Gives the first word, and what stands behind its space, if it has one.
 pub(crate) fn first_word(text: &[u8]) -> (&[u8], Option<&[u8]>)
     ensures words { words_of text.now ≡ result.0.now ∷ words_behind (option_copied result.1) }
     ensures shorter { IfSome result.1 (λ rest. length rest.now < length text.now) }
@@ -24,7 +24,7 @@ pub(crate) fn first_word(text: &[u8]) -> (&[u8], Option<&[u8]>)
     }
 }
 
-/// Whether the word is this text.
+/// Tells whether the word is this text.
 pub(crate) fn is_word(word: &[u8], text: &[u8]) -> bool
     ensures { result ≡ bytes_eq word.now text.now }
 {

@@ -41,7 +41,7 @@ pub(crate) fn put_list<W: Write>(
     }
 }
 
-/// The same for nodes.
+/// Does the same for nodes.
 pub(crate) fn put_nodes<W: Write>(
     text: &mut TextBuffer,
     writer: &mut W,
@@ -59,7 +59,7 @@ pub(crate) fn put_nodes<W: Write>(
     }
 }
 
-// Puts each node behind a space.
+/// Puts each node behind a space.
 fn put_further_nodes<W: Write>(
     text: &mut TextBuffer,
     writer: &mut W,

@@ -44,7 +44,7 @@ pub fn write_route<W: Write, A: Allocator + Copy>(
     text.send(writer)
 }
 
-// Puts a line for each route.
+/// Puts a line for each route.
 fn put_lines<W: Write, A: Allocator + Copy>(
     text: &mut TextBuffer,
     writer: &mut W,
@@ -63,7 +63,7 @@ fn put_lines<W: Write, A: Allocator + Copy>(
     Ok(())
 }
 
-// Puts the rank and the line of the route.
+/// Puts the rank and the line of the route.
 fn put_line<W: Write, A: Allocator + Copy>(
     text: &mut TextBuffer,
     writer: &mut W,
@@ -78,7 +78,7 @@ fn put_line<W: Write, A: Allocator + Copy>(
     put_route(text, writer, route)
 }
 
-// Puts the line of the route.
+/// Puts the line of the route.
 fn put_route<W: Write, A: Allocator + Copy>(
     text: &mut TextBuffer,
     writer: &mut W,
@@ -125,7 +125,7 @@ pub fn put_route_line<W: Write>(
     text.put(writer, b"\n")
 }
 
-// Puts whether the list goes on.
+/// Puts whether the list goes on.
 fn put_last_line<W: Write>(
     text: &mut TextBuffer,
     writer: &mut W,

@@ -43,7 +43,7 @@ pub fn write_session<W: Write, B: BestOf<A>, A: Allocator + Copy>(
     text.send(writer)
 }
 
-// Puts the whole text.
+/// Puts the whole text.
 fn put_session<W: Write, B: BestOf<A>, A: Allocator + Copy>(
     text: &mut TextBuffer,
     writer: &mut W,
@@ -58,7 +58,7 @@ fn put_session<W: Write, B: BestOf<A>, A: Allocator + Copy>(
     put_state(text, writer, session)
 }
 
-// Puts the line of the digest.
+/// Puts the line of the digest.
 fn put_digest<W: Write>(
     text: &mut TextBuffer,
     writer: &mut W,
@@ -72,7 +72,7 @@ fn put_digest<W: Write>(
     put_pieces(text, writer, &pieces)
 }
 
-// Puts the line of the request.
+/// Puts the line of the request.
 fn put_request<W: Write>(
     text: &mut TextBuffer,
     writer: &mut W,
@@ -85,7 +85,7 @@ fn put_request<W: Write>(
     text.put(writer, b"\n")
 }
 
-// Puts the values of the request but for the avoided nodes.
+/// Puts the values of the request but for the avoided nodes.
 fn put_asked<W: Write>(
     text: &mut TextBuffer,
     writer: &mut W,
@@ -113,7 +113,7 @@ fn put_asked<W: Write>(
     put_pieces(text, writer, &pieces)
 }
 
-// Puts the lines behind that of the request.
+/// Puts the lines behind that of the request.
 fn put_state<W: Write, B: BestOf<A>, A: Allocator + Copy>(
     text: &mut TextBuffer,
     writer: &mut W,
@@ -126,7 +126,7 @@ fn put_state<W: Write, B: BestOf<A>, A: Allocator + Copy>(
     text.put(writer, b"end\n")
 }
 
-// Puts how many routes were given, the last of them, and how many parts there are.
+/// Puts how many routes were given, the last of them, and how many parts there are.
 fn put_counts<W: Write, B: BestOf<A>, A: Allocator + Copy>(
     text: &mut TextBuffer,
     writer: &mut W,
@@ -141,7 +141,7 @@ fn put_counts<W: Write, B: BestOf<A>, A: Allocator + Copy>(
     text.put(writer, b"\n")
 }
 
-// Puts a line for each part.
+/// Puts a line for each part.
 fn put_parts<W: Write, A: Allocator + Copy>(
     text: &mut TextBuffer,
     writer: &mut W,
@@ -155,7 +155,7 @@ fn put_parts<W: Write, A: Allocator + Copy>(
     Ok(())
 }
 
-// Puts the line of the part.
+/// Puts the line of the part.
 fn put_part<W: Write, A: Allocator + Copy>(
     text: &mut TextBuffer,
     writer: &mut W,
@@ -169,7 +169,7 @@ fn put_part<W: Write, A: Allocator + Copy>(
     text.put(writer, b"\n")
 }
 
-// The numbers of the route that a part carries, and none where it carries none.
+/// Gives the numbers of the route that a part carries, and none where it carries none.
 fn numbers_in<'a, A: Allocator + Copy>(route: Option<&'a Route<A>>) -> &'a [u32]
     ensures { result.now ≡ unwrap_or (option_map numbers_of (option_copied route.entry)) [] }
 {

@@ -28,7 +28,7 @@ impl Model for TextBuffer {
 }
 
 impl TextBuffer {
-    /// No bytes yet.
+    /// Begins with no bytes yet.
     pub fn new() -> TextBuffer
         ensures { result ≡ [] }
     {

@@ -31,7 +31,7 @@ fn a_canonical_text_stops_where_its_writer_does(rt: HostRuntime) -> Result<(), F
     Ok(())
 }
 
-// The digest of the plan of a text.
+/// Gives the digest of the plan of a text.
 fn digest_of<A: Allocator + Copy>(alloc: A, text: &str) -> Result<[u8; 32], PlanFault> {
     let mut reader = PieceReader::new(text.as_bytes(), 4096, End::Ended);
     let plan = read_plan(alloc, &mut reader)?;

@@ -7,7 +7,7 @@ use std::alloc::Global;
 use std::test::Fail;
 use worked_plans::REFERENCE;
 
-// The byte, so many times.
+/// Gives the byte, so many times.
 fn repeated(alloc: Global, byte: u8, count: usize) -> Result<Vec<u8>, Fail> {
     let mut bytes = Vec::new(alloc);
     for _ in 0..count {
@@ -44,7 +44,7 @@ fn a_plan_has_at_most_1000000_lines(rt: HostRuntime) -> Result<(), Fail> {
     Ok(())
 }
 
-// A reference, 20000 lines of this kind behind it, each a second later than the one before, and more.
+/// Gives a reference, 20000 lines of this kind behind it, each a second later than the one before, and more.
 fn lines_of(alloc: Global, kind: &str, more: &str) -> Result<Vec<u8>, Fail> {
     let mut text = joined(alloc, REFERENCE, b"")?;
     for start in 0..20000u32 {

@@ -35,8 +35,8 @@ fn plan_of_links<A: Allocator + Copy>(alloc: A) -> Result<Plan<A>, AddFault> {
     Ok(plan)
 }
 
-/// A pass by its number, light time, start and end, and what bounds it, in the order of its fields; times from `BEGIN`
-/// on.
+/// Gives a pass by its number, light time, start and end, and what bounds it, in the order of its fields; times from
+/// `BEGIN` on.
 fn pass(receiver: usize, of: [u32; 2], times: [u64; 3], least: [u32; 3]) -> Pass {
     Pass {
         number: of[0],
@@ -51,7 +51,7 @@ fn pass(receiver: usize, of: [u32; 2], times: [u64; 3], least: [u32; 3]) -> Pass
     }
 }
 
-/// A link by its receiver's index, the places of its passes, and what bounds them; times from `BEGIN` on.
+/// Gives a link by its receiver's index, the places of its passes, and what bounds them; times from `BEGIN` on.
 fn link(receiver: usize, places: [usize; 2], times: [u64; 2], least_light: u32) -> Link {
     Link {
         receiver,
@@ -65,7 +65,7 @@ fn link(receiver: usize, places: [usize; 2], times: [u64; 2], least_light: u32) 
     }
 }
 
-// Whether these are the links and passes from node 1.
+/// Tells whether these are the links and passes from node 1.
 fn are_from_1(links: &[Link], passes: &[Pass]) -> bool {
     links == [link(1, [0, 3], [100, 3], 3), link(3, [3, 4], [6, 6], 1)].as_slice()
         && passes

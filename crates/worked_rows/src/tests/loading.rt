@@ -27,7 +27,7 @@ fn add<A: Allocator + Copy>(
     loader.add_part(prefix, excluded, (!carried.is_empty()).then_some(carried))
 }
 
-// The session of these parts.
+/// Gives the session of these parts.
 fn loaded<'p, A: Allocator + Copy>(
     alloc: A,
     plan: &'p Plan<A>,
@@ -42,7 +42,7 @@ fn loaded<'p, A: Allocator + Copy>(
     loader.finish(emitted, last)
 }
 
-// Adds a part with one growth refused, and then again with memory; whether it was refused.
+/// Adds a part with one growth refused, and then again with memory; whether it was refused.
 fn added_again<A: Allocator + Copy>(
     loader: &mut Loader<Settled<A>, A>,
     ration: &Ration,
@@ -60,7 +60,7 @@ fn added_again<A: Allocator + Copy>(
     Ok(false)
 }
 
-// Loads the state with a growth of each part refused; how many were.
+/// Loads the state with a growth of each part refused; how many were.
 fn refused_parts<A: Allocator + Copy>(
     alloc: A,
     ration: &Ration,

@@ -30,7 +30,7 @@ const ROWS: [Row; 2] = [
     },
 ];
 
-// Whether the session stands at the place, and is told to be one of the listing.
+/// Tells whether the session stands at the place, and is told to be one of the listing.
 fn is_placed<B: BestOf<A>, A: Allocator + Copy>(
     session: &mut Session<B, A>,
     row: &Row,
@@ -39,7 +39,7 @@ fn is_placed<B: BestOf<A>, A: Allocator + Copy>(
     session.certify() == Ok(true) && stands_at(session, row.states, place)
 }
 
-// Whether pages of one size give the listing, each from its place on, and nothing behind it.
+/// Tells whether pages of one size give the listing, each from its place on, and nothing behind it.
 fn gives_all<B: BestOf<A>, A: Allocator + Copy>(
     session: &mut Session<B, A>,
     row: &Row,
@@ -59,7 +59,7 @@ fn gives_all<B: BestOf<A>, A: Allocator + Copy>(
     session.page(1).is_ok_and(|routes| routes.is_empty()) && is_placed(session, row, place)
 }
 
-// Whether the pages are taken back, each to its place.
+/// Tells whether the pages are taken back, each to its place.
 fn takes_all_back<B: BestOf<A>, A: Allocator + Copy>(
     session: &mut Session<B, A>,
     row: &Row,
@@ -74,7 +74,7 @@ fn takes_all_back<B: BestOf<A>, A: Allocator + Copy>(
     !session.back()
 }
 
-// With both finders.
+/// Walks with both finders.
 fn walks(alloc: Global, row: &Row, size: u32) -> bool {
     let Ok(plan) = row.table.made_ready(alloc) else {
         return false;

@@ -75,7 +75,7 @@ const OVER_C: Worked = Worked {
     ],
 };
 
-// Whether the answer for a part is the row's.
+/// Tells whether the answer for a part is the row's.
 fn answers<A: Allocator + Copy, B: BestOf<A>>(
     finder: &mut B,
     plan: &Plan<A>,
@@ -97,7 +97,7 @@ fn answers<A: Allocator + Copy, B: BestOf<A>>(
     }
 }
 
-// Whether each part has its answer.
+/// Tells whether each part has its answer.
 fn answers_all<A: Allocator + Copy, B: BestOf<A>>(
     finder: &mut B,
     plan: &Plan<A>,
@@ -116,7 +116,7 @@ fn answers_all<A: Allocator + Copy, B: BestOf<A>>(
     true
 }
 
-// Whether the finder answers over a plan, and over the same plan once it is ready.
+/// Tells whether the finder answers over a plan, and over the same plan once it is ready.
 fn serves<A: Allocator + Copy, B: BestOf<A>>(
     alloc: A,
     finder: &mut B,
@@ -139,7 +139,8 @@ fn one_finder_answers_over_two_plans(rt: HostRuntime) -> Result<(), Fail> {
     Ok(())
 }
 
-// Searches for the least route of all with one growth refused: how many growths there were, none where it was answered.
+/// Searches for the least route of all with one growth refused: how many growths there were, none where it was
+/// answered.
 fn refused<A: Allocator + Copy, B: BestOf<A>>(
     ration: &Ration,
     finder: &mut B,
@@ -161,7 +162,7 @@ fn refused<A: Allocator + Copy, B: BestOf<A>>(
     (answer.is_err() == (growth > 0)).then_some(growths)
 }
 
-// How many growths a search by layers takes, each refused in turn before a finder that then answered each part.
+/// Tells how many growths a search by layers takes, each refused in turn before a finder that then answered each part.
 fn refused_layered<A: Allocator + Copy>(
     alloc: A,
     ration: &Ration,
@@ -179,7 +180,7 @@ fn refused_layered<A: Allocator + Copy>(
     Some(growths)
 }
 
-// The same of the other finder.
+/// Does the same of the other finder.
 fn refused_settled<A: Allocator + Copy>(
     alloc: A,
     ration: &Ration,

@@ -10,7 +10,7 @@ use worked_plans::{
     ALL, BEGIN, LISTED_A, LISTED_C, Listed, PLAN_A, PLAN_C, add_light, add_window, request_of,
 };
 
-// Whether this is the page of so many routes.
+/// Tells whether this is the page of so many routes.
 fn is_page<A: Allocator + Copy>(page: &Page<A>, listed: &[Listed], count: usize) -> bool {
     let shown = listed.len().min(count);
     are_routes(page.routes.as_slice(), &listed[..shown]) && page.more == (shown < listed.len())
@@ -48,7 +48,7 @@ fn each_growth_is_refused_in_turn(rt: HostRuntime) -> Result<(), Fail> {
     Ok(())
 }
 
-// A chain of so many contacts, at most 20000.
+/// Gives a chain of so many contacts, at most 20000.
 fn chain<A: Allocator + Copy>(alloc: A, hops: u64) -> Result<Plan<A>, AddFault> {
     let mut plan = Plan::new(alloc);
     for node in 1..=hops.min(20000) {

@@ -14,7 +14,7 @@ const RANGES: u64 = 1201;
 /// How many contacts are gathered.
 const CONTACTS: u64 = 61;
 
-/// The nodes and the start of a range, for each place below `RANGES` another, in no order.
+/// Gives the nodes and the start of a range, for each place below `RANGES` another, in no order.
 fn scattered(place: u64) -> (u64, u64, u64)
     ensures nodes { (0 < result.0) × (0 < result.1) }
     ensures start { result.2 ≤ 1893468000 }

@@ -45,7 +45,7 @@ const ROWS: [Row; 3] = [
     },
 ];
 
-// A session after the first page.
+/// Gives a session after the first page.
 fn begun<'p, A: Allocator + Copy>(
     alloc: A,
     plan: &'p Plan<A>,
@@ -56,7 +56,7 @@ fn begun<'p, A: Allocator + Copy>(
     Some(session)
 }
 
-// Asks for the page of all that is left; whether it was refused, none where it gave something else.
+/// Asks for the page of all that is left; whether it was refused, none where it gave something else.
 fn is_refused<A: Allocator + Copy>(
     session: &mut Session<Settled<A>, A>,
     row: &Row,
@@ -67,7 +67,8 @@ fn is_refused<A: Allocator + Copy>(
     }
 }
 
-// How many growths of the page were refused in turn; each time the session stood as before and then gave the page.
+/// Tells how many growths of the page were refused in turn; each time the session stood as before and then gave the
+/// page.
 fn refused_pages<A: Allocator + Copy>(
     alloc: A,
     ration: &Ration,
@@ -101,7 +102,7 @@ fn refused_pages_change_nothing(rt: HostRuntime) -> Result<(), Fail> {
     Ok(())
 }
 
-// How many growths of a start were refused in turn; each session that came of it stood at the start.
+/// Tells how many growths of a start were refused in turn; each session that came of it stood at the start.
 fn refused_starts<A: Allocator + Copy>(
     alloc: A,
     ration: &Ration,
@@ -134,7 +135,7 @@ fn refused_starts_give_no_session(rt: HostRuntime) -> Result<(), Fail> {
     Ok(())
 }
 
-// How many growths of a judgement were refused in turn; each time it was then made.
+/// Tells how many growths of a judgement were refused in turn; each time it was then made.
 fn refused_judgements<A: Allocator + Copy>(
     alloc: A,
     ration: &Ration,
@@ -185,7 +186,7 @@ fn a_route_from_a_thousand_parts_copies_no_part(rt: HostRuntime) -> Result<(), F
     Ok(())
 }
 
-// Whether the page gives the best twenty routes over plan D; none where it was refused.
+/// Tells whether the page gives the best twenty routes over plan D; none where it was refused.
 fn gives_twenty<A: Allocator + Copy>(session: &mut Session<Settled<A>, A>) -> Option<bool> {
     let routes = session.page(20).ok()?;
     for (place, route) in routes.iter().enumerate() {
@@ -197,7 +198,7 @@ fn gives_twenty<A: Allocator + Copy>(session: &mut Session<Settled<A>, A>) -> Op
     Some(routes.len() == 20)
 }
 
-// All these routes are delivered in one second, so a table is made for it on the way.
+/// Gives all these routes are delivered in one second, so a table is made for it on the way.
 #[test]
 fn a_table_without_memory_is_left_out(rt: HostRuntime) -> Result<(), Fail> {
     let ration = Ration::new(rt.alloc(), 0);

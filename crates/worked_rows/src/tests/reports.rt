@@ -23,7 +23,7 @@ fn route(alloc: Global, contacts: &[u32], delivery: u64, until: u64) -> Result<R
     })
 }
 
-// The page of the first two routes.
+/// Gives the page of the first two routes.
 fn page(alloc: Global) -> Result<[Route; 2], AllocError>
     ensures { IfOk result (λ routes. All HasSpelledTimes routes) }
 {

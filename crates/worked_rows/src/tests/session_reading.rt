@@ -24,7 +24,7 @@ pub fn joined(alloc: Global, front: &str, back: &str) -> Result<Vec<u8>, NoMemor
     Ok(text)
 }
 
-// What comes of the text over the plan, read in such pieces.
+/// Tells what comes of the text over the plan, read in such pieces.
 fn read<'p, A: Allocator + Copy>(
     alloc: A,
     plan: &'p Plan<A>,
@@ -42,7 +42,7 @@ pub fn fault_of(alloc: Global, text: &[u8], piece: usize, end: End) -> Option<Se
     read(alloc, &plan, text, piece, end).err()
 }
 
-// Whether the session writes this text.
+/// Tells whether the session writes this text.
 fn writes<A: Allocator + Copy>(
     alloc: Global,
     session: &Session<'_, Settled<A>, A>,
@@ -52,7 +52,7 @@ fn writes<A: Allocator + Copy>(
     write_session(session, &digest(session.plan()), &mut out).is_ok() && out.held() == text
 }
 
-// Whether the text of two routes given, read in such pieces, is written again and goes on with the third route.
+/// Tells whether the text of two routes given, read in such pieces, is written again and goes on with the third route.
 fn goes_on(alloc: Global, plan: &Plan, text: &[u8], piece: usize, again: &[u8]) -> bool {
     let Ok(mut session) = read(alloc, plan, text, piece, End::Ended) else {
         return false;
@@ -76,7 +76,7 @@ fn a_text_is_read_and_goes_on(rt: HostRuntime) -> Result<(), Fail> {
     Ok(())
 }
 
-// The fault of a text that ends in a line of this number.
+/// Gives the fault of a text that ends in a line of this number.
 fn missing(line: u128) -> SessionFault {
     if line == 1 {
         SessionFault::BadHeader
@@ -106,7 +106,7 @@ fn a_text_that_ends_too_early_is_refused(rt: HostRuntime) -> Result<(), Fail> {
     Ok(())
 }
 
-// What a feed over plan A answers to a line of digits behind the head, a byte before it is too long and then.
+/// Tells what a feed over plan A answers to a line of digits behind the head, a byte before it is too long and then.
 fn long_line(alloc: Global, head: &str) -> Option<(usize, SessionFault)> {
     let plan = ready_plan(alloc, TEXT_OF_A).ok()?;
     let mut feed = SessionFeed::new(alloc, &plan, &digest(&plan), Settled::new(alloc));
@@ -130,7 +130,7 @@ fn a_line_that_is_too_long_is_refused_before_its_end(rt: HostRuntime) -> Result<
     Ok(())
 }
 
-// How many growths were refused, none where another answer came.
+/// Tells how many growths were refused, none where another answer came.
 fn refused_growths(alloc: Global, plan: &str, text: &[u8]) -> Option<u64> {
     let ration = Ration::new(alloc, 0);
     let plan = ready_plan(&ration, plan).ok()?;
@@ -162,7 +162,7 @@ fn each_growth_is_refused_in_turn(rt: HostRuntime) -> Result<(), Fail> {
     Ok(())
 }
 
-// How many growths reading the text over plan A makes, whatever comes of it.
+/// Tells how many growths reading the text over plan A makes, whatever comes of it.
 fn growths(alloc: Global, text: &[u8]) -> Option<u64> {
     let ration = Ration::new(alloc, 0);
     let plan = ready_plan(&ration, TEXT_OF_A).ok()?;

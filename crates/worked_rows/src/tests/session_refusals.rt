@@ -136,7 +136,7 @@ const BAD_LINES: [(&str, SessionFault); 28] = [
 pub const GREATEST_COUNT: &str = "emitted 2\nlast 1 2\nparts 18446744073709551615\npart - / 1 / 3\n\
 part 1 / 2 4 / -\nend\n";
 
-// Whether the text has this fault, in pieces of each size.
+/// Tells whether the text has this fault, in pieces of each size.
 fn is_refused(alloc: Global, text: &[u8], end: End, fault: SessionFault) -> bool {
     PIECES
         .iter()

@@ -99,7 +99,7 @@ part 4 / 5 7 / -\npart 4 7 / 2 / -\nend\n",
 const FIRST_LINE: &str = "cgr-session 2\nplan ";
 
 impl Row {
-    // Whether these bytes are the text.
+    /// Tells whether these bytes are the text.
     fn is_text(&self, bytes: &[u8]) -> bool {
         let Some(rest) = bytes.strip_prefix(FIRST_LINE.as_bytes()) else {
             return false;
@@ -111,7 +111,7 @@ impl Row {
     }
 }
 
-// A session over the row's plan after its pages.
+/// Gives a session over the row's plan after its pages.
 fn paged<'p, B: BestOf<Global>>(
     alloc: Global,
     plan: &'p Plan,
@@ -125,13 +125,13 @@ fn paged<'p, B: BestOf<Global>>(
     Some(session)
 }
 
-// Whether the writer took the session's text.
+/// Tells whether the writer took the session's text.
 fn writes<W: Write, B: BestOf<Global>>(session: &Session<'_, B>, writer: &mut W) -> bool {
     let digest = digest(session.plan());
     write_session(session, &digest, writer).is_ok()
 }
 
-// Whether the session's text after its pages is the row's.
+/// Tells whether the session's text after its pages is the row's.
 fn is_written<B: BestOf<Global>>(alloc: Global, plan: &Plan, row: &Row, finder: B) -> bool {
     let mut out = LimitedWriter::new(alloc, 4096, 4096);
     match paged(alloc, plan, row, finder) {
@@ -152,7 +152,7 @@ fn texts_follow_the_pages(rt: HostRuntime) -> Result<(), Fail> {
     Ok(())
 }
 
-// Whether a writer that takes so many bytes holds just these, and fails where the text is longer.
+/// Tells whether a writer that takes so many bytes holds just these, and fails where the text is longer.
 fn stops_at(alloc: Global, session: &Session<Settled>, whole: &[u8], limit: usize) -> bool {
     let mut out = LimitedWriter::new(alloc, limit, 4096);
     let ended = writes(session, &mut out);

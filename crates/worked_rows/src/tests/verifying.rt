@@ -55,7 +55,7 @@ const ROWS: [(&str, bool); 11] = [
     ),
 ];
 
-// The answer to the text over the plan, read in such pieces.
+/// Gives the answer to the text over the plan, read in such pieces.
 fn answered<B: BestOf<A>, A: Allocator + Copy>(
     alloc: A,
     plan: &Plan<A>,
@@ -68,7 +68,7 @@ fn answered<B: BestOf<A>, A: Allocator + Copy>(
     verify(alloc, &mut reader, plan, &digest(plan), finder)
 }
 
-// Whether both finders answer so to the text.
+/// Tells whether both finders answer so to the text.
 fn is_answered(alloc: Global, plan: &Plan, text: &[u8], piece: usize, yes: bool) -> bool {
     let settled = answered(alloc, plan, Settled::new(alloc), text, piece, End::Ended);
     let layered = answered(alloc, plan, Layered::new(alloc), text, piece, End::Ended);
@@ -108,7 +108,7 @@ fn no_to_texts_that_end_too_early(rt: HostRuntime) -> Result<(), Fail> {
     Ok(())
 }
 
-// How many growths were refused, none where another answer came.
+/// Tells how many growths were refused, none where another answer came.
 fn refused_growths(alloc: Global, plan: &str, text: &[u8]) -> Option<u64> {
     let ration = Ration::new(alloc, 0);
     let plan = ready_plan(&ration, plan).ok()?;

@@ -12,7 +12,7 @@ use crate::link::Pass;
 use crate::plan::Plan;
 use std::alloc::{AllocError, Allocator};
 
-/// The links of each node of the table.
+/// Gives the links of each node of the table.
 pub fn link_nodes<A: Allocator + Copy>(
     alloc: A,
     plan: &Plan<A>,
@@ -31,7 +31,7 @@ pub fn link_nodes<A: Allocator + Copy>(
     Ok(linked)
 }
 
-/// The links of the node at an index of the table.
+/// Gives the links of the node at an index of the table.
 pub fn links_of_node<A: Allocator + Copy>(
     alloc: A,
     plan: &Plan<A>,
@@ -47,7 +47,7 @@ pub fn links_of_node<A: Allocator + Copy>(
     Ok(NodeLinks { links, passes })
 }
 
-/// The passes of those contacts of these numbers that have a light time.
+/// Gives the passes of those contacts of these numbers that have a light time.
 fn passes_of<A: Allocator + Copy>(
     alloc: A,
     plan: &Plan<A>,
@@ -66,7 +66,7 @@ fn passes_of<A: Allocator + Copy>(
     Ok(passes)
 }
 
-/// The pass of the contact of a number, bounded by itself alone; none where it has no light time.
+/// Gives the pass of the contact of a number, bounded by itself alone; none where it has no light time.
 fn pass_of<A: Allocator + Copy>(plan: &Plan<A>, number: u32) -> Option<Pass>
     ensures { MatchOption result (HasNoLight plan.now number) (λ x. (x.number ≡ number) × IsContactPass plan.now x × IsBounded x) }
 {

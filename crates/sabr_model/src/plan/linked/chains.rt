@@ -25,7 +25,7 @@ pub struct Chains<A: Allocator + Copy> {
     pub heads: Vec<u32, A>,
 }
 
-/// The links of all nodes in chains.
+/// Gives the links of all nodes in chains.
 pub fn chain_links<A: Allocator + Copy>(
     alloc: A,
     linked: &[NodeLinks<A>],
@@ -93,7 +93,7 @@ fn chain_link<A: Allocator + Copy>(
     Ok(())
 }
 
-/// A number in 32 bits. An error where it doesn't fit, which takes a plan of more than 4000000000 nodes or links.
+/// Gives a number in 32 bits. An error where it doesn't fit, which takes a plan of more than 4000000000 nodes or links.
 pub fn narrow(number: usize) -> Result<u32, AllocError>
     ensures { IfOk result (λ n. n ≡ number) }
 {

@@ -7,7 +7,7 @@ ghost use Rattle.sabr_model.specs.Linking.{AreRows};
 use crate::link::{Link, LinkBounds, Pass};
 use std::alloc::{AllocError, Allocator};
 
-/// The links over passes: one over each row of passes that have one receiver.
+/// Gives the links over passes: one over each row of passes that have one receiver.
 pub fn links_over<A: Allocator + Copy>(
     alloc: A,
     passes: &[Pass],
@@ -29,8 +29,8 @@ pub fn links_over<A: Allocator + Copy>(
     Ok(links)
 }
 
-/// What bounds the passes of a link, from `first` up to `end`: the last of them tells the greatest end of all, and the
-/// first the least start and the least light time.
+/// Tells what bounds the passes of a link, from `first` up to `end`: the last of them tells the greatest end of all,
+/// and the first the least start and the least light time.
 fn bounds_of_row(passes: &[Pass], first: usize, end: usize) -> LinkBounds
     requires filled { first < end }
     requires within { end ≤ length passes.now }
@@ -49,7 +49,7 @@ fn bounds_of_row(passes: &[Pass], first: usize, end: usize) -> LinkBounds
     }
 }
 
-/// The place behind those from `first` on that have its receiver.
+/// Gives the place behind those from `first` on that have its receiver.
 fn end_of_row(passes: &[Pass], first: usize) -> usize
     requires { first < length passes.now }
     ensures behind { first < result }

@@ -44,14 +44,14 @@ impl<'a, A: Allocator + Copy> Senders<'a, A> {
         Senders { incoming, linked }
     }
 
-    /// How many links lead to the node.
+    /// Tells how many links lead to the node.
     pub fn len(&self) -> usize
         ensures { result ≡ length self.now }
     {
         self.incoming.len()
     }
 
-    /// The link at a place.
+    /// Gives the link at a place.
     pub fn at(&self, place: usize) -> Sender<'a>
         requires { place < length self.now }
         ensures link { slice_get self.now place ≡ Some (record { sender = result.node; passes = result.passes.now }) }
@@ -64,7 +64,7 @@ impl<'a, A: Allocator + Copy> Senders<'a, A> {
     }
 }
 
-/// The link that is named.
+/// Gives the link that is named.
 fn sender_named<A: Allocator + Copy>(linked: &[NodeLinks<A>], named: Incoming) -> Sender<'_>
     requires { AllLieOver linked.now }
     ensures sender { result.node ≡ named.sender }
@@ -77,7 +77,7 @@ fn sender_named<A: Allocator + Copy>(linked: &[NodeLinks<A>], named: Incoming) -
     }
 }
 
-/// The link that is named, among those of its sender.
+/// Gives the link that is named, among those of its sender.
 fn sender_at<A: Allocator + Copy>(node: &NodeLinks<A>, named: Incoming) -> Sender<'_>
     requires { LieOver node.now }
     ensures sender { result.node ≡ named.sender }
@@ -94,7 +94,7 @@ fn sender_at<A: Allocator + Copy>(node: &NodeLinks<A>, named: Incoming) -> Sende
     }
 }
 
-/// A link from a node without passes.
+/// Gives a link from a node without passes.
 fn no_passes<'a>(node: usize) -> Sender<'a>
     ensures sender { result.node ≡ node }
     ensures passes { result.passes.now ≡ [] }
@@ -111,7 +111,7 @@ fn no_passes<'a>(node: usize) -> Sender<'a>
     }
 }
 
-/// The passes over which a link lies.
+/// Gives the passes over which a link lies.
 fn passes_over<'a>(passes: &'a [Pass], link: &Link) -> &'a [Pass]
     requires { LiesOver passes.now link.now }
     ensures { result.now ≡ passes_over passes.now link.now }
