@@ -23,6 +23,9 @@ const MOST_RUNGS: usize = 128;
 /// Where fewer than half of so many tries were answered, tables rest.
 const TRIES: u32 = 64;
 
+/// The table that shows that there is no route is made once so many parts had none.
+const NONES: u32 = 8;
+
 /// How many searches go by before they are tried again.
 const REST: u32 = 4096;
 
@@ -38,13 +41,23 @@ pub struct Seen {
 /// A table is a bound alone, so an answer doesn't depend on what is kept. Where its growth is refused, it is left out.
 #[derive(Drop)]
 pub struct Kept<A: Allocator + Copy = Global> {
+    /// Where tables take their memory.
     pub alloc: A,
+    /// The tables.
     pub rungs: Vec<Rung<A>, A>,
+    /// By the remainder of a delivery, how often it was the answer.
     pub seen: Vec<Seen, A>,
+    /// Where the first steps of the part that is asked for come to, and when.
     pub first: Vec<Standing, A>,
+    /// By node a second before which a try needn't be there.
     pub since: Vec<u64, A>,
+    /// No way of the part that is asked for delivers before this second.
     pub floor: u64,
+    /// How many parts had no route, as far as is counted.
+    pub nones: u32,
+    /// How many tries were counted.
     pub tried: u32,
+    /// How many of these answered.
     pub answered: u32,
 }
 
@@ -60,6 +73,7 @@ impl<A: Allocator + Copy> Kept<A> {
             first: Vec::new(alloc),
             since: Vec::new(alloc),
             floor: 0,
+            nones: 0,
             tried: 0,
             answered: 0,
         }
@@ -167,8 +181,27 @@ impl<A: Allocator + Copy> Kept<A> {
         self.rungs.push_reserved(rung);
     }
 
-    /// Keeps what makes later searches with this answer shorter, and beside the first table what shows that there is no
-    /// answer, within `most` looks; or not, where a growth is refused.
+    /// Counts a part that had no route.
+    pub fn count_none(&mut self)
+        ensures { self.new.rungs ≡ self.old.rungs }
+    {
+        if self.nones < NONES {
+            self.nones += 1;
+        }
+    }
+
+    /// Tells, once alone, whether so many parts had no route that a table is worth making that shows it.
+    fn takes_nones(&mut self) -> bool
+        ensures { self.new.rungs ≡ self.old.rungs }
+    {
+        if self.nones != NONES {
+            return false;
+        }
+        self.nones = NONES + 1;
+        true
+    }
+
+    /// Keeps what makes later searches with this answer shorter, within `most` looks; or not, where a growth is refused.
     pub fn learn(
         &mut self,
         layers: &mut Layers<A>,
@@ -188,8 +221,27 @@ impl<A: Allocator + Copy> Kept<A> {
             return;
         }
         self.keep(layers, looks, plan, request, delivery, most);
-        if self.rungs.len() == 1 {
-            self.keep(layers, looks, plan, request, LATEST + 1, most);
+    }
+
+    /// Keeps, once many parts had no route, what shows that a part has none, within `most` looks; or not, where a growth is
+    /// refused.
+    pub fn learn_none(
+        &mut self,
+        layers: &mut Layers<A>,
+        looks: &mut Looks,
+        plan: &Plan<A>,
+        request: &Request,
+        most: u64,
+    )
+        requires kept { IsKept plan.now request.now self.old }
+        requires few { looks.old.count ≤ most }
+        requires most { most ≤ 2 ^ 62 }
+        ensures kept { IsKept plan.now request.now self.new }
+        ensures looks { looks.new.count ≤ most }
+    {
+        if !self.takes_nones() {
+            return;
         }
+        self.keep(layers, looks, plan, request, LATEST + 1, most);
     }
 }

@@ -101,6 +101,7 @@ fn learn<A: Allocator + Copy>(
     ensures looks { (looks.new.count ≡ looks.old.count) ⊎ (looks.new.count ≤ 4 * length plan.now.plan.contacts) }
 {
     let Some(route) = answer else {
+        kept.count_none();
         return;
     };
     let most = 2 * plan.contacts().len() as u64;
@@ -109,6 +110,7 @@ fn learn<A: Allocator + Copy>(
     }
     let mut making = Looks::new();
     kept.learn(layers, &mut making, plan, request, route.delivery, most);
+    kept.learn_none(layers, &mut making, plan, request, most);
     looks.count += making.count;
 }
 
