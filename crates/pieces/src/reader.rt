@@ -16,9 +16,13 @@ pub enum End {
 /// Gives its bytes in pieces of a chosen size at most, and then ends or fails.
 #[derive(Drop)]
 pub struct PieceReader<'a> {
+    /// What it has not given yet.
     bytes: &'a [u8],
+    /// The most bytes of a piece.
     piece: usize,
+    /// What comes behind the bytes.
     end: End,
+    /// How often it failed, for proofs alone.
     failures: GhostCount,
     ghost gives: { 0 < piece },
 }

@@ -10,11 +10,17 @@ use std::alloc::{Allocator, Global};
 /// It fails, too, where no memory is left for the bytes.
 #[derive(Drop)]
 pub struct LimitedWriter<A: Allocator + Copy = Global> {
+    /// What it took.
     held: Vec<u8, A>,
+    /// The most bytes that it takes.
     limit: usize,
+    /// The most bytes of a piece.
     piece: usize,
+    /// Whether `flush` fails.
     flush_fails: bool,
+    /// Whether nothing was taken since the last `flush` that answered well.
     is_flushed: bool,
+    /// How often it failed, for proofs alone.
     failures: GhostCount,
 }
 

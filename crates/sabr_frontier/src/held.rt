@@ -22,11 +22,17 @@ use std::mem::replace;
 /// In `room` the next part is judged.
 #[derive(Debug, Drop)]
 pub struct Held<A: Allocator + Copy = Global> {
+    /// The prefixes of the parts, rising.
     pub prefixes: Vec<Numbers<A>, A>,
+    /// The node of each part.
     pub nodes: Vec<Node<A>, A>,
+    /// The leaves that the parts made.
     pub leaves: Vec<Route<A>, A>,
+    /// The prefixes that are to be parts, the least last.
     pub owed: Vec<Numbers<A>, A>,
+    /// Whether each part so far was the least that was to come.
     pub sound: bool,
+    /// Room in which the next part is judged.
     pub room: Judged<A>,
 }
 

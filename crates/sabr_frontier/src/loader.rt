@@ -22,10 +22,15 @@ use std::marker::Model;
 /// finder was called.
 #[derive(Drop)]
 pub struct Loader<'p, B: BestOf<A>, A: Allocator + Copy = Global> {
+    /// Where the session takes its memory.
     alloc: A,
+    /// The plan whose routes are listed.
     plan: &'p Plan<A>,
+    /// What is asked.
     request: Request,
+    /// The finder that the session will ask.
     finder: B,
+    /// The parts so far.
     held: Held<A>,
 }
 

@@ -23,13 +23,21 @@ use std::marker::Model;
 /// to, the latest first, the count of searches, and how often the finder was called.
 #[derive(Drop)]
 pub struct Session<'p, B: BestOf<A>, A: Allocator + Copy = Global> {
+    /// Where the parts and what is kept take their memory.
     alloc: A,
+    /// The plan whose routes are listed.
     plan: &'p Plan<A>,
+    /// What is asked.
     request: Request,
+    /// The finder of a part's least route.
     finder: B,
+    /// What is kept for its searches.
     kept: Kept<A>,
+    /// The parts and the routes given.
     tree: Tree<A>,
+    /// How long the journal was before each page that can be taken back.
     pages: Vec<usize, A>,
+    /// How many searches the last call took that counts them.
     searches: u64,
 }
 

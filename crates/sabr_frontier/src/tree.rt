@@ -12,9 +12,13 @@ pub struct NodeId(pub usize);
 /// A part: its prefix is the first `length` numbers of the route given as number `leaf`, from 0.
 #[derive(Debug, Drop)]
 pub struct Node<A: Allocator + Copy = Global> {
+    /// The route given of which the prefix is a beginning, counted from 0.
     pub leaf: usize,
+    /// How many of its numbers are the prefix.
     pub length: usize,
+    /// The numbers that the part leaves out behind the prefix.
     pub excluded: Excluded<A>,
+    /// The least route of the part, if it has one.
     pub route: Option<Route<A>>,
 }
 
@@ -31,10 +35,16 @@ pub struct Entry {
 /// given; the last of them; and an entry for each route that can be taken back.
 #[derive(Debug, Drop)]
 pub struct Tree<A: Allocator + Copy = Global> {
+    /// The parts, in the order in which they were made.
     pub nodes: Vec<Node<A>, A>,
+    /// Their numbers in order of prefix.
     pub index: Vec<NodeId, A>,
+    /// Those that carry a route, in order.
     pub queue: Queue<A>,
+    /// The routes given, in the order of the parts that they made.
     pub leaves: Vec<Route<A>, A>,
+    /// The place of the last of them.
     pub last: Option<usize>,
+    /// An entry for each route that can be taken back.
     pub journal: Vec<Entry, A>,
 }

@@ -41,16 +41,27 @@ use std::marker::Model;
 /// Which contacts and ranges a plan takes is this project's profile of ionrc(5): `add_contact` and `add_range` say it.
 #[derive(Drop)]
 pub struct Plan<A: Allocator + Copy = Global> {
+    /// Where the tables take their memory.
     alloc: A,
+    /// The standing contacts by number.
     contacts: Vec<Contact, A>,
+    /// The standing ranges by pair and start.
     ranges: Vec<Range, A>,
+    /// The nodes, each with the numbers that it sends.
     table: NodeTable<A>,
+    /// The greatest number ever given.
     greatest: u32,
+    /// What no two contacts share, as far as it is kept.
     openings: Openings<A>,
+    /// Beside each contact what a search reads of it, where the plan is ready.
     hops: Vec<Hop, A>,
+    /// Beside the first contacts the indexes of their nodes.
     ends: Vec<Ends, A>,
+    /// By node its links, where the plan is ready.
     linked: Vec<NodeLinks<A>, A>,
+    /// By node the links that lead to it, where the plan is ready.
     incoming: IncomingLinks<A>,
+    /// Whether hops and links stand.
     ready: bool,
 }
 

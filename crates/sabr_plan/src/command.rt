@@ -19,10 +19,15 @@ pub enum Target {
 /// The operands of `a contact` and `a range`: times in seconds, two nodes, and a rate or a light time.
 #[derive(Clone, Copy, Debug, PartialEq, Eq)]
 pub struct Addition {
+    /// The first second.
     pub start: u64,
+    /// The second behind the last.
     pub end: u64,
+    /// The sender, or the node that a range is written from.
     pub first: u64,
+    /// The receiver, or the node that a range is written to.
     pub second: u64,
+    /// The rate in bytes a second, or the light time in seconds.
     pub value: u64,
 }
 

@@ -21,9 +21,13 @@ const LINES_LIMIT: u32 = 1000000;
 /// What the lines so far leave, how many there are, and the bytes of the line behind them.
 #[derive(Drop)]
 pub struct PlanFeed<A: Allocator + Copy> {
+    /// How many lines LF has ended.
     lines: u32,
+    /// What they leave.
     reading: PlanReading<A>,
+    /// The bytes of the line behind them, at the front.
     held: [u8; 255],
+    /// How many these are.
     held_count: usize,
 }
 

@@ -16,9 +16,13 @@ use std::marker::Model;
 /// The gathered contacts and ranges of a plan, and the time that relative times are counted from.
 #[derive(Drop)]
 pub struct PlanReading<A: Allocator + Copy> {
+    /// Where the plan takes its memory.
     alloc: A,
+    /// The contacts so far.
     contacts: GatheredContacts<A>,
+    /// The ranges so far.
     ranges: GatheredRanges<A>,
+    /// What relative times are counted from, in seconds, once a line has said it.
     reference: Option<u64>,
 }
 

@@ -16,11 +16,17 @@ const DAYS_BEFORE_EPOCH: u32 = 4371587;
 /// The year, month and day of the Gregorian calendar, and what the clock shows.
 #[derive(Clone, Copy, Debug, PartialEq, Eq)]
 pub struct TimeFields {
+    /// The year.
     pub year: u16,
+    /// The month, from 1.
     pub month: u8,
+    /// The day of the month, from 1.
     pub day: u8,
+    /// The hour, from 0.
     pub hour: u8,
+    /// The minute, from 0.
     pub minute: u8,
+    /// The second, from 0.
     pub second: u8,
 }
 

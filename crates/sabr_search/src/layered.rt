@@ -17,10 +17,15 @@ use std::alloc::{Allocator, Global};
 /// to call.
 #[derive(Drop)]
 pub struct Layered<A: Allocator + Copy = Global> {
+    /// Where the buffers take their memory.
     alloc: A,
+    /// By node whether a route may not pass it.
     shut: Vec<bool, A>,
+    /// Layers forward and deadlines.
     layers: Layers<A>,
+    /// The looks of the last call.
     looks: Looks,
+    /// How often it was called, for proofs alone.
     calls: GhostCount,
 }
 

@@ -63,11 +63,17 @@ pub fn open_nodes<A: Allocator + Copy>(
 /// and where each of them begins.
 #[derive(Drop)]
 pub struct Layers<A: Allocator + Copy> {
+    /// By node the least arrival so far.
     pub arrival: Vec<u64, A>,
+    /// By node the place of an entry, or 0.
     pub place: Vec<usize, A>,
+    /// The entries, layer by layer, the first being the start.
     pub reached: Vec<Reached, A>,
+    /// Where each layer begins.
     pub bounds: Vec<usize, A>,
+    /// By node, of layers made backward, from when on it is too late so far.
     pub late: Vec<u64, A>,
+    /// Where each of these begins.
     pub ends: Vec<usize, A>,
 }
 

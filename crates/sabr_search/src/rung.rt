@@ -25,9 +25,13 @@ pub struct Span {
 /// by then, each node's within its span.
 #[derive(Drop)]
 pub struct Rung<A: Allocator + Copy> {
+    /// The second by which a delivery is asked for.
     pub deadline: u64,
+    /// By node the first second too late for a delivery before it.
     pub before: Vec<u64, A>,
+    /// The dues for a delivery by then.
     pub dues: Vec<Due, A>,
+    /// By node between which places its dues are.
     pub spans: Vec<Span, A>,
 }
 

@@ -121,11 +121,17 @@ fn learn<A: Allocator + Copy>(
 /// at most `(3 * r + 3) * C`, r the hops of the answer behind the prefix. Its memory is kept from call to call.
 #[derive(Drop)]
 pub struct Settled<A: Allocator + Copy = Global> {
+    /// Where the buffers take their memory.
     alloc: A,
+    /// By node whether a route may not pass it.
     shut: Vec<bool, A>,
+    /// Nodes in order of arrival.
     settling: Settling<A>,
+    /// Layers backward, or forward, and deadlines.
     layers: Layers<A>,
+    /// The looks of the last call.
     looks: Looks,
+    /// How often it was called, for proofs alone.
     calls: GhostCount,
 }
 

@@ -21,13 +21,21 @@ use std::marker::Model;
 /// A plan and a request, the nodes that are shut, the numbers excluded at the start, the start and when, and the goal.
 #[derive(Drop)]
 pub struct Task<'a, A: Allocator + Copy> {
+    /// The plan that is searched.
     plan: &'a Plan<A>,
+    /// What is asked.
     request: &'a Request,
+    /// By node whether a way may not pass it.
     shut: &'a [bool],
+    /// The numbers that no way takes first.
     excluded: &'a [u32],
+    /// Whether these are known never to fall.
     in_order: bool,
+    /// The index of the node at which the search starts.
     start: usize,
+    /// The index of the destination.
     goal: usize,
+    /// When the search starts, in seconds.
     at: u64,
 }
 

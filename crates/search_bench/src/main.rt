@@ -18,9 +18,13 @@ use timed::{Searches, Timed, Watch};
 /// What a first search took, the searches of the page behind it, and the whole page with its division of parts.
 #[derive(Clone, Copy)]
 struct Figures {
+    /// What the first search took.
     first: Searches,
+    /// What the searches of the page took.
     page: Searches,
+    /// What the whole page took, in nanoseconds.
     page_nanoseconds: u64,
+    /// How many routes came.
     routes: usize,
 }
 

@@ -14,9 +14,13 @@ pub type Window = (u64, u64, u32, u32);
 /// and the contacts behind these.
 #[derive(Clone, Copy)]
 pub struct PlanTable {
+    /// Light times for 1000 seconds from `BEGIN` on.
     pub pairs: &'static [Pair],
+    /// The contacts.
     pub windows: &'static [Window],
+    /// Those of them that are deleted.
     pub deleted: &'static [Window],
+    /// The contacts behind these.
     pub more: &'static [Window],
 }
 

@@ -14,7 +14,9 @@ use std::test::Fail;
 /// Both finders, kept from part to part and from plan to plan: no answer depends on what was asked before.
 #[derive(Drop)]
 struct Finders {
+    /// The one finder.
     layered: Layered,
+    /// The other one.
     settled: Settled,
     /// How many parts had a route.
     routes: u64,

@@ -10,8 +10,11 @@ use std::alloc::{Allocator, Global};
 /// A session, the list of all its routes, and where in it the session has to be.
 #[derive(Drop)]
 pub struct Walk<'p, 'l, B: BestOf<A>, A: Allocator + Copy = Global> {
+    /// The session that is compared.
     session: Session<'p, B, A>,
+    /// All its routes, in order.
     listing: &'l [Route<A>],
+    /// How many of them it has to count as given.
     place: usize,
     /// How many searches it has to tell.
     searches: u64,

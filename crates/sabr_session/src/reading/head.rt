@@ -19,10 +19,15 @@ use std::marker::Model;
 /// What the first six lines say but for the request. What none of them has said is 0 or empty.
 #[derive(Drop)]
 pub(crate) struct Head<A: Allocator + Copy> {
+    /// Where the last route takes its memory.
     alloc: A,
+    /// The version that line 1 names.
     version: Version,
+    /// How many routes were given.
     emitted: u128,
+    /// The last of them.
     last: Numbers<A>,
+    /// How many parts there are to be.
     count: u64,
 }
 

@@ -24,9 +24,13 @@ const OTHER_LINES: u128 = 7;
 /// held.
 #[derive(Drop)]
 pub(crate) struct LinesRead<'p, B: BestOf<A>, A: Allocator + Copy> {
+    /// How many lines there are.
     lines: u128,
+    /// What the first six say but for the request.
     head: Head<A>,
+    /// The finder, and from line 3 on the loader.
     stage: Stage<'p, B, A>,
+    /// Room for the lists of a part.
     part: PartLine<A>,
 }
 

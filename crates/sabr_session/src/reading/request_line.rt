@@ -20,11 +20,17 @@ const MOST_HOPS: u32 = 20000;
 /// The values of a request's line, which may be refused.
 #[derive(Drop)]
 pub(crate) struct RequestValues {
+    /// The source.
     pub(crate) from: u64,
+    /// The destination.
     pub(crate) to: u64,
+    /// When the bundle is at the source, in seconds.
     pub(crate) at: u64,
+    /// The margin, in parts in a million.
     pub(crate) margin_ppm: u32,
+    /// The most contacts of a route.
     pub(crate) max_hops: u32,
+    /// The nodes to avoid.
     pub(crate) avoid: NodeList,
 }
 

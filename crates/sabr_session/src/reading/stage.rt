@@ -18,9 +18,13 @@ use std::marker::Model;
 /// The finder until there is a request, and then the loader, which has both.
 #[derive(Drop)]
 pub(crate) struct Stage<'p, B: BestOf<A>, A: Allocator + Copy> {
+    /// Where the session takes its memory.
     alloc: A,
+    /// The plan that the text was written for.
     plan: &'p Plan<A>,
+    /// The finder, until there is a request.
     finder: Option<B>,
+    /// The loader, from then on.
     loader: Option<Loader<'p, B, A>>,
 }
 

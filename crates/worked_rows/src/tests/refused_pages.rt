@@ -14,9 +14,13 @@ use worked_plans::{
 
 /// A plan, its states, how many routes are given at first, and the routes of the page behind them.
 struct Row {
+    /// The plan.
     table: PlanTable,
+    /// Its states.
     states: &'static [State<'static>],
+    /// How many routes are given at first.
     given: u32,
+    /// The routes of the page behind them.
     behind: &'static [Listed<'static>],
 }
 

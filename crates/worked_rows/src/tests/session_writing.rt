@@ -18,10 +18,15 @@ const DIGEST_C: &str = "0ad9ab39b21b1100ccba6ac2c3a664a6fae8cf88210e317ce6a455a8
 /// A plan and its digest, what is asked, the sizes of the pages that were asked for, and the text behind the digest.
 #[derive(Clone, Copy)]
 struct Row {
+    /// The plan's text.
     plan: &'static str,
+    /// Its digest.
     digest: &'static str,
+    /// What is asked.
     asked: Asked,
+    /// The sizes of the pages that were asked for.
     pages: &'static [u32],
+    /// The text behind the digest.
     text: &'static str,
 }
 

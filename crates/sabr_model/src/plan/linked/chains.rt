@@ -11,9 +11,13 @@ use std::alloc::{AllocError, Allocator};
 /// it in the chain of those to its receiver, 0 at the chain's end.
 #[derive(Clone, Copy)]
 pub struct Chained {
+    /// The index of its sender.
     pub sender: u32,
+    /// Its place among the sender's links.
     pub link: u32,
+    /// The index of its receiver.
     pub receiver: u32,
+    /// One more than the place of the link before it in the receiver's chain, 0 at the chain's end.
     pub next: u32,
 }
 
