@@ -106,19 +106,29 @@ fn a_text_that_ends_too_early_is_refused(rt: HostRuntime) -> Result<(), Fail> {
     Ok(())
 }
 
+/// Feeds the lines up to the count and then the digits, the last by itself: how many bytes were held before it, and the
+/// fault that it meets.
+fn feed_digits(
+    feed: &mut SessionFeed<'_, Settled>,
+    head: &str,
+    digits: &[u8],
+) -> Option<(usize, SessionFault)> {
+    let (last, line) = digits.split_last()?;
+    feed.feed(head.as_bytes()).ok()?;
+    feed.feed(b"emitted 2\n").ok()?;
+    feed.feed(line).ok()?;
+    let held = feed.held();
+    let fault = feed.feed(&[*last]).err()?;
+    Some((held, fault))
+}
+
 /// Tells what a feed over plan A answers to a line of digits behind the head, a byte before it is too long and then.
 fn long_line(alloc: Global, head: &str) -> Option<(usize, SessionFault)> {
     let plan = ready_plan(alloc, TEXT_OF_A).ok()?;
+    let mut digits = Vec::new(alloc);
+    digits.resize(660009, b'1').ok()?;
     let mut feed = SessionFeed::new(alloc, &plan, &digest(&plan), Settled::new(alloc));
-    feed.feed(head.as_bytes()).ok()?;
-    feed.feed(b"emitted 2\n").ok()?;
-    for _ in 0..161u32 {
-        feed.feed(&[b'1'; 4096]).ok()?;
-    }
-    feed.feed(&[b'1'; 552]).ok()?;
-    let held = feed.held();
-    let fault = feed.feed(b"1").err()?;
-    Some((held, fault))
+    feed_digits(&mut feed, head, &digits)
 }
 
 #[test]
