@@ -14,6 +14,7 @@ mod plan_reading;
 mod plan_texts;
 mod prefixes;
 mod refusals;
+mod refused_pages;
 mod reports;
 mod requests;
 mod routes;
