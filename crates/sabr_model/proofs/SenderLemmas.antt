@@ -165,6 +165,11 @@ module _ {A : Type 0} (p : TabledPlan) (linked : List (NodeLinks A)) (are : AreL
             let a = part_at xs l.first (l.end - l.first) i x at_i in
             let b = part_at xs l.first (l.end - l.first) k y at_k in
             h.is.kept (l.first + i) (l.first + k) x y (omega arith) (omega (arith, le)) (let lt = b.0 in omega (arith, lt)) a.1 b.1;
+        in_rows = λ i j x y at_i at_j.
+            let a = part_at xs l.first (l.end - l.first) i x at_i in
+            let b = part_at xs l.first (l.end - l.first) (i + j) y at_j in
+            let there : l.first + (i + j) ≡ l.first + i + j = omega arith in
+            h.is.in_rows (l.first + i) j x y (omega arith) (let lt = b.0 in omega (arith, lt)) a.1 (ap (slice_get xs) (sym there) ∙ b.1);
       })
 
   -- ---- no number stands twice

@@ -29,6 +29,10 @@ pub record IsBefore (x y : Pass) : Type 0 where
   pub light_behind : x.least_light_behind ≤ y.light
   pub number_behind : x.least_number_behind ≤ y.number
 
+-- y, some places behind x, has the number as far behind that of x, where it stands in the row that x knows
+abbrev pub IsInRow : Pass → ℕ → Pass → Type 0
+IsInRow x behind y = behind ≤ x.in_row_behind → y.number ≡ x.number + behind
+
 -- the pass keeps within the bounds of its link
 pub record IsWithin (b : LinkBounds) (x : Pass) : Type 0 where
   pub ends : x.end ≤ b.latest_end
@@ -47,6 +51,7 @@ pub record IsLinkOf (p : TabledPlan) (node : ℕ) (passes : List Pass) (l : Link
   pub within : l.end ≤ length passes
   pub each : (k : ℕ) (x : Pass) → l.first ≤ k → k < l.end → slice_get passes k ≡ Some x → IsPassOf p node to x
   pub kept : (i k : ℕ) (x y : Pass) → l.first ≤ i → i ≤ k → k < l.end → slice_get passes i ≡ Some x → slice_get passes k ≡ Some y → IsBefore x y
+  pub in_rows : (i j : ℕ) (x y : Pass) → l.first ≤ i → i + j < l.end → slice_get passes i ≡ Some x → slice_get passes (i + j) ≡ Some y → IsInRow x j y
   pub bounds : (k : ℕ) (x : Pass) → l.first ≤ k → k < l.end → slice_get passes k ≡ Some x → IsWithin l.bounds x
 
 -- the numbers of passes
@@ -78,6 +83,7 @@ pub record IsLinkTo (p : TabledPlan) (node : ℕ) (s : SentLink) : Type 0 where
   pub at : slice_get p.table s.sender ≡ Some from
   pub each : (k : ℕ) (x : Pass) → slice_get s.passes k ≡ Some x → IsPassOf p from node x
   pub kept : (i k : ℕ) (x y : Pass) → i ≤ k → slice_get s.passes i ≡ Some x → slice_get s.passes k ≡ Some y → IsBefore x y
+  pub in_rows : (i j : ℕ) (x y : Pass) → slice_get s.passes i ≡ Some x → slice_get s.passes (i + j) ≡ Some y → IsInRow x j y
 
 -- The links are those to the node: each standing contact to it that has a light time is a pass of one of them, and
 -- together they have no more passes than the node receives contacts.

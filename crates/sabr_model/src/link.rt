@@ -22,6 +22,8 @@ pub struct Pass {
     pub least_light_behind: u32,
     /// The least number of this contact and those behind it on the link.
     pub least_number_behind: u32,
+    /// How many contacts behind this one surely have the numbers behind its own, one by one, where the link has as many.
+    pub in_row_behind: u32,
 }
 
 /// What holds for each pass of a link, so that a search can leave out the whole link.

@@ -82,5 +82,6 @@ fn pass_of<A: Allocator + Copy>(plan: &Plan<A>, number: u32) -> Option<Pass>
         least_light_before: light,
         least_light_behind: light,
         least_number_behind: number,
+        in_row_behind: 0,
     })
 }

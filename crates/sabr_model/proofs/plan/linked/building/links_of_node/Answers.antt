@@ -14,10 +14,10 @@ returns g c = λ node e.
     let ready = c.order_passes.new.passes in
     let links = c.in_ok-links.links.items in
     let lent : c.deref_mut.result.now ≡ made = c.deref_mut.ensures.value in
-    let ordered : AreOrdered made ready = subst (λ (xs : List Pass). AreOrdered xs ready) lent c.order_passes.ensures in
+    let ordered : AreOrdered made ready = subst (λ (xs : List Pass). AreOrdered xs ready) lent c.order_passes.ensures.ordered in
     let many : length ready ≡ c.in_ok-passes.passes.len = omega (arith, ordered.as_many, c.in_ok-passes.passes.ok) in
     let back : take c.in_ok-passes.passes.len (ready ++ drop (length ready) made) ≡ ready = take_at ready (drop (length ready) made) c.in_ok-passes.passes.len many in
     let rows : AreRows ready links (length ready) = subst (λ (xs : List Pass). AreRows xs links (length xs)) (c.deref.ensures.value ∙ back) c.in_ok-links.ensures in
     subst (λ (xs : List Pass). AreLinksOf p node links xs) (sym back)
     (are_links p node c.from_index.result.now made ready links
-    (subst (AreSent p.plan node) (sym (c.from_index.ensures node e)) (are_sent p.plan node c.requires.rules)) c.in_ok-passes.ensures.are ordered rows)
+    (subst (AreSent p.plan node) (sym (c.from_index.ensures node e)) (are_sent p.plan node c.requires.rules)) c.in_ok-passes.ensures.are ordered c.order_passes.ensures.in_rows rows)
