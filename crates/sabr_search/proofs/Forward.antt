@@ -1,6 +1,6 @@
 -- Steps of a forward search: what one contact, one node and one layer leave.
-use Rattle.std.proofs.Common.{◌≡◌, ◌≢◌, min, ◌⊎◌, inl, inr, ℕ, ◌+◌, ◌<◌, ◌≤◌, List, Bool, true, false, ◌&&◌, eqb, Some, slice_get, slice_index, slice_index_or, refl, ap, sym, subst, ◌∙◌, arith}
-use Rattle.std.proofs.lemmas.Bool.{both_ways, and_parts, eq-eqb, eqb-true, cases_lt, cases_eq}
+use Rattle.std.proofs.Common.{◌≡◌, ◌≢◌, min, ◌⊎◌, inl, inr, ℕ, ◌+◌, ◌<◌, ◌≤◌, List, Bool, false, Some, slice_get, slice_index, slice_index_or, refl, ap, sym, subst, ◌∙◌, arith}
+use Rattle.std.proofs.lemmas.Bool.{cases_lt, cases_eq}
 use Rattle.sabr_model.specs.declared.contact.Contact.{Contact}
 use Rattle.sabr_model.specs.declared.hop.Hop.{Hop}
 use Rattle.sabr_model.specs.Plan.{contact_named, has}
@@ -93,16 +93,6 @@ hop_takes task is n h hop u t x sent unshut allowed arrives =
       arrives = hop_arrival_is (record { plan = task.plan; table = task.table }) task.request t hop.contact h hop.is ∙ arrives;
     }
 
--- what the test of excluded numbers says
-pub allowed_by : (task : SearchTask) (u n : ℕ) (b : Bool) → b ≡ (eqb u task.start && has n task.excluded) → b ≡ false → u ≡ task.start → has n task.excluded ≡ false
-allowed_by task u n b is not_so here =
-    let e : (eqb u task.start && has n task.excluded) ≡ false = sym is ∙ not_so in
-    sym (ap (λ t. t && has n task.excluded) (eq-eqb u task.start here)) ∙ e
-
-pub excluded_by : (task : SearchTask) (u n t w x : ℕ) (b : Bool) → b ≡ (eqb u task.start && has n task.excluded) → b ≡ true → Takes task n u t w x → ⊥
-excluded_by task u n t w x b is so s =
-    let parts = and_parts (eqb u task.start) (has n task.excluded) (sym is ∙ so) in
-    both_ways (has n task.excluded) (s.allowed (eqb-true u task.start parts.0)) parts.1
-
+-- a place before the next is an earlier one or this
 pub last_or_before : (n i : ℕ) → n < i + 1 → (n < i) ⊎ (n ≡ i)
 last_or_before n i h = grind arith

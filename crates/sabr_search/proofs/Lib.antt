@@ -36,3 +36,4 @@ pub mod AllLayers
 pub mod Beside
 pub mod Tries
 pub mod Ended
+pub mod Rising

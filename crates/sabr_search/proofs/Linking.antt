@@ -74,6 +74,11 @@ module _ (task : SearchTask) (is : IsTask task) (u node : ℕ) (at : slice_get t
         (let p = part_at passes l.first (l.end - l.first) i x at_i in
         let q = part_at passes l.first (l.end - l.first) k y at_k in
         link.kept (l.first + i) (l.first + k) x y (omega arith) (omega (arith, le)) (omega (arith, q.0)) p.1 q.1);
+    in_rows = λ i j x y at_i at_j.
+        (let p = part_at passes l.first (l.end - l.first) i x at_i in
+        let q = part_at passes l.first (l.end - l.first) (i + j) y at_j in
+        let there : l.first + i + j ≡ l.first + (i + j) = omega arith in
+        link.in_rows (l.first + i) j x y (omega arith) (omega (arith, q.0)) p.1 (ap (slice_get passes) there ∙ q.1));
   }
 
   -- what a plan says of a node's links, of a search
@@ -108,6 +113,7 @@ senders_at task is w node here links of = record {
       record {
         each = λ k x at. pass_at task is l.sender link.from link.at node w x here (link.each k x at);
         kept = link.kept;
+        in_rows = link.in_rows;
       });
   whole = λ n u t b s.
       (let a = arrival_parts task.plan task.request t s.contact b s.arrives in

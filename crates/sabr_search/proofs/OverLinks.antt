@@ -1,5 +1,5 @@
 -- What the bounds beside the passes of a link say of the steps over them.
-use Rattle.std.proofs.Common.{◌≡◌, ℕ, ◌+◌, ◌-◌, ◌<◌, ◌≤◌, max, ◌⊎◌, inl, inr, List, length, drop, false, Some, slice_get, slice_index_or, sym, ap, ◌∙◌, arith}
+use Rattle.std.proofs.Common.{◌≡◌, ℕ, ◌+◌, ◌-◌, ◌<◌, ◌≤◌, max, ◌⊎◌, inl, inr, List, length, drop, true, false, Some, slice_get, slice_index_or, sym, ap, ◌∙◌, arith}
 use Rattle.std.specs.Prelude.{IfSome}
 use Rattle.std.specs.List.Sorted.{IsNonDecreasingBy}
 use Rattle.std.specs.declared.option.Option.{Option}
@@ -11,6 +11,7 @@ use Rattle.sabr_search.specs.Deadlines.{IsInTime, AreTimed}
 use Rattle.sabr_search.specs.Picks.{IsAtMost}
 use Rattle.sabr_search.proofs.Backward.{in_time_open}
 use Rattle.std.proofs.lemmas.Option.{slice_get-get_or}
+use Rattle.std.proofs.lemmas.Bool.{both_ways}
 use Rattle.sabr_model.specs.declared.contact.Contact.{Contact}
 use Rattle.sabr_model.specs.declared.hop.Hop.{Hop}
 use Rattle.sabr_model.specs.declared.link.Pass.{Pass}
@@ -35,7 +36,7 @@ same_some h = cc
 
 -- what stands where a list of passes has no more
 abbrev pub no_pass : Pass
-no_pass = record { number = 0; receiver = 0; light = 0; start = 0; end = 0; latest_end = 0; least_light_before = 0; least_light_behind = 0; least_number_behind = 0 }
+no_pass = record { number = 0; receiver = 0; light = 0; start = 0; end = 0; latest_end = 0; least_light_before = 0; least_light_behind = 0; least_number_behind = 0; in_row_behind = 0 }
 
 abbrev pub no_link : Link
 no_link = record { receiver = 0; first = 0; end = 0; bounds = record { latest_end = 0; least_light = 0; soonest = 0 } }
@@ -114,6 +115,15 @@ module _ (task : SearchTask) (is : IsTask task) (u to : ℕ) (passes : List Pass
   least_light_small k x at =
       let p = link.each k x at in
       omega (arith, (link.kept k k x x (omega arith) at at).light_behind, light_small task.plan is.plan p.contact x.light p.light)
+
+  -- what a walk jumps over takes nothing
+  pub none_excluded : (t i k r : ℕ) (x y : Pass) (w b : ℕ) → slice_get passes i ≡ Some x → i ≤ k → k < i + r → slice_get passes k ≡ Some y → r ≤ x.in_row_behind + 1 →
+      ((j : ℕ) → j < r → (u ≡ task.start) × (has (x.number + j) task.excluded ≡ true)) → Takes task y.number u t w b → ⊥
+  none_excluded t i k r x y w b at_i le less at_k few out s =
+      let there : i + (k - i) ≡ k = omega (arith, le) in
+      let number : y.number ≡ x.number + (k - i) = link.in_rows i (k - i) x y at_i (ap (slice_get passes) there ∙ at_k) (omega (arith, few, less, le)) in
+      let here = out (k - i) (omega (arith, less, le)) in
+      both_ways (has y.number task.excluded) (s.allowed here.0) (ap (λ n. has n task.excluded) number ∙ here.1)
 
   -- where a pass and the lightest contact behind it arrive late, all behind it do
   pub late_over : (t before i : ℕ) (x : Pass) → slice_get passes i ≡ Some x → before ≤ max t x.start + cost task.request.margin x.least_light_behind →

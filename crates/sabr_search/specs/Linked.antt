@@ -6,7 +6,7 @@ use Rattle.sabr_model.specs.declared.link.Pass.{Pass}
 use Rattle.sabr_model.specs.declared.link.Link.{Link}
 use Rattle.sabr_model.specs.Plan.{contact_named}
 use Rattle.sabr_model.specs.Light.{light_of}
-use Rattle.sabr_model.specs.Links.{IsBefore, AreWithin, SentLink}
+use Rattle.sabr_model.specs.Links.{IsBefore, IsInRow, AreWithin, SentLink}
 use Rattle.sabr_search.specs.Task.{SearchTask, Takes}
 use Rattle.sabr_search.specs.Steps.{degree}
 
@@ -21,9 +21,11 @@ pub record IsPassAt (task : SearchTask) (u w : ℕ) (x : Pass) : Type 0 where
   pub light : light_of task.plan contact ≡ Some x.light
 
 -- passes from the node at place u to the node at place w, by start, each within the bounds that stand beside the others
+-- and with as many numbers behind its own as stand beside it
 pub record IsLinkAt (task : SearchTask) (u w : ℕ) (passes : List Pass) : Type 0 where
   pub each : (k : ℕ) (x : Pass) → slice_get passes k ≡ Some x → IsPassAt task u w x
   pub kept : (i k : ℕ) (x y : Pass) → i ≤ k → slice_get passes i ≡ Some x → slice_get passes k ≡ Some y → IsBefore x y
+  pub in_rows : (i j : ℕ) (x y : Pass) → slice_get passes i ≡ Some x → slice_get passes (i + j) ≡ Some y → IsInRow x j y
 
 -- one of the passes has the number
 abbrev pub HasNumber : List Pass → ℕ → Type 0

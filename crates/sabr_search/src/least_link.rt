@@ -43,17 +43,21 @@ impl<'a, A: Allocator + Copy> Task<'a, A> {
         }
         let mut chosen = least;
         let mut finger = Finger::new();
-        for place in first_open(self, node, to, passes, at)..passes.len() {
+        let mut place = first_open(self, node, to, passes, at);
+        while place < passes.len() {
             let pass = looks.look(&passes[place]);
             if is_at_most(chosen, pass.least_number_behind) {
                 return chosen;
             }
-            if self.is_excluded(node, pass.number, &mut finger) {
+            let excluded = self.excluded_from(node, pass, &mut finger);
+            if excluded > 0 {
+                place += excluded.min(passes.len() - place);
                 continue;
             }
             if self.comes_late(pass, at, before) {
                 return chosen;
             }
+            place += 1;
             if is_at_most(chosen, pass.number) {
                 continue;
             }

@@ -84,7 +84,8 @@ impl<'a, A: Allocator + Copy> Task<'a, A> {
     }
 
     /// Gives the least arrival over a link of what is at its sender at `at`, where it is before `before`, and else
-    /// `before`. It takes a halving and as many looks as passes come in question, mostly two.
+    /// `before`. It takes a halving and as many looks as passes come in question, mostly two; excluded
+    /// ones whose numbers stand in a row take one look.
     pub fn arrive_over(
         &self,
         looks: &mut Looks,
@@ -112,9 +113,12 @@ impl<'a, A: Allocator + Copy> Task<'a, A> {
         }
         let mut least = before;
         let mut finger = Finger::new();
-        for place in first_open(self, node, to, passes, at)..passes.len() {
+        let mut place = first_open(self, node, to, passes, at);
+        while place < passes.len() {
             let pass = looks.look(&passes[place]);
-            if self.is_excluded(node, pass.number, &mut finger) {
+            let excluded = self.excluded_from(node, pass, &mut finger);
+            if excluded > 0 {
+                place += excluded.min(passes.len() - place);
                 continue;
             }
             if self.comes_late(pass, at, least) {
@@ -124,6 +128,7 @@ impl<'a, A: Allocator + Copy> Task<'a, A> {
             if let Some(arrival) = self.arrive_before(at, &hop, least) {
                 least = arrival;
             }
+            place += 1;
         }
         least
     }

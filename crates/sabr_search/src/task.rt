@@ -1,7 +1,6 @@
 //! What does not change during a search, and the arrival over one contact.
 
-ghost use Rattle.std.specs.Prelude.{◌≡◌, ◌==◌, ◌&&◌, ℕ, ◌≤◌, ◌<◌, ◌+◌, ◌*◌, ◌^◌, None, Some, MatchOption, IfOk, IfSome, IfNone, IsTrue, length, slice_get};
-ghost use Rattle.std.specs.List.Sorted.{IsNonDecreasing};
+ghost use Rattle.std.specs.Prelude.{◌≡◌, ℕ, ◌≤◌, ◌<◌, ◌+◌, ◌*◌, ◌^◌, None, Some, MatchOption, IfOk, IfSome, IfNone, false, true, length, slice_get};
 ghost use Rattle.sabr_model.specs.Arrival.{cost};
 ghost use Rattle.sabr_model.specs.Plan.{has};
 ghost use Rattle.sabr_model.specs.Plan.{contact_named};
@@ -11,10 +10,10 @@ ghost use Rattle.sabr_search.specs.Task.{IsTask};
 ghost use Rattle.sabr_search.specs.Steps.{IsHopAt};
 ghost use Rattle.sabr_search.specs.Linked.{AreLinksAt, AreSendersAt};
 
-use crate::finger::Finger;
+use crate::finger::{Finger, rises};
 use crate::looks::Looks;
 use crate::pick::Standing;
-use sabr_model::{Hop, NoMemory, Outgoing, Plan, Request, Senders};
+use sabr_model::{Hop, NoMemory, Outgoing, Pass, Plan, Request, Senders};
 use std::alloc::Allocator;
 use std::marker::Model;
 
@@ -29,7 +28,7 @@ pub struct Task<'a, A: Allocator + Copy> {
     shut: &'a [bool],
     /// The numbers that no way takes first.
     excluded: &'a [u32],
-    /// Whether these are known never to fall.
+    /// Whether these are known to rise.
     in_order: bool,
     /// The index of the node at which the search starts.
     start: usize,
@@ -41,14 +40,14 @@ pub struct Task<'a, A: Allocator + Copy> {
 
 impl<'a, A: Allocator + Copy> Model for Task<'a, A> {
     ghost use Rattle.std.specs.Prelude.{◌≡◌, true};
-    ghost use Rattle.std.specs.List.Sorted.{IsNonDecreasing};
+    ghost use Rattle.std.specs.List.Sorted.{IsStrictlyIncreasing};
     ghost use Rattle.sabr_search.specs.Task.{SearchTask};
 
     ghost Value = { SearchTask };
 
     ghost view = { λ a. record { plan = a.plan.now.plan; request = a.request.now; table = a.plan.now.table; shut = a.shut.now; excluded = a.excluded.now; start = a.start; goal = a.goal; at = a.at } };
 
-    ghost invariant = { λ a. a.in_order ≡ true → IsNonDecreasing a.excluded.now };
+    ghost invariant = { λ a. a.in_order ≡ true → IsStrictlyIncreasing a.excluded.now };
 }
 
 impl<'a, A: Allocator + Copy> Task<'a, A> {
@@ -68,7 +67,7 @@ impl<'a, A: Allocator + Copy> Task<'a, A> {
             request,
             shut,
             excluded,
-            in_order: never_falls(excluded),
+            in_order: rises(excluded),
             start: standing.node,
             goal,
             at: standing.at,
@@ -158,12 +157,23 @@ impl<'a, A: Allocator + Copy> Task<'a, A> {
         2 * self.plan.contacts().len() as u64
     }
 
-    /// Tells whether a route may not take this number behind the prefix. A walk over passes keeps the finger.
+    /// Tells how many passes of a link, this one and those behind it, have numbers that no route takes behind the prefix:
+    /// 0 where one may take this, and else no more than the pass knows in its row. A walk over passes keeps the finger.
     #[inline(always)]
-    pub fn is_excluded(&self, node: usize, number: u32, finger: &mut Finger) -> bool
-        ensures { result ≡ (node == self.now.start && has number self.now.excluded) }
+    pub fn excluded_from(&self, node: usize, pass: &Pass, finger: &mut Finger) -> usize
+        ensures none { result ≡ 0 → node ≡ self.now.start → has pass.now.number self.now.excluded ≡ false }
+        ensures some { (j : ℕ) → j < result → (node ≡ self.now.start) × (has (pass.now.number + j) self.now.excluded ≡ true) }
+        ensures in_row { result ≤ pass.now.in_row_behind + 1 }
     {
-        node == self.start && finger.finds(self.excluded, self.in_order, number)
+        if node != self.start {
+            return 0;
+        }
+        finger.counts(
+            self.excluded,
+            self.in_order,
+            pass.number,
+            pass.in_row_behind,
+        )
     }
 
     /// Gives a light time with the margin, in seconds.
@@ -234,11 +244,4 @@ fn cost(light: u32, margin_ppm: u32) -> u64
         return light;
     }
     light + (light * margin_ppm as u64 + 999999) / 1000000
-}
-
-/// Tells whether the numbers never fall.
-pub fn never_falls(numbers: &[u32]) -> bool
-    ensures { IsTrue result → IsNonDecreasing numbers.now }
-{
-    numbers.is_sorted()
 }

@@ -3,8 +3,8 @@ use Rattle.std.proofs.lemmas.Option.{slice_get-get_or, slice_get_within}
 use Rattle.std.proofs.lemmas.Bool.{cases_lt}
 use Rattle.sabr_model.specs.declared.link.Pass.{Pass}
 use Rattle.sabr_search.proofs.PlanFacts.{hop_arrives}
-use Rattle.sabr_search.proofs.Forward.{step_of_hop, allowed_by, excluded_by, last_or_before}
-use Rattle.sabr_search.proofs.OverLinks.{same_some, no_pass, none_ended, least_light_small, late_over, ruled_out, pass_takes, step_at, step_over}
+use Rattle.sabr_search.proofs.Forward.{step_of_hop, last_or_before}
+use Rattle.sabr_search.proofs.OverLinks.{same_some, no_pass, none_ended, none_excluded, least_light_small, late_over, ruled_out, pass_takes, step_at, step_over}
 use Rattle.sabr_search.proofs.task.Task.arrive_over.Goals as goal
 use Rattle.sabr_search.proofs.task.Task.arrive_over.Goals.{in-Some, in_default}
 
@@ -14,6 +14,7 @@ returns-then-rules_out-clause-full g c = λ n w b has s.
 
 pub loop-place-init : goal.loop-place-init
 loop-place-init g c = record {
+  within = c.first_open-place.ensures.within;
   counted = omega arith;
   looked = omega arith;
   some_looks = λ less. absurd (omega (arith, less));
@@ -54,8 +55,8 @@ hop_over-hop-requires-clause-pass g c =
     let here : slice_get passes i ≡ Some pass = slice_get-get_or passes i no_pass c.loop-place-test.true ∙ ap (λ (z : Bor Pass). Some z.now) (sym c.look-pass.ensures.same) in
     c.requires.link.each i pass here
 
-pub loop-place-preserved-then-is_excluded : goal.loop-place-preserved-then-is_excluded
-loop-place-preserved-then-is_excluded g c =
+pub loop-place-preserved-then-excluded-gt0 : goal.loop-place-preserved-then-excluded-gt0
+loop-place-preserved-then-excluded-gt0 g c =
     let task = c.args.self.now in
     let passes = c.args.passes.now in
     let i = c.loop-place.place in
@@ -63,15 +64,16 @@ loop-place-preserved-then-is_excluded g c =
     let here : slice_get passes i ≡ Some pass = slice_get-get_or passes i no_pass c.loop-place-test.true ∙ ap (λ (z : Bor Pass). Some z.now) (sym c.look-pass.ensures.same) in
     let so_far = c.loop-place.invariant in
     record {
+      within = omega (arith, c.loop-place-test.true);
       counted = omega (arith, so_far.counted, c.look-pass.ensures.counted);
       looked = omega (arith, so_far.looked, c.look-pass.ensures.counted);
       some_looks = λ less. omega (arith, so_far.looked, c.look-pass.ensures.counted);
       later = so_far.later;
       upper = so_far.upper;
       sound = so_far.sound;
-      full = λ k x w b less at s. elim (last_or_before k i less) [
+      full = λ k x w b less at s. elim (cases_lt k i) [
         | inl before ↦ so_far.full k x w b before at s
-        | inr same ↦ absurd (excluded_by task c.args.node pass.number c.args.at w b c.is_excluded.result c.is_excluded.ensures c.if-is_excluded.true (step_at task passes c.args.node c.args.at i k pass x w b here at same s))
+        | inr behind ↦ absurd (none_excluded task c.requires.task c.args.node c.args.to passes c.requires.link c.args.at i k c.excluded_from-excluded.result pass x w b here behind (omega (arith, less)) at c.excluded_from-excluded.ensures.in_row c.excluded_from-excluded.ensures.some s)
       ];
     }
 
@@ -91,13 +93,14 @@ loop-place-preserved g c =
       | in-Some z ↦
           (let got = z.in-Some.ensures.some in
           rw z.least-is (record {
+            within = omega (arith, c.loop-place-test.true);
             counted = omega (arith, so_far.counted, c.look-pass.ensures.counted);
             looked = omega (arith, so_far.looked, c.look-pass.ensures.counted);
             some_looks = λ less. omega (arith, so_far.looked, c.look-pass.ensures.counted);
             later = omega (arith, (hop_arrives task.request.margin t z.in-Some.arrival hop got.0).sum);
             upper = omega (arith, so_far.upper, got.1);
             sound = λ less open'.
-                (pass.number, pass_takes task c.requires.task u c.args.to t pass z.in-Some.arrival hop (c.requires.link.each i pass here) c.hop_over-hop.ensures.receiver is_hop open' (allowed_by task u pass.number c.is_excluded.result c.is_excluded.ensures c.if-is_excluded.false) got.0);
+                (pass.number, pass_takes task c.requires.task u c.args.to t pass z.in-Some.arrival hop (c.requires.link.each i pass here) c.hop_over-hop.ensures.receiver is_hop open' (c.excluded_from-excluded.ensures.none (omega (arith, c.if-excluded-gt0.false))) got.0);
             full = λ k x w b less at s. elim (last_or_before k i less) [
               | inl before ↦ omega (arith, so_far.full k x w b before at s, got.1)
               | inr same ↦
@@ -107,6 +110,7 @@ loop-place-preserved g c =
           }))
       | in_default z ↦
           rw z.least-is (record {
+            within = omega (arith, c.loop-place-test.true);
             counted = omega (arith, so_far.counted, c.look-pass.ensures.counted);
             looked = omega (arith, so_far.looked, c.look-pass.ensures.counted);
             some_looks = λ less. omega (arith, so_far.looked, c.look-pass.ensures.counted);

@@ -1,10 +1,11 @@
-use Rattle.std.proofs.Common.{◌≡◌, ℕ, ◌+◌, ◌<◌, ◌≤◌, Some, false, slice_get, slice_index_or}
+use Rattle.std.proofs.Common.{◌≡◌, ℕ, ◌+◌, ◌-◌, ◌<◌, ◌≤◌, Some, false, length, slice_get, slice_index_or}
 use Rattle.sabr_model.specs.declared.link.Pass.{Pass}
 use Rattle.sabr_search.specs.Task.{Takes}
 use Rattle.sabr_search.proofs.task.Task.arrive_over.Given as goal
 
 abbrev pub invariant-loop-place : goal.invariant-loop-place
 invariant-loop-place g l = record {
+  within : l.place ≤ length l.passes;
   counted : l.looks.count ≤ l.fn.looks.count + l.place;
   looked : l.fn.looks.count ≤ l.looks.count;
   some_looks : l.least < l.before → l.fn.looks.count < l.looks.count;
@@ -13,3 +14,6 @@ invariant-loop-place g l = record {
   sound : l.least < l.before → slice_index_or l.self.shut l.to false ≡ false → (n : ℕ) × Takes l.self n l.node l.at l.to l.least;
   full : (k : ℕ) (x : Pass) (w b : ℕ) → k < l.place → slice_get l.passes k ≡ Some x → Takes l.self x.number l.node l.at w b → l.least ≤ b;
 }
+
+abbrev pub decreases-loop-place : goal.decreases-loop-place
+decreases-loop-place g l = length l.passes - l.place

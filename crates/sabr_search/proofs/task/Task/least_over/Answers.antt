@@ -2,10 +2,9 @@ use Rattle.std.proofs.Common.{◌≡◌, inl, inr, Some, slice_get, refl, arith,
 use Rattle.std.proofs.lemmas.Option.{slice_get-get_or, slice_get_within}
 use Rattle.std.proofs.lemmas.Bool.{cases_lt}
 use Rattle.sabr_model.specs.declared.link.Pass.{Pass}
-use Rattle.sabr_search.proofs.Forward.{step_of_hop, allowed_by, excluded_by, last_or_before}
-use Rattle.sabr_search.proofs.OverLinks.{no_pass, none_ended, least_light_small, late_over, ruled_out, pass_takes, step_at, step_over, same_number, at_most_more}
+use Rattle.sabr_search.proofs.Forward.{step_of_hop, last_or_before}
+use Rattle.sabr_search.proofs.OverLinks.{no_pass, none_ended, none_excluded, least_light_small, late_over, ruled_out, pass_takes, step_at, step_over, same_number, at_most_more}
 use Rattle.sabr_search.proofs.task.Task.least_over.Goals as goal
-use Rattle.sabr_search.proofs.task.Task.least_over.Goals.{in-Some, in_default}
 
 pub returns-then-rules_out-clause-full : goal.returns-then-rules_out-clause-full
 returns-then-rules_out-clause-full g c = λ n w b has s less.
@@ -13,6 +12,7 @@ returns-then-rules_out-clause-full g c = λ n w b has s less.
 
 pub loop-place-init : goal.loop-place-init
 loop-place-init g c = record {
+  within = c.first_open-place.ensures.within;
   counted = omega arith;
   looked = omega arith;
   some_looks = inl refl;
@@ -74,6 +74,7 @@ loop-place-preserved-then-is_at_most-2 g c =
     let here : slice_get passes i ≡ Some pass = slice_get-get_or passes i no_pass c.loop-place-test.true ∙ ap (λ (z : Bor Pass). Some z.now) (sym c.look-pass.ensures.same) in
     let so_far = c.loop-place.invariant in
     record {
+      within = omega (arith, c.loop-place-test.true);
       counted = omega (arith, so_far.counted, c.look-pass.ensures.counted);
       looked = omega (arith, so_far.looked, c.look-pass.ensures.counted);
       some_looks = inr (omega (arith, so_far.looked, c.look-pass.ensures.counted));
@@ -85,8 +86,8 @@ loop-place-preserved-then-is_at_most-2 g c =
       ];
     }
 
-pub loop-place-preserved-then-is_excluded : goal.loop-place-preserved-then-is_excluded
-loop-place-preserved-then-is_excluded g c =
+pub loop-place-preserved-then-excluded-gt0 : goal.loop-place-preserved-then-excluded-gt0
+loop-place-preserved-then-excluded-gt0 g c =
     let task = c.args.self.now in
     let passes = c.args.passes.now in
     let i = c.loop-place.place in
@@ -94,14 +95,40 @@ loop-place-preserved-then-is_excluded g c =
     let here : slice_get passes i ≡ Some pass = slice_get-get_or passes i no_pass c.loop-place-test.true ∙ ap (λ (z : Bor Pass). Some z.now) (sym c.look-pass.ensures.same) in
     let so_far = c.loop-place.invariant in
     record {
+      within = omega (arith, c.loop-place-test.true);
       counted = omega (arith, so_far.counted, c.look-pass.ensures.counted);
       looked = omega (arith, so_far.looked, c.look-pass.ensures.counted);
       some_looks = inr (omega (arith, so_far.looked, c.look-pass.ensures.counted));
       lower = so_far.lower;
       sound = so_far.sound;
-      full = λ k x w b less at s early. elim (last_or_before k i less) [
+      full = λ k x w b less at s early. elim (cases_lt k i) [
         | inl before ↦ so_far.full k x w b before at s early
-        | inr same ↦ absurd (excluded_by task c.args.node pass.number c.args.at w b c.is_excluded.result c.is_excluded.ensures c.if-is_excluded.true (step_at task passes c.args.node c.args.at i k pass x w b here at same s))
+        | inr behind ↦ absurd (none_excluded task c.requires.task c.args.node c.args.to passes c.requires.link c.args.at i k c.excluded_from-excluded.result pass x w b here behind (omega (arith, less)) at c.excluded_from-excluded.ensures.in_row c.excluded_from-excluded.ensures.some s)
+      ];
+    }
+
+pub loop-place-preserved-in-Some : goal.loop-place-preserved-in-Some
+loop-place-preserved-in-Some g c =
+    let task = c.args.self.now in
+    let passes = c.args.passes.now in
+    let i = c.loop-place.place in
+    let u = c.args.node in
+    let t = c.args.at in
+    let pass = c.look-pass.result.now in
+    let here : slice_get passes i ≡ Some pass = slice_get-get_or passes i no_pass c.loop-place-test.true ∙ ap (λ (z : Bor Pass). Some z.now) (sym c.look-pass.ensures.same) in
+    let so_far = c.loop-place.invariant in
+    let hop = c.hop_over-hop.result in
+    let got = c.in-Some.ensures.some in
+    record {
+      within = omega (arith, c.loop-place-test.true);
+      counted = omega (arith, so_far.counted, c.look-pass.ensures.counted);
+      looked = omega (arith, so_far.looked, c.look-pass.ensures.counted);
+      some_looks = inr (omega (arith, so_far.looked, c.look-pass.ensures.counted));
+      lower = λ n h. c.is_at_most-in-loop-place.ensures.above c.if-is_at_most-2.false n (so_far.lower n h);
+      sound = inr (refl, got.1, λ open'. pass_takes task c.requires.task u c.args.to t pass c.in-Some.arrival hop (c.requires.link.each i pass here) c.hop_over-hop.ensures.receiver c.hop_over-hop.ensures.value open' (c.excluded_from-excluded.ensures.none (omega (arith, c.if-excluded-gt0.false))) got.0);
+      full = λ k x w b less at s early. elim (last_or_before k i less) [
+        | inl before ↦ c.is_at_most-in-loop-place.ensures.above c.if-is_at_most-2.false x.number (so_far.full k x w b before at s early)
+        | inr same ↦ omega (arith, same_number passes i k pass x here at same)
       ];
     }
 
@@ -116,36 +143,20 @@ loop-place-preserved g c =
     let here : slice_get passes i ≡ Some pass = slice_get-get_or passes i no_pass c.loop-place-test.true ∙ ap (λ (z : Bor Pass). Some z.now) (sym c.look-pass.ensures.same) in
     let so_far = c.loop-place.invariant in
     let hop = c.hop_over-hop.result in
-    let is_hop = c.hop_over-hop.ensures.value in
-    elim c.match-arrive_before.branch [
-      | in-Some z ↦
-          (let got = z.in-Some.ensures.some in
-          rw z.chosen-is (record {
-            counted = omega (arith, so_far.counted, c.look-pass.ensures.counted);
-            looked = omega (arith, so_far.looked, c.look-pass.ensures.counted);
-            some_looks = inr (omega (arith, so_far.looked, c.look-pass.ensures.counted));
-            lower = λ n h. c.is_at_most-in-loop-place.ensures.above c.if-is_at_most-2.false n (so_far.lower n h);
-            sound = inr (refl, got.1, λ open'. pass_takes task c.requires.task u c.args.to t pass z.in-Some.arrival hop (c.requires.link.each i pass here) c.hop_over-hop.ensures.receiver is_hop open' (allowed_by task u pass.number c.is_excluded.result c.is_excluded.ensures c.if-is_excluded.false) got.0);
-            full = λ k x w b less at s early. elim (last_or_before k i less) [
-              | inl before ↦ c.is_at_most-in-loop-place.ensures.above c.if-is_at_most-2.false x.number (so_far.full k x w b before at s early)
-              | inr same ↦ omega (arith, same_number passes i k pass x here at same)
-            ];
-          }))
-      | in_default z ↦
-          rw z.chosen-is (record {
-            counted = omega (arith, so_far.counted, c.look-pass.ensures.counted);
-            looked = omega (arith, so_far.looked, c.look-pass.ensures.counted);
-            some_looks = inr (omega (arith, so_far.looked, c.look-pass.ensures.counted));
-            lower = so_far.lower;
-            sound = so_far.sound;
-            full = λ k x w b less at s early. elim (last_or_before k i less) [
-              | inl before ↦ so_far.full k x w b before at s early
-              | inr same ↦
-                  (let step = step_of_hop task c.requires.task pass.number hop is_hop u t w b (step_at task passes u t i k pass x w b here at same s) in
-                  absurd (omega (arith, early, z.in_default.ensures.none b step.1)))
-            ];
-          })
-    ]
+    record {
+      within = omega (arith, c.loop-place-test.true);
+      counted = omega (arith, so_far.counted, c.look-pass.ensures.counted);
+      looked = omega (arith, so_far.looked, c.look-pass.ensures.counted);
+      some_looks = inr (omega (arith, so_far.looked, c.look-pass.ensures.counted));
+      lower = so_far.lower;
+      sound = so_far.sound;
+      full = λ k x w b less at s early. elim (last_or_before k i less) [
+        | inl before ↦ so_far.full k x w b before at s early
+        | inr same ↦
+            (let step = step_of_hop task c.requires.task pass.number hop c.hop_over-hop.ensures.value u t w b (step_at task passes u t i k pass x w b here at same s) in
+            absurd (omega (arith, early, c.in_default.ensures.none b step.1)))
+      ];
+    }
 
 pub returns-clause-full : goal.returns-clause-full
 returns-clause-full g c = λ n w b has s early.

@@ -1,4 +1,4 @@
-use Rattle.std.proofs.Common.{◌≡◌, ◌⊎◌, ℕ, ◌+◌, ◌<◌, ◌≤◌, Some, false, slice_get, slice_index_or}
+use Rattle.std.proofs.Common.{◌≡◌, ◌⊎◌, ℕ, ◌+◌, ◌-◌, ◌<◌, ◌≤◌, Some, false, length, slice_get, slice_index_or}
 use Rattle.std.specs.Prelude.{IfSome}
 use Rattle.sabr_model.specs.declared.link.Pass.{Pass}
 use Rattle.sabr_search.specs.Task.{Takes}
@@ -7,6 +7,7 @@ use Rattle.sabr_search.proofs.task.Task.least_over.Given as goal
 
 abbrev pub invariant-loop-place : goal.invariant-loop-place
 invariant-loop-place g l = record {
+  within : l.place ≤ length l.passes;
   counted : l.looks.count ≤ l.fn.looks.count + l.place;
   looked : l.fn.looks.count ≤ l.looks.count;
   some_looks : (l.chosen ≡ l.fn.least) ⊎ (l.fn.looks.count < l.looks.count);
@@ -14,3 +15,6 @@ invariant-loop-place g l = record {
   sound : (l.chosen ≡ l.fn.least) ⊎ IfSome l.chosen (λ s. (s.node ≡ l.to) × (s.at < l.before) × (slice_index_or l.self.shut l.to false ≡ false → Takes l.self s.number l.node l.at l.to s.at));
   full : (k : ℕ) (x : Pass) (w b : ℕ) → k < l.place → slice_get l.passes k ≡ Some x → Takes l.self x.number l.node l.at w b → b < l.before → IsAtMost l.chosen x.number;
 }
+
+abbrev pub decreases-loop-place : goal.decreases-loop-place
+decreases-loop-place g l = length l.passes - l.place
