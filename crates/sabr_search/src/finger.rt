@@ -73,16 +73,15 @@ impl Finger {
     }
 }
 
-/// Tells whether each number is greater than the one before it.
+/// Tells whether each number is greater than the one before it. It looks at all of them, and so at several at a time.
 pub fn rises(numbers: &[u32]) -> bool
     ensures { IsTrue result → IsStrictlyIncreasing numbers.now }
 {
+    let mut rising = true;
     for place in 1..numbers.len() {
-        if numbers[place] <= numbers[place - 1] {
-            return false;
-        }
+        rising &= numbers[place - 1] < numbers[place];
     }
-    true
+    rising
 }
 
 /// Tells how many numbers behind this one, one by one, stand in a rising list from a place on, of which no more than
