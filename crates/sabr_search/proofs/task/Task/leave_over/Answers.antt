@@ -53,7 +53,7 @@ hop_over-hop-requires-clause-pass g c =
     let i = c.begun-end.result - 1 - c.loop-back.back in
     let pass = c.look-pass.result.now in
     let here : slice_get passes i ≡ Some pass = slice_get-get_or passes i no_pass (omega (arith, c.loop-back-test.true, c.begun-end.ensures.within)) ∙ ap (λ (z : Bor Pass). Some z.now) (sym c.look-pass.ensures.same) in
-    c.requires.link.each i pass here
+    (c.args.node, c.requires.link.each i pass here)
 
 pub leave_before-requires-clause-window : goal.leave_before-requires-clause-window
 leave_before-requires-clause-window g c = hop_at_window c.args.self.now c.requires.task _ c.hop_over-hop.result c.hop_over-hop.ensures.value
