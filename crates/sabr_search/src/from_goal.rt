@@ -104,7 +104,8 @@ impl<A: Allocator + Copy> Layers<A> {
         Ok(())
     }
 
-    /// Takes one link to a node that is left in time before `before`; tells whether the start is in time for it.
+    /// Takes one link to a node that is left in time before `before`, for the layer in front of `left`; tells whether the
+    /// start is in time for it.
     fn take_sender(
         &mut self,
         task: &Task<'_, A>,
@@ -156,8 +157,8 @@ impl<A: Allocator + Copy> Layers<A> {
         Ok(false)
     }
 
-    /// Takes every link to the node of an entry; tells whether the start is in time for it, or nothing where the plan
-    /// isn't ready, or more than `most` looks might be needed.
+    /// Takes every link to the node of an entry of layer `left`; tells whether the start is in time for it, or nothing
+    /// where the plan isn't ready, or more than `most` looks might be needed.
     fn take_senders(
         &mut self,
         task: &Task<'_, A>,
@@ -330,7 +331,6 @@ impl<A: Allocator + Copy> Layers<A> {
 
     /// Turns the entries that were made backward round; the start takes the goal's place and stands in front as well.
     fn turn_entries(&mut self, task: &Task<'_, A>) -> Result<(), NoMemory>
-        requires task { IsTask task.now }
         requires some { 0 < length self.old.reached.items }
         ensures ends { self.new.ends ≡ self.old.ends }
         ensures reached { OnOk result (self.new.reached.items ≡ reverse (slice_set self.old.reached.items 0 (record { node = task.now.start; arrival = task.now.at; deadline = 0 }) ++ record { node = task.now.start; arrival = task.now.at; deadline = 0 } ∷ [])) }

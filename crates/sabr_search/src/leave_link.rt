@@ -30,7 +30,6 @@ impl<'a, A: Allocator + Copy> Task<'a, A> {
     /// Tells whether no one who is at the sender at `since` or later, and at `latest` or later, arrives before `before`
     /// over this pass or one in front of it.
     fn leaves_no_later(&self, pass: &Pass, since: u64, before: u64, latest: u64) -> bool
-        requires task { IsTask self.now }
         requires light { pass.now.least_light_before ≤ 1000000 }
         ensures { IsTrue result → (pass.now.latest_end ≤ max latest since) ⊎ (before ≤ latest + cost self.now.request.margin pass.now.least_light_before) }
     {
