@@ -1,6 +1,5 @@
 -- All layers backward from the goal over the whole graph bound each way on.
 use Rattle.std.proofs.Common.{◌≡◌, inl, inr, ℕ, zero, suc, ◌+◌, ◌-◌, ◌<◌, ◌≤◌, Bool, get_or, List, [], ◌∷◌, length, Some, slice_get, slice_index, slice_set, refl, ap, sym, subst, ◌∙◌, arith}
-use Rattle.std.specs.Prelude.{Contains}
 use Rattle.std.proofs.lemmas.Bool.{cases_lt, cases_eq}
 use Rattle.std.proofs.lemmas.List.{get_or-set_same, get_or-set_other, length-set}
 use Rattle.std.proofs.lemmas.Option.{slice_get_within, slice_get-get_or, get_or_from_slice_get}
@@ -72,12 +71,12 @@ module _ (task : SearchTask) (whole : IsWhole task) where
         ])
 
     -- and the gathered dues are those of all ways by d
-    pub dues_of : (gathered dues : List Due) → AreGathered ends reached left gathered → ((x : Due) → Contains gathered x → (k : ℕ) × (slice_get dues k ≡ Some x)) → AreDues (tabled_of task) task.request d dues
-    dues_of gathered dues are moved = λ ns v t e on le.
+    pub dues_of : (dues : List Due) → AreGathered ends reached left dues → AreDues (tabled_of task) task.request d dues
+    dues_of dues are = λ ns v t e on le.
         (let r = entry_of_way ns v t e on le in
         let due : Due = record { node = v; hops = r.0; late = r.2 } in
-        let at = moved due (are r.0 v r.1 r.2 (in_layers r.0 v r.1 r.2 r.4) r.4) in
-        (at.0, due, at.1, refl, r.3, r.5))
+        let at = are r.0 v r.1 r.2 (in_layers r.0 v r.1 r.2 r.4) r.4 in
+        (at.0, due, slice_get-get_or dues at.0 due at.1 ∙ ap Some at.2, refl, r.3, r.5))
 
 -- where layers end rises
 ends_to : (ends : List ℕ) (m : ℕ) → ((j : ℕ) → j ≤ m → slice_index ends j ≤ slice_index ends (j + 1)) → (k h : ℕ) → h + k ≡ m + 1 → slice_index ends h ≤ slice_index ends (m + 1)

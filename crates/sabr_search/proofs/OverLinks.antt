@@ -25,7 +25,7 @@ use Rattle.sabr_model.specs.Plan.{has}
 use Rattle.sabr_search.specs.Task.{SearchTask, IsTask, Takes}
 use Rattle.sabr_search.specs.Hops.{hop_arrival, IsSmall}
 use Rattle.sabr_search.specs.Steps.{IsHopAt}
-use Rattle.sabr_search.specs.Linked.{IsPassAt, IsLinkAt, HasNumber, passes_of, AreLinksAt}
+use Rattle.sabr_search.specs.Linked.{IsPassAt, IsLinkAt, AreInOrder, HasNumber, passes_of, AreLinksAt}
 use Rattle.sabr_search.proofs.Arrivals.{arrival_parts}
 use Rattle.sabr_search.proofs.PlanFacts.{hop_small, light_small}
 use Rattle.sabr_search.proofs.Forward.{hop_takes}
@@ -99,17 +99,22 @@ step_at task passes u t i k x y w b at_i at_k same s =
 pub step_over : (task : SearchTask) (passes : List Pass) (n u t w b : ℕ) (h : HasNumber passes n) → Takes task n u t w b → Takes task h.1.number u t w b
 step_over task passes n u t w b h s = rw (← h.3) at s
 
+module _ (passes : List Pass) (kept : AreInOrder passes) where
+  pub ends_rise : IsNonDecreasingBy (λ (x : Pass). x.latest_end) passes
+  ends_rise i j d le within =
+      (kept i j (slice_index_or passes i d) (slice_index_or passes j d) le (slice_get-get_or passes i d (omega (arith, le, within))) (slice_get-get_or passes j d within)).latest_end
+
+  pub end_within : (k : ℕ) (x : Pass) → slice_get passes k ≡ Some x → x.end ≤ x.latest_end
+  end_within k x at = (kept k k x x (omega arith) at at).end
+
+  pub starts_rise : IsNonDecreasingBy (λ (x : Pass). x.start) passes
+  starts_rise i j d le within =
+      (kept i j (slice_index_or passes i d) (slice_index_or passes j d) le (slice_get-get_or passes i d (omega (arith, le, within))) (slice_get-get_or passes j d within)).start
+
 module _ (task : SearchTask) (is : IsTask task) (u to : ℕ) (passes : List Pass) (link : IsLinkAt task u to passes) where
   -- a pass that has ended takes nothing
   pub none_ended : (t k : ℕ) (x : Pass) (w b : ℕ) → slice_get passes k ≡ Some x → x.end ≤ t → Takes task x.number u t w b → ⊥
   none_ended t k x w b at ended s = let o = over_pass task is u to t x w b (link.each k x at) s in omega (arith, o.before_end, ended)
-
-  pub ends_rise : IsNonDecreasingBy (λ (x : Pass). x.latest_end) passes
-  ends_rise i j d le within =
-      (link.kept i j (slice_index_or passes i d) (slice_index_or passes j d) le (slice_get-get_or passes i d (omega (arith, le, within))) (slice_get-get_or passes j d within)).latest_end
-
-  pub end_within : (k : ℕ) (x : Pass) → slice_get passes k ≡ Some x → x.end ≤ x.latest_end
-  end_within k x at = (link.kept k k x x (omega arith) at at).end
 
   pub least_light_small : (k : ℕ) (x : Pass) → slice_get passes k ≡ Some x → x.least_light_behind ≤ 1000000
   least_light_small k x at =
@@ -132,10 +137,6 @@ module _ (task : SearchTask) (is : IsTask task) (u to : ℕ) (passes : List Pass
       let o = over_pass task is u to t y w b (link.each k y at_k) s in
       let kept = link.kept i k x y le at_i at_k in
       omega (arith, o.sum, late, kept.start, cost_rises task.request.margin x.least_light_behind y.light kept.light_behind)
-
-  pub starts_rise : IsNonDecreasingBy (λ (x : Pass). x.start) passes
-  starts_rise i j d le within =
-      (link.kept i j (slice_index_or passes i d) (slice_index_or passes j d) le (slice_get-get_or passes i d (omega (arith, le, within))) (slice_get-get_or passes j d within)).start
 
   pub least_before_small : (k : ℕ) (x : Pass) → slice_get passes k ≡ Some x → x.least_light_before ≤ 1000000
   least_before_small k x at =

@@ -1,11 +1,16 @@
 -- A table that bounds the ways over the whole graph bounds those of each part, and what is read off it is a least way.
-use Rattle.std.proofs.Common.{◌≡◌, inl, inr, ℕ, ◌+◌, ◌-◌, ◌<◌, ◌≤◌, Bool, true, false, eqb, ◌||◌, List, [], ◌∷◌, ◌++◌, length, Option, Some, None, slice_get, slice_index, slice_index_or, refl, ap, sym, ◌∙◌, arith, length-append}
-use Rattle.std.specs.Prelude.{IfSome}
+use Rattle.std.proofs.Common.{◌≡◌, inl, inr, ℕ, ◌+◌, ◌-◌, ◌<◌, ◌≤◌, Bool, true, false, eqb, ◌||◌, List, [], ◌∷◌, ◌++◌, length, Option, Some, None, slice_get, slice_index, slice_index_or, refl, ap, sym, subst, ◌∙◌, arith, length-append}
+use Rattle.std.specs.Prelude.{IfSome, All}
 use Rattle.std.proofs.lemmas.Bool.{cases_lt}
-use Rattle.sabr_model.specs.Plan.{has}
+use Rattle.std.proofs.lemmas.List.Elements.{All-get_or, All-weaker}
+use Rattle.std.proofs.lemmas.Option.{slice_get_within, get_or_from_slice_get}
+use Rattle.sabr_model.specs.Plan.{TabledPlan, has}
+use Rattle.sabr_model.specs.Arrival.{RouteRequest}
 use Rattle.sabr_model.specs.Record.{RouteRecord}
 use Rattle.sabr_model.specs.Route.{receivers}
+use Rattle.sabr_search.specs.declared.kept.Kept.{Kept}
 use Rattle.sabr_search.specs.declared.rung.Due.{Due}
+use Rattle.sabr_search.specs.declared.rung.Rung.{Rung}
 use Rattle.sabr_search.specs.declared.pick.Standing.{Standing}
 use Rattle.sabr_search.specs.declared.pick.Step.{Step}
 use Rattle.sabr_search.specs.Ways.{Leads}
@@ -14,14 +19,14 @@ use Rattle.sabr_search.specs.Part.{IsLeast}
 use Rattle.sabr_search.specs.Task.{SearchTask, Takes, IsTask, IsBehind, is_closed}
 use Rattle.sabr_search.specs.Picks.{IsAtMost, IsLeastWay}
 use Rattle.sabr_search.specs.Told.{IsTold}
-use Rattle.sabr_search.specs.Kept.{Goes, IsWayOn, IsFloor, AreDues}
-use Rattle.sabr_search.specs.Following.{tabled_of, AreFirstSteps, LetsThrough, IsLeastDue, IsWalked}
+use Rattle.sabr_search.specs.Kept.{Goes, IsWayOn, IsFloor, AreDues, IsRung, IsKept, HasPlaces, ShowsNone}
+use Rattle.sabr_search.specs.Following.{tabled_of, AreFirstSteps, HasNoWay, LetsThrough, IsLeastDue, IsWalked}
 use Rattle.sabr_search.proofs.Ways.{Leads-append, Leads-split, Leads-one}
 use Rattle.sabr_search.proofs.Bridge.{takes_timely}
 use Rattle.sabr_search.proofs.Picks.{not_after_more}
 use Rattle.sabr_search.proofs.FirstWays.{goal_other}
 use Rattle.sabr_search.proofs.Prefixes.{IsPrefix}
-use Rattle.sabr_search.proofs.Law.{found_is_least, behind_sizes}
+use Rattle.sabr_search.proofs.Law.{found_is_least, behind_sizes, way_early}
 
 -- what is shut for fewer nodes
 fewer : (a b c : Bool) → ((a || b) || c) ≡ false → ((a || false) || c) ≡ false
@@ -74,6 +79,13 @@ module _ (task : SearchTask) (is : IsTask task) (prefix : List ℕ) (behind : Is
         let s : Standing = on.1 in
         absurd (omega (arith, by, late on.0 s on.2, ap (slice_index before) on.3, on.4)))
   ]
+
+  -- so none delivers at all where a table says so
+  pub none_shown : {A : Type 0} (kept : Kept A) → IsKept (tabled_of task) task.request kept → AreFirstSteps task kept.first.items → ShowsNone kept → HasNoWay task
+  none_shown kept whole steps shown ns e way =
+      let same = get_or_from_slice_get kept.rungs.items shown.place shown.rung shown.rung shown.here in
+      let rung = subst (IsRung (tabled_of task) task.request) same (All-get_or (IsRung (tabled_of task) task.request) kept.rungs.items shown.place shown.rung (slice_get_within kept.rungs.items shown.place shown.rung shown.here) whole) in
+      omega (arith, shown.late, no_sooner shown.rung.deadline shown.rung.before.items kept.first.items rung.floor steps shown.none ns e way, way_early task is ns task.start task.at task.goal e is.time way)
 
   -- and where the dues let no first step through with fewer hops, none has fewer by the deadline
   pub no_fewer : (deadline rest : ℕ) (dues : List Due) (first : List Standing) → AreDues (tabled_of task) task.request deadline dues → AreFirstSteps task first →
@@ -163,3 +175,10 @@ walk_all task deadline hops hop chosen u t walked all there le = record {
   way = rw there at walked.way;
   front = walked.front;
 }
+
+-- each table that is kept has a place for each node of the plan
+pub places_kept : {A : Type 0} (p : TabledPlan) (r : RouteRequest) (first : List Standing) (rungs : List (Rung A)) → All (IsRung p r) rungs → ((k : ℕ) (s : Standing) → slice_get first k ≡ Some s → s.node < length p.table) → All (HasPlaces first) rungs
+places_kept p r first rungs whole inside =
+    All-weaker (IsRung p r) (HasPlaces first)
+    (λ rung is. record { floors = λ k s at. omega (arith, inside k s at, is.floors); places = λ k s at. omega (arith, inside k s at, is.places); spans = is.spans })
+    rungs whole

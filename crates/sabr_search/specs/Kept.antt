@@ -5,6 +5,7 @@ use Rattle.std.specs.declared.option.Option.TheVariants.{Some}
 use Rattle.sabr_model.specs.declared.contact.Contact.{Contact}
 use Rattle.sabr_model.specs.Plan.{TabledPlan, contact_named}
 use Rattle.sabr_model.specs.Arrival.{RouteRequest, arrival}
+use Rattle.sabr_search.specs.declared.pick.Standing.{Standing}
 use Rattle.sabr_search.specs.declared.rung.Due.{Due}
 use Rattle.sabr_search.specs.declared.rung.Span.{Span}
 use Rattle.sabr_search.specs.declared.rung.Rung.{Rung}
@@ -58,3 +59,21 @@ pub record IsRung {A : Type 0} (p : TabledPlan) (r : RouteRequest) (rung : Rung 
 -- what is kept is true of the plan and the request
 abbrev pub IsKept : {A : Type 0} → TabledPlan → RouteRequest → Kept A → Type 0
 IsKept p r kept = All (IsRung p r) kept.rungs.items
+
+-- the table has a place for the node of each of these steps, and its dues stand within their spans
+pub record HasPlaces {A : Type 0} (first : List Standing) (rung : Rung A) : Type 0 where
+  pub floors : (k : ℕ) (s : Standing) → slice_get first k ≡ Some s → s.node < length rung.before.items
+  pub places : (k : ℕ) (s : Standing) → slice_get first k ≡ Some s → s.node < length rung.spans.items
+  pub spans : AreSpans rung.dues.items rung.spans.items
+
+-- so each table that is kept, of the first steps
+abbrev pub HavePlaces : {A : Type 0} → Kept A → Type 0
+HavePlaces kept = All (HasPlaces kept.first.items) kept.rungs.items
+
+-- a table of a deadline behind every arrival, for which none of the first steps is in time
+pub record ShowsNone {A : Type 0} (kept : Kept A) : Type 0 where
+  pub place : ℕ
+  pub rung : Rung A
+  pub here : slice_get kept.rungs.items place ≡ Some rung
+  pub late : latest_arrival < rung.deadline
+  pub none : (k : ℕ) (s : Standing) → slice_get kept.first.items k ≡ Some s → slice_index rung.before.items s.node ≤ s.at

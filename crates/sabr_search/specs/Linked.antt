@@ -20,11 +20,14 @@ pub record IsPassAt (task : SearchTask) (u w : ℕ) (x : Pass) : Type 0 where
   pub end : x.end ≡ contact.end
   pub light : light_of task.plan contact ≡ Some x.light
 
--- passes from the node at place u to the node at place w, by start, each within the bounds that stand beside the others
--- and with as many numbers behind its own as stand beside it
+-- passes by start, each within the bounds that stand beside the others
+abbrev pub AreInOrder : List Pass → Type 0
+AreInOrder passes = (i k : ℕ) (x y : Pass) → i ≤ k → slice_get passes i ≡ Some x → slice_get passes k ≡ Some y → IsBefore x y
+
+-- passes from the node at place u to the node at place w, in order, with as many numbers behind each as stand beside it
 pub record IsLinkAt (task : SearchTask) (u w : ℕ) (passes : List Pass) : Type 0 where
   pub each : (k : ℕ) (x : Pass) → slice_get passes k ≡ Some x → IsPassAt task u w x
-  pub kept : (i k : ℕ) (x y : Pass) → i ≤ k → slice_get passes i ≡ Some x → slice_get passes k ≡ Some y → IsBefore x y
+  pub kept : AreInOrder passes
   pub in_rows : (i j : ℕ) (x y : Pass) → slice_get passes i ≡ Some x → slice_get passes (i + j) ≡ Some y → IsInRow x j y
 
 -- one of the passes has the number

@@ -1,7 +1,8 @@
 //! Deadlines, backward: by layer and node the first second at which it is too late for the rest.
 
 ghost use Rattle.std.specs.Prelude.{◌≡◌, ◌≢◌, ◌↔◌, ◌⊎◌, ℕ, ◌+◌, ◌-◌, ◌*◌, ◌^◌, ◌≤◌, ◌<◌, IfOk, OnOk, length, slice_index};
-ghost use Rattle.sabr_search.specs.Task.{IsTask, Takes, never};
+ghost use Rattle.sabr_search.specs.declared.layers.Best.{Best};
+ghost use Rattle.sabr_search.specs.Task.{SearchTask, IsTask, Takes, never};
 ghost use Rattle.sabr_search.specs.Steps.{degree};
 ghost use Rattle.sabr_search.specs.Deadlines.{ArePointed, IsInTime, AreTimed};
 
@@ -14,15 +15,14 @@ use std::alloc::Allocator;
 
 impl<A: Allocator + Copy> Layers<A> {
     /// Makes `place` name the entries of layer `hop`.
-    pub fn point_at(&mut self, _task: &Task<'_, A>, _best: Best, hop: usize)
-        requires timed { (from : ℕ) × AreTimed _task.now _best from self.old.bounds.items self.old.place.items self.old.reached.items }
+    pub fn point_at(&mut self, hop: usize)
+        requires timed { (task : SearchTask) × (best : Best) × (from : ℕ) × (hop ≤ best.hops) × AreTimed task best from self.old.bounds.items self.old.place.items self.old.reached.items }
         requires later { 0 < hop }
-        requires hop { hop ≤ _best.hops }
         ensures bounds { self.new.bounds ≡ self.old.bounds }
         ensures reached { self.new.reached ≡ self.old.reached }
         ensures arrival { self.new.arrival ≡ self.old.arrival }
-        ensures pointed { ArePointed _task.now hop self.new.bounds.items self.new.place.items self.new.reached.items }
-        ensures timed { (from : ℕ) → AreTimed _task.now _best from self.old.bounds.items self.old.place.items self.old.reached.items → AreTimed _task.now _best from self.new.bounds.items self.new.place.items self.new.reached.items }
+        ensures pointed { (task : SearchTask) (best : Best) (from : ℕ) → hop ≤ best.hops → AreTimed task best from self.old.bounds.items self.old.place.items self.old.reached.items → ArePointed task hop self.new.bounds.items self.new.place.items self.new.reached.items }
+        ensures timed { (task : SearchTask) (best : Best) (from : ℕ) → AreTimed task best from self.old.bounds.items self.old.place.items self.old.reached.items → AreTimed task best from self.new.bounds.items self.new.place.items self.new.reached.items }
     {
         let first = self.bounds[hop];
         let end = self.bounds[hop + 1];
@@ -137,7 +137,7 @@ impl<A: Allocator + Copy> Layers<A> {
         ensures timed { OnOk result (AreTimed task.now best 1 self.new.bounds.items self.new.place.items self.new.reached.items) }
     {
         for hop in (1..best.hops).rev() {
-            self.point_at(task, best, hop + 1);
+            self.point_at(hop + 1);
             self.set_layer(task, looks, best, hop)?;
         }
         Ok(())

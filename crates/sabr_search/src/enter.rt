@@ -2,6 +2,8 @@
 
 ghost use Rattle.std.specs.Prelude.{◌≡◌, ◌||◌, ◌∷◌, ℕ, List, ◌+◌, ◌^◌, ◌≤◌, ◌<◌, Some, IfOk, IfSome, IfNone, OnOk, IsTrue, false, length, slice_get, slice_index_or};
 ghost use Rattle.sabr_model.specs.Plan.{IsPlan, has};
+ghost use Rattle.sabr_model.specs.Table.{node_count};
+ghost use Rattle.sabr_model.specs.Tabled.{IsTabled};
 ghost use Rattle.sabr_model.specs.Route.{is_route, receivers};
 ghost use Rattle.sabr_search.specs.Hops.{hop_arrival, IsSmall};
 ghost use Rattle.sabr_model.specs.Route.{is_prefix};
@@ -93,6 +95,8 @@ pub fn enter<A: Allocator + Copy>(
     requires fits { IsTrue (is_prefix plan.now.plan request.now prefix.now) }
     requires few { looks.old.count + length prefix.now ≤ 2 ^ 62 }
     ensures plan { IsPlan plan.now.plan }
+    ensures tabled { IsTabled plan.now }
+    ensures nodes { length plan.now.table ≡ node_count plan.now.plan.contacts }
     ensures looks { looks.new.count ≤ looks.old.count + length prefix.now }
     ensures none { IfOk result (λ o. IfNone o ((s : List ℕ) → IsTrue (is_route plan.now.plan request.now s) → ⊥)) }
     ensures some { IfOk result (λ o. IfSome o (λ found. (excluded : List ℕ) →

@@ -3,7 +3,7 @@
 ghost use Rattle.std.specs.Prelude.{◌≡◌, ◌⊎◌, ◌++◌, ℕ, List, ◌+◌, ◌-◌, ◌*◌, ◌^◌, ◌≤◌, ◌<◌, Some, IfOk, IfSome, IfNone, OnOk, OnErr, IsTrue, length, slice_get, slice_index};
 ghost use Rattle.sabr_search.specs.Task.{IsTask, IsBehind, Takes, never, latest_arrival};
 ghost use Rattle.sabr_search.specs.Told.{hops_told};
-ghost use Rattle.sabr_search.specs.Kept.{AreSpans, IsRung, IsKept};
+ghost use Rattle.sabr_search.specs.Kept.{AreSpans, IsRung, IsKept, HavePlaces};
 ghost use Rattle.sabr_search.specs.Following.{tabled_of, ComesTo, AreFirstSteps, HasNoWay, IsNoneBefore, IsFound, IsLeastDue, IsWalked};
 
 use crate::answer::record;
@@ -244,9 +244,8 @@ fn meets<A: Allocator + Copy>(rung: &Rung<A>, first: &[Standing]) -> bool
 impl<A: Allocator + Copy> Kept<A> {
     /// Gives the table of the least deadline from the floor on, of those for a delivery, for which a first step is in
     /// time.
-    fn met(&self, _task: &Task<'_, A>) -> Option<usize>
-        requires kept { IsKept (tabled_of _task.now) _task.now.request self.now }
-        requires inside { (k : ℕ) (s : Standing) → slice_get self.now.first.items k ≡ Some s → s.node < length _task.now.table }
+    fn met(&self) -> Option<usize>
+        requires { HavePlaces self.now }
         ensures { IfSome result (λ place. place < length self.now.rungs.items) }
     {
         let mut least = LATEST + 1;
@@ -330,7 +329,7 @@ impl<A: Allocator + Copy> Kept<A> {
         ensures counted { IfOk result (λ o. hops_told o ≤ looks.new.count) }
         ensures some { IfOk result (λ o. IfSome o (IsFound task.now prefix.now max_hops)) }
     {
-        let Some(place) = self.met(task) else {
+        let Some(place) = self.met() else {
             return Ok(None);
         };
         let deadline = self.rungs[place].deadline;
@@ -341,7 +340,7 @@ impl<A: Allocator + Copy> Kept<A> {
         if self.floor <= deadline {
             return Ok(None);
         }
-        let Some(next) = self.met(task) else {
+        let Some(next) = self.met() else {
             return Ok(None);
         };
         let later = self.answer_at(layers, task, looks, most, next, prefix, max_hops)?;
@@ -378,7 +377,7 @@ impl<A: Allocator + Copy> Kept<A> {
         if !whole {
             return Ok(None);
         }
-        if self.shows_none(task) {
+        if self.shows_none() {
             self.count_answer(true);
             return Ok(Some(None));
         }

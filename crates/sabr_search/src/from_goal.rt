@@ -47,7 +47,7 @@ impl<A: Allocator + Copy> Layers<A> {
         Ok(())
     }
 
-    /// Takes one link from an open node to one that is left in time before `before`.
+    /// Takes one link from an open node to one that is left in time before `before`, for the layer in front of `left`.
     fn take_back(
         &mut self,
         task: &Task<'_, A>,
@@ -57,10 +57,10 @@ impl<A: Allocator + Copy> Layers<A> {
         from: Sender<'_>,
         to: usize,
         before: u64,
-        _first: usize,
-        begin: usize,
+        left: usize,
     ) -> Result<(), NoMemory>
         requires task { IsTask task.now }
+        requires bounded { left + 1 < length self.old.ends.items }
         requires link { IsLinkAt task.now from.node to from.passes.now }
         requires bounds { AreWithin from.bounds from.passes.now }
         requires node { from.node < length task.now.table }
@@ -70,12 +70,12 @@ impl<A: Allocator + Copy> Layers<A> {
         requires receiver { slice_index_or task.now.shut to false ≡ false }
         requires arrivals { length arrival.now ≡ length task.now.table }
         requires few { looks.old.count + length from.passes.now ≤ 2 ^ 62 }
-        requires given { (b : ℕ) → b < before → InTimeFor self.old.reached.items _first begin to b }
-        requires lists { AreLate task.now arrival.now delivery _first begin self.old.late.items self.old.place.items self.old.reached.items }
+        requires given { (b : ℕ) → b < before → InTimeFor self.old.reached.items (slice_index self.old.ends.items left) (slice_index self.old.ends.items (left + 1)) to b }
+        requires lists { AreLate task.now arrival.now delivery (slice_index self.old.ends.items left) (slice_index self.old.ends.items (left + 1)) self.old.late.items self.old.place.items self.old.reached.items }
         ensures ends { self.new.ends ≡ self.old.ends }
         ensures looks { looks.new.count ≤ looks.old.count + length from.entry.passes.now }
-        ensures lists { OnOk result (AreLate task.now arrival.now delivery _first begin self.new.late.items self.new.place.items self.new.reached.items) }
-        ensures kept { OnOk result (take begin self.new.reached.items ≡ take begin self.old.reached.items) }
+        ensures lists { OnOk result (AreLate task.now arrival.now delivery (slice_index self.old.ends.items left) (slice_index self.old.ends.items (left + 1)) self.new.late.items self.new.place.items self.new.reached.items) }
+        ensures kept { OnOk result (take (slice_index self.old.ends.items (left + 1)) self.new.reached.items ≡ take (slice_index self.old.ends.items (left + 1)) self.old.reached.items) }
         ensures rises { OnOk result ((k : ℕ) → slice_index self.old.late.items k ≤ slice_index self.new.late.items k) }
         ensures told { OnOk result ((n t w b : ℕ) → HasNumber from.entry.passes.now n → Takes task.now n from.entry.node t w b → b < before → soonest arrival.now delivery from.entry.node ≤ t → t < slice_index self.new.late.items from.entry.node) }
     {
@@ -99,11 +99,13 @@ impl<A: Allocator + Copy> Layers<A> {
             arrival: since,
             deadline: last,
         };
+        let begin = self.ends[left + 1];
         self.note_late(entry, begin)?;
         Ok(())
     }
 
-    /// Takes one link to a node that is left in time before `before`; tells whether the start is in time for it.
+    /// Takes one link to a node that is left in time before `before`, for the layer in front of `left`; tells whether the
+    /// start is in time for it.
     fn take_sender(
         &mut self,
         task: &Task<'_, A>,
@@ -113,22 +115,22 @@ impl<A: Allocator + Copy> Layers<A> {
         from: Sender<'_>,
         to: usize,
         before: u64,
-        first: usize,
-        begin: usize,
+        left: usize,
     ) -> Result<bool, NoMemory>
         requires task { IsTask task.now }
+        requires bounded { left + 1 < length self.old.ends.items }
         requires link { IsLinkAt task.now from.node to from.passes.now }
         requires bounds { AreWithin from.bounds from.passes.now }
         requires node { from.node < length task.now.table }
         requires receiver { slice_index_or task.now.shut to false ≡ false }
         requires arrivals { length arrival.now ≡ length task.now.table }
         requires few { looks.old.count + length from.passes.now ≤ 2 ^ 62 }
-        requires given { (b : ℕ) → b < before → InTimeFor self.old.reached.items first begin to b }
-        requires lists { AreLate task.now arrival.now delivery first begin self.old.late.items self.old.place.items self.old.reached.items }
+        requires given { (b : ℕ) → b < before → InTimeFor self.old.reached.items (slice_index self.old.ends.items left) (slice_index self.old.ends.items (left + 1)) to b }
+        requires lists { AreLate task.now arrival.now delivery (slice_index self.old.ends.items left) (slice_index self.old.ends.items (left + 1)) self.old.late.items self.old.place.items self.old.reached.items }
         ensures ends { self.new.ends ≡ self.old.ends }
         ensures looks { looks.new.count ≤ looks.old.count + length from.entry.passes.now }
-        ensures lists { OnOk result (AreLate task.now arrival.now delivery first begin self.new.late.items self.new.place.items self.new.reached.items) }
-        ensures kept { OnOk result (take begin self.new.reached.items ≡ take begin self.old.reached.items) }
+        ensures lists { OnOk result (AreLate task.now arrival.now delivery (slice_index self.old.ends.items left) (slice_index self.old.ends.items (left + 1)) self.new.late.items self.new.place.items self.new.reached.items) }
+        ensures kept { OnOk result (take (slice_index self.old.ends.items (left + 1)) self.new.reached.items ≡ take (slice_index self.old.ends.items (left + 1)) self.old.reached.items) }
         ensures rises { OnOk result ((k : ℕ) → slice_index self.old.late.items k ≤ slice_index self.new.late.items k) }
         ensures met { IfOk result (λ met. IsTrue met → (n : ℕ) × (b : ℕ) × Takes task.now n task.now.start task.now.at to b × (b < before)) }
         ensures told { IfOk result (λ met. met ≡ false → (n t w b : ℕ) → HasNumber from.entry.passes.now n → Takes task.now n from.entry.node t w b → b < before → IsToldLate task.now arrival.now delivery self.new.late.items from.entry.node t) }
@@ -151,14 +153,12 @@ impl<A: Allocator + Copy> Layers<A> {
         if task.shut()[from.node] {
             return Ok(false);
         }
-        self.take_back(
-            task, looks, arrival, delivery, from, to, before, first, begin,
-        )?;
+        self.take_back(task, looks, arrival, delivery, from, to, before, left)?;
         Ok(false)
     }
 
-    /// Takes every link to the node of an entry; tells whether the start is in time for it, or nothing where the plan
-    /// isn't ready, or more than `most` looks might be needed.
+    /// Takes every link to the node of an entry of layer `left`; tells whether the start is in time for it, or nothing
+    /// where the plan isn't ready, or more than `most` looks might be needed.
     fn take_senders(
         &mut self,
         task: &Task<'_, A>,
@@ -166,22 +166,22 @@ impl<A: Allocator + Copy> Layers<A> {
         arrival: &[u64],
         delivery: u64,
         to: Reached,
-        first: usize,
-        begin: usize,
+        left: usize,
         most: u64,
     ) -> Result<Option<bool>, NoMemory>
         requires task { IsTask task.now }
+        requires bounded { left + 1 < length self.old.ends.items }
         requires node { to.node < length task.now.table }
         requires receiver { slice_index_or task.now.shut to.node false ≡ false }
         requires arrivals { length arrival.now ≡ length task.now.table }
         requires few { looks.old.count ≤ most }
         requires most { most ≤ 2 ^ 62 }
-        requires given { (b : ℕ) → b < to.deadline → InTimeFor self.old.reached.items first begin to.node b }
-        requires lists { AreLate task.now arrival.now delivery first begin self.old.late.items self.old.place.items self.old.reached.items }
+        requires given { (b : ℕ) → b < to.deadline → InTimeFor self.old.reached.items (slice_index self.old.ends.items left) (slice_index self.old.ends.items (left + 1)) to.node b }
+        requires lists { AreLate task.now arrival.now delivery (slice_index self.old.ends.items left) (slice_index self.old.ends.items (left + 1)) self.old.late.items self.old.place.items self.old.reached.items }
         ensures ends { self.new.ends ≡ self.old.ends }
         ensures looks { looks.new.count ≤ most }
-        ensures lists { OnOk result (AreLate task.now arrival.now delivery first begin self.new.late.items self.new.place.items self.new.reached.items) }
-        ensures kept { OnOk result (take begin self.new.reached.items ≡ take begin self.old.reached.items) }
+        ensures lists { OnOk result (AreLate task.now arrival.now delivery (slice_index self.old.ends.items left) (slice_index self.old.ends.items (left + 1)) self.new.late.items self.new.place.items self.new.reached.items) }
+        ensures kept { OnOk result (take (slice_index self.old.ends.items (left + 1)) self.new.reached.items ≡ take (slice_index self.old.ends.items (left + 1)) self.old.reached.items) }
         ensures rises { OnOk result ((k : ℕ) → slice_index self.old.late.items k ≤ slice_index self.new.late.items k) }
         ensures met { IfOk result (λ o. o ≡ Some true → (n : ℕ) × (b : ℕ) × Takes task.now n task.now.start task.now.at to.node b × (b < to.deadline)) }
         ensures told { IfOk result (λ o. o ≡ Some false → (n u t b : ℕ) → Takes task.now n u t to.node b → b < to.deadline → IsToldLate task.now arrival.now delivery self.new.late.items u t) }
@@ -202,8 +202,7 @@ impl<A: Allocator + Copy> Layers<A> {
                 from,
                 to.node,
                 to.deadline,
-                first,
-                begin,
+                left,
             )?;
             if met {
                 return Ok(Some(true));
@@ -241,7 +240,7 @@ impl<A: Allocator + Copy> Layers<A> {
         let begin = self.ends[left + 1];
         for place in first..begin {
             let to = self.reached[place];
-            let told = self.take_senders(task, looks, arrival, delivery, to, first, begin, most)?;
+            let told = self.take_senders(task, looks, arrival, delivery, to, left, most)?;
             let Some(met) = told else {
                 return Ok(None);
             };
@@ -332,7 +331,6 @@ impl<A: Allocator + Copy> Layers<A> {
 
     /// Turns the entries that were made backward round; the start takes the goal's place and stands in front as well.
     fn turn_entries(&mut self, task: &Task<'_, A>) -> Result<(), NoMemory>
-        requires task { IsTask task.now }
         requires some { 0 < length self.old.reached.items }
         ensures ends { self.new.ends ≡ self.old.ends }
         ensures reached { OnOk result (self.new.reached.items ≡ reverse (slice_set self.old.reached.items 0 (record { node = task.now.start; arrival = task.now.at; deadline = 0 }) ++ record { node = task.now.start; arrival = task.now.at; deadline = 0 } ∷ [])) }

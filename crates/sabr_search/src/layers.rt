@@ -1,6 +1,6 @@
 //! Hop layers, forward: by number of hops the nodes that they bring an earlier arrival, with it.
 
-ghost use Rattle.std.specs.Prelude.{◌≡◌, ◌≢◌, min, ℕ, List, [], ◌∷◌, ◌+◌, ◌*◌, ◌^◌, ◌≤◌, ◌<◌, length, take, slice_set, slice_index, slice_index_or, Some, OnOk, IfOk, false};
+ghost use Rattle.std.specs.Prelude.{◌≡◌, ◌≢◌, min, ℕ, Bool, List, [], ◌∷◌, ◌+◌, ◌*◌, ◌^◌, ◌≤◌, ◌<◌, length, take, slice_set, slice_index, slice_index_or, Some, OnOk, IfOk, false};
 ghost use Rattle.sabr_model.specs.Links.{AreWithin};
 ghost use Rattle.sabr_search.specs.Task.{IsTask, Takes};
 ghost use Rattle.sabr_search.specs.Steps.{degree};
@@ -91,23 +91,17 @@ impl<A: Allocator + Copy> Layers<A> {
     }
 
     /// Notes an earlier arrival at a node in the layer that begins at `begin`, once for each node.
-    fn note(
-        &mut self,
-        _shut: &[bool],
-        node: usize,
-        arrival: u64,
-        begin: usize,
-    ) -> Result<(), NoMemory>
+    fn note(&mut self, node: usize, arrival: u64, begin: usize) -> Result<(), NoMemory>
         requires node { node < length self.old.arrival.items }
         requires placed { IsPlaced self.old.place.items self.old.reached.items }
-        requires linked { IsLinked _shut.now self.old.arrival.items self.old.place.items self.old.reached.items }
+        requires many { length self.old.place.items ≡ length self.old.arrival.items }
         requires layer { IsLayer begin self.old.place.items self.old.reached.items }
         requires fresh { AreFresh self.old.reached.items }
         requires later { 0 < begin }
         ensures bounds { self.new.bounds ≡ self.old.bounds }
         ensures arrivals { OnOk result (self.new.arrival.items ≡ slice_set self.old.arrival.items node arrival) }
         ensures placed { OnOk result (IsPlaced self.new.place.items self.new.reached.items) }
-        ensures linked { OnOk result (IsLinked _shut.now self.new.arrival.items self.new.place.items self.new.reached.items) }
+        ensures linked { OnOk result ((shut : List Bool) → IsLinked shut self.old.arrival.items self.old.place.items self.old.reached.items → IsLinked shut self.new.arrival.items self.new.place.items self.new.reached.items) }
         ensures layer { OnOk result (IsLayer begin self.new.place.items self.new.reached.items) }
         ensures fresh { OnOk result (AreFresh self.new.reached.items) }
         ensures before { OnOk result (take begin self.new.reached.items ≡ take begin self.old.reached.items) }
@@ -177,7 +171,7 @@ impl<A: Allocator + Copy> Layers<A> {
         if to == task.goal() {
             return Ok(at);
         }
-        self.note(task.shut(), to, at, begin)?;
+        self.note(to, at, begin)?;
         Ok(best)
     }
 

@@ -60,16 +60,10 @@ impl<A: Allocator + Copy> Layers<A> {
 
     /// Gives by node the first second too late for a delivery before the deadline, from all layers for the second
     /// before it.
-    fn floors(
-        &self,
-        alloc: A,
-        task: &Task<'_, A>,
-        _left: usize,
-        deadline: u64,
-    ) -> Result<Vec<u64, A>, NoMemory>
+    fn floors(&self, alloc: A, task: &Task<'_, A>, deadline: u64) -> Result<Vec<u64, A>, NoMemory>
         requires whole { IsWhole task.now }
         requires some { 0 < deadline }
-        requires made { AreAllLate task.now (deadline - 1) _left self.now.ends.items self.now.late.items self.now.reached.items }
+        requires made { (left : ℕ) × AreAllLate task.now (deadline - 1) left self.now.ends.items self.now.late.items self.now.reached.items }
         ensures floors { IfOk result (λ v. length v.items ≡ length task.now.table) }
         ensures floor { IfOk result (λ v. IsFloor (tabled_of task.now) task.now.request deadline v.items) }
     {
@@ -81,16 +75,9 @@ impl<A: Allocator + Copy> Layers<A> {
     }
 
     /// Puts the entries of a layer behind the dues.
-    fn gather_layer(
-        &self,
-        _task: &Task<'_, A>,
-        _delivery: u64,
-        _all: usize,
-        left: usize,
-        dues: &mut Vec<Due, A>,
-    ) -> Result<(), NoMemory>
-        requires made { AreAllLate _task.now _delivery _all self.now.ends.items self.now.late.items self.now.reached.items }
-        requires left { left < _all }
+    fn gather_layer(&self, left: usize, dues: &mut Vec<Due, A>) -> Result<(), NoMemory>
+        requires bounded { left + 1 < length self.now.ends.items }
+        requires within { slice_index self.now.ends.items (left + 1) ≤ length self.now.reached.items }
         requires gathered { AreGathered self.now.ends.items self.now.reached.items left dues.old.items }
         ensures gathered { OnOk result (AreGathered self.now.ends.items self.now.reached.items (left + 1) dues.new.items) }
     {
@@ -105,21 +92,15 @@ impl<A: Allocator + Copy> Layers<A> {
         Ok(())
     }
 
-    /// Gives the dues of all layers, by node.
-    fn gather(
-        &self,
-        alloc: A,
-        task: &Task<'_, A>,
-        delivery: u64,
-        all: usize,
-    ) -> Result<Vec<Due, A>, NoMemory>
-        requires whole { IsWhole task.now }
-        requires made { AreAllLate task.now delivery all self.now.ends.items self.now.late.items self.now.reached.items }
-        ensures dues { IfOk result (λ v. AreDues (tabled_of task.now) task.now.request delivery v.items) }
+    /// Gives the dues of so many layers, by node.
+    fn gather(&self, alloc: A, all: usize) -> Result<Vec<Due, A>, NoMemory>
+        requires bounded { all < length self.now.ends.items }
+        requires within { (left : ℕ) → left < all → slice_index self.now.ends.items (left + 1) ≤ length self.now.reached.items }
+        ensures gathered { IfOk result (λ v. AreGathered self.now.ends.items self.now.reached.items all v.items) }
     {
         let mut dues = Vec::new(alloc);
         for left in 0..all {
-            self.gather_layer(task, delivery, all, left, &mut dues)?;
+            self.gather_layer(left, &mut dues)?;
         }
         dues.sort_unstable_by_key(|due| due.node);
         Ok(dues)
@@ -150,7 +131,7 @@ impl<A: Allocator + Copy> Layers<A> {
         let Some(all) = self.make_all(task, looks, since, deadline, most)? else {
             return Ok(None);
         };
-        let dues = self.gather(alloc, task, deadline, all)?;
+        let dues = self.gather(alloc, all)?;
         Ok(Some(dues))
     }
 
@@ -174,10 +155,10 @@ impl<A: Allocator + Copy> Layers<A> {
         let nodes = task.shut().len();
         let mut since = Vec::new(alloc);
         since.resize(nodes, 0)?;
-        let Some(left) = self.make_all(task, looks, &since, deadline - 1, most)? else {
+        let Some(_) = self.make_all(task, looks, &since, deadline - 1, most)? else {
             return Ok(None);
         };
-        let before = self.floors(alloc, task, left, deadline)?;
+        let before = self.floors(alloc, task, deadline)?;
         let Some(dues) = self.dues_by(alloc, task, looks, &since, deadline, most)? else {
             return Ok(None);
         };

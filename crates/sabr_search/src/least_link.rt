@@ -43,7 +43,7 @@ impl<'a, A: Allocator + Copy> Task<'a, A> {
         }
         let mut chosen = least;
         let mut finger = Finger::new();
-        let mut place = first_open(self, node, to, passes, at);
+        let mut place = first_open(passes, at);
         while place < passes.len() {
             let pass = looks.look(&passes[place]);
             if is_at_most(chosen, pass.least_number_behind) {
@@ -61,7 +61,7 @@ impl<'a, A: Allocator + Copy> Task<'a, A> {
             if is_at_most(chosen, pass.number) {
                 continue;
             }
-            let hop = self.hop_over(node, to, pass);
+            let hop = self.hop_over(to, pass);
             if let Some(arrival) = self.arrive_before(at, &hop, before) {
                 chosen = Some(Step {
                     number: pass.number,

@@ -5,7 +5,7 @@ ghost use Rattle.sabr_model.specs.declared.link.Pass.{Pass};
 ghost use Rattle.sabr_model.specs.Arrival.{cost};
 ghost use Rattle.sabr_model.specs.Links.{AreWithin};
 ghost use Rattle.sabr_search.specs.Task.{IsTask, Takes};
-ghost use Rattle.sabr_search.specs.Linked.{IsLinkAt, HasNumber};
+ghost use Rattle.sabr_search.specs.Linked.{IsLinkAt, AreInOrder, HasNumber};
 
 use crate::looks::Looks;
 use crate::over_link::rules_out;
@@ -15,15 +15,8 @@ use std::alloc::Allocator;
 
 /// Tells how many passes of a link start before `before`: they are those in front. The only one may start later. A
 /// halving: it compares the starts as the keys by which a link's passes are in order.
-fn begun<A: Allocator + Copy>(
-    _task: &Task<'_, A>,
-    _node: usize,
-    _to: usize,
-    passes: &[Pass],
-    before: u64,
-) -> usize
-    requires task { IsTask _task.now }
-    requires link { IsLinkAt _task.now _node _to passes.now }
+fn begun(passes: &[Pass], before: u64) -> usize
+    requires { AreInOrder passes.now }
     ensures within { result ≤ length passes.now }
     ensures late { (k : ℕ) (x : Pass) → result ≤ k → slice_get passes.now k ≡ Some x → before ≤ x.start }
 {
@@ -37,7 +30,6 @@ impl<'a, A: Allocator + Copy> Task<'a, A> {
     /// Tells whether no one who is at the sender at `since` or later, and at `latest` or later, arrives before `before`
     /// over this pass or one in front of it.
     fn leaves_no_later(&self, pass: &Pass, since: u64, before: u64, latest: u64) -> bool
-        requires task { IsTask self.now }
         requires light { pass.now.least_light_before ≤ 1000000 }
         ensures { IsTrue result → (pass.now.latest_end ≤ max latest since) ⊎ (before ≤ latest + cost self.now.request.margin pass.now.least_light_before) }
     {
@@ -76,13 +68,13 @@ impl<'a, A: Allocator + Copy> Task<'a, A> {
             return latest;
         }
         let mut last = latest;
-        let end = begun(self, node, to, passes, before);
+        let end = begun(passes, before);
         for back in 0..end {
             let pass = looks.look(&passes[end - 1 - back]);
             if self.leaves_no_later(pass, since, before, last) {
                 return last;
             }
-            let hop = self.hop_over(node, to, pass);
+            let hop = self.hop_over(to, pass);
             last = last.max(self.leave_before(&hop, before));
         }
         last

@@ -7,7 +7,7 @@ ghost use Rattle.sabr_model.specs.Links.{AreWithin};
 ghost use Rattle.sabr_search.specs.Hops.{IsSmall};
 ghost use Rattle.sabr_search.specs.Task.{IsTask, Takes};
 ghost use Rattle.sabr_search.specs.Steps.{IsHopAt};
-ghost use Rattle.sabr_search.specs.Linked.{IsPassAt, IsLinkAt, HasNumber, passes_of};
+ghost use Rattle.sabr_search.specs.Linked.{IsPassAt, IsLinkAt, AreInOrder, HasNumber, passes_of};
 
 use crate::finger::Finger;
 use crate::looks::Looks;
@@ -38,15 +38,8 @@ pub fn rules_out(bounds: LinkBounds, at: u64, before: u64) -> bool
 
 /// Tells how many passes from the front of a link have ended by `at`; those behind, or the only one, may have ended as
 /// well. A halving: it compares the bounds that stand beside the passes.
-pub fn first_open<A: Allocator + Copy>(
-    _task: &Task<'_, A>,
-    _node: usize,
-    _to: usize,
-    passes: &[Pass],
-    at: u64,
-) -> usize
-    requires task { IsTask _task.now }
-    requires link { IsLinkAt _task.now _node _to passes.now }
+pub fn first_open(passes: &[Pass], at: u64) -> usize
+    requires { AreInOrder passes.now }
     ensures within { result ≤ length passes.now }
     ensures ended { (k : ℕ) (x : Pass) → k < result → slice_get passes.now k ≡ Some x → x.end ≤ at }
 {
@@ -58,8 +51,8 @@ pub fn first_open<A: Allocator + Copy>(
 
 impl<'a, A: Allocator + Copy> Task<'a, A> {
     /// Gives the record of a pass that was looked at.
-    pub fn hop_over(&self, _node: usize, to: usize, pass: &Pass) -> Hop
-        requires pass { IsPassAt self.now _node to pass.now }
+    pub fn hop_over(&self, to: usize, pass: &Pass) -> Hop
+        requires pass { (node : ℕ) × IsPassAt self.now node to pass.now }
         requires task { IsTask self.now }
         ensures value { IsHopAt self.now pass.now.number result }
         ensures small { IsSmall result }
@@ -113,7 +106,7 @@ impl<'a, A: Allocator + Copy> Task<'a, A> {
         }
         let mut least = before;
         let mut finger = Finger::new();
-        let mut place = first_open(self, node, to, passes, at);
+        let mut place = first_open(passes, at);
         while place < passes.len() {
             let pass = looks.look(&passes[place]);
             let excluded = self.excluded_from(node, pass, &mut finger);
@@ -124,7 +117,7 @@ impl<'a, A: Allocator + Copy> Task<'a, A> {
             if self.comes_late(pass, at, least) {
                 return least;
             }
-            let hop = self.hop_over(node, to, pass);
+            let hop = self.hop_over(to, pass);
             if let Some(arrival) = self.arrive_before(at, &hop, least) {
                 least = arrival;
             }

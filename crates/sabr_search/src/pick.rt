@@ -106,7 +106,7 @@ impl<A: Allocator + Copy> Layers<A> {
             at: task.at(),
         };
         for hop in 0..best.hops {
-            self.point_at(task, best, hop + 1);
+            self.point_at(hop + 1);
             let least = self.least_step(task, looks, best, hop + 1, from)?;
             let Some(step) = least else {
                 unreachable!();

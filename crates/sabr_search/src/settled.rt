@@ -172,7 +172,6 @@ impl<A: Allocator + Copy> BestOf<A> for Settled<A> {
     {
         self.calls.add();
         self.looks = Looks::new();
-        let _nodes = plan.nodes();
         let Some((standing, goal)) = enter(
             &mut self.shut,
             &mut self.looks,
@@ -213,7 +212,6 @@ impl<A: Allocator + Copy> BestOf<A> for Settled<A> {
     {
         self.calls.add();
         self.looks = Looks::new();
-        let _nodes = plan.nodes();
         let Some((standing, goal)) = enter(
             &mut self.shut,
             &mut self.looks,

@@ -141,7 +141,6 @@ impl<'a, A: Allocator + Copy> Task<'a, A> {
 
     /// Gives as many looks as one pass over all contacts takes.
     pub fn one_pass(&self) -> u64
-        requires task { IsTask self.now }
         ensures value { result ≡ length self.now.plan.contacts }
         ensures limit { result ≤ 2 ^ 60 }
     {
@@ -150,7 +149,6 @@ impl<'a, A: Allocator + Copy> Task<'a, A> {
 
     /// Gives as many looks as two passes over all contacts take.
     pub fn two_passes(&self) -> u64
-        requires task { IsTask self.now }
         ensures value { result ≡ 2 * length self.now.plan.contacts }
         ensures limit { result ≤ 2 ^ 62 }
     {
@@ -178,7 +176,6 @@ impl<'a, A: Allocator + Copy> Task<'a, A> {
 
     /// Gives a light time with the margin, in seconds.
     pub fn cost(&self, light: u32) -> u64
-        requires task { IsTask self.now }
         requires light { light ≤ 1000000 }
         ensures { result ≡ cost self.now.request.margin light }
     {
@@ -187,7 +184,6 @@ impl<'a, A: Allocator + Copy> Task<'a, A> {
 
     /// Gives the arrival over the contact where it is before `before`.
     pub fn arrive_before(&self, at: u64, hop: &Hop, before: u64) -> Option<u64>
-        requires task { IsTask self.now }
         requires small { IsSmall hop.now }
         ensures some { IfSome result (λ b. (hop_arrival self.now.request.margin at hop.now ≡ Some b) × (b < before)) }
         ensures none { IfNone result ((b : ℕ) → hop_arrival self.now.request.margin at hop.now ≡ Some b → before ≤ b) }
@@ -206,7 +202,6 @@ impl<'a, A: Allocator + Copy> Task<'a, A> {
 
     /// Gives the first second from which on the contact no longer arrives before `before`; 0 where it never does.
     pub fn leave_before(&self, hop: &Hop, before: u64) -> u64
-        requires task { IsTask self.now }
         requires small { IsSmall hop.now }
         requires window { hop.now.start < hop.now.end }
         ensures kept { (t : ℕ) → t < result → (b : ℕ) × (hop_arrival self.now.request.margin t hop.now ≡ Some b) × (b < before) }

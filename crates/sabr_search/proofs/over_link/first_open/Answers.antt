@@ -7,10 +7,9 @@ use Rattle.sabr_search.proofs.OverLinks.{ends_rise, end_within}
 use Rattle.sabr_search.proofs.over_link.first_open.Goals as goal
 
 pub returns-clause-ended : goal.returns-clause-ended
-returns-clause-ended g c = λ k x less at.
+returns-clause-ended c = λ k x less at.
     let passes = c.args.passes.now in
-    let link = c.requires.link in
-    let point = IsPartitionPoint-from_clause (λ (p : Pass). leb p.latest_end c.args.at) passes c.partition_point.result c.partition_point.ensures.partitioned (IsPartitionedBy-leb (λ (p : Pass). p.latest_end) passes c.args.at (ends_rise _ c.requires.task _ _ passes link)) (λ a r f h. search rules) in
+    let point = IsPartitionPoint-from_clause (λ (p : Pass). leb p.latest_end c.args.at) passes c.partition_point.result c.partition_point.ensures.partitioned (IsPartitionedBy-leb (λ (p : Pass). p.latest_end) passes c.args.at (ends_rise passes c.requires)) (λ a r f h. search rules) in
     let passed = leb-true (slice_index_or passes k x).latest_end c.args.at (point.0 k x (omega arith) less) in
     let is : slice_index_or passes k x ≡ x = get_or_from_slice_get passes k x x at in
-    omega (arith, passed, ap (λ (p : Pass). p.latest_end) is, end_within _ c.requires.task _ _ passes link k x at)
+    omega (arith, passed, ap (λ (p : Pass). p.latest_end) is, end_within passes c.requires k x at)

@@ -5,15 +5,14 @@ use Rattle.sabr_search.specs.declared.layers.Reached.{Reached}
 use Rattle.sabr_search.specs.declared.rung.Due.{Due}
 use Rattle.sabr_search.proofs.Between.{read_at}
 use Rattle.sabr_search.proofs.Forward.{last_or_before}
-use Rattle.sabr_search.proofs.AllLayers.{layer_within}
 use Rattle.sabr_search.proofs.layers.Layers.gather_layer.Goals as goal
 
 pub index-entry-requires : goal.index-entry-requires
 index-entry-requires g c =
     let own = c.args.self.now in
     let left = c.args.left in
-    let end : c.index-place-end.result.now ≡ slice_index own.ends.items (left + 1) = read_at own.ends.items (left + 1) c.index-place-end.result.now (omega (arith, c.requires.made.made.many, c.requires.left)) c.index-place-end.ensures in
-    omega (arith, c.loop-place-test.true, end, layer_within c.args._task.now c.args._delivery c.args._all own.ends.items own.late.items own.reached.items c.requires.made left c.requires.left, own.reached.ok.0)
+    let end : c.index-place-end.result.now ≡ slice_index own.ends.items (left + 1) = read_at own.ends.items (left + 1) c.index-place-end.result.now c.requires.bounded c.index-place-end.ensures in
+    omega (arith, c.loop-place-test.true, end, c.requires.within, own.reached.ok.0)
 
 pub loop-place-preserved : goal.loop-place-preserved
 loop-place-preserved g c =
@@ -36,7 +35,7 @@ returns g c =
     let own = c.args.self.now in
     let left = c.args.left in
     let so_far = c.loop-place.invariant in
-    let end : c.index-place-end.result.now ≡ slice_index own.ends.items (left + 1) = read_at own.ends.items (left + 1) c.index-place-end.result.now (omega (arith, c.requires.made.made.many, c.requires.left)) c.index-place-end.ensures in
+    let end : c.index-place-end.result.now ≡ slice_index own.ends.items (left + 1) = read_at own.ends.items (left + 1) c.index-place-end.result.now c.requires.bounded c.index-place-end.ensures in
     record {
       gathered = λ h v a x less e. elim (last_or_before h left less) [
         | inl before ↦ so_far.kept h v a x before e

@@ -16,12 +16,18 @@ loop-hop-init g c =
       chosen = ([], rw (c.in_ok-extend_from_slice.ensures.items, c.in_ok-contacts.ensures.items) (sym (append_none c.args.prefix.now)), started);
     }
 
+pub point_at-requires-clause-timed : goal.point_at-requires-clause-timed
+point_at-requires-clause-timed g c = (c.args.task.now, c.args.best, 1, omega arith, c.loop-hop.invariant.timed)
+
+pub least_step-requires-clause-pointed : goal.least_step-requires-clause-pointed
+least_step-requires-clause-pointed g c = c.point_at.ensures.pointed c.args.task.now c.args.best 1 (omega arith) c.loop-hop.invariant.timed
+
 pub least_step-requires-clause-timed : goal.least_step-requires-clause-timed
-least_step-requires-clause-timed g c = timed_later c.args.task.now c.args.best 1 (c.loop-hop.hop + 1) _ _ _ (omega arith) (c.point_at.ensures.timed 1 c.loop-hop.invariant.timed)
+least_step-requires-clause-timed g c = timed_later c.args.task.now c.args.best 1 (c.loop-hop.hop + 1) _ _ _ (omega arith) (c.point_at.ensures.timed c.args.task.now c.args.best 1 c.loop-hop.invariant.timed)
 
 pub unreachable-requires : goal.unreachable-requires
 unreachable-requires g c =
-    some_step c.args.task.now c.requires.task c.args.best _ _ _ (c.point_at.ensures.timed 1 c.loop-hop.invariant.timed) c.loop-hop.hop c.loop-hop-test.true c.loop-hop.invariant.chosen.0 c.loop-hop.from.node c.loop-hop.from.at c.loop-hop.invariant.chosen.2 (rw c.in_default.is at c.in_ok-least.ensures.none)
+    some_step c.args.task.now c.requires.task c.args.best _ _ _ (c.point_at.ensures.timed c.args.task.now c.args.best 1 c.loop-hop.invariant.timed) c.loop-hop.hop c.loop-hop-test.true c.loop-hop.invariant.chosen.0 c.loop-hop.from.node c.loop-hop.from.at c.loop-hop.invariant.chosen.2 (rw c.in_default.is at c.in_ok-least.ensures.none)
 
 pub returns-in_err-push-clause-looks : goal.returns-in_err-push-clause-looks
 returns-in_err-push-clause-looks g c =
@@ -33,7 +39,7 @@ pub loop-hop-preserved : goal.loop-hop-preserved
 loop-hop-preserved g c =
     let task = c.args.task.now in
     let so_far = c.loop-hop.invariant.chosen in
-    let timed = c.point_at.ensures.timed 1 c.loop-hop.invariant.timed in
+    let timed = c.point_at.ensures.timed c.args.task.now c.args.best 1 c.loop-hop.invariant.timed in
     let least : IsLeastStep task c.args.best _ _ (c.loop-hop.hop + 1) c.loop-hop.from.node c.loop-hop.from.at c.in-Some.step = rw c.in-Some.is at c.in_ok-least.ensures.some in
     record {
       counted = omega (arith, c.least_step.ensures.looks, c.loop-hop.invariant.counted, degree_at_most task c.loop-hop.from.node);

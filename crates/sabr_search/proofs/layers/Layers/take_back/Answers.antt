@@ -1,4 +1,4 @@
-use Rattle.std.proofs.Common.{◌≡◌, ◌<◌, slice_index, arith}
+use Rattle.std.proofs.Common.{◌≡◌, ◌<◌, ◌+◌, slice_index, arith}
 use Rattle.sabr_search.proofs.Between.{read_at}
 use Rattle.sabr_search.proofs.LateLists.{late_noted, sound_back, set_here}
 use Rattle.sabr_search.proofs.layers.Layers.take_back.Goals as goal
@@ -16,21 +16,23 @@ returns-then-last-latest-clause-told g c = λ n t w b has s less soon.
 pub returns-clause-lists : goal.returns-clause-lists
 returns-clause-lists g c =
     let latest : c.index-latest.result.now ≡ slice_index c.args.self.now.late.items c.args.from.node = read_at c.args.self.now.late.items c.args.from.node c.index-latest.result.now (omega (arith, c.requires.node, c.requires.lists.many)) c.index-latest.ensures in
+    let begin : c.index-begin.result.now ≡ slice_index c.args.self.now.ends.items (c.args.left + 1) = read_at c.args.self.now.ends.items (c.args.left + 1) c.index-begin.result.now c.requires.bounded c.index-begin.ensures in
     rw c.in_ok-note_late.ensures.late
-    ((late_noted c.args.task.now c.args.arrival.now c.args.delivery c.args._first c.args.begin c.args.self.now.late.items c.args.self.now.place.items c.args.self.now.reached.items c.requires.lists
+    ((late_noted c.args.task.now c.args.arrival.now c.args.delivery (slice_index c.args.self.now.ends.items c.args.left) (slice_index c.args.self.now.ends.items (c.args.left + 1)) c.args.self.now.late.items c.args.self.now.place.items c.args.self.now.reached.items c.requires.lists
     c.args.from.node c.soonest_at-since.result c.leave_over-last.result c.requires.node c.requires.unshut c.requires.inner c.soonest_at-since.ensures (omega (arith, latest, c.if-last-latest.false))
-    (sound_back c.args.task.now c.requires.task c.args.from.node c.args.to c.index-latest.result.now c.leave_over-last.result c.args.before c.args._first c.args.begin c.args.self.now.reached.items
+    (sound_back c.args.task.now c.requires.task c.args.from.node c.args.to c.index-latest.result.now c.leave_over-last.result c.args.before (slice_index c.args.self.now.ends.items c.args.left) (slice_index c.args.self.now.ends.items (c.args.left + 1)) c.args.self.now.reached.items
     (λ t from less. c.leave_over-last.ensures.sound t from less) c.if-last-latest.false c.requires.receiver c.requires.given)
-    _ _ c.in_ok-note_late.ensures.noted).0)
+    _ _ (rw begin at c.in_ok-note_late.ensures.noted)).0)
 
 pub returns-clause-kept : goal.returns-clause-kept
 returns-clause-kept g c =
     let latest : c.index-latest.result.now ≡ slice_index c.args.self.now.late.items c.args.from.node = read_at c.args.self.now.late.items c.args.from.node c.index-latest.result.now (omega (arith, c.requires.node, c.requires.lists.many)) c.index-latest.ensures in
-    (late_noted c.args.task.now c.args.arrival.now c.args.delivery c.args._first c.args.begin c.args.self.now.late.items c.args.self.now.place.items c.args.self.now.reached.items c.requires.lists
+    let begin : c.index-begin.result.now ≡ slice_index c.args.self.now.ends.items (c.args.left + 1) = read_at c.args.self.now.ends.items (c.args.left + 1) c.index-begin.result.now c.requires.bounded c.index-begin.ensures in
+    (late_noted c.args.task.now c.args.arrival.now c.args.delivery (slice_index c.args.self.now.ends.items c.args.left) (slice_index c.args.self.now.ends.items (c.args.left + 1)) c.args.self.now.late.items c.args.self.now.place.items c.args.self.now.reached.items c.requires.lists
     c.args.from.node c.soonest_at-since.result c.leave_over-last.result c.requires.node c.requires.unshut c.requires.inner c.soonest_at-since.ensures (omega (arith, latest, c.if-last-latest.false))
-    (sound_back c.args.task.now c.requires.task c.args.from.node c.args.to c.index-latest.result.now c.leave_over-last.result c.args.before c.args._first c.args.begin c.args.self.now.reached.items
+    (sound_back c.args.task.now c.requires.task c.args.from.node c.args.to c.index-latest.result.now c.leave_over-last.result c.args.before (slice_index c.args.self.now.ends.items c.args.left) (slice_index c.args.self.now.ends.items (c.args.left + 1)) c.args.self.now.reached.items
     (λ t from less. c.leave_over-last.ensures.sound t from less) c.if-last-latest.false c.requires.receiver c.requires.given)
-    _ _ c.in_ok-note_late.ensures.noted).1
+    _ _ (rw begin at c.in_ok-note_late.ensures.noted)).1
 
 pub returns-clause-told : goal.returns-clause-told
 returns-clause-told g c = λ n t w b has s less soon.

@@ -1,4 +1,4 @@
-use Rattle.std.proofs.Common.{◌≡◌, inl, inr, slice_get, sym, ap, ◌∙◌, arith}
+use Rattle.std.proofs.Common.{◌≡◌, ◌+◌, inl, inr, slice_get, slice_index, sym, ap, ◌∙◌, arith}
 use Rattle.std.proofs.lemmas.Option.{slice_get_within}
 use Rattle.sabr_search.proofs.Forward.{last_or_before}
 use Rattle.sabr_search.proofs.OverLinks.{same_some}
@@ -8,9 +8,15 @@ use Rattle.sabr_search.proofs.layers.Layers.take_senders.Goals as goal
 pub take_sender-requires-clause-link : goal.take_sender-requires-clause-link
 take_sender-requires-clause-link g c = c.in-Some.ensures.each c.loop-place.place (record { sender = c.at-from.result.node; passes = c.at-from.result.passes.now }) c.at-from.ensures.link
 
+pub take_sender-requires-clause-bounded : goal.take_sender-requires-clause-bounded
+take_sender-requires-clause-bounded g c = rw c.loop-place.invariant.ends c.requires.bounded
+
+pub take_sender-requires-clause-lists : goal.take_sender-requires-clause-lists
+take_sender-requires-clause-lists g c = rw c.loop-place.invariant.ends c.loop-place.invariant.lists
+
 pub take_sender-requires-clause-given : goal.take_sender-requires-clause-given
 take_sender-requires-clause-given g c = λ b less.
-    in_time_kept c.args.first c.args.begin c.loop-place.self.reached.items c.args.self.now.reached.items c.loop-place.invariant.kept c.args.to.node b (c.requires.given b less)
+    rw c.loop-place.invariant.ends (in_time_kept (slice_index c.args.self.now.ends.items c.args.left) (slice_index c.args.self.now.ends.items (c.args.left + 1)) c.loop-place.self.reached.items c.args.self.now.reached.items c.loop-place.invariant.kept c.args.to.node b (c.requires.given b less))
 
 pub loop-place-preserved : goal.loop-place-preserved
 loop-place-preserved g c =
@@ -20,8 +26,8 @@ loop-place-preserved g c =
     record {
       ends = c.take_sender.ensures.ends ∙ so_far.ends;
       counted = omega (arith, so_far.counted, c.take_sender.ensures.looks, c.if-from-most.false);
-      lists = one.lists;
-      kept = one.kept ∙ so_far.kept;
+      lists = rw so_far.ends at one.lists;
+      kept = rw so_far.ends at one.kept ∙ so_far.kept;
       rises = λ k. omega (arith, so_far.rises k, one.rises k);
       told = λ j s n t w b less at has step by. elim (last_or_before j c.loop-place.place less) [
         | inl before ↦ told_rises task c.args.arrival.now c.args.delivery _ _ s.sender t one.rises (so_far.told j s n t w b before at has step by)

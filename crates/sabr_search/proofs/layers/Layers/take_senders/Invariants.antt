@@ -1,4 +1,4 @@
-use Rattle.std.proofs.Common.{◌≡◌, ℕ, ◌<◌, ◌≤◌, Some, take, slice_get, slice_index}
+use Rattle.std.proofs.Common.{◌≡◌, ℕ, ◌+◌, ◌<◌, ◌≤◌, Some, take, slice_get, slice_index}
 use Rattle.sabr_model.specs.Links.{SentLink}
 use Rattle.sabr_search.specs.Task.{Takes}
 use Rattle.sabr_search.specs.Linked.{HasNumber}
@@ -9,8 +9,8 @@ abbrev pub invariant-loop-place : goal.invariant-loop-place
 invariant-loop-place g l = record {
   ends : l.self.ends ≡ l.fn.self.ends;
   counted : l.looks.count ≤ l.most;
-  lists : AreLate l.task l.arrival l.delivery l.first l.begin l.self.late.items l.self.place.items l.self.reached.items;
-  kept : take l.begin l.self.reached.items ≡ take l.begin l.fn.self.reached.items;
+  lists : AreLate l.task l.arrival l.delivery (slice_index l.fn.self.ends.items l.left) (slice_index l.fn.self.ends.items (l.left + 1)) l.self.late.items l.self.place.items l.self.reached.items;
+  kept : take (slice_index l.fn.self.ends.items (l.left + 1)) l.self.reached.items ≡ take (slice_index l.fn.self.ends.items (l.left + 1)) l.fn.self.reached.items;
   rises : (k : ℕ) → slice_index l.fn.self.late.items k ≤ slice_index l.self.late.items k;
   told : (j : ℕ) (s : SentLink) (n t w b : ℕ) → j < l.place → slice_get l.senders j ≡ Some s → HasNumber s.passes n → Takes l.task n s.sender t w b → b < l.to.deadline → IsToldLate l.task l.arrival l.delivery l.self.late.items s.sender t;
 }

@@ -49,7 +49,7 @@ pub least_route-requires-clause-fits : goal.least_route-requires-clause-fits
 least_route-requires-clause-fits g c = rw c.new-task.ensures c.requires.fits
 
 pub least_route-requires-clause-nodes : goal.least_route-requires-clause-nodes
-least_route-requires-clause-nodes g c = rw c.new-task.ensures (nodes_few c.args.plan.now c.enter.ensures.plan c.nodes-nodes.ensures.tabled)
+least_route-requires-clause-nodes g c = rw c.new-task.ensures (nodes_few c.args.plan.now c.enter.ensures.plan c.enter.ensures.tabled)
 
 pub least_route-requires-clause-few : goal.least_route-requires-clause-few
 least_route-requires-clause-few g c =

@@ -51,7 +51,7 @@ pub least_beside-requires-clause-fits : goal.least_beside-requires-clause-fits
 least_beside-requires-clause-fits g c = rw c.new-task.ensures c.requires.fits
 
 pub least_beside-requires-clause-nodes : goal.least_beside-requires-clause-nodes
-least_beside-requires-clause-nodes g c = rw c.new-task.ensures (nodes_few c.args.plan.now c.enter.ensures.plan c.nodes-nodes.ensures.tabled)
+least_beside-requires-clause-nodes g c = rw c.new-task.ensures (nodes_few c.args.plan.now c.enter.ensures.plan c.enter.ensures.tabled)
 
 pub least_beside-requires-clause-kept : goal.least_beside-requires-clause-kept
 least_beside-requires-clause-kept g c = rw c.new-task.ensures c.requires.kept
@@ -62,7 +62,7 @@ returns-clause-bound g c =
     let task : SearchTask = record { plan = p.plan; request = c.args.request.now; table = p.table; shut = c.enter.new.shut.items; excluded = c.args.part.excluded.now; start = c.in-Some.standing.node; goal = c.in-Some.goal; at = c.in-Some.standing.at } in
     let found = rw c.in-Some.is at c.in_ok-standing.ensures.some in
     let both : IsTask task × IsBehind task c.args.part.prefix.now = found c.args.part.excluded.now in
-    let many : length p.table ≡ node_count p.plan.contacts = sym c.nodes-nodes.ensures.table ∙ c.nodes-nodes.ensures.value in
+    let many : length p.table ≡ node_count p.plan.contacts = c.enter.ensures.nodes in
     let old : c.least_beside.new.looks.count ≤ (3 * length p.table + 1) * length p.plan.contacts = rw c.new-task.ensures at c.least_beside.ensures.bound in
     learned_within (node_count p.plan.contacts) (length p.plan.contacts) c.least_beside.new.looks.count c.learn.new.looks.count (omega (arith, both.0.start_in, many)) c.learn.ensures.looks (rw many at old)
 

@@ -53,7 +53,7 @@ hop_over-hop-requires-clause-pass g c =
     let i = c.loop-place.place in
     let pass = c.look-pass.result.now in
     let here : slice_get passes i ≡ Some pass = slice_get-get_or passes i no_pass c.loop-place-test.true ∙ ap (λ (z : Bor Pass). Some z.now) (sym c.look-pass.ensures.same) in
-    c.requires.link.each i pass here
+    (c.args.node, c.requires.link.each i pass here)
 
 pub loop-place-preserved-then-excluded-gt0 : goal.loop-place-preserved-then-excluded-gt0
 loop-place-preserved-then-excluded-gt0 g c =

@@ -24,13 +24,13 @@ loop-back-init g c = record {
       absurd (omega (arith, less, c.begun-end.ensures.late k x (omega (arith, le)) at, (starts_late c.args.self.now c.requires.task c.args.node c.args.to c.args.passes.now c.requires.link t k x w b at s).0));
 }
 
-pub leaves_no_later-requires-clause-light : goal.leaves_no_later-requires-clause-light
-leaves_no_later-requires-clause-light g c =
+pub leaves_no_later-requires : goal.leaves_no_later-requires
+leaves_no_later-requires g c =
     let passes = c.args.passes.now in
     let i = c.begun-end.result - 1 - c.loop-back.back in
     let pass = c.look-pass.result.now in
     let here : slice_get passes i ≡ Some pass = slice_get-get_or passes i no_pass (omega (arith, c.loop-back-test.true, c.begun-end.ensures.within)) ∙ ap (λ (z : Bor Pass). Some z.now) (sym c.look-pass.ensures.same) in
-    least_before_small c.args.self.now c.requires.task c.args.node c.args.to passes c.requires.link i pass here
+    record { light = least_before_small c.args.self.now c.requires.task c.args.node c.args.to passes c.requires.link i pass here }
 
 pub returns-then-leaves_no_later-clause-full : goal.returns-then-leaves_no_later-clause-full
 returns-then-leaves_no_later-clause-full g c = λ n t w b has after s less.
@@ -53,7 +53,7 @@ hop_over-hop-requires-clause-pass g c =
     let i = c.begun-end.result - 1 - c.loop-back.back in
     let pass = c.look-pass.result.now in
     let here : slice_get passes i ≡ Some pass = slice_get-get_or passes i no_pass (omega (arith, c.loop-back-test.true, c.begun-end.ensures.within)) ∙ ap (λ (z : Bor Pass). Some z.now) (sym c.look-pass.ensures.same) in
-    c.requires.link.each i pass here
+    (c.args.node, c.requires.link.each i pass here)
 
 pub leave_before-requires-clause-window : goal.leave_before-requires-clause-window
 leave_before-requires-clause-window g c = hop_at_window c.args.self.now c.requires.task _ c.hop_over-hop.result c.hop_over-hop.ensures.value
