@@ -12,7 +12,7 @@ use Rattle.sabr_search.specs.Ways.{Leads}
 use Rattle.sabr_search.specs.Task.{SearchTask, Takes, IsTask, IsBehind}
 use Rattle.sabr_search.specs.Made.{Entry}
 use Rattle.sabr_search.specs.Late.{soonest}
-use Rattle.sabr_search.specs.Kept.{Goes, IsWayOn, IsFloor, AreDues}
+use Rattle.sabr_search.specs.Kept.{Goes, IsWayOn, IsFloor, AreDues, IsWithin}
 use Rattle.sabr_search.specs.Following.{tabled_of}
 use Rattle.sabr_search.specs.Laying.{IsWhole, AreAllLate, AreGathered}
 use Rattle.sabr_search.proofs.Ways.{Leads-later}
@@ -89,17 +89,19 @@ layer_within task d all ends late reached made left less =
     omega (arith, ends_to ends all made.made.rising (all - left) (left + 1) (omega (arith, less)), made.made.last_end)
 
 -- a node's span with one of its dues more
-pub spans_more : (dues : List Due) (spans : List Span) (place : ℕ) (due : Due) (old z : Span) → slice_get dues place ≡ Some due → slice_get spans due.node ≡ Some old → z.first ≤ place → (0 < old.end → z.first ≤ old.first) → z.end ≡ place + 1 →
-    ((k : ℕ) (d : Due) (s : Span) → k < place → slice_get dues k ≡ Some d → slice_get spans d.node ≡ Some s → (s.first ≤ k) × (k < s.end)) →
-    (k : ℕ) (d : Due) (s : Span) → k < place + 1 → slice_get dues k ≡ Some d → slice_get (slice_set spans due.node z) d.node ≡ Some s → (s.first ≤ k) × (k < s.end)
-spans_more dues spans place due old z at old_at here kept end_is was k d s less at_k at_s =
+pub spans_more : (dues : List Due) (spans : List Span) (place : ℕ) (due : Due) (old z : Span) → slice_get dues place ≡ Some due → slice_get spans due.node ≡ Some old → IsWithin z place due → ((k : ℕ) (d : Due) → k < place → IsWithin old k d → IsWithin z k d) →
+    ((k : ℕ) (d : Due) (s : Span) → k < place → slice_get dues k ≡ Some d → slice_get spans d.node ≡ Some s → IsWithin s k d) →
+    (k : ℕ) (d : Due) (s : Span) → k < place + 1 → slice_get dues k ≡ Some d → slice_get (slice_set spans due.node z) d.node ≡ Some s → IsWithin s k d
+spans_more dues spans place due old z at old_at here kept was k d s less at_k at_s =
     let within : due.node < length spans = slice_get_within spans due.node old old_at in
     elim (cases_eq d.node due.node) [
       | inl same ↦
           (let is : s ≡ z = sym (get_or_from_slice_get (slice_set spans due.node z) d.node s z at_s) ∙ ap (λ v. get_or (slice_set spans due.node z) v z) same ∙ get_or-set_same spans due.node z z within in
           rw is (elim (cases_lt k place) [
-            | inl before ↦ (let o = was k d old before at_k (ap (slice_get spans) same ∙ old_at) in (omega (arith, kept (omega (arith, o.1)), o.0), omega (arith, end_is, before)))
-            | inr le ↦ (omega (arith, here, le), omega (arith, end_is, less))
+            | inl before ↦ kept k d before (was k d old before at_k (ap (slice_get spans) same ∙ old_at))
+            | inr le ↦
+                (let k_is : k ≡ place = omega (arith, le, less) in
+                rw k_is (rw (same_some (sym at_k ∙ ap (slice_get dues) k_is ∙ at)) here))
           ]))
       | inr other ↦
           (let inside : d.node < length spans = omega (arith, slice_get_within (slice_set spans due.node z) d.node s at_s, length-set spans due.node z) in

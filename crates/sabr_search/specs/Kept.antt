@@ -44,9 +44,16 @@ IsFloor p r deadline before = (ns : List ℕ) (v t e : ℕ) → IsWayOn p r v t 
 abbrev pub AreDues : TabledPlan → RouteRequest → ℕ → List Due → Type 0
 AreDues p r deadline dues = (ns : List ℕ) (v t e : ℕ) → IsWayOn p r v t ns e → e ≤ deadline → (k : ℕ) × (d : Due) × (slice_get dues k ≡ Some d) × (d.node ≡ v) × (d.hops ≤ length ns) × (t < d.late)
 
+-- the due at place k stands within the span, and the span's bounds hold for it
+pub record IsWithin (s : Span) (k : ℕ) (d : Due) : Type 0 where
+  pub behind : s.first ≤ k
+  pub before : k < s.end
+  pub hops : s.fewest ≤ d.hops
+  pub late : d.late ≤ s.latest
+
 -- the dues of a node stand within its span
 abbrev pub AreSpans : List Due → List Span → Type 0
-AreSpans dues spans = (k : ℕ) (d : Due) (s : Span) → slice_get dues k ≡ Some d → slice_get spans d.node ≡ Some s → (s.first ≤ k) × (k < s.end)
+AreSpans dues spans = (k : ℕ) (d : Due) (s : Span) → slice_get dues k ≡ Some d → slice_get spans d.node ≡ Some s → IsWithin s k d
 
 -- what is kept for one deadline; behind every arrival it has no dues
 pub record IsRung {A : Type 0} (p : TabledPlan) (r : RouteRequest) (rung : Rung A) : Type 0 where

@@ -127,14 +127,17 @@ impl<'a, A: Allocator + Copy> Task<'a, A> {
         let links = outgoing.all();
         let mut least: Option<Step> = None;
         for link in links.links {
-            let passes = link_passes(links, link);
-            if passes.len() as u64 > most - looks.count {
-                return Ok(None);
-            }
             if self.shut()[link.receiver] {
                 continue;
             }
             let before = rung.within(link.receiver, rest);
+            if before <= from.at {
+                continue;
+            }
+            let passes = link_passes(links, link);
+            if passes.len() as u64 > most - looks.count {
+                return Ok(None);
+            }
             least = self.least_over(
                 looks,
                 from.node,

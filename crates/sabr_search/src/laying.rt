@@ -5,7 +5,7 @@ ghost use Rattle.sabr_search.specs.declared.rung.Due.{Due};
 ghost use Rattle.sabr_search.specs.declared.layers.Reached.{Reached};
 ghost use Rattle.sabr_search.specs.Task.{IsTask, never, latest_arrival};
 ghost use Rattle.sabr_search.specs.Laying.{IsWhole, AreAllLate, AreGathered};
-ghost use Rattle.sabr_search.specs.Kept.{IsRung, IsFloor, AreDues, AreSpans};
+ghost use Rattle.sabr_search.specs.Kept.{IsRung, IsFloor, AreDues, AreSpans, IsWithin};
 ghost use Rattle.sabr_search.specs.Following.{tabled_of};
 
 use crate::enter::enter;
@@ -172,12 +172,19 @@ impl<A: Allocator + Copy> Layers<A> {
     }
 }
 
-/// Gives a span with a place more, behind its others.
-fn widened(span: Span, place: usize) -> Span
+/// The span of a node without dues.
+const NO_SPAN: Span = Span {
+    first: 0,
+    end: 0,
+    fewest: usize::MAX,
+    latest: 0,
+};
+
+/// Gives a span with a due more, behind its others.
+fn widened(span: Span, place: usize, due: Due) -> Span
     requires few { place < 2 ^ 62 }
-    ensures here { result.first ≤ place }
-    ensures kept { 0 < span.end → result.first ≤ span.first }
-    ensures end { result.end ≡ place + 1 }
+    ensures due { IsWithin result place due }
+    ensures kept { (k : ℕ) (d : Due) → k < place → IsWithin span k d → IsWithin result k d }
 {
     Span {
         first: if span.end == 0 {
@@ -186,6 +193,8 @@ fn widened(span: Span, place: usize) -> Span
             span.first.min(place)
         },
         end: place + 1,
+        fewest: span.fewest.min(due.hops),
+        latest: span.latest.max(due.late),
     }
 }
 
@@ -199,13 +208,13 @@ fn spans_of<A: Allocator + Copy>(
     ensures spans { IfOk result (λ v. AreSpans dues.now v.items) }
 {
     let mut spans = Vec::new(alloc);
-    spans.resize(nodes, Span { first: 0, end: 0 })?;
+    spans.resize(nodes, NO_SPAN)?;
     for place in 0..dues.len() {
-        let node = dues[place].node;
-        if node >= nodes {
+        let due = dues[place];
+        if due.node >= nodes {
             continue;
         }
-        spans[node] = widened(spans[node], place);
+        spans[due.node] = widened(spans[due.node], place, due);
     }
     Ok(spans)
 }

@@ -14,11 +14,17 @@ pub struct Due {
     pub late: u64,
 }
 
-/// The places of a node's dues.
+/// The places of a node's dues, and what bounds these, so that a walk can leave out most nodes.
 #[derive(Clone, Copy)]
 pub struct Span {
+    /// The place of the first.
     pub first: usize,
+    /// The place behind the last.
     pub end: usize,
+    /// A number of hops that none of them is below.
+    pub fewest: usize,
+    /// A second behind which none of them is.
+    pub latest: u64,
 }
 
 /// What is kept for one deadline: by node the first second too late for a delivery before it, and the dues for a delivery
@@ -43,6 +49,9 @@ impl<A: Allocator + Copy> Rung<A> {
         ensures { (k : ℕ) (d : Due) → slice_get self.now.dues.items k ≡ Some d → d.node ≡ node → d.hops ≤ rest → d.late ≤ result }
     {
         let span = self.spans[node];
+        if rest < span.fewest {
+            return 0;
+        }
         let mut latest = 0;
         for place in span.first..span.end.min(self.dues.len()) {
             let due = self.dues[place];
@@ -60,6 +69,9 @@ impl<A: Allocator + Copy> Rung<A> {
         ensures { (k : ℕ) (d : Due) → slice_get self.now.dues.items k ≡ Some d → d.node ≡ from.node → from.at < d.late → result ≤ d.hops }
     {
         let span = self.spans[from.node];
+        if from.at >= span.latest {
+            return usize::MAX;
+        }
         let mut least = usize::MAX;
         for place in span.first..span.end.min(self.dues.len()) {
             let due = self.dues[place];

@@ -13,8 +13,8 @@ loop-place-preserved g c =
     let due : Due = slice_index_or dues place (record { node = 0; hops = 0; late = 0 }) in
     let so_far = c.loop-place.invariant in
     let at : slice_get dues place ≡ Some due = slice_get-get_or dues place (record { node = 0; hops = 0; late = 0 }) c.loop-place-test.true in
-    let old_at : slice_get spans due.node ≡ Some c.index.result.now = slice_get-get_or spans due.node c.index.result.now (omega (arith, so_far.many, c.if-node-nodes.false)) ∙ ap Some (sym c.index.ensures) in
+    let old_at : slice_get spans due.node ≡ Some c.index.result.now = slice_get-get_or spans due.node c.index.result.now (omega (arith, so_far.many, c.if-due-nodes.false)) ∙ ap Some (sym c.index.ensures) in
     record {
       many = length-set spans due.node c.widened.result ∙ so_far.many;
-      spans = spans_more dues spans place due c.index.result.now c.widened.result at old_at c.widened.ensures.here c.widened.ensures.kept c.widened.ensures.end so_far.spans;
+      spans = spans_more dues spans place due c.index.result.now c.widened.result at old_at c.widened.ensures.due c.widened.ensures.kept so_far.spans;
     }

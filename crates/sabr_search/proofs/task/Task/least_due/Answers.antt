@@ -3,6 +3,7 @@ use Rattle.std.proofs.lemmas.Option.{slice_get-get_or, slice_get_within}
 use Rattle.sabr_model.specs.declared.link.Link.{Link}
 use Rattle.sabr_search.specs.Linked.{HasNumber, passes_of}
 use Rattle.std.proofs.lemmas.Bool.{both_ways}
+use Rattle.sabr_search.proofs.Arrivals.{arrives_later}
 use Rattle.sabr_search.proofs.Tables.{taken_from, due_found}
 use Rattle.sabr_search.proofs.Forward.{last_or_before}
 use Rattle.sabr_search.proofs.OverLinks.{same_some, no_link, link_receiver}
@@ -52,6 +53,30 @@ loop-link-preserved-then-shut-link g c =
             let has' : HasNumber (passes_of passes l) n = subst (λ (y : Link). HasNumber (passes_of passes y) n) is has in
             let to : w ≡ l.receiver = link_receiver task c.requires.task c.args.from.node links passes so_far.links i l here n c.args.from.at w b has' s in
             absurd (both_ways (slice_index_or task.shut w false) s.unshut (ap (λ k. slice_index_or task.shut k false) to ∙ subst (λ xs. slice_index_or xs l.receiver false ≡ true) c.shut.ensures c.if-shut-link.true)))
+      ];
+    }
+
+pub loop-link-preserved-then-before-from : goal.loop-link-preserved-then-before-from
+loop-link-preserved-then-before-from g c =
+    let task = c.args.self.now in
+    let links = c.all-links.result.links.now in
+    let passes = c.all-links.result.passes.now in
+    let i = c.loop-link.link-index in
+    let l = slice_index_or links i no_link in
+    let here : slice_get links i ≡ Some l = slice_get-get_or links i no_link c.loop-link-test.true in
+    let so_far = c.loop-link.invariant in
+    record {
+      links = so_far.links;
+      counted = so_far.counted;
+      chosen = so_far.chosen;
+      least = λ j x n w b less at has s through. elim (last_or_before j i less) [
+        | inl before ↦ so_far.least j x n w b before at has s through
+        | inr same ↦
+            (let is : x ≡ l = same_some (sym at ∙ ap (slice_get links) same ∙ here) in
+            let has' : HasNumber (passes_of passes l) n = subst (λ (y : Link). HasNumber (passes_of passes y) n) is has in
+            let to : w ≡ l.receiver = link_receiver task c.requires.task c.args.from.node links passes so_far.links i l here n c.args.from.at w b has' s in
+            let late = c.within-before.ensures through.0 through.1 through.2 (through.3 ∙ to) through.4 in
+            absurd (omega (arith, late, through.5, c.if-before-from.true, arrives_later task.plan task.request c.args.from.at s.contact b s.arrives)))
       ];
     }
 
