@@ -39,6 +39,7 @@ pub mod Sounds
 pub mod Merged
 pub mod Merging
 pub mod Filled
+pub mod Ranked
 pub mod Giving
 pub mod Pages
 pub mod Roots

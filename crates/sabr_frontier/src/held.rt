@@ -9,8 +9,9 @@ ghost use Rattle.sabr_frontier.specs.Holding.{HasPlaces, IsLastPlace, IsTakenIn,
 
 use crate::excluded::Excluded;
 use crate::judge::{Judged, judge};
-use crate::places::{enqueue_each, insert_block};
+use crate::places::insert_block;
 use crate::queue::Queue;
+use crate::ranking::enqueue_each;
 use crate::tree::{Node, Tree};
 use sabr_model::{NoMemory, Numbers, Plan, Request, Route};
 use std::alloc::{Allocator, Global};
@@ -237,7 +238,8 @@ impl<A: Allocator + Copy> Held<A> {
             return Err(NoMemory);
         };
         insert_block(&mut index, 0, 0, count);
-        enqueue_each(self.nodes.as_slice(), &mut queue.placed);
+        drop(self.prefixes);
+        enqueue_each(alloc, self.nodes.as_slice(), &mut queue.placed)?;
         Ok(Tree {
             nodes: self.nodes,
             index,

@@ -11,6 +11,7 @@ use crate::carrying::carried;
 use crate::excluded::rise;
 use crate::held::{Held, last_place};
 use crate::load_fault::LoadFault;
+use crate::rules::tell_rules;
 use crate::session::Session;
 use sabr_model::{Plan, Request};
 use sabr_search::BestOf;
@@ -50,9 +51,7 @@ impl<'p, B: BestOf<A>, A: Allocator + Copy> Loader<'p, B, A> {
     pub fn new(alloc: A, plan: &'p Plan<A>, request: Request, finder: B) -> Loader<'p, B, A>
         ensures { result ≡ record { plan = plan.now; request = request; parts = []; calls = B.calls_of finder } }
     {
-        // contracts learn here that the plan and the request keep their rules
-        let _ = plan.contacts();
-        let _ = request.max_hops();
+        tell_rules(plan, &request);
         Loader {
             alloc,
             plan,

@@ -1,6 +1,8 @@
 //! A session over a listing of routes: the next routes a page at a time, and back.
 
 ghost use Rattle.std.specs.Prelude.{◌≡◌, ◌≢◌, ℕ, ◌+◌, ◌^◌, ◌<◌, ◌≤◌, ◌⊎◌, ◌↔◌, ◌∷◌, ◌++◌, [], map, length, is_some, None, IfOk, OnOk, OnErr, IsOk, IsTrue, IsFalse};
+ghost use Rattle.sabr_model.specs.Plan.{IsPlan};
+ghost use Rattle.sabr_model.specs.Asking.{IsRequest};
 ghost use Rattle.sabr_model.specs.Record.{record_of};
 ghost use Rattle.sabr_frontier.specs.Fresh.{GivesNewRoutes};
 ghost use Rattle.sabr_frontier.specs.Listing.{next_route, searches_in, state_at, steps};
@@ -11,6 +13,7 @@ ghost use Rattle.sabr_frontier.specs.Undo.{IsRoomy};
 ghost use Rattle.sabr_frontier.specs.Views.{told_left};
 
 use crate::finder::ask;
+use crate::rules::tell_rules;
 use crate::tree::Tree;
 use crate::views::Parts;
 use sabr_model::{NoMemory, Plan, Request, Route};
@@ -65,9 +68,7 @@ impl<'p, B: BestOf<A>, A: Allocator + Copy> Session<'p, B, A> {
     ) -> Result<Session<'p, B, A>, NoMemory>
         ensures { IfOk result (λ s. s ≡ record { plan = plan.now; request = request; state = state_at plan.now.plan request 0; former = []; searches = 1; calls = B.calls_of finder + 1 }) }
     {
-        // contracts learn here that the plan and the request keep their rules
-        let _ = plan.contacts();
-        let _ = request.max_hops();
+        tell_rules(plan, &request);
         let mut kept = Kept::new(alloc);
         let found = ask(&mut finder, &mut kept, plan, &request, &[], &[])?;
         let tree = Tree::root(alloc, found)?;
@@ -91,14 +92,13 @@ impl<'p, B: BestOf<A>, A: Allocator + Copy> Session<'p, B, A> {
         finder: B,
         tree: Tree<A>,
     ) -> Session<'p, B, A>
+        requires rules { IsPlan plan.now.plan }
+        requires limits { IsRequest request }
         requires sound { IsTree plan.now.plan request (shape_of tree) }
         requires fresh { tree.journal.items ≡ [] }
         requires room { IsRoomy tree }
         ensures { result ≡ record { plan = plan.now; request = request; state = shown (shape_of tree); former = []; searches = 0; calls = B.calls_of finder } }
     {
-        // contracts learn here that the plan and the request keep their rules
-        let _ = plan.contacts();
-        let _ = request.max_hops();
         let kept = Kept::new(alloc);
         Session {
             alloc,

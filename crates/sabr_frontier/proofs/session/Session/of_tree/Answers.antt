@@ -9,8 +9,8 @@ invariant_of-result g c =
     let r = c.args.request in
     let none : length c.args.tree.journal.items ≡ 0 = ap length c.requires.fresh in
     record {
-      rules = c.contacts.ensures.rules;
-      limits = c.max_hops.ensures.limits;
+      rules = c.requires.rules;
+      limits = c.requires.limits;
       sound = subst (λ n. IsSoundFor p r n (shape_of c.args.tree)) (sym none) c.requires.sound;
       starts = subst (λ z. AreStarts (reverse z) (length c.args.tree.journal.items)) (sym c.new.ensures.items) none;
       room = c.requires.room;
