@@ -37,3 +37,4 @@ pub mod Faults
 pub mod Follows
 pub mod Marks
 pub mod RowPlans
+pub mod InRows
