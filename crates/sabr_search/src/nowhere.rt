@@ -9,7 +9,7 @@ use std::alloc::Allocator;
 
 impl<A: Allocator + Copy> Kept<A> {
     /// Tells whether a table shows that no way leads to the goal: none of the first steps is in time for any delivery.
-    pub fn shows_none(&self) -> bool
+    pub(crate) fn shows_none(&self) -> bool
         requires { HavePlaces self.now }
         ensures { IsTrue result → ShowsNone self.now }
     {

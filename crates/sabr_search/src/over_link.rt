@@ -68,7 +68,6 @@ impl<'a, A: Allocator + Copy> Task<'a, A> {
 
     /// Tells whether what is at the sender at `at` arrives at `before` or later over this pass and over each behind it.
     pub fn comes_late(&self, pass: &Pass, at: u64, before: u64) -> bool
-        requires task { IsTask self.now }
         requires light { pass.now.least_light_behind ≤ 1000000 }
         ensures { IsTrue result → before ≤ max at pass.now.start + cost self.now.request.margin pass.now.least_light_behind }
     {

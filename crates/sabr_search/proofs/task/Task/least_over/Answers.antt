@@ -21,13 +21,13 @@ loop-place-init g c = record {
   full = λ k x w b less at s early. absurd (none_ended c.args.self.now c.requires.task c.args.node c.args.to c.args.passes.now c.requires.link c.args.at k x w b at (c.first_open-place.ensures.ended k x less at) s);
 }
 
-pub comes_late-requires-clause-light : goal.comes_late-requires-clause-light
-comes_late-requires-clause-light g c =
+pub comes_late-requires : goal.comes_late-requires
+comes_late-requires g c =
     let passes = c.args.passes.now in
     let i = c.loop-place.place in
     let pass = c.look-pass.result.now in
     let here : slice_get passes i ≡ Some pass = slice_get-get_or passes i no_pass c.loop-place-test.true ∙ ap (λ (z : Bor Pass). Some z.now) (sym c.look-pass.ensures.same) in
-    least_light_small c.args.self.now c.requires.task c.args.node c.args.to passes c.requires.link i pass here
+    record { light = least_light_small c.args.self.now c.requires.task c.args.node c.args.to passes c.requires.link i pass here }
 
 pub returns-then-comes_late-clause-full : goal.returns-then-comes_late-clause-full
 returns-then-comes_late-clause-full g c = λ n w b has s early.
