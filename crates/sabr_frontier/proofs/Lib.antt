@@ -11,6 +11,7 @@ pub mod Certified
 pub mod Formed
 pub mod Owed
 pub mod GoesOn
+pub mod Leads
 pub mod Answering
 pub mod Judges
 pub mod Tellings

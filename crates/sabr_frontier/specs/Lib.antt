@@ -4,6 +4,7 @@ pub mod State
 pub mod Formed
 pub mod Owing
 pub mod Telling
+pub mod Leading
 pub mod Step
 pub mod Listing
 pub mod Waiting

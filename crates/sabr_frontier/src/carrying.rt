@@ -5,11 +5,12 @@ ghost use Rattle.std.specs.Option.{option_copied, option_map};
 ghost use Rattle.sabr_model.specs.Plan.{has};
 ghost use Rattle.sabr_model.specs.Parts.{goes_on};
 ghost use Rattle.sabr_model.specs.Record.{record_of};
+ghost use Rattle.sabr_frontier.specs.Leading.{IsLead};
 ghost use Rattle.sabr_frontier.specs.Loading.{IsCarryFault, may_carry};
 
 use crate::load_fault::LoadFault;
 use crate::record::Told;
-use sabr_model::{Plan, Request, Route, follow};
+use sabr_model::{Plan, Reached, Request, Route, follow_behind};
 use std::alloc::Allocator;
 
 /// Tells whether the number is one of these.
@@ -32,7 +33,7 @@ fn goes_on(prefix: &[u32], excluded: &[u32], numbers: &[u32]) -> bool
     !holds(excluded, *next)
 }
 
-/// Gives the record of what a part is to carry.
+/// Gives the record of what a part is to carry, where its prefix leads to `lead`. The route is followed from there on.
 ///
 /// # Errors
 ///
@@ -43,8 +44,10 @@ pub fn carried<A: Allocator + Copy>(
     request: &Request,
     prefix: &[u32],
     excluded: &[u32],
+    lead: Option<Reached>,
     route: Option<&[u32]>,
 ) -> Result<Option<Route<A>>, LoadFault>
+    requires { IsLead plan.now.plan request.now prefix.now lead }
     ensures ok { IfOk result (λ o. o ≡ option_map (record_of plan.now.plan request.now) (option_copied route.entry)) }
     ensures may { OnOk result (may_carry plan.now.plan request.now (record { prefix = prefix.now; excluded = excluded.now; carried = option_copied route.entry }) ≡ true) }
     ensures err { IfErr result (IsCarryFault (may_carry plan.now.plan request.now (record { prefix = prefix.now; excluded = excluded.now; carried = option_copied route.entry }))) }
@@ -55,7 +58,10 @@ pub fn carried<A: Allocator + Copy>(
     if !goes_on(prefix, excluded, route) {
         return Err(LoadFault::BadRoute);
     }
-    let Ok(delivery) = follow(plan, request, route) else {
+    let Some(here) = lead else {
+        return Err(LoadFault::BadRoute);
+    };
+    let Ok(delivery) = follow_behind(plan, request, route, prefix.len(), here) else {
         return Err(LoadFault::BadRoute);
     };
     let Ok(numbers) = Vec::from_slice(alloc, route) else {

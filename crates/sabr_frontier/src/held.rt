@@ -5,6 +5,7 @@ ghost use Rattle.std.specs.Option.{option_map_or};
 ghost use Rattle.sabr_model.specs.Order.{numbers_before};
 ghost use Rattle.sabr_frontier.specs.Shape.{shape_of};
 ghost use Rattle.sabr_frontier.specs.Undo.{IsRoomy, last_item};
+ghost use Rattle.sabr_frontier.specs.Leading.{IsLead};
 ghost use Rattle.sabr_frontier.specs.Holding.{HasPlaces, IsLastPlace, IsTakenIn, IsVerdict, IsWrongLast, held_then, holding_of, is_due, is_paid, loaded_tree, nothing_held};
 
 use crate::excluded::Excluded;
@@ -13,7 +14,7 @@ use crate::places::insert_block;
 use crate::queue::Queue;
 use crate::ranking::enqueue_each;
 use crate::tree::{Node, Tree};
-use sabr_model::{NoMemory, Numbers, Plan, Request, Route};
+use sabr_model::{NoMemory, Numbers, Plan, Reached, Request, Route};
 use std::alloc::{Allocator, Global};
 use std::cmp::Ordering;
 use std::mem::replace;
@@ -105,7 +106,9 @@ impl<A: Allocator + Copy> Held<A> {
         request: &Request,
         prefix: &[u32],
         excluded: &[u32],
+        lead: Option<Reached>,
     ) -> Result<Option<Judged<A>>, NoMemory>
+        requires { IsLead plan.now.plan request.now prefix.now lead }
         ensures verdict { IfOk result (IsVerdict plan.now.plan request.now (holding_of self.old) (prefix.now, excluded.now)) }
         ensures same { holding_of self.new ≡ holding_of self.old }
     {
@@ -116,7 +119,7 @@ impl<A: Allocator + Copy> Held<A> {
             return Ok(None);
         }
         let room = replace(&mut self.room, Judged::none(alloc));
-        judge(alloc, plan, request, prefix, excluded, room)
+        judge(alloc, plan, request, prefix, excluded, lead, room)
     }
 
     /// Makes room for a part and what it leads to.
@@ -196,7 +199,8 @@ impl<A: Allocator + Copy> Held<A> {
         Ok(())
     }
 
-    /// Takes in a part that comes behind the others, with the record of the route that it carries.
+    /// Takes in a part that comes behind the others and whose prefix leads to `lead`, with the record of the route that
+    /// it carries.
     pub fn take_in(
         &mut self,
         alloc: A,
@@ -204,12 +208,14 @@ impl<A: Allocator + Copy> Held<A> {
         request: &Request,
         prefix: &[u32],
         excluded: &[u32],
+        lead: Option<Reached>,
         route: Option<Route<A>>,
     ) -> Result<(), NoMemory>
+        requires { IsLead plan.now.plan request.now prefix.now lead }
         ensures ok { OnOk result (IsTakenIn plan.now.plan request.now (holding_of self.old) prefix.now excluded.now route (holding_of self.new)) }
         ensures err { OnErr result (holding_of self.new ≡ holding_of self.old) }
     {
-        let judged = self.judge(alloc, plan, request, prefix, excluded)?;
+        let judged = self.judge(alloc, plan, request, prefix, excluded, lead)?;
         let excluded = Excluded::of(alloc, excluded)?;
         match judged {
             Some(judged) => self.answer(alloc, prefix, excluded, route, judged),

@@ -4,13 +4,12 @@ ghost use Rattle.std.specs.Prelude.{◌≡◌, true, ◌∷◌, ◌++◌, [], ma
 ghost use Rattle.sabr_model.specs.Route.{is_path};
 ghost use Rattle.sabr_model.specs.Record.{record_of};
 ghost use Rattle.sabr_model.specs.Following.{IsReachedBy};
+ghost use Rattle.sabr_frontier.specs.Leading.{IsLead};
 ghost use Rattle.sabr_frontier.specs.Telling.{told_of};
 ghost use Rattle.sabr_frontier.specs.Holding.{AllGoOn, IsJudged, onward_of, routes_of};
 
 use crate::record::Told;
-use sabr_model::{
-    HopFault, NoMemory, Numbers, Plan, Reached, Request, Route, follow_on, follow_prefix,
-};
+use sabr_model::{HopFault, NoMemory, Numbers, Plan, Reached, Request, Route, follow_on};
 use std::alloc::{Allocator, Global};
 
 /// The routes that a prefix makes with its excluded numbers, and those with a number that make no route and go on.
@@ -91,15 +90,17 @@ impl<A: Allocator + Copy> Judged<A> {
 }
 
 /// Tells what the excluded numbers of a prefix lead to, or none where one of them makes no path. It is gathered in
-/// `judged`, in place of what that held. The prefix is followed once.
+/// `judged`, in place of what that held. The prefix leads to `lead`.
 pub fn judge<A: Allocator + Copy>(
     alloc: A,
     plan: &Plan<A>,
     request: &Request,
     prefix: &[u32],
     excluded: &[u32],
+    lead: Option<Reached>,
     mut judged: Judged<A>,
 ) -> Result<Option<Judged<A>>, NoMemory>
+    requires { IsLead plan.now.plan request.now prefix.now lead }
     ensures some { IfOk result (λ o. IfSome o (λ j. AllGoOn plan.now.plan request.now (prefix.now, excluded.now) × IsJudged plan.now.plan request.now (prefix.now, excluded.now) j)) }
     ensures none { IfOk result (λ o. IfNone o (AllGoOn plan.now.plan request.now (prefix.now, excluded.now) → ⊥)) }
 {
@@ -108,7 +109,7 @@ pub fn judge<A: Allocator + Copy>(
     if excluded.is_empty() {
         return Ok(Some(judged));
     }
-    let Ok(here) = follow_prefix(plan, request, prefix) else {
+    let Some(here) = lead else {
         return Ok(None);
     };
     let told = Told::of(plan, prefix);

@@ -11,6 +11,7 @@ mod gather;
 mod held;
 mod judge;
 mod laws;
+mod leading;
 mod load_fault;
 mod loader;
 mod places;

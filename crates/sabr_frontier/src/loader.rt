@@ -10,6 +10,7 @@ ghost use Rattle.sabr_frontier.specs.Loading.{IsRefusedBy, part_refusal, state_w
 use crate::carrying::carried;
 use crate::excluded::rise;
 use crate::held::{Held, last_place};
+use crate::leading::lead;
 use crate::load_fault::LoadFault;
 use crate::rules::tell_rules;
 use crate::session::Session;
@@ -63,8 +64,8 @@ impl<'p, B: BestOf<A>, A: Allocator + Copy> Loader<'p, B, A> {
 
     /// Adds a part behind the others: its prefix, the numbers that it excludes, and the route that it carries, if any.
     ///
-    /// Each excluded number is followed behind the prefix, and so is the carried route: the time grows with the square
-    /// of their hops.
+    /// The prefix is followed once, and from where it leads each excluded number and the carried route: the time grows
+    /// with the square of their hops.
     ///
     /// # Errors
     ///
@@ -89,12 +90,14 @@ impl<'p, B: BestOf<A>, A: Allocator + Copy> Loader<'p, B, A> {
         if !self.held.comes_behind(prefix) {
             return Err(LoadFault::BadOrder);
         }
+        let here = lead(self.plan, &self.request, prefix);
         let route = match carried(
             self.alloc,
             self.plan,
             &self.request,
             prefix,
             excluded,
+            here,
             route,
         ) {
             Ok(route) => route,
@@ -106,6 +109,7 @@ impl<'p, B: BestOf<A>, A: Allocator + Copy> Loader<'p, B, A> {
             &self.request,
             prefix,
             excluded,
+            here,
             route,
         )
         else {

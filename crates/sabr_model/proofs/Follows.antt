@@ -1,5 +1,5 @@
 -- Steps of following a list of contacts.
-use Rattle.std.proofs.Common.{◌≡◌, ℕ, ◌+◌, ◌<◌, ◌≤◌, Bool, false, cond, ◌||◌, eqb, List, [], ◌∷◌, ◌++◌, map, length, take, drop, get_or, refl, sym, ap, subst, ◌∙◌, append_assoc, arith, add-one, drop-cons}
+use Rattle.std.proofs.Common.{◌≡◌, ℕ, ◌+◌, ◌<◌, ◌≤◌, Bool, false, cond, ◌||◌, eqb, List, [], ◌∷◌, ◌++◌, map, length, take, drop, get_or, refl, sym, ap, subst, ◌∙◌, append_assoc, take-append-drop, arith, add-one, drop-cons}
 use Rattle.std.specs.List.{list_any, cons_option}
 use Rattle.std.specs.Option.{option_map_or}
 use Rattle.std.specs.declared.option.Option.TheVariants.{Some, None}
@@ -107,3 +107,9 @@ fault_behind p r s n f path fault =
 
 pub path_behind : (p : ContactPlan) (r : RouteRequest) (s : List ℕ) (n : ℕ) → IsTrue (is_path p r s) → fault_at p r s n ≡ None → IsTrue (is_path p r (s ++ n ∷ []))
 path_behind p r s n path good = path_push p r s n path (good_is_hop p r s n path good)
+
+-- a front without a fault leaves those behind it
+pub front_is_good : (p : ContactPlan) (r : RouteRequest) (s : List ℕ) (i : ℕ) → IsTrue (is_path p r (take i s)) → first_fault p r [] s ≡ first_fault p r (take i s) (drop i s)
+front_is_good p r s i path =
+    ap (first_fault p r []) (sym (take-append-drop i s)) ∙ first_fault-append p r [] (take i s) (drop i s)
+    ∙ ap (λ o. fault_or o (first_fault p r (take i s) (drop i s))) (path_is_good p r [] (take i s) path)

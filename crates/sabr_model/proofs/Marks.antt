@@ -1,11 +1,13 @@
 -- Marks on classes of nodes.
-use Rattle.std.proofs.Common.{◌≡◌, ℕ, zero, suc, ◌%◌, ◌<◌, Bool, true, false, true≢false, ◌||◌, eqb, inl, inr, List, [], ◌∷◌, ◌++◌, length, replicate, Option, slice_index_or, slice_set, refl, sym, ap, ◌∙◌, arith}
+use Rattle.std.proofs.Common.{◌≡◌, ℕ, zero, suc, ◌%◌, ◌<◌, Bool, true, false, true≢false, eqb, inl, inr, List, [], ◌∷◌, ◌++◌, map, ◌⊎◌, length, replicate, Option, slice_index_or, slice_set, refl, sym, ap, ◌∙◌, arith}
 use Rattle.std.proofs.Math.Nat.{mod-lt}
+use Rattle.std.specs.List.{cons_option}
 use Rattle.std.specs.Option.{option_and_then}
 use Rattle.std.specs.declared.option.Option.TheVariants.{Some, None}
 use Rattle.std.proofs.lemmas.Bool.{or_cases, eqb-true}
 use Rattle.std.proofs.lemmas.List.Folds.{list_any-append}
-use Rattle.sabr_model.specs.Plan.{ContactPlan, has}
+use Rattle.sabr_model.specs.declared.contact.Contact.{Contact}
+use Rattle.sabr_model.specs.Plan.{ContactPlan, contact_named, has}
 use Rattle.sabr_model.specs.Route.{chain_end, receivers}
 use Rattle.sabr_model.specs.Following.{AreMarked}
 use Rattle.sabr_model.proofs.Begins.{chain_end-append, first_hop, receivers-cons, receivers-append}
@@ -53,14 +55,40 @@ last_receiver p a q n node x chain =
       | Some b ↦ λ rest there. lone_receiver p b n node x rest there
     ] (sym (chain_end-append p a q (n ∷ [])) ∙ chain)
 
--- with the class of the node that one contact more leads to
-pub marked_on : (p : ContactPlan) (a : ℕ) (marks : List Bool) (q : List ℕ) (n node : ℕ) → chain_end p a (q ++ n ∷ []) ≡ Some node → length marks ≡ 64 → AreMarked marks (receivers p q) → AreMarked (slice_set marks (node % 64) true) (receivers p (q ++ n ∷ []))
-marked_on p a marks q n node chain many so_far = λ x there.
-    let either : (has x (receivers p q) || has x (receivers p (n ∷ []))) ≡ true =
-    sym (list_any-append (eqb x) (receivers p q) (receivers p (n ∷ []))) ∙ sym (ap (has x) (receivers-append p q (n ∷ []))) ∙ there in
-    elim (or_cases (has x (receivers p q)) (has x (receivers p (n ∷ []))) either) [
+abbrev to_of : Contact → ℕ
+to_of c = c.to
+
+-- a receiver of a list with one number more is one of the list's or one of the number's
+either : (p : ContactPlan) (q : List ℕ) (n x : ℕ) → has x (receivers p (q ++ n ∷ [])) ≡ true → (has x (receivers p q) ≡ true) ⊎ (has x (receivers p (n ∷ [])) ≡ true)
+either p q n x there = or_cases (has x (receivers p q)) (has x (receivers p (n ∷ [])))
+    (sym (list_any-append (eqb x) (receivers p q) (receivers p (n ∷ []))) ∙ sym (ap (has x) (receivers-append p q (n ∷ []))) ∙ there)
+
+-- with the class of a node that alone one number more may add to the receivers
+marked_more : (p : ContactPlan) (marks : List Bool) (q : List ℕ) (n node : ℕ) → ((x : ℕ) → has x (receivers p (n ∷ [])) ≡ true → x ≡ node) → length marks ≡ 64 → AreMarked marks (receivers p q) → AreMarked (slice_set marks (node % 64) true) (receivers p (q ++ n ∷ []))
+marked_more p marks q n node alone many so_far = λ x there.
+    elim (either p q n x there) [
       | inl before ↦ kept marks (node % 64) (x % 64) (so_far x before)
       | inr last ↦
-          let same : x ≡ node = last_receiver p a q n node x chain last in
+          let same : x ≡ node = alone x last in
           ap (λ y. slice_index_or (slice_set marks (node % 64) true) (y % 64) false) same ∙ set_here marks (node % 64) (let less : node % 64 < 64 = mod-lt node (omega arith) in omega (arith, less, many))
+    ]
+
+-- with the class of the node that one contact more leads to
+pub marked_on : (p : ContactPlan) (a : ℕ) (marks : List Bool) (q : List ℕ) (n node : ℕ) → chain_end p a (q ++ n ∷ []) ≡ Some node → length marks ≡ 64 → AreMarked marks (receivers p q) → AreMarked (slice_set marks (node % 64) true) (receivers p (q ++ n ∷ []))
+marked_on p a marks q n node chain = marked_more p marks q n node (λ x. last_receiver p a q n node x chain)
+
+-- with the class of the receiver of a number's contact
+pub marked_contact : (p : ContactPlan) (marks : List Bool) (q : List ℕ) (n : ℕ) (c : Contact) → contact_named p n ≡ Some c → length marks ≡ 64 → AreMarked marks (receivers p q) → AreMarked (slice_set marks (c.to % 64) true) (receivers p (q ++ n ∷ []))
+marked_contact p marks q n c named = marked_more p marks q n c.to (λ x there.
+    elim (or_cases (eqb x c.to) false (sym (ap (λ o. has x (map to_of (cons_option o []))) named) ∙ there)) [
+      | inl equal ↦ eqb-true x c.to equal
+      | inr none ↦ absurd (true≢false (sym none))
+    ])
+
+-- a number without a contact adds none
+pub marked_still : (p : ContactPlan) (marks : List Bool) (q : List ℕ) (n : ℕ) → contact_named p n ≡ None → AreMarked marks (receivers p q) → AreMarked marks (receivers p (q ++ n ∷ []))
+marked_still p marks q n none so_far = λ x there.
+    elim (either p q n x there) [
+      | inl before ↦ so_far x before
+      | inr last ↦ absurd (true≢false (sym (sym (ap (λ o. has x (map to_of (cons_option o []))) none) ∙ last)))
     ]

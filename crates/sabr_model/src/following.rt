@@ -1,6 +1,6 @@
 //! Following a list of contacts: when it delivers, or why it is no route.
 
-ghost use Rattle.std.specs.Prelude.{◌≡◌, ℕ, ◌+◌, ◌<◌, ◌^◌, [], ◌∷◌, ◌++◌, Some, None, IfOk, IfErr, OnOk, IsTrue, length};
+ghost use Rattle.std.specs.Prelude.{◌≡◌, ℕ, ◌+◌, ◌<◌, ◌≤◌, ◌^◌, [], ◌∷◌, ◌++◌, Some, None, IfOk, IfErr, OnOk, IsTrue, length, take};
 ghost use Rattle.sabr_model.specs.Plan.{has};
 ghost use Rattle.sabr_model.specs.Arrival.{arrival_after};
 ghost use Rattle.sabr_model.specs.Route.{receivers, is_path, is_route};
@@ -143,12 +143,33 @@ fn follow_marking<A: Allocator + Copy>(
     ensures marks { OnOk result (AreMarked marks.new (receivers plan.now.plan prefix.now)) }
     ensures fault { IfErr result (λ f. first_fault plan.now.plan request.now [] prefix.now ≡ Some f) }
 {
-    let mut here = Reached {
+    let here = Reached {
         node: request.from(),
         at: request.at(),
     };
-    for (i, number) in prefix.iter().enumerate() {
-        here = take_hop(plan, request, marks, &prefix[..i], here, *number)?;
+    follow_rest(plan, request, marks, prefix, 0, here)
+}
+
+/// Goes on along a list, of which the first numbers, `first` of them, have no fault and lead to `here`.
+fn follow_rest<A: Allocator + Copy>(
+    plan: &Plan<A>,
+    request: &Request,
+    marks: &mut [bool; 64],
+    numbers: &[u32],
+    first: usize,
+    mut here: Reached,
+) -> Result<Reached, HopFault>
+    requires within { first ≤ length numbers.now }
+    requires path { IsTrue (is_path plan.now.plan request.now (take first numbers.now)) }
+    requires reached { IsReachedBy plan.now.plan request.now (take first numbers.now) here }
+    requires marks { AreMarked marks.old (receivers plan.now.plan (take first numbers.now)) }
+    ensures path { IfOk result (λ _. IsTrue (is_path plan.now.plan request.now numbers.now)) }
+    ensures reached { IfOk result (IsReachedBy plan.now.plan request.now numbers.now) }
+    ensures marks { OnOk result (AreMarked marks.new (receivers plan.now.plan numbers.now)) }
+    ensures fault { IfErr result (λ f. first_fault plan.now.plan request.now [] numbers.now ≡ Some f) }
+{
+    for i in first..numbers.len() {
+        here = take_hop(plan, request, marks, &numbers[..i], here, numbers[i])?;
         marks[(here.node % 64) as usize] = true;
     }
     Ok(here)
@@ -195,6 +216,48 @@ pub fn follow_on<A: Allocator + Copy>(
     ensures fault { IfErr result (λ f. fault_of plan.now.plan request.now (prefix.now ++ number ∷ []) ≡ Some f) }
 {
     end_on(plan, request, &[true; 64], prefix, here, number)
+}
+
+/// Marks the classes of these contacts' receivers.
+fn mark_receivers<A: Allocator + Copy>(plan: &Plan<A>, marks: &mut [bool; 64], numbers: &[u32])
+    ensures { AreMarked marks.new (receivers plan.now.plan numbers.now) }
+{
+    for number in numbers {
+        if let Some(contact) = plan.contact(*number) {
+            marks[(contact.to % 64) as usize] = true;
+        }
+    }
+}
+
+/// Tells what [`follow`] answers for a list whose first numbers, `first` of them, were followed: `here` is what
+/// [`follow_prefix`] answered for those.
+///
+/// It takes no memory. Of the contacts that were followed it reads the receivers alone.
+///
+/// # Errors
+///
+/// Those of [`follow`].
+pub fn follow_behind<A: Allocator + Copy>(
+    plan: &Plan<A>,
+    request: &Request,
+    contacts: &[u32],
+    first: usize,
+    here: Reached,
+) -> Result<u64, HopFault>
+    requires longer { first < length contacts.now }
+    requires path { IsTrue (is_path plan.now.plan request.now (take first contacts.now)) }
+    requires reached { IsReachedBy plan.now.plan request.now (take first contacts.now) here }
+    ensures route { IfOk result (λ _. IsTrue (is_route plan.now.plan request.now contacts.now)) }
+    ensures delivery { IfOk result (λ d. arrival_after plan.now.plan request.now request.now.at contacts.now ≡ Some d) }
+    ensures fault { IfErr result (λ f. fault_of plan.now.plan request.now contacts.now ≡ Some f) }
+{
+    let Some((last, front)) = contacts.split_last() else {
+        return Err(HopFault::Empty);
+    };
+    let mut marks = [false; 64];
+    mark_receivers(plan, &mut marks, &front[..first]);
+    let here = follow_rest(plan, request, &mut marks, front, first, here)?;
+    end_on(plan, request, &marks, front, here, *last)
 }
 
 /// Tells what [`follow_on`] answers, where the classes of the prefix's receivers are marked.

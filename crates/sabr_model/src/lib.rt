@@ -22,7 +22,7 @@ mod rows;
 pub use contact::{Contact, Range};
 pub use devices::{Device, Failed, Read, Write, WriteFault, write_text};
 pub use fault::{AddFault, HopFault, NoMemory, RequestError};
-pub use following::{Reached, follow, follow_on, follow_prefix};
+pub use following::{Reached, follow, follow_behind, follow_on, follow_prefix};
 pub use ghost_count::GhostCount;
 pub use hop::Hop;
 pub use laws::{candidates_hold_each_once, faults_tell_routes, law1, law2, law3};

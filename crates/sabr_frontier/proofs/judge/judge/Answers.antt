@@ -3,8 +3,9 @@ use Rattle.std.proofs.lemmas.Bool.Decides.{nat_tests}
 use Rattle.std.proofs.lemmas.List.{take_all}
 use Rattle.sabr_model.specs.Route.{is_path}
 use Rattle.sabr_model.proofs.Paths.{beginning_is_path}
+use Rattle.sabr_frontier.specs.Leading.{IsLead}
 use Rattle.sabr_frontier.specs.Holding.{AllGoOn, IsJudged}
-use Rattle.sabr_frontier.proofs.Judges.{faulty_front, judged_more, number_in, paths_more}
+use Rattle.sabr_frontier.proofs.Judges.{judged_more, number_in, paths_more}
 use Rattle.sabr_frontier.proofs.judge.judge.Goals as goal
 
 pub loop-number-init : goal.loop-number-init
@@ -17,7 +18,7 @@ returns-in_default-clause-none g c all =
     let q = c.args.prefix.now in
     let x = get_or c.args.excluded.now 0 0 in
     let path : is_path p r (q ++ x ∷ []) ≡ true = all x (number_in p r c.args.excluded.now 0 (grind (arith, nat_tests))) in
-    faulty_front p r c.follow_prefix.result q c.follow_prefix.ensures.fault c.in_default.not-Ok (beginning_is_path p r q (x ∷ []) path)
+    subst (IsLead p r q) c.in_default.is c.requires (beginning_is_path p r q (x ∷ []) path)
 
 pub returns-then-not-branch-clause-none : goal.returns-then-not-branch-clause-none
 returns-then-not-branch-clause-none g c all =

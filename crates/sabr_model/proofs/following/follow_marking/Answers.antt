@@ -1,33 +1,5 @@
-use Rattle.std.proofs.Common.{◌≡◌, ℕ, ◌+◌, List, [], ◌∷◌, ◌++◌, take, get_or, subst, ◌∙◌}
-use Rattle.std.proofs.lemmas.List.{take_all, take_more}
-use Rattle.sabr_model.specs.Route.{receivers}
-use Rattle.sabr_model.specs.Following.{AreMarked}
-use Rattle.sabr_model.proofs.Follows.{all_followed, first_fault_on}
-use Rattle.sabr_model.proofs.Marks.{marked_on, set_many}
+use Rattle.sabr_model.proofs.Prefixes.{empty_is_path}
 use Rattle.sabr_model.proofs.following.follow_marking.Goals as goal
 
-pub take_hop-requires-clause-marks : goal.take_hop-requires-clause-marks
-take_hop-requires-clause-marks g c = c.loop-i.invariant.marked
-
-pub loop-i-preserved : goal.loop-i-preserved
-loop-i-preserved g c =
-    let p = c.args.plan.now.plan in
-    let s = c.args.prefix.now in
-    let i = c.loop-i.i in
-    let more : take (i + 1) s ≡ take i s ++ get_or s i 0 ∷ [] = take_more s i 0 c.loop-i-test.true in
-    record {
-      front = c.loop-i.invariant.front ∙ first_fault_on p c.args.request.now s i c.loop-i-test.true c.in_ok-here.ensures.good;
-      reached = rw more c.in_ok-here.ensures.ok;
-      many = set_many c.loop-i.marks _ ∙ c.loop-i.invariant.many;
-      marked = rw more (marked_on p c.args.request.now.source c.loop-i.marks (take i s) (get_or s i 0) c.in_ok-here.here.node c.in_ok-here.ensures.ok.node c.loop-i.invariant.many c.loop-i.invariant.marked);
-    }
-
-pub returns-clause-path : goal.returns-clause-path
-returns-clause-path g c = (all_followed c.args.plan.now.plan c.args.request.now c.args.prefix.now c.loop-i.i c.loop-i.here c.loop-i-test.false c.loop-i.invariant.front c.loop-i.invariant.reached).0
-
-pub returns-clause-reached : goal.returns-clause-reached
-returns-clause-reached g c = (all_followed c.args.plan.now.plan c.args.request.now c.args.prefix.now c.loop-i.i c.loop-i.here c.loop-i-test.false c.loop-i.invariant.front c.loop-i.invariant.reached).1
-
-pub returns-clause-marks : goal.returns-clause-marks
-returns-clause-marks g c =
-    subst (λ (s : List ℕ). AreMarked c.loop-i.marks (receivers c.args.plan.now.plan s)) (take_all c.loop-i.i c.args.prefix.now c.loop-i-test.false) c.loop-i.invariant.marked
+pub follow_rest-requires-clause-path : goal.follow_rest-requires-clause-path
+follow_rest-requires-clause-path g c = empty_is_path c.args.plan.now.plan c.args.request.now
