@@ -9,8 +9,8 @@ use super::ranges::overlap;
 use crate::contact::Range;
 use std::alloc::{AllocError, Allocator};
 
-/// So many buckets are there, a prime number.
-const BUCKETS: usize = 8191;
+/// So many buckets are there.
+const BUCKETS: usize = 8192;
 
 /// What stands beside a range in the chain of its bucket.
 #[derive(Clone, Copy)]
@@ -24,15 +24,15 @@ pub struct RangeLink {
 /// Gives the bucket of an ordered pair.
 pub fn bucket_of(one: u64, other: u64) -> usize
     ensures value { result ≡ bucket_of_pair one other }
-    ensures limit { result < 8191 }
+    ensures limit { result < 8192 }
 {
-    ((one % 8191 * 509 + other % 8191) % 8191) as usize
+    ((one % 8192 * 509 + other % 8192) % 8192) as usize
 }
 
 /// Makes room for a number for each bucket, if there is none yet.
 pub fn size_table<A: Allocator + Copy>(lasts: &mut Vec<usize, A>) -> Result<(), AllocError>
-    ensures sized { OnOk result (length lasts.new.items ≡ 8191) }
-    ensures same { length lasts.old.items ≡ 8191 → lasts.new.items ≡ lasts.old.items }
+    ensures sized { OnOk result (length lasts.new.items ≡ 8192) }
+    ensures same { length lasts.old.items ≡ 8192 → lasts.new.items ≡ lasts.old.items }
 {
     if lasts.len() != BUCKETS {
         lasts.clear();

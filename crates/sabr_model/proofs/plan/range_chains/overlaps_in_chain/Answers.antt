@@ -1,12 +1,12 @@
-use Rattle.std.proofs.Common.{◌≡◌, ◌+◌, ◌-◌, ◌<◌, length, get_or, refl, sym, ap, subst, ◌∙◌, inl, inr, arith}
+use Rattle.std.proofs.Common.{◌≡◌, ◌-◌, ◌<◌, length, get_or, sym, ap, subst, ◌∙◌, inl, inr, arith}
 use Rattle.std.specs.Prelude.{slice_get, Some}
 use Rattle.std.proofs.lemmas.Bool.{cases_lt, cases_eq}
 use Rattle.std.proofs.lemmas.Option.{slice_get-get_or, slice_get_within, same_Some}
 use Rattle.sabr_model.specs.declared.contact.Range.{Range}
 use Rattle.sabr_model.specs.declared.plan.range_chains.RangeLink.{RangeLink}
 use Rattle.sabr_model.specs.Plan.{overlap}
-use Rattle.sabr_model.specs.RangeChains.{bucket_of_pair, IsLastOf}
-use Rattle.sabr_model.proofs.RangeChains.{any_from_places, any_from_place, other_bucket}
+use Rattle.sabr_model.specs.RangeChains.{IsLastOf}
+use Rattle.sabr_model.proofs.RangeChains.{any_from_places, other_bucket}
 use Rattle.sabr_model.proofs.plan.range_chains.overlaps_in_chain.Goals as goal
 
 pub loop-at-init : goal.loop-at-init
