@@ -1,4 +1,4 @@
-//! Ranges in the order in which they came, in chains by buckets of their ordered pairs: an overlap is looked for along one.
+//! Ranges as they came, in chains by buckets of their ordered pairs: an overlap is looked for along one chain.
 
 ghost use Rattle.std.specs.Prelude.{◌≡◌, ◌<◌, OnOk, length, slice_index};
 ghost use Rattle.std.specs.List.{list_any};
