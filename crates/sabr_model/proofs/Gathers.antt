@@ -349,6 +349,21 @@ late_alone (y ∷ ys) h =
     ap (put_in by_range_key y) (late_alone ys (two_lists-late [] (y ∷ ys) h))
     ∙ put_front by_range_key y ys (all_above y ys h.late_rise.0)
 
+-- a list of no length is empty
+pub none_of_length : (xs : List Range) → length xs ≡ 0 → xs ≡ []
+none_of_length [] e = refl
+none_of_length (x ∷ xs) e = absurd (omega (arith, e))
+
+-- where none is in its place, all are late
+pub none_placed : (late : List Range) → AreGathered [] late → gathered [] late ≡ late
+none_placed late h = late_alone late (record {
+  placed_rise = h.placed_obey.ranges_rise;
+  late_rise = h.late_obey.ranges_rise;
+  placed_windows = h.placed_obey.range_windows;
+  late_windows = h.late_obey.range_windows;
+  are_apart = h.are_apart;
+})
+
 -- where one of them is empty, they stand one behind the other
 pub one_empty : (xs ys : List Range) → AreTwoLists xs ys → (length xs ≡ 0) ⊎ (length ys ≡ 0) → xs ++ ys ≡ gathered xs ys
 one_empty [] ys h e = sym (late_alone ys h)

@@ -59,6 +59,31 @@ key_cmp a b c d e f hb hc he hf =
           ]
     ]
 
+-- which of the numbers of two keys decides their order
+pub first_decides : (a b c d e f : ℕ) → b < 2 ^ 64 → c < 2 ^ 64 → e < 2 ^ 64 → f < 2 ^ 64 → (a ≡ d → ⊥) → nat_cmp a d ≡ nat_cmp (place_number a b c) (place_number d e f)
+first_decides a b c d e f hb hc he hf other =
+    elim (cases_order a d) [
+      | inl same ↦ absurd (other same)
+      | inr (inl lt) ↦ cmp_less a d lt ∙ sym (cmp_less (place_number a b c) (place_number d e f) (omega (arith, lt, hb, hc, he, hf)))
+      | inr (inr gt) ↦ cmp_greater a d gt ∙ sym (cmp_greater (place_number a b c) (place_number d e f) (omega (arith, gt, hb, hc, he, hf)))
+    ]
+
+pub second_decides : (a b c d e f : ℕ) → c < 2 ^ 64 → f < 2 ^ 64 → a ≡ d → (b ≡ e → ⊥) → nat_cmp b e ≡ nat_cmp (place_number a b c) (place_number d e f)
+second_decides a b c d e f hc hf ad other =
+    elim (cases_order b e) [
+      | inl same ↦ absurd (other same)
+      | inr (inl lt) ↦ cmp_less b e lt ∙ sym (cmp_less (place_number a b c) (place_number d e f) (omega (arith, ad, lt, hc, hf)))
+      | inr (inr gt) ↦ cmp_greater b e gt ∙ sym (cmp_greater (place_number a b c) (place_number d e f) (omega (arith, ad, gt, hc, hf)))
+    ]
+
+pub third_decides : (a b c d e f : ℕ) → a ≡ d → b ≡ e → nat_cmp c f ≡ nat_cmp (place_number a b c) (place_number d e f)
+third_decides a b c d e f ad be =
+    elim (cases_order c f) [
+      | inl same ↦ cmp_same c f same ∙ sym (cmp_same (place_number a b c) (place_number d e f) (omega (arith, ad, be, same)))
+      | inr (inl lt) ↦ cmp_less c f lt ∙ sym (cmp_less (place_number a b c) (place_number d e f) (omega (arith, ad, be, lt)))
+      | inr (inr gt) ↦ cmp_greater c f gt ∙ sym (cmp_greater (place_number a b c) (place_number d e f) (omega (arith, ad, be, gt)))
+    ]
+
 -- what compares as less is less
 pub lt_from_less : (a b : ℕ) → nat_cmp a b ≡ Less → a < b
 lt_from_less a b h =
@@ -166,7 +191,7 @@ force_parts one other t r h =
     (eqb-true r.one one b.0, eqb-true r.other other b.1, leb-true r.start t c.0, ltb-true t r.end c.1)
 
 -- what overlapping ranges are
-overlap_parts : (r s : Range) → overlap r s ≡ true → (r.one ≡ s.one) × (r.other ≡ s.other) × (r.start < s.end) × (s.start < r.end)
+pub overlap_parts : (r s : Range) → overlap r s ≡ true → (r.one ≡ s.one) × (r.other ≡ s.other) × (r.start < s.end) × (s.start < r.end)
 overlap_parts r s h =
     let a = and_parts (eqb r.one s.one && eqb r.other s.other && ltb r.start s.end) (ltb s.start r.end) h in
     let b = and_parts (eqb r.one s.one && eqb r.other s.other) (ltb r.start s.end) a.0 in

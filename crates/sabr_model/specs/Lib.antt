@@ -10,6 +10,7 @@ pub mod Ready
 pub mod Stretches
 pub mod Adding
 pub mod Gathering
+pub mod RangeChains
 pub mod Light
 pub mod RangeOrder
 pub mod Arrival

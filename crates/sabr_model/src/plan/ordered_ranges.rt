@@ -1,15 +1,14 @@
 //! A list of ranges in order, found and merged by it.
 
-ghost use Rattle.std.specs.Prelude.{◌≡◌, ◌<◌, ◌≤◌, [], None, Err, OnOk, OnErr, IsTrue, IsFalse, IsOk, filter, length, not};
+ghost use Rattle.std.specs.Prelude.{◌≡◌, [], Err, OnOk, OnErr, IsTrue, IsFalse, IsOk, filter, length, not};
 ghost use Rattle.std.specs.List.{list_any};
-ghost use Rattle.sabr_model.specs.Plan.{last_time, overlap};
-ghost use Rattle.sabr_model.specs.Order.{put_in};
+ghost use Rattle.sabr_model.specs.Plan.{overlap, IsPlan};
 ghost use Rattle.sabr_model.specs.Gathering.{plan_of_ranges, gathered, AreGathered};
 ghost use Rattle.sabr_model.specs.declared.fault.AddFault.TheVariants.{NothingToDelete};
-ghost use Rattle.sabr_model.specs.Adding.{range_refusal, by_range_key, begins};
+ghost use Rattle.sabr_model.specs.Adding.{begins};
 
 use super::merging::merge;
-use super::ranges::{has_range, overlaps_some, ranges_until};
+use super::ranges::{has_range, overlaps_some};
 use crate::contact::Range;
 use crate::fault::AddFault;
 use std::alloc::{AllocError, Allocator};
@@ -48,6 +47,17 @@ impl<A: Allocator + Copy> OrderedRanges<A> {
         }
     }
 
+    /// Takes a list of ranges in order.
+    pub fn of(alloc: A, ranges: Vec<Range, A>) -> OrderedRanges<A>
+        requires { IsPlan (plan_of_ranges ranges.items) }
+        ensures { result ≡ ranges.items }
+    {
+        OrderedRanges {
+            ranges,
+            spare: Vec::new(alloc),
+        }
+    }
+
     /// Tells how many there are.
     pub fn len(&self) -> usize
         ensures { result ≡ length self.now }
@@ -62,21 +72,6 @@ impl<A: Allocator + Copy> OrderedRanges<A> {
         overlaps_some(&self.ranges, range)
     }
 
-    /// Puts a range that is not refused in its place.
-    pub fn insert(&mut self, range: Range) -> Result<(), AllocError>
-        requires one { 0 < range.one }
-        requires other { 0 < range.other }
-        requires end { range.end ≤ last_time }
-        requires light { range.light ≤ 1000000 }
-        requires accepted { range_refusal (plan_of_ranges self.old) range ≡ None }
-        ensures ok { OnOk result (self.new ≡ put_in by_range_key range self.old) }
-        ensures err { OnErr result (self.new ≡ self.old) }
-    {
-        let place = ranges_until(&self.ranges, range.one, range.other, range.start);
-        self.ranges.insert(place, range)?;
-        Ok(())
-    }
-
     /// Puts others in their places among these, and leaves none there.
     pub fn take_in(&mut self, others: &mut OrderedRanges<A>) -> Result<(), AllocError>
         requires { AreGathered self.old others.old }
@@ -85,6 +80,10 @@ impl<A: Allocator + Copy> OrderedRanges<A> {
         ensures err { OnErr result (self.new ≡ self.old) }
         ensures err_others { OnErr result (others.new ≡ others.old) }
     {
+        if self.ranges.is_empty() {
+            mem::swap(&mut self.ranges, &mut others.ranges);
+            return Ok(());
+        }
         merge(&mut self.spare, &self.ranges, &others.ranges)?;
         mem::swap(&mut self.ranges, &mut self.spare);
         others.ranges.clear();

@@ -78,7 +78,7 @@ pub fn has_range(ranges: &[Range], one: u64, other: u64, start: u64) -> bool
 }
 
 /// Tells whether two ranges of one ordered pair hold at some second.
-fn overlap(range: &Range, other: &Range) -> bool
+pub fn overlap(range: &Range, other: &Range) -> bool
     ensures { result ≡ overlap range.now other.now }
 {
     range.one == other.one
