@@ -5,17 +5,19 @@ use Rattle.std.proofs.Math.ListN.{get_or-append}
 use Rattle.std.proofs.Math.Seq.{get_or-append_seam}
 use Rattle.std.proofs.lemmas.Bool.{and_parts, or_left, or_right, eq-eqb, cases_lt}
 use Rattle.std.proofs.lemmas.List.{get_or_default}
-use Rattle.std.proofs.lemmas.Option.{slice_get-get_or}
+use Rattle.std.proofs.lemmas.Option.{slice_get_within, slice_get-get_or}
 use Rattle.indexmap.specs.IndexMap.{IndexMap, keys}
 use Rattle.sabr_model.specs.declared.contact.Contact.{Contact}
+use Rattle.sabr_model.specs.declared.contact.Range.{Range}
 use Rattle.sabr_model.specs.declared.hop.Hop.{Hop}
 use Rattle.sabr_model.specs.declared.plan.ends.Ends.{Ends}
+use Rattle.sabr_model.specs.declared.plan.stretches.Stretch.{Stretch}
 use Rattle.sabr_model.specs.declared.plan.linked.NodeLinks.{NodeLinks}
 use Rattle.sabr_model.specs.declared.plan.linked.senders.Incoming.{Incoming}
 use Rattle.sabr_model.specs.Plan.{ContactPlan, TabledPlan, contact_named, has, are_different}
 use Rattle.sabr_model.specs.Table.{ends_of, KeepsPlaces, IsTableOf}
 use Rattle.sabr_model.specs.Tabled.{IsHopOf, IsHopNamed}
-use Rattle.sabr_model.specs.Stretches.{AreEndsOf, AreEnds}
+use Rattle.sabr_model.specs.Stretches.{AreEndsOf, AreEnds, IsStretchAmong, AreStretches}
 use Rattle.sabr_model.specs.Ready.{AreHops, BeginEnds, IsReady}
 use Rattle.sabr_model.proofs.TableLemmas.{has_node}
 use Rattle.sabr_model.proofs.Without.{ends_of_found}
@@ -43,6 +45,18 @@ module _ {X Y : Type 0} (P : X → Y → Type 0) (xs : List X) (ys : List Y) (x 
             let other : get_or xs (length ys) d ≡ get_or xs (length ys) x = get_or_default xs (length ys) d x range in
             rw (is, other, get_or-append_seam ys y [] e) here
       ]
+
+-- the ends of the contact at a place
+pub ends_at : (table : List ℕ) (cs : List Contact) (es : List Ends) (k : ℕ) (d : Contact) (e : Ends) → AreEnds table cs es → k < length cs → e ≡ get_or es k e → AreEndsOf table (get_or cs k d) e
+ends_at table cs es k d e h lt is = subst (AreEndsOf table (get_or cs k d)) (sym is) (h.each k d e lt)
+
+-- each node of the table has a stretch
+pub stretch_within : (table : List ℕ) (rs : List Range) (n : ℕ) (ss : List Stretch) (i node : ℕ) → AreStretches table rs n ss → slice_get table i ≡ Some node → i < length ss
+stretch_within table rs n ss i node h at = rw h.as_many (slice_get_within table i node at)
+
+-- and it is that of its ranges
+pub stretch_at : (table : List ℕ) (rs : List Range) (n : ℕ) (ss : List Stretch) (i node : ℕ) (s : Stretch) → AreStretches table rs n ss → slice_get table i ≡ Some node → s ≡ get_or ss i s → IsStretchAmong rs n node s
+stretch_at table rs n ss i node s h at is = subst (IsStretchAmong rs n node) (sym is) (h.each i node s at)
 
 -- ends stay where the nodes keep their places
 pub ends_kept_at : (old new : List ℕ) (c : Contact) (e : Ends) → KeepsPlaces old new → AreEndsOf old c e → AreEndsOf new c e

@@ -2,8 +2,10 @@
 //! gathered in.
 #![tactic(auto)]
 
+mod digest_text;
 mod reading;
 mod rows;
+mod rules;
 mod session_fault;
 mod text_laws;
 mod verifying;

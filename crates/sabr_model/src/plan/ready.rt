@@ -9,13 +9,13 @@ ghost use Rattle.sabr_model.specs.Tabled.{IsHopOf};
 ghost use Rattle.sabr_model.specs.Ready.{AreHops, BeginEnds};
 ghost use Rattle.sabr_model.specs.Linking.{AreLinked};
 ghost use Rattle.sabr_model.specs.Incoming.{AreSenders};
-ghost use Rattle.sabr_model.specs.Stretches.{AreEndsOf, AreEnds, AreStretches};
+ghost use Rattle.sabr_model.specs.Stretches.{AreEnds};
 
 use super::Plan;
 use super::ends::{Ends, ends_of_contacts, index_of};
 use super::light::{light_in_stretches, light_of_contact};
 use super::linked::{IncomingLinks, NodeLinks, incoming_links, link_nodes};
-use super::stretches::{Stretch, stretches_of};
+use super::stretches::stretches_of;
 use crate::contact::{Contact, Range};
 use crate::fault::NoMemory;
 use crate::hop::Hop;
@@ -106,7 +106,20 @@ fn fill<A: Allocator + Copy>(
 {
     let ends = all_ends(alloc, known, contacts, table)?;
     let stretches = stretches_of(alloc, ranges, table)?;
-    fill_hops(hops, contacts, &ends, ranges, &stretches, table)
+    hops.clear();
+    hops.reserve(contacts.len())?;
+    for place in 0..contacts.len() {
+        let contact = &contacts[place];
+        let Ends { from, to } = ends[place];
+        let light = light_in_stretches(ranges, stretches[from], stretches[to], contact);
+        hops.push(Hop {
+            start: contact.start,
+            end: contact.end,
+            receiver: to,
+            light,
+        })?;
+    }
+    Ok(())
 }
 
 /// Gives the ends of each contact: those that are known, or else all looked up.
@@ -125,51 +138,4 @@ fn all_ends<A: Allocator + Copy>(
         return Ok(known);
     }
     ends_of_contacts(alloc, contacts, table)
-}
-
-/// Puts the hop of each contact beside it.
-fn fill_hops<A: Allocator + Copy>(
-    hops: &mut Vec<Hop, A>,
-    contacts: &[Contact],
-    ends: &[Ends],
-    ranges: &[Range],
-    stretches: &[Stretch],
-    table: &NodeTable<A>,
-) -> Result<(), AllocError>
-    requires ranges { IsRangeList ranges.now }
-    requires ends { AreEnds (keys table.now) contacts.now ends.now }
-    requires stretches { AreStretches (keys table.now) ranges.now (length ranges.now) stretches.now }
-    ensures { OnOk result (AreHops (record { plan = record { contacts = []; ranges = ranges.now; greatest = 0 }; table = keys table.now }) contacts.now hops.new.items) }
-{
-    hops.clear();
-    hops.reserve(contacts.len())?;
-    for place in 0..contacts.len() {
-        let hop = hop_between(&contacts[place], ends[place], ranges, stretches, table);
-        hops.push(hop)?;
-    }
-    Ok(())
-}
-
-/// Gives the hop of a contact between its ends.
-fn hop_between<A: Allocator + Copy>(
-    contact: &Contact,
-    ends: Ends,
-    ranges: &[Range],
-    stretches: &[Stretch],
-    table: &NodeTable<A>,
-) -> Hop
-    requires ranges { IsRangeList ranges.now }
-    requires ends { AreEndsOf (keys table.now) contact.now ends }
-    requires stretches { AreStretches (keys table.now) ranges.now (length ranges.now) stretches.now }
-    ensures { IsHopOf (record { plan = record { contacts = []; ranges = ranges.now; greatest = 0 }; table = keys table.now }) contact.now result }
-{
-    let _ = table;
-    let of_sender = stretches[ends.from];
-    let of_receiver = stretches[ends.to];
-    Hop {
-        start: contact.start,
-        end: contact.end,
-        receiver: ends.to,
-        light: light_in_stretches(ranges, of_sender, of_receiver, contact),
-    }
 }

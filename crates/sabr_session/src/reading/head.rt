@@ -6,12 +6,12 @@ ghost use Rattle.hex.specs.Hex.{encode_lower};
 ghost use Rattle.sabr_session.specs.SessionRead.{nothing_said, asked, header_said, digest_said, request_said, emitted_said, last_said, count_said};
 ghost use Rattle.sabr_session.specs.SessionLeaving.{Leaves};
 
+use crate::digest_text::digest_text;
 use crate::reading::first_lines::{
     Version, count_of, digest_named, emitted_of, header_of, last_listed,
 };
 use crate::reading::request_line::{RequestValues, request_of};
 use crate::session_fault::SessionFault;
-use hex::encode_to_slice;
 use sabr_model::{Numbers, Request};
 use std::alloc::Allocator;
 use std::marker::Model;
@@ -45,9 +45,7 @@ impl<A: Allocator + Copy> Model for Head<A> {
 fn is_digest_of(digits: &[u8], digest: &[u8; 32]) -> bool
     ensures { result ≡ bytes_eq digits.now (encode_lower digest.now) }
 {
-    let mut text = [0; 64];
-    let _ = encode_to_slice(*digest, &mut text);
-    digits == text.as_slice()
+    digits == digest_text(digest).as_slice()
 }
 
 /// Gives the request of these values.

@@ -11,10 +11,11 @@ ghost use Rattle.sabr_session.specs.Gathering.{Gathers};
 ghost use Rattle.sabr_session.specs.SessionText.{plan_line, request_line, state_lines, text_of, HasText};
 ghost use Rattle.sabr_session.specs.SessionPieces.{asked_pieces, counts_pieces, told_line};
 
+use crate::digest_text::digest_text;
+use crate::rules::tell_count;
 use crate::writing::put_lists::{put_list, put_nodes, put_pieces};
 use crate::writing::put_numbers::{put_count, put_number};
 use crate::writing::text_buffer::TextBuffer;
-use hex::encode_to_slice;
 use itoa::Buffer;
 use sabr_frontier::{PartView, Parts, Session};
 use sabr_model::{Request, Route, Write, WriteFault};
@@ -36,8 +37,7 @@ pub fn write_session<W: Write, B: BestOf<A>, A: Allocator + Copy>(
     ensures there { HasText session.now.state }
     ensures text { WritesText (W.contents writer.old) (W.failures writer.old) (text_of (digest_of session.now.plan.plan) session.now.request session.now.state) result (W.contents writer.new) (W.failures writer.new) }
 {
-    // contracts learn here that so many parts can be told
-    let _ = session.part_count();
+    tell_count(session);
     let mut text = TextBuffer::new();
     put_session(&mut text, writer, session, digest)?;
     text.send(writer)
@@ -66,8 +66,7 @@ fn put_digest<W: Write>(
 ) -> Result<(), WriteFault>
     ensures { Gathers (W.contents writer.old) (W.failures writer.old) text.old (plan_line digest.now) result (W.contents writer.new) (W.failures writer.new) text.new }
 {
-    let mut digits = [0; 64];
-    let _ = encode_to_slice(*digest, &mut digits);
+    let digits = digest_text(digest);
     let pieces: [&[u8]; 3] = [b"plan ", &digits, b"\n"];
     put_pieces(text, writer, &pieces)
 }

@@ -5,12 +5,12 @@ use Rattle.sabr_session.proofs.verifying.verify.Goals as goal
 
 pub returns-in-Ok-certify : goal.returns-in-Ok-certify
 returns-in-Ok-certify g c =
-    session_verified c.args.plan.now c.contacts.ensures.rules
+    session_verified c.args.plan.now c.tell_rules.ensures
     (g.R.Read.remaining c.args.reader.now) (g.R.Read.failures c.args.reader.now) (g.R.Read.remaining c.read_session.new.reader) (g.R.Read.failures c.read_session.new.reader)
-    c.in-Ok.session c.in-Ok.ensures.read (subst IsRequest c.request.ensures c.max_hops.ensures.limits) c.in-Ok-certify.placed c.in-Ok-certify.ensures.ok
+    c.in-Ok.session c.in-Ok.ensures.read (subst IsRequest c.request.ensures c.tell_limits.ensures) c.in-Ok-certify.placed c.in-Ok-certify.ensures.ok
 
 pub returns : goal.returns
 returns g c =
-    fault_verified c.args.plan.now c.contacts.ensures.rules
+    fault_verified c.args.plan.now c.tell_rules.ensures
     (g.R.Read.remaining c.args.reader.now) (g.R.Read.failures c.args.reader.now) (g.R.Read.remaining c.read_session.new.reader) (g.R.Read.failures c.read_session.new.reader)
     c.in-Err.fault c.in-Err.ensures.read c.in_default.not-Read c.in_default.not-NoMemory

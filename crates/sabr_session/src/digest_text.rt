@@ -1,0 +1,17 @@
+//! The text of a digest.
+
+ghost use Rattle.std.specs.Prelude.{◌≡◌};
+ghost use Rattle.hex.specs.Hex.{encode_lower};
+
+use hex::encode_to_slice;
+
+/// Gives the digits of a digest, two for each byte, the letters in lower case.
+pub fn digest_text(digest: &[u8; 32]) -> [u8; 64]
+    ensures { result ≡ encode_lower digest.now }
+{
+    let mut text = [0; 64];
+    let Ok(()) = encode_to_slice(*digest, &mut text) else {
+        unreachable!()
+    };
+    text
+}
