@@ -200,3 +200,56 @@ fn a_route_from_a_thousand_parts_copies_no_part(rt: HostRuntime) -> Result<(), F
     assert_eq!(rt; takes_few(&mut session, &ration), Some(true));
     Ok(())
 }
+
+/// Tells whether the page gives the best twenty routes over plan D; none where it was refused.
+fn gives_twenty<A: Allocator + Copy>(session: &mut Session<Settled<A>, A>) -> Option<bool> {
+    let routes = session.page(20).ok()?;
+    let mut first = 0u32;
+    for route in &routes {
+        first = first.wrapping_add(1);
+        if route.contacts.as_slice() != [first, 1001].as_slice() {
+            return Some(false);
+        }
+    }
+    Some(routes.len() == 20)
+}
+
+/// Tells whether a growth of the page of twenty was refused and left out; none where another page came.
+fn leaves_out<A: Allocator + Copy>(
+    session: &mut Session<Settled<A>, A>,
+    ration: &Ration,
+    growth: u64,
+) -> Option<bool> {
+    ration.refuse(growth);
+    match gives_twenty(session) {
+        Some(true) => Some(growth <= ration.requests()),
+        Some(false) => None,
+        None => Some(false),
+    }
+}
+
+/// Tells how many growths were refused and left out; none where another page came. All twenty routes are delivered in one
+/// second, so a table is made for it on the way.
+fn tables_left_out<A: Allocator + Copy>(alloc: A, ration: &Ration, plan: &Plan<A>) -> Option<u64> {
+    let mut left_out = 0u64;
+    for growth in 1..300u64 {
+        ration.refuse(0);
+        let mut session = started(alloc, plan, Settled::new(alloc))?;
+        if leaves_out(&mut session, ration, growth)? {
+            left_out = left_out.wrapping_add(1);
+        }
+    }
+    Some(left_out)
+}
+
+#[test]
+fn a_table_without_memory_is_left_out(rt: HostRuntime) -> Result<(), Fail> {
+    let ration = Ration::new(rt.alloc(), 0);
+    let plan = plan_d(&ration).ok().ok_or("plan")?;
+    let left_out = tables_left_out(&ration, &ration, &plan);
+    assert!(rt;
+        left_out.is_some_and(|count| count > 3),
+        "{left_out:?} left out"
+    );
+    Ok(())
+}
