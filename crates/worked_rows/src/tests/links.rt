@@ -14,13 +14,14 @@ const LIGHTS: [(Pair, u32, u32); 5] = [
     ((2, 4, 2), 0, 30),
 ];
 
-/// Three contacts from 1 to 2 that overlap, one without a light time, one to another node, and one to 2 from 4.
-const WINDOWS: [Window; 6] = [
+/// Three contacts from 1 to 2 that overlap, one without a light time, two in a row to another node, and one to 2 from 4.
+const WINDOWS: [Window; 7] = [
     (1, 2, 10, 15),
     (1, 2, 0, 100),
     (1, 2, 20, 25),
     (1, 4, 0, 25),
     (1, 3, 5, 6),
+    (1, 3, 6, 7),
     (4, 2, 7, 9),
 ];
 
@@ -37,7 +38,13 @@ fn plan_of_links<A: Allocator + Copy>(alloc: A) -> Result<Plan<A>, AddFault> {
 
 /// Gives a pass by its number, light time, start and end, and what bounds it, in the order of its fields; times from
 /// `BEGIN` on.
-fn pass(receiver: usize, of: [u32; 2], times: [u64; 3], least: [u32; 3]) -> Pass {
+fn pass(
+    receiver: usize,
+    of: [u32; 2],
+    times: [u64; 3],
+    least: [u32; 3],
+    in_row_behind: u32,
+) -> Pass {
     Pass {
         number: of[0],
         receiver,
@@ -48,6 +55,7 @@ fn pass(receiver: usize, of: [u32; 2], times: [u64; 3], least: [u32; 3]) -> Pass
         least_light_before: least[0],
         least_light_behind: least[1],
         least_number_behind: least[2],
+        in_row_behind,
     }
 }
 
@@ -67,13 +75,14 @@ fn link(receiver: usize, places: [usize; 2], times: [u64; 2], least_light: u32) 
 
 /// Tells whether these are the links and passes from node 1.
 fn are_from_1(links: &[Link], passes: &[Pass]) -> bool {
-    links == [link(1, [0, 3], [100, 3], 3), link(3, [3, 4], [6, 6], 1)].as_slice()
+    links == [link(1, [0, 3], [100, 3], 3), link(3, [3, 5], [7, 6], 1)].as_slice()
         && passes
             == [
-                pass(1, [2, 7], [0, 100, 100], [7, 3, 1]),
-                pass(1, [1, 3], [10, 15, 100], [3, 3, 1]),
-                pass(1, [3, 5], [20, 25, 100], [3, 5, 3]),
-                pass(3, [5, 1], [5, 6, 6], [1, 1, 5]),
+                pass(1, [2, 7], [0, 100, 100], [7, 3, 1], 0),
+                pass(1, [1, 3], [10, 15, 100], [3, 3, 1], 0),
+                pass(1, [3, 5], [20, 25, 100], [3, 5, 3], 0),
+                pass(3, [5, 1], [5, 6, 6], [1, 1, 5], 1),
+                pass(3, [6, 1], [6, 7, 7], [1, 1, 6], 0),
             ]
             .as_slice()
 }
