@@ -17,6 +17,7 @@ use std::alloc::Allocator;
 impl<'a, A: Allocator + Copy> Task<'a, A> {
     /// Gives the step of least number over a link for what is at its sender at `at`, that arrives before `before` and
     /// whose number is less than that of `least`; where there is none, `least`.
+    #[inline(always)]
     pub fn least_over(
         &self,
         looks: &mut Looks,

@@ -78,6 +78,7 @@ impl<'a, A: Allocator + Copy> Task<'a, A> {
     /// Gives the least arrival over a link of what is at its sender at `at`, where it is before `before`, and else
     /// `before`. It takes a halving and as many looks as passes come in question, mostly two; excluded
     /// ones whose numbers stand in a row take one look.
+    #[inline(always)]
     pub fn arrive_over(
         &self,
         looks: &mut Looks,
