@@ -1,7 +1,6 @@
 //! The commands of the program `cgrlist`: their words, their runs over readers and writers, and their texts.
 #![tactic(auto)]
 
-mod accepted;
 mod calls;
 mod command;
 mod failure;

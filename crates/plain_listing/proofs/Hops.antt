@@ -1,5 +1,5 @@
 -- Which hops a way may take.
-use Rattle.std.proofs.Common.{◌≡◌, ℕ, ◌<◌, ◌≤◌, min, true, false, not, ltb, eqb, ◌&&◌, ◌||◌, List, [], ◌∷◌, ◌++◌, length, refl, sym, ap, ◌∙◌, arith}
+use Rattle.std.proofs.Common.{◌≡◌, ℕ, ◌<◌, ◌≤◌, true, false, not, ltb, eqb, ◌&&◌, ◌||◌, List, [], ◌∷◌, ◌++◌, length, refl, sym, ap, ◌∙◌, arith}
 use Rattle.std.specs.Prelude.{unwrap_or}
 use Rattle.std.proofs.lemmas.List.{length-map}
 use Rattle.std.proofs.lemmas.Bool.{and_parts, and_from, lt-ltb, ltb-true, not-true, not_from_false, false_from_ne_true, both_ways}
@@ -10,7 +10,7 @@ use Rattle.sabr_model.specs.Arrival.{RouteRequest, arrival, arrival_after}
 use Rattle.sabr_model.specs.Route.{chain_end, receivers, is_path}
 use Rattle.sabr_model.proofs.Members.{all_in}
 use Rattle.sabr_model.proofs.Paths.{IsHop, path_facts, path_push, hop_facts, value_of}
-use Rattle.plain_listing.specs.declared.hop.Stop.{Stop}
+use Rattle.sabr_model.specs.declared.following.Reached.{Reached}
 use Rattle.plain_listing.specs.declared.hop.Hop.{Hop}
 use Rattle.plain_listing.specs.Way.{IsWay, numbers_of, nodes_of, last_stop, hop_of, is_passed, may_visit}
 use Rattle.plain_listing.proofs.Ways.{last_stop_is, nodes_are, hop_is}
@@ -30,13 +30,13 @@ module _ (p : ContactPlan) (r : RouteRequest) (hops : List Hop) (way : IsWay p r
   pub way_end : chain_end p r.source (numbers_of hops) ≡ Some (last_stop r hops).node
   way_end =
       let end = value_of (chain_end p r.source (numbers_of hops)) (path_facts p r (numbers_of hops) way.path).chained in
-      end.1 ∙ ap Some (sym (ap (λ (x : Stop). x.node) (last_stop_is p r hops way) ∙ ap (λ o. unwrap_or o 0) end.1))
+      end.1 ∙ ap Some (sym (ap (λ (x : Reached). x.node) (last_stop_is p r hops way) ∙ ap (λ o. unwrap_or o 0) end.1))
 
   -- and arrives there at its time
-  pub way_ready : arrival_after p r r.at (numbers_of hops) ≡ Some (last_stop r hops).arrival
+  pub way_ready : arrival_after p r r.at (numbers_of hops) ≡ Some (last_stop r hops).at
   way_ready =
       let ready = value_of (arrival_after p r r.at (numbers_of hops)) (path_facts p r (numbers_of hops) way.path).in_time in
-      ready.1 ∙ ap Some (sym (ap (λ (x : Stop). x.arrival) (last_stop_is p r hops way) ∙ ap (λ o. unwrap_or o 0) ready.1))
+      ready.1 ∙ ap Some (sym (ap (λ (x : Reached). x.at) (last_stop_is p r hops way) ∙ ap (λ o. unwrap_or o 0) ready.1))
 
   module _ (n : ℕ) where
     -- without a hop there is no path
@@ -77,17 +77,17 @@ module _ (p : ContactPlan) (r : RouteRequest) (hops : List Hop) (way : IsWay p r
           (not_from_false (has c.to r.avoided) allowed)))
 
       -- it can't be taken any more
-      pub closed_late : arrival p r (last_stop r hops).arrival c ≡ None → is_path p r (numbers_of hops ++ n ∷ []) ≡ false
+      pub closed_late : arrival p r (last_stop r hops).at c ≡ None → is_path p r (numbers_of hops ++ n ∷ []) ≡ false
       closed_late late =
           closed (λ hop.
           let same = its hop in
           let at = hop.there_at in
           let ready = way_ready in
-          let when : hop.ready ≡ (last_stop r hops).arrival = cc in
-          let arrives : arrival p r (last_stop r hops).arrival c ≡ Some hop.arrived = ap (λ t. arrival p r t c) (sym when) ∙ ap (arrival p r hop.ready) (sym same) ∙ hop.arrives_at in
+          let when : hop.ready ≡ (last_stop r hops).at = cc in
+          let arrives : arrival p r (last_stop r hops).at c ≡ Some hop.arrived = ap (λ t. arrival p r t c) (sym when) ∙ ap (arrival p r hop.ready) (sym same) ∙ hop.arrives_at in
           let never : ⊥ = cc in never)
 
-      module _ (u : ℕ) (sent : c.from ≡ (last_stop r hops).node) (visits : may_visit r hops c.to ≡ true) (arrives : arrival p r (last_stop r hops).arrival c ≡ Some u) where
+      module _ (u : ℕ) (sent : c.from ≡ (last_stop r hops).node) (visits : may_visit r hops c.to ≡ true) (arrives : arrival p r (last_stop r hops).at c ≡ Some u) where
         -- the hop over the contact
         hop : IsHop p r (numbers_of hops) n
         hop =
@@ -100,7 +100,7 @@ module _ (p : ContactPlan) (r : RouteRequest) (hops : List Hop) (way : IsWay p r
               named = named;
               sent = way_end ∙ ap Some (sym sent);
               fresh = ap (λ w. has c.to (r.source ∷ w)) (sym (nodes_are p r hops way)) ∙ ap (λ b. eqb c.to r.source || b) (sym (passed_is hops c.to)) ∙ not-true (eqb c.to r.source || is_passed hops c.to) more.1;
-              ready = (last_stop r hops).arrival;
+              ready = (last_stop r hops).at;
               there_at = way_ready;
               arrived = u;
               arrives_at = arrives;
@@ -113,6 +113,6 @@ module _ (p : ContactPlan) (r : RouteRequest) (hops : List Hop) (way : IsWay p r
         path_open = path_push p r (numbers_of hops) n way.path hop
 
         -- and this is what the hop comes to
-        pub hop_open : hop_of p r (numbers_of hops) n ≡ record { number = n; stop = record { node = c.to; arrival = u; until = min (last_stop r hops).until c.end } }
+        pub hop_open : hop_of p r (numbers_of hops) n ≡ record { number = n; stop = record { node = c.to; at = u } }
         unfolding hop
-        hop_open = hop_is p r hops n way hop
+        hop_open = hop_is p r hops n hop

@@ -159,10 +159,10 @@ module _ (p : ContactPlan) (r : RouteRequest) (good : IsPlan p) where
         end_named = value_of (chain_end p r.source (numbers_of hops ++ n ∷ [])) (path_facts p r (numbers_of hops ++ n ∷ []) open_way).chained
 
         -- past a number that leads behind all that is kept
-        pub move_late : is_past limit kept (hop_of p r (numbers_of hops) n).stop.arrival ≡ true → IsMove p r limit hops low hops (Some (n + 1)) kept
+        pub move_late : is_past limit kept (hop_of p r (numbers_of hops) n).stop.at ≡ true → IsMove p r limit hops low hops (Some (n + 1)) kept
         move_late past =
             let s = numbers_of hops in
-            let last = last_kept limit kept (hop_of p r s n).stop.arrival past in
+            let last = last_kept limit kept (hop_of p r s n).stop.at past in
             let k = last.place in
             let place = s ++ low ∷ [] in
             let at = mapped_at (record_of p r) k (routes_before p r place) last.last
@@ -178,14 +178,14 @@ module _ (p : ContactPlan) (r : RouteRequest) (good : IsPlan p) where
 
         -- past a number that ends a route
         pub move_found : (hop_of p r (numbers_of hops) n).stop.node ≡ r.destination → (more : List RouteRecord)
-            → more ≡ take limit (put_in by_record (record_over r (hops ++ hop_of p r (numbers_of hops) n ∷ [])) kept)
+            → more ≡ take limit (put_in by_record (record_over p r (hops ++ hop_of p r (numbers_of hops) n ∷ [])) kept)
             → IsMove p r limit hops low hops (Some (n + 1)) more
         move_found there more e =
             let s = numbers_of hops in
             let longer = hops ++ hop_of p r s n ∷ [] in
             let reaches : chain_end p r.source (s ++ n ∷ []) ≡ Some r.destination = end_named.1 ∙ ap Some (sym (ap (λ o. unwrap_or o 0) end_named.1) ∙ there) in
             let route = route_from_path p r (s ++ n ∷ []) open_way (omega (arith, length-append s (n ∷ []))) reaches in
-            let is : record_over r longer ≡ record_of p r (s ++ n ∷ []) =
+            let is : record_over p r longer ≡ record_of p r (s ++ n ∷ []) =
             record_is p r longer (way_push p r hops n walk.way open_way) ∙ ap (record_of p r) (numbers_push hops (hop_of p r s n)) in
             record {
               stands = record {

@@ -1,22 +1,18 @@
 -- Ways, a hop longer and a hop shorter.
-use Rattle.std.proofs.Common.{◌≡◌, ℕ, zero, suc, ◌-◌, min, List, [], ◌∷◌, ◌++◌, length, refl, sym, ap, subst, ◌∙◌, inl, inr, ⊎_elim, arith, append_assoc, length-append}
+use Rattle.std.proofs.Common.{◌≡◌, ℕ, zero, suc, ◌-◌, List, [], ◌∷◌, ◌++◌, length, refl, sym, ap, subst, ◌∙◌, inl, inr, ⊎_elim, arith, append_assoc, length-append}
 use Rattle.std.specs.Prelude.{◌⊎◌, IsTrue, unwrap_or, slice_get}
-use Rattle.std.specs.List.{fold, filter_map}
 use Rattle.std.specs.Option.{option_map_or}
 use Rattle.std.proofs.lemmas.List.{map-append, append-nil}
-use Rattle.std.proofs.lemmas.List.Sums.{fold-append}
-use Rattle.std.proofs.lemmas.List.Elements.{filter_map-append}
 use Rattle.std.specs.declared.option.Option.TheVariants.{Some}
-use Rattle.sabr_model.specs.declared.contact.Contact.{Contact}
-use Rattle.sabr_model.specs.Plan.{ContactPlan, contact_named}
+use Rattle.sabr_model.specs.Plan.{ContactPlan}
 use Rattle.sabr_model.specs.Arrival.{RouteRequest}
-use Rattle.sabr_model.specs.Route.{chain_end, receivers, contacts_of, is_path, delivery_of, until_of, entry_of}
+use Rattle.sabr_model.specs.Route.{chain_end, receivers, is_path, delivery_of}
 use Rattle.sabr_model.specs.Record.{record_of}
 use Rattle.sabr_model.proofs.Begins.{receivers-cons}
 use Rattle.sabr_model.proofs.Paths.{IsHop, beginning_is_path, hop_facts, chain_end_push, arrival_after_push}
-use Rattle.plain_listing.specs.declared.hop.Stop.{Stop}
+use Rattle.sabr_model.specs.declared.following.Reached.{Reached}
 use Rattle.plain_listing.specs.declared.hop.Hop.{Hop}
-use Rattle.plain_listing.specs.Way.{stop_of, hop_of, hops_behind, numbers_of, nodes_of, IsWay, source_stop, last_stop, first_node, record_over}
+use Rattle.plain_listing.specs.Way.{stop_of, hop_of, hops_behind, numbers_of, nodes_of, IsWay, source_stop, last_stop, record_over}
 
 -- ---- lists by their last element
 
@@ -119,39 +115,15 @@ module _ (p : ContactPlan) (r : RouteRequest) where
   pub nodes_are : (hops : List Hop) → IsWay p r hops → nodes_of hops ≡ receivers p (numbers_of hops)
   nodes_are hops way = ap nodes_of way.told ∙ nodes_behind [] (numbers_of hops) way.path
 
-  -- the least end behind one contact more
-  until_push : (s : List ℕ) (n : ℕ) (c : Contact) → contact_named p n ≡ Some c → until_of p (s ++ n ∷ []) ≡ min (until_of p s) c.end
-  until_push s n c named =
-      ap (fold (λ m (d : Contact). min m d.end) 253370764799) (filter_map-append (contact_named p) s (n ∷ []))
-      ∙ fold-append (λ m (d : Contact). min m d.end) 253370764799 (contacts_of p s) (contacts_of p (n ∷ []))
-      ∙ ap (λ o. fold (λ m (d : Contact). min m d.end) (until_of p s) (Rattle.std.specs.List.cons_option o [])) named
-
   -- what a hop over a contact comes to
-  pub hop_is : (hops : List Hop) (n : ℕ) → IsWay p r hops → (hop : IsHop p r (numbers_of hops) n)
-      → hop_of p r (numbers_of hops) n ≡ record { number = n; stop = record { node = hop.contact.to; arrival = hop.arrived; until = min (last_stop r hops).until hop.contact.end } }
-  hop_is hops n way hop =
+  pub hop_is : (hops : List Hop) (n : ℕ) (hop : IsHop p r (numbers_of hops) n)
+      → hop_of p r (numbers_of hops) n ≡ record { number = n; stop = record { node = hop.contact.to; at = hop.arrived } }
+  hop_is hops n hop =
       let s = numbers_of hops in
       let node : unwrap_or (chain_end p r.source (s ++ n ∷ [])) 0 ≡ hop.contact.to = ap (λ o. unwrap_or o 0) (chain_end_push p r.source s n hop.contact hop.named hop.sent) in
       let arrival : delivery_of p r (s ++ n ∷ []) ≡ hop.arrived = ap (λ o. unwrap_or o 0) (arrival_after_push p r r.at s n hop.contact hop.ready hop.arrived hop.named hop.there_at hop.arrives_at) in
-      let until : until_of p (s ++ n ∷ []) ≡ min (last_stop r hops).until hop.contact.end =
-      until_push s n hop.contact hop.named ∙ ap (λ (x : Stop). min x.until hop.contact.end) (sym (last_stop_is hops way)) in
-      λ i. record { number = n; stop = record { node = node i; arrival = arrival i; until = until i } }
-
-  -- the first hop ends at the entry node
-  first_is : (hops : List Hop) → IsWay p r hops → first_node hops ≡ entry_of p (numbers_of hops)
-  first_is [] way = refl
-  first_is (h ∷ hops) way =
-      let hop = hop_facts p r [] h.number (beginning_is_path p r (h.number ∷ []) (numbers_of hops) way.path) in
-      let first : h ≡ hop_of p r [] h.number = (let e = way.told in cc) in
-      ap (λ (x : Hop). x.stop.node) first
-      ∙ ap (λ o. unwrap_or o 0) (chain_end_push p r.source [] h.number hop.contact hop.named hop.sent)
-      ∙ sym (ap (λ o. option_map_or (λ (c : Contact). c.to) o 0) hop.named)
+      λ i. record { number = n; stop = record { node = node i; at = arrival i } }
 
   -- the record over a way is that of its numbers
-  pub record_is : (hops : List Hop) → IsWay p r hops → record_over r hops ≡ record_of p r (numbers_of hops)
-  record_is hops way =
-      let last = last_stop_is hops way in
-      let delivery = ap (λ (x : Stop). x.arrival) last in
-      let until = ap (λ (x : Stop). x.until) last in
-      let entry = first_is hops way in
-      λ i. record { contacts = numbers_of hops; delivery = delivery i; until = until i; entry = entry i }
+  pub record_is : (hops : List Hop) → IsWay p r hops → record_over p r hops ≡ record_of p r (numbers_of hops)
+  record_is hops way = ap (λ (x : Reached). record (record_of p r (numbers_of hops)) { delivery = x.at }) (last_stop_is hops way)

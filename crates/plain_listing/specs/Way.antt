@@ -4,14 +4,14 @@ use Rattle.std.specs.List.{list_any}
 use Rattle.std.specs.Option.{option_map_or}
 use Rattle.sabr_model.specs.Plan.{ContactPlan, has}
 use Rattle.sabr_model.specs.Arrival.{RouteRequest}
-use Rattle.sabr_model.specs.Route.{chain_end, is_path, delivery_of, until_of}
+use Rattle.sabr_model.specs.Route.{chain_end, is_path, delivery_of, until_of, entry_of}
 use Rattle.sabr_model.specs.Record.{RouteRecord}
-use Rattle.plain_listing.specs.declared.hop.Stop.{Stop}
+use Rattle.sabr_model.specs.declared.following.Reached.{Reached}
 use Rattle.plain_listing.specs.declared.hop.Hop.{Hop}
 
--- where, when and until when the contacts of these numbers bring a bundle
-abbrev pub stop_of : ContactPlan → RouteRequest → List ℕ → Stop
-stop_of p r s = record { node = unwrap_or (chain_end p r.source s) 0; arrival = delivery_of p r s; until = until_of p s }
+-- where and when the contacts of these numbers bring a bundle
+abbrev pub stop_of : ContactPlan → RouteRequest → List ℕ → Reached
+stop_of p r s = record { node = unwrap_or (chain_end p r.source s) 0; at = delivery_of p r s }
 
 -- the hop over contact n behind the contacts of `front`
 abbrev pub hop_of : ContactPlan → RouteRequest → List ℕ → ℕ → Hop
@@ -36,22 +36,18 @@ pub record IsWay (p : ContactPlan) (r : RouteRequest) (hops : List Hop) : Type 0
   pub path : IsTrue (is_path p r (numbers_of hops))
 
 -- where a way without hops ends: at the source
-abbrev pub source_stop : RouteRequest → Stop
-source_stop r = record { node = r.source; arrival = r.at; until = 253370764799 }
+abbrev pub source_stop : RouteRequest → Reached
+source_stop r = record { node = r.source; at = r.at }
 
 -- where the last of the hops ends
-abbrev pub last_stop : RouteRequest → List Hop → Stop
+abbrev pub last_stop : RouteRequest → List Hop → Reached
 last_stop r hops = option_map_or (λ h. h.stop) (slice_get hops (length hops - 1)) (source_stop r)
 
--- where the first of the hops ends
-abbrev pub first_node : List Hop → ℕ
-first_node hops = option_map_or (λ h. h.stop.node) (slice_get hops 0) 0
-
 -- the record of the route over these hops
-abbrev pub record_over : RouteRequest → List Hop → RouteRecord
-record_over r hops =
-    let last = last_stop r hops in
-    record { contacts = numbers_of hops; delivery = last.arrival; until = last.until; entry = first_node hops }
+abbrev pub record_over : ContactPlan → RouteRequest → List Hop → RouteRecord
+record_over p r hops =
+    let s = numbers_of hops in
+    record { contacts = s; delivery = (last_stop r hops).at; until = until_of p s; entry = entry_of p s }
 
 -- whether a hop arrives at the node
 abbrev pub is_passed : List Hop → ℕ → Bool

@@ -1,7 +1,6 @@
 //! The first page of the listing.
 
 ghost use Rattle.std.specs.Prelude.{◌≡◌, ◌≤◌, map, take, length, nat_lt, IfOk};
-ghost use Rattle.sabr_model.specs.Plan.{IsPlan};
 ghost use Rattle.sabr_model.specs.Listing.{routes, page_of};
 ghost use Rattle.sabr_model.specs.Record.{record_of};
 
@@ -20,13 +19,6 @@ pub struct Page<A: Allocator + Copy = Global> {
     pub more: bool,
 }
 
-/// Tells that every plan obeys the rules of contact plans.
-fn obeys_rules<A: Allocator + Copy>(plan: &Plan<A>)
-    ensures { IsPlan plan.now.plan }
-{
-    plan.contacts();
-}
-
 /// Walks through all ways, and keeps the best `limit` routes.
 fn gather<A: Allocator + Copy>(
     alloc: A,
@@ -36,7 +28,7 @@ fn gather<A: Allocator + Copy>(
 ) -> Result<Kept<A>, NoMemory>
     ensures { IfOk result (λ kept. kept.routes.items ≡ take limit (map (record_of plan.now.plan request.now) (routes plan.now.plan request.now))) }
 {
-    obeys_rules(plan);
+    plan.tell_rules();
     let mut kept = Kept::new(alloc, limit);
     let mut hops: Vec<Hop, A> = Vec::new(alloc);
     let mut next = Some(0);

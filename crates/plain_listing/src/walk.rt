@@ -18,6 +18,7 @@ use std::alloc::Allocator;
 /// Takes a hop: goes on behind it or, at the destination, keeps the route that it ends. Answers the least
 /// number to try next.
 fn take_hop<A: Allocator + Copy>(
+    plan: &Plan<A>,
     request: &Request,
     kept: &mut Kept<A>,
     hops: &mut Vec<Hop, A>,
@@ -28,13 +29,13 @@ fn take_hop<A: Allocator + Copy>(
     requires within { length kept.old.routes.items ≤ kept.old.limit }
     ensures limit { kept.new.limit ≡ kept.old.limit }
     ensures onward { IfOk result (λ next. hop.stop.node ≢ request.now.destination → (next ≡ 0) × (hops.new.items ≡ hops.old.items ++ hop ∷ []) × (kept.new.routes.items ≡ kept.old.routes.items)) }
-    ensures route { IfOk result (λ next. hop.stop.node ≡ request.now.destination → (next ≡ hop.number + 1) × (hops.new.items ≡ hops.old.items) × (kept.new.routes.items ≡ take kept.old.limit (put_in by_record (record_over request.now (hops.old.items ++ hop ∷ [])) kept.old.routes.items))) }
+    ensures route { IfOk result (λ next. hop.stop.node ≡ request.now.destination → (next ≡ hop.number + 1) × (hops.new.items ≡ hops.old.items) × (kept.new.routes.items ≡ take kept.old.limit (put_in by_record (record_over plan.now.plan request.now (hops.old.items ++ hop ∷ [])) kept.old.routes.items))) }
 {
     hops.push(hop)?;
     if hop.stop.node != request.to() {
         return Ok(0);
     }
-    let route = route_over(kept.alloc, request, hops)?;
+    let route = route_over(kept.alloc, plan, request, hops)?;
     kept.keep(route)?;
     hops.pop();
     Ok(hop.number + 1)
@@ -63,8 +64,8 @@ pub fn step<A: Allocator + Copy>(
     let Some(hop) = hop_over(plan, request, hops, number) else {
         return Ok(Some(number + 1));
     };
-    if kept.is_past(hop.stop.arrival) {
+    if kept.is_past(hop.stop.at) {
         return Ok(Some(number + 1));
     }
-    Ok(Some(take_hop(request, kept, hops, hop)?))
+    Ok(Some(take_hop(plan, request, kept, hops, hop)?))
 }

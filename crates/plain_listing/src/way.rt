@@ -5,23 +5,19 @@ ghost use Rattle.sabr_model.specs.Plan.{IsPlan, has};
 ghost use Rattle.sabr_model.specs.Route.{is_path};
 ghost use Rattle.plain_listing.specs.Way.{IsWay, numbers_of, last_stop, hop_of, is_passed, may_visit, record_over};
 
-use crate::hop::{Hop, Stop};
-use sabr_model::{NoMemory, Numbers, Plan, Request, Route, arrive};
+use crate::hop::Hop;
+use sabr_model::{NoMemory, Plan, Reached, Request, Route, Told, arrive};
 use std::alloc::Allocator;
 
-/// The last second of the year 9998: no contact ends after it.
-const LAST_TIME: u64 = 253370764799;
-
 /// Tells where the way ends: at the source, or behind the last hop.
-pub fn end_of(request: &Request, hops: &[Hop]) -> Stop
+pub fn end_of(request: &Request, hops: &[Hop]) -> Reached
     ensures { result ≡ last_stop request.now hops.now }
 {
     match hops.last() {
         Some(hop) => hop.stop,
-        None => Stop {
+        None => Reached {
             node: request.from(),
-            arrival: request.at(),
-            until: LAST_TIME,
+            at: request.at(),
         },
     }
 }
@@ -65,13 +61,12 @@ pub fn hop_over<A: Allocator + Copy>(
     if contact.from != end.node || !may_visit(request, hops, contact.to) {
         return None;
     }
-    let arrival = arrive(plan, request, end.arrival, contact)?;
+    let at = arrive(plan, request, end.at, contact)?;
     Some(Hop {
         number,
-        stop: Stop {
+        stop: Reached {
             node: contact.to,
-            arrival,
-            until: end.until.min(contact.end),
+            at,
         },
     })
 }
@@ -79,21 +74,13 @@ pub fn hop_over<A: Allocator + Copy>(
 /// Gives the route over the hops.
 pub fn route_over<A: Allocator + Copy>(
     alloc: A,
+    plan: &Plan<A>,
     request: &Request,
     hops: &[Hop],
 ) -> Result<Route<A>, NoMemory>
-    ensures { IfOk result (λ route. route ≡ record_over request.now hops.now) }
+    ensures { IfOk result (λ route. route ≡ record_over plan.now.plan request.now hops.now) }
 {
-    let end = end_of(request, hops);
-    let numbers = hops.iter().map(|hop| hop.number).collect(alloc)?;
-    let entry = match hops.first() {
-        Some(hop) => hop.stop.node,
-        None => 0,
-    };
-    Ok(Route {
-        contacts: Numbers::new(numbers),
-        delivery: end.arrival,
-        until: end.until,
-        entry,
-    })
+    let numbers: Vec<u32, A> = hops.iter().map(|hop| hop.number).collect(alloc)?;
+    let told = Told::of(plan, &numbers);
+    Ok(told.route(numbers, end_of(request, hops).at))
 }

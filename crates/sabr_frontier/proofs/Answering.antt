@@ -1,13 +1,16 @@
 -- What is held stays in order and answered where a part comes behind the others, and is paid exactly where the parts are closed.
-use Rattle.std.proofs.Common.{◌≡◌, ℕ, zero, suc, ◌+◌, ◌<◌, Bool, true, false, not, ◌&&◌, nat_lt, List, [], ◌∷◌, ◌++◌, map, flat_map, reverse, length, refl, sym, ap, subst, ◌∙◌, ◌⊎◌, inl, inr, arith, true≢false, Option, Some, None, length-append}
-use Rattle.std.specs.Prelude.{◌==◌, unwrap_or}
+use Rattle.std.proofs.Common.{◌≡◌, ℕ, zero, suc, ◌+◌, ◌-◌, ◌<◌, Bool, true, false, not, ◌&&◌, nat_lt, List, [], ◌∷◌, ◌++◌, map, flat_map, reverse, length, take, refl, sym, ap, subst, ◌∙◌, ◌⊎◌, inl, inr, arith, true≢false, Option, Some, None, length-append}
+use Rattle.std.specs.Prelude.{◌==◌, slice_get, unwrap_or}
+use Rattle.std.specs.List.{All}
 use Rattle.std.specs.Option.{option_map, option_map_or}
 use Rattle.std.specs.Ordering.{nat_cmp, is_lt, is_eq}
 use Rattle.std.specs.declared.cmp.Ordering.TheVariants.{Less}
-use Rattle.std.proofs.lemmas.Bool.{and_parts}
+use Rattle.std.proofs.lemmas.Bool.{and_parts, false_from_ne_true}
 use Rattle.std.proofs.lemmas.Bool.Decides.{nat_tests}
 use Rattle.std.proofs.lemmas.Cmp.{nat_list_cmp_total, nat_cmp_total}
-use Rattle.std.proofs.lemmas.List.{reverse-append, reverse-reverse, length-reverse, length-map}
+use Rattle.std.proofs.lemmas.List.{reverse-append, reverse-reverse, length-reverse, length-map, take-map}
+use Rattle.std.proofs.lemmas.Option.{slice_get-map}
+use Rattle.std.proofs.lemmas.List.Elements.{All-append, All-head, All-nil, All-push, All-tail, All-take}
 use Rattle.std.proofs.lemmas.Grind.{flat_map-append}
 use Rattle.sabr_model.specs.Order.{by_numbers, same_numbers, numbers_before}
 use Rattle.sabr_model.specs.Plan.{ContactPlan, rises_above}
@@ -18,14 +21,16 @@ use Rattle.sabr_model.specs.Record.{RouteRecord, record_of}
 use Rattle.sabr_model.proofs.Prefixes.{empty_is_prefix, prefix_goes_on}
 use Rattle.sabr_frontier.specs.declared.tree.Node.{Node}
 use Rattle.sabr_frontier.specs.declared.judge.Judged.{Judged}
+use Rattle.sabr_frontier.specs.declared.leading.Owed.{Owed}
 use Rattle.sabr_frontier.specs.Rising.{Below, Rises}
 use Rattle.sabr_frontier.specs.State.{PartState, pair_of, Member, leaves_of}
 use Rattle.sabr_frontier.specs.Formed.{IsClosed, InOrder, Within}
 use Rattle.sabr_frontier.specs.Owing.{Owing, onward, IsGood, Owes}
+use Rattle.sabr_frontier.specs.Leading.{AreLeads, IsLead, prefix_owed}
 use Rattle.sabr_frontier.specs.Loading.{comes_behind, may_carry, rise_strictly}
 use Rattle.sabr_frontier.specs.Shape.{numbers_of}
 use Rattle.sabr_frontier.specs.Undo.{last_item, front}
-use Rattle.sabr_frontier.specs.Holding.{Holding, AreLent, IsAnswered, IsHeld, IsJudged, IsVerdict, held_then, is_due, is_paid, node_for, nothing_held, owing, pairs_in, part_for, parts_in, parts_of}
+use Rattle.sabr_frontier.specs.Holding.{Holding, AreLent, IsAnswered, IsHeld, IsJudged, IsVerdict, held_then, is_due, is_least, is_paid, node_for, nothing_held, owed_in, owing, pairs_in, part_for, parts_in, parts_of}
 use Rattle.sabr_frontier.proofs.Rising.{true_or_false, Below-lower, is_equal}
 use Rattle.sabr_frontier.proofs.Beginnings.{lists_exact}
 use Rattle.sabr_frontier.proofs.Members.{Member-append_right, Member-append_cases, Below-member}
@@ -164,45 +169,79 @@ same_itself q = ap is_eq (Rattle.std.proofs.lemmas.Cmp.tied_itself nat_list_cmp_
 -- ---- what is due
 
 -- a due prefix is the least that is owed, and what is owed behind it lies under it
-due_first : {A : Type 0} (h : Holding A) (q : List ℕ) → length h.prefixes ≡ length h.nodes → (parts_in h ≡ [] → h.owed ≡ []) → is_due h q ≡ true → owing (parts_in h) h.owed ≡ q ∷ reverse (front h.owed)
+due_first : {A : Type 0} (h : Holding A) (q : List ℕ) → length h.prefixes ≡ length h.nodes → (parts_in h ≡ [] → owed_in h ≡ []) → is_least h q ≡ true → owing (parts_in h) (owed_in h) ≡ q ∷ reverse (front (owed_in h))
 due_first h q paired first due = elim (zero_or_more (length h.nodes)) [
   | inl e ↦
       let none = no_parts h paired e in
       let d : (length h.nodes == 0 && length q == 0) ≡ true = sym (ap (λ (z : List (List ℕ)). option_map_or (same_numbers q) (last_item z) (length h.nodes == 0 && length q == 0)) (first none)) ∙ due in
       let empty : q ≡ [] = no_numbers q (test_zero (length q) (and_parts (length h.nodes == 0) (length q == 0) d).1) in
-      ap (λ z. owing z h.owed) none ∙ (λ i. sym empty i ∷ reverse (front (sym (first none) i)))
+      ap (λ z. owing z (owed_in h)) none ∙ (λ i. sym empty i ∷ reverse (front (sym (first none) i)))
   | inr l ↦
       let some = some_part h paired l in
-      let last : h.owed ≡ front h.owed ++ q ∷ [] = elim (last_item h.owed) as (λ o. last_item h.owed ≡ o → option_map_or (same_numbers q) o (length h.nodes == 0 && length q == 0) ≡ true → h.owed ≡ front h.owed ++ q ∷ []) [
+      let last : owed_in h ≡ front (owed_in h) ++ q ∷ [] = elim (last_item (owed_in h)) as (λ o. last_item (owed_in h) ≡ o → option_map_or (same_numbers q) o (length h.nodes == 0 && length q == 0) ≡ true → owed_in h ≡ front (owed_in h) ++ q ∷ []) [
         | None ↦ λ _ k. absurd (true≢false (sym (and_parts (length h.nodes == 0) (length q == 0) k).0 ∙ more_test (length h.nodes) l))
-        | Some o ↦ λ e k. last_split h.owed o e ∙ ap (λ z. front h.owed ++ z ∷ []) (sym (same_from_test q o k))
+        | Some o ↦ λ e k. last_split (owed_in h) o e ∙ ap (λ z. front (owed_in h) ++ z ∷ []) (sym (same_from_test q o k))
       ] refl due in
-      ap (λ z. owing z h.owed) some.2 ∙ ap reverse last ∙ reverse-append (front h.owed) (q ∷ [])
+      ap (λ z. owing z (owed_in h)) some.2 ∙ ap reverse last ∙ reverse-append (front (owed_in h)) (q ∷ [])
 ]
 
 -- and the least that is owed is due
-first_due : {A : Type 0} (h : Holding A) (q : List ℕ) (rest : Owing) → length h.prefixes ≡ length h.nodes → (parts_in h ≡ [] → h.owed ≡ []) → owing (parts_in h) h.owed ≡ q ∷ rest → is_due h q ≡ true
+first_due : {A : Type 0} (h : Holding A) (q : List ℕ) (rest : Owing) → length h.prefixes ≡ length h.nodes → (parts_in h ≡ [] → owed_in h ≡ []) → owing (parts_in h) (owed_in h) ≡ q ∷ rest → is_least h q ≡ true
 first_due h q rest paired first o = elim (zero_or_more (length h.nodes)) [
   | inl e ↦
       let none = no_parts h paired e in
-      let is : [] ∷ [] ≡ q ∷ rest = sym (ap (λ z. owing z h.owed) none) ∙ o in
+      let is : [] ∷ [] ≡ q ∷ rest = sym (ap (λ z. owing z (owed_in h)) none) ∙ o in
       let empty : [] ≡ q = cc in
       ap (λ (z : List (List ℕ)). option_map_or (same_numbers q) (last_item z) (length h.nodes == 0 && length q == 0)) (first none)
       ∙ (λ i. zero_test (length h.nodes) e i && zero_test (length q) (sym (ap (length {A = ℕ}) empty)) i)
   | inr l ↦
       let some = some_part h paired l in
-      let is : reverse h.owed ≡ q ∷ rest = sym (ap (λ z. owing z h.owed) some.2) ∙ o in
-      let back : h.owed ≡ reverse rest ++ q ∷ [] = sym (reverse-reverse h.owed) ∙ ap reverse is ∙ reverse-append (q ∷ []) rest in
-      let last : last_item h.owed ≡ Some q = Rattle.sabr_frontier.proofs.Ends.last_item_push h.owed (reverse rest) q back in
+      let is : reverse (owed_in h) ≡ q ∷ rest = sym (ap (λ z. owing z (owed_in h)) some.2) ∙ o in
+      let back : owed_in h ≡ reverse rest ++ q ∷ [] = sym (reverse-reverse (owed_in h)) ∙ ap reverse is ∙ reverse-append (q ∷ []) rest in
+      let last : last_item (owed_in h) ≡ Some q = Rattle.sabr_frontier.proofs.Ends.last_item_push (owed_in h) (reverse rest) q back in
       ap (λ o. option_map_or (same_numbers q) o (length h.nodes == 0 && length q == 0)) last ∙ same_itself q
 ]
 
 -- what is taken from the end of those owed is the due prefix, the empty one where nothing is owed
-pub due_taken : {A : Type 0} (h : Holding A) (q : List ℕ) → is_due h q ≡ true → unwrap_or (last_item h.owed) [] ≡ q
-due_taken h q due = elim (last_item h.owed) as (λ o. option_map_or (same_numbers q) o (length h.nodes == 0 && length q == 0) ≡ true → unwrap_or o [] ≡ q) [
+pub due_taken : {A : Type 0} (h : Holding A) (q : List ℕ) → is_due h q ≡ true → unwrap_or (last_item (owed_in h)) [] ≡ q
+due_taken h q due = elim (last_item (owed_in h)) as (λ o. option_map_or (same_numbers q) o (length h.nodes == 0 && length q == 0) ≡ true → unwrap_or o [] ≡ q) [
   | None ↦ λ k. sym (no_numbers q (test_zero (length q) (and_parts (length h.nodes == 0) (length q == 0) k).1))
   | Some o ↦ λ k. sym (same_from_test q o k)
-] due
+] (and_parts h.sound (is_least h q) due).1
+
+-- ---- the prefixes of those that are kept
+
+pub last_prefix : {A : Type 0} (os : List (Owed A)) → last_item (map prefix_owed os) ≡ option_map prefix_owed (last_item os)
+last_prefix os = ap (λ n. slice_get (map prefix_owed os) (n - 1)) (length-map os prefix_owed) ∙ slice_get-map prefix_owed os (length os - 1)
+
+module _ {A : Type 0} (h : Holding A) (q : List ℕ) (o : Owed A) (sound : h.sound ≡ true) (last : last_item h.owed ≡ Some o) where
+  due_is : is_due h q ≡ same_numbers q o.prefix
+  due_is = let kept = last_prefix h.owed ∙ ap (option_map prefix_owed) last in λ i. sound i && option_map_or (same_numbers q) (kept i) (length h.nodes == 0 && length q == 0)
+
+  pub same_is_due : q ≡ o.prefix → is_due h q ≡ true
+  same_is_due same = due_is ∙ ap (same_numbers q) (sym same) ∙ same_itself q
+
+  pub other_is_not_due : (q ≡ o.prefix → ⊥) → is_due h q ≡ false
+  other_is_not_due other = due_is ∙ false_from_ne_true (same_numbers q o.prefix) (λ k. other (same_from_test q o.prefix k))
+
+  pub last_leads : (p : ContactPlan) (r : RouteRequest) → AreLeads p r h.owed → IsLead p r o.prefix o.lead
+  last_leads p r leads = at (λ (o : Owed A). IsLead p r o.prefix o.lead) h.owed (length h.owed - 1) last leads
+    where
+      at : (P : Owed A → Type 0) (os : List (Owed A)) (i : ℕ) → slice_get os i ≡ Some o → All P os → P o
+      at P [] i e h = absurd cc
+      at P (x ∷ os) zero e h = let same : x ≡ o = cc in subst P same (All-head P x os h)
+      at P (x ∷ os) (suc i) e h = at P os i e (All-tail P x os h)
+
+map-front : {X Y : Type 0} (f : X → Y) (xs : List X) → map f (front xs) ≡ front (map f xs)
+map-front f xs = sym (ap (λ n. take (n - 1) (map f xs)) (length-map xs f) ∙ take-map f (length xs - 1) xs)
+
+map-reverse : {X Y : Type 0} (f : X → Y) (xs : List X) → map f (reverse xs) ≡ reverse (map f xs)
+map-reverse f [] = refl
+map-reverse f (x ∷ xs) = ap (map f) (reverse-append (x ∷ []) xs) ∙ map-append f (reverse xs) (x ∷ []) ∙ ap (λ z. z ++ f x ∷ []) (map-reverse f xs) ∙ sym (reverse-append (f x ∷ []) (map f xs))
+
+All-reverse : {X : Type 0} (P : X → Type 0) (xs : List X) → All P xs → All P (reverse xs)
+All-reverse P [] h = All-nil P
+All-reverse P (x ∷ xs) h = subst (All P) (sym (reverse-append (x ∷ []) xs)) (All-push P (reverse xs) x (All-reverse P xs (All-tail P x xs h)) (All-head P x xs h))
 
 module _ (p : ContactPlan) (r : RouteRequest) where
   abbrev route : List ℕ → Bool
@@ -235,11 +274,11 @@ module _ (p : ContactPlan) (r : RouteRequest) where
       owing_more [] t owed = refl
       owing_more (u ∷ parts) t owed = refl
 
-      answered_more : (j : Judged A) → IsAnswered p r h → is_due h q ≡ true → IsGood route path e → IsJudged p r e j → IsAnswered p r (held_then h q X kept (Some j))
+      answered_more : (j : Judged A) → IsAnswered p r h → is_least h q ≡ true → IsGood route path e → IsJudged p r e j → IsAnswered p r (held_then h q X kept (Some j))
       answered_more j a due good judged = record {
-        owes = subst (λ T. Owes route path ([] ∷ []) T (owing parts owed)) (sym pairs_more)
-            (Owes-push route path (pairs_in h) ([] ∷ []) (owing (parts_in h) h.owed) (owing parts owed) e a.owes
-            (reverse (front h.owed), due_first h q held.paired a.first due, good, sym owed_now));
+        owes = subst (λ T. Owes route path ([] ∷ []) T (owing parts (map prefix_owed owed))) (sym pairs_more)
+            (Owes-push route path (pairs_in h) ([] ∷ []) (owing (parts_in h) (owed_in h)) (owing parts (map prefix_owed owed)) e a.owes
+            (reverse (front (owed_in h)), due_first h q held.paired a.first due, good, sym owed_now));
         leaves = (λ i. a.leaves i ++ judged.leaves_are i) ∙ sym (map-append (record_of p r) (flat_map (leaves_of route) (pairs_in h)) (leaves_of route e))
             ∙ ap (map (record_of p r)) (ap (λ z. flat_map (leaves_of route) (pairs_in h) ++ z) (sym (append_none (leaves_of route e))) ∙ sym (flat_map-append (leaves_of route) (pairs_in h) (e ∷ [])) ∙ ap (flat_map (leaves_of route)) (sym pairs_more));
         lent = lent_push route 0 h.prefixes h.nodes q n a.lent (let k = ap (length {A = RouteRecord}) a.leaves ∙ length-map (flat_map (leaves_of route) (pairs_in h)) (record_of p r) in omega (arith, k)) refl;
@@ -249,24 +288,34 @@ module _ (p : ContactPlan) (r : RouteRequest) where
           parts : List PartState
           parts = parts_of (h.prefixes ++ q ∷ []) (h.nodes ++ n ∷ [])
 
-          owed : List (List ℕ)
+          owed : List (Owed A)
           owed = front h.owed ++ reverse j.onward.items
 
           append_none : (xs : List (List ℕ)) → xs ++ [] ≡ xs
           append_none [] = refl
           append_none (x ∷ xs) = ap (λ z. x ∷ z) (append_none xs)
 
-          owed_now : owing parts owed ≡ onward route path e ++ reverse (front h.owed)
-          owed_now = ap (λ z. owing z owed) more ∙ owing_more (parts_in h) (part_for q n) owed ∙ reverse-append (front h.owed) (reverse j.onward.items)
-              ∙ ap (λ z. z ++ reverse (front h.owed)) (reverse-reverse j.onward.items ∙ judged.onward_are)
+          prefixes : map prefix_owed owed ≡ front (owed_in h) ++ reverse (map prefix_owed j.onward.items)
+          prefixes = map-append prefix_owed (front h.owed) (reverse j.onward.items) ∙ (λ i. map-front prefix_owed h.owed i ++ map-reverse prefix_owed j.onward.items i)
 
-      broken_more : ((h.sound ≡ true) → is_due h q ≡ true → IsGood route path e → ⊥) → (os : Owing) → Owes route path ([] ∷ []) (pairs_in h ++ e ∷ []) os → ⊥
+          owed_now : owing parts (map prefix_owed owed) ≡ onward route path e ++ reverse (front (owed_in h))
+          owed_now = ap (λ z. owing z (map prefix_owed owed)) more ∙ owing_more (parts_in h) (part_for q n) (map prefix_owed owed) ∙ ap reverse prefixes
+              ∙ reverse-append (front (owed_in h)) (reverse (map prefix_owed j.onward.items))
+              ∙ ap (λ z. z ++ reverse (front (owed_in h))) (reverse-reverse (map prefix_owed j.onward.items) ∙ judged.onward_are)
+
+      leads_more : (j : Judged A) → AreLeads p r j.onward.items → AreLeads p r (front h.owed ++ reverse j.onward.items)
+      leads_more j new = All-append known (front h.owed) (reverse j.onward.items) (All-take known (length h.owed - 1) h.owed held.leads) (All-reverse known j.onward.items new)
+        where
+          known : Owed A → Type 0
+          known o = IsLead p r o.prefix o.lead
+
+      broken_more : (is_due h q ≡ true → IsGood route path e → ⊥) → (os : Owing) → Owes route path ([] ∷ []) (pairs_in h ++ e ∷ []) os → ⊥
       broken_more none os o =
           let w = Owes-front route path (pairs_in h) ([] ∷ []) os e o in
           elim (true_or_false h.sound) [
             | inl k ↦
                 let a = held.answered k in
-                none k (first_due h q w.2.0 held.paired a.first (Owes-one route path (pairs_in h) ([] ∷ []) (owing (parts_in h) h.owed) w.0 a.owes w.1 ∙ w.2.1)) w.2.2
+                none (λ i. k i && first_due h q w.2.0 held.paired a.first (Owes-one route path (pairs_in h) ([] ∷ []) (owing (parts_in h) (owed_in h)) w.0 a.owes w.1 ∙ w.2.1) i) w.2.2
             | inr k ↦ held.broken k w.0 w.1
           ]
 
@@ -318,14 +367,19 @@ module _ (p : ContactPlan) (r : RouteRequest) where
           order = ordered;
           carried = carried_then;
           records = records_then;
-          answered = λ _. answered_more j (held.answered v.0) v.1 v.2 v.3;
-          broken = λ k. absurd (true≢false (sym v.0 ∙ k));
+          leads = leads_more j v.2.leads;
+          answered = λ _. answered_more j (held.answered due.0) due.1 v.1 v.2;
+          broken = λ k. absurd (true≢false (sym due.0 ∙ k));
         }
+          where
+            due : (h.sound ≡ true) × (is_least h q ≡ true)
+            due = and_parts h.sound (is_least h q) v.0
         held_more None v = record {
           paired = counted;
           order = ordered;
           carried = carried_then;
           records = records_then;
+          leads = held.leads;
           answered = λ k. absurd (true≢false (sym k));
           broken = λ _ os. subst (λ T. Owes route path ([] ∷ []) T os → ⊥) (sym pairs_more) (broken_more v os);
         }
@@ -338,6 +392,7 @@ module _ (p : ContactPlan) (r : RouteRequest) where
       order = record { by_prefix = tt; numbers = λ q X m. absurd m };
       carried = λ t s m. absurd m;
       records = λ n x m. absurd m;
+      leads = All-nil (λ (o : Owed A). IsLead p r o.prefix o.lead);
       answered = λ _. record { owes = refl; leaves = refl; lent = tt; first = λ _. refl };
       broken = λ k. absurd (true≢false k);
     }
@@ -345,7 +400,7 @@ module _ (p : ContactPlan) (r : RouteRequest) where
     -- ---- the end
 
     module _ (h : Holding A) (held : IsHeld p r h) where
-      no_owed : (os : List (List ℕ)) → length os ≡ 0 → os ≡ []
+      no_owed : (os : List (Owed A)) → length os ≡ 0 → os ≡ []
       no_owed [] l = refl
       no_owed (o ∷ os) l = absurd (omega (arith, l))
 
@@ -354,7 +409,7 @@ module _ (p : ContactPlan) (r : RouteRequest) where
           let w = and_parts h.sound (not (length h.nodes == 0) && (length h.owed == 0)) paid in
           let v = and_parts (not (length h.nodes == 0)) (length h.owed == 0) w.1 in
           let some = some_part h held.paired (test_more (length h.nodes) (Rattle.std.proofs.lemmas.Bool.not-true (length h.nodes == 0) v.0)) in
-          subst (Owes route path ([] ∷ []) (pairs_in h)) (ap (λ z. owing z h.owed) some.2 ∙ ap reverse (no_owed h.owed (test_zero (length h.owed) v.1))) (held.answered w.0).owes
+          subst (Owes route path ([] ∷ []) (pairs_in h)) (ap (λ z. owing z (owed_in h)) some.2 ∙ ap (λ os. reverse (map prefix_owed os)) (no_owed h.owed (test_zero (length h.owed) v.1))) (held.answered w.0).owes
 
       pub paid_closed : is_paid h ≡ true → IsClosed route path (is_prefix p r) (pairs_in h)
       paid_closed paid = owes_closed route path (is_prefix p r) (empty_is_prefix p r) (prefix_goes_on p r) (prefix_no_route p r) (pairs_in h) (paid_owes paid)
@@ -370,8 +425,8 @@ module _ (p : ContactPlan) (r : RouteRequest) where
               | inr l ↦
                   let some = some_part h held.paired l in
                   let a = held.answered k in
-                  let paid : reverse h.owed ≡ [] = sym (ap (λ z. owing z h.owed) some.2) ∙ Owes-one route path (pairs_in h) ([] ∷ []) (owing (parts_in h) h.owed) [] a.owes o in
-                  let empty : length h.owed ≡ 0 = sym (length-reverse h.owed) ∙ ap length paid in
+                  let paid : reverse (owed_in h) ≡ [] = sym (ap (λ z. owing z (owed_in h)) some.2) ∙ Owes-one route path (pairs_in h) ([] ∷ []) (owing (parts_in h) (owed_in h)) [] a.owes o in
+                  let empty : length h.owed ≡ 0 = sym (length-map h.owed prefix_owed) ∙ sym (length-reverse (owed_in h)) ∙ ap length paid in
                   true≢false (sym ((λ i. k i && (not (more_test (length h.nodes) l i) && zero_test (length h.owed) empty i))) ∙ unpaid)
             ]
           ]

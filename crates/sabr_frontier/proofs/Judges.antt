@@ -3,21 +3,23 @@ use Rattle.std.proofs.Common.{◌≡◌, ℕ, zero, suc, ◌+◌, ◌<◌, true,
 use Rattle.std.specs.Prelude.{IfOk, IfErr, IfSome, IfNone, Ok, Err, Result, Option, unwrap_or, ◌==◌}
 use Rattle.std.proofs.lemmas.Bool.Decides.{nat_tests}
 use Rattle.std.specs.Ordering.{nat_cmp}
-use Rattle.std.proofs.lemmas.Bool.{false_from_ne_true}
 use Rattle.std.proofs.lemmas.Cmp.{nat_cmp_total}
 use Rattle.std.proofs.lemmas.List.{take_more}
 use Rattle.std.proofs.lemmas.List.Elements.{filter-append}
 use Rattle.sabr_model.specs.declared.fault.HopFault.{HopFault}
 use Rattle.sabr_model.specs.declared.fault.HopFault.TheVariants.{WrongEnd}
 use Rattle.sabr_model.specs.Plan.{ContactPlan}
-use Rattle.sabr_model.specs.Arrival.{RouteRequest, arrival_after}
-use Rattle.sabr_model.specs.Route.{is_path, is_route, ends_at, until_of, entry_of}
+use Rattle.sabr_model.specs.Arrival.{RouteRequest}
+use Rattle.sabr_model.specs.Route.{is_path, is_route}
 use Rattle.sabr_model.specs.Record.{record_of}
 use Rattle.sabr_model.specs.declared.following.Reached.{Reached}
-use Rattle.sabr_model.specs.Fault.{fault_of, fault_or, first_fault}
-use Rattle.sabr_model.proofs.Faults.{path_is_good}
-use Rattle.sabr_search.proofs.FaultsOfPrefixes.{end_or_none}
+use Rattle.sabr_model.specs.declared.told.Told.{Told}
+use Rattle.sabr_model.specs.Fault.{first_fault}
+use Rattle.sabr_model.proofs.Faults.{fault_is_no_route, path_is_good}
+use Rattle.sabr_model.proofs.Follows.{ends_elsewhere, ends_there, some_behind}
 use Rattle.sabr_frontier.specs.declared.judge.Judged.{Judged}
+use Rattle.sabr_frontier.specs.declared.leading.Lead.{Lead}
+use Rattle.sabr_frontier.specs.Leading.{AreLeads, IsLead, prefix_owed}
 use Rattle.sabr_frontier.specs.Rising.{has}
 use Rattle.sabr_frontier.specs.State.{leaves_of}
 use Rattle.sabr_frontier.specs.Owing.{onward}
@@ -29,28 +31,34 @@ use Rattle.sabr_frontier.proofs.Division.{map-append}
 module _ (p : ContactPlan) (r : RouteRequest) where
   -- ---- one list of numbers
 
-  -- a route
-  pub record_is : (s : List ℕ) (d : ℕ) → arrival_after p r r.at s ≡ Some d → record { contacts = s; delivery = d; until = until_of p s; entry = entry_of p s } ≡ record_of p r s
-  record_is s d e = ap (λ n. record { contacts = s; delivery = n; until = until_of p s; entry = entry_of p s }) (sym (ap (λ o. unwrap_or o 0) e))
+  module _ (q : List ℕ) (n : ℕ) (lead : Lead) (is : IsLead p r (q ++ n ∷ []) lead) where
+    abbrev s : List ℕ
+    s = q ++ n ∷ []
 
-  pub route_alone : (s : List ℕ) → is_route p r s ≡ true → routes_of p r s ≡ s ∷ []
-  route_alone s h = ap (λ b. cond b (s ∷ []) []) h
+    -- a path to the destination
+    module _ (same : lead.here.node ≡ r.destination) where
+      route : is_route p r s ≡ true
+      route = ends_there p r s lead.here (some_behind q n) is.path is.reached same
 
-  pub route_not_onward : (s : List ℕ) → is_route p r s ≡ true → onward_of p r s ≡ []
-  route_not_onward s h = ap (λ b. cond (not b) (s ∷ []) []) h
+      pub leaf_there : map (record_of p r) (routes_of p r s) ≡ record { contacts = s; delivery = lead.here.at; until = lead.told.until; entry = lead.told.entry } ∷ []
+      leaf_there =
+          let until = ap (λ (t : Told). t.until) is.told in
+          let entry = ap (λ (t : Told). t.entry) is.told in
+          ap (λ b. map (record_of p r) (cond b (s ∷ []) [])) route ∙ (λ i. record { contacts = s; delivery = unwrap_or (is.reached.at i) 0; until = sym until i; entry = sym entry i } ∷ [])
 
-  -- a path that is no route
-  pub no_route_alone : (s : List ℕ) → is_route p r s ≡ false → routes_of p r s ≡ []
-  no_route_alone s h = ap (λ b. cond b (s ∷ []) []) h
+      pub none_onward : onward_of p r s ≡ []
+      none_onward = ap (λ b. cond (not b) (s ∷ []) []) route
 
-  pub onward_alone : (s : List ℕ) → is_route p r s ≡ false → onward_of p r s ≡ s ∷ []
-  onward_alone s h = ap (λ b. cond (not b) (s ∷ []) []) h
+    -- a path to another node
+    module _ (other : lead.here.node ≡ r.destination → ⊥) where
+      no_route : is_route p r s ≡ false
+      no_route = fault_is_no_route p r s WrongEnd (ends_elsewhere p r s lead.here (some_behind q n) is.path is.reached other)
 
-  -- a list with another fault is no path
-  pub fault_is_no_path : (s : List ℕ) (f : HopFault) → 0 < length s → fault_of p r s ≡ Some f → (f ≡ WrongEnd → ⊥) → is_path p r s ≡ false
-  fault_is_no_path [] f some h other = absurd (omega arith)
-  fault_is_no_path (n ∷ s) f some h other = false_from_ne_true (is_path p r (n ∷ s)) (λ is.
-      other (end_or_none (ends_at p r (n ∷ s)) f (ap (λ o. fault_or o (cond (ends_at p r (n ∷ s)) None (Some WrongEnd))) (sym (path_is_good p r [] (n ∷ s) is)) ∙ h)))
+      pub no_leaf : routes_of p r s ≡ []
+      no_leaf = ap (λ b. cond b (s ∷ []) []) no_route
+
+      pub onward_there : onward_of p r s ≡ s ∷ []
+      onward_there = ap (λ b. cond (not b) (s ∷ []) []) no_route
 
   -- a list that has a fault on the way is no path
   pub faulty_front : (o : Result Reached HopFault) (s : List ℕ) → IfErr o (λ f. first_fault p r [] s ≡ Some f) → ((here : Reached) → o ≡ Ok here → ⊥) → is_path p r s ≡ true → ⊥
@@ -72,10 +80,11 @@ module _ (p : ContactPlan) (r : RouteRequest) where
     onward_more : onward (is_route p r) (is_path p r) (q, take (i + 1) X) ≡ onward (is_route p r) (is_path p r) (q, take i X) ++ onward_of p r (q ++ x ∷ [])
     onward_more = ap (λ Y. onward (is_route p r) (is_path p r) (q, Y)) more ∙ ap (filter (λ q. not (is_route p r q))) (map-append (λ x. q ++ x ∷ []) (take i X) (x ∷ [])) ∙ filter-append (λ q. not (is_route p r q)) (map (λ x. q ++ x ∷ []) (take i X)) ((q ++ x ∷ []) ∷ [])
 
-    pub judged_more : {A : Type 0} (old new : Judged A) → IsJudged p r (q, take i X) old → new.leaves.items ≡ old.leaves.items ++ map (record_of p r) (routes_of p r (q ++ x ∷ [])) → new.onward.items ≡ old.onward.items ++ onward_of p r (q ++ x ∷ []) → IsJudged p r (q, take (i + 1) X) new
-    judged_more old new h a b = record {
+    pub judged_more : {A : Type 0} (old new : Judged A) → IsJudged p r (q, take i X) old → new.leaves.items ≡ old.leaves.items ++ map (record_of p r) (routes_of p r (q ++ x ∷ [])) → map prefix_owed new.onward.items ≡ map prefix_owed old.onward.items ++ onward_of p r (q ++ x ∷ []) → (AreLeads p r old.onward.items → AreLeads p r new.onward.items) → IsJudged p r (q, take (i + 1) X) new
+    judged_more old new h a b f = record {
       leaves_are = a ∙ ap (λ z. z ++ map (record_of p r) (routes_of p r (q ++ x ∷ []))) h.leaves_are ∙ sym (map-append (record_of p r) (leaves_of (is_route p r) (q, take i X)) (routes_of p r (q ++ x ∷ []))) ∙ ap (map (record_of p r)) (sym leaves_more);
       onward_are = b ∙ ap (λ z. z ++ onward_of p r (q ++ x ∷ [])) h.onward_are ∙ sym onward_more;
+      leads = f h.leads;
     }
 
     pub paths_more : AllGoOn p r (q, take i X) → is_path p r (q ++ x ∷ []) ≡ true → AllGoOn p r (q, take (i + 1) X)
@@ -106,10 +115,10 @@ empty_list (x ∷ q) h = absurd (true≢false (sym h ∙ more (length q)))
     more : (n : ℕ) → (suc n == 0) ≡ false
     more n = grind (arith, nat_tests)
 
-module _ {A : Type 0} (p : ContactPlan) (r : RouteRequest) (h : Holding A) (e : List ℕ × List ℕ) (sound : h.sound ≡ true) (due : is_due h e.0 ≡ true) (busy : (e.0 ≡ []) ⊎ ((x : ℕ) × (has nat_cmp x e.1 ≡ true))) where
+module _ {A : Type 0} (p : ContactPlan) (r : RouteRequest) (h : Holding A) (e : List ℕ × List ℕ) (due : is_due h e.0 ≡ true) (busy : (e.0 ≡ []) ⊎ ((x : ℕ) × (has nat_cmp x e.1 ≡ true))) where
   verdict_of : (o : Option (Judged A)) → IfSome o (λ j. AllGoOn p r e × IsJudged p r e j) → IfNone o (AllGoOn p r e → ⊥) → IsVerdict p r h e o
-  verdict_of None some none = λ _ _ good. none good.chains
-  verdict_of (Some j) some none = (sound, due, record { busy = busy; chains = some.0 }, some.1)
+  verdict_of None some none = λ _ good. none good.chains
+  verdict_of (Some j) some none = (due, record { busy = busy; chains = some.0 }, some.1)
 
   pub verdict_from : {E : Type 0} (res : Result (Option (Judged A)) E) → IfOk res (λ o. IfSome o (λ j. AllGoOn p r e × IsJudged p r e j)) → IfOk res (λ o. IfNone o (AllGoOn p r e → ⊥)) → IfOk res (IsVerdict p r h e)
   verdict_from (Ok o) some none = verdict_of o some none

@@ -1,15 +1,9 @@
 -- A list that goes on behind a prefix begins with it.
-use Rattle.std.proofs.Common.{◌≡◌, ℕ, ◌<◌, true, false, List, ◌∷◌, ◌++◌, length, take, refl, ap, subst, ◌∙◌, inl, inr, arith, length-append}
-use Rattle.std.specs.Prelude.{IsTrue}
+use Rattle.std.proofs.Common.{◌≡◌, ℕ, ◌<◌, true, List, ◌∷◌, ◌++◌, length, take, refl, ap, ◌∙◌, arith, length-append}
 use Rattle.std.proofs.lemmas.List.{take_at}
-use Rattle.sabr_model.specs.Plan.{ContactPlan}
-use Rattle.sabr_model.specs.Arrival.{RouteRequest}
-use Rattle.sabr_model.specs.Route.{is_path, is_route}
 use Rattle.sabr_model.specs.Parts.{goes_on}
-use Rattle.sabr_model.proofs.Paths.{beginning_is_path, route_is_path}
 use Rattle.sabr_frontier.proofs.Beginnings.{number_after-split}
 use Rattle.sabr_frontier.proofs.Listed.{goes_on_within}
-use Rattle.sabr_frontier.proofs.Rising.{true_or_false}
 
 module _ (q X s : List ℕ) (goes : goes_on q X s ≡ true) where
   split : (x : ℕ) × (rest : List ℕ) × (s ≡ q ++ x ∷ rest)
@@ -22,10 +16,3 @@ module _ (q X s : List ℕ) (goes : goes_on q X s ≡ true) where
 
   pub front_of_going : take (length q) s ≡ q
   front_of_going = ap (take (length q)) split.2 ∙ take_at q (split.0 ∷ split.1) (length q) refl
-
-  -- it is no route where the prefix is no path
-  pub no_route_behind : (p : ContactPlan) (r : RouteRequest) → (IsTrue (is_path p r q) → ⊥) → is_route p r s ≡ false
-  no_route_behind p r none = elim (true_or_false (is_route p r s)) [
-    | inl route ↦ absurd (none (beginning_is_path p r q (split.0 ∷ split.1) (subst (λ t. IsTrue (is_path p r t)) split.2 (route_is_path p r s route))))
-    | inr other ↦ other
-  ]

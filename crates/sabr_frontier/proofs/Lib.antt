@@ -14,7 +14,6 @@ pub mod GoesOn
 pub mod Leads
 pub mod Answering
 pub mod Judges
-pub mod Tellings
 pub mod PartRefusals
 pub mod Loads
 pub mod Forget
@@ -39,6 +38,7 @@ pub mod Divided
 pub mod Sounds
 pub mod Merged
 pub mod Merging
+mod Turns
 pub mod Filled
 pub mod Ranked
 pub mod Giving

@@ -12,12 +12,14 @@ use Rattle.sabr_model.specs.Record.{RouteRecord, record_of}
 use Rattle.sabr_frontier.specs.declared.tree.Node.{Node}
 use Rattle.sabr_frontier.specs.declared.held.Held.{Held}
 use Rattle.sabr_frontier.specs.declared.judge.Judged.{Judged}
+use Rattle.sabr_frontier.specs.declared.leading.Owed.{Owed}
 use Rattle.sabr_frontier.specs.State.{PartState, pair_of, Member, leaves_of}
 use Rattle.sabr_frontier.specs.Formed.{InOrder, Within}
 use Rattle.sabr_frontier.specs.Owing.{Owing, onward, IsGood, Owes}
 use Rattle.sabr_frontier.specs.Shape.{Shape, given_at, numbers_of}
 use Rattle.sabr_frontier.specs.Undo.{last_item, front}
 use Rattle.sabr_frontier.specs.Taking.{enqueued_all, ids_from}
+use Rattle.sabr_frontier.specs.Leading.{AreLeads, prefix_owed}
 use Rattle.sabr_frontier.specs.Loading.{Loaded}
 
 -- what is held, without its capacities; the least owed prefix is the last
@@ -25,7 +27,7 @@ pub record Holding (A : Type 0) : Type 0 where
   pub prefixes : List (List ℕ)
   pub nodes : List (Node A)
   pub leaves : List RouteRecord
-  pub owed : List (List ℕ)
+  pub owed : List (Owed A)
   pub sound : Bool
 
 abbrev pub holding_of : {A : Type 0} → Held A → Holding A
@@ -51,14 +53,22 @@ parts_in h = parts_of h.prefixes h.nodes
 abbrev pub pairs_in : {A : Type 0} → Holding A → List (List ℕ × List ℕ)
 pairs_in h = map pair_of (parts_in h)
 
+-- the prefixes that are kept, the least last
+abbrev pub owed_in : {A : Type 0} → Holding A → List (List ℕ)
+owed_in h = map prefix_owed h.owed
+
 -- what is owed behind so many parts, the least first: the empty prefix before any
 abbrev pub owing : List PartState → List (List ℕ) → Owing
 owing [] owed = [] ∷ []
 owing (t ∷ ts) owed = reverse owed
 
 -- whether the prefix is the least that is owed: the empty one before any part
+abbrev pub is_least : {A : Type 0} → Holding A → List ℕ → Bool
+is_least h q = option_map_or (same_numbers q) (last_item (owed_in h)) (length h.nodes == 0 && length q == 0)
+
+-- whether it is, behind parts that all were
 abbrev pub is_due : {A : Type 0} → Holding A → List ℕ → Bool
-is_due h q = option_map_or (same_numbers q) (last_item h.owed) (length h.nodes == 0 && length q == 0)
+is_due h q = h.sound && is_least h q
 
 -- whether nothing is owed
 abbrev pub is_paid : {A : Type 0} → Holding A → Bool
@@ -80,12 +90,13 @@ onward_of p r s = filter (λ q. not (is_route p r q)) (s ∷ [])
 -- what a pair's excluded numbers lead to: the leaves and the prefixes that go on
 pub record IsJudged {A : Type 0} (p : ContactPlan) (r : RouteRequest) (e : List ℕ × List ℕ) (j : Judged A) : Type 0 where
   pub leaves_are : j.leaves.items ≡ map (record_of p r) (leaves_of (is_route p r) e)
-  pub onward_are : j.onward.items ≡ onward (is_route p r) (is_path p r) e
+  pub onward_are : map prefix_owed j.onward.items ≡ onward (is_route p r) (is_path p r) e
+  pub leads : AreLeads p r j.onward.items
 
 -- the pair answers what is owed and is good, and this is what it leads to; or it doesn't or isn't
 abbrev pub IsVerdict : {A : Type 0} → ContactPlan → RouteRequest → Holding A → List ℕ × List ℕ → Option (Judged A) → Type 0
-IsVerdict p r h e (Some j) = (h.sound ≡ true) × (is_due h e.0 ≡ true) × IsGood (is_route p r) (is_path p r) e × IsJudged p r e j
-IsVerdict p r h e None = h.sound ≡ true → is_due h e.0 ≡ true → IsGood (is_route p r) (is_path p r) e → ⊥
+IsVerdict p r h e (Some j) = (is_due h e.0 ≡ true) × IsGood (is_route p r) (is_path p r) e × IsJudged p r e j
+IsVerdict p r h e None = is_due h e.0 ≡ true → IsGood (is_route p r) (is_path p r) e → ⊥
 
 -- the node of a part: its leaf is the next that comes
 abbrev pub node_for : {A : Type 0} → Holding A → List ℕ → List ℕ → Option RouteRecord → Node A
@@ -127,16 +138,17 @@ AreLent route c (q ∷ qs) (n ∷ ns) = (n.leaf ≡ c) × (n.length ≡ length q
 
 -- the parts answered what was owed: this is owed now, and these are the leaves
 pub record IsAnswered {A : Type 0} (p : ContactPlan) (r : RouteRequest) (h : Holding A) : Type 0 where
-  pub owes : Owes (is_route p r) (is_path p r) ([] ∷ []) (pairs_in h) (owing (parts_in h) h.owed)
+  pub owes : Owes (is_route p r) (is_path p r) ([] ∷ []) (pairs_in h) (owing (parts_in h) (owed_in h))
   pub leaves : h.leaves ≡ map (record_of p r) (flat_map (leaves_of (is_route p r)) (pairs_in h))
   pub lent : AreLent (is_route p r) 0 h.prefixes h.nodes
-  pub first : parts_in h ≡ [] → h.owed ≡ []
+  pub first : parts_in h ≡ [] → owed_in h ≡ []
 
 pub record IsHeld {A : Type 0} (p : ContactPlan) (r : RouteRequest) (h : Holding A) : Type 0 where
   pub paired : length h.prefixes ≡ length h.nodes
   pub order : InOrder (pairs_in h)
   pub carried : (t : PartState) (s : List ℕ) → Member t (parts_in h) → t.carried ≡ Some s → (is_route p r s ≡ true) × Within t.prefix t.excluded s
   pub records : (n : Node A) (x : RouteRecord) → Member n h.nodes → n.route ≡ Some x → x ≡ record_of p r x.contacts
+  pub leads : AreLeads p r h.owed
   pub answered : h.sound ≡ true → IsAnswered p r h
   pub broken : h.sound ≡ false → (os : Owing) → Owes (is_route p r) (is_path p r) ([] ∷ []) (pairs_in h) os → ⊥
 

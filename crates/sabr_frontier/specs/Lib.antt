@@ -3,7 +3,6 @@ pub mod Tree
 pub mod State
 pub mod Formed
 pub mod Owing
-pub mod Telling
 pub mod Leading
 pub mod Step
 pub mod Listing

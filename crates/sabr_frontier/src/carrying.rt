@@ -1,16 +1,19 @@
 //! The route that a part is to carry.
 
-ghost use Rattle.std.specs.Prelude.{◌≡◌, true, false, Some, IfOk, IfErr, OnOk};
+ghost use Rattle.std.specs.Prelude.{◌≡◌, ◌<◌, true, Some, IfOk, IfErr, IfSome, IsTrue, OnOk, length, take};
 ghost use Rattle.std.specs.Option.{option_copied, option_map};
 ghost use Rattle.sabr_model.specs.Plan.{has};
+ghost use Rattle.sabr_model.specs.Arrival.{arrival_after};
+ghost use Rattle.sabr_model.specs.Fault.{fault_of};
 ghost use Rattle.sabr_model.specs.Parts.{goes_on};
 ghost use Rattle.sabr_model.specs.Record.{record_of};
+ghost use Rattle.sabr_model.specs.Route.{is_route};
 ghost use Rattle.sabr_frontier.specs.Leading.{IsLead};
 ghost use Rattle.sabr_frontier.specs.Loading.{IsCarryFault, may_carry};
 
+use crate::leading::Lead;
 use crate::load_fault::LoadFault;
-use crate::record::Told;
-use sabr_model::{Plan, Reached, Request, Route, follow_behind};
+use sabr_model::{HopFault, Plan, Request, Route, Told, follow, follow_behind};
 use std::alloc::Allocator;
 
 /// Tells whether the number is one of these.
@@ -33,7 +36,29 @@ fn goes_on(prefix: &[u32], excluded: &[u32], numbers: &[u32]) -> bool
     !holds(excluded, *next)
 }
 
-/// Gives the record of what a part is to carry, where its prefix leads to `lead`. The route is followed from there on.
+/// Tells when a route delivers, followed from where its first numbers lead, or from the source where that isn't known.
+fn delivery<A: Allocator + Copy>(
+    plan: &Plan<A>,
+    request: &Request,
+    prefix: &[u32],
+    lead: Option<Lead>,
+    route: &[u32],
+) -> Result<u64, HopFault>
+    requires longer { length prefix.now < length route.now }
+    requires front { take (length prefix.now) route.now ≡ prefix.now }
+    requires lead { IfSome lead (IsLead plan.now.plan request.now prefix.now) }
+    ensures route { IfOk result (λ _. IsTrue (is_route plan.now.plan request.now route.now)) }
+    ensures delivery { IfOk result (λ d. arrival_after plan.now.plan request.now request.now.at route.now ≡ Some d) }
+    ensures fault { IfErr result (λ f. fault_of plan.now.plan request.now route.now ≡ Some f) }
+{
+    match lead {
+        Some(lead) => follow_behind(plan, request, route, prefix.len(), lead.here),
+        None => follow(plan, request, route),
+    }
+}
+
+/// Gives the record of what a part is to carry. Where its prefix is known to lead to `lead`, the route is followed from
+/// there on.
 ///
 /// # Errors
 ///
@@ -44,10 +69,10 @@ pub fn carried<A: Allocator + Copy>(
     request: &Request,
     prefix: &[u32],
     excluded: &[u32],
-    lead: Option<Reached>,
+    lead: Option<Lead>,
     route: Option<&[u32]>,
 ) -> Result<Option<Route<A>>, LoadFault>
-    requires { IsLead plan.now.plan request.now prefix.now lead }
+    requires { IfSome lead (IsLead plan.now.plan request.now prefix.now) }
     ensures ok { IfOk result (λ o. o ≡ option_map (record_of plan.now.plan request.now) (option_copied route.entry)) }
     ensures may { OnOk result (may_carry plan.now.plan request.now (record { prefix = prefix.now; excluded = excluded.now; carried = option_copied route.entry }) ≡ true) }
     ensures err { IfErr result (IsCarryFault (may_carry plan.now.plan request.now (record { prefix = prefix.now; excluded = excluded.now; carried = option_copied route.entry }))) }
@@ -58,10 +83,7 @@ pub fn carried<A: Allocator + Copy>(
     if !goes_on(prefix, excluded, route) {
         return Err(LoadFault::BadRoute);
     }
-    let Some(here) = lead else {
-        return Err(LoadFault::BadRoute);
-    };
-    let Ok(delivery) = follow_behind(plan, request, route, prefix.len(), here) else {
+    let Ok(delivery) = delivery(plan, request, prefix, lead, route) else {
         return Err(LoadFault::BadRoute);
     };
     let Ok(numbers) = Vec::from_slice(alloc, route) else {

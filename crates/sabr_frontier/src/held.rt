@@ -1,27 +1,29 @@
 //! What a loader has gathered, and the tree that comes of it.
 
-ghost use Rattle.std.specs.Prelude.{◌≡◌, [], true, Some, None, IfOk, IfSome, IfNone, OnOk, OnErr};
+ghost use Rattle.std.specs.Prelude.{◌≡◌, [], true, ◌&&◌, is_some, unwrap_or, map, length, Some, None, IfOk, IfSome, IfNone, OnOk, OnErr, vec_capacity};
 ghost use Rattle.std.specs.Option.{option_map_or};
 ghost use Rattle.sabr_model.specs.Order.{numbers_before};
 ghost use Rattle.sabr_frontier.specs.Shape.{shape_of};
-ghost use Rattle.sabr_frontier.specs.Undo.{IsRoomy, last_item};
-ghost use Rattle.sabr_frontier.specs.Leading.{IsLead};
-ghost use Rattle.sabr_frontier.specs.Holding.{HasPlaces, IsLastPlace, IsTakenIn, IsVerdict, IsWrongLast, held_then, holding_of, is_due, is_paid, loaded_tree, nothing_held};
+ghost use Rattle.sabr_frontier.specs.Undo.{IsRoomy, front, last_item};
+ghost use Rattle.sabr_frontier.specs.Loading.{comes_behind, rise_strictly};
+ghost use Rattle.sabr_frontier.specs.Leading.{AreLeads, IsLead, prefix_owed};
+ghost use Rattle.sabr_frontier.specs.Holding.{HasPlaces, IsLastPlace, IsTakenIn, IsVerdict, IsWrongLast, held_then, holding_of, is_due, is_paid, loaded_tree, nothing_held, parts_in};
 
-use crate::excluded::Excluded;
+use crate::excluded::{Excluded, rise};
 use crate::judge::{Judged, judge};
+use crate::leading::{Lead, Owed};
 use crate::places::insert_block;
 use crate::queue::Queue;
 use crate::ranking::enqueue_each;
 use crate::tree::{Node, Tree};
-use sabr_model::{NoMemory, Numbers, Plan, Reached, Request, Route};
+use sabr_model::{NoMemory, Numbers, Plan, Request, Route};
 use std::alloc::{Allocator, Global};
 use std::cmp::Ordering;
 use std::mem::replace;
 
 /// The prefixes of the parts, and their nodes; the leaves that the parts made; the prefixes that are to be parts, the
-/// least last; and whether each part so far was the least that was to come. Where one wasn't, the parts alone are kept.
-/// In `room` the next part is judged.
+/// least last, each with where it leads; and whether each part so far was the least that was to come. Where one wasn't,
+/// the parts alone are kept. In `room` the next part is judged.
 #[derive(Debug, Drop)]
 pub struct Held<A: Allocator + Copy = Global> {
     /// The prefixes of the parts, rising.
@@ -30,8 +32,8 @@ pub struct Held<A: Allocator + Copy = Global> {
     pub nodes: Vec<Node<A>, A>,
     /// The leaves that the parts made.
     pub leaves: Vec<Route<A>, A>,
-    /// The prefixes that are to be parts, the least last.
-    pub owed: Vec<Numbers<A>, A>,
+    /// The prefixes that are to be parts, the least last, each with where it leads.
+    pub owed: Vec<Owed<A>, A>,
     /// Whether each part so far was the least that was to come.
     pub sound: bool,
     /// Room in which the next part is judged.
@@ -62,6 +64,18 @@ pub fn last_place<A: Allocator + Copy>(
     None
 }
 
+/// Takes the least prefix that is to come: the empty one where none is kept.
+fn take_due<A: Allocator + Copy>(alloc: A, owed: &mut Vec<Owed<A>, A>) -> Numbers<A>
+    ensures prefix { result ≡ unwrap_or (last_item (map prefix_owed owed.old.items)) [] }
+    ensures rest { owed.new.items ≡ front owed.old.items }
+    ensures capacity { vec_capacity owed.new ≡ vec_capacity owed.old }
+{
+    match owed.pop() {
+        Some(due) => due.prefix,
+        None => Numbers::new(Vec::new(alloc)),
+    }
+}
+
 impl<A: Allocator + Copy> Held<A> {
     /// Begins with nothing. It takes no memory.
     pub fn new(alloc: A) -> Held<A>
@@ -78,7 +92,7 @@ impl<A: Allocator + Copy> Held<A> {
     }
 
     /// Tells whether a prefix comes behind the last.
-    pub fn comes_behind(&self, prefix: &[u32]) -> bool
+    fn comes_behind(&self, prefix: &[u32]) -> bool
         ensures { result ≡ option_map_or (λ q. numbers_before q prefix.now) (last_item self.now.prefixes.items) true }
     {
         match self.prefixes.last() {
@@ -87,14 +101,36 @@ impl<A: Allocator + Copy> Held<A> {
         }
     }
 
-    /// Tells whether a prefix is the least that is to come: the first is empty.
-    fn is_due(&self, prefix: &[u32]) -> bool
-        ensures { result ≡ is_due (holding_of self.now) prefix.now }
+    /// Tells whether a part comes behind the others: its excluded numbers rise, and its prefix is above the last.
+    pub fn is_next(&self, prefix: &[u32], excluded: &[u32]) -> bool
+        requires { length self.now.prefixes.items ≡ length self.now.nodes.items }
+        ensures { result ≡ (rise_strictly excluded.now && comes_behind (parts_in (holding_of self.now)) prefix.now) }
     {
-        match self.owed.last() {
-            Some(owed) => prefix.cmp(owed.as_slice()) == Ordering::Equal,
-            None => self.nodes.is_empty() && prefix.is_empty(),
+        if !rise(excluded) {
+            return false;
         }
+        self.comes_behind(prefix)
+    }
+
+    /// Tells where a prefix leads that is the least to come, of which the first is empty; none for any other.
+    pub fn due(&self, plan: &Plan<A>, request: &Request, prefix: &[u32]) -> Option<Lead>
+        requires { AreLeads plan.now.plan request.now self.now.owed.items }
+        ensures due { is_some result ≡ is_due (holding_of self.now) prefix.now }
+        ensures lead { IfSome result (IsLead plan.now.plan request.now prefix.now) }
+    {
+        if !self.sound {
+            return None;
+        }
+        let Some(owed) = self.owed.last() else {
+            if self.nodes.is_empty() && prefix.is_empty() {
+                return Some(Lead::start(plan, request));
+            }
+            return None;
+        };
+        if prefix == owed.prefix.as_slice() {
+            return Some(owed.lead);
+        }
+        None
     }
 
     /// Tells what a part leads to, or none where it isn't the least that is to come, or one of its excluded numbers
@@ -106,15 +142,16 @@ impl<A: Allocator + Copy> Held<A> {
         request: &Request,
         prefix: &[u32],
         excluded: &[u32],
-        lead: Option<Reached>,
+        due: Option<Lead>,
     ) -> Result<Option<Judged<A>>, NoMemory>
-        requires { IsLead plan.now.plan request.now prefix.now lead }
+        requires due { is_some due ≡ is_due (holding_of self.old) prefix.now }
+        requires lead { IfSome due (IsLead plan.now.plan request.now prefix.now) }
         ensures verdict { IfOk result (IsVerdict plan.now.plan request.now (holding_of self.old) (prefix.now, excluded.now)) }
         ensures same { holding_of self.new ≡ holding_of self.old }
     {
-        if !self.sound || !self.is_due(prefix) {
+        let Some(lead) = due else {
             return Ok(None);
-        }
+        };
         if !prefix.is_empty() && excluded.is_empty() {
             return Ok(None);
         }
@@ -162,8 +199,7 @@ impl<A: Allocator + Copy> Held<A> {
             excluded,
             route,
         });
-        let due = self.owed.pop().unwrap_or(Numbers::new(Vec::new(alloc)));
-        self.prefixes.push_reserved(due);
+        self.prefixes.push_reserved(take_due(alloc, &mut self.owed));
         judged.onward.reverse();
         let appended = self.owed.append(&mut judged.onward);
         let Ok(()) = appended else { unreachable!() };
@@ -199,8 +235,8 @@ impl<A: Allocator + Copy> Held<A> {
         Ok(())
     }
 
-    /// Takes in a part that comes behind the others and whose prefix leads to `lead`, with the record of the route that
-    /// it carries.
+    /// Takes in a part that comes behind the others, with the record of the route that it carries. Its prefix is the
+    /// least that is to come, and leads to `due`, or it is another.
     pub fn take_in(
         &mut self,
         alloc: A,
@@ -208,14 +244,15 @@ impl<A: Allocator + Copy> Held<A> {
         request: &Request,
         prefix: &[u32],
         excluded: &[u32],
-        lead: Option<Reached>,
+        due: Option<Lead>,
         route: Option<Route<A>>,
     ) -> Result<(), NoMemory>
-        requires { IsLead plan.now.plan request.now prefix.now lead }
+        requires due { is_some due ≡ is_due (holding_of self.old) prefix.now }
+        requires lead { IfSome due (IsLead plan.now.plan request.now prefix.now) }
         ensures ok { OnOk result (IsTakenIn plan.now.plan request.now (holding_of self.old) prefix.now excluded.now route (holding_of self.new)) }
         ensures err { OnErr result (holding_of self.new ≡ holding_of self.old) }
     {
-        let judged = self.judge(alloc, plan, request, prefix, excluded, lead)?;
+        let judged = self.judge(alloc, plan, request, prefix, excluded, due)?;
         let excluded = Excluded::of(alloc, excluded)?;
         match judged {
             Some(judged) => self.answer(alloc, prefix, excluded, route, judged),

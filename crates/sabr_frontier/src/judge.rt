@@ -1,22 +1,20 @@
 //! What the numbers that a part excludes lead to: leaves, and prefixes that go on.
 
-ghost use Rattle.std.specs.Prelude.{◌≡◌, true, ◌∷◌, ◌++◌, [], map, IfOk, IfSome, IfNone, IsTrue};
+ghost use Rattle.std.specs.Prelude.{◌≡◌, true, ◌∷◌, ◌++◌, [], map, IfOk, IfSome, IfNone};
 ghost use Rattle.sabr_model.specs.Route.{is_path};
 ghost use Rattle.sabr_model.specs.Record.{record_of};
-ghost use Rattle.sabr_model.specs.Following.{IsReachedBy};
-ghost use Rattle.sabr_frontier.specs.Leading.{IsLead};
-ghost use Rattle.sabr_frontier.specs.Telling.{told_of};
+ghost use Rattle.sabr_frontier.specs.Leading.{AreLeads, IsLead, prefix_owed};
 ghost use Rattle.sabr_frontier.specs.Holding.{AllGoOn, IsJudged, onward_of, routes_of};
 
-use crate::record::Told;
-use sabr_model::{HopFault, NoMemory, Numbers, Plan, Reached, Request, Route, follow_on};
+use crate::leading::{Lead, Owed};
+use sabr_model::{NoMemory, Numbers, Plan, Request, Route};
 use std::alloc::{Allocator, Global};
 
 /// The routes that a prefix makes with its excluded numbers, and those with a number that make no route and go on.
 #[derive(Debug, Drop)]
 pub struct Judged<A: Allocator + Copy = Global> {
     pub leaves: Vec<Route<A>, A>,
-    pub onward: Vec<Numbers<A>, A>,
+    pub onward: Vec<Owed<A>, A>,
 }
 
 /// Gives a prefix with one number more.
@@ -55,37 +53,34 @@ impl<A: Allocator + Copy> Judged<A> {
         plan: &Plan<A>,
         request: &Request,
         prefix: &[u32],
-        here: Reached,
-        told: Told,
+        lead: Lead,
         number: u32,
     ) -> Result<bool, NoMemory>
-        requires path { IsTrue (is_path plan.now.plan request.now prefix.now) }
-        requires reached { IsReachedBy plan.now.plan request.now prefix.now here }
-        requires told { told ≡ told_of plan.now.plan prefix.now }
+        requires { IsLead plan.now.plan request.now prefix.now lead }
         ensures path { IfOk result (λ is. is ≡ is_path plan.now.plan request.now (prefix.now ++ number ∷ [])) }
         ensures leaves { IfOk result (λ is. is ≡ true → self.new.leaves.items ≡ self.old.leaves.items ++ map (record_of plan.now.plan request.now) (routes_of plan.now.plan request.now (prefix.now ++ number ∷ []))) }
-        ensures onward { IfOk result (λ is. is ≡ true → self.new.onward.items ≡ self.old.onward.items ++ onward_of plan.now.plan request.now (prefix.now ++ number ∷ [])) }
+        ensures onward { IfOk result (λ is. is ≡ true → map prefix_owed self.new.onward.items ≡ map prefix_owed self.old.onward.items ++ onward_of plan.now.plan request.now (prefix.now ++ number ∷ [])) }
+        ensures leads { IfOk result (λ _. AreLeads plan.now.plan request.now self.old.onward.items → AreLeads plan.now.plan request.now self.new.onward.items) }
     {
-        match follow_on(plan, request, prefix, here, number) {
-            Ok(delivery) => {
-                let numbers = longer(alloc, prefix, number)?;
-                let route = told.extended(plan, prefix, number).route(numbers, delivery);
-                let Ok(()) = self.leaves.push(route) else {
-                    return Err(NoMemory);
-                };
-                Ok(true)
-            }
-            Err(fault) => match fault {
-                HopFault::WrongEnd => {
-                    let numbers = longer(alloc, prefix, number)?;
-                    let Ok(()) = self.onward.push(Numbers::new(numbers)) else {
-                        return Err(NoMemory);
-                    };
-                    Ok(true)
-                }
-                _ => Ok(false),
-            },
+        let Some(lead) = lead.extended(plan, request, prefix, number) else {
+            return Ok(false);
+        };
+        let numbers = longer(alloc, prefix, number)?;
+        if lead.here.node == request.to() {
+            let route = lead.told.route(numbers, lead.here.at);
+            let Ok(()) = self.leaves.push(route) else {
+                return Err(NoMemory);
+            };
+            return Ok(true);
         }
+        let owed = Owed {
+            prefix: Numbers::new(numbers),
+            lead,
+        };
+        let Ok(()) = self.onward.push(owed) else {
+            return Err(NoMemory);
+        };
+        Ok(true)
     }
 }
 
@@ -97,7 +92,7 @@ pub fn judge<A: Allocator + Copy>(
     request: &Request,
     prefix: &[u32],
     excluded: &[u32],
-    lead: Option<Reached>,
+    lead: Lead,
     mut judged: Judged<A>,
 ) -> Result<Option<Judged<A>>, NoMemory>
     requires { IsLead plan.now.plan request.now prefix.now lead }
@@ -106,15 +101,8 @@ pub fn judge<A: Allocator + Copy>(
 {
     judged.leaves.clear();
     judged.onward.clear();
-    if excluded.is_empty() {
-        return Ok(Some(judged));
-    }
-    let Some(here) = lead else {
-        return Ok(None);
-    };
-    let told = Told::of(plan, prefix);
     for number in excluded {
-        if !judged.put(alloc, plan, request, prefix, here, told, *number)? {
+        if !judged.put(alloc, plan, request, prefix, lead, *number)? {
             return Ok(None);
         }
     }

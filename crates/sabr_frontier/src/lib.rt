@@ -17,13 +17,12 @@ mod loader;
 mod places;
 mod queue;
 mod ranking;
-mod record;
 mod root;
 mod rows;
-mod rules;
 mod session;
 mod take;
 mod tree;
+mod turning;
 mod undo;
 mod views;
 

@@ -8,11 +8,8 @@ ghost use Rattle.sabr_frontier.specs.Listing.{IsState};
 ghost use Rattle.sabr_frontier.specs.Loading.{IsRefusedBy, part_refusal, state_with, with_part};
 
 use crate::carrying::carried;
-use crate::excluded::rise;
 use crate::held::{Held, last_place};
-use crate::leading::lead;
 use crate::load_fault::LoadFault;
-use crate::rules::tell_rules;
 use crate::session::Session;
 use sabr_model::{Plan, Request};
 use sabr_search::BestOf;
@@ -52,7 +49,8 @@ impl<'p, B: BestOf<A>, A: Allocator + Copy> Loader<'p, B, A> {
     pub fn new(alloc: A, plan: &'p Plan<A>, request: Request, finder: B) -> Loader<'p, B, A>
         ensures { result ≡ record { plan = plan.now; request = request; parts = []; calls = B.calls_of finder } }
     {
-        tell_rules(plan, &request);
+        plan.tell_rules();
+        request.tell_limits();
         Loader {
             alloc,
             plan,
@@ -64,8 +62,8 @@ impl<'p, B: BestOf<A>, A: Allocator + Copy> Loader<'p, B, A> {
 
     /// Adds a part behind the others: its prefix, the numbers that it excludes, and the route that it carries, if any.
     ///
-    /// The prefix is followed once, and from where it leads each excluded number and the carried route: the time grows
-    /// with the square of their hops.
+    /// Where the prefix leads is known from the part that made it, and from there each excluded number is followed and
+    /// the carried route: the time grows with the square of their hops.
     ///
     /// # Errors
     ///
@@ -84,20 +82,17 @@ impl<'p, B: BestOf<A>, A: Allocator + Copy> Loader<'p, B, A> {
         ensures ok { OnOk result (self.new ≡ with_part self.old (record { prefix = prefix.now; excluded = excluded.now; carried = option_copied route.entry })) }
         ensures err { OnErr result (self.new ≡ self.old) }
     {
-        if !rise(excluded) {
+        if !self.held.is_next(prefix, excluded) {
             return Err(LoadFault::BadOrder);
         }
-        if !self.held.comes_behind(prefix) {
-            return Err(LoadFault::BadOrder);
-        }
-        let here = lead(self.plan, &self.request, prefix);
+        let due = self.held.due(self.plan, &self.request, prefix);
         let route = match carried(
             self.alloc,
             self.plan,
             &self.request,
             prefix,
             excluded,
-            here,
+            due,
             route,
         ) {
             Ok(route) => route,
@@ -109,7 +104,7 @@ impl<'p, B: BestOf<A>, A: Allocator + Copy> Loader<'p, B, A> {
             &self.request,
             prefix,
             excluded,
-            here,
+            due,
             route,
         )
         else {

@@ -13,7 +13,6 @@ ghost use Rattle.sabr_frontier.specs.Undo.{IsRoomy};
 ghost use Rattle.sabr_frontier.specs.Views.{told_left};
 
 use crate::finder::ask;
-use crate::rules::tell_rules;
 use crate::tree::Tree;
 use crate::views::Parts;
 use sabr_model::{NoMemory, Plan, Request, Route};
@@ -68,7 +67,8 @@ impl<'p, B: BestOf<A>, A: Allocator + Copy> Session<'p, B, A> {
     ) -> Result<Session<'p, B, A>, NoMemory>
         ensures { IfOk result (λ s. s ≡ record { plan = plan.now; request = request; state = state_at plan.now.plan request 0; former = []; searches = 1; calls = B.calls_of finder + 1 }) }
     {
-        tell_rules(plan, &request);
+        plan.tell_rules();
+        request.tell_limits();
         let mut kept = Kept::new(alloc);
         let found = ask(&mut finder, &mut kept, plan, &request, &[], &[])?;
         let tree = Tree::root(alloc, found)?;

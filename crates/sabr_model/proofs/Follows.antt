@@ -99,11 +99,13 @@ ends_elsewhere p r s here some path reached other =
 pub ends_there : (p : ContactPlan) (r : RouteRequest) (s : List ℕ) (here : Reached) → 0 < length s → IsTrue (is_path p r s) → IsReachedBy p r s here → here.node ≡ r.destination → IsTrue (is_route p r s)
 ends_there p r s here some path reached same = route_from_path p r s path some (reached.node ∙ ap Some same)
 
--- its fault is that of the number
+-- the fault behind a path is that of the number
+pub first_fault_behind : (p : ContactPlan) (r : RouteRequest) (s : List ℕ) (n : ℕ) (f : HopFault) → IsTrue (is_path p r s) → fault_at p r s n ≡ Some f → first_fault p r [] (s ++ n ∷ []) ≡ Some f
+first_fault_behind p r s n f path fault =
+    first_fault-append p r [] s (n ∷ []) ∙ ap (λ o. fault_or o (first_fault p r s (n ∷ []))) (path_is_good p r [] s path) ∙ ap (λ o. fault_or o None) fault
+
 pub fault_behind : (p : ContactPlan) (r : RouteRequest) (s : List ℕ) (n : ℕ) (f : HopFault) → IsTrue (is_path p r s) → fault_at p r s n ≡ Some f → fault_of p r (s ++ n ∷ []) ≡ Some f
-fault_behind p r s n f path fault =
-    fault_on_the_way p r (s ++ n ∷ []) f (some_behind s n)
-    (first_fault-append p r [] s (n ∷ []) ∙ ap (λ o. fault_or o (first_fault p r s (n ∷ []))) (path_is_good p r [] s path) ∙ ap (λ o. fault_or o None) fault)
+fault_behind p r s n f path fault = fault_on_the_way p r (s ++ n ∷ []) f (some_behind s n) (first_fault_behind p r s n f path fault)
 
 pub path_behind : (p : ContactPlan) (r : RouteRequest) (s : List ℕ) (n : ℕ) → IsTrue (is_path p r s) → fault_at p r s n ≡ None → IsTrue (is_path p r (s ++ n ∷ []))
 path_behind p r s n path good = path_push p r s n path (good_is_hop p r s n path good)

@@ -37,5 +37,6 @@ pub mod Least
 pub mod Faults
 pub mod Follows
 pub mod Marks
+mod Tellings
 pub mod RowPlans
 pub mod InRows

@@ -14,6 +14,7 @@ pub mod RangeChains
 pub mod Light
 pub mod RangeOrder
 pub mod Arrival
+pub mod Hops
 pub mod Asking
 pub mod Route
 pub mod Fault
@@ -23,4 +24,5 @@ pub mod Parts
 pub mod Rows
 pub mod Laws
 pub mod Record
+pub mod Telling
 pub mod Devices

@@ -23,6 +23,14 @@ pub record TabledPlan : Type 0 where
 abbrev pub last_time : ℕ
 last_time = 253370764799
 
+-- the most contact numbers, and the most ranges
+abbrev pub most_records : ℕ
+most_records = 20000
+
+-- the greatest light time, in seconds
+abbrev pub most_light : ℕ
+most_light = 1000000
+
 -- the standing contact of a number
 abbrev pub contact_named : ContactPlan → ℕ → Option Contact
 contact_named p n = find (λ c. c.number == n) p.contacts
@@ -86,7 +94,7 @@ pub record IsPlan (p : ContactPlan) : Type 0 where
   pub range_nodes : AllByRecursion (λ r. IsPair r.one r.other) p.ranges
   pub rates : AllByRecursion (λ c. c.rate < 2 ^ 64) p.contacts
   pub ranges_rise : IsStrictlySortedBy by_numbers (map range_key p.ranges)
-  pub lights : AllByRecursion (λ r. r.light ≤ 1000000) p.ranges
+  pub lights : AllByRecursion (λ r. r.light ≤ most_light) p.ranges
   pub ranges_apart : IsTrue (none_twice overlap p.ranges)
-  pub count : p.greatest ≤ 20000
-  pub range_count : length p.ranges ≤ 20000
+  pub count : p.greatest ≤ most_records
+  pub range_count : length p.ranges ≤ most_records

@@ -8,7 +8,7 @@ ghost use Rattle.sabr_model.specs.Fault.{fault_at, first_fault, fault_of};
 ghost use Rattle.sabr_model.specs.Following.{AreMarked, IsReachedBy, receives};
 
 use crate::fault::HopFault;
-use crate::plan::{Plan, arrive_by_light};
+use crate::plan::Plan;
 use crate::request::Request;
 use std::alloc::Allocator;
 
@@ -85,7 +85,7 @@ fn take_hop<A: Allocator + Copy>(
     let Some(light) = light else {
         return Err(HopFault::NoLight(place));
     };
-    let Some(at) = arrive_by_light(request, here.at, contact, light) else {
+    let Some(at) = request.arrive_over(here.at, contact.start, contact.end, light) else {
         return Err(HopFault::TooLate(place));
     };
     if request.avoids(contact.to) {
@@ -126,28 +126,12 @@ pub fn follow<A: Allocator + Copy>(
         return Err(HopFault::Empty);
     };
     let mut marks = [false; 64];
-    let here = follow_marking(plan, request, &mut marks, prefix)?;
-    end_on(plan, request, &marks, prefix, here, *last)
-}
-
-/// Tells what [`follow_prefix`] answers, and a mark for each class of nodes that holds a receiver: those whose numbers
-/// leave one remainder by 64.
-fn follow_marking<A: Allocator + Copy>(
-    plan: &Plan<A>,
-    request: &Request,
-    marks: &mut [bool; 64],
-    prefix: &[u32],
-) -> Result<Reached, HopFault>
-    ensures path { IfOk result (λ _. IsTrue (is_path plan.now.plan request.now prefix.now)) }
-    ensures reached { IfOk result (IsReachedBy plan.now.plan request.now prefix.now) }
-    ensures marks { OnOk result (AreMarked marks.new (receivers plan.now.plan prefix.now)) }
-    ensures fault { IfErr result (λ f. first_fault plan.now.plan request.now [] prefix.now ≡ Some f) }
-{
-    let here = Reached {
+    let start = Reached {
         node: request.from(),
         at: request.at(),
     };
-    follow_rest(plan, request, marks, prefix, 0, here)
+    let here = follow_rest(plan, request, &mut marks, prefix, 0, start)?;
+    end_on(plan, request, &marks, prefix, here, *last)
 }
 
 /// Goes on along a list, of which the first numbers, `first` of them, have no fault and lead to `here`.
@@ -175,47 +159,28 @@ fn follow_rest<A: Allocator + Copy>(
     Ok(here)
 }
 
-/// Tells where the contacts of these numbers lead, one after the other, from the source on: the source itself for none.
-///
-/// It takes as long as [`follow`], and no memory.
-///
-/// # Errors
-///
-/// The fault of the least place that has one.
-pub fn follow_prefix<A: Allocator + Copy>(
-    plan: &Plan<A>,
-    request: &Request,
-    prefix: &[u32],
-) -> Result<Reached, HopFault>
-    ensures path { IfOk result (λ _. IsTrue (is_path plan.now.plan request.now prefix.now)) }
-    ensures reached { IfOk result (IsReachedBy plan.now.plan request.now prefix.now) }
-    ensures fault { IfErr result (λ f. first_fault plan.now.plan request.now [] prefix.now ≡ Some f) }
-{
-    follow_marking(plan, request, &mut [false; 64], prefix)
-}
-
-/// Tells what [`follow`] answers for a prefix and one number more, where `here` is what [`follow_prefix`] answered for
-/// the prefix.
+/// Tells where a path and one number more lead, where `here` is where the path leads: for the empty one the source, since
+/// the bundle is there.
 ///
 /// It reads the one contact and, against visiting a node twice, those of the prefix.
 ///
 /// # Errors
 ///
-/// Those of [`follow`].
-pub fn follow_on<A: Allocator + Copy>(
+/// The fault of the number.
+pub fn follow_hop<A: Allocator + Copy>(
     plan: &Plan<A>,
     request: &Request,
     prefix: &[u32],
     here: Reached,
     number: u32,
-) -> Result<u64, HopFault>
+) -> Result<Reached, HopFault>
     requires path { IsTrue (is_path plan.now.plan request.now prefix.now) }
     requires reached { IsReachedBy plan.now.plan request.now prefix.now here }
-    ensures route { IfOk result (λ _. IsTrue (is_route plan.now.plan request.now (prefix.now ++ number ∷ []))) }
-    ensures delivery { IfOk result (λ d. arrival_after plan.now.plan request.now request.now.at (prefix.now ++ number ∷ []) ≡ Some d) }
-    ensures fault { IfErr result (λ f. fault_of plan.now.plan request.now (prefix.now ++ number ∷ []) ≡ Some f) }
+    ensures path { IfOk result (λ _. IsTrue (is_path plan.now.plan request.now (prefix.now ++ number ∷ []))) }
+    ensures reached { IfOk result (IsReachedBy plan.now.plan request.now (prefix.now ++ number ∷ [])) }
+    ensures fault { IfErr result (λ f. first_fault plan.now.plan request.now [] (prefix.now ++ number ∷ []) ≡ Some f) }
 {
-    end_on(plan, request, &[true; 64], prefix, here, number)
+    take_hop(plan, request, &[true; 64], prefix, here, number)
 }
 
 /// Marks the classes of these contacts' receivers.
@@ -229,8 +194,7 @@ fn mark_receivers<A: Allocator + Copy>(plan: &Plan<A>, marks: &mut [bool; 64], n
     }
 }
 
-/// Tells what [`follow`] answers for a list whose first numbers, `first` of them, were followed: `here` is what
-/// [`follow_prefix`] answered for those.
+/// Tells what [`follow`] answers for a list whose first numbers, `first` of them, are a path that leads to `here`.
 ///
 /// It takes no memory. Of the contacts that were followed it reads the receivers alone.
 ///
@@ -260,7 +224,8 @@ pub fn follow_behind<A: Allocator + Copy>(
     end_on(plan, request, &marks, front, here, *last)
 }
 
-/// Tells what [`follow_on`] answers, where the classes of the prefix's receivers are marked.
+/// Tells what [`follow`] answers for a path and one number more, where the path leads to `here`, and the classes of its
+/// receivers are marked.
 fn end_on<A: Allocator + Copy>(
     plan: &Plan<A>,
     request: &Request,

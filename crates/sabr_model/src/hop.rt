@@ -1,5 +1,10 @@
 //! A contact as a search reads it.
 
+ghost use Rattle.std.specs.Prelude.{◌≡◌};
+ghost use Rattle.sabr_model.specs.Hops.{IsSmall, hop_arrival};
+
+use crate::request::Request;
+
 /// What a search reads of a contact: its window, its receiver and its light time.
 #[derive(Clone, Copy, Debug, PartialEq, Eq)]
 pub struct Hop {
@@ -11,4 +16,15 @@ pub struct Hop {
     pub receiver: usize,
     /// The one-way light time in seconds that is in force at its start, if a range gives one.
     pub light: Option<u32>,
+}
+
+impl Hop {
+    /// Gives the second at which a bundle arrives that is at the sender at `at`; none where it is too late or no light time
+    /// is known.
+    pub fn arrive(&self, request: &Request, at: u64) -> Option<u64>
+        requires { IsSmall self.now }
+        ensures { result ≡ hop_arrival request.now.margin at self.now }
+    {
+        request.arrive_over(at, self.start, self.end, self.light?)
+    }
 }

@@ -8,6 +8,7 @@ mod following;
 mod ghost_count;
 mod hop;
 mod laws;
+mod limits;
 mod link;
 mod node_list;
 mod node_table;
@@ -18,14 +19,16 @@ mod plan;
 mod request;
 mod route;
 mod rows;
+mod told;
 
 pub use contact::{Contact, Range};
 pub use devices::{Device, Failed, Read, Write, WriteFault, write_text};
 pub use fault::{AddFault, HopFault, NoMemory, RequestError};
-pub use following::{Reached, follow, follow_behind, follow_on, follow_prefix};
+pub use following::{Reached, follow, follow_behind, follow_hop};
 pub use ghost_count::GhostCount;
 pub use hop::Hop;
 pub use laws::{candidates_hold_each_once, faults_tell_routes, law1, law2, law3};
+pub use limits::{LAST_TIME, MOST_AVOIDED, MOST_HOPS, MOST_LIGHT, MOST_MARGIN, MOST_RECORDS};
 pub use link::{Link, LinkBounds, Links, Pass, Sender};
 pub use node_list::NodeList;
 pub use numbers::Numbers;
@@ -37,3 +40,4 @@ pub use rows::{
     row_of_parts_of_c, row_of_plan_a, row_of_plan_a_later, row_of_plan_b, row_of_plan_c,
     row_of_the_last_day, row_of_windows, worked_plans_are_plans, worked_requests_are_requests,
 };
+pub use told::Told;

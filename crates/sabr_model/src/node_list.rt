@@ -2,11 +2,9 @@
 
 ghost use Rattle.std.specs.Prelude.{◌≡◌, ◌≤◌, ◌<◌, ◌∷◌, ◌++◌, [], None, IfSome, MatchOption, length};
 
+use crate::limits::MOST_AVOIDED;
 use arrayvec::ArrayVec;
 use std::marker::Model;
-
-/// The most nodes that a request avoids.
-pub const MOST_AVOIDED: usize = 16;
 
 /// At most 16 nodes, as many as a request avoids (this project's profile). It holds no memory.
 #[derive(Drop)]

@@ -28,7 +28,7 @@ use crate::contact::{Contact, Range};
 use crate::hop::Hop;
 use crate::node_table::NodeTable;
 use crate::openings::Openings;
-pub use arriving::{arrive, arrive_by_light};
+pub use arriving::arrive;
 use ends::Ends;
 pub use gathered_contacts::GatheredContacts;
 pub use gathered_ranges::GatheredRanges;

@@ -1,37 +1,10 @@
 -- The canonical text of a plan, piece by piece.
-use Rattle.std.proofs.Common.{◌≡◌, ℕ, ◌+◌, ◌<◌, List, [], ◌∷◌, ◌++◌, take, drop, length, get_or, sym, ap, ◌∙◌, append_assoc, append-nil, Option, Result, decimal}
+use Rattle.std.proofs.Common.{◌≡◌, ℕ, ◌+◌, ◌<◌, List, [], ◌∷◌, ◌++◌, take, drop, length, get_or, sym, ap, ◌∙◌, append-nil, Option, Result}
 use Rattle.std.specs.List.{flat_map}
 use Rattle.std.proofs.lemmas.List.{take_more, take-append-drop}
 use Rattle.std.proofs.lemmas.List.Concat.{flat_map-append}
 use Rattle.sabr_model.specs.Devices.{Written, WrittenInPart, WritesText}
 use Rattle.sabr_model.proofs.WrittenTexts.{AppendsBeginning-after, AppendsBeginning-more, Written-append, WritesText-after}
-use Rattle.sabr_plan.specs.Canonical.{spaced_numbers, record_line}
-
--- one number more
-put : (text : List ℕ) (n : ℕ) (ns : List ℕ) → (text ++ (32 ∷ decimal n)) ++ spaced_numbers ns ≡ text ++ spaced_numbers (n ∷ ns)
-put text n ns = append_assoc text (32 ∷ decimal n) (spaced_numbers ns)
-
--- a letter and five numbers, put one behind the other
-five : (l a b c d e : ℕ) (ns : List ℕ) → ((((((l ∷ []) ++ (32 ∷ decimal a)) ++ (32 ∷ decimal b)) ++ (32 ∷ decimal c)) ++ (32 ∷ decimal d)) ++ (32 ∷ decimal e)) ++ spaced_numbers ns ≡ l ∷ spaced_numbers (a ∷ b ∷ c ∷ d ∷ e ∷ ns)
-five l a b c d e ns =
-    let text₁ = (l ∷ []) ++ (32 ∷ decimal a) in
-    let text₂ = text₁ ++ (32 ∷ decimal b) in
-    let text₃ = text₂ ++ (32 ∷ decimal c) in
-    let text₄ = text₃ ++ (32 ∷ decimal d) in
-    put text₄ e ns ∙ put text₃ d (e ∷ ns) ∙ put text₂ c (d ∷ e ∷ ns) ∙ put text₁ b (c ∷ d ∷ e ∷ ns) ∙ put (l ∷ []) a (b ∷ c ∷ d ∷ e ∷ ns)
-
-pub five_numbers : (l a b c d e : ℕ) → ((((((l ∷ []) ++ (32 ∷ decimal a)) ++ (32 ∷ decimal b)) ++ (32 ∷ decimal c)) ++ (32 ∷ decimal d)) ++ (32 ∷ decimal e)) ++ 10 ∷ [] ≡ record_line l (a ∷ b ∷ c ∷ d ∷ e ∷ [])
-five_numbers l a b c d e =
-    let text = (((((l ∷ []) ++ (32 ∷ decimal a)) ++ (32 ∷ decimal b)) ++ (32 ∷ decimal c)) ++ (32 ∷ decimal d)) ++ (32 ∷ decimal e) in
-    let whole : text ≡ l ∷ spaced_numbers (a ∷ b ∷ c ∷ d ∷ e ∷ []) = sym (append-nil text) ∙ five l a b c d e [] in
-    ap (λ s. s ++ 10 ∷ []) whole
-
--- and six
-pub six_numbers : (l a b c d e f : ℕ) → (((((((l ∷ []) ++ (32 ∷ decimal a)) ++ (32 ∷ decimal b)) ++ (32 ∷ decimal c)) ++ (32 ∷ decimal d)) ++ (32 ∷ decimal e)) ++ (32 ∷ decimal f)) ++ 10 ∷ [] ≡ record_line l (a ∷ b ∷ c ∷ d ∷ e ∷ f ∷ [])
-six_numbers l a b c d e f =
-    let text = (((((l ∷ []) ++ (32 ∷ decimal a)) ++ (32 ∷ decimal b)) ++ (32 ∷ decimal c)) ++ (32 ∷ decimal d)) ++ (32 ∷ decimal e) in
-    let whole : text ++ (32 ∷ decimal f) ≡ l ∷ spaced_numbers (a ∷ b ∷ c ∷ d ∷ e ∷ f ∷ []) = sym (append-nil (text ++ (32 ∷ decimal f))) ∙ put text f [] ∙ five l a b c d e (f ∷ []) in
-    ap (λ s. s ++ 10 ∷ []) whole
 
 -- a text of which a beginning was written, with more behind it
 pub in_part_more : (a c : Option (List ℕ)) (k n : ℕ) (xs ys : List ℕ) → WrittenInPart a k xs c n → WrittenInPart a k (xs ++ ys) c n

@@ -2,9 +2,7 @@
 use Rattle.std.proofs.Common.{◌≡◌, ℕ, suc, ◌+◌, ◌*◌, ◌-◌, ◌<◌, ◌≤◌, true, false, Result, ◌&&◌, not, eqb, ltb, List, [], ◌∷◌, ◌++◌, length, take, get_or, refl, sym, ap, ◌∙◌, arith, inl, inr, length-take, get_or-take}
 use Rattle.std.proofs.lemmas.Bool.{cases_lt}
 use Rattle.std.proofs.lemmas.List.Folds.{list_all-append}
-use Rattle.std.proofs.lemmas.Slice.{take-put_mid}
 use Rattle.std.proofs.Math.Bool.{and-false}
-use borrow.Rule.Slice.PartMut.{put_mid}
 use borrow.Author.Tests.{le-ltb}
 use Rattle.sabr_plan.specs.declared.fault.PlanFault.{PlanFault}
 use Rattle.sabr_plan.specs.declared.fault.PlanKind.{PlanKind}
@@ -13,12 +11,6 @@ use Rattle.sabr_plan.specs.Words.{is_one_line}
 use Rattle.sabr_plan.specs.Leaving.{Leaves}
 use Rattle.sabr_plan.specs.Feeding.{Fed}
 use Rattle.sabr_plan.specs.Reading.{Reading, judged, limited, broken_line}
-
--- bytes put behind those that are held
-pub held_more : (held bytes part : List ℕ) (count : ℕ) → count + length bytes ≤ length held → part ≡ bytes → take (count + length bytes) (put_mid count (count + length bytes - count) held part) ≡ take count held ++ bytes
-held_more held bytes part count room same =
-    let long : length part ≡ length bytes = ap length same in
-    take-put_mid count (count + length bytes - count) held part (count + length bytes) (omega arith) (omega arith) ∙ ap (λ s. take count held ++ s) same
 
 pub one_line-append : (a b : List ℕ) → is_one_line a ≡ true → is_one_line b ≡ true → is_one_line (a ++ b) ≡ true
 one_line-append a b h k = rw (list_all-append (λ x. not (eqb x 10)) a b, h, k) refl
@@ -40,8 +32,8 @@ one_line_before xs end h none =
     none k within (sym (ap (λ b. eqb b 10) (get_or-take end xs k 0 within)) ∙ e))
 
 -- what is held is within the limits, so behind it the reader's failure is told
-pub broken_held : (lines count : ℕ) (held : List ℕ) → length held ≤ count → lines ≤ 1000000 → count ≤ 255 * (1000000 - lines) → count ≤ 255 → broken_line (lines + 1) held ≡ record { line = lines + 1; kind = kind.Read }
-broken_held lines count held long within room limit =
+pub broken_held : (lines : ℕ) (held : List ℕ) → lines ≤ 1000000 → length held ≤ 255 * (1000000 - lines) → length held ≤ 255 → broken_line (lines + 1) held ≡ record { line = lines + 1; kind = kind.Read }
+broken_held lines held within room limit =
     let at_n : PlanKind → PlanFault = λ k. record { line = lines + 1; kind = k } in
     let few : ltb 255 (length held) ≡ false = le-ltb 255 (length held) (omega arith) in
     elim (cases_lt lines 1000000) [

@@ -2,7 +2,7 @@
 use Rattle.std.specs.Prelude.{ℕ, ◌+◌, ◌==◌, nat_le, ◌&&◌, List, [], ◌∷◌, length, Result, Ok, Err, ok_or, if◌then◌else◌}
 use Rattle.std.specs.declared.option.Option.{Option}
 use Rattle.std.specs.declared.option.Option.TheVariants.{Some, None}
-use Rattle.sabr_model.specs.Plan.{last_time}
+use Rattle.sabr_model.specs.Plan.{last_time, most_light}
 use Rattle.sabr_plan.specs.Digits.{are_digits, digits_value}
 use Rattle.sabr_plan.specs.Numbers.{number_within}
 use Rattle.sabr_plan.specs.Times.{time_of}
@@ -35,7 +35,7 @@ node_of word = ok_or (number_within 1 18446744073709551615 word) BadNode
 -- the greatest rate of a contact, in bytes a second, and light time of a range, in seconds
 abbrev pub greatest_value : Target → ℕ
 greatest_value Contact = 18446744073709551615
-greatest_value Range = 1000000
+greatest_value Range = most_light
 
 -- a rate or a light time
 abbrev pub value_of : Target → List ℕ → Result ℕ PlanKind

@@ -49,6 +49,7 @@ pub enum Command {
 }
 
 /// Tells what a line says, or the least of its refusals. Times are relative to the reference.
+#[tactic(auto, unfolding(crate::specs::Commands::line_command))]
 pub fn line_command(reference: Option<u64>, line: &[u8]) -> Result<Command, PlanKind>
     ensures value { result ≡ line_command reference line.now }
     ensures bounds { IfOk result HasBounds }

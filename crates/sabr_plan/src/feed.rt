@@ -7,6 +7,7 @@ ghost use Rattle.sabr_plan.specs.declared.fault.PlanKind.TheVariants as kind;
 
 use crate::fault::{PlanFault, PlanKind};
 use crate::reading::PlanReading;
+use arrayvec::ArrayVec;
 use memchr::memchr;
 use sabr_model::{NoMemory, Plan};
 use std::alloc::Allocator;
@@ -25,22 +26,20 @@ pub struct PlanFeed<A: Allocator + Copy> {
     lines: u32,
     /// What they leave.
     reading: PlanReading<A>,
-    /// The bytes of the line behind them, at the front.
-    held: [u8; 255],
-    /// How many these are.
-    held_count: usize,
+    /// The bytes of the line behind them.
+    held: ArrayVec<u8, LINE_LIMIT>,
 }
 
 impl<A: Allocator + Copy> Model for PlanFeed<A> {
-    ghost use Rattle.std.specs.Prelude.{◌≤◌, ◌-◌, ◌*◌, take, IsTrue};
+    ghost use Rattle.std.specs.Prelude.{◌≤◌, ◌-◌, ◌*◌, length, IsTrue};
     ghost use Rattle.sabr_plan.specs.Words.{is_one_line};
     ghost use Rattle.sabr_plan.specs.Feeding.{Fed};
 
     ghost Value = { Fed };
 
-    ghost view = { λ f. record { lines = f.lines; reading = f.reading; held = take f.held_count f.held } };
+    ghost view = { λ f. record { lines = f.lines; reading = f.reading; held = f.held.items } };
 
-    ghost invariant = { λ f. (f.lines ≤ 1000000) × (f.held_count ≤ 255 * (1000000 - f.lines)) × (f.held_count ≤ 255) × IsTrue (is_one_line (take f.held_count f.held)) };
+    ghost invariant = { λ f. (f.lines ≤ 1000000) × (length f.held.items ≤ 255 * (1000000 - f.lines)) × (length f.held.items ≤ 255) × IsTrue (is_one_line f.held.items) };
 }
 
 /// Tells where the first LF stands.
@@ -61,8 +60,7 @@ impl<A: Allocator + Copy> PlanFeed<A> {
         PlanFeed {
             lines: 0,
             reading: PlanReading::new(alloc),
-            held: [0; 255],
-            held_count: 0,
+            held: ArrayVec::new(),
         }
     }
 
@@ -101,7 +99,7 @@ impl<A: Allocator + Copy> PlanFeed<A> {
         ensures value { LeavesAt (ended_line (self.old.lines + 1) self.old.reading self.old.held) result self.new.reading }
         ensures held { IsTrue (is_one_line self.old.held) }
     {
-        if self.held_count == 0 {
+        if self.held.is_empty() {
             Ok(())
         } else {
             self.end_line(&[])
@@ -116,7 +114,6 @@ impl<A: Allocator + Copy> PlanFeed<A> {
             lines: _,
             reading,
             held: _,
-            held_count: _,
         } = self;
         reading.into_plan()
     }
@@ -144,7 +141,7 @@ impl<A: Allocator + Copy> PlanFeed<A> {
         match self.judge_line(back) {
             Ok(()) => {
                 self.lines = line;
-                self.held_count = 0;
+                self.held.clear();
                 Ok(())
             }
             Err(kind) => Err(PlanFault { line, kind }),
@@ -161,14 +158,14 @@ impl<A: Allocator + Copy> PlanFeed<A> {
         if self.lines >= LINES_LIMIT {
             return Err(PlanKind::TooMany);
         }
-        if back.len() > LINE_LIMIT - self.held_count {
+        if back.len() > LINE_LIMIT - self.held.len() {
             return Err(PlanKind::LineTooLong);
         }
-        if self.held_count == 0 {
+        if self.held.is_empty() {
             return self.reading.judge(back);
         }
         self.append(back);
-        self.reading.judge(&self.held[..self.held_count])
+        self.reading.judge(self.held.as_slice())
     }
 
     /// Holds more bytes of a line.
@@ -178,9 +175,9 @@ impl<A: Allocator + Copy> PlanFeed<A> {
         requires line { IsTrue (is_one_line bytes.now) }
         ensures { self.new ≡ record { lines = self.old.lines; reading = self.old.reading; held = self.old.held ++ bytes.now } }
     {
-        let end = self.held_count + bytes.len();
-        self.held[self.held_count..end].copy_from_slice(bytes);
-        self.held_count = end;
+        let Ok(()) = self.held.try_extend_from_slice(bytes) else {
+            unreachable!();
+        };
     }
 
     /// Holds what comes behind the last LF of a piece.
@@ -201,7 +198,7 @@ impl<A: Allocator + Copy> PlanFeed<A> {
                 kind: PlanKind::TooMany,
             });
         }
-        if bytes.len() > LINE_LIMIT - self.held_count {
+        if bytes.len() > LINE_LIMIT - self.held.len() {
             return Err(PlanFault {
                 line,
                 kind: PlanKind::LineTooLong,

@@ -17,6 +17,6 @@ mod words;
 pub use canonical_text::{canonical, digest};
 pub use fault::{PlanFault, PlanKind};
 pub use feed::line_end;
-pub use number::number_within;
+pub use number::{leading_number, number_within};
 pub use read::read_plan;
 pub use time::{parse_time, time_text};

@@ -1,6 +1,7 @@
 //! Numbers in decimal digits.
 
-ghost use Rattle.std.specs.Prelude.{◌≡◌, ◌<◌, ◌≤◌, ◌+◌, ◌-◌, ◌*◌, Some, None, SomeIff, IfSome, IsTrue, if◌then◌else◌, ◌&&◌, nat_lt};
+ghost use Rattle.std.specs.Prelude.{◌≡◌, ◌<◌, ◌≤◌, ◌+◌, ◌-◌, ◌*◌, ◌++◌, Some, None, SomeIff, IfSome, IsTrue, if◌then◌else◌, ◌&&◌, nat_lt, length};
+ghost use Rattle.std.specs.List.{list_all};
 ghost use Rattle.sabr_plan.specs.Digits.{is_digit, are_digits, digits_value, leads_with_zero};
 ghost use Rattle.sabr_plan.specs.Numbers.{number_within};
 
@@ -48,4 +49,38 @@ pub fn number_within(text: &[u8], low: u64, high: u64) -> Option<u64>
     } else {
         None
     }
+}
+
+/// Gives the digits at the front of a text, at most 19, the number that they stand for, and what comes behind them.
+pub fn leading_digits(text: &[u8]) -> (u64, &[u8], &[u8])
+    ensures parts { text.now ≡ result.1.now ++ result.2.now }
+    ensures value { result.0 ≡ digits_value result.1.now }
+    ensures digits { IsTrue (list_all is_digit result.1.now) }
+    ensures most { length result.1.now ≤ 19 }
+{
+    let most = text.len().min(19);
+    let mut value: u64 = 0;
+    let mut count = 0;
+    while count < most && text[count].is_ascii_digit() {
+        value = value * 10 + (text[count] - b'0') as u64;
+        count += 1;
+    }
+    let (digits, rest) = text.split_at(count);
+    (value, digits, rest)
+}
+
+/// Gives the number from `low` to `high` that the digits at the front of a text spell, at most 19 and without a leading
+/// zero, with those digits and what comes behind them. Of a text that begins otherwise nothing is said.
+#[inline(always)]
+pub fn leading_number(text: &[u8], low: u64, high: u64) -> Option<(u64, &[u8], &[u8])>
+    ensures parts { IfSome result (λ r. text.now ≡ r.1.now ++ r.2.now) }
+    ensures digits { IfSome result (λ r. (0 < length r.1.now) × IsTrue (list_all is_digit r.1.now)) }
+    ensures value { IfSome result (λ r. number_within low high r.1.now ≡ Some r.0) }
+    ensures range { IfSome result (λ r. (low ≤ r.0) × (r.0 ≤ high)) }
+{
+    let (value, word, rest) = leading_digits(text);
+    if word.is_empty() || leads_with_zero(word) || value < low || high < value {
+        return None;
+    }
+    Some((value, word, rest))
 }

@@ -7,7 +7,8 @@ ghost use Rattle.sabr_plan.specs.Operands.{relative_of, after_reference, absolut
 use crate::command::Target;
 use crate::fault::PlanKind;
 use crate::number::{digits_value, number_within};
-use crate::time::{LAST_TIME, parse_time};
+use crate::time::parse_time;
+use sabr_model::{LAST_TIME, MOST_LIGHT};
 
 /// Gives the seconds of a relative time: `+` and one to twelve digits.
 fn relative_of(word: &[u8]) -> Option<u64>
@@ -42,6 +43,7 @@ pub fn absolute_time(word: &[u8]) -> Result<u64, PlanKind>
 }
 
 /// Gives a time, absolute or relative to the reference.
+#[tactic(auto, unfolding(crate::specs::Operands::time_at))]
 pub fn time_at(reference: Option<u64>, word: &[u8]) -> Result<u64, PlanKind>
     ensures value { result ≡ time_at reference word.now }
     ensures bound { IfOk result (λ t. t ≤ last_time) }
@@ -66,7 +68,7 @@ pub fn greatest_value(target: Target) -> u64
 {
     match target {
         Target::Contact => u64::MAX,
-        Target::Range => 1000000,
+        Target::Range => MOST_LIGHT as u64,
     }
 }
 

@@ -78,6 +78,7 @@ impl<A: Allocator + Copy> PlanReading<A> {
     }
 
     /// Reads a line without its LF, and does what it says.
+    #[tactic(auto, unfolding(crate::specs::Reading::judged))]
     pub fn judge(&mut self, line: &[u8]) -> Result<(), PlanKind>
         ensures { Leaves (judged self.old line.now) result self.new }
     {
@@ -86,6 +87,7 @@ impl<A: Allocator + Copy> PlanReading<A> {
     }
 
     /// Does what a line says.
+    #[tactic(auto, unfolding(crate::specs::Reading::obeyed))]
     fn obey(&mut self, command: Command) -> Result<(), PlanKind>
         requires { HasBounds command }
         ensures { Leaves (obeyed self.old command) result self.new }

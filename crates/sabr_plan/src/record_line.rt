@@ -2,6 +2,7 @@
 
 ghost use Rattle.std.specs.Prelude.{◌≡◌, ◌+◌, ◌*◌, ◌≤◌, [], ◌∷◌, ◌++◌, decimal, length};
 
+use arrayvec::ArrayVec;
 use itoa::Buffer;
 use sabr_model::{Contact, Range};
 use std::marker::Model;
@@ -9,24 +10,22 @@ use std::marker::Model;
 /// The bytes of a line.
 #[derive(Drop)]
 pub struct RecordLine {
-    bytes: [u8; 128],
-    count: usize,
+    bytes: ArrayVec<u8, 128>,
 }
 
 impl Model for RecordLine {
-    ghost use Rattle.std.specs.Prelude.{ℕ, List, ◌≤◌, take};
+    ghost use Rattle.std.specs.Prelude.{ℕ, List};
 
     ghost Value = { List ℕ };
 
-    ghost view = { λ line. take line.count line.bytes };
-
-    ghost invariant = { λ line. line.count ≤ 128 };
+    ghost view = { λ line. line.bytes.items };
 }
 
 impl RecordLine {
     ghost use Rattle.sabr_plan.specs.Canonical.{contact_line, range_line};
 
     /// Makes the line of a contact, with its LF.
+    #[tactic(auto, unfolding(crate::specs::Canonical::contact_line))]
     pub fn of_contact(contact: &Contact) -> RecordLine
         ensures { result ≡ contact_line contact.now }
     {
@@ -42,6 +41,7 @@ impl RecordLine {
     }
 
     /// Makes the line of a range, with its LF.
+    #[tactic(auto, unfolding(crate::specs::Canonical::range_line))]
     pub fn of_range(range: &Range) -> RecordLine
         ensures { result ≡ range_line range.now }
     {
@@ -59,16 +59,16 @@ impl RecordLine {
     pub fn as_bytes(&self) -> &[u8]
         ensures { result.now ≡ self.now }
     {
-        &self.bytes[..self.count]
+        self.bytes.as_slice()
     }
 
     /// Makes a line that begins with a letter.
     fn new(letter: u8) -> RecordLine
         ensures { result ≡ letter ∷ [] }
     {
-        let mut bytes = [0; 128];
-        bytes[0] = letter;
-        RecordLine { bytes, count: 1 }
+        let mut bytes = ArrayVec::new();
+        bytes.push(letter);
+        RecordLine { bytes }
     }
 
     /// Puts a space and a number behind the line.
@@ -88,8 +88,8 @@ impl RecordLine {
         ensures value { self.new ≡ self.old ++ piece.now }
         ensures len { length self.new ≡ length self.old + length piece.now }
     {
-        let end = self.count + piece.len();
-        self.bytes[self.count..end].copy_from_slice(piece);
-        self.count = end;
+        let Ok(()) = self.bytes.try_extend_from_slice(piece) else {
+            unreachable!();
+        };
     }
 }

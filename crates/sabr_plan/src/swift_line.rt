@@ -1,9 +1,7 @@
 //! Additions that are spelled plainly, with single spaces and relative times, read in one pass. Of all other lines nothing is said.
 
-ghost use Rattle.std.specs.Prelude.{◌≡◌, ◌<◌, ◌≤◌, ◌++◌, Ok, Some, IfSome, IsTrue, length};
-ghost use Rattle.std.specs.List.{list_all};
+ghost use Rattle.std.specs.Prelude.{◌≡◌, ◌≤◌, ◌++◌, Ok, Some, IfSome, IsTrue};
 ghost use Rattle.sabr_model.specs.Plan.{last_time};
-ghost use Rattle.sabr_plan.specs.Digits.{is_digit, digits_value};
 ghost use Rattle.sabr_plan.specs.Numbers.{number_within};
 ghost use Rattle.sabr_plan.specs.PlainWords.{start_of, is_plain_from_space, IsAhead};
 ghost use Rattle.sabr_plan.specs.Operands.{time_at, greatest_value};
@@ -12,26 +10,8 @@ ghost use Rattle.sabr_plan.specs.Words.{words_of};
 ghost use Rattle.sabr_plan.specs.declared.command.Command.TheVariants.{Add};
 
 use crate::command::{Addition, Command, Target};
-use crate::number::leads_with_zero;
+use crate::number::{leading_digits, leading_number};
 use crate::operand::{after_reference, greatest_value};
-
-/// Gives the digits at the front of a text, at most 19, the number that they stand for, and what comes behind them.
-fn leading_digits(text: &[u8]) -> (u64, &[u8], &[u8])
-    ensures parts { text.now ≡ result.1.now ++ result.2.now }
-    ensures value { result.0 ≡ digits_value result.1.now }
-    ensures digits { IsTrue (list_all is_digit result.1.now) }
-    ensures most { length result.1.now ≤ 19 }
-{
-    let most = text.len().min(19);
-    let mut value: u64 = 0;
-    let mut count = 0;
-    while count < most && text[count].is_ascii_digit() {
-        value = value * 10 + (text[count] - b'0') as u64;
-        count += 1;
-    }
-    let (digits, rest) = text.split_at(count);
-    (value, digits, rest)
-}
 
 /// Gives the number behind the space that a text begins with, and what comes behind it.
 #[inline(always)]
@@ -40,10 +20,7 @@ fn number_ahead(low: u64, high: u64, text: &[u8]) -> Option<(u64, &[u8])>
     ensures bounds { IfSome result (λ r. (low ≤ r.0) × (r.0 ≤ high)) }
 {
     let behind = text.strip_prefix(b" ")?;
-    let (value, word, rest) = leading_digits(behind);
-    if word.is_empty() || leads_with_zero(word) || value < low || high < value {
-        return None;
-    }
+    let (value, _, rest) = leading_number(behind, low, high)?;
     Some((value, rest))
 }
 

@@ -6,9 +6,7 @@ ghost use Rattle.sabr_plan.specs.Times.{day_after_epoch, pair_at, spelled, field
 ghost use Rattle.sabr_plan.specs.TimeShape.{is_pair, has_shape, fields_at, HasWidth};
 
 use jiff::civil::Date;
-
-/// The greatest time of a plan, 9998/12/31-23:59:59.
-pub const LAST_TIME: u64 = 253370764799;
+use sabr_model::LAST_TIME;
 
 /// How many days before 1970/01/01 the calendar begins.
 const DAYS_BEFORE_EPOCH: u32 = 4371587;
@@ -120,6 +118,7 @@ fn has_shape(text: &[u8]) -> bool
 }
 
 /// Gives the fields of a text of that shape.
+#[tactic(auto, using(crate::proofs::Spelling::shape_parts))]
 fn fields_at(text: &[u8]) -> TimeFields
     requires { IsTrue (has_shape text.now) }
     ensures value { result ≡ fields_at text.now }
@@ -158,6 +157,7 @@ fn digit(value: u8) -> u8
 
 /// Gives the 19 bytes `yyyy/mm/dd-hh:mm:ss` of a second since 1970-01-01T00:00:00Z, which is at most 253402300799, the
 /// last of the year 9999.
+#[tactic(auto, using(crate::proofs::Seconds::fields_of_width), unfolding(crate::specs::Times::time_text_of))]
 pub fn time_text(second: u64) -> [u8; 19]
     requires { second ≤ 253402300799 }
     ensures { result ≡ time_text_of second }

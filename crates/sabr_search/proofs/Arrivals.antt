@@ -1,6 +1,6 @@
 -- The arrival over one contact.
-use Rattle.std.proofs.Common.{◌≡◌, ℕ, ◌+◌, ◌<◌, ◌≤◌, max, true, false, cond, ltb, refl, ap, ◌∙◌, arith}
-use Rattle.std.proofs.lemmas.Bool.{ltb-true, lt-ltb, cond-true}
+use Rattle.std.proofs.Common.{◌≡◌, ℕ, ◌+◌, ◌<◌, ◌≤◌, max, true, false, cond, ltb, refl, arith}
+use Rattle.std.proofs.lemmas.Bool.{ltb-true}
 use Rattle.std.specs.Option.{option_map}
 use Rattle.std.specs.declared.option.Option.TheVariants.{Some, None}
 use Rattle.sabr_model.specs.declared.contact.Contact.{Contact}
@@ -24,11 +24,6 @@ arrival_parts p r t c b e =
         | Some l ↦ λ f g. (let same : max t c.start + cost r.margin l ≡ b = cc (g) in record { light = l; in_force = f; before_end = ltb-true (max t c.start) c.end q; sum = omega (arith, same) })
       ] refl h
     ] refl e
-
-pub arrival_from_parts : (p : ContactPlan) (r : RouteRequest) (t : ℕ) (c : Contact) (l : ℕ) → light_of p c ≡ Some l → max t c.start < c.end → arrival p r t c ≡ Some (max t c.start + cost r.margin l)
-arrival_from_parts p r t c l light less =
-    cond-true (ltb (max t c.start) c.end) (option_map (λ k. max t c.start + cost r.margin k) (light_of p c)) None (lt-ltb (max t c.start) c.end less)
-    ∙ ap (option_map (λ k. max t c.start + cost r.margin k)) light
 
 pub arrives_later : (p : ContactPlan) (r : RouteRequest) (t : ℕ) (c : Contact) (b : ℕ) → arrival p r t c ≡ Some b → t ≤ b
 arrives_later p r t c b e = let a = arrival_parts p r t c b e in omega (arith, a.sum)

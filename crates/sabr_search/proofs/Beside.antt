@@ -1,8 +1,11 @@
 -- What a route read off a table comes to: the answer, and the looks at contacts.
-use Rattle.std.proofs.Common.{◌≡◌, inl, inr, ℕ, ◌+◌, ◌-◌, ◌*◌, ◌<◌, ◌≤◌, ◌⊎◌, List, ◌++◌, length, Option, Some, None, ap, ◌∙◌, arith, subst, length-append}
-use Rattle.std.specs.Prelude.{IfSome, IfNone}
+use Rattle.std.proofs.Common.{◌≡◌, inl, inr, ℕ, ◌+◌, ◌-◌, ◌*◌, ◌<◌, ◌≤◌, ◌⊎◌, Bool, true, false, cond, List, [], ◌∷◌, ◌++◌, length, Option, Some, None, ap, ◌∙◌, arith, subst, length-append}
+use Rattle.std.specs.Prelude.{IfSome, IfNone, nat_eq}
+use Rattle.std.specs.Set.{distinct_count, is_member, unique_keys}
 use Rattle.std.proofs.Math.Nat.{mul-le-mul_right}
+use Rattle.sabr_model.specs.declared.contact.Contact.{Contact}
 use Rattle.sabr_model.specs.Record.{RouteRecord}
+use Rattle.sabr_model.specs.Table.{ends_of, node_count}
 use Rattle.sabr_search.specs.Task.{SearchTask, IsTask, IsBehind}
 use Rattle.sabr_search.specs.Picks.{IsLeastWay}
 use Rattle.sabr_search.specs.Told.{hops_told}
@@ -69,6 +72,15 @@ learned_cut p c old new None longer same either le = omega (arith, same, le)
 learned_cut p c old new (Some route) longer same (inl is) le = omega (arith, is, le)
 learned_cut p c old new (Some route) longer same (inr few) le = passes_more (length route.contacts - p) c new (omega (arith, longer)) few
 
-pub learned_within : (n c old new : ℕ) → 1 ≤ n → (new ≡ old) ⊎ (new ≤ 4 * c) → old ≤ (3 * n + 1) * c → new ≤ (3 * n + 1) * c
-learned_within n c old new some (inl is) le = omega (arith, is, le)
-learned_within n c old new some (inr few) le = passes_within n c new some few
+some_count : (x : ℕ) (xs : List ℕ) → 1 ≤ distinct_count nat_eq (x ∷ xs)
+some_count x [] = omega arith
+some_count x (y ∷ ys) = by (is_member nat_eq (y ∷ ys) x) (some_count y ys)
+  where
+    by : (b : Bool) → 1 ≤ distinct_count nat_eq (y ∷ ys) → 1 ≤ length (cond b (unique_keys nat_eq (y ∷ ys)) (x ∷ unique_keys nat_eq (y ∷ ys)))
+    by true some = some
+    by false some = omega arith
+
+pub learned_within : (cs : List Contact) (old new : ℕ) → (new ≡ old) ⊎ (new ≤ 4 * length cs) → old ≤ (3 * node_count cs + 1) * length cs → new ≤ (3 * node_count cs + 1) * length cs
+learned_within cs old new (inl is) le = omega (arith, is, le)
+learned_within [] old new (inr few) le = omega (arith, few)
+learned_within (c ∷ cs) old new (inr few) le = passes_within (node_count (c ∷ cs)) (length (c ∷ cs)) new (some_count c.from (c.to ∷ ends_of cs)) few

@@ -1,6 +1,6 @@
 -- Chains of contacts, joined and taken apart, with their arrivals.
 use Rattle.std.proofs.Common.{◌≡◌, ℕ, Bool, true, false, cond, not, ◌||◌, eqb, List, [], ◌∷◌, ◌++◌, refl, sym, ap, ◌∙◌, ⊎_elim}
-use Rattle.std.proofs.lemmas.Bool.{and_parts, and_from, or_cases, or_parts, or_right, or_left, or_from, eq-eqb, eqb-true, not-true, not_from_false, false_from_ne_true}
+use Rattle.std.proofs.lemmas.Bool.{and_parts, and_from, or_cases, or_right, or_left, or_from, eq-eqb, eqb-true, not-true, not_from_false, false_from_ne_true}
 use Rattle.std.proofs.lemmas.List.Folds.{list_any-append}
 use Rattle.std.specs.List.{list_all}
 use Rattle.std.specs.Option.{option_and_then}
@@ -50,17 +50,6 @@ different_append (x ∷ xs) ys one other apart =
     and_from (not (has x (xs ++ ys))) (are_different (xs ++ ys)) (not_from_false (has x (xs ++ ys)) fresh)
     (different_append xs ys parts.1 other (λ y h g. apart y (or_right (eqb y x) (has y xs) h) g))
 
-pub different_left : (xs ys : List ℕ) → are_different (xs ++ ys) ≡ true → are_different xs ≡ true
-different_left [] ys d = refl
-different_left (x ∷ xs) ys d =
-    let parts = and_parts (not (has x (xs ++ ys))) (are_different (xs ++ ys)) d in
-    let fresh = or_parts (has x xs) (has x ys) (sym (list_any-append (eqb x) xs ys) ∙ not-true (has x (xs ++ ys)) parts.0) in
-    and_from (not (has x xs)) (are_different xs) (not_from_false (has x xs) fresh.0) (different_left xs ys parts.1)
-
-pub different_right : (xs ys : List ℕ) → are_different (xs ++ ys) ≡ true → are_different ys ≡ true
-different_right [] ys d = d
-different_right (x ∷ xs) ys d = different_right xs ys (and_parts (not (has x (xs ++ ys))) (are_different (xs ++ ys)) d).1
-
 -- what a test of all elements says of each
 pub all_of : (test : ℕ → Bool) (xs : List ℕ) → list_all test xs ≡ true → (x : ℕ) → has x xs ≡ true → test x ≡ true
 all_of test [] all x h = absurd cc
@@ -75,9 +64,6 @@ all_from test (y ∷ ys) each =
 
 pub has_append : (x : ℕ) (xs ys : List ℕ) → has x (xs ++ ys) ≡ (has x xs || has x ys)
 has_append x xs ys = list_any-append (eqb x) xs ys
-
-pub has_left : (x : ℕ) (xs ys : List ℕ) → has x xs ≡ true → has x (xs ++ ys) ≡ true
-has_left x xs ys h = has_append x xs ys ∙ or_left (has x xs) (has x ys) h
 
 pub has_right : (x : ℕ) (xs ys : List ℕ) → has x ys ≡ true → has x (xs ++ ys) ≡ true
 has_right x xs ys h = has_append x xs ys ∙ or_right (has x xs) (has x ys) h

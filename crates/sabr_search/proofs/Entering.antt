@@ -13,7 +13,7 @@ use Rattle.sabr_model.specs.Asking.{IsRequest}
 use Rattle.sabr_model.specs.Route.{chain_end, receivers, is_route}
 use Rattle.sabr_model.proofs.Routes.{route_facts}
 use Rattle.sabr_model.proofs.Begins.{first_hop, receivers-cons, receivers-append, end_is_received}
-use Rattle.sabr_search.specs.Hops.{hop_arrival}
+use Rattle.sabr_model.specs.Hops.{hop_arrival}
 use Rattle.sabr_search.specs.Task.{SearchTask, HasNodes, IsTask, IsBehind, is_closed, latest_arrival}
 use Rattle.sabr_search.specs.Entering.{AreShut, IsPassed}
 use Rattle.sabr_search.proofs.Arrivals.{arrival_parts}

@@ -7,7 +7,7 @@ use Rattle.sabr_model.specs.Plan.{contact_named, has}
 use Rattle.sabr_search.specs.declared.layers.Reached.{Reached}
 use Rattle.sabr_search.specs.Task.{SearchTask, Takes, IsTask}
 use Rattle.sabr_search.specs.Steps.{IsHopAt}
-use Rattle.sabr_search.specs.Hops.{hop_arrival}
+use Rattle.sabr_model.specs.Hops.{hop_arrival}
 use Rattle.sabr_search.specs.Lists.{AreLists, IsLowered, IsKnown, Arrivals}
 use Rattle.sabr_search.proofs.PlanFacts.{hop_arrival_is}
 

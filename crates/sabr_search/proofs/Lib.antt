@@ -18,7 +18,6 @@ pub mod Between
 pub mod MadeLayers
 pub mod Backward
 pub mod Front
-pub mod Told
 pub mod Entering
 pub mod Law
 pub mod Queues

@@ -1,5 +1,5 @@
 -- What the bounds beside the passes of a link say of the steps over them.
-use Rattle.std.proofs.Common.{◌≡◌, ℕ, ◌+◌, ◌-◌, ◌<◌, ◌≤◌, max, ◌⊎◌, inl, inr, List, length, drop, true, false, Some, slice_get, slice_index_or, sym, ap, ◌∙◌, arith}
+use Rattle.std.proofs.Common.{◌≡◌, ℕ, ◌+◌, ◌-◌, ◌<◌, ◌≤◌, max, ◌⊎◌, inl, inr, List, length, drop, true, false, Some, slice_get, slice_index_or, refl, sym, ap, subst, ◌∙◌, arith}
 use Rattle.std.specs.Prelude.{IfSome}
 use Rattle.std.specs.List.Sorted.{IsNonDecreasingBy}
 use Rattle.std.specs.declared.option.Option.{Option}
@@ -23,9 +23,9 @@ use Rattle.sabr_model.specs.Arrival.{cost}
 use Rattle.sabr_model.specs.Light.{light_of}
 use Rattle.sabr_model.specs.Plan.{has}
 use Rattle.sabr_search.specs.Task.{SearchTask, IsTask, Takes}
-use Rattle.sabr_search.specs.Hops.{hop_arrival, IsSmall}
+use Rattle.sabr_model.specs.Hops.{hop_arrival, IsSmall}
 use Rattle.sabr_search.specs.Steps.{IsHopAt}
-use Rattle.sabr_search.specs.Linked.{IsPassAt, IsLinkAt, AreInOrder, HasNumber, passes_of, AreLinksAt}
+use Rattle.sabr_search.specs.Linked.{IsPassAt, IsLinkAt, IsLinkWithin, AreInOrder, HasNumber, passes_of, AreLinksAt}
 use Rattle.sabr_search.proofs.Arrivals.{arrival_parts}
 use Rattle.sabr_search.proofs.PlanFacts.{hop_small, light_small}
 use Rattle.sabr_search.proofs.Forward.{hop_takes}
@@ -47,13 +47,6 @@ passes_length passes l within = omega (arith, length-take (l.end - l.first) (dro
 -- the hop of a pass
 abbrev pub hop_of : Pass → ℕ → Hop
 hop_of x to = record { start = x.start; end = x.end; receiver = to; light = Some x.light }
-
-pub pass_hop : (task : SearchTask) (u to : ℕ) (x : Pass) → IsPassAt task u to x → IsHopAt task x.number (hop_of x to)
-pass_hop task u to x p = record {
-  contact = p.contact;
-  named = p.named;
-  is = record { start = p.start; end = p.end; receiver = p.receiver; light = sym p.light };
-}
 
 pub pass_small : (task : SearchTask) → IsTask task → (u to : ℕ) (x : Pass) → IsPassAt task u to x → IsSmall (hop_of x to)
 pass_small task is u to x p =
@@ -178,6 +171,40 @@ pub link_receiver : (task : SearchTask) → IsTask task → (u : ℕ) (links : L
     (n t w b : ℕ) → HasNumber (passes_of passes l) n → Takes task n u t w b → w ≡ l.receiver
 link_receiver task is u links passes are i l at n t w b has s =
     (over_pass task is u l.receiver t has.1 w b ((are.each i l at).each has.0 has.1 has.2) (step_over task (passes_of passes l) n u t w b has s)).receiver
+
+-- the link at a place among those of a node, and the passes on it
+pub record IsLinkHere (task : SearchTask) (u : ℕ) (links : List Link) (passes : List Pass) (i : ℕ) (l : Link) (over : List Pass) : Type 0 where
+  pub here : slice_get links i ≡ Some l
+  pub receiver : l.receiver < length task.table
+  pub ordered : l.first ≤ l.end
+  pub within : l.end ≤ length passes
+  pub link : IsLinkWithin task u l.receiver over l.bounds
+  pub few : l.first + length over ≤ length passes
+  pub next : (m : Link) → slice_get links (i + 1) ≡ Some m → l.first + length over ≤ m.first
+  pub own : (j : ℕ) (x : Link) (n : ℕ) → slice_get links j ≡ Some x → j ≡ i → HasNumber (passes_of passes x) n → HasNumber over n
+  pub to : IsTask task → (n t w b : ℕ) → HasNumber over n → Takes task n u t w b → w ≡ l.receiver
+
+pub link_here : (task : SearchTask) (u : ℕ) (links : List Link) (passes : List Pass) → AreLinksAt task u links passes → (i : ℕ) → i < length links → (over : List Pass) → over ≡ passes_of passes (slice_index_or links i no_link) → IsLinkHere task u links passes i (slice_index_or links i no_link) over
+link_here task u links passes are i less over is =
+    let l = slice_index_or links i no_link in
+    let here : slice_get links i ≡ Some l = slice_get-get_or links i no_link less in
+    let many : length over ≡ l.end - l.first = rw is (passes_length passes l (are.within i l here)) in
+    record {
+      here = here;
+      receiver = are.receivers i l here;
+      ordered = are.ordered i l here;
+      within = are.within i l here;
+      link = rw is (are.each i l here, are.bounds i l here);
+      few = omega (arith, many, are.ordered i l here, are.within i l here);
+      next = λ m after. omega (arith, many, are.ordered i l here, are.in_row i l m here after);
+      own = λ j x n at same has.
+          (let one : x ≡ l = same_some (sym at ∙ ap (slice_get links) same ∙ here) in
+          rw is (subst (λ (y : Link). HasNumber (passes_of passes y) n) one has));
+      to = λ task_is n t w b has s. link_receiver task task_is u links passes are i l here n t w b (rw is at has) s;
+    }
+
+pub link_by_place : (task : SearchTask) (u : ℕ) (links : List Link) (passes : List Pass) → AreLinksAt task u links passes → (i : ℕ) → i < length links → IsLinkHere task u links passes i (slice_index_or links i no_link) (passes_of passes (slice_index_or links i no_link))
+link_by_place task u links passes are i less = link_here task u links passes are i less (passes_of passes (slice_index_or links i no_link)) refl
 
 -- what is at most a number is at most a greater one
 pub at_most_more : (o : Option Step) (m n : ℕ) → m ≤ n → IsAtMost o m → IsAtMost o n

@@ -1,7 +1,7 @@
 -- What a plan's rules say of a contact of a number, of its hop, and of the table of nodes.
 use Rattle.std.proofs.Common.{◌≡◌, ℕ, zero, suc, ◌+◌, ◌*◌, ◌<◌, ◌≤◌, max, Bool, true, false, ◌&&◌, cond, not, eqb, ltb, List, [], ◌∷◌, slice_get, refl, sym, ap, subst, ◌∙◌, inl, inr, ⊎_elim, arith}
 use Rattle.std.specs.Prelude.{IfSome, Contains, ◌↔◌}
-use Rattle.std.proofs.lemmas.Bool.{and_parts, not-true, both_ways, eqb-true, false_from_ne_true, or_left, or_right, eq-eqb, ltb-true, cond-true, lt-ltb}
+use Rattle.std.proofs.lemmas.Bool.{and_parts, not-true, both_ways, false_from_ne_true, or_left, or_right, eq-eqb, ltb-true, cond-true, lt-ltb}
 use Rattle.std.specs.List.{find}
 use Rattle.std.specs.Option.{option_map}
 use Rattle.std.specs.declared.option.Option.{Option}
@@ -16,7 +16,7 @@ use Rattle.sabr_model.specs.Table.{ends_of}
 use Rattle.sabr_model.specs.Tabled.{IsTabled, IsHopOf, IsHopNamed}
 use Rattle.sabr_model.proofs.Members.{IsIn, all_in, in_flat_map, in_from_Contains, Contains-from_in}
 use Rattle.sabr_model.proofs.Listed.{in_from_has, has_from_in}
-use Rattle.sabr_search.specs.Hops.{hop_arrival, IsSmall}
+use Rattle.sabr_model.specs.Hops.{hop_arrival, IsSmall}
 use Rattle.std.proofs.Math.Nat.{mul-le-mul}
 use Rattle.sabr_search.specs.Task.{HasNodes, SearchTask, IsTask, Takes, latest_arrival}
 use Rattle.sabr_search.specs.Steps.{IsHopAt}
@@ -33,9 +33,6 @@ found_in test (y ∷ ys) x h =
 
 pub contact_in : (p : ContactPlan) (n : ℕ) (c : Contact) → contact_named p n ≡ Some c → IsIn c p.contacts
 contact_in p n c h = (found_in (λ (d : Contact). eqb d.number n) p.contacts c h).0
-
-pub contact_number : (p : ContactPlan) (n : ℕ) (c : Contact) → contact_named p n ≡ Some c → c.number ≡ n
-contact_number p n c h = eqb-true c.number n (found_in (λ (d : Contact). eqb d.number n) p.contacts c h).1
 
 pub contact_window : (p : ContactPlan) → IsPlan p → (n : ℕ) (c : Contact) → contact_named p n ≡ Some c → IsWindow c.start c.end
 contact_window p good n c h = all_in (λ (d : Contact). IsWindow d.start d.end) p.contacts good.contact_windows c (contact_in p n c h)
@@ -72,10 +69,6 @@ hop_small p good n h named =
       ends = (let w = contact_window p.plan good n named.contact named.named in omega (arith, w.1, named.is.end));
       near = some_light h.light (λ l e. light_small p.plan good named.contact l (sym named.is.light ∙ e));
     }
-
-pub hop_window : (p : TabledPlan) → IsPlan p.plan → (n : ℕ) (h : Hop) → IsHopNamed p n h → h.start < h.end
-hop_window p good n h named =
-    let w = contact_window p.plan good n named.contact named.named in omega (arith, w.0, named.is.start, named.is.end)
 
 -- the arrival over a contact is that over its hop
 pub hop_arrival_is : (p : TabledPlan) (r : RouteRequest) (t : ℕ) (c : Contact) (h : Hop) → IsHopOf p c h → arrival p.plan r t c ≡ hop_arrival r.margin t h

@@ -1,7 +1,6 @@
 pub mod Ways
 pub mod Layers
 pub mod Front
-pub mod Hops
 pub mod Task
 pub mod Steps
 pub mod Linked

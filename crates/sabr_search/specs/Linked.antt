@@ -4,6 +4,7 @@ use Rattle.std.specs.declared.option.Option.TheVariants.{Some}
 use Rattle.sabr_model.specs.declared.contact.Contact.{Contact}
 use Rattle.sabr_model.specs.declared.link.Pass.{Pass}
 use Rattle.sabr_model.specs.declared.link.Link.{Link}
+use Rattle.sabr_model.specs.declared.link.LinkBounds.{LinkBounds}
 use Rattle.sabr_model.specs.Plan.{contact_named}
 use Rattle.sabr_model.specs.Light.{light_of}
 use Rattle.sabr_model.specs.Links.{IsBefore, IsInRow, AreWithin, SentLink}
@@ -29,6 +30,10 @@ pub record IsLinkAt (task : SearchTask) (u w : ℕ) (passes : List Pass) : Type 
   pub each : (k : ℕ) (x : Pass) → slice_get passes k ≡ Some x → IsPassAt task u w x
   pub kept : AreInOrder passes
   pub in_rows : (i j : ℕ) (x y : Pass) → slice_get passes i ≡ Some x → slice_get passes (i + j) ≡ Some y → IsInRow x j y
+
+-- so, and within the bounds of the link
+abbrev pub IsLinkWithin : SearchTask → ℕ → ℕ → List Pass → LinkBounds → Type 0
+IsLinkWithin task u w passes bounds = IsLinkAt task u w passes × AreWithin bounds passes
 
 -- one of the passes has the number
 abbrev pub HasNumber : List Pass → ℕ → Type 0

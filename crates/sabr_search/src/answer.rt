@@ -1,11 +1,8 @@
 //! The least route behind a prefix, from layers, deadlines and picks, with its record.
 
-ghost use Rattle.std.specs.Prelude.{◌≡◌, ◌++◌, ℕ, List, ◌+◌, ◌*◌, ◌-◌, ◌^◌, ◌≤◌, ◌<◌, Some, IfOk, IfSome, IfNone, OnErr, length, slice_get};
-ghost use Rattle.sabr_model.specs.declared.contact.Contact.{Contact};
-ghost use Rattle.sabr_model.specs.Plan.{contact_named};
-ghost use Rattle.sabr_model.specs.Route.{until_of, entry_of};
+ghost use Rattle.std.specs.Prelude.{◌≡◌, ◌++◌, ℕ, List, ◌+◌, ◌*◌, ◌-◌, ◌^◌, ◌≤◌, ◌<◌, Some, IfOk, IfSome, IfNone, OnErr, length};
 ghost use Rattle.sabr_search.specs.Ways.{Leads};
-ghost use Rattle.sabr_search.specs.Task.{IsTask, IsBehind, Takes, never};
+ghost use Rattle.sabr_search.specs.Task.{IsTask, Takes, never};
 ghost use Rattle.sabr_search.specs.Picks.{IsLeastWay, IsPicked};
 ghost use Rattle.sabr_search.specs.Deadlines.{AreTimed};
 ghost use Rattle.sabr_search.specs.Late.{AreArrivals, IsEnded};
@@ -15,43 +12,8 @@ ghost use Rattle.sabr_search.specs.Told.{hops_told, IsTold};
 use crate::layers::{Best, Layers, Limits};
 use crate::looks::Looks;
 use crate::task::Task;
-use sabr_model::{NoMemory, Numbers, Route};
+use sabr_model::{NoMemory, Route};
 use std::alloc::Allocator;
-
-/// The last second of the year 9998, after which no contact ends.
-const LAST_TIME: u64 = 253370764799;
-
-/// Gives the record of a route: one look for each of its contacts.
-pub fn record<A: Allocator + Copy>(
-    task: &Task<'_, A>,
-    looks: &mut Looks,
-    contacts: Vec<u32, A>,
-    delivery: u64,
-) -> Route<A>
-    requires task { IsTask task.now }
-    requires few { looks.old.count + length contacts.items ≤ 2 ^ 62 }
-    requires named { (i n : ℕ) → slice_get contacts.items i ≡ Some n → (c : Contact) × (contact_named task.now.plan n ≡ Some c) }
-    ensures looks { looks.new.count ≡ looks.old.count + length contacts.items }
-    ensures value { result ≡ record { contacts = contacts.items; delivery = delivery; until = until_of task.now.plan contacts.items; entry = entry_of task.now.plan contacts.items } }
-{
-    let mut until = LAST_TIME;
-    let mut entry = 0;
-    for number in &contacts {
-        let Some(hop) = task.look(looks, *number) else {
-            unreachable!();
-        };
-        until = until.min(hop.end);
-        if entry == 0 {
-            entry = task.node(hop.receiver);
-        }
-    }
-    Route {
-        contacts: Numbers::new(contacts),
-        delivery,
-        until,
-        entry,
-    }
-}
 
 impl<A: Allocator + Copy> Layers<A> {
     /// Gives the least route behind the prefix within the limits.
@@ -64,7 +26,6 @@ impl<A: Allocator + Copy> Layers<A> {
         limits: Limits,
     ) -> Result<Option<Route<A>>, NoMemory>
         requires task { IsTask task.now }
-        requires behind { IsBehind task.now prefix.now }
         requires few { looks.old.count + 3 * (limits.hops * length task.now.plan.contacts) + length prefix.now + limits.hops ≤ 2 ^ 62 }
         requires many { length prefix.now + limits.hops < 2 ^ 32 }
         requires sooner { limits.lower < limits.ceiling }
@@ -82,8 +43,8 @@ impl<A: Allocator + Copy> Layers<A> {
             return Ok(None);
         }
         self.set_deadlines(task, looks, best)?;
-        let contacts = self.pick(alloc, task, looks, best, prefix)?;
-        Ok(Some(record(task, looks, contacts, best.delivery)))
+        let route = self.finish(alloc, task, looks, best, prefix)?;
+        Ok(Some(route))
     }
 
     /// Gives the least route behind the prefix with the best delivery and hops, for which deadlines are set.
@@ -96,12 +57,11 @@ impl<A: Allocator + Copy> Layers<A> {
         prefix: &[u32],
     ) -> Result<Route<A>, NoMemory>
         requires task { IsTask task.now }
-        requires behind { IsBehind task.now prefix.now }
         requires few { looks.old.count + best.hops * length task.now.plan.contacts + length prefix.now + best.hops ≤ 2 ^ 62 }
         requires many { length prefix.now + best.hops < 2 ^ 32 }
         requires some { 0 < best.hops }
         requires timed { AreTimed task.now best 1 self.old.bounds.items self.old.place.items self.old.reached.items }
-        requires least { (ns : List ℕ) (e : ℕ) → Leads (Takes task.now) task.now.start task.now.at ns task.now.goal e → best.delivery ≤ e }
+        requires least { (ns : List ℕ) (e : ℕ) → length ns ≤ best.hops → Leads (Takes task.now) task.now.start task.now.at ns task.now.goal e → best.delivery ≤ e }
         ensures err_looks { OnErr result (looks.new.count ≤ looks.old.count + best.hops * length task.now.plan.contacts) }
         ensures ok_looks { IfOk result (λ route. looks.new.count ≤ looks.old.count + best.hops * length task.now.plan.contacts + length route.contacts) }
         ensures counted { IfOk result (λ route. length route.contacts ≤ looks.new.count) }
@@ -110,7 +70,7 @@ impl<A: Allocator + Copy> Layers<A> {
         ensures picked { IfOk result (λ route. (s : List ℕ) × (route.contacts ≡ prefix.now ++ s) × IsPicked task.now best s × IsTold task.now.plan route) }
     {
         let contacts = self.pick(alloc, task, looks, best, prefix)?;
-        Ok(record(task, looks, contacts, best.delivery))
+        Ok(task.record(looks, contacts, best.delivery))
     }
 
     /// Gives the least route behind the prefix, where no way delivers before `first` and layers made backward from the
@@ -126,7 +86,6 @@ impl<A: Allocator + Copy> Layers<A> {
         most: u64,
     ) -> Result<Option<Route<A>>, NoMemory>
         requires task { IsTask task.now }
-        requires behind { IsBehind task.now prefix.now }
         requires looked { looks.old.count ≤ most }
         requires few { most + first.hops * length task.now.plan.contacts + length prefix.now + first.hops ≤ 2 ^ 62 }
         requires many { length prefix.now + first.hops < 2 ^ 32 }
@@ -160,7 +119,6 @@ impl<A: Allocator + Copy> Layers<A> {
         first: Best,
     ) -> Result<Option<Route<A>>, NoMemory>
         requires task { IsTask task.now }
-        requires behind { IsBehind task.now prefix.now }
         requires looked { looks.old.count ≤ 2 * length task.now.plan.contacts }
         requires few { 2 * length task.now.plan.contacts + 3 * (limits.hops * length task.now.plan.contacts) + length prefix.now + limits.hops ≤ 2 ^ 62 }
         requires many { length prefix.now + limits.hops < 2 ^ 32 }

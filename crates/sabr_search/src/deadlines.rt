@@ -1,6 +1,6 @@
 //! Deadlines, backward: by layer and node the first second at which it is too late for the rest.
 
-ghost use Rattle.std.specs.Prelude.{◌≡◌, ◌≢◌, ◌↔◌, ◌⊎◌, ℕ, ◌+◌, ◌-◌, ◌*◌, ◌^◌, ◌≤◌, ◌<◌, IfOk, OnOk, length, slice_index};
+ghost use Rattle.std.specs.Prelude.{◌≡◌, ◌≢◌, ◌↔◌, ℕ, ◌+◌, ◌-◌, ◌*◌, ◌^◌, ◌≤◌, ◌<◌, IfOk, OnOk, length};
 ghost use Rattle.sabr_search.specs.declared.layers.Best.{Best};
 ghost use Rattle.sabr_search.specs.Task.{SearchTask, IsTask, Takes, never};
 ghost use Rattle.sabr_search.specs.Steps.{degree};

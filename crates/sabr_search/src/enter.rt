@@ -1,23 +1,20 @@
 //! Where a search starts and goes, and which nodes are shut: those of the prefix, the source, and those to avoid.
 
-ghost use Rattle.std.specs.Prelude.{◌≡◌, ◌||◌, ◌∷◌, ℕ, List, ◌+◌, ◌^◌, ◌≤◌, ◌<◌, Some, IfOk, IfSome, IfNone, OnOk, IsTrue, false, length, slice_get, slice_index_or};
+ghost use Rattle.std.specs.Prelude.{◌≡◌, ℕ, List, ◌+◌, ◌^◌, ◌≤◌, ◌<◌, Some, IfOk, IfSome, IfNone, OnOk, IsTrue, false, length, slice_get, slice_index_or};
 ghost use Rattle.sabr_model.specs.Plan.{IsPlan, has};
 ghost use Rattle.sabr_model.specs.Table.{node_count};
 ghost use Rattle.sabr_model.specs.Tabled.{IsTabled};
-ghost use Rattle.sabr_model.specs.Route.{is_route, receivers};
-ghost use Rattle.sabr_search.specs.Hops.{hop_arrival, IsSmall};
-ghost use Rattle.sabr_model.specs.Route.{is_prefix};
-ghost use Rattle.sabr_search.specs.Task.{HasNodes, IsTask, IsBehind, is_closed};
+ghost use Rattle.sabr_model.specs.Route.{is_route, is_prefix};
+ghost use Rattle.sabr_search.specs.Task.{HasNodes, IsTask, IsBehind};
 ghost use Rattle.sabr_search.specs.Entering.{AreShut, IsPassed};
 
 use crate::looks::Looks;
 use crate::pick::Standing;
-use crate::task::arrive_by_hop;
 use sabr_model::{NoMemory, Plan, Request};
 use std::alloc::Allocator;
 
 /// Makes as many nodes, all open.
-pub fn open_all<A: Allocator + Copy>(flags: &mut Vec<bool, A>, nodes: usize) -> Result<(), NoMemory>
+fn open_all<A: Allocator + Copy>(flags: &mut Vec<bool, A>, nodes: usize) -> Result<(), NoMemory>
     ensures many { OnOk result (length flags.new.items ≡ nodes) }
     ensures none { OnOk result ((k : ℕ) → slice_index_or flags.new.items k false ≡ false) }
 {
@@ -26,22 +23,18 @@ pub fn open_all<A: Allocator + Copy>(flags: &mut Vec<bool, A>, nodes: usize) -> 
     Ok(())
 }
 
-/// Opens every node but those to avoid.
-fn shut_avoided<A: Allocator + Copy>(
-    shut: &mut Vec<bool, A>,
-    plan: &Plan<A>,
-    request: &Request,
-) -> Result<(), NoMemory>
-    requires { HasNodes plan.now.plan plan.now.table }
-    ensures { OnOk result (AreShut plan.now.table shut.new.items (λ x. has x request.now.avoided)) }
+/// Shuts the nodes to avoid, where all are open.
+fn shut_avoided<A: Allocator + Copy>(shut: &mut Vec<bool, A>, plan: &Plan<A>, request: &Request)
+    requires nodes { HasNodes plan.now.plan plan.now.table }
+    requires many { length shut.old.items ≡ length plan.now.table }
+    requires none { (k : ℕ) → slice_index_or shut.old.items k false ≡ false }
+    ensures { AreShut plan.now.table shut.new.items (λ x. has x request.now.avoided) }
 {
-    open_all(shut, plan.nodes())?;
     for node in request.avoided() {
         if let Some(index) = plan.node_index(*node) {
             shut[index] = true;
         }
     }
-    Ok(())
 }
 
 /// Goes along the prefix, and shuts the source and every node on it.
@@ -71,7 +64,7 @@ fn pass_prefix<A: Allocator + Copy>(
         let Some(hop) = looks.hop(plan, *number) else {
             unreachable!();
         };
-        let Some(at) = arrive_by_hop(request.margin_ppm(), standing.at, &hop) else {
+        let Some(at) = hop.arrive(request, standing.at) else {
             unreachable!();
         };
         shut[hop.receiver] = true;
@@ -103,15 +96,15 @@ pub fn enter<A: Allocator + Copy>(
         IsTask (record { plan = plan.now.plan; request = request.now; table = plan.now.table; shut = shut.new.items; excluded = excluded; start = found.0.node; goal = found.1; at = found.0.at })
         × IsBehind (record { plan = plan.now.plan; request = request.now; table = plan.now.table; shut = shut.new.items; excluded = excluded; start = found.0.node; goal = found.1; at = found.0.at }) prefix.now)) }
 {
-    let _standing = plan.contacts();
-    let _nodes = plan.nodes();
+    plan.tell_rules();
+    open_all(shut, plan.nodes())?;
     let Some(source) = plan.node_index(request.from()) else {
         return Ok(None);
     };
     let Some(goal) = plan.node_index(request.to()) else {
         return Ok(None);
     };
-    shut_avoided(shut, plan, request)?;
+    shut_avoided(shut, plan, request);
     let standing = pass_prefix(shut, looks, plan, request, prefix, source);
     Ok(Some((standing, goal)))
 }

@@ -1,12 +1,11 @@
 //! The least route of a part, by a table that is kept for its delivery.
 
-ghost use Rattle.std.specs.Prelude.{◌≡◌, ◌⊎◌, ◌++◌, ℕ, List, ◌+◌, ◌-◌, ◌*◌, ◌^◌, ◌≤◌, ◌<◌, Some, IfOk, IfSome, IfNone, OnOk, OnErr, IsTrue, length, slice_get, slice_index};
+ghost use Rattle.std.specs.Prelude.{◌≡◌, ◌⊎◌, ◌++◌, ℕ, List, ◌+◌, ◌-◌, ◌*◌, ◌^◌, ◌≤◌, ◌<◌, Some, IfOk, IfSome, IfNone, OnOk, OnErr, IsTrue, length, slice_get};
 ghost use Rattle.sabr_search.specs.Task.{IsTask, IsBehind, Takes, never, latest_arrival};
 ghost use Rattle.sabr_search.specs.Told.{hops_told};
 ghost use Rattle.sabr_search.specs.Kept.{AreSpans, IsRung, IsKept, HavePlaces};
 ghost use Rattle.sabr_search.specs.Following.{tabled_of, ComesTo, AreFirstSteps, HasNoWay, IsNoneBefore, IsFound, IsLeastDue, IsWalked};
 
-use crate::answer::record;
 use crate::kept::Kept;
 use crate::layers::{Layers, NEVER};
 use crate::laying::LATEST;
@@ -138,16 +137,7 @@ impl<'a, A: Allocator + Copy> Task<'a, A> {
             if passes.len() as u64 > most - looks.count {
                 return Ok(None);
             }
-            least = self.least_over(
-                looks,
-                from.node,
-                link.receiver,
-                passes,
-                link.bounds,
-                from.at,
-                before,
-                least,
-            );
+            least = self.least_over(looks, from.node, link, passes, from.at, before, least);
         }
         Ok(least)
     }
@@ -232,7 +222,7 @@ impl<'a, A: Allocator + Copy> Task<'a, A> {
         let Some(contacts) = walked else {
             return Ok(None);
         };
-        Ok(Some(record(self, looks, contacts, rung.deadline)))
+        Ok(Some(self.record(looks, contacts, rung.deadline)))
     }
 }
 
@@ -241,26 +231,38 @@ fn meets<A: Allocator + Copy>(rung: &Rung<A>, first: &[Standing]) -> bool
     requires inside { (k : ℕ) (s : Standing) → slice_get first.now k ≡ Some s → s.node < length rung.now.spans.items }
     requires spans { AreSpans rung.now.dues.items rung.now.spans.items }
 {
-    rung.least_hops(first) < usize::MAX
+    for place in 0..first.len() {
+        if rung.hops_from(first[place]) < usize::MAX {
+            return true;
+        }
+    }
+    false
 }
 
 impl<A: Allocator + Copy> Kept<A> {
-    /// Gives the table of the least deadline from the floor on, of those for a delivery, for which a first step is in
-    /// time.
+    /// Gives the table of the soonest deadline from the floor on, of those for a delivery, for which a first step is in
+    /// time: what is in time for one is in time for those behind it, so the tables are halved.
     fn met(&self) -> Option<usize>
         requires { HavePlaces self.now }
         ensures { IfSome result (λ place. place < length self.now.rungs.items) }
     {
-        let mut least = LATEST + 1;
-        let mut found = None;
-        for place in 0..self.rungs.len() {
-            let rung = &self.rungs[place];
-            if self.floor <= rung.deadline && rung.deadline < least && meets(rung, &self.first) {
-                least = rung.deadline;
-                found = Some(place);
+        let mut low = 0;
+        let mut high = self.rungs.len();
+        while low < high {
+            let middle = low + (high - low) / 2;
+            let rung = &self.rungs[middle];
+            if self.floor <= rung.deadline && meets(rung, &self.first) {
+                high = middle;
+            } else {
+                low = middle + 1;
             }
         }
-        found
+        let rung = self.rungs.get(low)?;
+        if rung.deadline <= LATEST {
+            Some(low)
+        } else {
+            None
+        }
     }
 
     /// Gives the least route behind the prefix, where none delivers before the deadline of a table: read off it, or

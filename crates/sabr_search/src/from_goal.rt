@@ -1,10 +1,9 @@
 //! Hop layers made backward from the goal, once the first delivery is known: by number of hops the nodes from which so
 //! many lead to the goal by then, where fewer don't from as late on.
 
-ghost use Rattle.std.specs.Prelude.{◌≡◌, ◌≢◌, ℕ, ◌+◌, ◌^◌, ◌≤◌, ◌<◌, min, take, length, true, false, IsTrue, slice_get, slice_index, slice_index_or, slice_set, Some, None, OnOk, IfOk, IfSome, IfNone, List, [], ◌∷◌, ◌++◌, ◌-◌, replicate, reverse};
-ghost use Rattle.sabr_model.specs.Links.{AreWithin};
+ghost use Rattle.std.specs.Prelude.{◌≡◌, ℕ, ◌+◌, ◌^◌, ◌≤◌, ◌<◌, min, take, length, true, false, IsTrue, slice_get, slice_index, slice_index_or, slice_set, Some, None, OnOk, IfOk, IfSome, IfNone, List, [], ◌∷◌, ◌++◌, ◌-◌, replicate, reverse};
 ghost use Rattle.sabr_search.specs.Task.{IsTask, Takes, never};
-ghost use Rattle.sabr_search.specs.Linked.{IsLinkAt, HasNumber};
+ghost use Rattle.sabr_search.specs.Linked.{IsLinkWithin, HasNumber};
 ghost use Rattle.sabr_search.specs.Late.{soonest, InTimeFor, AreLate, IsNotedLate, IsToldLate, AreTold, AreArrivals, AreLateLayers, IsMet, IsEnded};
 ghost use Rattle.sabr_search.specs.Following.{IsNoneBefore};
 ghost use Rattle.sabr_search.specs.Ways.{Leads};
@@ -18,11 +17,38 @@ use std::alloc::Allocator;
 
 /// Tells when the first of all ways may be at a node: at its least arrival, or at the first delivery, where the search
 /// stopped.
-pub fn soonest_at(arrival: &[u64], delivery: u64, node: usize) -> u64
+fn soonest_at(arrival: &[u64], delivery: u64, node: usize) -> u64
     requires { node < length arrival.now }
     ensures { result ≡ soonest arrival.now delivery node }
 {
     arrival[node].min(delivery)
+}
+
+impl<'a, A: Allocator + Copy> Task<'a, A> {
+    /// Tells whether what is at the start arrives over a link from there before `before`. It stands apart, since layers
+    /// come to a link from the start once at most for each entry, and to others far more often.
+    #[inline(never)]
+    fn starts_in_time(&self, looks: &mut Looks, from: Sender<'_>, to: usize, before: u64) -> bool
+        requires task { IsTask self.now }
+        requires start { from.node ≡ self.now.start }
+        requires link { IsLinkWithin self.now from.node to from.passes.now from.bounds }
+        requires receiver { slice_index_or self.now.shut to false ≡ false }
+        requires few { looks.old.count + length from.passes.now ≤ 2 ^ 62 }
+        ensures looks { looks.new.count ≤ looks.old.count + length from.entry.passes.now }
+        ensures met { IsTrue result → (n : ℕ) × (b : ℕ) × Takes self.now n self.now.start self.now.at to b × (b < before) }
+        ensures told { result ≡ false → (n t w b : ℕ) → self.now.at ≤ t → HasNumber from.entry.passes.now n → Takes self.now n self.now.start t w b → before ≤ b }
+    {
+        let at = self.arrive_over(
+            looks,
+            from.node,
+            to,
+            from.passes,
+            from.bounds,
+            self.at(),
+            before,
+        );
+        at < before
+    }
 }
 
 impl<A: Allocator + Copy> Layers<A> {
@@ -47,63 +73,6 @@ impl<A: Allocator + Copy> Layers<A> {
         Ok(())
     }
 
-    /// Takes one link from an open node to one that is left in time before `before`, for the layer in front of `left`.
-    fn take_back(
-        &mut self,
-        task: &Task<'_, A>,
-        looks: &mut Looks,
-        arrival: &[u64],
-        delivery: u64,
-        from: Sender<'_>,
-        to: usize,
-        before: u64,
-        left: usize,
-    ) -> Result<(), NoMemory>
-        requires task { IsTask task.now }
-        requires bounded { left + 1 < length self.old.ends.items }
-        requires link { IsLinkAt task.now from.node to from.passes.now }
-        requires bounds { AreWithin from.bounds from.passes.now }
-        requires node { from.node < length task.now.table }
-        requires other { from.node ≢ task.now.start }
-        requires inner { from.node ≢ task.now.goal }
-        requires unshut { slice_index_or task.now.shut from.node false ≡ false }
-        requires receiver { slice_index_or task.now.shut to false ≡ false }
-        requires arrivals { length arrival.now ≡ length task.now.table }
-        requires few { looks.old.count + length from.passes.now ≤ 2 ^ 62 }
-        requires given { (b : ℕ) → b < before → InTimeFor self.old.reached.items (slice_index self.old.ends.items left) (slice_index self.old.ends.items (left + 1)) to b }
-        requires lists { AreLate task.now arrival.now delivery (slice_index self.old.ends.items left) (slice_index self.old.ends.items (left + 1)) self.old.late.items self.old.place.items self.old.reached.items }
-        ensures ends { self.new.ends ≡ self.old.ends }
-        ensures looks { looks.new.count ≤ looks.old.count + length from.entry.passes.now }
-        ensures lists { OnOk result (AreLate task.now arrival.now delivery (slice_index self.old.ends.items left) (slice_index self.old.ends.items (left + 1)) self.new.late.items self.new.place.items self.new.reached.items) }
-        ensures kept { OnOk result (take (slice_index self.old.ends.items (left + 1)) self.new.reached.items ≡ take (slice_index self.old.ends.items (left + 1)) self.old.reached.items) }
-        ensures rises { OnOk result ((k : ℕ) → slice_index self.old.late.items k ≤ slice_index self.new.late.items k) }
-        ensures told { OnOk result ((n t w b : ℕ) → HasNumber from.entry.passes.now n → Takes task.now n from.entry.node t w b → b < before → soonest arrival.now delivery from.entry.node ≤ t → t < slice_index self.new.late.items from.entry.node) }
-    {
-        let latest = self.late[from.node];
-        let since = soonest_at(arrival, delivery, from.node);
-        let last = task.leave_over(
-            looks,
-            from.node,
-            to,
-            from.passes,
-            from.bounds,
-            since,
-            before,
-            latest,
-        );
-        if last <= latest || last <= since {
-            return Ok(());
-        }
-        let entry = Reached {
-            node: from.node,
-            arrival: since,
-            deadline: last,
-        };
-        let begin = self.ends[left + 1];
-        self.note_late(entry, begin)?;
-        Ok(())
-    }
-
     /// Takes one link to a node that is left in time before `before`, for the layer in front of `left`; tells whether the
     /// start is in time for it.
     fn take_sender(
@@ -119,8 +88,7 @@ impl<A: Allocator + Copy> Layers<A> {
     ) -> Result<bool, NoMemory>
         requires task { IsTask task.now }
         requires bounded { left + 1 < length self.old.ends.items }
-        requires link { IsLinkAt task.now from.node to from.passes.now }
-        requires bounds { AreWithin from.bounds from.passes.now }
+        requires link { IsLinkWithin task.now from.node to from.passes.now from.bounds }
         requires node { from.node < length task.now.table }
         requires receiver { slice_index_or task.now.shut to false ≡ false }
         requires arrivals { length arrival.now ≡ length task.now.table }
@@ -136,16 +104,8 @@ impl<A: Allocator + Copy> Layers<A> {
         ensures told { IfOk result (λ met. met ≡ false → (n t w b : ℕ) → HasNumber from.entry.passes.now n → Takes task.now n from.entry.node t w b → b < before → IsToldLate task.now arrival.now delivery self.new.late.items from.entry.node t) }
     {
         if from.node == task.start() {
-            let at = task.arrive_over(
-                looks,
-                from.node,
-                to,
-                from.passes,
-                from.bounds,
-                task.at(),
-                before,
-            );
-            return Ok(at < before);
+            let met = task.starts_in_time(looks, from, to, before);
+            return Ok(met);
         }
         if from.node == task.goal() {
             return Ok(false);
@@ -153,7 +113,28 @@ impl<A: Allocator + Copy> Layers<A> {
         if task.shut()[from.node] {
             return Ok(false);
         }
-        self.take_back(task, looks, arrival, delivery, from, to, before, left)?;
+        let latest = self.late[from.node];
+        let since = soonest_at(arrival, delivery, from.node);
+        let last = task.leave_over(
+            looks,
+            from.node,
+            to,
+            from.passes,
+            from.bounds,
+            since,
+            before,
+            latest,
+        );
+        if last <= latest || last <= since {
+            return Ok(false);
+        }
+        let entry = Reached {
+            node: from.node,
+            arrival: since,
+            deadline: last,
+        };
+        let begin = self.ends[left + 1];
+        self.note_late(entry, begin)?;
         Ok(false)
     }
 
@@ -213,7 +194,7 @@ impl<A: Allocator + Copy> Layers<A> {
 
     /// Makes the layer in front of layer `left`; tells whether the start is in time for an entry of `left`, or nothing
     /// as `take_senders` does.
-    pub fn next_back(
+    fn next_back(
         &mut self,
         task: &Task<'_, A>,
         looks: &mut Looks,
@@ -252,7 +233,7 @@ impl<A: Allocator + Copy> Layers<A> {
     }
 
     /// Makes layer 0: the goal alone.
-    pub fn first_back(&mut self, task: &Task<'_, A>, delivery: u64) -> Result<(), NoMemory>
+    fn first_back(&mut self, task: &Task<'_, A>, delivery: u64) -> Result<(), NoMemory>
         requires task { IsTask task.now }
         requires early { delivery < never }
         ensures ends { OnOk result (self.new.ends.items ≡ 0 ∷ 1 ∷ []) }
@@ -296,6 +277,7 @@ impl<A: Allocator + Copy> Layers<A> {
         ensures within { IfOk result (λ o. IfSome o (λ left. left < first.hops)) }
         ensures made { IfOk result (λ o. IfSome o (λ left. (late place : List ℕ) × AreLateLayers task.now arrival.now first.delivery left self.new.ends.items late place self.new.reached.items)) }
         ensures met { IfOk result (λ o. IfSome o (λ left. IsMet task.now left self.new.ends.items self.new.reached.items)) }
+        ensures all { IfOk result (λ o. IfNone o (IsEnded self.new.ends.items → (left : ℕ) × (place : List ℕ) × AreLateLayers task.now arrival.now first.delivery left self.new.ends.items self.new.late.items place self.new.reached.items)) }
         ensures ended { IfOk result (λ o. IfNone o (IsEnded self.new.ends.items → IsNoneBefore task.now (first.delivery + 1))) }
     {
         self.first_back(task, first.delivery)?;

@@ -43,7 +43,7 @@ pub struct Seen {
 pub struct Kept<A: Allocator + Copy = Global> {
     /// Where tables take their memory.
     pub alloc: A,
-    /// The tables.
+    /// The tables, the soonest deadline first.
     pub rungs: Vec<Rung<A>, A>,
     /// By the remainder of a delivery, how often it was the answer.
     pub seen: Vec<Seen, A>,
@@ -153,7 +153,18 @@ impl<A: Allocator + Copy> Kept<A> {
         self.rungs.len() < MOST_RUNGS
     }
 
-    /// Keeps the table of a deadline, where it is made within `most` looks and no growth is refused.
+    /// Tells how many tables have sooner deadlines.
+    fn place_for(&self, deadline: u64) -> usize
+        ensures { result ≤ length self.now.rungs.items }
+    {
+        let mut place = 0;
+        while place < self.rungs.len() && self.rungs[place].deadline < deadline {
+            place += 1;
+        }
+        place
+    }
+
+    /// Keeps the table of a deadline behind those of sooner ones, where it is made within `most` looks and no growth is refused.
     fn keep(
         &mut self,
         layers: &mut Layers<A>,
@@ -175,10 +186,8 @@ impl<A: Allocator + Copy> Kept<A> {
         let Some(rung) = made else {
             return;
         };
-        if self.rungs.reserve(1).is_err() {
-            return;
-        }
-        self.rungs.push_reserved(rung);
+        let place = self.place_for(deadline);
+        self.rungs.insert(place, rung).ok();
     }
 
     /// Counts a part that had no route.

@@ -1,11 +1,9 @@
 //! Hop layers, forward: by number of hops the nodes that they bring an earlier arrival, with it.
 
-ghost use Rattle.std.specs.Prelude.{◌≡◌, ◌≢◌, min, ℕ, Bool, List, [], ◌∷◌, ◌+◌, ◌*◌, ◌^◌, ◌≤◌, ◌<◌, length, take, slice_set, slice_index, slice_index_or, Some, OnOk, IfOk, false};
-ghost use Rattle.sabr_model.specs.Links.{AreWithin};
+ghost use Rattle.std.specs.Prelude.{◌≡◌, ◌≢◌, min, ℕ, Bool, List, [], ◌∷◌, ◌+◌, ◌*◌, ◌^◌, ◌≤◌, ◌<◌, length, take, slice_set, slice_index, OnOk, IfOk};
 ghost use Rattle.sabr_search.specs.Task.{IsTask, Takes};
 ghost use Rattle.sabr_search.specs.Steps.{degree};
-ghost use Rattle.sabr_search.specs.Linked.{IsLinkAt, HasNumber, AreLinksAt};
-ghost use Rattle.sabr_search.specs.Hops.{hop_arrival, IsSmall};
+ghost use Rattle.sabr_search.specs.Linked.{IsLinkWithin, HasNumber};
 ghost use Rattle.sabr_search.specs.Lists.{IsPlaced, IsLinked, IsLayer, AddsOnly, AreFresh, AreLists, IsLowered, IsKnown, AreSources, GivenFrom, IsKnownFrom};
 ghost use Rattle.sabr_search.specs.Ways.{Leads};
 ghost use Rattle.sabr_search.specs.Made.{AreOpened, AreLayers};
@@ -13,7 +11,7 @@ ghost use Rattle.sabr_search.specs.Made.{AreOpened, AreLayers};
 use crate::looks::Looks;
 use crate::over_link::link_passes;
 use crate::task::Task;
-use sabr_model::{LinkBounds, NoMemory, Pass};
+use sabr_model::{Link, NoMemory, Pass};
 use std::alloc::Allocator;
 
 /// A node that a layer reaches, when, and the first second at which it is too late for the rest.
@@ -56,6 +54,26 @@ pub fn open_nodes<A: Allocator + Copy>(
     }
     arrival[task.start()] = task.at();
     Ok(())
+}
+
+/// Tells before which second an arrival at a node is news.
+pub fn news_before<A: Allocator + Copy>(
+    arrival: &[u64],
+    task: &Task<'_, A>,
+    to: usize,
+    best: u64,
+) -> u64
+    requires many { length arrival.now ≡ length task.now.shut }
+    requires task { IsTask task.now }
+    requires node { to < length task.now.table }
+    ensures goal { to ≡ task.now.goal → result ≡ best }
+    ensures other { to ≢ task.now.goal → result ≡ min best (slice_index arrival.now to) }
+{
+    if to == task.goal() {
+        best
+    } else {
+        best.min(arrival[to])
+    }
 }
 
 /// By node the least arrival so far and the place of an entry, or 0; the entries, layer by layer, the first being the
@@ -123,37 +141,20 @@ impl<A: Allocator + Copy> Layers<A> {
         Ok(())
     }
 
-    /// Tells before which second an arrival at a node is news.
-    fn news_before(&self, task: &Task<'_, A>, to: usize, best: u64) -> u64
-        requires many { length self.now.arrival.items ≡ length task.now.shut }
-        requires task { IsTask task.now }
-        requires node { to < length task.now.table }
-        ensures goal { to ≡ task.now.goal → result ≡ best }
-        ensures other { to ≢ task.now.goal → result ≡ min best (slice_index self.now.arrival.items to) }
-    {
-        if to == task.goal() {
-            best
-        } else {
-            best.min(self.arrival[to])
-        }
-    }
-
     /// Takes one link of a node that is reached; answers the least delivery so far.
     fn take_link(
         &mut self,
         task: &Task<'_, A>,
         looks: &mut Looks,
         from: Reached,
-        to: usize,
+        link: &Link,
         passes: &[Pass],
-        bounds: LinkBounds,
         begin: usize,
         best: u64,
     ) -> Result<u64, NoMemory>
         requires task { IsTask task.now }
-        requires link { IsLinkAt task.now from.node to passes.now }
-        requires bounds { AreWithin bounds passes.now }
-        requires receiver { to < length task.now.table }
+        requires link { IsLinkWithin task.now from.node link.now.receiver passes.now link.now.bounds }
+        requires receiver { link.now.receiver < length task.now.table }
         requires since { task.now.at ≤ from.arrival }
         requires few { looks.old.count + length passes.now ≤ 2 ^ 62 }
         requires later { 0 < begin }
@@ -163,7 +164,9 @@ impl<A: Allocator + Copy> Layers<A> {
         ensures lowered { IfOk result (λ b. IsLowered task.now.shut task.now.goal task.now.at begin (λ w x. (n : ℕ) × Takes task.now n from.node from.arrival w x) self.old.arrival.items self.old.reached.items best self.new.arrival.items self.new.place.items self.new.reached.items b) }
         ensures known { IfOk result (λ b. (n w x : ℕ) → HasNumber passes.now n → Takes task.now n from.node from.arrival w x → IsKnown task.now.goal self.new.arrival.items b w x) }
     {
-        let before = self.news_before(task, to, best);
+        let to = link.receiver;
+        let bounds = link.bounds;
+        let before = news_before(&self.arrival, task, to, best);
         let at = task.arrive_over(looks, from.node, to, passes, bounds, from.arrival, before);
         if at >= before {
             return Ok(best);
@@ -200,16 +203,7 @@ impl<A: Allocator + Copy> Layers<A> {
         let mut least = best;
         for link in links.links {
             let passes = link_passes(links, link);
-            least = self.take_link(
-                task,
-                looks,
-                from,
-                link.receiver,
-                passes,
-                link.bounds,
-                begin,
-                least,
-            )?;
+            least = self.take_link(task, looks, from, link, passes, begin, least)?;
         }
         Ok(least)
     }

@@ -1,24 +1,23 @@
 //! Making the table of a deadline: layers backward from the goal over the whole graph.
 
-ghost use Rattle.std.specs.Prelude.{◌≡◌, ◌≢◌, ℕ, ◌+◌, ◌-◌, ◌^◌, ◌≤◌, ◌<◌, IfOk, IfSome, OnOk, Some, Contains, All, length, slice_get, slice_index};
+ghost use Rattle.std.specs.Prelude.{◌≡◌, ℕ, ◌+◌, ◌-◌, ◌^◌, ◌≤◌, ◌<◌, IfOk, IfSome, OnOk, Some, length, slice_index};
 ghost use Rattle.sabr_search.specs.declared.rung.Due.{Due};
-ghost use Rattle.sabr_search.specs.declared.layers.Reached.{Reached};
 ghost use Rattle.sabr_search.specs.Task.{IsTask, never, latest_arrival};
 ghost use Rattle.sabr_search.specs.Laying.{IsWhole, AreAllLate, AreGathered};
 ghost use Rattle.sabr_search.specs.Kept.{IsRung, IsFloor, AreDues, AreSpans, IsWithin};
 ghost use Rattle.sabr_search.specs.Following.{tabled_of};
 
 use crate::enter::enter;
-use crate::layers::{Layers, NEVER};
+use crate::layers::{Best, Layers, NEVER};
 use crate::looks::Looks;
 use crate::pick::Standing;
 use crate::rung::{Due, Rung, Span};
 use crate::task::Task;
-use sabr_model::{NoMemory, Plan, Request};
+use sabr_model::{LAST_TIME, MOST_LIGHT, NoMemory, Plan, Request};
 use std::alloc::Allocator;
 
-/// After every contact: nothing leaves then, and nothing arrives later.
-pub const LATEST: u64 = 253372764799;
+/// After every contact: nothing leaves then, and with the greatest light time and margin nothing arrives later.
+pub const LATEST: u64 = LAST_TIME + 2 * MOST_LIGHT as u64;
 
 impl<A: Allocator + Copy> Layers<A> {
     /// Makes layers backward from the goal until one has no entry: answers how many there are before that one. None
@@ -40,22 +39,18 @@ impl<A: Allocator + Copy> Layers<A> {
         ensures looks { looks.new.count ≤ most }
         ensures made { IfOk result (λ o. IfSome o (λ left. AreAllLate task.now delivery left self.new.ends.items self.new.late.items self.new.reached.items)) }
     {
-        self.first_back(task, delivery)?;
-        for left in 0..task.shut().len() {
-            if self.ends[left] == self.ends[left + 1] {
-                return Ok(Some(left));
-            }
-            let told = self.next_back(task, looks, since, delivery, left, most)?;
-            let Some(met) = told else {
-                return Ok(None);
-            };
-            if met {
-                return Ok(None);
-            }
-            let end = self.reached.len();
-            self.ends.push(end)?;
+        let by = Best {
+            delivery,
+            hops: task.shut().len(),
+        };
+        let met = self.make_back(task, looks, since, by, most)?;
+        if met.is_some() {
+            return Ok(None);
         }
-        Ok(None)
+        if !self.have_ended() {
+            return Ok(None);
+        }
+        Ok(Some(self.ends.len() - 2))
     }
 
     /// Gives by node the first second too late for a delivery before the deadline, from all layers for the second

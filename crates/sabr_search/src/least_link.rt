@@ -1,17 +1,16 @@
 //! The least number of a link that arrives in time.
 
 ghost use Rattle.std.specs.Prelude.{◌≡◌, ◌⊎◌, ℕ, ◌+◌, ◌^◌, ◌≤◌, ◌<◌, Some, IfSome, false, length, slice_index_or};
-ghost use Rattle.sabr_model.specs.Links.{AreWithin};
 ghost use Rattle.sabr_search.specs.Task.{IsTask, Takes};
 ghost use Rattle.sabr_search.specs.Picks.{IsAtMost};
-ghost use Rattle.sabr_search.specs.Linked.{IsLinkAt, HasNumber};
+ghost use Rattle.sabr_search.specs.Linked.{IsLinkWithin, HasNumber};
 
 use crate::finger::Finger;
 use crate::looks::Looks;
 use crate::over_link::{first_open, rules_out};
 use crate::pick::{Step, is_at_most};
 use crate::task::Task;
-use sabr_model::{LinkBounds, Pass};
+use sabr_model::{Link, Pass};
 use std::alloc::Allocator;
 
 impl<'a, A: Allocator + Copy> Task<'a, A> {
@@ -22,24 +21,22 @@ impl<'a, A: Allocator + Copy> Task<'a, A> {
         &self,
         looks: &mut Looks,
         node: usize,
-        to: usize,
+        link: &Link,
         passes: &[Pass],
-        bounds: LinkBounds,
         at: u64,
         before: u64,
         least: Option<Step>,
     ) -> Option<Step>
         requires task { IsTask self.now }
-        requires link { IsLinkAt self.now node to passes.now }
-        requires bounds { AreWithin bounds passes.now }
+        requires link { IsLinkWithin self.now node link.now.receiver passes.now link.now.bounds }
         requires few { looks.old.count + length passes.now ≤ 2 ^ 62 }
         ensures looks { looks.new.count ≤ looks.old.count + length passes.now }
         ensures some_looks { (result ≡ least) ⊎ (looks.old.count < looks.new.count) }
         ensures lower { (n : ℕ) → IsAtMost least n → IsAtMost result n }
-        ensures sound { (result ≡ least) ⊎ IfSome result (λ s. (s.node ≡ to) × (s.at < before) × (slice_index_or self.now.shut to false ≡ false → Takes self.now s.number node at to s.at)) }
+        ensures sound { (result ≡ least) ⊎ IfSome result (λ s. (s.node ≡ link.now.receiver) × (s.at < before) × (slice_index_or self.now.shut link.now.receiver false ≡ false → Takes self.now s.number node at link.now.receiver s.at)) }
         ensures full { (n w b : ℕ) → HasNumber passes.now n → Takes self.now n node at w b → b < before → IsAtMost result n }
     {
-        if rules_out(bounds, at, before) {
+        if rules_out(link.bounds, at, before) {
             return least;
         }
         let mut chosen = least;
@@ -62,11 +59,11 @@ impl<'a, A: Allocator + Copy> Task<'a, A> {
             if is_at_most(chosen, pass.number) {
                 continue;
             }
-            let hop = self.hop_over(to, pass);
+            let hop = self.hop_over(link.receiver, pass);
             if let Some(arrival) = self.arrive_before(at, &hop, before) {
                 chosen = Some(Step {
                     number: pass.number,
-                    node: to,
+                    node: link.receiver,
                     at: arrival,
                 });
             }

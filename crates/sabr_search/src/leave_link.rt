@@ -3,9 +3,8 @@
 ghost use Rattle.std.specs.Prelude.{◌≡◌, ◌≢◌, ◌⊎◌, ℕ, ◌+◌, ◌^◌, ◌≤◌, ◌<◌, max, IsTrue, false, Some, length, slice_get, slice_index_or};
 ghost use Rattle.sabr_model.specs.declared.link.Pass.{Pass};
 ghost use Rattle.sabr_model.specs.Arrival.{cost};
-ghost use Rattle.sabr_model.specs.Links.{AreWithin};
 ghost use Rattle.sabr_search.specs.Task.{IsTask, Takes};
-ghost use Rattle.sabr_search.specs.Linked.{IsLinkAt, AreInOrder, HasNumber};
+ghost use Rattle.sabr_search.specs.Linked.{IsLinkWithin, AreInOrder, HasNumber};
 
 use crate::looks::Looks;
 use crate::over_link::rules_out;
@@ -54,8 +53,7 @@ impl<'a, A: Allocator + Copy> Task<'a, A> {
         latest: u64,
     ) -> u64
         requires task { IsTask self.now }
-        requires link { IsLinkAt self.now node to passes.now }
-        requires bounds { AreWithin bounds passes.now }
+        requires link { IsLinkWithin self.now node to passes.now bounds }
         requires other { node ≢ self.now.start }
         requires few { looks.old.count + length passes.now ≤ 2 ^ 62 }
         ensures looks { looks.new.count ≤ looks.old.count + length passes.now }

@@ -5,9 +5,7 @@ ghost use Rattle.sabr_search.specs.Task.{never};
 ghost use Rattle.sabr_search.specs.Limits.{AreLimits};
 
 use crate::layers::{Best, Limits, NEVER};
-
-/// The limit on hops of a request without limits. No route has more contacts than a plan has.
-const MOST_HOPS: u32 = 20000;
+use sabr_model::MOST_HOPS;
 
 /// Limits the layers: the first way does reach its delivery, so no more of them than it has hops are needed. Where so
 /// many hops are allowed behind the `used` contacts of a prefix, nothing later is needed; where they are not, its

@@ -1,9 +1,9 @@
 //! The one way of a search to the record of a contact, which counts each look.
 
-ghost use Rattle.std.specs.Prelude.{◌≡◌, ◌+◌, ◌<◌, ◌^◌, None, MatchOption, IfSome};
+ghost use Rattle.std.specs.Prelude.{◌≡◌, ◌+◌, ◌<◌, ◌≤◌, ◌^◌, None, MatchOption, IfSome, length};
 ghost use Rattle.sabr_model.specs.Plan.{IsPlan, contact_named};
 ghost use Rattle.sabr_model.specs.Tabled.{IsHopNamed};
-ghost use Rattle.sabr_search.specs.Hops.{IsSmall};
+ghost use Rattle.sabr_model.specs.Hops.{IsSmall};
 
 use sabr_model::{Hop, Plan};
 use std::alloc::Allocator;
@@ -34,6 +34,16 @@ impl Looks {
     {
         self.count += 1;
         contact
+    }
+
+    /// Counts a look for each of these contacts and hands on their numbers.
+    pub fn look_all<'a>(&mut self, contacts: &'a [u32]) -> &'a [u32]
+        requires few { self.old.count + length contacts.now ≤ 2 ^ 62 }
+        ensures counted { self.new.count ≡ self.old.count + length contacts.now }
+        ensures same { result.now ≡ contacts.now }
+    {
+        self.count += contacts.len() as u64;
+        contacts
     }
 
     /// Gives the record of a standing contact: one look.

@@ -8,17 +8,17 @@ use crate::laying::LATEST;
 use std::alloc::Allocator;
 
 impl<A: Allocator + Copy> Kept<A> {
-    /// Tells whether a table shows that no way leads to the goal: none of the first steps is in time for any delivery.
+    /// Tells whether the last table shows that no way leads to the goal: none of the first steps is in time for any
+    /// delivery.
     pub(crate) fn shows_none(&self) -> bool
         requires { HavePlaces self.now }
         ensures { IsTrue result → ShowsNone self.now }
     {
-        for place in 0..self.rungs.len() {
-            let rung = &self.rungs[place];
-            if rung.deadline > LATEST && rung.comes_no_sooner(&self.first) {
-                return true;
-            }
+        let count = self.rungs.len();
+        if count == 0 {
+            return false;
         }
-        false
+        let rung = &self.rungs[count - 1];
+        rung.deadline > LATEST && rung.comes_no_sooner(&self.first)
     }
 }

@@ -3,11 +3,10 @@
 ghost use Rattle.std.specs.Prelude.{◌≡◌, ◌⊎◌, ℕ, ◌+◌, ◌^◌, ◌≤◌, ◌<◌, max, IsTrue, false, Some, length, slice_get, slice_index_or};
 ghost use Rattle.sabr_model.specs.declared.link.Pass.{Pass};
 ghost use Rattle.sabr_model.specs.Arrival.{cost};
-ghost use Rattle.sabr_model.specs.Links.{AreWithin};
-ghost use Rattle.sabr_search.specs.Hops.{IsSmall};
+ghost use Rattle.sabr_model.specs.Hops.{IsSmall};
 ghost use Rattle.sabr_search.specs.Task.{IsTask, Takes};
 ghost use Rattle.sabr_search.specs.Steps.{IsHopAt};
-ghost use Rattle.sabr_search.specs.Linked.{IsPassAt, IsLinkAt, AreInOrder, HasNumber, passes_of};
+ghost use Rattle.sabr_search.specs.Linked.{IsPassAt, IsLinkWithin, AreInOrder, HasNumber, passes_of};
 
 use crate::finger::Finger;
 use crate::looks::Looks;
@@ -90,8 +89,7 @@ impl<'a, A: Allocator + Copy> Task<'a, A> {
         before: u64,
     ) -> u64
         requires task { IsTask self.now }
-        requires link { IsLinkAt self.now node to passes.now }
-        requires bounds { AreWithin bounds passes.now }
+        requires link { IsLinkWithin self.now node to passes.now bounds }
         requires few { looks.old.count + length passes.now ≤ 2 ^ 62 }
         ensures looks { looks.new.count ≤ looks.old.count + length passes.now }
         ensures looked { looks.old.count ≤ looks.new.count }

@@ -1,6 +1,6 @@
 //! The least numbers from the front, by the deadlines of hop layers.
 
-ghost use Rattle.std.specs.Prelude.{◌≡◌, ◌++◌, ℕ, List, ◌+◌, ◌*◌, ◌^◌, ◌≤◌, ◌<◌, true, false, Some, IfOk, IfSome, IfNone, IsTrue, length, slice_index};
+ghost use Rattle.std.specs.Prelude.{◌≡◌, ◌++◌, ℕ, List, ◌+◌, ◌*◌, ◌^◌, ◌≤◌, ◌<◌, false, Some, IfOk, IfSome, IfNone, IsTrue, length};
 ghost use Rattle.sabr_search.specs.Ways.{Leads};
 ghost use Rattle.sabr_search.specs.Task.{IsTask, Takes};
 ghost use Rattle.sabr_search.specs.Steps.{degree};
@@ -67,16 +67,7 @@ impl<A: Allocator + Copy> Layers<A> {
         for link in links.links {
             let passes = link_passes(links, link);
             let before = self.deadline(task, best, hop, link.receiver);
-            least = task.least_over(
-                looks,
-                from.node,
-                link.receiver,
-                passes,
-                link.bounds,
-                from.at,
-                before,
-                least,
-            );
+            least = task.least_over(looks, from.node, link, passes, from.at, before, least);
         }
         Ok(least)
     }

@@ -150,6 +150,49 @@ impl<A: Allocator + Copy> Settled<A> {
             calls: GhostCount::new(),
         }
     }
+
+    /// Finds the least route of a part: told by what is kept, or else by a search.
+    fn find(
+        &mut self,
+        kept: &mut Kept<A>,
+        plan: &Plan<A>,
+        request: &Request,
+        part: Part<'_>,
+    ) -> Result<Option<Route<A>>, NoMemory>
+        requires fits { IsTrue (is_prefix plan.now.plan request.now part.prefix.now) }
+        requires kept { IsKept plan.now request.now kept.old }
+        ensures least { IfOk result (IsLeast plan.now.plan request.now part.entry.prefix.now part.entry.excluded.now) }
+        ensures bound { self.new.looks.count ≤ (3 * node_count plan.now.plan.contacts + 1) * length plan.now.plan.contacts }
+        ensures counted { IfOk result (λ answer. hops_told answer ≤ self.new.looks.count) }
+        ensures called { self.new.calls.count ≡ self.old.calls.count + 1 }
+        ensures kept { kept.new.rungs ≡ kept.old.rungs }
+        ensures cut { IfOk result (λ answer. request.now.max_hops ≡ 20000 → self.new.looks.count ≤ (3 * (hops_told answer - length part.entry.prefix.now) + 3) * length plan.now.plan.contacts) }
+        ensures longer { IfOk result (λ answer. IfSome answer (λ route. length part.entry.prefix.now < length route.contacts)) }
+    {
+        self.calls.add();
+        self.looks = Looks::new();
+        let Some((standing, goal)) = enter(
+            &mut self.shut,
+            &mut self.looks,
+            plan,
+            request,
+            part.prefix,
+        )?
+        else {
+            return Ok(None);
+        };
+        let task = Task::new(plan, request, &self.shut, part.excluded, standing, goal);
+        least_beside(
+            self.alloc,
+            &mut self.settling,
+            &mut self.layers,
+            kept,
+            &task,
+            &mut self.looks,
+            request.max_hops(),
+            part.prefix,
+        )
+    }
 }
 
 impl<A: Allocator + Copy> BestOf<A> for Settled<A> {
@@ -170,28 +213,8 @@ impl<A: Allocator + Copy> BestOf<A> for Settled<A> {
         ensures called { self.new.calls.count ≡ self.old.calls.count + 1 }
         ensures cut { IfOk result (λ answer. request.now.max_hops ≡ 20000 → self.new.looks.count ≤ (3 * (hops_told answer - length part.entry.prefix.now) + 3) * length plan.now.plan.contacts) }
     {
-        self.calls.add();
-        self.looks = Looks::new();
-        let Some((standing, goal)) = enter(
-            &mut self.shut,
-            &mut self.looks,
-            plan,
-            request,
-            part.prefix,
-        )?
-        else {
-            return Ok(None);
-        };
-        let task = Task::new(plan, request, &self.shut, part.excluded, standing, goal);
-        least_route(
-            self.alloc,
-            &mut self.settling,
-            &mut self.layers,
-            &task,
-            &mut self.looks,
-            request.max_hops(),
-            part.prefix,
-        )
+        let mut kept = Kept::new(self.alloc);
+        self.find(&mut kept, plan, request, part)
     }
 
     fn best_beside(
@@ -210,29 +233,7 @@ impl<A: Allocator + Copy> BestOf<A> for Settled<A> {
         ensures kept { IsKept plan.now request.now kept.new }
         ensures cut { IfOk result (λ answer. request.now.max_hops ≡ 20000 → self.new.looks.count ≤ (3 * (hops_told answer - length part.entry.prefix.now) + 3) * length plan.now.plan.contacts) }
     {
-        self.calls.add();
-        self.looks = Looks::new();
-        let Some((standing, goal)) = enter(
-            &mut self.shut,
-            &mut self.looks,
-            plan,
-            request,
-            part.prefix,
-        )?
-        else {
-            return Ok(None);
-        };
-        let task = Task::new(plan, request, &self.shut, part.excluded, standing, goal);
-        let answer = least_beside(
-            self.alloc,
-            &mut self.settling,
-            &mut self.layers,
-            kept,
-            &task,
-            &mut self.looks,
-            request.max_hops(),
-            part.prefix,
-        )?;
+        let answer = self.find(kept, plan, request, part)?;
         learn(
             &mut self.layers,
             kept,

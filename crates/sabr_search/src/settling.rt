@@ -1,23 +1,20 @@
 //! Nodes settled in order of their arrival, up to the first delivery at the goal.
 
-ghost use Rattle.std.specs.Prelude.{◌≡◌, ◌≢◌, ℕ, min, List, [], ◌+◌, ◌^◌, ◌≤◌, ◌<◌, length, slice_set, slice_index, slice_index_or, replicate, Some, OnOk, IfOk, true, false};
-ghost use Rattle.sabr_model.specs.Links.{AreWithin};
+ghost use Rattle.std.specs.Prelude.{◌≡◌, ◌≢◌, ℕ, [], ◌+◌, ◌^◌, ◌≤◌, ◌<◌, length, slice_set, slice_index, slice_index_or, replicate, Some, OnOk, IfOk, true, false};
 ghost use Rattle.sabr_search.specs.Task.{IsTask, Takes};
 ghost use Rattle.sabr_search.specs.Steps.{degree};
-ghost use Rattle.sabr_search.specs.Linked.{IsLinkAt, HasNumber, AreLinksAt};
-ghost use Rattle.sabr_search.specs.Hops.{hop_arrival, IsSmall};
+ghost use Rattle.sabr_search.specs.Linked.{IsLinkWithin, HasNumber};
 ghost use Rattle.sabr_search.specs.Lists.{IsKnown};
-ghost use Rattle.sabr_search.specs.Ways.{Leads};
 ghost use Rattle.sabr_search.specs.Made.{AreOpened};
 ghost use Rattle.sabr_search.specs.Late.{AreArrivals};
 ghost use Rattle.sabr_search.specs.Settling.{settled_count, IsWayTo, IsFirstWay, AreSettling, IsFallen, AreSettledTaken};
 
-use crate::layers::{Best, NEVER, open_nodes};
+use crate::layers::{Best, NEVER, news_before, open_nodes};
 use crate::looks::Looks;
 use crate::over_link::link_passes;
 use crate::queue::{Event, Queue};
 use crate::task::Task;
-use sabr_model::{LinkBounds, NoMemory, Pass};
+use sabr_model::{Link, NoMemory, Pass};
 use std::alloc::Allocator;
 
 /// By node the least arrival so far and whether it is settled; and the arrivals that wait.
@@ -50,21 +47,6 @@ impl<A: Allocator + Copy> Settling<A> {
         self.settled.resize(task.shut().len(), false)?;
         self.queue.clear();
         Ok(())
-    }
-
-    /// Tells before which second an arrival at a node is news.
-    fn news_before(&self, task: &Task<'_, A>, to: usize, best: Best) -> u64
-        requires many { length self.now.arrival.items ≡ length task.now.shut }
-        requires task { IsTask task.now }
-        requires node { to < length task.now.table }
-        ensures goal { to ≡ task.now.goal → result ≡ best.delivery }
-        ensures other { to ≢ task.now.goal → result ≡ min best.delivery (slice_index self.now.arrival.items to) }
-    {
-        if to == task.goal() {
-            best.delivery
-        } else {
-            best.delivery.min(self.arrival[to])
-        }
     }
 
     /// Notes an arrival that is news; answers the first delivery so far.
@@ -106,15 +88,13 @@ impl<A: Allocator + Copy> Settling<A> {
         task: &Task<'_, A>,
         looks: &mut Looks,
         event: Event,
-        to: usize,
+        link: &Link,
         passes: &[Pass],
-        bounds: LinkBounds,
         best: Best,
     ) -> Result<Best, NoMemory>
         requires task { IsTask task.now }
-        requires link { IsLinkAt task.now event.node to passes.now }
-        requires bounds { AreWithin bounds passes.now }
-        requires receiver { to < length task.now.table }
+        requires link { IsLinkWithin task.now event.node link.now.receiver passes.now link.now.bounds }
+        requires receiver { link.now.receiver < length task.now.table }
         requires real { IsWayTo task.now event.node event.hops event.at }
         requires few_hops { event.hops < settled_count self.old.settled.items }
         requires few { looks.old.count + length passes.now ≤ 2 ^ 62 }
@@ -126,8 +106,9 @@ impl<A: Allocator + Copy> Settling<A> {
         ensures known { IfOk result (λ b. (n w x : ℕ) → HasNumber passes.now n → Takes task.now n event.node event.at w x → IsKnown task.now.goal self.new.arrival.items b.delivery w x) }
         ensures pushes { OnOk result (length self.new.queue + looks.old.count ≤ length self.old.queue + looks.new.count) }
     {
-        let before = self.news_before(task, to, best);
-        let at = task.arrive_over(looks, event.node, to, passes, bounds, event.at, before);
+        let to = link.receiver;
+        let before = news_before(&self.arrival, task, to, best.delivery);
+        let at = task.arrive_over(looks, event.node, to, passes, link.bounds, event.at, before);
         if at >= before {
             return Ok(best);
         }
@@ -166,15 +147,7 @@ impl<A: Allocator + Copy> Settling<A> {
         let mut least = best;
         for link in links.links {
             let passes = link_passes(links, link);
-            least = self.take_link(
-                task,
-                looks,
-                event,
-                link.receiver,
-                passes,
-                link.bounds,
-                least,
-            )?;
+            least = self.take_link(task, looks, event, link, passes, least)?;
         }
         Ok(least)
     }

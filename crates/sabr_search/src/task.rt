@@ -1,19 +1,18 @@
 //! What does not change during a search, and the arrival over one contact.
 
-ghost use Rattle.std.specs.Prelude.{◌≡◌, ℕ, ◌≤◌, ◌<◌, ◌+◌, ◌*◌, ◌^◌, None, Some, MatchOption, IfOk, IfSome, IfNone, false, true, length, slice_get};
+ghost use Rattle.std.specs.Prelude.{◌≡◌, ℕ, ◌≤◌, ◌<◌, ◌+◌, ◌*◌, ◌^◌, Some, IfOk, IfSome, IfNone, false, true, length};
 ghost use Rattle.sabr_model.specs.Arrival.{cost};
-ghost use Rattle.sabr_model.specs.Plan.{has};
-ghost use Rattle.sabr_model.specs.Plan.{contact_named};
+ghost use Rattle.sabr_model.specs.Plan.{has, most_light};
+ghost use Rattle.sabr_model.specs.Route.{until_of, entry_of};
 ghost use Rattle.sabr_model.specs.Outgoing.{links_in, passes_in};
-ghost use Rattle.sabr_search.specs.Hops.{hop_arrival, IsSmall};
+ghost use Rattle.sabr_model.specs.Hops.{hop_arrival, IsSmall};
 ghost use Rattle.sabr_search.specs.Task.{IsTask};
-ghost use Rattle.sabr_search.specs.Steps.{IsHopAt};
 ghost use Rattle.sabr_search.specs.Linked.{AreLinksAt, AreSendersAt};
 
 use crate::finger::{Finger, rises};
 use crate::looks::Looks;
 use crate::pick::Standing;
-use sabr_model::{Hop, NoMemory, Outgoing, Pass, Plan, Request, Senders};
+use sabr_model::{Hop, NoMemory, Outgoing, Pass, Plan, Request, Route, Senders, Told};
 use std::alloc::Allocator;
 use std::marker::Model;
 
@@ -92,23 +91,13 @@ impl<'a, A: Allocator + Copy> Task<'a, A> {
         self.plan.senders(node)
     }
 
-    /// Gives the record of a contact.
-    pub fn look(&self, looks: &mut Looks, number: u32) -> Option<Hop>
-        requires task { IsTask self.now }
-        requires few { looks.old.count < 2 ^ 62 }
-        ensures counted { looks.new.count ≡ looks.old.count + 1 }
-        ensures value { MatchOption result (contact_named self.now.plan number ≡ None) (IsHopAt self.now number) }
-        ensures small { IfSome result IsSmall }
+    /// Gives the record of a route with this delivery: one look for each of its contacts.
+    pub fn record(&self, looks: &mut Looks, contacts: Vec<u32, A>, delivery: u64) -> Route<A>
+        requires few { looks.old.count + length contacts.items ≤ 2 ^ 62 }
+        ensures looks { looks.new.count ≡ looks.old.count + length contacts.items }
+        ensures value { result ≡ record { contacts = contacts.items; delivery = delivery; until = until_of self.now.plan contacts.items; entry = entry_of self.now.plan contacts.items } }
     {
-        looks.hop(self.plan, number)
-    }
-
-    /// Gives the node at a place of the table.
-    pub fn node(&self, index: usize) -> u64
-        requires { index < length self.now.table }
-        ensures { slice_get self.now.table index ≡ Some result }
-    {
-        self.plan.node(index)
+        Told::of(self.plan, looks.look_all(&contacts)).route(contacts, delivery)
     }
 
     /// Tells where the search starts.
@@ -176,10 +165,10 @@ impl<'a, A: Allocator + Copy> Task<'a, A> {
 
     /// Gives a light time with the margin, in seconds.
     pub fn cost(&self, light: u32) -> u64
-        requires light { light ≤ 1000000 }
+        requires light { light ≤ most_light }
         ensures { result ≡ cost self.now.request.margin light }
     {
-        cost(light, self.request.margin_ppm())
+        self.request.cost(light)
     }
 
     /// Gives the arrival over the contact where it is before `before`.
@@ -192,7 +181,7 @@ impl<'a, A: Allocator + Copy> Task<'a, A> {
         if sent >= before || sent >= hop.end {
             return None;
         }
-        let arrival = sent + cost(hop.light?, self.request.margin_ppm());
+        let arrival = sent + self.request.cost(hop.light?);
         if arrival < before {
             Some(arrival)
         } else {
@@ -212,31 +201,4 @@ impl<'a, A: Allocator + Copy> Task<'a, A> {
             Some(soonest) => hop.end.min(before - (soonest - hop.start)),
         }
     }
-}
-
-/// Gives the arrival over the contact of what is at its sender at `at`.
-pub fn arrive_by_hop(margin_ppm: u32, at: u64, hop: &Hop) -> Option<u64>
-    requires margin { margin_ppm ≤ 1000000 }
-    requires small { IsSmall hop.now }
-    ensures { result ≡ hop_arrival margin_ppm at hop.now }
-{
-    let sent = at.max(hop.start);
-    if sent >= hop.end {
-        return None;
-    }
-    Some(sent + cost(hop.light?, margin_ppm))
-}
-
-/// Gives light time and margin, in seconds.
-fn cost(light: u32, margin_ppm: u32) -> u64
-    requires light { light ≤ 1000000 }
-    requires margin { margin_ppm ≤ 1000000 }
-    ensures value { result ≡ cost margin_ppm light }
-    ensures limit { result ≤ 2000000 }
-{
-    let light = light as u64;
-    if margin_ppm == 0 {
-        return light;
-    }
-    light + (light * margin_ppm as u64 + 999999) / 1000000
 }

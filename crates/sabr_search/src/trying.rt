@@ -104,7 +104,6 @@ impl<A: Allocator + Copy> Kept<A> {
         max_hops: u32,
     ) -> Result<Option<Route<A>>, NoMemory>
         requires task { IsTask task.now }
-        requires behind { IsBehind task.now prefix.now }
         requires few { looks.old.count ≤ most }
         requires most { most ≤ 2 ^ 60 }
         requires short { length prefix.now < max_hops }

@@ -1,9 +1,8 @@
 pub mod Gathering
 pub mod SpacedNumbers
-mod RouteLine
 mod ReportLines
 mod SpacedWords
-mod ReadNumbers
+pub mod ReadNumbers
 mod SlashLists
 mod Labels
 mod PartWords

@@ -48,6 +48,17 @@ no_number low high h = within_none low high (codes "/") h refl
 no_dash : (low high : ℕ) → high < 18446744073709551616 → number_within low high (codes "-") ≡ None
 no_dash low high h = within_none low high (codes "-") h refl
 
+-- so a number is not `/`
+pub number_no_slash : (low high n : ℕ) (w : List ℕ) → high < 18446744073709551616 → number_within low high w ≡ Some n → is_slash w ≡ false
+number_no_slash low high n w h e = by_first (is_slash w) refl
+  where
+    by_first : (b : Bool) → is_slash w ≡ b → b ≡ false
+    by_first false is = refl
+    by_first true is =
+        let none : number_within low high w ≡ None = ap (number_within low high) ((bytes_eq-Decides w (codes "/")).0 is) ∙ no_number low high h in
+        let no : None ≡ Some n = sym none ∙ e in
+        absurd cc
+
 unnumbered : (low high : ℕ) (ws : List (List ℕ)) → high < 18446744073709551616 → list_any is_slash ws ≡ true → all_of (map (number_within low high) ws) ≡ None
 unnumbered low high [] h e = absurd cc
 unnumbered low high (w ∷ ws) h e = by_first (is_slash w) refl (unnumbered low high ws h)

@@ -9,6 +9,14 @@ use Rattle.sabr_session.specs.SpacedNumbers.{spaced_behind}
 abbrev pub HasSpelledTimes : RouteRecord → Type 0
 HasSpelledTimes r = (r.delivery ≤ 253402300799) × (r.until ≤ 253402300799)
 
+-- a route's line up to the numbers of its contacts, in pieces
+abbrev pub told_pieces : RouteRecord → List (List ℕ)
+told_pieces r =
+    codes "delivery " ∷ time_text_of r.delivery
+    ∷ codes " hops " ∷ decimal (length r.contacts)
+    ∷ codes " entry " ∷ decimal r.entry
+    ∷ codes " until " ∷ time_text_of r.until ∷ codes " contacts" ∷ []
+
 -- a route with what is told of it, as a line
 abbrev pub route_line : RouteRecord → List ℕ
 route_line r = concat (

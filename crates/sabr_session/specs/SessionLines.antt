@@ -4,6 +4,7 @@ use Rattle.std.specs.List.{list_all}
 use Rattle.std.specs.Str.{bytes_eq}
 use Rattle.std.specs.declared.option.Option.{Option}
 use Rattle.std.specs.declared.option.Option.TheVariants.{Some, None}
+use Rattle.sabr_model.specs.Asking.{most_hops}
 use Rattle.sabr_plan.specs.Times.{time_of}
 use Rattle.sabr_frontier.specs.State.{PartState}
 use Rattle.sabr_session.specs.SessionWords.{words_of, contacts_of, nodes_of, is_slash, before_slash, after_slash}
@@ -44,7 +45,7 @@ four_of from to time margin hops avoid =
 
 -- `FROM TO AT PPM`
 abbrev pub unlimited_of : List (List ℕ) → Option RequestValues
-unlimited_of (from ∷ to ∷ time ∷ margin ∷ []) = four_of from to time margin 20000 []
+unlimited_of (from ∷ to ∷ time ∷ margin ∷ []) = four_of from to time margin most_hops []
 unlimited_of _ = None
 
 -- `FROM TO AT PPM HOPS / NODES`
@@ -55,7 +56,7 @@ limited_of (from ∷ to ∷ time ∷ margin ∷ hops ∷ slash ∷ nodes) =
     else None
 limited_of _ = None
 
--- the words of a request, in each version; without limits there are 20000 hops and no node to avoid
+-- the words of a request, in each version; without limits there are the most hops and no node to avoid
 abbrev pub values_of : Version → List (List ℕ) → Option RequestValues
 values_of One words = unlimited_of words
 values_of Two words = limited_of words

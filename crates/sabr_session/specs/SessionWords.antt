@@ -2,6 +2,7 @@
 use Rattle.std.specs.Prelude.{ℕ, ◌==◌, nat_lt, nat_le, ◌&&◌, Bool, false, List, [], ◌∷◌, length, codes, option_map, option_and_then, map, if◌then◌else◌}
 use Rattle.std.specs.List.{slice_split}
 use Rattle.std.specs.Str.{bytes_eq}
+use Rattle.sabr_model.specs.Plan.{most_records}
 use Rattle.sabr_plan.specs.Numbers.{number_within}
 use Rattle.std.specs.declared.option.Option.{Option}
 use Rattle.std.specs.declared.option.Option.TheVariants.{Some, None}
@@ -41,7 +42,7 @@ list_within most low high words = if is_dash words then Some [] else counted mos
 
 -- a list of contact numbers
 abbrev pub contacts_of : List (List ℕ) → Option (List ℕ)
-contacts_of words = list_within 20000 1 4294967295 words
+contacts_of words = list_within most_records 1 4294967295 words
 
 -- a list of nodes
 abbrev pub nodes_of : List (List ℕ) → Option (List ℕ)

@@ -5,7 +5,6 @@
 mod digest_text;
 mod reading;
 mod rows;
-mod rules;
 mod session_fault;
 mod text_laws;
 mod verifying;
@@ -17,5 +16,5 @@ pub use session_fault::SessionFault;
 pub use text_laws::{law7, one_answer, pieces_are_one_text};
 pub use verifying::verify;
 pub use writing::{
-    TextBuffer, put_number, put_route_line, put_time, write_report, write_route, write_session,
+    TextBuffer, put_pieces, put_route_line, write_report, write_route, write_session,
 };

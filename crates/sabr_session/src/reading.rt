@@ -3,7 +3,6 @@
 mod contact_list;
 mod count;
 mod first_lines;
-mod first_number;
 mod head;
 mod held_line;
 mod lines_read;

@@ -5,7 +5,6 @@ ghost use Rattle.sabr_plan.specs.Canonical.{digest_of};
 ghost use Rattle.sabr_session.specs.Verifying.{VerifiesText};
 
 use crate::reading::read_session;
-use crate::rules::{tell_limits, tell_rules};
 use crate::session_fault::SessionFault;
 use sabr_model::{Plan, Read};
 use sabr_search::BestOf;
@@ -33,10 +32,10 @@ pub fn verify<R: Read, B: BestOf<A>, A: Allocator + Copy>(
     requires { digest.now ≡ digest_of plan.now.plan }
     ensures { VerifiesText plan.now.plan (R.remaining reader.old) (R.failures reader.old) result (R.remaining reader.new) (R.failures reader.new) }
 {
-    tell_rules(plan);
+    plan.tell_rules();
     match read_session(alloc, reader, plan, digest, finder) {
         Ok(mut session) => {
-            tell_limits(session.request());
+            session.request().tell_limits();
             match session.certify() {
                 Ok(placed) => Ok(placed),
                 Err(_refused) => Err(SessionFault::NoMemory),

@@ -1,41 +1,12 @@
--- Lists of numbers, as far as they are read.
-use Rattle.std.proofs.Common.{◌≡◌, ℕ, ◌<◌, ◌≤◌, leb, cond, false, List, [], ◌∷◌, ◌++◌, length, map, option_map, refl, sym, ap, ◌∙◌, arith, append-nil, append_assoc, length-append}
+-- Lists of at most 16 numbers.
+use Rattle.std.proofs.Common.{◌≡◌, ℕ, ◌<◌, ◌≤◌, leb, cond, false, List, [], ◌∷◌, ◌++◌, length, map, refl, ap, ◌∙◌, arith, length-append}
 use Rattle.std.proofs.lemmas.Bool.{le-leb}
 use Rattle.std.proofs.lemmas.Bool.Decides.{nat_tests}
 use Rattle.std.specs.Prelude.{option_and_then, nat_le, if◌then◌else◌}
 use Rattle.std.specs.declared.option.Option.{Option}
 use Rattle.std.specs.declared.option.Option.TheVariants.{Some, None}
 use Rattle.sabr_session.specs.SessionWords.{all_of}
-
--- what the rest gives, behind what was read
-abbrev pub behind : List ℕ → Option (List ℕ) → Option (List ℕ)
-behind so_far rest = option_map (λ tail. so_far ++ tail) rest
-
--- nothing read yet
-pub behind-nil : (rest : Option (List ℕ)) → rest ≡ behind [] rest
-behind-nil None = refl
-behind-nil (Some ns) = refl
-
-next : (so_far : List ℕ) (n : ℕ) (rest : Option (List ℕ)) → behind so_far (option_map (λ ns. n ∷ ns) rest) ≡ behind (so_far ++ n ∷ []) rest
-next so_far n None = refl
-next so_far n (Some ns) = ap Some (sym (append_assoc so_far (n ∷ []) ns))
-
--- a piece with a value goes to what was read
-pub behind-on : (f : List ℕ → Option ℕ) (so_far : List ℕ) (whole : Option (List ℕ)) (ps qs : List (List ℕ)) (p : List ℕ) (n : ℕ)
-    → whole ≡ behind so_far (all_of (map f ps)) → ps ≡ p ∷ qs → f p ≡ Some n → whole ≡ behind (so_far ++ n ∷ []) (all_of (map f qs))
-behind-on f so_far whole ps qs p n w e is =
-    w ∙ ap (λ xs. behind so_far (all_of (map f xs))) e ∙ ap (λ v. behind so_far (all_of (v ∷ map f qs))) is ∙ next so_far n (all_of (map f qs))
-
--- a piece without a value
-pub behind-bad : (f : List ℕ → Option ℕ) (so_far : List ℕ) (whole : Option (List ℕ)) (ps qs : List (List ℕ)) (p : List ℕ)
-    → whole ≡ behind so_far (all_of (map f ps)) → ps ≡ p ∷ qs → f p ≡ None → whole ≡ None
-behind-bad f so_far whole ps qs p w e is =
-    w ∙ ap (λ xs. behind so_far (all_of (map f xs))) e ∙ ap (λ v. behind so_far (all_of (v ∷ map f qs))) is
-
--- no piece is left
-pub behind-end : (f : List ℕ → Option ℕ) (so_far : List ℕ) (whole : Option (List ℕ)) (ps : List (List ℕ))
-    → whole ≡ behind so_far (all_of (map f ps)) → ps ≡ [] → whole ≡ Some so_far
-behind-end f so_far whole ps w e = w ∙ ap (λ xs. behind so_far (all_of (map f xs))) e ∙ ap Some (append-nil so_far)
+use Rattle.sabr_session.proofs.ReadNumbers.{behind, behind-on}
 
 -- at most 16 of them
 abbrev pub few : Option (List ℕ) → Option (List ℕ)

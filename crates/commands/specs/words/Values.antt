@@ -68,7 +68,7 @@ node_of text = number_within 1 18446744073709551615 text
 -- the limits and avoided nodes, behind the values of a request without limits
 unfoldable pub limits_of : ℕ → ℕ → ℕ → ℕ → Found → Result RequestWords Failure
 limits_of from to at margin found =
-    and_then (value_or 20000 (number_within 1 20000) found MaxHops) (λ hops.
+    and_then (value_or most_hops (number_within 1 most_hops) found MaxHops) (λ hops.
     and_then (value_or [] nodes_listed found Avoid) (λ avoid.
     Ok (record { from = from; to = to; at = at; margin_ppm = margin; max_hops = hops; avoid = avoid })))
 
@@ -78,7 +78,7 @@ request_words found =
     and_then (value_of node_of found From) (λ from.
     and_then (value_of node_of found To) (λ to.
     and_then (value_of time_of found At) (λ at.
-    and_then (value_or 0 (number_within 0 1000000) found MarginPpm) (λ margin.
+    and_then (value_or 0 (number_within 0 most_margin) found MarginPpm) (λ margin.
     limits_of from to at margin found))))
 
 -- these words lie in the ranges of a request's values

@@ -8,7 +8,6 @@ ghost use Rattle.commands.specs.declared.failure.Failure.{Failure};
 ghost use Rattle.commands.specs.runs.Runs.{TellsEnd, status_at};
 ghost use Rattle.commands.specs.runs.SessionRuns.{WritesFirstPage};
 
-use crate::accepted::obeys_rules;
 use crate::failure::Failure;
 use crate::runs::ending::tell_end;
 use crate::runs::pages::write_page;
@@ -35,7 +34,7 @@ fn write_first<O: Write, S: Write, A: Allocator + Copy>(
         (O.contents out.old) (O.failures out.old) (O.contents out.new) (O.failures out.new) (O.flushed out.new)
         (S.contents session.old) (S.failures session.old) (S.contents session.new) (S.failures session.new) (S.flushed session.new) }
 {
-    obeys_rules(plan);
+    plan.tell_rules();
     let listing = Session::start(alloc, plan, request, Settled::new(alloc))?;
     let digest = if keep { Some(digest(plan)) } else { None };
     write_page(listing, count, out, digest, session)

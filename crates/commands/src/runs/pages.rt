@@ -8,7 +8,6 @@ ghost use Rattle.sabr_session.specs.ReportText.{HasSpelledTimes, report_text};
 ghost use Rattle.sabr_session.specs.SessionText.{text_of};
 ghost use Rattle.commands.specs.runs.SessionRuns.{next_report, kept_text, WritesPage};
 
-use crate::accepted::{is_within_limits, obeys_rules};
 use crate::failure::Failure;
 use sabr_frontier::Session;
 use sabr_model::{Route, Write, WriteFault};
@@ -73,8 +72,8 @@ pub fn write_page<O: Write, S: Write, B: BestOf<A>, A: Allocator + Copy>(
         (O.contents out.old) (O.failures out.old) (O.contents out.new) (O.failures out.new) (O.flushed out.new)
         (S.contents session.old) (S.failures session.old) (S.contents session.new) (S.failures session.new) (S.flushed session.new) }
 {
-    obeys_rules(listing.plan());
-    is_within_limits(listing.request());
+    listing.plan().tell_rules();
+    listing.request().tell_limits();
     let first_rank = listing.emitted() + 1;
     let routes = listing.page(count)?;
     send_report(routes.as_slice(), first_rank, listing.more(), out)?;

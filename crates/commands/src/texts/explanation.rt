@@ -6,7 +6,6 @@ ghost use Rattle.sabr_model.specs.Devices.{WritesText};
 ghost use Rattle.commands.specs.texts.Explanation.{hop_lines, explanation_text};
 ghost use Rattle.commands.specs.texts.Followed.{hops_before, Follows};
 
-use crate::accepted::{is_within_limits, obeys_rules};
 use crate::texts::ending_line::put_ending;
 use crate::texts::hop_lines::put_hops;
 use sabr_model::{HopFault, Plan, Request, Write, WriteFault, follow};
@@ -64,8 +63,8 @@ pub fn write_explanation<W: Write, A: Allocator + Copy>(
     ensures text { WritesText (W.contents writer.old) (W.failures writer.old) (explanation_text plan.now.plan request.now contacts.now) result (W.contents writer.new) (W.failures writer.new) }
     ensures route { IfOk result (λ answer. answer ≡ is_route plan.now.plan request.now contacts.now) }
 {
-    obeys_rules(plan);
-    is_within_limits(request);
+    plan.tell_rules();
+    request.tell_limits();
     let (hops, outcome) = followed(plan, request, contacts);
     let mut text = TextBuffer::new();
     put_hops(&mut text, writer, plan, request, hops)?;

@@ -8,8 +8,10 @@ ghost use Rattle.sabr_model.specs.Route.{is_path};
 ghost use Rattle.sabr_session.specs.Gathering.{Gathers};
 ghost use Rattle.commands.specs.texts.Explanation.{hop_line, line_behind, hop_lines};
 
+use itoa::Buffer;
 use sabr_model::{Contact, Plan, Request, Write, WriteFault, arrive};
-use sabr_session::{TextBuffer, put_number, put_time};
+use sabr_plan::time_text;
+use sabr_session::{TextBuffer, put_pieces};
 use std::alloc::Allocator;
 
 /// Puts the line of a hop. Times are seconds from the beginning of 1970.
@@ -24,13 +26,28 @@ fn put_hop_line<W: Write>(
     requires { (sent ≤ 253402300799) × (arrived ≤ 253402300799) }
     ensures { Gathers (W.contents writer.old) (W.failures writer.old) text.old (hop_line place contact.now sent arrived) result (W.contents writer.new) (W.failures writer.new) text.new }
 {
-    put_number(text, writer, b"hop ", place as u64)?;
-    put_number(text, writer, b" contact ", u64::from(contact.number))?;
-    put_number(text, writer, b" from ", contact.from)?;
-    put_number(text, writer, b" to ", contact.to)?;
-    put_time(text, writer, b" send ", sent)?;
-    put_time(text, writer, b" arrive ", arrived)?;
-    text.put(writer, b"\n")
+    let mut hop = Buffer::new();
+    let mut number = Buffer::new();
+    let mut from = Buffer::new();
+    let mut to = Buffer::new();
+    let sent = time_text(sent);
+    let arrived = time_text(arrived);
+    let pieces: [&[u8]; 13] = [
+        b"hop ",
+        hop.format(place).as_bytes(),
+        b" contact ",
+        number.format(contact.number).as_bytes(),
+        b" from ",
+        from.format(contact.from).as_bytes(),
+        b" to ",
+        to.format(contact.to).as_bytes(),
+        b" send ",
+        &sent,
+        b" arrive ",
+        &arrived,
+        b"\n",
+    ];
+    put_pieces(text, writer, &pieces)
 }
 
 /// Puts the line of the number that follows `front`, where a bundle arrives at `at`. Answers when it arrives next.

@@ -16,12 +16,8 @@ pub fn nodes_listed(text: &[u8]) -> Option<NodeList>
     let mut rest = Some(text);
     while let Some(behind) = rest {
         let (piece, others) = first_piece(behind);
-        let Some(node) = number_within(piece, 1, u64::MAX) else {
-            return None;
-        };
-        let Some(()) = nodes.push(node) else {
-            return None;
-        };
+        let node = number_within(piece, 1, u64::MAX)?;
+        nodes.push(node)?;
         rest = others;
     }
     Some(nodes)

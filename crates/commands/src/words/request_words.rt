@@ -13,7 +13,7 @@ use crate::failure::Failure;
 use crate::words::lists::nodes_listed;
 use crate::words::value_name::ValueName;
 use clap::ArgMatches;
-use sabr_model::{NodeList, Request};
+use sabr_model::{MOST_HOPS, MOST_MARGIN, NodeList, Request};
 use sabr_plan::{number_within, parse_time};
 
 /// What is asked for, word by word, each within its range.
@@ -113,7 +113,8 @@ fn with_limit_words(
     ensures range { IfOk result IsInRange }
     ensures memory { ¬ IsErrOf result Failure.NoMemory }
 {
-    let max_hops = number_or(matches, ValueName::MaxHops, 1, 20000, 20000)? as u32;
+    let most = MOST_HOPS as u64;
+    let max_hops = number_or(matches, ValueName::MaxHops, 1, most, most)? as u32;
     let avoid = avoided(matches)?;
     Ok(RequestWords {
         from,
@@ -139,7 +140,7 @@ pub fn request_words(matches: &ArgMatches<'_>) -> Result<RequestWords, Failure>
     let from = number_given(matches, ValueName::From, 1, u64::MAX)?;
     let to = number_given(matches, ValueName::To, 1, u64::MAX)?;
     let at = time_given(matches)?;
-    let margin_ppm = number_or(matches, ValueName::MarginPpm, 0, 1000000, 0)? as u32;
+    let margin_ppm = number_or(matches, ValueName::MarginPpm, 0, MOST_MARGIN as u64, 0)? as u32;
     with_limit_words(from, to, at, margin_ppm, matches)
 }
 

@@ -1,7 +1,7 @@
 //! Ranges that are added, and those that are refused.
 
 ghost use Rattle.std.specs.Prelude.{◌≡◌, ℕ, ◌<◌, ◌≤◌, None, Some, Err, OnOk, OnErr, IsOkUnless};
-ghost use Rattle.sabr_model.specs.Plan.{last_time};
+ghost use Rattle.sabr_model.specs.Plan.{last_time, most_light};
 ghost use Rattle.sabr_model.specs.declared.fault.AddFault.{AddFault};
 ghost use Rattle.sabr_model.specs.declared.fault.AddFault.TheVariants.{NoMemory};
 ghost use Rattle.sabr_model.specs.Adding.{new_range, range_refusal, with_range};
@@ -30,7 +30,7 @@ impl<A: Allocator + Copy> Plan<A> {
         requires one { 0 < range.one }
         requires other { 0 < range.other }
         requires end { range.end ≤ last_time }
-        requires light { range.light ≤ 1000000 }
+        requires light { range.light ≤ most_light }
         requires accepted { range_refusal self.old.plan range ≡ None }
         ensures ok { OnOk result (self.new ≡ record { plan = with_range self.old.plan range; table = self.old.table }) }
         ensures err { OnErr result (self.new ≡ self.old) }
@@ -58,7 +58,7 @@ impl<A: Allocator + Copy> Plan<A> {
         requires one { 0 < one }
         requires other { 0 < other }
         requires end { end ≤ last_time }
-        requires light { light ≤ 1000000 }
+        requires light { light ≤ most_light }
         ensures refused { (f : AddFault) → range_refusal self.old.plan (new_range one other start end light) ≡ Some f → result ≡ Err f }
         ensures accepted { range_refusal self.old.plan (new_range one other start end light) ≡ None → IsOkUnless result NoMemory }
         ensures ok { OnOk result (self.new ≡ record { plan = with_range self.old.plan (new_range one other start end light); table = self.old.table }) }

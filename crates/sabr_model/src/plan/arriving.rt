@@ -1,8 +1,8 @@
 //! The earliest arrival over a contact.
 
-ghost use Rattle.std.specs.Prelude.{◌≡◌, ◌≤◌, ◌+◌, Some, None, max, nat_lt, if◌then◌else◌};
+ghost use Rattle.std.specs.Prelude.{◌≡◌, ◌≤◌};
 ghost use Rattle.sabr_model.specs.Plan.{last_time};
-ghost use Rattle.sabr_model.specs.Arrival.{arrival, cost};
+ghost use Rattle.sabr_model.specs.Arrival.{arrival};
 
 use super::Plan;
 use crate::contact::Contact;
@@ -21,20 +21,5 @@ pub fn arrive<A: Allocator + Copy>(
     ensures { result ≡ arrival plan.now.plan request.now t contact.now }
 {
     let light = plan.light(contact)?;
-    arrive_by_light(request, t, contact, light)
-}
-
-/// Does the same over a contact of this light time; none where it is too late.
-pub fn arrive_by_light(request: &Request, t: u64, contact: &Contact, light: u32) -> Option<u64>
-    requires end { contact.now.end ≤ last_time }
-    requires light { light ≤ 1000000 }
-    ensures { result ≡ (if nat_lt (max t contact.now.start) contact.now.end then Some (max t contact.now.start + cost request.now.margin light) else None) }
-{
-    let sent = t.max(contact.start);
-    if sent >= contact.end {
-        return None;
-    }
-    let light = light as u64;
-    let margin = (light * request.margin_ppm() as u64 + 999999) / 1000000;
-    Some(sent + (light + margin))
+    request.arrive_over(t, contact.start, contact.end, light)
 }

@@ -2,7 +2,7 @@
 
 ghost use Rattle.std.specs.Prelude.{◌≡◌, ℕ, ◌<◌, ◌≤◌, ◌+◌, [], None, Some, Err, IfOk, OnOk, OnErr, IsOkUnless, ok_or, unwrap_or, ◌≢◌};
 ghost use Rattle.std.specs.List.{list_any};
-ghost use Rattle.sabr_model.specs.Plan.{last_time, opens, IsPlan};
+ghost use Rattle.sabr_model.specs.Plan.{last_time, opens, IsPlan, most_records};
 ghost use Rattle.sabr_model.specs.declared.fault.AddFault.{AddFault};
 ghost use Rattle.sabr_model.specs.declared.fault.AddFault.TheVariants.{NoMemory, NothingToDelete};
 ghost use Rattle.sabr_model.specs.Adding.{next_contact, contact_refusal, with_contact, number_of_opening, without_contact};
@@ -11,6 +11,7 @@ use super::delete::contact_of_opening;
 use super::refusals::refusal;
 use crate::contact::Contact;
 use crate::fault::AddFault;
+use crate::limits::MOST_RECORDS;
 use crate::opening::Opening;
 use indexmap::IndexSet;
 use std::alloc::{Allocator, Global};
@@ -70,7 +71,7 @@ impl<A: Allocator + Copy> GatheredContacts<A> {
         ensures ok { OnOk result (self.new ≡ with_contact self.old (next_contact self.old from to start end rate)) }
         ensures err { OnErr result (self.new ≡ self.old) }
     {
-        if start >= end || from == to || self.greatest >= 20000 {
+        if start >= end || from == to || self.greatest as usize >= MOST_RECORDS {
             return Err(self.fault(from, to, start, end));
         }
         self.put(from, to, start, end, rate)
@@ -101,7 +102,7 @@ impl<A: Allocator + Copy> GatheredContacts<A> {
         requires window { start < end }
         requires end { end ≤ last_time }
         requires apart { from ≢ to }
-        requires count { self.old.greatest < 20000 }
+        requires count { self.old.greatest < most_records }
         ensures refused { (f : AddFault) → contact_refusal self.old from to start end ≡ Some f → result ≡ Err f }
         ensures accepted { contact_refusal self.old from to start end ≡ None → IsOkUnless result NoMemory }
         ensures number { IfOk result (λ n. n ≡ self.old.greatest + 1) }

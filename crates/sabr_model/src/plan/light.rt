@@ -1,7 +1,7 @@
 //! The one-way light time in force at a contact's start.
 
 ghost use Rattle.std.specs.Prelude.{◌≡◌, ◌<◌, ◌≤◌, [], Some, None, IfSome, MatchOption, length, slice_index_or};
-ghost use Rattle.sabr_model.specs.Plan.{IsPlan, contact_named};
+ghost use Rattle.sabr_model.specs.Plan.{IsPlan, contact_named, most_light};
 ghost use Rattle.sabr_model.specs.Light.{light_of};
 ghost use Rattle.sabr_model.specs.RangeOrder.{IsRangeList};
 ghost use Rattle.sabr_model.specs.Stretches.{IsStretchAmong};
@@ -21,7 +21,7 @@ impl<A: Allocator + Copy> Plan<A> {
     /// (this project's profile). It takes a halving or two of the ranges.
     pub fn light(&self, contact: &Contact) -> Option<u32>
         ensures value { result ≡ light_of self.now.plan contact.now }
-        ensures limit { IfSome result (λ l. l ≤ 1000000) }
+        ensures limit { IfSome result (λ l. l ≤ most_light) }
     {
         light_of_contact(&self.ranges, contact)
     }

@@ -1,15 +1,14 @@
 //! Why a contact or a range is refused.
 
 ghost use Rattle.std.specs.Prelude.{◌≡◌, ◌==◌, nat_le, Some, None, if◌then◌else◌};
+ghost use Rattle.sabr_model.specs.Plan.{most_records};
 ghost use Rattle.sabr_model.specs.declared.fault.AddFault.TheVariants.{EmptyWindow, SelfPair, TooMany};
 
 use crate::fault::AddFault;
-
-/// So many numbers of contacts are given, and so many ranges stand.
-const LIMIT: usize = 20000;
+use crate::limits::MOST_RECORDS;
 
 /// Gives the least refusal of a contact or a range between two nodes, over a window, unless memory is short: `clash`
-/// where another clashes with it, `TooMany` where the count is at the limit.
+/// where another clashes with it, `TooMany` where the count is at its limit.
 pub fn refusal(
     nodes: (u64, u64),
     window: (u64, u64),
@@ -17,7 +16,7 @@ pub fn refusal(
     clash: AddFault,
     count: usize,
 ) -> Option<AddFault>
-    ensures { result ≡ (if nat_le window.1 window.0 then Some EmptyWindow else if nodes.0 == nodes.1 then Some SelfPair else if clashes then Some clash else if nat_le 20000 count then Some TooMany else None) }
+    ensures { result ≡ (if nat_le window.1 window.0 then Some EmptyWindow else if nodes.0 == nodes.1 then Some SelfPair else if clashes then Some clash else if nat_le most_records count then Some TooMany else None) }
 {
     if window.0 >= window.1 {
         Some(AddFault::EmptyWindow)
@@ -25,7 +24,7 @@ pub fn refusal(
         Some(AddFault::SelfPair)
     } else if clashes {
         Some(clash)
-    } else if count >= LIMIT {
+    } else if count >= MOST_RECORDS {
         Some(AddFault::TooMany)
     } else {
         None

@@ -18,6 +18,13 @@ impl<A: Allocator + Copy> Plan<A> {
         &self.contacts
     }
 
+    /// Tells contracts that a plan obeys the rules of contact plans. It does nothing.
+    pub fn tell_rules(&self)
+        ensures { IsPlan self.now.plan }
+    {
+        self.contacts();
+    }
+
     /// Gives the standing ranges by (one, other, start).
     pub fn ranges(&self) -> &[Range]
         ensures { result.now ≡ self.now.plan.ranges }

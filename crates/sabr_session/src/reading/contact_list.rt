@@ -3,16 +3,13 @@
 ghost use Rattle.std.specs.Prelude.{◌≡◌, ◌≤◌, None, Some, true, false, if◌then◌else◌, map, length, IfOk, MatchOption};
 ghost use Rattle.std.specs.List.{list_any};
 ghost use Rattle.std.specs.Option.{option_copied};
+ghost use Rattle.sabr_model.specs.Plan.{most_records};
 ghost use Rattle.sabr_session.specs.SessionWords.{words_of, words_behind, all_of, counted, is_dash, contacts_of, is_slash, before_slash, after_slash};
 ghost use Rattle.sabr_plan.specs.Numbers.{number_within};
 
-use crate::reading::first_number::first_number;
-use crate::reading::words::{first_word, is_word};
-use sabr_model::NoMemory;
+use crate::reading::words::{first_number, first_word, is_word};
+use sabr_model::{MOST_RECORDS, NoMemory};
 use std::alloc::Allocator;
-
-/// The most numbers of a list.
-const MOST_NUMBERS: usize = 20000;
 
 /// What ends a list: whether it is `/`, and the words behind that.
 #[derive(Clone, Copy)]
@@ -51,22 +48,22 @@ fn numbers_to_slash<'a, A: Allocator + Copy>(
     numbers: &mut Vec<u32, A>,
     text: &'a [u8],
 ) -> Result<Option<ListEnd<'a>>, NoMemory>
-    ensures { IfOk result (λ found. MatchOption found (counted 20000 (all_of (map (number_within 1 4294967295) (before_slash (words_of text.now)))) ≡ None) (λ e. (all_of (map (number_within 1 4294967295) (before_slash (words_of text.now))) ≡ Some numbers.new.items) × (length numbers.new.items ≤ 20000) × (e.stopped ≡ list_any is_slash (words_of text.now)) × (words_behind (option_copied e.rest) ≡ after_slash (words_of text.now)))) }
+    ensures { IfOk result (λ found. MatchOption found (counted most_records (all_of (map (number_within 1 4294967295) (before_slash (words_of text.now)))) ≡ None) (λ e. (all_of (map (number_within 1 4294967295) (before_slash (words_of text.now))) ≡ Some numbers.new.items) × (length numbers.new.items ≤ most_records) × (e.stopped ≡ list_any is_slash (words_of text.now)) × (words_behind (option_copied e.rest) ≡ after_slash (words_of text.now)))) }
 {
     numbers.clear();
     let mut left = Some(text);
     while let Some(behind) = left {
         let (word, number, others) = first_number(behind);
-        if is_word(word, b"/") {
+        let Some(number) = number else {
+            if !is_word(word, b"/") {
+                return Ok(None);
+            }
             return Ok(Some(ListEnd {
                 stopped: true,
                 rest: others,
             }));
-        }
-        let Some(number) = number else {
-            return Ok(None);
         };
-        if numbers.len() == MOST_NUMBERS {
+        if numbers.len() == MOST_RECORDS {
             return Ok(None);
         }
         numbers.push(number as u32)?;

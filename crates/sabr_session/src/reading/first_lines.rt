@@ -62,12 +62,11 @@ fn are_digest_digits(text: &[u8]) -> bool
 }
 
 /// Gives the digits that `plan H` names.
+#[tactic(auto, unfolding(crate::specs::SessionLines::digest_named))]
 pub(crate) fn digest_named(line: &[u8]) -> Option<&[u8]>
     ensures { option_copied result ≡ digest_named line.now }
 {
-    let Some(text) = behind_label(b"plan ", line) else {
-        return None;
-    };
+    let text = behind_label(b"plan ", line)?;
     if text.len() == DIGEST_DIGITS && are_digest_digits(text) {
         Some(text)
     } else {
@@ -76,16 +75,16 @@ pub(crate) fn digest_named(line: &[u8]) -> Option<&[u8]>
 }
 
 /// Gives the number of `emitted N`.
+#[tactic(auto, unfolding(crate::specs::SessionLines::emitted_of))]
 pub(crate) fn emitted_of(line: &[u8]) -> Option<u128>
     ensures { result ≡ emitted_of line.now }
 {
-    let Some(text) = behind_label(b"emitted ", line) else {
-        return None;
-    };
+    let text = behind_label(b"emitted ", line)?;
     count_within(text)
 }
 
 /// Gives the list of `last LIST`.
+#[tactic(auto, unfolding(crate::specs::SessionLines::last_listed))]
 pub(crate) fn last_listed<A: Allocator + Copy>(
     alloc: A,
     line: &[u8],
@@ -104,12 +103,11 @@ pub(crate) fn last_listed<A: Allocator + Copy>(
 }
 
 /// Gives the number of `parts M`.
+#[tactic(auto, unfolding(crate::specs::SessionLines::count_of))]
 pub(crate) fn count_of(line: &[u8]) -> Option<u64>
     ensures { result ≡ count_of line.now }
 {
-    let Some(text) = behind_label(b"parts ", line) else {
-        return None;
-    };
+    let text = behind_label(b"parts ", line)?;
     number_within(text, 0, u64::MAX)
 }
 

@@ -16,12 +16,7 @@ fn numbers_listed(text: &[u8]) -> Option<NodeList>
     let mut left = Some(text);
     while let Some(behind) = left {
         let (word, others) = first_word(behind);
-        let Some(node) = number_within(word, 0, u64::MAX) else {
-            return None;
-        };
-        let Some(()) = nodes.push(node) else {
-            return None;
-        };
+        nodes.push(number_within(word, 0, u64::MAX)?)?;
         left = others;
     }
     Some(nodes)
@@ -39,6 +34,7 @@ fn is_dash(text: &[u8]) -> bool
 }
 
 /// Gives the nodes of a list: `-` for none, or 1 to 16 numbers up to 18446744073709551615.
+#[tactic(auto, unfolding(crate::specs::SessionWords::list_within))]
 pub(crate) fn nodes_of(text: &[u8]) -> Option<NodeList>
     ensures { MatchOption result (nodes_of (words_of text.now) ≡ None) (λ nodes. nodes_of (words_of text.now) ≡ Some nodes) }
 {

@@ -43,6 +43,7 @@ impl<A: Allocator + Copy> PartLine<A> {
 
     /// Takes the lists of `part LIST / LIST / LIST` in place of those before, and tells whether the line is that. Where
     /// it isn't, or a growth was refused, what the lists hold is open.
+    #[tactic(auto, unfolding(crate::specs::SessionLines::part_of))]
     pub(crate) fn read(&mut self, line: &[u8]) -> Result<bool, NoMemory>
         ensures { IfOk result (λ found. part_of line.now ≡ (if found then Some self.new else None)) }
     {

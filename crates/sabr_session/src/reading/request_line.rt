@@ -8,14 +8,11 @@ ghost use Rattle.sabr_session.specs.SessionLines.{four_of, unlimited_of, limited
 use crate::reading::first_lines::{Version, behind_label};
 use crate::reading::node_list::nodes_of;
 use crate::reading::words::{first_word, is_word};
-use sabr_model::NodeList;
+use sabr_model::{MOST_HOPS, NodeList};
 use sabr_plan::{number_within, parse_time};
 
 /// The greatest margin or limit on hops that a line can name.
 const MOST_VALUE: u64 = 4294967295;
-
-/// The hops of a request without limits.
-const MOST_HOPS: u32 = 20000;
 
 /// The values of a request's line, which may be refused.
 #[derive(Drop)]
@@ -100,12 +97,11 @@ fn limited_of(text: &[u8]) -> Option<RequestValues>
 }
 
 /// Gives the values of `request` and these words.
+#[tactic(auto, unfolding(crate::specs::SessionLines::request_of))]
 pub(crate) fn request_of(version: Version, line: &[u8]) -> Option<RequestValues>
     ensures { result ≡ request_of version line.now }
 {
-    let Some(text) = behind_label(b"request ", line) else {
-        return None;
-    };
+    let text = behind_label(b"request ", line)?;
     match version {
         Version::One => unlimited_of(text),
         Version::Two => limited_of(text),

@@ -1,10 +1,16 @@
-//! The words of a session text, parted by single spaces.
+//! The words of a session text, parted by single spaces, and the numbers among them.
 
-ghost use Rattle.std.specs.Prelude.{◌≡◌, ◌==◌, ◌∷◌, ◌<◌, [], length, IfSome};
+ghost use Rattle.std.specs.Prelude.{◌≡◌, ◌==◌, ◌≤◌, ◌∷◌, ◌<◌, [], length, Some, IfSome};
 ghost use Rattle.std.specs.List.{position};
 ghost use Rattle.std.specs.Option.{option_copied};
 ghost use Rattle.std.specs.Str.{bytes_eq};
+ghost use Rattle.sabr_plan.specs.Numbers.{number_within};
 ghost use Rattle.sabr_session.specs.SessionWords.{is_space, words_of, words_behind};
+
+use sabr_plan::{leading_number, number_within};
+
+/// The greatest number of a contact.
+const MOST_NUMBER: u64 = 4294967295;
 
 /// Tells where the first space stands.
 fn first_space(text: &[u8]) -> Option<usize>
@@ -29,4 +35,35 @@ pub(crate) fn is_word(word: &[u8], text: &[u8]) -> bool
     ensures { result ≡ bytes_eq word.now text.now }
 {
     word == text
+}
+
+/// Gives the first word where it is digits without a leading zero, the number from 1 to 4294967295 that it spells, and
+/// what stands behind its space. Of all other words nothing is said.
+#[inline(always)]
+fn plain_number(text: &[u8]) -> Option<(&[u8], u64, Option<&[u8]>)>
+    ensures words { IfSome result (λ r. words_of text.now ≡ r.0.now ∷ words_behind (option_copied r.2)) }
+    ensures number { IfSome result (λ r. number_within 1 4294967295 r.0.now ≡ Some r.1) }
+    ensures limit { IfSome result (λ r. r.1 ≤ 4294967295) }
+{
+    let (value, word, behind) = leading_number(text, 1, MOST_NUMBER)?;
+    if behind.is_empty() {
+        return Some((word, value, None));
+    }
+    let rest = behind.strip_prefix(b" ")?;
+    Some((word, value, Some(rest)))
+}
+
+/// Gives the first word, the number from 1 to 4294967295 that it spells, and what stands behind its space, if it has
+/// one. A plainly spelled number is read in one pass.
+#[inline(always)]
+pub(crate) fn first_number(text: &[u8]) -> (&[u8], Option<u64>, Option<&[u8]>)
+    ensures words { words_of text.now ≡ result.0.now ∷ words_behind (option_copied result.2) }
+    ensures number { result.1 ≡ number_within 1 4294967295 result.0.now }
+    ensures limit { IfSome result.1 (λ n. n ≤ 4294967295) }
+{
+    if let Some((word, number, rest)) = plain_number(text) {
+        return (word, Some(number), rest);
+    }
+    let (word, rest) = first_word(text);
+    (word, number_within(word, 1, MOST_NUMBER), rest)
 }

@@ -10,7 +10,11 @@ use crate::writing::text_buffer::TextBuffer;
 use sabr_model::{Write, WriteFault};
 
 /// Puts the pieces one behind the other.
-pub(crate) fn put_pieces<W: Write>(
+///
+/// # Errors
+///
+/// [`WriteFault`] where the writer failed. Then a beginning of the bytes held and the pieces was written.
+pub fn put_pieces<W: Write>(
     text: &mut TextBuffer,
     writer: &mut W,
     pieces: &[&[u8]],

@@ -1,13 +1,17 @@
 //! The report of a page.
 
 ghost use Rattle.std.specs.Prelude.{◌≡◌, ℕ, ◌+◌, ◌^◌, ◌<◌, ◌≤◌, All, length};
+ghost use Rattle.std.specs.List.{concat};
 ghost use Rattle.sabr_model.specs.Devices.{WritesText};
 ghost use Rattle.sabr_session.specs.Gathering.{Gathers};
-ghost use Rattle.sabr_session.specs.ReportText.{HasSpelledTimes, route_line, report_line, report_lines, last_line, report_text};
+ghost use Rattle.sabr_session.specs.ReportText.{HasSpelledTimes, told_pieces, route_line, report_line, report_lines, last_line, report_text};
 
-use crate::writing::put_numbers::{put_count, put_number, put_numbers, put_time};
+use crate::writing::put_lists::put_pieces;
+use crate::writing::put_numbers::{put_count, put_numbers};
 use crate::writing::text_buffer::TextBuffer;
+use itoa::Buffer;
 use sabr_model::{Route, Write, WriteFault};
+use sabr_plan::time_text;
 use std::alloc::Allocator;
 
 /// Writes a line for each route, with ranks counting up from the first one, and then `more` or `end`.
@@ -116,13 +120,39 @@ pub fn put_route_line<W: Write>(
     requires { (delivery ≤ 253402300799) × (until ≤ 253402300799) }
     ensures { Gathers (W.contents writer.old) (W.failures writer.old) text.old (route_line (record { contacts = contacts.now; delivery = delivery; until = until; entry = entry })) result (W.contents writer.new) (W.failures writer.new) text.new }
 {
-    put_time(text, writer, b"delivery ", delivery)?;
-    put_number(text, writer, b" hops ", contacts.len() as u64)?;
-    put_number(text, writer, b" entry ", entry)?;
-    put_time(text, writer, b" until ", until)?;
-    text.put(writer, b" contacts")?;
+    put_told(text, writer, contacts, delivery, until, entry)?;
     put_numbers(text, writer, contacts)?;
     text.put(writer, b"\n")
+}
+
+/// Puts the line up to the numbers of the contacts.
+fn put_told<W: Write>(
+    text: &mut TextBuffer,
+    writer: &mut W,
+    contacts: &[u32],
+    delivery: u64,
+    until: u64,
+    entry: u64,
+) -> Result<(), WriteFault>
+    requires { (delivery ≤ 253402300799) × (until ≤ 253402300799) }
+    ensures { Gathers (W.contents writer.old) (W.failures writer.old) text.old (concat (told_pieces (record { contacts = contacts.now; delivery = delivery; until = until; entry = entry }))) result (W.contents writer.new) (W.failures writer.new) text.new }
+{
+    let mut hops = Buffer::new();
+    let mut node = Buffer::new();
+    let delivery = time_text(delivery);
+    let until = time_text(until);
+    let pieces: [&[u8]; 9] = [
+        b"delivery ",
+        &delivery,
+        b" hops ",
+        hops.format(contacts.len()).as_bytes(),
+        b" entry ",
+        node.format(entry).as_bytes(),
+        b" until ",
+        &until,
+        b" contacts",
+    ];
+    put_pieces(text, writer, &pieces)
 }
 
 /// Puts whether the list goes on.

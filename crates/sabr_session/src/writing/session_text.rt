@@ -12,7 +12,6 @@ ghost use Rattle.sabr_session.specs.SessionText.{plan_line, request_line, state_
 ghost use Rattle.sabr_session.specs.SessionPieces.{asked_pieces, counts_pieces, told_line};
 
 use crate::digest_text::digest_text;
-use crate::rules::tell_count;
 use crate::writing::put_lists::{put_list, put_nodes, put_pieces};
 use crate::writing::put_numbers::{put_count, put_number};
 use crate::writing::text_buffer::TextBuffer;
@@ -41,6 +40,13 @@ pub fn write_session<W: Write, B: BestOf<A>, A: Allocator + Copy>(
     let mut text = TextBuffer::new();
     put_session(&mut text, writer, session, digest)?;
     text.send(writer)
+}
+
+/// Tells contracts that a text can tell how many parts a session has. It does nothing.
+fn tell_count<B: BestOf<A>, A: Allocator + Copy>(session: &Session<'_, B, A>)
+    ensures { HasText session.now.state }
+{
+    session.part_count();
 }
 
 /// Puts the whole text.

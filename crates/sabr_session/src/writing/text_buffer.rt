@@ -4,6 +4,7 @@ ghost use Rattle.std.specs.Prelude.{◌≡◌, ◌≤◌, ◌+◌, ◌++◌, [],
 ghost use Rattle.sabr_model.specs.Devices.{WritesText};
 ghost use Rattle.sabr_session.specs.Gathering.{Gathers};
 
+use arrayvec::ArrayVec;
 use sabr_model::{Write, WriteFault, write_text};
 use std::marker::Model;
 
@@ -13,18 +14,15 @@ const CAPACITY: usize = 4096;
 /// The bytes of a text that its writer was not handed yet. It takes no memory beyond its array.
 #[derive(Drop)]
 pub struct TextBuffer {
-    bytes: [u8; CAPACITY],
-    len: usize,
+    bytes: ArrayVec<u8, CAPACITY>,
 }
 
 impl Model for TextBuffer {
-    ghost use Rattle.std.specs.Prelude.{ℕ, List, ◌≤◌, take};
+    ghost use Rattle.std.specs.Prelude.{ℕ, List};
 
     ghost Value = { List ℕ };
 
-    ghost view = { λ b. take b.len b.bytes };
-
-    ghost invariant = { λ b. b.len ≤ 4096 };
+    ghost view = { λ b. b.bytes.items };
 }
 
 impl TextBuffer {
@@ -33,8 +31,7 @@ impl TextBuffer {
         ensures { result ≡ [] }
     {
         TextBuffer {
-            bytes: [0; CAPACITY],
-            len: 0,
+            bytes: ArrayVec::new(),
         }
     }
 
@@ -46,13 +43,15 @@ impl TextBuffer {
     pub fn put<W: Write>(&mut self, writer: &mut W, text: &[u8]) -> Result<(), WriteFault>
         ensures { Gathers (W.contents writer.old) (W.failures writer.old) self.old text.now result (W.contents writer.new) (W.failures writer.new) self.new }
     {
-        if text.len() > CAPACITY - self.len {
+        if text.len() > CAPACITY - self.bytes.len() {
             self.send(writer)?;
             if text.len() > CAPACITY {
                 return write_text(writer, text);
             }
         }
-        self.append(text);
+        let Ok(()) = self.bytes.try_extend_from_slice(text) else {
+            unreachable!();
+        };
         Ok(())
     }
 
@@ -65,17 +64,8 @@ impl TextBuffer {
         ensures text { WritesText (W.contents writer.old) (W.failures writer.old) self.old result (W.contents writer.new) (W.failures writer.new) }
         ensures empty { OnOk result (self.new ≡ []) }
     {
-        write_text(writer, &self.bytes[..self.len])?;
-        self.len = 0;
+        write_text(writer, self.bytes.as_slice())?;
+        self.bytes.clear();
         Ok(())
-    }
-
-    fn append(&mut self, text: &[u8])
-        requires { length self.old + length text.now ≤ 4096 }
-        ensures { self.new ≡ self.old ++ text.now }
-    {
-        let len = self.len;
-        self.bytes[len..len + text.len()].copy_from_slice(text);
-        self.len = len + text.len();
     }
 }

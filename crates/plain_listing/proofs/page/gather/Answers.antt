@@ -9,5 +9,5 @@ loop-next-init g c =
     let r = c.args.request.now in (
       c.new-kept.ensures.limit,
       subst (λ hops. IsWalk p r c.args.limit hops 0 c.new-kept.result.routes.items) (sym c.new-hops.ensures.items)
-          (subst (λ kept. IsWalk p r c.args.limit [] 0 kept) (sym c.new-kept.ensures.routes) (walk_begins p r c.obeys_rules.ensures c.args.limit)),
+          (subst (λ kept. IsWalk p r c.args.limit [] 0 kept) (sym c.new-kept.ensures.routes) (walk_begins p r c.tell_rules.ensures c.args.limit)),
     )

@@ -8,7 +8,7 @@ use Rattle.sabr_model.specs.Record.{by_record}
 use Rattle.sabr_model.specs.Plan.{ContactPlan, rises_above}
 use Rattle.sabr_model.specs.Table.{sent_by}
 use Rattle.sabr_model.specs.Route.{is_path}
-use Rattle.plain_listing.specs.declared.hop.Stop.{Stop}
+use Rattle.sabr_model.specs.declared.following.Reached.{Reached}
 use Rattle.plain_listing.specs.declared.hop.Hop.{Hop}
 use Rattle.plain_listing.specs.Way.{numbers_of, hop_of, last_stop, record_over}
 use Rattle.plain_listing.specs.Walk.{IsMove, is_past}
@@ -27,9 +27,9 @@ overflow_add-result g c =
     omega arith
 
 -- what the search for the next number found
-found : (p : ContactPlan) (r : RouteRequest) (hops : List Hop) (low : ℕ) (lent : List Hop) (end : Stop) (numbers : List ℕ) (o : Option ℕ)
+found : (p : ContactPlan) (r : RouteRequest) (hops : List Hop) (low : ℕ) (lent : List Hop) (end : Reached) (numbers : List ℕ) (o : Option ℕ)
     → lent ≡ hops → end ≡ last_stop r lent → numbers ≡ sent_by p.contacts end.node → o ≡ next_from low numbers → o ≡ next_from low (sent_by p.contacts (last_stop r hops).node)
-found p r hops low lent end numbers o a b d e = e ∙ ap (next_from low) (d ∙ ap (λ (x : Stop). sent_by p.contacts x.node) (b ∙ ap (last_stop r) a))
+found p r hops low lent end numbers o a b d e = e ∙ ap (next_from low) (d ∙ ap (λ (x : Reached). sent_by p.contacts x.node) (b ∙ ap (last_stop r) a))
 
 empty : (hops : List Hop) → length hops ≡ 0 → hops ≡ []
 empty [] e = refl
@@ -122,7 +122,7 @@ returns-clause-ok g c =
     let is = c.in_ok-take_hop.ensures.route there in
     move_to p r limit hops low hops c.take_hop.new.hops.items (n + 1) c.in_ok-take_hop.field-0 c.take_hop.new.kept.routes.items c.take_hop.new.kept.routes.items
     (move_found p r c.requires.rules limit hops low kept c.requires.walk n next path (sym node ∙ there) c.take_hop.new.kept.routes.items
-    (is.2 ∙ ap (λ h. take limit (put_in by_record (record_over r (hops ++ h ∷ [])) kept)) told))
+    (is.2 ∙ ap (λ h. take limit (put_in by_record (record_over p r (hops ++ h ∷ [])) kept)) told))
     is.1 (is.0 ∙ ap (λ m. m + 1) number) refl)
     (λ elsewhere.
     let is = c.in_ok-take_hop.ensures.onward elsewhere in
@@ -162,6 +162,6 @@ returns-then-is_past-clause-ok g c =
     let it = some_where (is_path p r (numbers_of c.deref-2.result.now ++ n ∷ [])) (hop_of p r (numbers_of c.deref-2.result.now) n) hop (sym c.hop_over.ensures ∙ c.in-Some-hop_over.is) in
     let path : is_path p r (numbers_of hops ++ n ∷ []) ≡ true = ap (λ w. is_path p r (numbers_of w ++ n ∷ [])) (sym lent) ∙ it.0 in
     let told : hop ≡ hop_of p r (numbers_of hops) n = it.1 ∙ ap (λ w. hop_of p r (numbers_of w) n) lent in
-    let past : is_past limit kept (hop_of p r (numbers_of hops) n).stop.arrival ≡ true =
-    ap (λ (h : Hop). is_past limit kept h.stop.arrival) (sym told) ∙ sym c.is_past.ensures ∙ c.if-is_past.true in
+    let past : is_past limit kept (hop_of p r (numbers_of hops) n).stop.at ≡ true =
+    ap (λ (h : Hop). is_past limit kept h.stop.at) (sym told) ∙ sym c.is_past.ensures ∙ c.if-is_past.true in
     move_late p r c.requires.rules limit hops low kept c.requires.walk n next path past

@@ -1,24 +1,13 @@
-use Rattle.std.proofs.Common.{◌≡◌, ℕ, List, [], ◌∷◌, ◌++◌, take, get_or, true, sym, subst, ◌∙◌, arith, true≢false}
-use Rattle.std.proofs.lemmas.Bool.Decides.{nat_tests}
+use Rattle.std.proofs.Common.{◌≡◌, ℕ, List, [], ◌∷◌, ◌++◌, take, get_or, true, map, ap, sym, subst, ◌∙◌, arith, true≢false}
 use Rattle.std.proofs.lemmas.List.{take_all}
 use Rattle.sabr_model.specs.Route.{is_path}
-use Rattle.sabr_model.proofs.Paths.{beginning_is_path}
-use Rattle.sabr_frontier.specs.Leading.{IsLead}
+use Rattle.sabr_frontier.specs.Leading.{AreLeads, prefix_owed}
 use Rattle.sabr_frontier.specs.Holding.{AllGoOn, IsJudged}
 use Rattle.sabr_frontier.proofs.Judges.{judged_more, number_in, paths_more}
 use Rattle.sabr_frontier.proofs.judge.judge.Goals as goal
 
 pub loop-number-init : goal.loop-number-init
-loop-number-init g c = record { so_far = record { leaves_are = c.clear.ensures.items; onward_are = c.clear-2.ensures.items }; paths = λ x h. absurd (true≢false (sym h)) }
-
-pub returns-in_default-clause-none : goal.returns-in_default-clause-none
-returns-in_default-clause-none g c all =
-    let p = c.args.plan.now.plan in
-    let r = c.args.request.now in
-    let q = c.args.prefix.now in
-    let x = get_or c.args.excluded.now 0 0 in
-    let path : is_path p r (q ++ x ∷ []) ≡ true = all x (number_in p r c.args.excluded.now 0 (grind (arith, nat_tests))) in
-    subst (IsLead p r q) c.in_default.is c.requires (beginning_is_path p r q (x ∷ []) path)
+loop-number-init g c = record { so_far = record { leaves_are = c.clear.ensures.items; onward_are = ap (map prefix_owed) c.clear-2.ensures.items; leads = subst (AreLeads c.args.plan.now.plan c.args.request.now) (sym c.clear-2.ensures.items) (λ k d l. absurd (omega (arith, l))) }; paths = λ x h. absurd (true≢false (sym h)) }
 
 pub returns-then-not-branch-clause-none : goal.returns-then-not-branch-clause-none
 returns-then-not-branch-clause-none g c all =
@@ -37,7 +26,7 @@ loop-number-preserved g c =
     let i = c.loop-number.number-index in
     let lt = c.loop-number-test.true in
     record {
-      so_far = judged_more p r q X i lt c.loop-number.judged c.put.new.self c.loop-number.invariant.so_far (c.in_ok-put.ensures.leaves c.if-not-branch.false) (c.in_ok-put.ensures.onward c.if-not-branch.false);
+      so_far = judged_more p r q X i lt c.loop-number.judged c.put.new.self c.loop-number.invariant.so_far (c.in_ok-put.ensures.leaves c.if-not-branch.false) (c.in_ok-put.ensures.onward c.if-not-branch.false) c.in_ok-put.ensures.leads;
       paths = paths_more p r q X i lt c.loop-number.invariant.paths (sym c.in_ok-put.ensures.path ∙ c.if-not-branch.false);
     }
 

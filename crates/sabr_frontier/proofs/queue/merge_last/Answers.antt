@@ -23,6 +23,6 @@ returns-clause-turned g c P L D id e p l =
     let is : ids ≡ take k P ++ (drop k P ++ ((L ++ id ∷ []) ++ D)) = e ∙ ap (λ z. z ++ (L ++ id ∷ D)) (sym (take-append-drop k P)) ∙ append_assoc (take k P) (drop k P) (L ++ id ∷ D)
     ∙ ap (λ z. take k P ++ (drop k P ++ z)) (sym (append_assoc L (id ∷ []) D)) in
     let count : c.args.placed - k ≡ length (drop k P) = omega (arith, length-drop k P, p) in
-    block_behind ids (take k P) (drop k P) (L ++ id ∷ []) D c.rotate_left.new.self k n is (length-take-le k P within) (omega (arith, length-drop k P, length-append L (id ∷ []), p, l, within))
-    (c.rotate_left.ensures.after ∙ ap (λ m. drop m (mid_of k n ids) ++ take m (mid_of k n ids)) count)
+    block_behind ids (take k P) (drop k P) (L ++ id ∷ []) D c.turn.new.ids k n is (length-take-le k P within) (omega (arith, length-drop k P, length-append L (id ∷ []), p, l, within))
+    (c.turn.ensures.turned ∙ ap (λ m. drop m (mid_of k n ids) ++ take m (mid_of k n ids)) count)
     ∙ ap (λ z. take k P ++ z) (append_assoc L (id ∷ []) (drop k P ++ D))

@@ -1,7 +1,11 @@
 use Rattle.std.proofs.Common.{◌≡◌, ◌∷◌, ◌++◌, [], Some, ap, ◌∙◌, rules}
 use Rattle.sabr_model.specs.Fault.{fault_of}
 use Rattle.sabr_model.proofs.Follows.{fault_in_front}
+use Rattle.sabr_model.proofs.Prefixes.{empty_is_path}
 use Rattle.sabr_model.proofs.following.follow.Goals as goal
+
+pub follow_rest-requires-clause-path : goal.follow_rest-requires-clause-path
+follow_rest-requires-clause-path g c = empty_is_path c.args.plan.now.plan c.args.request.now
 
 pub returns-in_err-here-clause-fault : goal.returns-in_err-here-clause-fault
 returns-in_err-here-clause-fault g c =

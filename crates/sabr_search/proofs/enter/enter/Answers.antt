@@ -8,25 +8,25 @@ use Rattle.sabr_search.proofs.enter.enter.Goals as goal
 
 pub returns-in_default-clause-none : goal.returns-in_default-clause-none
 returns-in_default-clause-none g c =
-    no_source c.args.plan.now.plan c.args.request.now c.args.plan.now.table (has_nodes c.args.plan.now c.nodes-nodes.ensures.tabled) (ap (λ x. has x c.args.plan.now.table) (sym c.from.ensures.value) ∙ c.in_default.ensures)
+    no_source c.args.plan.now.plan c.args.request.now c.args.plan.now.table (has_nodes c.args.plan.now c.nodes.ensures.tabled) (ap (λ x. has x c.args.plan.now.table) (sym c.from.ensures.value) ∙ c.in_default.ensures)
 
 pub returns-in_default-node_index-clause-none : goal.returns-in_default-node_index-clause-none
 returns-in_default-node_index-clause-none g c =
-    no_destination c.args.plan.now.plan c.args.request.now c.args.plan.now.table (has_nodes c.args.plan.now c.nodes-nodes.ensures.tabled) (ap (λ x. has x c.args.plan.now.table) (sym c.to.ensures.value) ∙ c.in_default-node_index.ensures)
+    no_destination c.args.plan.now.plan c.args.request.now c.args.plan.now.table (has_nodes c.args.plan.now c.nodes.ensures.tabled) (ap (λ x. has x c.args.plan.now.table) (sym c.to.ensures.value) ∙ c.in_default-node_index.ensures)
 
-pub shut_avoided-requires : goal.shut_avoided-requires
-shut_avoided-requires g c = has_nodes c.args.plan.now c.nodes-nodes.ensures.tabled
+pub shut_avoided-requires-clause-nodes : goal.shut_avoided-requires-clause-nodes
+shut_avoided-requires-clause-nodes g c = has_nodes c.args.plan.now c.nodes.ensures.tabled
 
 pub pass_prefix-standing-requires-clause-nodes : goal.pass_prefix-standing-requires-clause-nodes
-pass_prefix-standing-requires-clause-nodes g c = has_nodes c.args.plan.now c.nodes-nodes.ensures.tabled
+pass_prefix-standing-requires-clause-nodes g c = has_nodes c.args.plan.now c.nodes.ensures.tabled
 
 pub returns-clause-some : goal.returns-clause-some
 returns-clause-some g c = λ excluded.
     let p = c.args.plan.now in
     let r = c.args.request.now in
-    let nodes = has_nodes p c.nodes-nodes.ensures.tabled in
+    let nodes = has_nodes p c.nodes.ensures.tabled in
     let goal_is : slice_get p.table c.in-Some-node_index.goal ≡ Some r.destination = c.in-Some-node_index.ensures ∙ ap Some c.to.ensures.value in
     let passed = c.pass_prefix-standing.ensures.passed in (
-      task_passed p r c.args.prefix.now c.pass_prefix-standing.new.shut.items c.pass_prefix-standing.result.node c.pass_prefix-standing.result.at passed nodes c.in-Some-node_index.goal goal_is excluded c.contacts-standing.ensures.rules c.from.ensures.limits (prefix_facts p.plan r c.args.prefix.now c.requires.fits),
+      task_passed p r c.args.prefix.now c.pass_prefix-standing.new.shut.items c.pass_prefix-standing.result.node c.pass_prefix-standing.result.at passed nodes c.in-Some-node_index.goal goal_is excluded c.tell_rules.ensures c.from.ensures.limits (prefix_facts p.plan r c.args.prefix.now c.requires.fits),
       behind_passed p r c.args.prefix.now c.pass_prefix-standing.new.shut.items c.pass_prefix-standing.result.node c.pass_prefix-standing.result.at passed nodes c.in-Some-node_index.goal goal_is excluded,
     )

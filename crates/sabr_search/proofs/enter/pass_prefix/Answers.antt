@@ -5,7 +5,6 @@ use Rattle.sabr_model.specs.Plan.{has}
 use Rattle.sabr_model.specs.declared.contact.Contact.{Contact}
 use Rattle.sabr_model.specs.Arrival.{arrival_after}
 use Rattle.sabr_model.specs.Route.{chain_end}
-use Rattle.sabr_search.specs.Hops.{hop_arrival}
 use Rattle.sabr_search.specs.Task.{is_closed}
 use Rattle.sabr_search.proofs.Prefixes.{prefix_facts}
 use Rattle.sabr_search.proofs.Entering.{shut_more, closed_none, closed_more, drop_rest, next_hop, next_arrival, IsNextHop}
@@ -33,8 +32,8 @@ unreachable-requires g c =
     let next = next_hop p r prefix (prefix_facts p.plan r prefix c.requires.fits) c.loop-number.standing.at i n so_far.node.0 (slice_get-get_or prefix i 0 c.loop-number-test.true) so_far.node.2 so_far.time in
     let e : None ≡ Some next.contact = sym c.in_default.ensures.value ∙ next.named in cc
 
-pub unreachable-requires-in_default-arrive_by_hop : goal.unreachable-requires-in_default-arrive_by_hop
-unreachable-requires-in_default-arrive_by_hop g c =
+pub unreachable-requires-in_default-arrive : goal.unreachable-requires-in_default-arrive
+unreachable-requires-in_default-arrive g c =
     let p = c.args.plan.now in
     let r = c.args.request.now in
     let prefix = c.args.prefix.now in
@@ -43,8 +42,7 @@ unreachable-requires-in_default-arrive_by_hop g c =
     let so_far = c.loop-number.invariant in
     let next : IsNextHop p r c.loop-number.standing.at i n prefix = next_hop p r prefix (prefix_facts p.plan r prefix c.requires.fits) c.loop-number.standing.at i n so_far.node.0 (slice_get-get_or prefix i 0 c.loop-number-test.true) so_far.node.2 so_far.time in
     let a = next_arrival p r c.loop-number.standing.at i n prefix next c.in-Some.hop c.in-Some.ensures.value in
-    let margin : c.margin_ppm.result ≡ r.margin = c.margin_ppm.ensures.value in
-    let e : None ≡ Some next.b = sym c.in_default-arrive_by_hop.is ∙ c.arrive_by_hop.ensures ∙ ap (λ m. hop_arrival m c.loop-number.standing.at c.in-Some.hop) margin ∙ a.1 in cc
+    let e : None ≡ Some next.b = sym c.in_default-arrive.is ∙ c.arrive.ensures ∙ a.1 in cc
 
 pub index_mut-requires-in-loop-number : goal.index_mut-requires-in-loop-number
 index_mut-requires-in-loop-number g c = omega (arith, c.loop-number.shut.ok.0, c.loop-number.invariant.shuts.many, slice_get_within c.args.plan.now.table c.in-Some.hop.receiver c.in-Some.ensures.value.contact.to c.in-Some.ensures.value.is.receiver)
@@ -61,8 +59,7 @@ loop-number-preserved g c =
     let next : IsNextHop p r c.loop-number.standing.at i n prefix = next_hop p r prefix (prefix_facts p.plan r prefix c.requires.fits) c.loop-number.standing.at i n so_far.node.0 here so_far.node.2 so_far.time in
     let hop = c.in-Some.ensures.value in
     let a = next_arrival p r c.loop-number.standing.at i n prefix next c.in-Some.hop hop in
-    let margin : c.margin_ppm.result ≡ r.margin = c.margin_ppm.ensures.value in
-    let at : c.in-Some-arrive_by_hop.at ≡ next.b = (let q : Some c.in-Some-arrive_by_hop.at ≡ Some next.b = sym c.in-Some-arrive_by_hop.is ∙ c.arrive_by_hop.ensures ∙ ap (λ m. hop_arrival m c.loop-number.standing.at c.in-Some.hop) margin ∙ a.1 in cc (q)) in
+    let at : c.in-Some-arrive.at ≡ next.b = (let q : Some c.in-Some-arrive.at ≡ Some next.b = sym c.in-Some-arrive.is ∙ c.arrive.ensures ∙ a.1 in cc (q)) in
     let to : slice_get p.table c.in-Some.hop.receiver ≡ Some next.contact.to = hop.is.receiver ∙ ap (λ (d : Contact). Some d.to) a.0 in
     record {
       counted = omega (arith, so_far.counted, c.hop.ensures.counted);

@@ -12,7 +12,7 @@ loop-node-preserved g c =
     let i = c.loop-node.node-index in
     let here : slice_get nodes i ≡ Some (slice_index nodes i) = slice_get-get_or nodes i 0 c.loop-node-test.true in
     elim c.match-node_index.branch [
-      | in-Some w ↦ rw w.shut-is (shut_more c.args.plan.now.plan c.args.plan.now.table c.requires c.loop-node.shut.items (λ x. has x (take i nodes)) (λ x. has x (take (i + 1) nodes)) w.in-Some.index (slice_index nodes i) c.loop-node.invariant w.in-Some.ensures (λ x. has_more nodes i (slice_index nodes i) x here))
+      | in-Some w ↦ rw w.shut-is (shut_more c.args.plan.now.plan c.args.plan.now.table c.requires.nodes c.loop-node.shut.items (λ x. has x (take i nodes)) (λ x. has x (take (i + 1) nodes)) w.in-Some.index (slice_index nodes i) c.loop-node.invariant w.in-Some.ensures (λ x. has_more nodes i (slice_index nodes i) x here))
       | in_default w ↦ rw w.shut-is (shut_same c.args.plan.now.table c.loop-node.shut.items (λ x. has x (take i nodes)) (λ x. has x (take (i + 1) nodes)) c.loop-node.invariant (λ x inside. has_other nodes i (slice_index nodes i) x here c.args.plan.now.table w.in_default.ensures inside))
     ]
 

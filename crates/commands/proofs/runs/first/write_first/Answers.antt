@@ -13,5 +13,5 @@ returns g c =
       | else-keep w ↦ ap is_some w.digest-is ∙ sym w.if-keep.false
     ]
     in
-    rw (← keeps, ← first_report_is p r c.args.count c.obeys_rules.ensures, ← first_place p r c.args.count c.obeys_rules.ensures)
+    rw (← keeps, ← first_report_is p r c.args.count c.tell_rules.ensures, ← first_place p r c.args.count c.tell_rules.ensures)
     (rw (c.in_ok-listing.ensures {u = tt}) at c.write_page.ensures)

@@ -2,19 +2,20 @@ use Rattle.std.proofs.Common.{ap, sym, ◌∙◌}
 use Rattle.std.specs.Option.{option_copied}
 use Rattle.commands.specs.words.Lists.{nodes_listed, numbers_within, pieces_behind}
 use Rattle.sabr_plan.specs.Numbers.{number_within}
-use Rattle.commands.proofs.WordLemmas.ListedNumbers.{few, behind-bad, behind-end, few-kept, few-full}
+use Rattle.sabr_session.proofs.ReadNumbers.{behind-bad, behind-end}
+use Rattle.commands.proofs.WordLemmas.ListedNumbers.{few, few-kept, few-full}
 use Rattle.commands.proofs.words.lists.nodes_listed.Goals as goal
 
-pub returns-in_default-number_within : goal.returns-in_default-number_within
+pub returns-in_err-node : goal.returns-in_err-node
 unfolding nodes_listed numbers_within
-returns-in_default-number_within c =
-    ap few (behind-bad (number_within 1 18446744073709551615) _ _ _ _ _ c.loop-rest.invariant.listed (ap (λ o. pieces_behind (option_copied o)) c.in-Some.is ∙ c.first_piece.ensures.pieces) (sym c.number_within.ensures.value ∙ c.in_default-number_within.is))
+returns-in_err-node c =
+    rw c.from_residual.ensures (ap few (behind-bad (number_within 1 18446744073709551615) _ _ _ _ _ c.loop-rest.invariant.listed (ap (λ o. pieces_behind (option_copied o)) c.in-Some.is ∙ c.first_piece.ensures.pieces) (sym c.number_within.ensures.value ∙ c.in_err-node.was)))
 
-pub returns-in_default-push : goal.returns-in_default-push
+pub returns-in_err-push : goal.returns-in_err-push
 unfolding nodes_listed numbers_within
-returns-in_default-push c =
-    few-full (number_within 1 18446744073709551615) _ _ _ _ _ c.in-Some-number_within.node c.loop-rest.invariant.listed (ap (λ o. pieces_behind (option_copied o)) c.in-Some.is ∙ c.first_piece.ensures.pieces) (sym c.number_within.ensures.value ∙ c.in-Some-number_within.is)
-    (c.push.ensures.full c.in_default-push.is)
+returns-in_err-push c =
+    rw c.from_residual-in_err-push.ensures (few-full (number_within 1 18446744073709551615) _ _ _ _ _ c.in_ok-node.node c.loop-rest.invariant.listed (ap (λ o. pieces_behind (option_copied o)) c.in-Some.is ∙ c.first_piece.ensures.pieces) (sym c.number_within.ensures.value ∙ c.in_ok-node.was)
+    (c.push.ensures.full c.in_err-push.was))
 
 pub returns : goal.returns
 unfolding nodes_listed numbers_within

@@ -1,4 +1,5 @@
-use Rattle.std.proofs.Common.{◌≡◌, ◌⊎◌, ◌∙◌, ℕ, true, [], inl, inr, sym}
+use Rattle.std.proofs.Common.{◌≡◌, ◌⊎◌, ◌∙◌, ℕ, true, [], ap, inl, inr, sym, true≢false}
+use Rattle.std.specs.Prelude.{is_some}
 use Rattle.std.specs.Ordering.{nat_cmp}
 use Rattle.sabr_frontier.specs.Rising.{has}
 use Rattle.sabr_frontier.specs.Holding.{holding_of}
@@ -14,4 +15,7 @@ returns-clause-verdict g c =
       | else-not-is_empty-via-then-not-is_empty+else-is_empty w ↦ inr (some_number X (sym w.is_empty-then-not-is_empty.ensures ∙ w.if-is_empty.false))
       | else-not-is_empty-via-else-not-is_empty w ↦ inl (empty_list q (sym c.is_empty.ensures ∙ w.if-not-is_empty.false))
     ] in
-    verdict_from c.args.plan.now.plan c.args.request.now (holding_of c.args.self.now) (q, X) c.if-not-self.false (sym c.is_due.ensures ∙ c.if-not-is_due.false) busy c.judge.result c.judge.ensures.some c.judge.ensures.none
+    verdict_from c.args.plan.now.plan c.args.request.now (holding_of c.args.self.now) (q, X) (sym c.requires.due ∙ ap is_some c.in-Some.is) busy c.judge.result c.judge.ensures.some c.judge.ensures.none
+
+pub returns-in_default-clause-verdict : goal.returns-in_default-clause-verdict
+returns-in_default-clause-verdict g c due good = true≢false (sym due ∙ sym c.requires.due ∙ ap is_some c.in_default.is)

@@ -8,7 +8,7 @@ invariant_of-result g c =
     let p = c.args.plan.now.plan in
     let r = c.args.request in
     record {
-      rules = c.tell_rules.ensures.rules;
-      limits = c.tell_rules.ensures.limits;
+      rules = c.tell_rules.ensures;
+      limits = c.tell_limits.ensures;
       held = subst (IsHeld p r) (sym c.new.ensures) (nothing_is_held p r {A = g.row.A.Denot});
     }

@@ -19,9 +19,9 @@ invariant_of-result g c =
     let r = c.args.request in
     let same : shape_of c.in_ok-tree.tree ≡ root (best_of p r [] []) = c.in_ok-tree.ensures.shape ∙ ap root c.in_ok-found.ensures.best in
     record {
-      rules = c.tell_rules.ensures.rules;
-      limits = c.tell_rules.ensures.limits;
-      sound = subst (IsSound p r) (sym same) (root_is_tree g.row.A.Denot p r c.tell_rules.ensures.rules);
+      rules = c.tell_rules.ensures;
+      limits = c.tell_limits.ensures;
+      sound = subst (IsSound p r) (sym same) (root_is_tree g.row.A.Denot p r c.tell_rules.ensures);
       starts = subst (λ z. AreStarts (reverse z) (length c.in_ok-tree.tree.journal.items)) (sym c.new.ensures.items) (ap (λ (z : Shape g.row.A.Denot). length z.journal) same);
       room = c.in_ok-tree.ensures.room;
       tables = c.ask.ensures.kept;

@@ -1,16 +1,20 @@
-use Rattle.std.proofs.Common.{◌≡◌, [], ◌∷◌, ◌++◌, subst, ap, sym, ◌∙◌}
-use Rattle.std.specs.Prelude.{All}
-use Rattle.std.proofs.lemmas.List.Elements.{All-push}
+use Rattle.std.proofs.Common.{true, false, Bool, cond, ◌∷◌, take, drop, subst, sym}
+use Rattle.std.specs.Prelude.{All, is_ok}
+use Rattle.std.specs.List.{insert}
+use Rattle.std.proofs.lemmas.List.Elements.{All-append, All-cons, All-take, All-drop}
 use Rattle.sabr_search.specs.Kept.{IsRung}
 use Rattle.sabr_search.proofs.kept.Kept.keep.Goals as goal
 
 pub returns-clause-kept : goal.returns-clause-kept
 returns-clause-kept g c =
-    let p = c.args.plan.now in
-    let r = c.args.request.now in
+    let P = IsRung c.args.plan.now c.args.request.now in
     let old = c.args.self.now.rungs.items in
     let rung = c.in-Some.rung in
-    let one : IsRung p r rung = rw c.in-Some.is at c.in-Ok.ensures.rung in
-    let more : All (IsRung p r) (old ++ rung ∷ []) = All-push (IsRung p r) old rung c.requires.kept one in
-    let is : c.push_reserved.new.self.items ≡ old ++ rung ∷ [] = c.push_reserved.ensures.items ∙ ap (λ xs. xs ++ rung ∷ []) (c.reserve.ensures.items) in
-    subst (λ xs. All (IsRung p r) xs) (sym is) more
+    let k = c.place_for-place.result in
+    let one : P rung = rw c.in-Some.is at c.in-Ok.ensures.rung in
+    let more : All P (insert old k rung) = All-append P (take k old) (rung ∷ drop k old) (All-take P k old c.requires.kept) (All-cons P rung (drop k old) one (All-drop P k old c.requires.kept)) in
+    let either : (b : Bool) → All P (cond b (insert old k rung) old) = λ b. elim b as (λ b. All P (cond b (insert old k rung) old)) [
+      | true ↦ more
+      | false ↦ c.requires.kept
+    ] in
+    subst (All P) (sym c.insert.ensures.items) (either (is_ok c.insert.result))

@@ -1,6 +1,11 @@
-use Rattle.std.proofs.Common.{◌<◌, length}
-use Rattle.std.specs.Prelude.{IfSome}
+use Rattle.std.proofs.Common.{◌-◌, ◌≤◌, length}
 use Rattle.sabr_search.proofs.kept.Kept.met.Given as goal
 
-abbrev pub invariant-loop-place : goal.invariant-loop-place
-invariant-loop-place g l = IfSome l.found (λ p. p < length l.self.rungs.items)
+abbrev pub invariant-loop-low : goal.invariant-loop-low
+invariant-loop-low g l = record {
+  order : l.low ≤ l.high;
+  within : l.high ≤ length l.self.rungs.items;
+}
+
+abbrev pub decreases-loop-low : goal.decreases-loop-low
+decreases-loop-low g l = l.high - l.low

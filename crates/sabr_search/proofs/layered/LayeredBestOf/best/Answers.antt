@@ -50,17 +50,6 @@ answer-requires-clause-task g c =
     let both : IsTask task × IsBehind task prefix = found c.args.part.excluded.now in
     rw (c.new-task.ensures, c.deref.ensures.value) both.0
 
-pub answer-requires-clause-behind : goal.answer-requires-clause-behind
-answer-requires-clause-behind g c =
-    let p = c.args.plan.now in
-    let r = c.args.request.now in
-    let prefix = c.args.part.prefix.now in
-    let facts = prefix_facts p.plan r prefix c.requires.fits in
-    let task : SearchTask = record { plan = p.plan; request = r; table = p.table; shut = c.enter.new.shut.items; excluded = c.args.part.excluded.now; start = c.in-Some.standing.node; goal = c.in-Some.goal; at = c.in-Some.standing.at } in
-    let found = rw c.in-Some.is at c.in_ok-standing.ensures.some in
-    let both : IsTask task × IsBehind task prefix = found c.args.part.excluded.now in
-    rw (c.new-task.ensures, c.deref.ensures.value) both.1
-
 pub answer-requires-clause-few : goal.answer-requires-clause-few
 answer-requires-clause-few g c =
     let p = c.args.plan.now in

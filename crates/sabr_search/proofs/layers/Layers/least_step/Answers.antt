@@ -1,80 +1,52 @@
-use Rattle.std.proofs.Common.{◌≡◌, ◌-◌, inl, inr, Some, length, slice_index_or, slice_get, ap, sym, subst, ◌∙◌, arith}
-use Rattle.std.proofs.lemmas.Option.{slice_get-get_or, slice_get_within}
-use Rattle.sabr_model.specs.declared.link.Link.{Link}
-use Rattle.sabr_search.specs.Linked.{HasNumber, passes_of}
+use Rattle.std.proofs.Common.{inl, inr, slice_index_or, arith}
+use Rattle.std.proofs.lemmas.Option.{slice_get_within}
 use Rattle.sabr_search.proofs.Forward.{last_or_before}
 use Rattle.sabr_search.proofs.Front.{least_found, least_missing}
-use Rattle.sabr_search.proofs.OverLinks.{same_some, no_link, passes_length, link_receiver, chosen_from}
+use Rattle.sabr_search.proofs.OverLinks.{link_here, link_by_place, no_link, chosen_from}
 use Rattle.sabr_search.proofs.layers.Layers.least_step.Goals as goal
 
 pub link_passes-passes-requires-clause-ordered : goal.link_passes-passes-requires-clause-ordered
-link_passes-passes-requires-clause-ordered g c =
-    let links = c.all-links.result.links.now in
-    let i = c.loop-link.link-index in
-    c.loop-link.invariant.links.ordered i (slice_index_or links i no_link) (slice_get-get_or links i no_link c.loop-link-test.true)
+link_passes-passes-requires-clause-ordered g c = (link_by_place _ _ _ _ c.loop-link.invariant.links _ c.loop-link-test.true).ordered
 
 pub link_passes-passes-requires-clause-within : goal.link_passes-passes-requires-clause-within
-link_passes-passes-requires-clause-within g c =
-    let links = c.all-links.result.links.now in
-    let i = c.loop-link.link-index in
-    c.loop-link.invariant.links.within i (slice_index_or links i no_link) (slice_get-get_or links i no_link c.loop-link-test.true)
+link_passes-passes-requires-clause-within g c = (link_by_place _ _ _ _ c.loop-link.invariant.links _ c.loop-link-test.true).within
 
 pub least_over-least-requires-clause-link : goal.least_over-least-requires-clause-link
-least_over-least-requires-clause-link g c =
-    let links = c.all-links.result.links.now in
-    let i = c.loop-link.link-index in
-    rw c.link_passes-passes.ensures (c.loop-link.invariant.links.each i (slice_index_or links i no_link) (slice_get-get_or links i no_link c.loop-link-test.true))
-
-pub least_over-least-requires-clause-bounds : goal.least_over-least-requires-clause-bounds
-least_over-least-requires-clause-bounds g c =
-    let links = c.all-links.result.links.now in
-    let i = c.loop-link.link-index in
-    rw c.link_passes-passes.ensures (c.loop-link.invariant.links.bounds i (slice_index_or links i no_link) (slice_get-get_or links i no_link c.loop-link-test.true))
+least_over-least-requires-clause-link g c = (link_here _ _ _ _ c.loop-link.invariant.links _ c.loop-link-test.true _ c.link_passes-passes.ensures).link
 
 pub least_over-least-requires-clause-few : goal.least_over-least-requires-clause-few
 least_over-least-requires-clause-few g c =
-    let links = c.all-links.result.links.now in
-    let i = c.loop-link.link-index in
-    let l = slice_index_or links i no_link in
-    let here : slice_get links i ≡ Some l = slice_get-get_or links i no_link c.loop-link-test.true in
-    let many : length c.link_passes-passes.result.now ≡ l.end - l.first = rw c.link_passes-passes.ensures (passes_length c.all-links.result.passes.now l (c.loop-link.invariant.links.within i l here)) in
-    omega (arith, c.loop-link.invariant.placed l here, many, c.loop-link.invariant.links.ordered i l here, c.loop-link.invariant.links.within i l here, c.loop-link.invariant.links.few, c.requires.few)
+    let so_far = c.loop-link.invariant in
+    let link = link_here _ _ _ _ so_far.links _ c.loop-link-test.true _ c.link_passes-passes.ensures in
+    omega (arith, so_far.placed _ link.here, link.few, so_far.links.few, c.requires.few)
 
 pub deadline-before-requires-clause-node : goal.deadline-before-requires-clause-node
-deadline-before-requires-clause-node g c =
-    let links = c.all-links.result.links.now in
-    let i = c.loop-link.link-index in
-    c.loop-link.invariant.links.receivers i (slice_index_or links i no_link) (slice_get-get_or links i no_link c.loop-link-test.true)
+deadline-before-requires-clause-node g c = (link_by_place _ _ _ _ c.loop-link.invariant.links _ c.loop-link-test.true).receiver
 
 pub loop-link-preserved : goal.loop-link-preserved
 loop-link-preserved g c =
     let task = c.args.task.now in
     let own = c.args.self.now in
-    let links = c.all-links.result.links.now in
-    let passes = c.all-links.result.passes.now in
-    let i = c.loop-link.link-index in
-    let l = slice_index_or links i no_link in
-    let here : slice_get links i ≡ Some l = slice_get-get_or links i no_link c.loop-link-test.true in
-    let many : length c.link_passes-passes.result.now ≡ l.end - l.first = rw c.link_passes-passes.ensures (passes_length passes l (c.loop-link.invariant.links.within i l here)) in
+    let l = slice_index_or c.all-links.result.links.now c.loop-link.link-index no_link in
     let so_far = c.loop-link.invariant in
+    let link = link_here _ _ _ _ so_far.links _ c.loop-link-test.true _ c.link_passes-passes.ensures in
     let over = c.least_over-least.ensures in
     record {
       links = so_far.links;
-      counted = omega (arith, so_far.placed l here, over.looks, many, c.loop-link.invariant.links.ordered i l here, c.loop-link.invariant.links.within i l here);
-      placed = λ m next. omega (arith, so_far.placed l here, over.looks, many, c.loop-link.invariant.links.ordered i l here, c.loop-link.invariant.links.in_row i l m here next);
+      counted = omega (arith, so_far.placed _ link.here, over.looks, link.few);
+      placed = λ m next. omega (arith, so_far.placed _ link.here, over.looks, link.next m next);
       chosen = elim over.sound [
         | inl same ↦ rw same so_far.chosen
         | inr found ↦
             chosen_from task c.requires.task c.args.best c.args.hop own.bounds.items own.place.items own.reached.items c.requires.timed c.requires.later c.args.from.node c.args.from.at l.receiver c.deadline-before.result
             (λ b less. (c.deadline-before.ensures b).0 less) c.least_over-least.result found
       ];
-      least = λ j x n w b less at has s admits. elim (last_or_before j i less) [
+      least = λ j x n w b less at has s admits. elim (last_or_before j c.loop-link.link-index less) [
         | inl before ↦ over.lower n (so_far.least j x n w b before at has s admits)
         | inr same ↦
-            (let is : x ≡ l = same_some (sym at ∙ ap (slice_get links) same ∙ here) in
-            let has' : HasNumber (passes_of passes l) n = subst (λ (y : Link). HasNumber (passes_of passes y) n) is has in
-            let to : w ≡ l.receiver = link_receiver task c.requires.task c.args.from.node links passes c.loop-link.invariant.links i l here n c.args.from.at w b has' s in
-            over.full n w b (rw c.link_passes-passes.ensures has') s ((c.deadline-before.ensures b).1 (rw to at admits)))
+            (let has' = link.own j x n at same has in
+            let to = link.to c.requires.task n c.args.from.at w b has' s in
+            over.full n w b has' s ((c.deadline-before.ensures b).1 (rw to at admits)))
       ];
     }
 

@@ -1,27 +1,19 @@
-use Rattle.std.proofs.Common.{◌≡◌, ◌++◌, [], ◌∷◌, Some, length, ap, ◌∙◌, arith}
-use Rattle.sabr_search.proofs.LateMade.{late_first, late_next}
+use Rattle.std.proofs.Common.{◌≡◌, ◌+◌, ◌-◌, false, Option, Some, None, slice_index, refl, sym, subst, ◌∙◌, arith}
+use Rattle.std.specs.Prelude.{is_some}
 use Rattle.sabr_search.proofs.layers.Layers.make_all.Goals as goal
 
-pub loop-left-init : goal.loop-left-init
-loop-left-init g c =
-    let first = c.in_ok-first_back.ensures in
-    record {
-      counted = c.requires.few;
-      made = late_first c.args.task.now c.requires.task c.args.since.now c.args.delivery _ _ _ _ first.ends first.reached first.place first.late;
-    }
+no_some : {X : Type 0} (o : Option X) → is_some o ≡ false → o ≡ None
+no_some None h = refl
+no_some (Some x) h = absurd cc
 
-pub loop-left-preserved : goal.loop-left-preserved
-loop-left-preserved g c =
-    let task = c.args.task.now in
-    let left = c.loop-left.left in
-    let old = c.loop-left.self in
-    let next = c.next_back.new.self in
-    let one = c.in_ok-told.ensures in
-    let same_ends : next.ends.items ≡ old.ends.items = ap (λ v. v.items) c.next_back.ensures.ends in
-    let many : c.len-end.result ≡ length next.reached.items = omega (arith, c.len-end.ensures, next.reached.ok.0) in
-    record {
-      counted = c.next_back.ensures.looks;
-      made = late_next task c.requires.task c.args.since.now c.args.delivery left old.ends.items old.late.items old.place.items old.reached.items c.loop-left.invariant.made
-          c.push.new.self.items next.late.items next.place.items next.reached.items one.lists one.kept (one.told (c.in-Some.is ∙ ap Some c.if-met.false))
-          (c.in_ok-push.ensures.items ∙ ap (λ xs. xs ++ c.len-end.result ∷ []) same_ends ∙ ap (λ k. old.ends.items ++ k ∷ []) many);
-    }
+pub make_back-requires-clause-arrivals : goal.make_back-requires-clause-arrivals
+make_back-requires-clause-arrivals g c = record { flags = c.requires.many; least = λ ns v t some way. omega (arith, c.requires.zero v) }
+
+pub returns-clause-made : goal.returns-clause-made
+returns-clause-made g c =
+    let own = c.make_back.new.self in
+    let empty = c.have_ended.ensures c.if-not-have_ended.false in
+    let all = (rw (no_some c.in_ok-met.met (sym c.is_some.ensures ∙ c.if-is_some.false)) at c.in_ok-met.ensures.all) empty in
+    let same : empty.0 ≡ all.0 = omega (arith, empty.1, all.2.many) in
+    let left : c.len.result - 2 ≡ all.0 = omega (arith, c.len.ensures, own.ends.ok.0, all.2.many) in
+    rw left (record { since = c.args.since.now; zero = c.requires.zero; place = all.1; made = all.2; last = subst (λ k. slice_index own.ends.items k ≡ slice_index own.ends.items (k + 1)) same empty.2 })

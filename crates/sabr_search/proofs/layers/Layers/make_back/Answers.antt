@@ -1,4 +1,4 @@
-use Rattle.std.proofs.Common.{◌≡◌, ◌+◌, ◌++◌, [], ◌∷◌, Some, length, take, slice_index, ap, ◌∙◌, arith}
+use Rattle.std.proofs.Common.{◌≡◌, ◌+◌, ◌++◌, [], ◌∷◌, Some, length, take, slice_index, ap, sym, subst, ◌∙◌, arith}
 use Rattle.sabr_search.proofs.Between.{read_at}
 use Rattle.sabr_search.proofs.LateMade.{late_first, late_next, met_at, take_whole}
 use Rattle.sabr_search.specs.Late.{IsEnded}
@@ -60,3 +60,22 @@ pub returns-then-index-clause-ended : goal.returns-then-index-clause-ended
 returns-then-index-clause-ended g c = λ empty.
     let old = c.loop-left.self in
     ended c.args.task.now c.requires.task c.args.arrival.now c.args.first.delivery c.loop-left.left old.ends.items old.late.items old.place.items old.reached.items c.loop-left.invariant.made c.requires.arrivals empty
+
+pub returns-in_default-clause-all : goal.returns-in_default-clause-all
+returns-in_default-clause-all g c = λ empty.
+    let left = c.loop-left.left in
+    let old = c.loop-left.self in
+    let made = c.loop-left.invariant.made in
+    let same_ends : c.next_back.new.self.ends.items ≡ old.ends.items = ap (λ v. v.items) c.next_back.ensures.ends in
+    let kept : IsEnded old.ends.items = rw same_ends at empty in
+    let same : kept.0 ≡ left = omega (arith, kept.1, made.many) in
+    absurd (c.if-index.false (
+    read_at old.ends.items left c.index.result.now (omega (arith, made.many)) c.index.ensures ∙ subst (λ k. slice_index old.ends.items k ≡ slice_index old.ends.items (k + 1)) same kept.2
+    ∙ sym (read_at old.ends.items (left + 1) c.index-in-loop-left.result.now (omega (arith, made.many)) c.index-in-loop-left.ensures)
+    ))
+
+pub returns-then-index-clause-all : goal.returns-then-index-clause-all
+returns-then-index-clause-all g c = λ empty. (c.loop-left.left, c.loop-left.self.place.items, c.loop-left.invariant.made)
+
+pub returns-clause-all : goal.returns-clause-all
+returns-clause-all g c = λ empty. (c.loop-left.left, c.loop-left.self.place.items, c.loop-left.invariant.made)

@@ -1,26 +1,53 @@
-use Rattle.std.proofs.Common.{◌≡◌, ℕ, ◌≤◌, nat_lt, false, sym, ◌∙◌, arith}
-use Rattle.std.proofs.lemmas.Bool.Decides.{nat_tests}
+use Rattle.std.proofs.Common.{◌≡◌, ◌<◌, ◌+◌, false, slice_index, slice_index_or, sym, ◌∙◌, arith, subst}
 use Rattle.sabr_search.specs.Task.{Takes}
+use Rattle.sabr_search.proofs.Between.{read_at}
 use Rattle.sabr_search.proofs.Backward.{not_start}
-use Rattle.sabr_search.proofs.Bridge.{takes_timely}
+use Rattle.sabr_search.proofs.LateLists.{late_noted, sound_back, set_here}
 use Rattle.sabr_search.proofs.layers.Layers.take_sender.Goals as goal
-
-not_less : (a b : ℕ) → nat_lt a b ≡ false → b ≤ a
-not_less a b h = grind (arith, nat_tests)
+use Rattle.sabr_search.proofs.layers.Layers.take_sender.Goals.{then-last-latest-via-then-last-latest, then-last-latest-via-else-last-latest+then-last-since}
 
 pub returns-then-from-start-clause-told : goal.returns-then-from-start-clause-told
 returns-then-from-start-clause-told g c = λ not_met n t w b has s less. (
-  λ same since.
-      (let task = c.args.task.now in
-      let late : c.args.before ≤ c.arrive_over-at.result = not_less c.arrive_over-at.result c.args.before not_met in
-      let sooner = (takes_timely task c.requires.task.nodes).earlier n c.args.from.node t w b task.at s since in
-      let step : Takes task n c.args.from.node c.at.result w sooner.0 = rw c.at.ensures sooner.2 in
-      omega (arith, late, less, sooner.1, c.arrive_over-at.ensures.full n w sooner.0 has step)),
+  λ same since. omega (arith, less, c.starts_in_time-met.ensures.told not_met n t w b since has (subst (λ u. Takes c.args.task.now n u t w b) same s)),
   λ unshut other soon. absurd (not_start c.args.task.now c.requires.task c.args.from.node unshut (c.if-from-start.true ∙ c.start.ensures)),
 )
+
+pub returns-then-last-latest-clause-told : goal.returns-then-last-latest-clause-told
+returns-then-last-latest-clause-told g c = λ not_met n t w b has s less. (
+  λ same since. absurd (c.if-from-start.false (same ∙ sym c.start.ensures)),
+  λ unshut other soon.
+      (let latest : c.index-latest.result.now ≡ slice_index c.args.self.now.late.items c.args.from.node = read_at c.args.self.now.late.items c.args.from.node c.index-latest.result.now (omega (arith, c.requires.node, c.requires.lists.many)) c.index-latest.ensures in
+      let sooner : t < c.leave_over-last.result = c.leave_over-last.ensures.full n t w b has (omega (arith, soon, c.soonest_at-since.ensures)) s less in
+      elim c.then-last-latest.branch [
+        | then-last-latest-via-then-last-latest z ↦ omega (arith, sooner, latest, z.if-last-latest.true)
+        | then-last-latest-via-else-last-latest+then-last-since z ↦ absurd (omega (arith, sooner, soon, c.soonest_at-since.ensures, z.if-last-since.true))
+      ]),
+)
+
+pub returns-clause-lists : goal.returns-clause-lists
+returns-clause-lists g c =
+    let latest : c.index-latest.result.now ≡ slice_index c.args.self.now.late.items c.args.from.node = read_at c.args.self.now.late.items c.args.from.node c.index-latest.result.now (omega (arith, c.requires.node, c.requires.lists.many)) c.index-latest.ensures in
+    let begin : c.index-begin.result.now ≡ slice_index c.args.self.now.ends.items (c.args.left + 1) = read_at c.args.self.now.ends.items (c.args.left + 1) c.index-begin.result.now c.requires.bounded c.index-begin.ensures in
+    rw c.in_ok-note_late.ensures.late
+    ((late_noted c.args.task.now c.args.arrival.now c.args.delivery (slice_index c.args.self.now.ends.items c.args.left) (slice_index c.args.self.now.ends.items (c.args.left + 1)) c.args.self.now.late.items c.args.self.now.place.items c.args.self.now.reached.items c.requires.lists
+    c.args.from.node c.soonest_at-since.result c.leave_over-last.result c.requires.node (subst (λ xs. slice_index_or xs c.args.from.node false ≡ false) c.shut.ensures c.if-shut-from.false) (λ same. c.if-from-goal.false (same ∙ sym c.goal.ensures)) c.soonest_at-since.ensures (omega (arith, latest, c.if-last-latest.false))
+    (sound_back c.args.task.now c.requires.task c.args.from.node c.args.to c.index-latest.result.now c.leave_over-last.result c.args.before (slice_index c.args.self.now.ends.items c.args.left) (slice_index c.args.self.now.ends.items (c.args.left + 1)) c.args.self.now.reached.items
+    (λ t from less. c.leave_over-last.ensures.sound t from less) c.if-last-latest.false c.requires.receiver c.requires.given)
+    _ _ (rw begin at c.in_ok-note_late.ensures.noted)).0)
+
+pub returns-clause-kept : goal.returns-clause-kept
+returns-clause-kept g c =
+    let latest : c.index-latest.result.now ≡ slice_index c.args.self.now.late.items c.args.from.node = read_at c.args.self.now.late.items c.args.from.node c.index-latest.result.now (omega (arith, c.requires.node, c.requires.lists.many)) c.index-latest.ensures in
+    let begin : c.index-begin.result.now ≡ slice_index c.args.self.now.ends.items (c.args.left + 1) = read_at c.args.self.now.ends.items (c.args.left + 1) c.index-begin.result.now c.requires.bounded c.index-begin.ensures in
+    (late_noted c.args.task.now c.args.arrival.now c.args.delivery (slice_index c.args.self.now.ends.items c.args.left) (slice_index c.args.self.now.ends.items (c.args.left + 1)) c.args.self.now.late.items c.args.self.now.place.items c.args.self.now.reached.items c.requires.lists
+    c.args.from.node c.soonest_at-since.result c.leave_over-last.result c.requires.node (subst (λ xs. slice_index_or xs c.args.from.node false ≡ false) c.shut.ensures c.if-shut-from.false) (λ same. c.if-from-goal.false (same ∙ sym c.goal.ensures)) c.soonest_at-since.ensures (omega (arith, latest, c.if-last-latest.false))
+    (sound_back c.args.task.now c.requires.task c.args.from.node c.args.to c.index-latest.result.now c.leave_over-last.result c.args.before (slice_index c.args.self.now.ends.items c.args.left) (slice_index c.args.self.now.ends.items (c.args.left + 1)) c.args.self.now.reached.items
+    (λ t from less. c.leave_over-last.ensures.sound t from less) c.if-last-latest.false c.requires.receiver c.requires.given)
+    _ _ (rw begin at c.in_ok-note_late.ensures.noted)).1
 
 pub returns-clause-told : goal.returns-clause-told
 returns-clause-told g c = λ not_met n t w b has s less. (
   λ same since. absurd (c.if-from-start.false (same ∙ sym c.start.ensures)),
-  λ unshut other soon. c.in_ok-take_back.ensures.told n t w b has s less soon,
+  λ unshut other soon.
+      rw c.in_ok-note_late.ensures.late (omega (arith, set_here c.args.self.now.late.items c.args.from.node c.leave_over-last.result (omega (arith, c.requires.node, c.requires.lists.many)), c.leave_over-last.ensures.full n t w b has (omega (arith, soon, c.soonest_at-since.ensures)) s less)),
 )

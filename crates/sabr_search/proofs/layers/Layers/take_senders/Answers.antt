@@ -6,7 +6,7 @@ use Rattle.sabr_search.proofs.LateLists.{in_time_kept, told_rises}
 use Rattle.sabr_search.proofs.layers.Layers.take_senders.Goals as goal
 
 pub take_sender-requires-clause-link : goal.take_sender-requires-clause-link
-take_sender-requires-clause-link g c = c.in-Some.ensures.each c.loop-place.place (record { sender = c.at-from.result.node; passes = c.at-from.result.passes.now }) c.at-from.ensures.link
+take_sender-requires-clause-link g c = (c.in-Some.ensures.each c.loop-place.place (record { sender = c.at-from.result.node; passes = c.at-from.result.passes.now }) c.at-from.ensures.link, c.at-from.ensures.bounds)
 
 pub take_sender-requires-clause-bounded : goal.take_sender-requires-clause-bounded
 take_sender-requires-clause-bounded g c = rw c.loop-place.invariant.ends c.requires.bounded

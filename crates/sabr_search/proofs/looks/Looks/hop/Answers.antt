@@ -5,7 +5,7 @@ use Rattle.std.specs.declared.option.Option.TheVariants.{Some, None}
 use Rattle.sabr_model.specs.declared.hop.Hop.{Hop}
 use Rattle.sabr_model.specs.Plan.{TabledPlan, IsPlan, contact_named}
 use Rattle.sabr_model.specs.Tabled.{IsHopNamed}
-use Rattle.sabr_search.specs.Hops.{IsSmall}
+use Rattle.sabr_model.specs.Hops.{IsSmall}
 use Rattle.sabr_search.proofs.PlanFacts.{hop_small}
 use Rattle.std.proofs.Common.{ℕ}
 use Rattle.sabr_search.proofs.looks.Looks.hop.Goals as goal

@@ -1,12 +1,6 @@
 use Rattle.std.proofs.Common.{◌+◌, refl, arith}
-use Rattle.sabr_search.proofs.Told.{named_in_route}
 use Rattle.sabr_search.proofs.Tables.{no_fewer, least_walked}
 use Rattle.sabr_search.proofs.task.Task.follow_rung.Goals as goal
-
-pub record-requires-clause-named : goal.record-requires-clause-named
-record-requires-clause-named g c =
-    let walked = rw c.in-Some.is at c.in_ok-walked.ensures.some in
-    λ i n at. named_in_route c.args.self.now c.args.prefix.now c.requires.behind walked.0 c.args.self.now.goal walked.2.e walked.2.way i n (rw walked.1 at at)
 
 pub returns-clause-some : goal.returns-clause-some
 returns-clause-some g c =

@@ -1,57 +1,36 @@
-use Rattle.std.proofs.Common.{◌≡◌, false, true, inl, inr, Some, slice_index_or, slice_get, ap, sym, subst, ◌∙◌, arith}
-use Rattle.std.proofs.lemmas.Option.{slice_get-get_or, slice_get_within}
-use Rattle.sabr_model.specs.declared.link.Link.{Link}
-use Rattle.sabr_search.specs.Linked.{HasNumber, passes_of}
+use Rattle.std.proofs.Common.{◌≡◌, false, true, inl, inr, slice_index_or, ap, subst, ◌∙◌, arith}
+use Rattle.std.proofs.lemmas.Option.{slice_get_within}
 use Rattle.std.proofs.lemmas.Bool.{both_ways}
 use Rattle.sabr_search.proofs.Arrivals.{arrives_later}
 use Rattle.sabr_search.proofs.Tables.{taken_from, due_found}
 use Rattle.sabr_search.proofs.Forward.{last_or_before}
-use Rattle.sabr_search.proofs.OverLinks.{same_some, no_link, link_receiver}
+use Rattle.sabr_search.proofs.OverLinks.{link_here, link_by_place, no_link}
 use Rattle.sabr_search.proofs.task.Task.least_due.Goals as goal
 
 pub link_passes-passes-requires-clause-ordered : goal.link_passes-passes-requires-clause-ordered
-link_passes-passes-requires-clause-ordered g c =
-    let links = c.all-links.result.links.now in
-    let i = c.loop-link.link-index in
-    c.loop-link.invariant.links.ordered i (slice_index_or links i no_link) (slice_get-get_or links i no_link c.loop-link-test.true)
+link_passes-passes-requires-clause-ordered g c = (link_by_place _ _ _ _ c.loop-link.invariant.links _ c.loop-link-test.true).ordered
 
 pub link_passes-passes-requires-clause-within : goal.link_passes-passes-requires-clause-within
-link_passes-passes-requires-clause-within g c =
-    let links = c.all-links.result.links.now in
-    let i = c.loop-link.link-index in
-    c.loop-link.invariant.links.within i (slice_index_or links i no_link) (slice_get-get_or links i no_link c.loop-link-test.true)
+link_passes-passes-requires-clause-within g c = (link_by_place _ _ _ _ c.loop-link.invariant.links _ c.loop-link-test.true).within
 
 pub least_over-least-requires-clause-link : goal.least_over-least-requires-clause-link
-least_over-least-requires-clause-link g c =
-    let links = c.all-links.result.links.now in
-    let i = c.loop-link.link-index in
-    rw c.link_passes-passes.ensures (c.loop-link.invariant.links.each i (slice_index_or links i no_link) (slice_get-get_or links i no_link c.loop-link-test.true))
-
-pub least_over-least-requires-clause-bounds : goal.least_over-least-requires-clause-bounds
-least_over-least-requires-clause-bounds g c =
-    let links = c.all-links.result.links.now in
-    let i = c.loop-link.link-index in
-    rw c.link_passes-passes.ensures (c.loop-link.invariant.links.bounds i (slice_index_or links i no_link) (slice_get-get_or links i no_link c.loop-link-test.true))
+least_over-least-requires-clause-link g c = (link_here _ _ _ _ c.loop-link.invariant.links _ c.loop-link-test.true _ c.link_passes-passes.ensures).link
 
 pub loop-link-preserved-then-shut-link : goal.loop-link-preserved-then-shut-link
 loop-link-preserved-then-shut-link g c =
     let task = c.args.self.now in
-    let links = c.all-links.result.links.now in
-    let passes = c.all-links.result.passes.now in
-    let i = c.loop-link.link-index in
-    let l = slice_index_or links i no_link in
-    let here : slice_get links i ≡ Some l = slice_get-get_or links i no_link c.loop-link-test.true in
+    let l = slice_index_or c.all-links.result.links.now c.loop-link.link-index no_link in
     let so_far = c.loop-link.invariant in
+    let link = link_by_place _ _ _ _ so_far.links _ c.loop-link-test.true in
     record {
       links = so_far.links;
       counted = so_far.counted;
       chosen = so_far.chosen;
-      least = λ j x n w b less at has s through. elim (last_or_before j i less) [
+      least = λ j x n w b less at has s through. elim (last_or_before j c.loop-link.link-index less) [
         | inl before ↦ so_far.least j x n w b before at has s through
         | inr same ↦
-            (let is : x ≡ l = same_some (sym at ∙ ap (slice_get links) same ∙ here) in
-            let has' : HasNumber (passes_of passes l) n = subst (λ (y : Link). HasNumber (passes_of passes y) n) is has in
-            let to : w ≡ l.receiver = link_receiver task c.requires.task c.args.from.node links passes so_far.links i l here n c.args.from.at w b has' s in
+            (let has' = link.own j x n at same has in
+            let to = link.to c.requires.task n c.args.from.at w b has' s in
             absurd (both_ways (slice_index_or task.shut w false) s.unshut (ap (λ k. slice_index_or task.shut k false) to ∙ subst (λ xs. slice_index_or xs l.receiver false ≡ true) c.shut.ensures c.if-shut-link.true)))
       ];
     }
@@ -59,22 +38,17 @@ loop-link-preserved-then-shut-link g c =
 pub loop-link-preserved-then-before-from : goal.loop-link-preserved-then-before-from
 loop-link-preserved-then-before-from g c =
     let task = c.args.self.now in
-    let links = c.all-links.result.links.now in
-    let passes = c.all-links.result.passes.now in
-    let i = c.loop-link.link-index in
-    let l = slice_index_or links i no_link in
-    let here : slice_get links i ≡ Some l = slice_get-get_or links i no_link c.loop-link-test.true in
     let so_far = c.loop-link.invariant in
+    let link = link_by_place _ _ _ _ so_far.links _ c.loop-link-test.true in
     record {
       links = so_far.links;
       counted = so_far.counted;
       chosen = so_far.chosen;
-      least = λ j x n w b less at has s through. elim (last_or_before j i less) [
+      least = λ j x n w b less at has s through. elim (last_or_before j c.loop-link.link-index less) [
         | inl before ↦ so_far.least j x n w b before at has s through
         | inr same ↦
-            (let is : x ≡ l = same_some (sym at ∙ ap (slice_get links) same ∙ here) in
-            let has' : HasNumber (passes_of passes l) n = subst (λ (y : Link). HasNumber (passes_of passes y) n) is has in
-            let to : w ≡ l.receiver = link_receiver task c.requires.task c.args.from.node links passes so_far.links i l here n c.args.from.at w b has' s in
+            (let has' = link.own j x n at same has in
+            let to = link.to c.requires.task n c.args.from.at w b has' s in
             let late = c.within-before.ensures through.0 through.1 through.2 (through.3 ∙ to) through.4 in
             absurd (omega (arith, late, through.5, c.if-before-from.true, arrives_later task.plan task.request c.args.from.at s.contact b s.arrives)))
       ];
@@ -83,12 +57,9 @@ loop-link-preserved-then-before-from g c =
 pub loop-link-preserved : goal.loop-link-preserved
 loop-link-preserved g c =
     let task = c.args.self.now in
-    let links = c.all-links.result.links.now in
-    let passes = c.all-links.result.passes.now in
-    let i = c.loop-link.link-index in
-    let l = slice_index_or links i no_link in
-    let here : slice_get links i ≡ Some l = slice_get-get_or links i no_link c.loop-link-test.true in
+    let l = slice_index_or c.all-links.result.links.now c.loop-link.link-index no_link in
     let so_far = c.loop-link.invariant in
+    let link = link_here _ _ _ _ so_far.links _ c.loop-link-test.true _ c.link_passes-passes.ensures in
     let over = c.least_over-least.ensures in
     let unshut : slice_index_or task.shut l.receiver false ≡ false = subst (λ xs. slice_index_or xs l.receiver false ≡ false) c.shut.ensures c.if-shut-link.false in
     record {
@@ -98,13 +69,12 @@ loop-link-preserved g c =
         | inl same ↦ rw same so_far.chosen
         | inr found ↦ taken_from task c.args.from.node c.args.from.at l.receiver c.within-before.result c.least_over-least.result unshut found
       ];
-      least = λ j x n w b less at has s through. elim (last_or_before j i less) [
+      least = λ j x n w b less at has s through. elim (last_or_before j c.loop-link.link-index less) [
         | inl before ↦ over.lower n (so_far.least j x n w b before at has s through)
         | inr same ↦
-            (let is : x ≡ l = same_some (sym at ∙ ap (slice_get links) same ∙ here) in
-            let has' : HasNumber (passes_of passes l) n = subst (λ (y : Link). HasNumber (passes_of passes y) n) is has in
-            let to : w ≡ l.receiver = link_receiver task c.requires.task c.args.from.node links passes so_far.links i l here n c.args.from.at w b has' s in
-            over.full n w b (rw c.link_passes-passes.ensures has') s (omega (arith, c.within-before.ensures through.0 through.1 through.2 (through.3 ∙ to) through.4, through.5)))
+            (let has' = link.own j x n at same has in
+            let to = link.to c.requires.task n c.args.from.at w b has' s in
+            over.full n w b has' s (omega (arith, c.within-before.ensures through.0 through.1 through.2 (through.3 ∙ to) through.4, through.5)))
       ];
     }
 

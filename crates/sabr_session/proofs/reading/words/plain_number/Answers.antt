@@ -1,0 +1,23 @@
+-- Digits that a space or the text's end ends are the first word.
+use Rattle.std.proofs.Common.{ℕ, List, [], ◌∷◌, ◌++◌, append-nil, ap, ◌∙◌, arith}
+use Rattle.std.proofs.lemmas.Bool.Decides.{nat_tests}
+use Rattle.std.proofs.lemmas.List.{nil_from_length}
+use Rattle.sabr_plan.proofs.PlainWords.{behind_prefix}
+use Rattle.sabr_session.specs.SessionWords.{words_of}
+use Rattle.sabr_session.proofs.PlainNumbers.{digits-alone, digits-ahead}
+use Rattle.sabr_session.proofs.reading.words.plain_number.Goals as goal
+
+pub returns-then-is_empty-clause-words : goal.returns-then-is_empty-clause-words
+returns-then-is_empty-clause-words c =
+    let d = c.in_ok-value.ensures in
+    let word = c.in_ok-value.word.now in
+    let none = nil_from_length c.in_ok-value.behind.now (grind (arith, nat_tests)) in
+    ap words_of (d.parts ∙ ap (λ (t : List ℕ). word ++ t) none ∙ append-nil word) ∙ digits-alone word d.digits.1
+
+pub returns-clause-words : goal.returns-clause-words
+returns-clause-words c =
+    let d = c.in_ok-value.ensures in
+    let word = c.in_ok-value.word.now in
+    let rest = c.in_ok-rest.rest.now in
+    let space = behind_prefix c.in_ok-value.behind.now (32 ∷ []) rest c.in_ok-rest.ensures.cases.0 c.in_ok-rest.ensures.cases.1 in
+    ap words_of (d.parts ∙ ap (λ (t : List ℕ). word ++ t) space) ∙ digits-ahead word rest d.digits.1
