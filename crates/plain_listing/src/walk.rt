@@ -3,7 +3,7 @@
 ghost use Rattle.std.specs.Prelude.{◌≡◌, ◌≢◌, ◌≤◌, ◌+◌, ◌++◌, [], ◌∷◌, take, length, IfOk};
 ghost use Rattle.std.specs.List.Sorted.{IsStrictlySortedBy};
 ghost use Rattle.sabr_model.specs.Order.{put_in};
-ghost use Rattle.sabr_model.specs.Plan.{IsPlan};
+ghost use Rattle.sabr_model.specs.Plan.{IsPlan, most_records};
 ghost use Rattle.sabr_model.specs.Record.{by_record};
 ghost use Rattle.plain_listing.specs.Way.{record_over};
 ghost use Rattle.plain_listing.specs.Walk.{IsWalk, IsMove};
@@ -24,7 +24,7 @@ fn take_hop<A: Allocator + Copy>(
     hops: &mut Vec<Hop, A>,
     hop: Hop,
 ) -> Result<u32, NoMemory>
-    requires number { hop.number ≤ 20000 }
+    requires number { hop.number ≤ most_records }
     requires rising { IsStrictlySortedBy by_record kept.old.routes.items }
     requires within { length kept.old.routes.items ≤ kept.old.limit }
     ensures limit { kept.new.limit ≡ kept.old.limit }

@@ -3,6 +3,7 @@
 ghost use Rattle.std.specs.Prelude.{◌≡◌, ℕ, ◌+◌, ◌*◌, ◌≤◌, ◌++◌, map, length, IfOk, OnOk};
 ghost use Rattle.sabr_model.specs.Plan.{IsPlan};
 ghost use Rattle.sabr_model.specs.Record.{record_of};
+ghost use Rattle.sabr_model.specs.Asking.{most_hops};
 ghost use Rattle.sabr_search.specs.Kept.{IsKept};
 ghost use Rattle.sabr_frontier.specs.Listing.{searches_in, steps};
 ghost use Rattle.sabr_frontier.specs.Shape.{shape_of, shown};
@@ -28,7 +29,7 @@ impl<A: Allocator + Copy> Tree<A> {
         given: &mut Vec<Route<A>, A>,
     ) -> Result<u64, NoMemory>
         requires plan { IsPlan plan.now.plan }
-        requires hops { request.now.max_hops ≤ 20000 }
+        requires hops { request.now.max_hops ≤ most_hops }
         requires count { count ≤ 10000 }
         requires sound { IsSound plan.now.plan request.now (shape_of self.old) }
         requires room { IsRoomy self.old }

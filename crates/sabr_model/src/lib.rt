@@ -17,6 +17,7 @@ mod opening;
 mod openings;
 mod plan;
 mod request;
+mod request_values;
 mod route;
 mod rows;
 mod told;
@@ -34,6 +35,7 @@ pub use node_list::NodeList;
 pub use numbers::Numbers;
 pub use plan::{GatheredContacts, GatheredRanges, NodeLinks, Outgoing, Plan, Senders, arrive};
 pub use request::Request;
+pub use request_values::RequestValues;
 pub use route::Route;
 pub use rows::{
     row_of_deleting, row_of_faults, row_of_light, row_of_limits, row_of_parts_of_a,

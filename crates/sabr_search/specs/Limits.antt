@@ -1,5 +1,6 @@
 -- How far hop layers have to look once the first delivery is known.
 use Rattle.std.specs.Prelude.{◌≡◌, ◌≢◌, ◌⊎◌, ℕ, ◌+◌, ◌≤◌, ◌<◌}
+use Rattle.sabr_model.specs.Asking.{most_hops}
 use Rattle.sabr_search.specs.declared.layers.Best.{Best}
 use Rattle.sabr_search.specs.declared.layers.Limits.{Limits}
 use Rattle.sabr_search.specs.Task.{never}
@@ -8,11 +9,11 @@ use Rattle.sabr_search.specs.Task.{never}
 pub record AreWide (max_hops used : ℕ) (first : Best) (limits : Limits) : Type 0 where
   pub hops : limits.hops ≡ first.hops
   pub ceiling : limits.ceiling ≡ first.delivery + 1
-  pub allowed : (max_hops ≡ 20000) ⊎ (used + first.hops ≤ max_hops)
+  pub allowed : (max_hops ≡ most_hops) ⊎ (used + first.hops ≤ max_hops)
 
 -- fewer hops are allowed: all of them, to any delivery
 pub record AreNarrow (max_hops used : ℕ) (first : Best) (limits : Limits) : Type 0 where
-  pub other : max_hops ≢ 20000
+  pub other : max_hops ≢ most_hops
   pub fewer : limits.hops < first.hops
   pub hops : used + limits.hops ≡ max_hops
   pub ceiling : limits.ceiling ≡ never

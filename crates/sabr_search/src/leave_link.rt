@@ -3,6 +3,7 @@
 ghost use Rattle.std.specs.Prelude.{◌≡◌, ◌≢◌, ◌⊎◌, ℕ, ◌+◌, ◌^◌, ◌≤◌, ◌<◌, max, IsTrue, false, Some, length, slice_get, slice_index_or};
 ghost use Rattle.sabr_model.specs.declared.link.Pass.{Pass};
 ghost use Rattle.sabr_model.specs.Arrival.{cost};
+ghost use Rattle.sabr_model.specs.Plan.{most_light};
 ghost use Rattle.sabr_search.specs.Task.{IsTask, Takes};
 ghost use Rattle.sabr_search.specs.Linked.{IsLinkWithin, AreInOrder, HasNumber};
 
@@ -29,7 +30,7 @@ impl<'a, A: Allocator + Copy> Task<'a, A> {
     /// Tells whether no one who is at the sender at `since` or later, and at `latest` or later, arrives before `before`
     /// over this pass or one in front of it.
     fn leaves_no_later(&self, pass: &Pass, since: u64, before: u64, latest: u64) -> bool
-        requires light { pass.now.least_light_before ≤ 1000000 }
+        requires light { pass.now.least_light_before ≤ most_light }
         ensures { IsTrue result → (pass.now.latest_end ≤ max latest since) ⊎ (before ≤ latest + cost self.now.request.margin pass.now.least_light_before) }
     {
         if pass.latest_end <= latest.max(since) || before <= latest {

@@ -4,6 +4,7 @@ ghost use Rattle.std.specs.Prelude.{◌≡◌, ◌⊎◌, ℕ, ◌+◌, ◌^◌,
 ghost use Rattle.sabr_model.specs.declared.link.Pass.{Pass};
 ghost use Rattle.sabr_model.specs.Arrival.{cost};
 ghost use Rattle.sabr_model.specs.Hops.{IsSmall};
+ghost use Rattle.sabr_model.specs.Plan.{most_light};
 ghost use Rattle.sabr_search.specs.Task.{IsTask, Takes};
 ghost use Rattle.sabr_search.specs.Steps.{IsHopAt};
 ghost use Rattle.sabr_search.specs.Linked.{IsPassAt, IsLinkWithin, AreInOrder, HasNumber, passes_of};
@@ -67,7 +68,7 @@ impl<'a, A: Allocator + Copy> Task<'a, A> {
 
     /// Tells whether what is at the sender at `at` arrives at `before` or later over this pass and over each behind it.
     pub fn comes_late(&self, pass: &Pass, at: u64, before: u64) -> bool
-        requires light { pass.now.least_light_behind ≤ 1000000 }
+        requires light { pass.now.least_light_behind ≤ most_light }
         ensures { IsTrue result → before ≤ max at pass.now.start + cost self.now.request.margin pass.now.least_light_behind }
     {
         let sent = at.max(pass.start);

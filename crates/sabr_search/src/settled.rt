@@ -3,6 +3,7 @@
 ghost use Rattle.std.specs.Prelude.{◌≡◌, ◌⊎◌, ◌≤◌, ◌<◌, ◌+◌, ◌-◌, ◌*◌, IfOk, IfSome, IfNone, IsTrue, length};
 ghost use Rattle.sabr_model.specs.Route.{is_prefix};
 ghost use Rattle.sabr_model.specs.Table.{node_count};
+ghost use Rattle.sabr_model.specs.Asking.{most_hops};
 ghost use Rattle.sabr_search.specs.Part.{IsLeast};
 ghost use Rattle.sabr_search.specs.Task.{IsTask, IsBehind};
 ghost use Rattle.sabr_search.specs.Told.{hops_told};
@@ -40,7 +41,7 @@ fn least_route<A: Allocator + Copy>(
     ensures least { IfOk result (IsLeast task.now.plan task.now.request prefix.now task.now.excluded) }
     ensures bound { looks.new.count ≤ (3 * length task.now.table + 1) * length task.now.plan.contacts }
     ensures counted { IfOk result (λ answer. hops_told answer ≤ looks.new.count) }
-    ensures cut { IfOk result (λ answer. max_hops ≡ 20000 → looks.new.count ≤ (3 * (hops_told answer - length prefix.now) + 3) * length task.now.plan.contacts) }
+    ensures cut { IfOk result (λ answer. max_hops ≡ most_hops → looks.new.count ≤ (3 * (hops_told answer - length prefix.now) + 3) * length task.now.plan.contacts) }
     ensures longer { IfOk result (λ answer. IfSome answer (λ route. length prefix.now < length route.contacts)) }
 {
     let first = settling.run(task, looks)?;
@@ -73,7 +74,7 @@ fn least_beside<A: Allocator + Copy>(
     ensures least { IfOk result (IsLeast task.now.plan task.now.request prefix.now task.now.excluded) }
     ensures bound { looks.new.count ≤ (3 * length task.now.table + 1) * length task.now.plan.contacts }
     ensures counted { IfOk result (λ answer. hops_told answer ≤ looks.new.count) }
-    ensures cut { IfOk result (λ answer. max_hops ≡ 20000 → looks.new.count ≤ (3 * (hops_told answer - length prefix.now) + 3) * length task.now.plan.contacts) }
+    ensures cut { IfOk result (λ answer. max_hops ≡ most_hops → looks.new.count ≤ (3 * (hops_told answer - length prefix.now) + 3) * length task.now.plan.contacts) }
     ensures longer { IfOk result (λ answer. IfSome answer (λ route. length prefix.now < length route.contacts)) }
 {
     let most = task.one_pass();
@@ -166,7 +167,7 @@ impl<A: Allocator + Copy> Settled<A> {
         ensures counted { IfOk result (λ answer. hops_told answer ≤ self.new.looks.count) }
         ensures called { self.new.calls.count ≡ self.old.calls.count + 1 }
         ensures kept { kept.new.rungs ≡ kept.old.rungs }
-        ensures cut { IfOk result (λ answer. request.now.max_hops ≡ 20000 → self.new.looks.count ≤ (3 * (hops_told answer - length part.entry.prefix.now) + 3) * length plan.now.plan.contacts) }
+        ensures cut { IfOk result (λ answer. request.now.max_hops ≡ most_hops → self.new.looks.count ≤ (3 * (hops_told answer - length part.entry.prefix.now) + 3) * length plan.now.plan.contacts) }
         ensures longer { IfOk result (λ answer. IfSome answer (λ route. length part.entry.prefix.now < length route.contacts)) }
     {
         self.calls.add();
@@ -211,7 +212,7 @@ impl<A: Allocator + Copy> BestOf<A> for Settled<A> {
         ensures bound { self.new.looks.count ≤ (3 * node_count plan.now.plan.contacts + 1) * length plan.now.plan.contacts }
         ensures counted { IfOk result (λ answer. hops_told answer ≤ self.new.looks.count) }
         ensures called { self.new.calls.count ≡ self.old.calls.count + 1 }
-        ensures cut { IfOk result (λ answer. request.now.max_hops ≡ 20000 → self.new.looks.count ≤ (3 * (hops_told answer - length part.entry.prefix.now) + 3) * length plan.now.plan.contacts) }
+        ensures cut { IfOk result (λ answer. request.now.max_hops ≡ most_hops → self.new.looks.count ≤ (3 * (hops_told answer - length part.entry.prefix.now) + 3) * length plan.now.plan.contacts) }
     {
         let mut kept = Kept::new(self.alloc);
         self.find(&mut kept, plan, request, part)
@@ -231,7 +232,7 @@ impl<A: Allocator + Copy> BestOf<A> for Settled<A> {
         ensures counted { IfOk result (λ answer. hops_told answer ≤ self.new.looks.count) }
         ensures called { self.new.calls.count ≡ self.old.calls.count + 1 }
         ensures kept { IsKept plan.now request.now kept.new }
-        ensures cut { IfOk result (λ answer. request.now.max_hops ≡ 20000 → self.new.looks.count ≤ (3 * (hops_told answer - length part.entry.prefix.now) + 3) * length plan.now.plan.contacts) }
+        ensures cut { IfOk result (λ answer. request.now.max_hops ≡ most_hops → self.new.looks.count ≤ (3 * (hops_told answer - length part.entry.prefix.now) + 3) * length plan.now.plan.contacts) }
     {
         let answer = self.find(kept, plan, request, part)?;
         learn(

@@ -18,7 +18,7 @@ use Rattle.sabr_session.specs.SessionLines.{behind_label, header_of, is_digest, 
 use Rattle.sabr_session.specs.SessionRead.{Said, same_plan, spelled_at, asked, digest_said}
 use Rattle.sabr_session.specs.declared.reading.first_lines.Version.{Version}
 use Rattle.sabr_session.specs.declared.reading.first_lines.Version.TheVariants.{One, Two}
-use Rattle.sabr_session.specs.declared.reading.request_line.RequestValues.{RequestValues}
+use Rattle.sabr_model.specs.declared.request_values.RequestValues.{RequestValues}
 use Rattle.sabr_session.specs.declared.session_fault.SessionFault.TheVariants.{OtherPlan, BadRequest}
 use Rattle.sabr_session.proofs.StepsTaken.{and_then_some, map_some, and_then_ok, spelled_at_ok, test_some}
 use Rattle.sabr_plan.proofs.SpelledNumbers.{number_within-range}

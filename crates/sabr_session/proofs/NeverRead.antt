@@ -13,7 +13,7 @@ use Rattle.sabr_plan.specs.Words.{has_bytes, lines_of}
 use Rattle.sabr_frontier.specs.State.{PartState}
 use Rattle.sabr_session.specs.SessionLines.{header_of, digest_named, request_of, emitted_of, last_listed, count_of, part_of, is_end}
 use Rattle.sabr_session.specs.SessionRead.{Said, nothing_said, misspelled, spelled_at, same_plan, asked, rise_strictly, comes_behind, may_carry, placed, line_said, read_line, read_lines, is_behind, last_line, said_of}
-use Rattle.sabr_session.specs.declared.reading.request_line.RequestValues.{RequestValues}
+use Rattle.sabr_model.specs.declared.request_values.RequestValues.{RequestValues}
 use Rattle.sabr_session.specs.declared.session_fault.SessionFault.{SessionFault}
 use Rattle.sabr_session.specs.declared.session_fault.SessionFault.TheVariants as fault
 

@@ -18,7 +18,7 @@ use Rattle.sabr_plan.specs.Numbers.{number_within}
 use Rattle.sabr_session.specs.SessionLines.{digest_named, request_of, emitted_of, last_listed, count_of, behind_label}
 use Rattle.sabr_session.specs.SessionRead.{asked}
 use Rattle.sabr_session.specs.declared.reading.first_lines.Version.TheVariants.{One, Two}
-use Rattle.sabr_session.specs.declared.reading.request_line.RequestValues.{RequestValues}
+use Rattle.sabr_model.specs.declared.request_values.RequestValues.{RequestValues}
 use Rattle.sabr_session.proofs.Labels.{label-front}
 use Rattle.sabr_plan.proofs.SpelledNumbers.{same_text, number_within-spelled_within}
 use Rattle.sabr_session.proofs.SpelledWords.{IsWord, AreWithin, list_words, words-apart, words-word, words-list, list-read, decimal_is_word}

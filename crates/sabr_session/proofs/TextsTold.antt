@@ -15,7 +15,7 @@ use Rattle.sabr_session.specs.SessionLines.{header_of, request_of, emitted_of, l
 use Rattle.sabr_session.specs.SessionRead.{Said, nothing_said, misspelled, spelled_at, rise_strictly, comes_behind, may_carry, placed, asked, part_said, end_said, line_said, read_line, read_lines, is_behind, last_line, said_of, state_of}
 use Rattle.sabr_session.specs.declared.reading.first_lines.Version.{Version}
 use Rattle.sabr_session.specs.declared.reading.first_lines.Version.TheVariants.{One, Two}
-use Rattle.sabr_session.specs.declared.reading.request_line.RequestValues.{RequestValues}
+use Rattle.sabr_model.specs.declared.request_values.RequestValues.{RequestValues}
 use Rattle.sabr_session.specs.declared.session_fault.SessionFault.TheVariants as fault
 use Rattle.sabr_session.proofs.StepsTaken.{and_then_ok, given_as_ok, spelled_at_ok}
 use Rattle.sabr_session.proofs.LinesTold.{header_line, header_told, digest_told, values_text, IsOfVersion, request_told, asked_told, emitted_told, last_told, count_told, part_told, end_told}

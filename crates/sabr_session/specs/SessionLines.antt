@@ -11,7 +11,7 @@ use Rattle.sabr_session.specs.SessionWords.{words_of, contacts_of, nodes_of, is_
 use Rattle.sabr_plan.specs.Numbers.{number_within}
 use Rattle.sabr_session.specs.declared.reading.first_lines.Version.{Version}
 use Rattle.sabr_session.specs.declared.reading.first_lines.Version.TheVariants.{One, Two}
-use Rattle.sabr_session.specs.declared.reading.request_line.RequestValues.{RequestValues}
+use Rattle.sabr_model.specs.declared.request_values.RequestValues.{RequestValues}
 
 -- what stands behind the label, where the text begins with it
 unfoldable pub behind_label : List ℕ → List ℕ → Option (List ℕ)

@@ -20,7 +20,7 @@ use Rattle.sabr_frontier.specs.Undo.{last_item}
 use Rattle.sabr_session.specs.SessionLines.{header_of, digest_named, request_of, emitted_of, last_listed, count_of, part_of, is_end}
 use Rattle.sabr_session.specs.declared.reading.first_lines.Version.{Version}
 use Rattle.sabr_session.specs.declared.reading.first_lines.Version.TheVariants.{Two}
-use Rattle.sabr_session.specs.declared.reading.request_line.RequestValues.{RequestValues}
+use Rattle.sabr_model.specs.declared.request_values.RequestValues.{RequestValues}
 use Rattle.sabr_session.specs.declared.session_fault.SessionFault.{SessionFault}
 use Rattle.sabr_session.specs.declared.session_fault.SessionFault.TheVariants.{BadHeader, BadLine, OtherPlan, BadRequest, NotClosed, BadRoute, BadCount, Read}
 

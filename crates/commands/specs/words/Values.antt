@@ -14,7 +14,7 @@ use Rattle.commands.specs.declared.command.CommandName.{CommandName}
 use Rattle.commands.specs.declared.command.CommandName.TheVariants as command
 use Rattle.commands.specs.declared.failure.Failure.{Failure}
 use Rattle.commands.specs.declared.failure.Failure.TheVariants.{BadValue, SameNode, BadAvoid}
-use Rattle.commands.specs.declared.words.request_words.RequestWords.{RequestWords}
+use Rattle.sabr_model.specs.declared.request_values.RequestValues.{RequestValues}
 use Rattle.commands.specs.words.Lists.{numbers_within, nodes_listed}
 use Rattle.sabr_plan.specs.Numbers.{number_within}
 
@@ -66,14 +66,14 @@ abbrev pub node_of : List ℕ → Option ℕ
 node_of text = number_within 1 18446744073709551615 text
 
 -- the limits and avoided nodes, behind the values of a request without limits
-unfoldable pub limits_of : ℕ → ℕ → ℕ → ℕ → Found → Result RequestWords Failure
+unfoldable pub limits_of : ℕ → ℕ → ℕ → ℕ → Found → Result RequestValues Failure
 limits_of from to at margin found =
     and_then (value_or most_hops (number_within 1 most_hops) found MaxHops) (λ hops.
     and_then (value_or [] nodes_listed found Avoid) (λ avoid.
     Ok (record { from = from; to = to; at = at; margin_ppm = margin; max_hops = hops; avoid = avoid })))
 
 -- what is asked for, word by word; the first bad word in this order is told
-unfoldable pub request_words : Found → Result RequestWords Failure
+unfoldable pub request_words : Found → Result RequestValues Failure
 request_words found =
     and_then (value_of node_of found From) (λ from.
     and_then (value_of node_of found To) (λ to.
@@ -82,7 +82,7 @@ request_words found =
     limits_of from to at margin found))))
 
 -- these words lie in the ranges of a request's values
-pub record IsInRange (w : RequestWords) : Type 0 where
+pub record IsInRange (w : RequestValues) : Type 0 where
   pub from : IsNode w.from
   pub to : IsNode w.to
   pub at : w.at ≤ last_time
@@ -90,7 +90,7 @@ pub record IsInRange (w : RequestWords) : Type 0 where
   pub hops : (0 < w.max_hops) × (w.max_hops ≤ most_hops)
 
 -- the request of these words: different nodes first, then nodes that may be avoided
-unfoldable pub request_of : RequestWords → Result RouteRequest Failure
+unfoldable pub request_of : RequestValues → Result RouteRequest Failure
 request_of w =
     if w.from == w.to then Err SameNode
     else if not (may_avoid w.from w.to w.avoid) then Err BadAvoid
@@ -124,7 +124,7 @@ abbrev pub where_asked : {A : Type 0} → Bool → Result A Failure → Result (
 where_asked asked value = if asked then and_then value (λ a. Ok (Some a)) else Ok None
 
 -- the words of a request, where the command has one
-abbrev pub words_where_asked : CommandName → Found → Result (Option RequestWords) Failure
+abbrev pub words_where_asked : CommandName → Found → Result (Option RequestValues) Failure
 words_where_asked name found = where_asked (has_request name) (request_words found)
 
 -- the count of routes, where the command has one
@@ -136,7 +136,7 @@ abbrev pub contacts_where_asked : CommandName → Found → Result (List ℕ) Fa
 contacts_where_asked name found = if has_contacts name then value_of (numbers_within 1 4294967295) found Contacts else Ok []
 
 -- the request of words that are there
-abbrev pub request_where_asked : Option RequestWords → Result (Option RouteRequest) Failure
+abbrev pub request_where_asked : Option RequestValues → Result (Option RouteRequest) Failure
 request_where_asked None = Ok None
 request_where_asked (Some words) = and_then (request_of words) (λ request. Ok (Some request))
 

@@ -13,25 +13,8 @@ use crate::failure::Failure;
 use crate::words::lists::nodes_listed;
 use crate::words::value_name::ValueName;
 use clap::ArgMatches;
-use sabr_model::{MOST_HOPS, MOST_MARGIN, NodeList, Request};
+use sabr_model::{MOST_HOPS, MOST_MARGIN, NodeList, Request, RequestValues};
 use sabr_plan::{number_within, parse_time};
-
-/// What is asked for, word by word, each within its range.
-#[derive(Drop)]
-pub struct RequestWords {
-    /// The source, a node.
-    pub from: u64,
-    /// The destination, a node.
-    pub to: u64,
-    /// When the bundle is at the source, in seconds from the beginning of 1970.
-    pub at: u64,
-    /// The margin on light times, in parts in a million.
-    pub margin_ppm: u32,
-    /// At most so many hops.
-    pub max_hops: u32,
-    /// The nodes that no route passes.
-    pub avoid: NodeList,
-}
 
 /// Finds the text that was given under a name.
 pub fn text_under<'a>(matches: &ArgMatches<'a>, name: ValueName) -> Option<&'a [u8]>
@@ -107,7 +90,7 @@ fn with_limit_words(
     at: u64,
     margin_ppm: u32,
     matches: &ArgMatches<'_>,
-) -> Result<RequestWords, Failure>
+) -> Result<RequestValues, Failure>
     requires { IsNode from × IsNode to × (at ≤ last_time) × (margin_ppm ≤ most_margin) }
     ensures value { result ≡ limits_of from to at margin_ppm (found_of matches.now) }
     ensures range { IfOk result IsInRange }
@@ -116,7 +99,7 @@ fn with_limit_words(
     let most = MOST_HOPS as u64;
     let max_hops = number_or(matches, ValueName::MaxHops, 1, most, most)? as u32;
     let avoid = avoided(matches)?;
-    Ok(RequestWords {
+    Ok(RequestValues {
         from,
         to,
         at,
@@ -132,7 +115,7 @@ fn with_limit_words(
 ///
 /// [`Failure::BadValue`] with the first bad word in the order of [`ValueName`].
 #[tactic(auto, unfolding(crate::specs::words::Values::request_words))]
-pub fn request_words(matches: &ArgMatches<'_>) -> Result<RequestWords, Failure>
+pub fn request_words(matches: &ArgMatches<'_>) -> Result<RequestValues, Failure>
     ensures value { result ≡ request_words (found_of matches.now) }
     ensures range { IfOk result IsInRange }
     ensures memory { ¬ IsErrOf result Failure.NoMemory }
@@ -151,7 +134,7 @@ pub fn request_words(matches: &ArgMatches<'_>) -> Result<RequestWords, Failure>
 /// [`Failure::SameNode`] where source and destination are one node; and else [`Failure::BadAvoid`] where the avoided
 /// nodes don't rise strictly, or hold the source or the destination.
 #[tactic(auto, unfolding(crate::specs::words::Values::request_of))]
-pub fn request_of(words: &RequestWords) -> Result<Request, Failure>
+pub fn request_of(words: &RequestValues) -> Result<Request, Failure>
     requires { IsInRange words.now }
     ensures value { result ≡ request_of words.now }
     ensures memory { ¬ IsErrOf result Failure.NoMemory }

@@ -8,12 +8,10 @@ ghost use Rattle.commands.specs.words.Values.{has_request, has_count, has_contac
 use crate::command::CommandName;
 use crate::failure::Failure;
 use crate::words::lists::contacts_listed;
-use crate::words::request_words::{
-    RequestWords, number_given, request_of, request_words, text_under,
-};
+use crate::words::request_words::{number_given, request_of, request_words, text_under};
 use crate::words::value_name::ValueName;
 use clap::ArgMatches;
-use sabr_model::{Numbers, Request};
+use sabr_model::{Numbers, Request, RequestValues};
 use std::alloc::{Allocator, Global};
 
 /// The values of a command. What the command hasn't is none or empty.
@@ -32,7 +30,7 @@ pub struct Values<A: Allocator + Copy = Global> {
 fn words_where_asked(
     command: CommandName,
     matches: &ArgMatches<'_>,
-) -> Result<Option<RequestWords>, Failure>
+) -> Result<Option<RequestValues>, Failure>
     ensures value { result ≡ words_where_asked command (found_of matches.now) }
     ensures range { IfOk result (λ words. IfSome words IsInRange) }
     ensures asked { IfOk result (λ words. is_some words ≡ has_request command) }
@@ -80,7 +78,7 @@ fn contacts_where_asked<A: Allocator + Copy>(
 
 /// Makes the request of words that are there.
 #[tactic(auto, unfolding(crate::specs::words::Values::request_where_asked))]
-fn request_where_asked(words: &Option<RequestWords>) -> Result<Option<Request>, Failure>
+fn request_where_asked(words: &Option<RequestValues>) -> Result<Option<Request>, Failure>
     requires { IfSome words.now IsInRange }
     ensures value { result ≡ request_where_asked words.now }
     ensures asked { IfOk result (λ request. is_some request ≡ is_some words.now) }

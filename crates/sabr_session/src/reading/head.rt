@@ -10,9 +10,9 @@ use crate::digest_text::digest_text;
 use crate::reading::first_lines::{
     Version, count_of, digest_named, emitted_of, header_of, last_listed,
 };
-use crate::reading::request_line::{RequestValues, request_of};
+use crate::reading::request_line::request_of;
 use crate::session_fault::SessionFault;
-use sabr_model::{Numbers, Request};
+use sabr_model::{Numbers, Request, RequestValues};
 use std::alloc::Allocator;
 use std::marker::Model;
 

@@ -8,28 +8,11 @@ ghost use Rattle.sabr_session.specs.SessionLines.{four_of, unlimited_of, limited
 use crate::reading::first_lines::{Version, behind_label};
 use crate::reading::node_list::nodes_of;
 use crate::reading::words::{first_word, is_word};
-use sabr_model::{MOST_HOPS, NodeList};
+use sabr_model::{MOST_HOPS, NodeList, RequestValues};
 use sabr_plan::{number_within, parse_time};
 
 /// The greatest margin or limit on hops that a line can name.
 const MOST_VALUE: u64 = 4294967295;
-
-/// The values of a request's line, which may be refused.
-#[derive(Drop)]
-pub(crate) struct RequestValues {
-    /// The source.
-    pub(crate) from: u64,
-    /// The destination.
-    pub(crate) to: u64,
-    /// When the bundle is at the source, in seconds.
-    pub(crate) at: u64,
-    /// The margin, in parts in a million.
-    pub(crate) margin_ppm: u32,
-    /// The most contacts of a route.
-    pub(crate) max_hops: u32,
-    /// The nodes to avoid.
-    pub(crate) avoid: NodeList,
-}
 
 /// Gives the first four words, and what stands behind them.
 fn four_words(text: &[u8]) -> Option<(&[u8], &[u8], &[u8], &[u8], Option<&[u8]>)>

@@ -1,0 +1,20 @@
+//! What is asked for, before it is judged.
+
+use crate::node_list::NodeList;
+
+/// The values of a request, which may be refused. It holds no memory.
+#[derive(Drop)]
+pub struct RequestValues {
+    /// The source.
+    pub from: u64,
+    /// The destination.
+    pub to: u64,
+    /// When the bundle is at the source, in seconds since 1970-01-01T00:00:00Z.
+    pub at: u64,
+    /// The margin on light times, in parts in a million.
+    pub margin_ppm: u32,
+    /// The most contacts of a route.
+    pub max_hops: u32,
+    /// The nodes that no route passes.
+    pub avoid: NodeList,
+}
