@@ -4,7 +4,7 @@ use borrow.Rule.Slice.PartMut.{mid_of, put_mid, mid_len, same_len_mid, take_put}
 use Rattle.std.proofs.lemmas.List.{take-take, drop-take, drop-drop, drop_at, drop-append-le}
 
 -- of the front of old, what stands from e on was moved by `by` already, and what stands from s up to there is moved next
-module _ {X : Type 0} (old ids ys : List X) (by s e : ℕ) (long : length ids ≡ length old) (within : e + by ≤ length old) (ordered : s ≤ e) (near : e ≤ s + by)
+module _ {X : Type 0} (old ids ys : List X) (by s e : ℕ) (long : length ids ≡ length old) (within : e + by ≤ length old) (ordered : s ≤ e)
     (front : take e ids ≡ take e old) (behind : drop (e + by) ids ≡ drop e (take (length old - by) old))
     (copied : ys ≡ take by (mid_of s (e + by - s) ids) ++ take (length (mid_of s (e + by - s) ids) - by) (mid_of s (e + by - s) ids)) where
   abbrev pub k : ℕ

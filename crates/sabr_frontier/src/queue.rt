@@ -12,7 +12,7 @@ ghost use Rattle.sabr_frontier.specs.Room.{HasPlaces, LastIsLate, LastIsPlaced};
 
 use crate::places::{carried, enqueue, is_better, queue_place};
 use crate::tree::{Node, NodeId};
-use crate::turning::turn;
+use crate::turning::turn_back;
 use sabr_model::NoMemory;
 use std::alloc::{Allocator, Global};
 
@@ -60,50 +60,39 @@ fn place_for<A: Allocator + Copy>(nodes: &[Node<A>], ids: &[NodeId], id: NodeId)
 }
 
 /// Puts the last node of a list, which stands behind `placed` others and ends at `end`, to its place among those, and
-/// answers that place: the rest of the list comes in front of it, and those behind its place behind it. Meanwhile the
-/// list stands in the room.
+/// answers that place: the rest of the list comes in front of it, and those behind its place behind it.
 fn merge_last<A: Allocator + Copy>(
     nodes: &[Node<A>],
     ids: &mut [NodeId],
     placed: usize,
     end: usize,
-    room: &mut Vec<NodeId, A>,
 ) -> usize
     requires some { placed < end }
     requires within { end ≤ length ids.old }
-    requires places { end - placed ≤ vec_capacity room.old }
     requires order { InPairs (IsAtOrBehind nodes.now) (take placed ids.old) }
     ensures place { (P L D : List NodeId) (id : NodeId) (x : RouteRecord) → ids.old ≡ P ++ (L ++ id ∷ D) → length P ≡ placed → length P + length L + 1 ≡ end → route_at nodes.now id ≡ Some x → result ≡ passing (λ y. beats x (route_at nodes.now y)) P }
     ensures turned { (P L D : List NodeId) (id : NodeId) → ids.old ≡ P ++ (L ++ id ∷ D) → length P ≡ placed → length P + length L + 1 ≡ end → ids.new ≡ take result P ++ (L ++ id ∷ (drop result P ++ D)) }
     ensures within { result ≤ placed }
     ensures len { length ids.new ≡ length ids.old }
-    ensures capacity { vec_capacity room.old ≤ vec_capacity room.new }
 {
     let id = ids[end - 1];
     let place = place_for(nodes, &ids[..placed], id);
-    turn(&mut ids[place..end], placed - place, room);
+    turn_back(&mut ids[place..end], end - placed);
     place
 }
 
-/// Merges two lists, of which the first has `first` nodes, with room for those of the second.
-fn merge<A: Allocator + Copy>(
-    nodes: &[Node<A>],
-    ids: &mut [NodeId],
-    first: usize,
-    room: &mut Vec<NodeId, A>,
-)
+/// Merges two lists, of which the first has `first` nodes.
+fn merge<A: Allocator + Copy>(nodes: &[Node<A>], ids: &mut [NodeId], first: usize)
     requires within { first ≤ length ids.old }
-    requires places { length ids.old - first ≤ vec_capacity room.old }
     requires first_falls { InPairs (IsAtOrBehind nodes.now) (take first ids.old) }
     requires second_falls { InPairs (IsAtOrBehind nodes.now) (drop first ids.old) }
     requires carries { (id : NodeId) → Member id (drop first ids.old) → is_some (route_at nodes.now id) ≡ true }
-    ensures merged { ids.new ≡ merged nodes.now (take first ids.old) (drop first ids.old) }
-    ensures capacity { vec_capacity room.old ≤ vec_capacity room.new }
+    ensures { ids.new ≡ merged nodes.now (take first ids.old) (drop first ids.old) }
 {
     let mut placed = first;
     let mut end = ids.len();
     while placed < end {
-        let place = merge_last(nodes, ids, placed, end, room);
+        let place = merge_last(nodes, ids, placed, end);
         end = end - (placed - place) - 1;
         placed = place;
     }
@@ -197,13 +186,12 @@ impl<A: Allocator + Copy> Queue<A> {
         ensures late { self.new.late.items ≡ [] }
         ensures len { vec_len self.new.placed ≡ vec_len self.old.placed + vec_len self.old.late }
         ensures placed_capacity { vec_capacity self.old.placed ≤ vec_capacity self.new.placed }
-        ensures late_capacity { vec_capacity self.old.late ≤ vec_capacity self.new.late }
+        ensures late_capacity { vec_capacity self.new.late ≡ vec_capacity self.old.late }
     {
         let first = self.placed.len();
         let appended = self.placed.append(&mut self.late);
         let Ok(()) = appended else { unreachable!() };
-        merge(nodes, self.placed.as_mut_slice(), first, &mut self.late);
-        self.late.clear();
+        merge(nodes, self.placed.as_mut_slice(), first);
     }
 
     /// Makes the short list shorter where it is full.
@@ -215,7 +203,7 @@ impl<A: Allocator + Copy> Queue<A> {
         ensures short { vec_len self.new.late < 256 }
         ensures len { vec_len self.new.placed + vec_len self.new.late ≡ vec_len self.old.placed + vec_len self.old.late }
         ensures placed { vec_capacity self.old.placed ≤ vec_capacity self.new.placed }
-        ensures late { vec_capacity self.old.late ≤ vec_capacity self.new.late }
+        ensures late { vec_capacity self.new.late ≡ vec_capacity self.old.late }
     {
         if self.late.len() < LATE_LIMIT {
             return;

@@ -1,47 +1,51 @@
-//! Lists turned with little moved at a time, by copies that never overlap.
+//! Lists turned with few nodes moved at a time, by copies that never overlap.
 
-ghost use Rattle.std.specs.Prelude.{◌≡◌, ◌+◌, ◌-◌, ◌*◌, ◌<◌, ◌≤◌, ◌++◌, take, drop, length, vec_capacity};
+ghost use Rattle.std.specs.Prelude.{◌≡◌, ◌+◌, ◌-◌, ◌≤◌, ◌++◌, take, drop, length};
 
 use crate::tree::NodeId;
-use std::alloc::Allocator;
 
-/// Copies the first nodes of a list over its last, `by` places behind them; they are at most so many.
-fn copy_up(ids: &mut [NodeId], by: usize)
+/// So many nodes at most wait on the stack while others take their places.
+const ROOM: usize = 256;
+
+/// Moves all but the last `by` nodes of a list `by` places on; they stand in the room meanwhile. What stands in front
+/// of them stays.
+fn copy_up(ids: &mut [NodeId], by: usize, room: &mut [NodeId; 256])
     requires within { by ≤ length ids.old }
-    requires apart { length ids.old ≤ 2 * by }
+    requires few { length ids.old ≤ by + 256 }
     ensures { ids.new ≡ take by ids.old ++ take (length ids.old - by) ids.old }
 {
-    let (front, back) = ids.split_at_mut(by);
-    let count = back.len();
-    back.copy_from_slice(&front[..count]);
+    let count = ids.len() - by;
+    room[..count].copy_from_slice(&ids[..count]);
+    ids[by..].copy_from_slice(&room[..count]);
 }
 
 /// Moves all but the last `by` nodes of a list `by` places on. What stands in front of them then is left open.
 fn shift_up(ids: &mut [NodeId], by: usize)
-    requires some { 0 < by }
     requires within { by ≤ length ids.old }
     ensures behind { drop by ids.new ≡ take (length ids.old - by) ids.old }
     ensures len { length ids.new ≡ length ids.old }
 {
+    let mut room = [NodeId(0); 256];
     let mut end = ids.len() - by;
     while 0 < end {
-        let start = end.saturating_sub(by);
-        copy_up(&mut ids[start..end + by], by);
+        let start = end.saturating_sub(ROOM);
+        copy_up(&mut ids[start..end + by], by, &mut room);
         end = start;
     }
 }
 
-/// Puts the first nodes of a list, `mid` of them, behind the others, which stand in the room meanwhile.
-pub fn turn<A: Allocator + Copy>(ids: &mut [NodeId], mid: usize, room: &mut Vec<NodeId, A>)
-    requires within { mid < length ids.old }
-    requires places { length ids.old - mid ≤ vec_capacity room.old }
-    ensures turned { ids.new ≡ drop mid ids.old ++ take mid ids.old }
-    ensures capacity { vec_capacity room.old ≤ vec_capacity room.new }
+/// Puts the last `count` nodes of a list in front of the others.
+pub fn turn_back(ids: &mut [NodeId], count: usize)
+    requires within { count ≤ length ids.old }
+    ensures { ids.new ≡ drop (length ids.old - count) ids.old ++ take (length ids.old - count) ids.old }
 {
-    let by = ids.len() - mid;
-    room.clear();
-    let kept = room.extend_from_slice(&ids[mid..]);
-    let Ok(()) = kept else { unreachable!() };
-    shift_up(ids, by);
-    ids[..by].copy_from_slice(room.as_slice());
+    if count > ROOM {
+        ids.rotate_right(count);
+        return;
+    }
+    let mut last = [NodeId(0); 256];
+    let rest = ids.len() - count;
+    last[..count].copy_from_slice(&ids[rest..]);
+    shift_up(ids, count);
+    ids[..count].copy_from_slice(&last[..count]);
 }

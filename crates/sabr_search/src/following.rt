@@ -241,7 +241,8 @@ fn meets<A: Allocator + Copy>(rung: &Rung<A>, first: &[Standing]) -> bool
 
 impl<A: Allocator + Copy> Kept<A> {
     /// Gives the table of the soonest deadline from the floor on, of those for a delivery, for which a first step is in
-    /// time: what is in time for one is in time for those behind it, so the tables are halved.
+    /// time: what is in time for one is in time for those behind it, and the table for none is the last, so they are
+    /// halved.
     fn met(&self) -> Option<usize>
         requires { HavePlaces self.now }
         ensures { IfSome result (λ place. place < length self.now.rungs.items) }
@@ -251,7 +252,7 @@ impl<A: Allocator + Copy> Kept<A> {
         while low < high {
             let middle = low + (high - low) / 2;
             let rung = &self.rungs[middle];
-            if self.floor <= rung.deadline && meets(rung, &self.first) {
+            if rung.deadline > LATEST || self.floor <= rung.deadline && meets(rung, &self.first) {
                 high = middle;
             } else {
                 low = middle + 1;

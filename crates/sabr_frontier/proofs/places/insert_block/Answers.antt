@@ -12,8 +12,8 @@ returns g c =
     let ids = ids_from c.args.first c.args.count in
     let place = c.args.place in
     let xs = c.deref_mut.result.now in
-    let ys = c.rotate_right.new.self in
+    let ys = c.turn_back.new.ids in
     let turned = block_turned xs old ids ys place (length xs - place) c.args.count (omega (arith, c.requires.within)) (length-ids c.args.first c.args.count) (omega arith)
-    (c.deref_mut.ensures.value ∙ c.push_block.ensures.items) c.rotate_right.ensures.after in
+    (c.deref_mut.ensures.value ∙ c.push_block.ensures.items) c.turn_back.ensures in
     let long : length (put_mid place (length xs - place) xs ys) ≡ c.push_block.new.index.len = omega (arith, ap (length {A = NodeId}) turned, length-with_block place ids old (omega (arith, c.requires.within)), length-ids c.args.first c.args.count, c.push_block.ensures.len) in
     take_at (put_mid place (length xs - place) xs ys) _ c.push_block.new.index.len long ∙ turned

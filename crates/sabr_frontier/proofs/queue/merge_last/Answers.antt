@@ -4,7 +4,7 @@ use Rattle.sabr_frontier.specs.declared.tree.NodeId.{NodeId}
 use Rattle.sabr_frontier.specs.Waiting.{route_at, beats}
 use Rattle.sabr_frontier.specs.Taking.{passing}
 use Rattle.sabr_frontier.proofs.Merging.{block_behind, got}
-use borrow.Rule.Slice.PartMut.{mid_of}
+use borrow.Rule.Slice.PartMut.{mid_of, mid_len}
 use Rattle.sabr_frontier.proofs.queue.merge_last.Goals as goal
 
 pub returns-clause-place : goal.returns-clause-place
@@ -22,7 +22,7 @@ returns-clause-turned g c P L D id e p l =
     let within : k ≤ length P = omega (arith, c.place_for-place.ensures.within, ap (length {A = NodeId}) first) in
     let is : ids ≡ take k P ++ (drop k P ++ ((L ++ id ∷ []) ++ D)) = e ∙ ap (λ z. z ++ (L ++ id ∷ D)) (sym (take-append-drop k P)) ∙ append_assoc (take k P) (drop k P) (L ++ id ∷ D)
     ∙ ap (λ z. take k P ++ (drop k P ++ z)) (sym (append_assoc L (id ∷ []) D)) in
-    let count : c.args.placed - k ≡ length (drop k P) = omega (arith, length-drop k P, p) in
-    block_behind ids (take k P) (drop k P) (L ++ id ∷ []) D c.turn.new.ids k n is (length-take-le k P within) (omega (arith, length-drop k P, length-append L (id ∷ []), p, l, within))
-    (c.turn.ensures.turned ∙ ap (λ m. drop m (mid_of k n ids) ++ take m (mid_of k n ids)) count)
+    let count : length (mid_of k n ids) - (c.args.end - c.args.placed) ≡ length (drop k P) = omega (arith, mid_len k c.args.end ids c.requires.within, length-drop k P, p, within) in
+    block_behind ids (take k P) (drop k P) (L ++ id ∷ []) D c.turn_back.new.ids k n is (length-take-le k P within) (omega (arith, length-drop k P, length-append L (id ∷ []), p, l, within))
+    (c.turn_back.ensures ∙ ap (λ m. drop m (mid_of k n ids) ++ take m (mid_of k n ids)) count)
     ∙ ap (λ z. take k P ++ z) (append_assoc L (id ∷ []) (drop k P ++ D))

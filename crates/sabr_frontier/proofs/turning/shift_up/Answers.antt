@@ -21,10 +21,9 @@ loop-end-preserved c =
     let i = c.loop-end.invariant in
     let s = c.saturating_sub-start.result in
     let before : s ≤ c.loop-end.end = omega (arith, c.saturating_sub-start.ensures) in
-    let near : c.loop-end.end ≤ s + c.args.by = omega (arith, c.saturating_sub-start.ensures) in
     record {
-      long = longer ids c.loop-end.ids c.copy_up.new.ids c.args.by s c.loop-end.end i.long i.within before near i.front i.behind c.copy_up.ensures;
+      long = longer ids c.loop-end.ids c.copy_up.new.ids c.args.by s c.loop-end.end i.long i.within before i.front i.behind c.copy_up.ensures;
       within = omega (arith, i.within, before);
-      front = front_kept ids c.loop-end.ids c.copy_up.new.ids c.args.by s c.loop-end.end i.long i.within before near i.front i.behind c.copy_up.ensures;
-      behind = behind_moved ids c.loop-end.ids c.copy_up.new.ids c.args.by s c.loop-end.end i.long i.within before near i.front i.behind c.copy_up.ensures;
+      front = front_kept ids c.loop-end.ids c.copy_up.new.ids c.args.by s c.loop-end.end i.long i.within before i.front i.behind c.copy_up.ensures;
+      behind = behind_moved ids c.loop-end.ids c.copy_up.new.ids c.args.by s c.loop-end.end i.long i.within before i.front i.behind c.copy_up.ensures;
     }

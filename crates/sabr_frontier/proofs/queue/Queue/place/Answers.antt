@@ -13,7 +13,7 @@ returns-clause-placed g c =
     let L = q.late.items in
     let all = c.as_mut_slice.ensures.value ∙ c.in-Ok.ensures.items in
     let first : length P ≡ c.len-first.result = omega (arith, c.len-first.ensures) in
-    let whole : c.merge.new.ids ≡ waiting nodes q = c.merge.ensures.merged
+    let whole : c.merge.new.ids ≡ waiting nodes q = c.merge.ensures
     ∙ (λ i. merged nodes (take c.len-first.result (all i)) (drop c.len-first.result (all i)))
     ∙ (λ i. merged nodes (take_at P L c.len-first.result first i) (drop_at P L c.len-first.result first i)) in
     let long : length c.merge.new.ids ≡ c.append-appended.new.self.len = omega (arith, ap (length {A = NodeId}) whole, length_merged nodes P L c.requires.queue.carries, c.in-Ok.ensures.len) in
