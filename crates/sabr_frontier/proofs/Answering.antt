@@ -1,16 +1,14 @@
 -- What is held stays in order and answered where a part comes behind the others, and is paid exactly where the parts are closed.
-use Rattle.std.proofs.Common.{◌≡◌, ℕ, zero, suc, ◌+◌, ◌-◌, ◌<◌, Bool, true, false, not, ◌&&◌, nat_lt, List, [], ◌∷◌, ◌++◌, map, flat_map, reverse, length, take, refl, sym, ap, subst, ◌∙◌, ◌⊎◌, inl, inr, arith, true≢false, Option, Some, None, length-append}
+use Rattle.std.proofs.Common.{◌≡◌, ℕ, zero, suc, ◌+◌, ◌-◌, ◌<◌, Bool, true, false, not, ◌&&◌, nat_lt, List, [], ◌∷◌, ◌++◌, map, flat_map, reverse, if◌then◌else◌, ◌≤◌, length, take, drop, refl, sym, ap, subst, ◌∙◌, ◌⊎◌, inl, inr, arith, true≢false, Option, Some, None, length-append, length-take-le, take-append-drop}
 use Rattle.std.specs.Prelude.{◌==◌, slice_get, unwrap_or}
-use Rattle.std.specs.List.{All}
 use Rattle.std.specs.Option.{option_map, option_map_or}
 use Rattle.std.specs.Ordering.{nat_cmp, is_lt, is_eq}
 use Rattle.std.specs.declared.cmp.Ordering.TheVariants.{Less}
 use Rattle.std.proofs.lemmas.Bool.{and_parts, false_from_ne_true}
 use Rattle.std.proofs.lemmas.Bool.Decides.{nat_tests}
 use Rattle.std.proofs.lemmas.Cmp.{nat_list_cmp_total, nat_cmp_total}
-use Rattle.std.proofs.lemmas.List.{reverse-append, reverse-reverse, length-reverse, length-map, take-map}
+use Rattle.std.proofs.lemmas.List.{reverse-append, reverse-reverse, length-reverse, length-map, take-map, take-take, take-append-le}
 use Rattle.std.proofs.lemmas.Option.{slice_get-map}
-use Rattle.std.proofs.lemmas.List.Elements.{All-append, All-head, All-nil, All-push, All-tail, All-take}
 use Rattle.std.proofs.lemmas.Grind.{flat_map-append}
 use Rattle.sabr_model.specs.Order.{by_numbers, same_numbers, numbers_before}
 use Rattle.sabr_model.specs.Plan.{ContactPlan, rises_above}
@@ -26,14 +24,15 @@ use Rattle.sabr_frontier.specs.Rising.{Below, Rises}
 use Rattle.sabr_frontier.specs.State.{PartState, pair_of, Member, leaves_of}
 use Rattle.sabr_frontier.specs.Formed.{IsClosed, InOrder, Within}
 use Rattle.sabr_frontier.specs.Owing.{Owing, onward, IsGood, Owes}
-use Rattle.sabr_frontier.specs.Leading.{AreLeads, IsLead, prefix_owed}
+use Rattle.sabr_frontier.specs.Leading.{AreOwed, AreSteps, IsLead, prefix_owed, step_of}
 use Rattle.sabr_frontier.specs.Loading.{comes_behind, may_carry, rise_strictly}
 use Rattle.sabr_frontier.specs.Shape.{numbers_of}
 use Rattle.sabr_frontier.specs.Undo.{last_item, front}
 use Rattle.sabr_frontier.specs.Holding.{Holding, AreLent, IsAnswered, IsHeld, IsJudged, IsVerdict, held_then, is_due, is_least, is_paid, node_for, nothing_held, owed_in, owing, pairs_in, part_for, parts_in, parts_of}
 use Rattle.sabr_frontier.proofs.Rising.{true_or_false, Below-lower, is_equal}
 use Rattle.sabr_frontier.proofs.Beginnings.{lists_exact}
-use Rattle.sabr_frontier.proofs.Members.{Member-append_right, Member-append_cases, Below-member}
+use Rattle.sabr_frontier.specs.Queue.{InPairs}
+use Rattle.sabr_frontier.proofs.Members.{Member-append_left, Member-append_right, Member-append_cases, Below-member}
 use Rattle.sabr_frontier.proofs.Division.{map-append}
 use Rattle.sabr_frontier.proofs.Owed.{Owes-push, Owes-front, Owes-one, owes_closed, closed_owes}
 use Rattle.sabr_frontier.proofs.Listed.{goes_on_within}
@@ -202,35 +201,24 @@ first_due h q rest paired first o = elim (zero_or_more (length h.nodes)) [
       ap (λ o. option_map_or (same_numbers q) o (length h.nodes == 0 && length q == 0)) last ∙ same_itself q
 ]
 
--- what is taken from the end of those owed is the due prefix, the empty one where nothing is owed
-pub due_taken : {A : Type 0} (h : Holding A) (q : List ℕ) → is_due h q ≡ true → unwrap_or (last_item (owed_in h)) [] ≡ q
-due_taken h q due = elim (last_item (owed_in h)) as (λ o. option_map_or (same_numbers q) o (length h.nodes == 0 && length q == 0) ≡ true → unwrap_or o [] ≡ q) [
-  | None ↦ λ k. sym (no_numbers q (test_zero (length q) (and_parts (length h.nodes == 0) (length q == 0) k).1))
-  | Some o ↦ λ k. sym (same_from_test q o k)
-] (and_parts h.sound (is_least h q) due).1
-
 -- ---- the prefixes of those that are kept
 
-pub last_prefix : {A : Type 0} (os : List (Owed A)) → last_item (map prefix_owed os) ≡ option_map prefix_owed (last_item os)
-last_prefix os = ap (λ n. slice_get (map prefix_owed os) (n - 1)) (length-map os prefix_owed) ∙ slice_get-map prefix_owed os (length os - 1)
+pub is_member_last : {X : Type 0} (os : List X) (o : X) → last_item os ≡ Some o → Member o os
+is_member_last os o e = subst (Member o) (sym (last_split os o e)) (Member-append_right o (front os) (o ∷ []) (inl refl))
 
-module _ {A : Type 0} (h : Holding A) (q : List ℕ) (o : Owed A) (sound : h.sound ≡ true) (last : last_item h.owed ≡ Some o) where
-  due_is : is_due h q ≡ same_numbers q o.prefix
-  due_is = let kept = last_prefix h.owed ∙ ap (option_map prefix_owed) last in λ i. sound i && option_map_or (same_numbers q) (kept i) (length h.nodes == 0 && length q == 0)
+last_of_map : {X Y : Type 0} (f : X → Y) (os : List X) → last_item (map f os) ≡ option_map f (last_item os)
+last_of_map f os = ap (λ n. slice_get (map f os) (n - 1)) (length-map os f) ∙ slice_get-map f os (length os - 1)
 
-  pub same_is_due : q ≡ o.prefix → is_due h q ≡ true
-  same_is_due same = due_is ∙ ap (same_numbers q) (sym same) ∙ same_itself q
+module _ {A : Type 0} (h : Holding A) (q : List ℕ) (o : Owed) (last : last_item h.owed ≡ Some o) where
+  least_is : is_least h q ≡ same_numbers q (prefix_owed h.last o)
+  least_is = ap (λ o. option_map_or (same_numbers q) o (length h.nodes == 0 && length q == 0)) (last_of_map (prefix_owed h.last) h.owed ∙ ap (option_map (prefix_owed h.last)) last)
 
-  pub other_is_not_due : (q ≡ o.prefix → ⊥) → is_due h q ≡ false
-  other_is_not_due other = due_is ∙ false_from_ne_true (same_numbers q o.prefix) (λ k. other (same_from_test q o.prefix k))
+  module _ (sound : h.sound ≡ true) where
+    pub same_is_due : q ≡ prefix_owed h.last o → is_due h q ≡ true
+    same_is_due same = (λ i. sound i && least_is i) ∙ ap (same_numbers q) (sym same) ∙ same_itself q
 
-  pub last_leads : (p : ContactPlan) (r : RouteRequest) → AreLeads p r h.owed → IsLead p r o.prefix o.lead
-  last_leads p r leads = at (λ (o : Owed A). IsLead p r o.prefix o.lead) h.owed (length h.owed - 1) last leads
-    where
-      at : (P : Owed A → Type 0) (os : List (Owed A)) (i : ℕ) → slice_get os i ≡ Some o → All P os → P o
-      at P [] i e h = absurd cc
-      at P (x ∷ os) zero e h = let same : x ≡ o = cc in subst P same (All-head P x os h)
-      at P (x ∷ os) (suc i) e h = at P os i e (All-tail P x os h)
+    pub other_is_not_due : (q ≡ prefix_owed h.last o → ⊥) → is_due h q ≡ false
+    other_is_not_due other = (λ i. sound i && least_is i) ∙ false_from_ne_true (same_numbers q (prefix_owed h.last o)) (λ k. other (same_from_test q (prefix_owed h.last o) k))
 
 map-front : {X Y : Type 0} (f : X → Y) (xs : List X) → map f (front xs) ≡ front (map f xs)
 map-front f xs = sym (ap (λ n. take (n - 1) (map f xs)) (length-map xs f) ∙ take-map f (length xs - 1) xs)
@@ -239,9 +227,93 @@ map-reverse : {X Y : Type 0} (f : X → Y) (xs : List X) → map f (reverse xs) 
 map-reverse f [] = refl
 map-reverse f (x ∷ xs) = ap (map f) (reverse-append (x ∷ []) xs) ∙ map-append f (reverse xs) (x ∷ []) ∙ ap (λ z. z ++ f x ∷ []) (map-reverse f xs) ∙ sym (reverse-append (f x ∷ []) (map f xs))
 
-All-reverse : {X : Type 0} (P : X → Type 0) (xs : List X) → All P xs → All P (reverse xs)
-All-reverse P [] h = All-nil P
-All-reverse P (x ∷ xs) h = subst (All P) (sym (reverse-append (x ∷ []) xs)) (All-push P (reverse xs) x (All-reverse P xs (All-tail P x xs h)) (All-head P x xs h))
+-- ---- those that stay behind the least
+
+pub pairs_two : {X : Type 0} (Q : X → X → Type 0) (xs ys : List X) → InPairs Q xs → InPairs Q ys → ((a b : X) → Member a xs → Member b ys → Q a b) → InPairs Q (xs ++ ys)
+pairs_two Q [] ys h k f = k
+pairs_two Q (x ∷ xs) ys h k f = (
+  (λ y m. elim (Member-append_cases y xs ys m) [ inl a ↦ h.0 y a | inr a ↦ f x y (inl refl) a ]),
+  pairs_two Q xs ys h.1 k (λ a b m. f a b (inr m)),
+)
+
+pairs_of_last : {X : Type 0} (Q : X → X → Type 0) (xs : List X) (y : X) → InPairs Q (xs ++ y ∷ []) → ((x : X) → Member x xs → Q x y) × InPairs Q xs
+pairs_of_last Q [] y h = (λ x m. absurd m, tt)
+pairs_of_last Q (x ∷ xs) y h =
+    let w = pairs_of_last Q xs y h.1 in (
+      (λ z m. elim m [ inl e ↦ subst (λ z. Q z y) (sym e) (h.0 y (Member-append_right y xs (y ∷ []) (inl refl))) | inr k ↦ w.0 z k ]),
+      ((λ z m. h.0 z (Member-append_left z xs (y ∷ []) m)), w.1),
+    )
+
+pairs_of_all : {X : Type 0} (Q : X → X → Type 0) (xs : List X) → ((x y : X) → Member x xs → Member y xs → Q x y) → InPairs Q xs
+pairs_of_all Q [] h = tt
+pairs_of_all Q (x ∷ xs) h = ((λ y m. h x y (inl refl) (inr m)), pairs_of_all Q xs (λ y z m k. h y z (inr m) (inr k)))
+
+map_same : {X Y : Type 0} (f g : X → Y) (xs : List X) → ((x : X) → Member x xs → f x ≡ g x) → map f xs ≡ map g xs
+map_same f g [] h = refl
+map_same f g (x ∷ xs) h = λ i. h x (inl refl) i ∷ map_same f g xs (λ y m. h y (inr m)) i
+
+Member-reverse : {X : Type 0} (x : X) (xs : List X) → Member x (reverse xs) → Member x xs
+Member-reverse x [] m = m
+Member-reverse x (y ∷ xs) m = elim (Member-append_cases x (reverse xs) (y ∷ []) (subst (Member x) (reverse-append (y ∷ []) xs) m)) [
+  | inl k ↦ inr (Member-reverse x xs k)
+  | inr k ↦ elim k [ inl e ↦ inl e | inr z ↦ absurd z ]
+]
+
+record Stay (last q : List ℕ) (os : List Owed) : Type 0 where
+  same : (o : Owed) → Member o os → prefix_owed q o ≡ prefix_owed last o
+  within : (o : Owed) → Member o os → o.length ≤ length q
+  nested : InPairs (λ a b. a.length ≤ b.length) os
+
+module _ {A : Type 0} (p : ContactPlan) (r : RouteRequest) (h : Holding A) (q : List ℕ) (due : is_least h q ≡ true) (owed : AreOwed p r h.last h.owed) where
+  -- the others begin with numbers that the least begins with
+  stay : Stay h.last q (front h.owed)
+  stay = elim (last_item h.owed) as (λ z. last_item h.owed ≡ z → Stay h.last q (front h.owed)) [
+    | None ↦ λ e. subst (λ os. Stay h.last q (front os)) (sym (none_last h.owed e)) (record { same = λ o m. absurd m; within = λ o m. absurd m; nested = tt })
+    | Some o ↦ λ e.
+        let is : q ≡ take o.length h.last ++ o.number ∷ [] = same_from_test q (prefix_owed h.last o) (sym (least_is h q o e) ∙ due) in
+        let all : h.owed ≡ front h.owed ++ o ∷ [] = last_split h.owed o e in
+        let w = pairs_of_last (λ (a b : Owed). a.length ≤ b.length) (front h.owed) o (subst (InPairs (λ (a b : Owed). a.length ≤ b.length)) all owed.nested) in
+        let most : o.length ≤ length h.last = owed.within o (is_member_last h.owed o e) in
+        let front_long : length (take o.length h.last) ≡ o.length = length-take-le o.length h.last most in
+        record {
+          same = λ x m.
+              let less : x.length ≤ length (take o.length h.last) = omega (arith, front_long, w.0 x m) in
+              ap (λ z. z ++ x.number ∷ []) (ap (take x.length) is ∙ take-append-le x.length (take o.length h.last) (o.number ∷ []) less ∙ take-take x.length o.length h.last (w.0 x m));
+          within = λ x m. omega (arith, w.0 x m, ap (length {A = ℕ}) is, length-append (take o.length h.last) (o.number ∷ []), front_long);
+          nested = w.1;
+        }
+  ] refl
+
+  take_whole : (xs : List ℕ) → take (length xs) xs ≡ xs
+  take_whole [] = refl
+  take_whole (x ∷ xs) = ap (λ z. x ∷ z) (take_whole xs)
+
+  step_is : (o : Owed) → o.length ≡ length q → prefix_owed q o ≡ step_of q o
+  step_is o e = ap (λ z. z ++ o.number ∷ []) (ap (λ n. take n q) e ∙ take_whole q)
+
+  -- and behind them come the steps from it
+  owed_more : (steps : List Owed) → AreSteps p r q steps → AreOwed p r q (front h.owed ++ reverse steps)
+  owed_more steps new = record {
+    leads = λ o m. elim (Member-append_cases o (front h.owed) (reverse steps) m) [
+      | inl k ↦ subst (λ z. IsLead p r z o.lead) (sym (stay.same o k)) (owed.leads o (front_member o k))
+      | inr k ↦ let w = new o (Member-reverse o steps k) in subst (λ z. IsLead p r z o.lead) (sym (step_is o w.0)) w.1
+    ];
+    within = λ o m. elim (Member-append_cases o (front h.owed) (reverse steps) m) [
+      | inl k ↦ stay.within o k
+      | inr k ↦ omega (arith, (new o (Member-reverse o steps k)).0)
+    ];
+    nested = pairs_two (λ (a b : Owed). a.length ≤ b.length) (front h.owed) (reverse steps) stay.nested
+        (pairs_of_all (λ (a b : Owed). a.length ≤ b.length) (reverse steps) (λ a b m k. omega (arith, (new a (Member-reverse a steps m)).0, (new b (Member-reverse b steps k)).0)))
+        (λ a b m k. omega (arith, stay.within a m, (new b (Member-reverse b steps k)).0));
+  }
+    where
+      front_member : (o : Owed) → Member o (front h.owed) → Member o h.owed
+      front_member o m = subst (Member o) (take-append-drop (length h.owed - 1) h.owed) (Member-append_left o (front h.owed) (drop (length h.owed - 1) h.owed) m)
+
+  prefixes_more : (steps : List Owed) → AreSteps p r q steps → map (prefix_owed q) (front h.owed ++ reverse steps) ≡ front (owed_in h) ++ reverse (map (step_of q) steps)
+  prefixes_more steps new = map-append (prefix_owed q) (front h.owed) (reverse steps)
+      ∙ (λ i. (map_same (prefix_owed q) (prefix_owed h.last) (front h.owed) stay.same ∙ map-front (prefix_owed h.last) h.owed) i
+      ++ (map_same (prefix_owed q) (step_of q) (reverse steps) (λ o m. step_is o (new o (Member-reverse o steps m)).0) ∙ map-reverse (step_of q) steps) i)
 
 module _ (p : ContactPlan) (r : RouteRequest) where
   abbrev route : List ℕ → Bool
@@ -276,38 +348,30 @@ module _ (p : ContactPlan) (r : RouteRequest) where
 
       answered_more : (j : Judged A) → IsAnswered p r h → is_least h q ≡ true → IsGood route path e → IsJudged p r e j → IsAnswered p r (held_then h q X kept (Some j))
       answered_more j a due good judged = record {
-        owes = subst (λ T. Owes route path ([] ∷ []) T (owing parts (map prefix_owed owed))) (sym pairs_more)
-            (Owes-push route path (pairs_in h) ([] ∷ []) (owing (parts_in h) (owed_in h)) (owing parts (map prefix_owed owed)) e a.owes
+        owes = subst (λ T. Owes route path ([] ∷ []) T (owing parts (map (prefix_owed q) owed))) (sym pairs_more)
+            (Owes-push route path (pairs_in h) ([] ∷ []) (owing (parts_in h) (owed_in h)) (owing parts (map (prefix_owed q) owed)) e a.owes
             (reverse (front (owed_in h)), due_first h q held.paired a.first due, good, sym owed_now));
         leaves = (λ i. a.leaves i ++ judged.leaves_are i) ∙ sym (map-append (record_of p r) (flat_map (leaves_of route) (pairs_in h)) (leaves_of route e))
             ∙ ap (map (record_of p r)) (ap (λ z. flat_map (leaves_of route) (pairs_in h) ++ z) (sym (append_none (leaves_of route e))) ∙ sym (flat_map-append (leaves_of route) (pairs_in h) (e ∷ [])) ∙ ap (flat_map (leaves_of route)) (sym pairs_more));
         lent = lent_push route 0 h.prefixes h.nodes q n a.lent (let k = ap (length {A = RouteRecord}) a.leaves ∙ length-map (flat_map (leaves_of route) (pairs_in h)) (record_of p r) in omega (arith, k)) refl;
+        owed = owed_more p r h q due a.owed j.onward.items judged.steps;
         first = λ k. absurd (not_empty (parts_in h) (part_for q n) (sym more ∙ k));
       }
         where
           parts : List PartState
           parts = parts_of (h.prefixes ++ q ∷ []) (h.nodes ++ n ∷ [])
 
-          owed : List (Owed A)
+          owed : List Owed
           owed = front h.owed ++ reverse j.onward.items
 
           append_none : (xs : List (List ℕ)) → xs ++ [] ≡ xs
           append_none [] = refl
           append_none (x ∷ xs) = ap (λ z. x ∷ z) (append_none xs)
 
-          prefixes : map prefix_owed owed ≡ front (owed_in h) ++ reverse (map prefix_owed j.onward.items)
-          prefixes = map-append prefix_owed (front h.owed) (reverse j.onward.items) ∙ (λ i. map-front prefix_owed h.owed i ++ map-reverse prefix_owed j.onward.items i)
-
-          owed_now : owing parts (map prefix_owed owed) ≡ onward route path e ++ reverse (front (owed_in h))
-          owed_now = ap (λ z. owing z (map prefix_owed owed)) more ∙ owing_more (parts_in h) (part_for q n) (map prefix_owed owed) ∙ ap reverse prefixes
-              ∙ reverse-append (front (owed_in h)) (reverse (map prefix_owed j.onward.items))
-              ∙ ap (λ z. z ++ reverse (front (owed_in h))) (reverse-reverse (map prefix_owed j.onward.items) ∙ judged.onward_are)
-
-      leads_more : (j : Judged A) → AreLeads p r j.onward.items → AreLeads p r (front h.owed ++ reverse j.onward.items)
-      leads_more j new = All-append known (front h.owed) (reverse j.onward.items) (All-take known (length h.owed - 1) h.owed held.leads) (All-reverse known j.onward.items new)
-        where
-          known : Owed A → Type 0
-          known o = IsLead p r o.prefix o.lead
+          owed_now : owing parts (map (prefix_owed q) owed) ≡ onward route path e ++ reverse (front (owed_in h))
+          owed_now = ap (λ z. owing z (map (prefix_owed q) owed)) more ∙ owing_more (parts_in h) (part_for q n) (map (prefix_owed q) owed) ∙ ap reverse (prefixes_more p r h q due a.owed j.onward.items judged.steps)
+              ∙ reverse-append (front (owed_in h)) (reverse (map (step_of q) j.onward.items))
+              ∙ ap (λ z. z ++ reverse (front (owed_in h))) (reverse-reverse (map (step_of q) j.onward.items) ∙ judged.onward_are)
 
       broken_more : (is_due h q ≡ true → IsGood route path e → ⊥) → (os : Owing) → Owes route path ([] ∷ []) (pairs_in h ++ e ∷ []) os → ⊥
       broken_more none os o =
@@ -351,6 +415,10 @@ module _ (p : ContactPlan) (r : RouteRequest) where
           ]
         ]
 
+        last_then : last_item (h.prefixes ++ q ∷ []) ≡ (if length (h.nodes ++ n ∷ []) == 0 then None else Some q)
+        last_then = Rattle.sabr_frontier.proofs.Ends.last_item_push (h.prefixes ++ q ∷ []) h.prefixes q refl
+            ∙ sym (ap (λ b. if b then None else Some q) (more_test (length (h.nodes ++ n ∷ [])) (omega (arith, length-append h.nodes (n ∷ [])))))
+
         told : (o : Option (List ℕ)) (x : RouteRecord) → option_map (record_of p r) o ≡ Some x → x ≡ record_of p r x.contacts
         told None x k = absurd cc
         told (Some s) x k = let same : record_of p r s ≡ x = cc in sym same ∙ ap (λ (z : RouteRecord). record_of p r z.contacts) same
@@ -367,7 +435,7 @@ module _ (p : ContactPlan) (r : RouteRequest) where
           order = ordered;
           carried = carried_then;
           records = records_then;
-          leads = leads_more j v.2.leads;
+          last = last_then;
           answered = λ _. answered_more j (held.answered due.0) due.1 v.1 v.2;
           broken = λ k. absurd (true≢false (sym due.0 ∙ k));
         }
@@ -379,7 +447,7 @@ module _ (p : ContactPlan) (r : RouteRequest) where
           order = ordered;
           carried = carried_then;
           records = records_then;
-          leads = held.leads;
+          last = last_then;
           answered = λ k. absurd (true≢false (sym k));
           broken = λ _ os. subst (λ T. Owes route path ([] ∷ []) T os → ⊥) (sym pairs_more) (broken_more v os);
         }
@@ -392,15 +460,15 @@ module _ (p : ContactPlan) (r : RouteRequest) where
       order = record { by_prefix = tt; numbers = λ q X m. absurd m };
       carried = λ t s m. absurd m;
       records = λ n x m. absurd m;
-      leads = All-nil (λ (o : Owed A). IsLead p r o.prefix o.lead);
-      answered = λ _. record { owes = refl; leaves = refl; lent = tt; first = λ _. refl };
+      last = refl;
+      answered = λ _. record { owes = refl; leaves = refl; lent = tt; owed = record { leads = λ o m. absurd m; within = λ o m. absurd m; nested = tt }; first = λ _. refl };
       broken = λ k. absurd (true≢false k);
     }
 
     -- ---- the end
 
     module _ (h : Holding A) (held : IsHeld p r h) where
-      no_owed : (os : List (Owed A)) → length os ≡ 0 → os ≡ []
+      no_owed : (os : List Owed) → length os ≡ 0 → os ≡ []
       no_owed [] l = refl
       no_owed (o ∷ os) l = absurd (omega (arith, l))
 
@@ -409,7 +477,7 @@ module _ (p : ContactPlan) (r : RouteRequest) where
           let w = and_parts h.sound (not (length h.nodes == 0) && (length h.owed == 0)) paid in
           let v = and_parts (not (length h.nodes == 0)) (length h.owed == 0) w.1 in
           let some = some_part h held.paired (test_more (length h.nodes) (Rattle.std.proofs.lemmas.Bool.not-true (length h.nodes == 0) v.0)) in
-          subst (Owes route path ([] ∷ []) (pairs_in h)) (ap (λ z. owing z (owed_in h)) some.2 ∙ ap (λ os. reverse (map prefix_owed os)) (no_owed h.owed (test_zero (length h.owed) v.1))) (held.answered w.0).owes
+          subst (Owes route path ([] ∷ []) (pairs_in h)) (ap (λ z. owing z (owed_in h)) some.2 ∙ ap (λ os. reverse (map (prefix_owed h.last) os)) (no_owed h.owed (test_zero (length h.owed) v.1))) (held.answered w.0).owes
 
       pub paid_closed : is_paid h ≡ true → IsClosed route path (is_prefix p r) (pairs_in h)
       paid_closed paid = owes_closed route path (is_prefix p r) (empty_is_prefix p r) (prefix_goes_on p r) (prefix_no_route p r) (pairs_in h) (paid_owes paid)
@@ -426,7 +494,7 @@ module _ (p : ContactPlan) (r : RouteRequest) where
                   let some = some_part h held.paired l in
                   let a = held.answered k in
                   let paid : reverse (owed_in h) ≡ [] = sym (ap (λ z. owing z (owed_in h)) some.2) ∙ Owes-one route path (pairs_in h) ([] ∷ []) (owing (parts_in h) (owed_in h)) [] a.owes o in
-                  let empty : length h.owed ≡ 0 = sym (length-map h.owed prefix_owed) ∙ sym (length-reverse (owed_in h)) ∙ ap length paid in
+                  let empty : length h.owed ≡ 0 = sym (length-map h.owed (prefix_owed h.last)) ∙ sym (length-reverse (owed_in h)) ∙ ap length paid in
                   true≢false (sym ((λ i. k i && (not (more_test (length h.nodes) l i) && zero_test (length h.owed) empty i))) ∙ unpaid)
             ]
           ]

@@ -19,7 +19,7 @@ use Rattle.sabr_model.proofs.Faults.{fault_is_no_route, path_is_good}
 use Rattle.sabr_model.proofs.Follows.{ends_elsewhere, ends_there, some_behind}
 use Rattle.sabr_frontier.specs.declared.judge.Judged.{Judged}
 use Rattle.sabr_frontier.specs.declared.leading.Lead.{Lead}
-use Rattle.sabr_frontier.specs.Leading.{AreLeads, IsLead, prefix_owed}
+use Rattle.sabr_frontier.specs.Leading.{AreSteps, IsLead, step_of}
 use Rattle.sabr_frontier.specs.Rising.{has}
 use Rattle.sabr_frontier.specs.State.{leaves_of}
 use Rattle.sabr_frontier.specs.Owing.{onward}
@@ -80,11 +80,11 @@ module _ (p : ContactPlan) (r : RouteRequest) where
     onward_more : onward (is_route p r) (is_path p r) (q, take (i + 1) X) ≡ onward (is_route p r) (is_path p r) (q, take i X) ++ onward_of p r (q ++ x ∷ [])
     onward_more = ap (λ Y. onward (is_route p r) (is_path p r) (q, Y)) more ∙ ap (filter (λ q. not (is_route p r q))) (map-append (λ x. q ++ x ∷ []) (take i X) (x ∷ [])) ∙ filter-append (λ q. not (is_route p r q)) (map (λ x. q ++ x ∷ []) (take i X)) ((q ++ x ∷ []) ∷ [])
 
-    pub judged_more : {A : Type 0} (old new : Judged A) → IsJudged p r (q, take i X) old → new.leaves.items ≡ old.leaves.items ++ map (record_of p r) (routes_of p r (q ++ x ∷ [])) → map prefix_owed new.onward.items ≡ map prefix_owed old.onward.items ++ onward_of p r (q ++ x ∷ []) → (AreLeads p r old.onward.items → AreLeads p r new.onward.items) → IsJudged p r (q, take (i + 1) X) new
+    pub judged_more : {A : Type 0} (old new : Judged A) → IsJudged p r (q, take i X) old → new.leaves.items ≡ old.leaves.items ++ map (record_of p r) (routes_of p r (q ++ x ∷ [])) → map (step_of q) new.onward.items ≡ map (step_of q) old.onward.items ++ onward_of p r (q ++ x ∷ []) → (AreSteps p r q old.onward.items → AreSteps p r q new.onward.items) → IsJudged p r (q, take (i + 1) X) new
     judged_more old new h a b f = record {
       leaves_are = a ∙ ap (λ z. z ++ map (record_of p r) (routes_of p r (q ++ x ∷ []))) h.leaves_are ∙ sym (map-append (record_of p r) (leaves_of (is_route p r) (q, take i X)) (routes_of p r (q ++ x ∷ []))) ∙ ap (map (record_of p r)) (sym leaves_more);
       onward_are = b ∙ ap (λ z. z ++ onward_of p r (q ++ x ∷ [])) h.onward_are ∙ sym onward_more;
-      leads = f h.leads;
+      steps = f h.steps;
     }
 
     pub paths_more : AllGoOn p r (q, take i X) → is_path p r (q ++ x ∷ []) ≡ true → AllGoOn p r (q, take (i + 1) X)

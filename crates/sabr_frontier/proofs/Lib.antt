@@ -41,6 +41,7 @@ pub mod Merging
 mod Turns
 pub mod Filled
 pub mod Ranked
+pub mod GhostWalks
 pub mod Giving
 pub mod Pages
 pub mod Roots

@@ -37,7 +37,7 @@ use Rattle.sabr_frontier.proofs.Nodes.{get_within, get_at_end, ids_cases, ids_ha
 use Rattle.sabr_frontier.proofs.Refined.{carried_there}
 use Rattle.sabr_frontier.proofs.Queues.{enqueued_all_falls}
 use Rattle.sabr_frontier.proofs.Sounds.{all_cases, all_has, all_length, block_apart}
-use Rattle.sabr_frontier.proofs.Answering.{paid_closed, paid_owes}
+use Rattle.sabr_frontier.proofs.Answering.{paid_closed, paid_owes, pairs_two}
 
 front_is : (q r : List ℕ) → take (length q) (q ++ r) ≡ q
 front_is [] r = refl
@@ -161,13 +161,6 @@ apart_length (s ∷ S) h =
       | inr k ↦ k
     ] in
     length-put_in nat_list_cmp_total s (set_of S) new ∙ ap (λ n. n + 1) (apart_length S h.1) ∙ (let one : length S + 1 ≡ suc (length S) = omega arith in one)
-
-pub pairs_two : {X : Type 0} (Q : X → X → Type 0) (xs ys : List X) → InPairs Q xs → InPairs Q ys → ((a b : X) → Member a xs → Member b ys → Q a b) → InPairs Q (xs ++ ys)
-pairs_two Q [] ys h k f = k
-pairs_two Q (x ∷ xs) ys h k f = (
-  (λ y m. elim (Member-append_cases y xs ys m) [ inl a ↦ h.0 y a | inr a ↦ f x y (inl refl) a ]),
-  pairs_two Q xs ys h.1 k (λ a b m. f a b (inr m)),
-)
 
 module _ (route : List ℕ → Bool) where
   own_apart : (q X : List ℕ) → Rises nat_cmp X → InPairs (λ a b. a ≡ b → ⊥) (leaves_of route (q, X))

@@ -7,7 +7,7 @@ use Rattle.sabr_frontier.specs.State.{State, Member}
 use Rattle.sabr_frontier.specs.Listing.{IsState, leaves_in, one_step, steps}
 use Rattle.sabr_frontier.specs.Queue.{InPairs}
 use Rattle.sabr_frontier.specs.Standing.{PageGiven, Standing, standing_at, page_then, paged, gone_back, after_calls, StandsForNewRoutes, PagesGiveNewRoutes}
-use Rattle.sabr_frontier.proofs.Loads.{pairs_two}
+use Rattle.sabr_frontier.proofs.Answering.{pairs_two}
 use Rattle.sabr_frontier.proofs.Members.{Member-append_cases}
 use Rattle.sabr_frontier.proofs.NewRoutes.{new_routes}
 use Rattle.sabr_frontier.proofs.Pages.{steps_stop, steps_go, steps_none}

@@ -1,5 +1,5 @@
 -- What a loader has gathered: nodes with their prefixes, leaves, and the prefixes that are owed.
-use Rattle.std.specs.Prelude.{◌≡◌, ℕ, ◌+◌, ◌<◌, ◌≤◌, Bool, true, false, ◌==◌, ◌&&◌, ◌⊎◌, not, List, [], ◌∷◌, ◌++◌, map, filter, flat_map, vec_len, vec_capacity, reverse, length, Option, Some, None}
+use Rattle.std.specs.Prelude.{◌≡◌, ℕ, ◌+◌, ◌<◌, ◌≤◌, Bool, true, false, ◌==◌, ◌&&◌, ◌⊎◌, not, List, [], ◌∷◌, ◌++◌, map, filter, flat_map, vec_len, vec_capacity, reverse, length, Option, Some, None, if◌then◌else◌}
 use Rattle.std.specs.Option.{option_map, option_map_or}
 use Rattle.std.specs.Ordering.{nat_cmp}
 use Rattle.sabr_frontier.specs.Rising.{has}
@@ -19,23 +19,24 @@ use Rattle.sabr_frontier.specs.Owing.{Owing, onward, IsGood, Owes}
 use Rattle.sabr_frontier.specs.Shape.{Shape, given_at, numbers_of}
 use Rattle.sabr_frontier.specs.Undo.{last_item, front}
 use Rattle.sabr_frontier.specs.Taking.{enqueued_all, ids_from}
-use Rattle.sabr_frontier.specs.Leading.{AreLeads, prefix_owed}
+use Rattle.sabr_frontier.specs.Leading.{AreOwed, AreSteps, prefix_owed, step_of}
 use Rattle.sabr_frontier.specs.Loading.{Loaded}
 
 -- what is held, without its capacities; the least owed prefix is the last
 pub record Holding (A : Type 0) : Type 0 where
   pub prefixes : List (List ℕ)
+  pub last : List ℕ
   pub nodes : List (Node A)
   pub leaves : List RouteRecord
-  pub owed : List (Owed A)
+  pub owed : List Owed
   pub sound : Bool
 
 abbrev pub holding_of : {A : Type 0} → Held A → Holding A
-holding_of h = record { prefixes = h.prefixes.items; nodes = h.nodes.items; leaves = h.leaves.items; owed = h.owed.items; sound = h.sound }
+holding_of h = record { prefixes = h.prefixes.items; last = h.last.items; nodes = h.nodes.items; leaves = h.leaves.items; owed = h.owed.items; sound = h.sound }
 
 -- nothing yet
 abbrev pub nothing_held : {A : Type 0} → Holding A
-nothing_held = record { prefixes = []; nodes = []; leaves = []; owed = []; sound = true }
+nothing_held = record { prefixes = []; last = []; nodes = []; leaves = []; owed = []; sound = true }
 
 -- the part of a prefix and a node
 abbrev pub part_for : {A : Type 0} → List ℕ → Node A → PartState
@@ -55,7 +56,11 @@ pairs_in h = map pair_of (parts_in h)
 
 -- the prefixes that are kept, the least last
 abbrev pub owed_in : {A : Type 0} → Holding A → List (List ℕ)
-owed_in h = map prefix_owed h.owed
+owed_in h = map (prefix_owed h.last) h.owed
+
+-- the last part's prefix, if there is a part
+abbrev pub last_prefix : {A : Type 0} → Holding A → Option (List ℕ)
+last_prefix h = if length h.nodes == 0 then None else Some h.last
 
 -- what is owed behind so many parts, the least first: the empty prefix before any
 abbrev pub owing : List PartState → List (List ℕ) → Owing
@@ -90,8 +95,8 @@ onward_of p r s = filter (λ q. not (is_route p r q)) (s ∷ [])
 -- what a pair's excluded numbers lead to: the leaves and the prefixes that go on
 pub record IsJudged {A : Type 0} (p : ContactPlan) (r : RouteRequest) (e : List ℕ × List ℕ) (j : Judged A) : Type 0 where
   pub leaves_are : j.leaves.items ≡ map (record_of p r) (leaves_of (is_route p r) e)
-  pub onward_are : map prefix_owed j.onward.items ≡ onward (is_route p r) (is_path p r) e
-  pub leads : AreLeads p r j.onward.items
+  pub onward_are : map (step_of e.0) j.onward.items ≡ onward (is_route p r) (is_path p r) e
+  pub steps : AreSteps p r e.0 j.onward.items
 
 -- the pair answers what is owed and is good, and this is what it leads to; or it doesn't or isn't
 abbrev pub IsVerdict : {A : Type 0} → ContactPlan → RouteRequest → Holding A → List ℕ × List ℕ → Option (Judged A) → Type 0
@@ -104,7 +109,7 @@ node_for h q X route = record { leaf = length h.leaves; length = length q; exclu
 
 -- with a prefix and its node more
 abbrev pub with_node : {A : Type 0} → Holding A → List ℕ → List ℕ → Option RouteRecord → Holding A
-with_node h q X route = record h { prefixes = h.prefixes ++ q ∷ []; nodes = h.nodes ++ node_for h q X route ∷ [] }
+with_node h q X route = record h { prefixes = h.prefixes ++ q ∷ []; last = q; nodes = h.nodes ++ node_for h q X route ∷ [] }
 
 -- with what the part leads to in place of the least that was owed
 abbrev pub answered_by : {A : Type 0} → Holding A → Option (Judged A) → Holding A
@@ -115,9 +120,9 @@ answered_by h (Some j) = record h { leaves = h.leaves ++ j.leaves.items; owed = 
 abbrev pub held_then : {A : Type 0} → Holding A → List ℕ → List ℕ → Option RouteRecord → Option (Judged A) → Holding A
 held_then h q X route j = answered_by (with_node h q X route) j
 
--- there are places for a part, so many leaves and so many that are owed
-pub record HasPlaces {A : Type 0} (h : Held A) (leaves onward : ℕ) : Type 0 where
-  pub one_prefix : vec_len h.prefixes < vec_capacity h.prefixes
+-- there are places for a part whose prefix has so many numbers, so many leaves and so many that are owed
+pub record HasPlaces {A : Type 0} (h : Held A) (numbers leaves onward : ℕ) : Type 0 where
+  pub for_numbers : numbers ≤ vec_capacity h.last
   pub one_node : vec_len h.nodes < vec_capacity h.nodes
   pub for_leaves : vec_len h.leaves + leaves ≤ vec_capacity h.leaves
   pub for_owed : vec_len h.owed + onward ≤ vec_capacity h.owed
@@ -141,14 +146,15 @@ pub record IsAnswered {A : Type 0} (p : ContactPlan) (r : RouteRequest) (h : Hol
   pub owes : Owes (is_route p r) (is_path p r) ([] ∷ []) (pairs_in h) (owing (parts_in h) (owed_in h))
   pub leaves : h.leaves ≡ map (record_of p r) (flat_map (leaves_of (is_route p r)) (pairs_in h))
   pub lent : AreLent (is_route p r) 0 h.prefixes h.nodes
+  pub owed : AreOwed p r h.last h.owed
   pub first : parts_in h ≡ [] → owed_in h ≡ []
 
 pub record IsHeld {A : Type 0} (p : ContactPlan) (r : RouteRequest) (h : Holding A) : Type 0 where
   pub paired : length h.prefixes ≡ length h.nodes
+  pub last : last_item h.prefixes ≡ last_prefix h
   pub order : InOrder (pairs_in h)
   pub carried : (t : PartState) (s : List ℕ) → Member t (parts_in h) → t.carried ≡ Some s → (is_route p r s ≡ true) × Within t.prefix t.excluded s
   pub records : (n : Node A) (x : RouteRecord) → Member n h.nodes → n.route ≡ Some x → x ≡ record_of p r x.contacts
-  pub leads : AreLeads p r h.owed
   pub answered : h.sound ≡ true → IsAnswered p r h
   pub broken : h.sound ≡ false → (os : Owing) → Owes (is_route p r) (is_path p r) ([] ∷ []) (pairs_in h) os → ⊥
 

@@ -1,6 +1,5 @@
 -- Where prefixes lead.
-use Rattle.std.specs.Prelude.{◌≡◌, ℕ, IsTrue, List}
-use Rattle.std.specs.List.{All}
+use Rattle.std.specs.Prelude.{◌≡◌, ℕ, ◌≤◌, IsTrue, List, [], ◌∷◌, ◌++◌, length, take}
 use Rattle.sabr_model.specs.Plan.{ContactPlan}
 use Rattle.sabr_model.specs.Arrival.{RouteRequest}
 use Rattle.sabr_model.specs.Route.{is_path}
@@ -8,6 +7,8 @@ use Rattle.sabr_model.specs.Following.{IsReachedBy}
 use Rattle.sabr_model.specs.Telling.{told_of}
 use Rattle.sabr_frontier.specs.declared.leading.Lead.{Lead}
 use Rattle.sabr_frontier.specs.declared.leading.Owed.{Owed}
+use Rattle.sabr_frontier.specs.State.{Member}
+use Rattle.sabr_frontier.specs.Queue.{InPairs}
 
 -- the prefix is a path that leads there, and this is told of it
 pub record IsLead (p : ContactPlan) (r : RouteRequest) (q : List ℕ) (lead : Lead) : Type 0 where
@@ -15,9 +16,20 @@ pub record IsLead (p : ContactPlan) (r : RouteRequest) (q : List ℕ) (lead : Le
   pub reached : IsReachedBy p r q lead.here
   pub told : lead.told ≡ told_of p q
 
-abbrev pub prefix_owed : {A : Type 0} → Owed A → List ℕ
-prefix_owed o = o.prefix
+-- what is owed behind a part: the first numbers of the part's prefix, so many, and one more
+abbrev pub prefix_owed : List ℕ → Owed → List ℕ
+prefix_owed last o = take o.length last ++ o.number ∷ []
 
--- each prefix is a path and leads where it is kept to lead
-abbrev pub AreLeads : {A : Type 0} → ContactPlan → RouteRequest → List (Owed A) → Type 0
-AreLeads p r os = All (λ o. IsLead p r o.prefix o.lead) os
+-- each leads where it is kept to lead; none takes more of the prefix than it has, or than those behind it
+pub record AreOwed (p : ContactPlan) (r : RouteRequest) (last : List ℕ) (os : List Owed) : Type 0 where
+  pub leads : (o : Owed) → Member o os → IsLead p r (prefix_owed last o) o.lead
+  pub within : (o : Owed) → Member o os → o.length ≤ length last
+  pub nested : InPairs (λ a b. a.length ≤ b.length) os
+
+-- the prefix and one number more
+abbrev pub step_of : List ℕ → Owed → List ℕ
+step_of q o = q ++ o.number ∷ []
+
+-- each takes the whole prefix, and leads where it is kept to lead
+abbrev pub AreSteps : ContactPlan → RouteRequest → List ℕ → List Owed → Type 0
+AreSteps p r q os = (o : Owed) → Member o os → (o.length ≡ length q) × IsLead p r (step_of q o) o.lead

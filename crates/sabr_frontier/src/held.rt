@@ -1,39 +1,42 @@
 //! What a loader has gathered, and the tree that comes of it.
 
-ghost use Rattle.std.specs.Prelude.{◌≡◌, [], true, ◌&&◌, is_some, unwrap_or, map, length, Some, None, IfOk, IfSome, IfNone, OnOk, OnErr, vec_capacity};
+ghost use Rattle.std.specs.Prelude.{◌≡◌, [], true, ◌&&◌, ◌<◌, ◌≤◌, is_some, length, Some, None, IfOk, IfSome, IfNone, IsTrue, OnOk, OnErr, vec_len, vec_capacity};
 ghost use Rattle.std.specs.Option.{option_map_or};
 ghost use Rattle.sabr_model.specs.Order.{numbers_before};
 ghost use Rattle.sabr_frontier.specs.Shape.{shape_of};
 ghost use Rattle.sabr_frontier.specs.Undo.{IsRoomy, front, last_item};
 ghost use Rattle.sabr_frontier.specs.Loading.{comes_behind, rise_strictly};
-ghost use Rattle.sabr_frontier.specs.Leading.{AreLeads, IsLead, prefix_owed};
-ghost use Rattle.sabr_frontier.specs.Holding.{HasPlaces, IsLastPlace, IsTakenIn, IsVerdict, IsWrongLast, held_then, holding_of, is_due, is_paid, loaded_tree, nothing_held, parts_in};
+ghost use Rattle.sabr_frontier.specs.Leading.{AreOwed, IsLead};
+ghost use Rattle.sabr_frontier.specs.Holding.{HasPlaces, IsLastPlace, IsTakenIn, IsVerdict, IsWrongLast, held_then, holding_of, is_due, is_paid, last_prefix, loaded_tree, nothing_held, parts_in, with_node};
 
 use crate::excluded::{Excluded, rise};
+use crate::ghost_lists::GhostLists;
 use crate::judge::{Judged, judge};
 use crate::leading::{Lead, Owed};
 use crate::places::insert_block;
 use crate::queue::Queue;
 use crate::ranking::enqueue_each;
 use crate::tree::{Node, Tree};
-use sabr_model::{NoMemory, Numbers, Plan, Request, Route};
+use sabr_model::{NoMemory, Plan, Request, Route};
 use std::alloc::{Allocator, Global};
 use std::cmp::Ordering;
 use std::mem::replace;
 
-/// The prefixes of the parts, and their nodes; the leaves that the parts made; the prefixes that are to be parts, the
-/// least last, each with where it leads; and whether each part so far was the least that was to come. Where one wasn't,
-/// the parts alone are kept. In `room` the next part is judged.
-#[derive(Debug, Drop)]
+/// The last of the parts' prefixes, and the parts' nodes; the leaves that the parts made; the prefixes that are to be
+/// parts, the least last, each with where it leads; and whether each part so far was the least that was to come. Where
+/// one wasn't, the parts alone are kept. In `room` the next part is judged.
+#[derive(Drop)]
 pub struct Held<A: Allocator + Copy = Global> {
     /// The prefixes of the parts, rising.
-    pub prefixes: Vec<Numbers<A>, A>,
+    pub prefixes: GhostLists,
+    /// The last of them.
+    pub last: Vec<u32, A>,
     /// The node of each part.
     pub nodes: Vec<Node<A>, A>,
     /// The leaves that the parts made.
     pub leaves: Vec<Route<A>, A>,
     /// The prefixes that are to be parts, the least last, each with where it leads.
-    pub owed: Vec<Owed<A>, A>,
+    pub owed: Vec<Owed, A>,
     /// Whether each part so far was the least that was to come.
     pub sound: bool,
     /// Room in which the next part is judged.
@@ -64,25 +67,14 @@ pub fn last_place<A: Allocator + Copy>(
     None
 }
 
-/// Takes the least prefix that is to come: the empty one where none is kept.
-fn take_due<A: Allocator + Copy>(alloc: A, owed: &mut Vec<Owed<A>, A>) -> Numbers<A>
-    ensures prefix { result ≡ unwrap_or (last_item (map prefix_owed owed.old.items)) [] }
-    ensures rest { owed.new.items ≡ front owed.old.items }
-    ensures capacity { vec_capacity owed.new ≡ vec_capacity owed.old }
-{
-    match owed.pop() {
-        Some(due) => due.prefix,
-        None => Numbers::new(Vec::new(alloc)),
-    }
-}
-
 impl<A: Allocator + Copy> Held<A> {
     /// Begins with nothing. It takes no memory.
     pub fn new(alloc: A) -> Held<A>
         ensures { holding_of result ≡ nothing_held }
     {
         Held {
-            prefixes: Vec::new(alloc),
+            prefixes: GhostLists::new(),
+            last: Vec::new(alloc),
             nodes: Vec::new(alloc),
             leaves: Vec::new(alloc),
             owed: Vec::new(alloc),
@@ -93,17 +85,15 @@ impl<A: Allocator + Copy> Held<A> {
 
     /// Tells whether a prefix comes behind the last.
     fn comes_behind(&self, prefix: &[u32]) -> bool
-        ensures { result ≡ option_map_or (λ q. numbers_before q prefix.now) (last_item self.now.prefixes.items) true }
+        ensures { result ≡ option_map_or (λ q. numbers_before q prefix.now) (last_prefix (holding_of self.now)) true }
     {
-        match self.prefixes.last() {
-            Some(last) => last.as_slice().cmp(prefix) == Ordering::Less,
-            None => true,
-        }
+        self.nodes.is_empty() || self.last.as_slice().cmp(prefix) == Ordering::Less
     }
 
     /// Tells whether a part comes behind the others: its excluded numbers rise, and its prefix is above the last.
     pub fn is_next(&self, prefix: &[u32], excluded: &[u32]) -> bool
-        requires { length self.now.prefixes.items ≡ length self.now.nodes.items }
+        requires paired { length self.now.prefixes.items ≡ length self.now.nodes.items }
+        requires last { last_item self.now.prefixes.items ≡ last_prefix (holding_of self.now) }
         ensures { result ≡ (rise_strictly excluded.now && comes_behind (parts_in (holding_of self.now)) prefix.now) }
     {
         if !rise(excluded) {
@@ -114,7 +104,7 @@ impl<A: Allocator + Copy> Held<A> {
 
     /// Tells where a prefix leads that is the least to come, of which the first is empty; none for any other.
     pub fn due(&self, plan: &Plan<A>, request: &Request, prefix: &[u32]) -> Option<Lead>
-        requires { AreLeads plan.now.plan request.now self.now.owed.items }
+        requires { IsTrue self.now.sound → AreOwed plan.now.plan request.now self.now.last.items self.now.owed.items }
         ensures due { is_some result ≡ is_due (holding_of self.now) prefix.now }
         ensures lead { IfSome result (IsLead plan.now.plan request.now prefix.now) }
     {
@@ -127,7 +117,7 @@ impl<A: Allocator + Copy> Held<A> {
             }
             return None;
         };
-        if prefix == owed.prefix.as_slice() {
+        if owed.is(self.last.as_slice(), prefix) {
             return Some(owed.lead);
         }
         None
@@ -159,12 +149,12 @@ impl<A: Allocator + Copy> Held<A> {
         judge(alloc, plan, request, prefix, excluded, lead, room)
     }
 
-    /// Makes room for a part and what it leads to.
-    fn reserve(&mut self, leaves: usize, onward: usize) -> Result<(), NoMemory>
+    /// Makes room for a part whose prefix has so many numbers, and for what it leads to.
+    fn reserve(&mut self, numbers: usize, leaves: usize, onward: usize) -> Result<(), NoMemory>
         ensures same { holding_of self.new ≡ holding_of self.old }
-        ensures ok { OnOk result (HasPlaces self.new leaves onward) }
+        ensures ok { OnOk result (HasPlaces self.new numbers leaves onward) }
     {
-        let Ok(()) = self.prefixes.reserve(1) else {
+        let Ok(()) = self.last.reserve(numbers) else {
             return Err(NoMemory);
         };
         let Ok(()) = self.nodes.reserve(1) else {
@@ -179,27 +169,40 @@ impl<A: Allocator + Copy> Held<A> {
         }
     }
 
-    /// Adds the part that was due, and takes in what it leads to. What may be refused comes before the first change.
-    fn answer(
-        &mut self,
-        alloc: A,
-        prefix: &[u32],
-        excluded: Excluded<A>,
-        route: Option<Route<A>>,
-        mut judged: Judged<A>,
-    ) -> Result<(), NoMemory>
-        requires { is_due (holding_of self.old) prefix.now ≡ true }
-        ensures ok { OnOk result (holding_of self.new ≡ held_then (holding_of self.old) prefix.now excluded route (Some judged)) }
-        ensures err { OnErr result (holding_of self.new ≡ holding_of self.old) }
+    /// Puts a part behind the others, for which there is room.
+    fn push(&mut self, prefix: &[u32], excluded: Excluded<A>, route: Option<Route<A>>)
+        requires numbers { length prefix.now ≤ vec_capacity self.old.last }
+        requires node { vec_len self.old.nodes < vec_capacity self.old.nodes }
+        ensures held { holding_of self.new ≡ with_node (holding_of self.old) prefix.now excluded route }
+        ensures leaves { self.new.leaves ≡ self.old.leaves }
+        ensures owed { self.new.owed ≡ self.old.owed }
     {
-        self.reserve(judged.leaves.len(), judged.onward.len())?;
         self.nodes.push_reserved(Node {
             leaf: self.leaves.len(),
             length: prefix.len(),
             excluded,
             route,
         });
-        self.prefixes.push_reserved(take_due(alloc, &mut self.owed));
+        self.prefixes.push(prefix);
+        self.last.clear();
+        let kept = self.last.extend_from_slice(prefix);
+        let Ok(()) = kept else { unreachable!() };
+    }
+
+    /// Adds the part that was due, and takes in what it leads to. What may be refused comes before the first change.
+    fn answer(
+        &mut self,
+        prefix: &[u32],
+        excluded: Excluded<A>,
+        route: Option<Route<A>>,
+        mut judged: Judged<A>,
+    ) -> Result<(), NoMemory>
+        ensures ok { OnOk result (holding_of self.new ≡ held_then (holding_of self.old) prefix.now excluded route (Some judged)) }
+        ensures err { OnErr result (holding_of self.new ≡ holding_of self.old) }
+    {
+        self.reserve(prefix.len(), judged.leaves.len(), judged.onward.len())?;
+        self.push(prefix, excluded, route);
+        self.owed.pop();
         judged.onward.reverse();
         let appended = self.owed.append(&mut judged.onward);
         let Ok(()) = appended else { unreachable!() };
@@ -212,7 +215,6 @@ impl<A: Allocator + Copy> Held<A> {
     /// Adds a part that wasn't due, or isn't good: from now on the parts alone are kept.
     fn add(
         &mut self,
-        alloc: A,
         prefix: &[u32],
         excluded: Excluded<A>,
         route: Option<Route<A>>,
@@ -220,17 +222,8 @@ impl<A: Allocator + Copy> Held<A> {
         ensures ok { OnOk result (holding_of self.new ≡ held_then (holding_of self.old) prefix.now excluded route None) }
         ensures err { OnErr result (holding_of self.new ≡ holding_of self.old) }
     {
-        let Ok(numbers) = Vec::from_slice(alloc, prefix) else {
-            return Err(NoMemory);
-        };
-        self.reserve(0, 0)?;
-        self.nodes.push_reserved(Node {
-            leaf: self.leaves.len(),
-            length: prefix.len(),
-            excluded,
-            route,
-        });
-        self.prefixes.push_reserved(Numbers::new(numbers));
+        self.reserve(prefix.len(), 0, 0)?;
+        self.push(prefix, excluded, route);
         self.sound = false;
         Ok(())
     }
@@ -255,8 +248,8 @@ impl<A: Allocator + Copy> Held<A> {
         let judged = self.judge(alloc, plan, request, prefix, excluded, due)?;
         let excluded = Excluded::of(alloc, excluded)?;
         match judged {
-            Some(judged) => self.answer(alloc, prefix, excluded, route, judged),
-            None => self.add(alloc, prefix, excluded, route),
+            Some(judged) => self.answer(prefix, excluded, route, judged),
+            None => self.add(prefix, excluded, route),
         }
     }
 
@@ -281,7 +274,6 @@ impl<A: Allocator + Copy> Held<A> {
             return Err(NoMemory);
         };
         insert_block(&mut index, 0, 0, count);
-        drop(self.prefixes);
         enqueue_each(alloc, self.nodes.as_slice(), &mut queue.placed)?;
         Ok(Tree {
             nodes: self.nodes,

@@ -3,18 +3,18 @@
 ghost use Rattle.std.specs.Prelude.{◌≡◌, true, ◌∷◌, ◌++◌, [], map, IfOk, IfSome, IfNone};
 ghost use Rattle.sabr_model.specs.Route.{is_path};
 ghost use Rattle.sabr_model.specs.Record.{record_of};
-ghost use Rattle.sabr_frontier.specs.Leading.{AreLeads, IsLead, prefix_owed};
+ghost use Rattle.sabr_frontier.specs.Leading.{AreSteps, IsLead, step_of};
 ghost use Rattle.sabr_frontier.specs.Holding.{AllGoOn, IsJudged, onward_of, routes_of};
 
 use crate::leading::{Lead, Owed};
-use sabr_model::{NoMemory, Numbers, Plan, Request, Route};
+use sabr_model::{NoMemory, Plan, Request, Route};
 use std::alloc::{Allocator, Global};
 
-/// The routes that a prefix makes with its excluded numbers, and those with a number that make no route and go on.
+/// The routes that a prefix makes with its excluded numbers, and its steps over those that make no route and go on.
 #[derive(Debug, Drop)]
 pub struct Judged<A: Allocator + Copy = Global> {
     pub leaves: Vec<Route<A>, A>,
-    pub onward: Vec<Owed<A>, A>,
+    pub onward: Vec<Owed, A>,
 }
 
 /// Gives a prefix with one number more.
@@ -59,14 +59,14 @@ impl<A: Allocator + Copy> Judged<A> {
         requires { IsLead plan.now.plan request.now prefix.now lead }
         ensures path { IfOk result (λ is. is ≡ is_path plan.now.plan request.now (prefix.now ++ number ∷ [])) }
         ensures leaves { IfOk result (λ is. is ≡ true → self.new.leaves.items ≡ self.old.leaves.items ++ map (record_of plan.now.plan request.now) (routes_of plan.now.plan request.now (prefix.now ++ number ∷ []))) }
-        ensures onward { IfOk result (λ is. is ≡ true → map prefix_owed self.new.onward.items ≡ map prefix_owed self.old.onward.items ++ onward_of plan.now.plan request.now (prefix.now ++ number ∷ [])) }
-        ensures leads { IfOk result (λ _. AreLeads plan.now.plan request.now self.old.onward.items → AreLeads plan.now.plan request.now self.new.onward.items) }
+        ensures onward { IfOk result (λ is. is ≡ true → map (step_of prefix.now) self.new.onward.items ≡ map (step_of prefix.now) self.old.onward.items ++ onward_of plan.now.plan request.now (prefix.now ++ number ∷ [])) }
+        ensures steps { IfOk result (λ _. AreSteps plan.now.plan request.now prefix.now self.old.onward.items → AreSteps plan.now.plan request.now prefix.now self.new.onward.items) }
     {
         let Some(lead) = lead.extended(plan, request, prefix, number) else {
             return Ok(false);
         };
-        let numbers = longer(alloc, prefix, number)?;
         if lead.here.node == request.to() {
+            let numbers = longer(alloc, prefix, number)?;
             let route = lead.told.route(numbers, lead.here.at);
             let Ok(()) = self.leaves.push(route) else {
                 return Err(NoMemory);
@@ -74,7 +74,8 @@ impl<A: Allocator + Copy> Judged<A> {
             return Ok(true);
         }
         let owed = Owed {
-            prefix: Numbers::new(numbers),
+            length: prefix.len(),
+            number,
             lead,
         };
         let Ok(()) = self.onward.push(owed) else {

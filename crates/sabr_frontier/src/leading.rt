@@ -1,11 +1,11 @@
 //! Where prefixes lead.
 
-ghost use Rattle.std.specs.Prelude.{◌≡◌, ◌∷◌, ◌++◌, [], IfSome, IfNone, IsTrue};
+ghost use Rattle.std.specs.Prelude.{◌≡◌, ◌≤◌, ◌∷◌, ◌++◌, [], length, IfSome, IfNone, IsTrue, IsFalse};
 ghost use Rattle.sabr_model.specs.Route.{is_path};
-ghost use Rattle.sabr_frontier.specs.Leading.{IsLead};
+ghost use Rattle.sabr_frontier.specs.Leading.{IsLead, prefix_owed};
 
-use sabr_model::{Numbers, Plan, Reached, Request, Told, follow_hop};
-use std::alloc::{Allocator, Global};
+use sabr_model::{Plan, Reached, Request, Told, follow_hop};
+use std::alloc::Allocator;
 
 /// Where a path leads, and what its record tells beside its numbers and its delivery.
 #[derive(Clone, Copy, Debug, PartialEq, Eq)]
@@ -14,11 +14,29 @@ pub struct Lead {
     pub told: Told,
 }
 
-/// A prefix that is to be a part, and where it leads.
-#[derive(Debug, Drop)]
-pub struct Owed<A: Allocator + Copy = Global> {
-    pub prefix: Numbers<A>,
+/// A prefix that is to be a part: it begins as the last part's prefix.
+#[derive(Clone, Copy, Debug, PartialEq, Eq)]
+pub struct Owed {
+    /// How many numbers of the last part's prefix it begins with.
+    pub length: usize,
+    /// The one number behind them.
+    pub number: u32,
+    /// Where it leads.
     pub lead: Lead,
+}
+
+impl Owed {
+    /// Tells whether it is this prefix, behind a part of the last prefix.
+    pub fn is(&self, last: &[u32], prefix: &[u32]) -> bool
+        requires { self.now.length ≤ length last.now }
+        ensures same { IsTrue result → prefix.now ≡ prefix_owed last.now self.now }
+        ensures other { IsFalse result → prefix.now ≡ prefix_owed last.now self.now → ⊥ }
+    {
+        let Some((number, front)) = prefix.split_last() else {
+            return false;
+        };
+        *number == self.number && front == &last[..self.length]
+    }
 }
 
 impl Lead {

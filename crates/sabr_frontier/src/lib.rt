@@ -8,6 +8,7 @@ mod divide;
 mod excluded;
 mod finder;
 mod gather;
+mod ghost_lists;
 mod held;
 mod judge;
 mod laws;

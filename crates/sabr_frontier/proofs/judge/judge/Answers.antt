@@ -1,13 +1,13 @@
 use Rattle.std.proofs.Common.{◌≡◌, ℕ, List, [], ◌∷◌, ◌++◌, take, get_or, true, map, ap, sym, subst, ◌∙◌, arith, true≢false}
 use Rattle.std.proofs.lemmas.List.{take_all}
 use Rattle.sabr_model.specs.Route.{is_path}
-use Rattle.sabr_frontier.specs.Leading.{AreLeads, prefix_owed}
+use Rattle.sabr_frontier.specs.Leading.{AreSteps, step_of}
 use Rattle.sabr_frontier.specs.Holding.{AllGoOn, IsJudged}
 use Rattle.sabr_frontier.proofs.Judges.{judged_more, number_in, paths_more}
 use Rattle.sabr_frontier.proofs.judge.judge.Goals as goal
 
 pub loop-number-init : goal.loop-number-init
-loop-number-init g c = record { so_far = record { leaves_are = c.clear.ensures.items; onward_are = ap (map prefix_owed) c.clear-2.ensures.items; leads = subst (AreLeads c.args.plan.now.plan c.args.request.now) (sym c.clear-2.ensures.items) (λ k d l. absurd (omega (arith, l))) }; paths = λ x h. absurd (true≢false (sym h)) }
+loop-number-init g c = record { so_far = record { leaves_are = c.clear.ensures.items; onward_are = ap (map (step_of c.args.prefix.now)) c.clear-2.ensures.items; steps = subst (AreSteps c.args.plan.now.plan c.args.request.now c.args.prefix.now) (sym c.clear-2.ensures.items) (λ o m. absurd m) }; paths = λ x h. absurd (true≢false (sym h)) }
 
 pub returns-then-not-branch-clause-none : goal.returns-then-not-branch-clause-none
 returns-then-not-branch-clause-none g c all =
@@ -26,7 +26,7 @@ loop-number-preserved g c =
     let i = c.loop-number.number-index in
     let lt = c.loop-number-test.true in
     record {
-      so_far = judged_more p r q X i lt c.loop-number.judged c.put.new.self c.loop-number.invariant.so_far (c.in_ok-put.ensures.leaves c.if-not-branch.false) (c.in_ok-put.ensures.onward c.if-not-branch.false) c.in_ok-put.ensures.leads;
+      so_far = judged_more p r q X i lt c.loop-number.judged c.put.new.self c.loop-number.invariant.so_far (c.in_ok-put.ensures.leaves c.if-not-branch.false) (c.in_ok-put.ensures.onward c.if-not-branch.false) c.in_ok-put.ensures.steps;
       paths = paths_more p r q X i lt c.loop-number.invariant.paths (sym c.in_ok-put.ensures.path ∙ c.if-not-branch.false);
     }
 

@@ -1,12 +1,12 @@
-use Rattle.std.proofs.Common.{◌∷◌, ◌++◌, [], List, ℕ, map, sym, ap, subst, ◌∙◌, true≢false}
+use Rattle.std.proofs.Common.{◌≡◌, ◌∷◌, ◌++◌, [], List, ℕ, map, length, refl, sym, ap, subst, ◌∙◌, inl, inr, true≢false}
 use Rattle.std.proofs.lemmas.Bool.{false_from_ne_true}
-use Rattle.std.proofs.lemmas.List.Elements.{All-push}
 use Rattle.sabr_model.specs.Record.{record_of}
 use Rattle.sabr_model.specs.Route.{is_path}
 use Rattle.sabr_frontier.specs.declared.leading.Owed.{Owed}
-use Rattle.sabr_frontier.specs.Leading.{AreLeads, IsLead, prefix_owed}
+use Rattle.sabr_frontier.specs.Leading.{AreSteps, IsLead, step_of}
 use Rattle.sabr_frontier.proofs.Division.{map-append}
 use Rattle.sabr_frontier.proofs.Fronts.{nil_right}
+use Rattle.sabr_frontier.proofs.Members.{Member-append_cases}
 use Rattle.sabr_frontier.proofs.Judges.{leaf_there, no_leaf, none_onward, onward_there}
 use Rattle.sabr_frontier.proofs.judge.Judged.put.Goals as goal
 
@@ -17,7 +17,7 @@ returns-in_default g c =
       path = sym (false_from_ne_true (is_path c.args.plan.now.plan c.args.request.now s) c.in_default.ensures.none);
       leaves = λ h. absurd (true≢false (sym h));
       onward = λ h. absurd (true≢false (sym h));
-      leads = λ h. h;
+      steps = λ h. h;
     }
 
 pub returns-then-lead-to-clause-leaves : goal.returns-then-lead-to-clause-leaves
@@ -31,7 +31,7 @@ returns-then-lead-to-clause-leaves g c _ =
 
 pub returns-then-lead-to-clause-onward : goal.returns-then-lead-to-clause-onward
 returns-then-lead-to-clause-onward g c _ =
-    let old : List (List ℕ) = map prefix_owed c.args.self.now.onward.items in
+    let old : List (List ℕ) = map (step_of c.args.prefix.now) c.args.self.now.onward.items in
     let none = none_onward c.args.plan.now.plan c.args.request.now c.args.prefix.now c.args.number c.in-Some.lead c.in-Some.ensures.lead (c.if-lead-to.true ∙ c.to.ensures.value) in
     sym (ap (λ z. old ++ z) none ∙ nil_right old)
 
@@ -45,16 +45,24 @@ returns-clause-leaves g c _ =
 
 pub returns-clause-onward : goal.returns-clause-onward
 returns-clause-onward g c _ =
+    let q = c.args.prefix.now in
     let old = c.args.self.now.onward.items in
-    let owed : Owed g.row.A.Denot = record { prefix = c.new.result; lead = c.in-Some.lead } in
-    let there = onward_there c.args.plan.now.plan c.args.request.now c.args.prefix.now c.args.number c.in-Some.lead c.in-Some.ensures.lead (λ e. c.if-lead-to.false (e ∙ sym c.to.ensures.value)) in
-    ap (map prefix_owed) c.in-Ok-push.ensures.items ∙ map-append prefix_owed old (owed ∷ []) ∙ ap (λ z. map prefix_owed old ++ z ∷ []) (c.new.ensures ∙ c.in_ok-numbers.ensures)
-    ∙ sym (ap (λ z. map prefix_owed old ++ z) there)
+    let owed : Owed = record { length = length q; number = c.args.number; lead = c.in-Some.lead } in
+    let there = onward_there c.args.plan.now.plan c.args.request.now q c.args.number c.in-Some.lead c.in-Some.ensures.lead (λ e. c.if-lead-to.false (e ∙ sym c.to.ensures.value)) in
+    ap (map (step_of q)) c.in-Ok-push.ensures.items ∙ map-append (step_of q) old (owed ∷ []) ∙ sym (ap (λ z. map (step_of q) old ++ z) there)
 
-pub returns-clause-leads : goal.returns-clause-leads
-returns-clause-leads g c known =
+pub returns-clause-steps : goal.returns-clause-steps
+returns-clause-steps g c known =
     let p = c.args.plan.now.plan in
     let r = c.args.request.now in
-    let owed : Owed g.row.A.Denot = record { prefix = c.new.result; lead = c.in-Some.lead } in
-    let leads : IsLead p r c.new.result c.in-Some.lead = subst (λ q. IsLead p r q c.in-Some.lead) (sym (c.new.ensures ∙ c.in_ok-numbers.ensures)) c.in-Some.ensures.lead in
-    subst (AreLeads p r) (sym c.in-Ok-push.ensures.items) (All-push (λ (o : Owed g.row.A.Denot). IsLead p r o.prefix o.lead) c.args.self.now.onward.items owed known leads)
+    let q = c.args.prefix.now in
+    let old = c.args.self.now.onward.items in
+    let owed : Owed = record { length = length q; number = c.args.number; lead = c.in-Some.lead } in
+    subst (AreSteps p r q) (sym c.in-Ok-push.ensures.items)
+    (λ o m. elim (Member-append_cases o old (owed ∷ []) m) [
+      | inl k ↦ known o k
+      | inr k ↦ elim k [
+        | inl same ↦ subst (λ (z : Owed). (z.length ≡ length q) × IsLead p r (step_of q z) z.lead) (sym same) (refl, c.in-Some.ensures.lead)
+        | inr z ↦ absurd z
+      ]
+    ])
