@@ -2,7 +2,7 @@
 """Times session texts: the writing, reading and verifying of them, beside the listing of their routes.
 
     sessions.py [PROGRAM] --plan FILE [--plan FILE ..] [--questions FILE] [--counts N,N,..] [--repeats N]
-                [--most-seconds S] [--json FILE]
+                [--rounds N] [--most-seconds S] [--json FILE]
 
 PROGRAM is crates/session_bench/out/session_bench where it isn't given. The nodes and the time are those of the plan's
 line `# ask FROM TO TIME`, of --from, --to and --at, or of a file of questions: a list in JSON of objects with the words
@@ -68,6 +68,13 @@ def figures_of(path, ends, count, text, given):
     return {"routes": routes, "bytes": os.path.getsize(text), **times, **memory}
 
 
+def better_of(first, again):
+    """The lesser figures of two rounds; how a run ended where one did that has none."""
+    if isinstance(first, str) or isinstance(again, str):
+        return again if isinstance(again, str) else first
+    return {what: figure if figure is None else min(figure, again[what]) for what, figure in first.items()}
+
+
 def cells(told):
     if isinstance(told, str):
         return [told] + ["-"] * 8
@@ -82,6 +89,7 @@ def read_words():
     words.add_argument("program", nargs="?", default=BUILT)
     listing.add_questions(words)
     words.add_argument("--counts", type=plans.numbers, default=COUNTS, help="joined by commas")
+    words.add_argument("--rounds", type=int, default=1, help="so often over all plans, where the machine's speed goes up and down")
     measure.add_run_words(words)
     return words.parse_args()
 
@@ -93,14 +101,17 @@ def main():
     machine = measure.Machine(given.repeats)
     heads = ["routes", "bytes", "write ns/byte", "read ns/byte", "listing ms", "verify ms", "MB listed", "MB read", "MB verified"]
     widths = measure.print_head(["plan            ", "count", *heads])
-    rows = []
+    asked = [(path, ends, count) for path, ends in listing.asked(given) for count in given.counts]
     with tempfile.TemporaryDirectory() as folder:
-        for path, ends in listing.asked(given):
-            for count in given.counts:
-                told = figures_of(path, ends, count, os.path.join(folder, "session"), given)
-                name = os.path.splitext(os.path.basename(path))[0]
-                measure.print_row([name, count, *cells(told)], widths)
-                rows.append({"plan": name, "count": count, "told": told})
+        text = os.path.join(folder, "session")
+        told = [figures_of(*one, text, given) for one in asked]
+        for _ in range(given.rounds - 1):
+            told = [better_of(figures, figures_of(*one, text, given)) for figures, one in zip(told, asked)]
+    rows = []
+    for (path, _, count), figures in zip(asked, told):
+        name = os.path.splitext(os.path.basename(path))[0]
+        measure.print_row([name, count, *cells(figures)], widths)
+        rows.append({"plan": name, "count": count, "told": figures})
     measure.end(given, machine, rows)
     sys.exit(1 if any(row["told"] == "failed" for row in rows) else 0)
 
