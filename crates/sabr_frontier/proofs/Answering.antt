@@ -1,6 +1,6 @@
 -- What is held stays in order and answered where a part comes behind the others, and is paid exactly where the parts are closed.
 use Rattle.std.proofs.Common.{◌≡◌, ℕ, zero, suc, ◌+◌, ◌-◌, ◌<◌, Bool, true, false, not, ◌&&◌, nat_lt, List, [], ◌∷◌, ◌++◌, map, flat_map, reverse, if◌then◌else◌, ◌≤◌, length, take, drop, refl, sym, ap, subst, ◌∙◌, ◌⊎◌, inl, inr, arith, true≢false, Option, Some, None, length-append, length-take-le, take-append-drop}
-use Rattle.std.specs.Prelude.{◌==◌, slice_get, unwrap_or}
+use Rattle.std.specs.Prelude.{◌==◌, slice_get}
 use Rattle.std.specs.Option.{option_map, option_map_or}
 use Rattle.std.specs.Ordering.{nat_cmp, is_lt, is_eq}
 use Rattle.std.specs.declared.cmp.Ordering.TheVariants.{Less}

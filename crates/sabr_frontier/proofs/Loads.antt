@@ -30,7 +30,7 @@ use Rattle.sabr_frontier.specs.Holding.{Holding, AreLent, IsAnswered, IsGiven, I
 use Rattle.sabr_frontier.proofs.Rising.{length-put_in, true_or_false}
 use Rattle.sabr_frontier.proofs.Beginnings.{number_after-snoc, number_after-split, number_after-of_longer}
 use Rattle.sabr_frontier.proofs.Closed.{In_Member, Member_In, set_of_has, has_set_of, last_same}
-use Rattle.sabr_frontier.proofs.Members.{Member-map, Member-map_cases, Member-filter_cases, Member-flat_map_cases, Member-append_cases, Below-member, Less-apart}
+use Rattle.sabr_frontier.proofs.Members.{Member-map, Member-map_cases, Member-filter_cases, Member-flat_map_cases, Below-member, Less-apart}
 use Rattle.sabr_frontier.proofs.Division.{map-append}
 use Rattle.sabr_frontier.proofs.Leaves.{Pairs}
 use Rattle.sabr_frontier.proofs.Nodes.{get_within, get_at_end, ids_cases, ids_has}
