@@ -2,4 +2,3 @@
 pub mod TextsInTurn
 pub mod SpelledTimes
 pub mod Explained
-pub mod HopLine

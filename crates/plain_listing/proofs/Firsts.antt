@@ -9,6 +9,7 @@ use Rattle.std.specs.declared.cmp.Ordering.{Ordering}
 use Rattle.std.specs.declared.cmp.Ordering.TheVariants.{Less, Equal, Greater}
 use Rattle.sabr_model.specs.Order.{put_in}
 use Rattle.sabr_model.proofs.Members.{IsIn, all_in}
+use Rattle.sabr_model.proofs.Deletions.{all_filter}
 
 -- the first k of the first k
 pub take_again : {X : Type 0} (k : ℕ) (xs : List X) → take k (take k xs) ≡ take k xs
@@ -73,15 +74,6 @@ module _ {X : Type 0} where
   filter_whole test [] all = refl
   filter_whole test (x ∷ xs) all = ap (λ b. cond b (x ∷ filter test xs) (filter test xs)) all.0 ∙ ap (λ ys. x ∷ ys) (filter_whole test xs all.1)
 
-  -- what holds of all elements holds of those let through
-  all_filtered : (P : X → Type 0) (test : X → Bool) (xs : List X) → AllByRecursion P xs → AllByRecursion P (filter test xs)
-  all_filtered P test [] all = tt
-  all_filtered P test (x ∷ xs) all =
-      elim (test x) as (λ b. AllByRecursion P (cond b (x ∷ filter test xs) (filter test xs))) [
-        | true ↦ (all.0, all_filtered P test xs all.1)
-        | false ↦ all_filtered P test xs all.1
-      ]
-
   -- two facts of each element give a third
   all_both : (P Q R : X → Type 0) → ((x : X) → P x → Q x → R x) → (xs : List X) → AllByRecursion P xs → AllByRecursion Q xs → AllByRecursion R xs
   all_both P Q R gives [] a b = tt
@@ -120,7 +112,7 @@ module _ {X : Type 0} (cmp : X → X → Ordering) (total : IsTotalOrder cmp) (o
       let is_y : other y ≡ true = ap other (sym same) ∙ is_other in
       let not_y : one y ≡ false = ap one (sym same) ∙ not_one in
       let agree : filter one ys ≡ filter other ys = filter_agrees one other ys (all_both (λ x. cmp y x ≡ Less) (AgreeBut one other w) (λ x. one x ≡ other x) (agree_behind y (sym same)) ys sorted.0 all.1) in
-      let below : AllByRecursion (λ z. cmp w z ≡ Less) (filter one ys) = all_filtered (λ z. cmp w z ≡ Less) one ys (subst (λ v. AllByRecursion (λ z. cmp v z ≡ Less) ys) (sym same) sorted.0) in
+      let below : AllByRecursion (λ z. cmp w z ≡ Less) (filter one ys) = all_filter (λ z. cmp w z ≡ Less) one ys (subst (λ v. AllByRecursion (λ z. cmp v z ≡ Less) ys) (sym same) sorted.0) in
       ap (λ b. cond b (y ∷ filter other ys) (filter other ys)) is_y
       ∙ ap (λ zs. y ∷ zs) (sym agree)
       ∙ ap (λ z. z ∷ filter one ys) (sym same)

@@ -1,29 +1,23 @@
 -- Which hops a way may take.
-use Rattle.std.proofs.Common.{◌≡◌, ℕ, ◌<◌, ◌≤◌, true, false, not, ltb, eqb, ◌&&◌, ◌||◌, List, [], ◌∷◌, ◌++◌, length, refl, sym, ap, ◌∙◌, arith}
+use Rattle.std.proofs.Common.{◌≡◌, ℕ, ◌<◌, true, false, not, ltb, eqb, ◌&&◌, ◌||◌, List, [], ◌∷◌, ◌++◌, length, refl, sym, ap, ◌∙◌, arith}
 use Rattle.std.specs.Prelude.{unwrap_or}
 use Rattle.std.proofs.lemmas.List.{length-map}
 use Rattle.std.proofs.lemmas.Bool.{and_parts, and_from, lt-ltb, ltb-true, not-true, not_from_false, false_from_ne_true, both_ways}
 use Rattle.std.specs.declared.option.Option.TheVariants.{Some, None}
 use Rattle.sabr_model.specs.declared.contact.Contact.{Contact}
-use Rattle.sabr_model.specs.Plan.{ContactPlan, IsPlan, IsWindow, contact_named, has, last_time}
+use Rattle.sabr_model.specs.Plan.{ContactPlan, contact_named, has}
 use Rattle.sabr_model.specs.Arrival.{RouteRequest, arrival, arrival_after}
 use Rattle.sabr_model.specs.Route.{chain_end, receivers, is_path}
-use Rattle.sabr_model.proofs.Members.{all_in}
 use Rattle.sabr_model.proofs.Paths.{IsHop, path_facts, path_push, hop_facts, value_of}
 use Rattle.sabr_model.specs.declared.following.Reached.{Reached}
 use Rattle.plain_listing.specs.declared.hop.Hop.{Hop}
 use Rattle.plain_listing.specs.Way.{IsWay, numbers_of, nodes_of, last_stop, hop_of, is_passed, may_visit}
 use Rattle.plain_listing.proofs.Ways.{last_stop_is, nodes_are, hop_is}
-use Rattle.plain_listing.proofs.Sent.{named_is}
 
 -- the nodes that are passed
 passed_is : (hops : List Hop) (node : ℕ) → is_passed hops node ≡ has node (nodes_of hops)
 passed_is [] node = refl
 passed_is (h ∷ hops) node = ap (λ b. eqb node h.stop.node || b) (passed_is hops node)
-
--- a standing contact ends within the years of plans
-pub ends_in_time : (p : ContactPlan) (n : ℕ) (c : Contact) → IsPlan p → contact_named p n ≡ Some c → c.end ≤ last_time
-ends_in_time p n c good e = (all_in (λ (d : Contact). IsWindow d.start d.end) p.contacts good.contact_windows c (named_is p.contacts n c e).0).1
 
 module _ (p : ContactPlan) (r : RouteRequest) (hops : List Hop) (way : IsWay p r hops) where
   -- a way leads to the node of its last stop

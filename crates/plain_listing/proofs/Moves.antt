@@ -1,5 +1,5 @@
 -- What a walk has kept, as it moves on.
-use Rattle.std.proofs.Common.{◌≡◌, ℕ, suc, ◌+◌, ◌<◌, ◌≤◌, true, false, List, [], ◌∷◌, ◌++◌, length, map, take, sym, ap, subst, ◌∙◌, inl, inr, ⊎_elim, arith, append_assoc}
+use Rattle.std.proofs.Common.{◌≡◌, ℕ, suc, ◌+◌, ◌<◌, ◌≤◌, true, false, List, [], ◌∷◌, ◌++◌, map, take, sym, ap, subst, ◌∙◌, inl, inr, ⊎_elim, arith, append_assoc}
 use Rattle.std.specs.Prelude.{IsTrue, slice_get, unwrap_or}
 use Rattle.std.specs.Option.{option_and_then}
 use Rattle.std.specs.declared.option.Option.TheVariants.{Some}
@@ -7,7 +7,7 @@ use Rattle.std.specs.declared.cmp.Ordering.TheVariants.{Less}
 use Rattle.std.specs.List.{AllByRecursion}
 use Rattle.std.specs.List.Sorted.{IsStrictlySortedBy}
 use Rattle.std.proofs.lemmas.Bool.{both_ways}
-use Rattle.std.proofs.lemmas.List.{length-take, take_all, take-map}
+use Rattle.std.proofs.lemmas.List.{take_all, take-map}
 use Rattle.std.proofs.lemmas.List.Kept.{IsStrictlySortedBy-filter}
 use Rattle.sabr_model.specs.Order.{put_in, numbers_before}
 use Rattle.sabr_model.specs.Plan.{ContactPlan, IsPlan}
@@ -41,10 +41,6 @@ abbrev pub IsOver : ContactPlan → RouteRequest → List ℕ → ℕ → Type 0
 IsOver p r s low = (k : ℕ) (u : List ℕ) → IsTrue (is_route p r (s ++ k ∷ u)) → low ≤ k → ⊥
 
 module _ (p : ContactPlan) (r : RouteRequest) (good : IsPlan p) where
-  -- the listing has routes alone
-  all_routes : AllByRecursion (λ s. IsTrue (is_route p r s)) (routes p r)
-  all_routes = all_from_in (λ s. IsTrue (is_route p r s)) (routes p r) (λ s i. member_is_route p r s good i)
-
   -- their keys rise
   rising_routes : IsStrictlySortedBy (by_key p r) (routes p r)
   rising_routes = (routes_are_listed p r good).rising
@@ -59,10 +55,6 @@ module _ (p : ContactPlan) (r : RouteRequest) (good : IsPlan p) where
   same_before one other same = filter_agrees (λ s. numbers_before s one) (λ s. numbers_before s other) (routes p r) (all_weaker (λ s. numbers_before s one ≡ numbers_before s other) same)
 
   -- ---- what is kept is in order, and no more than the limit
-
-  -- no more than the limit is kept
-  pub kept_within : (limit : ℕ) (place : List ℕ) → length (first_before p r limit place) ≤ limit
-  kept_within limit place = omega (arith, length-take limit (map (record_of p r) (routes_before p r place)))
 
   pub kept_rises : (limit : ℕ) (place : List ℕ) → IsStrictlySortedBy by_record (first_before p r limit place)
   unfolding routes_before

@@ -1,14 +1,15 @@
 -- The numbers that a node sends, and the next of them.
-use Rattle.std.proofs.Common.{◌≡◌, ℕ, ◌<◌, ◌≤◌, true, false, cond, ltb, leb, eqb, List, [], ◌∷◌, map, refl, sym, ap, subst, ◌∙◌, inl, inr, ⊎_elim, arith}
+use Rattle.std.proofs.Common.{◌≡◌, ℕ, ◌<◌, ◌≤◌, true, false, cond, ltb, leb, eqb, List, [], ◌∷◌, map, refl, sym, subst, inl, inr, ⊎_elim, arith}
 use Rattle.std.specs.Prelude.{Bool}
 use Rattle.std.specs.List.{filter, find}
-use Rattle.std.proofs.lemmas.Bool.{and_parts, and_from, ltb-true, lt-ltb, leb-true, le-leb, eqb-true, eq-eqb, both_ways, cases_lt}
+use Rattle.std.proofs.lemmas.Bool.{and_parts, and_from, ltb-true, lt-ltb, leb-true, le-leb, eq-eqb, both_ways, cases_lt}
 use Rattle.std.specs.declared.option.Option.{Option}
 use Rattle.std.specs.declared.option.Option.TheVariants.{Some, None}
 use Rattle.sabr_model.specs.declared.contact.Contact.{Contact}
 use Rattle.sabr_model.specs.Plan.{ContactPlan, IsPlan, contact_named, rises_above}
 use Rattle.sabr_model.specs.Table.{sent_by}
 use Rattle.sabr_model.proofs.Members.{IsIn, in_map, map_in, in_filter, filter_in, all_in}
+use Rattle.sabr_model.proofs.Listed.{named_is}
 
 -- ---- rising numbers
 
@@ -89,15 +90,6 @@ next_some bound low (x ∷ xs) n rises e =
     ] refl e
 
 -- ---- contacts
-
--- the contact of a number is a standing contact of that number
-pub named_is : (cs : List Contact) (n : ℕ) (c : Contact) → find (λ d. eqb d.number n) cs ≡ Some c → IsIn c cs × (c.number ≡ n)
-named_is [] n c e = absurd cc
-named_is (d ∷ cs) n c e =
-    elim (eqb d.number n) as (λ b. eqb d.number n ≡ b → cond b (Some d) (find (λ f. eqb f.number n) cs) ≡ Some c → IsIn c (d ∷ cs) × (c.number ≡ n)) [
-      | true ↦ λ w g. let same : d ≡ c = cc in (inl (sym same), ap (λ (x : Contact). x.number) (sym same) ∙ eqb-true d.number n w)
-      | false ↦ λ w g. let m = named_is cs n c g in (inr m.0, m.1)
-    ] refl e
 
 -- a contact's number is among those that its sender sends
 pub is_sent : (p : ContactPlan) (n : ℕ) (c : Contact) → contact_named p n ≡ Some c → IsIn n (sent_by p.contacts c.from)

@@ -24,7 +24,7 @@ use Rattle.plain_listing.proofs.Sent.{next_from, next_none, next_some, sent_rise
 use Rattle.plain_listing.proofs.Ways.{way_push, way_pop, numbers_push, record_is}
 use Rattle.plain_listing.proofs.Hops.{way_end}
 use Rattle.plain_listing.proofs.Fewer.{fewer_past, fewer_into, fewer_back}
-use Rattle.plain_listing.proofs.Moves.{IsNext, IsOver, kept_within, kept_rises, begins, ends, skips, finds, prunes, enters, returns}
+use Rattle.plain_listing.proofs.Moves.{IsNext, IsOver, kept_rises, begins, ends, skips, finds, prunes, enters, returns}
 
 -- the last of the first elements of a mapped list
 mapped_at : {X Y : Type 0} (f : X → Y) (k : ℕ) (xs : List X) (y : Y) → slice_get (take (suc k) (map f xs)) k ≡ Some y → (x : X) × (slice_get xs k ≡ Some x) × (y ≡ f x)
@@ -83,10 +83,6 @@ module _ (p : ContactPlan) (r : RouteRequest) (good : IsPlan p) where
   walk_begins limit = record { way = record { told = refl; path = empty_is_path p r }; least = omega arith; first = sym (begins p r good limit) }
 
   module _ (limit : ℕ) (hops : List Hop) (low : ℕ) (kept : List RouteRecord) (walk : IsWalk p r limit hops low kept) where
-    -- no more than the limit is kept
-    pub walk_within : length kept ≤ limit
-    walk_within = subst (λ ks. length ks ≤ limit) (sym walk.first) (kept_within p r good limit (numbers_of hops ++ low ∷ []))
-
     -- what is kept is in order
     pub walk_rises : IsStrictlySortedBy by_record kept
     walk_rises = subst (IsStrictlySortedBy by_record) (sym walk.first) (kept_rises p r good limit (numbers_of hops ++ low ∷ []))

@@ -29,16 +29,17 @@ use Rattle.sabr_frontier.specs.Loading.{comes_behind, may_carry, rise_strictly}
 use Rattle.sabr_frontier.specs.Shape.{numbers_of}
 use Rattle.sabr_frontier.specs.Undo.{last_item, front}
 use Rattle.sabr_frontier.specs.Holding.{Holding, AreLent, IsAnswered, IsHeld, IsJudged, IsVerdict, held_then, is_due, is_least, is_paid, node_for, nothing_held, owed_in, owing, pairs_in, part_for, parts_in, parts_of}
-use Rattle.sabr_frontier.proofs.Rising.{true_or_false, Below-lower, is_equal}
-use Rattle.sabr_frontier.proofs.Beginnings.{lists_exact}
+use Rattle.sabr_frontier.proofs.Rising.{true_or_false, Below-lower}
 use Rattle.sabr_frontier.specs.Queue.{InPairs}
 use Rattle.sabr_frontier.proofs.Members.{Member-append_left, Member-append_right, Member-append_cases, Below-member}
 use Rattle.sabr_frontier.proofs.Division.{map-append}
 use Rattle.sabr_frontier.proofs.Owed.{Owes-push, Owes-front, Owes-one, owes_closed, closed_owes}
 use Rattle.sabr_frontier.proofs.Listed.{goes_on_within}
-use Rattle.sabr_frontier.proofs.Nodes.{last_split, some_last}
+use Rattle.sabr_frontier.proofs.Nodes.{last_split}
 use Rattle.sabr_frontier.proofs.Orders.{less_from_test}
 use Rattle.sabr_frontier.proofs.Paths.{prefix_no_route}
+use Rattle.sabr_frontier.proofs.Merging.{no_last}
+use Rattle.sabr_model.proofs.Apart.{same_numbers_tell}
 
 -- ---- order
 
@@ -71,13 +72,6 @@ rises_more (y ∷ F) z x h l = (
   rises_more F z x h.1 l,
 )
 
-none_last : {X : Type 0} (xs : List X) → last_item xs ≡ None → xs ≡ []
-none_last [] h = refl
-none_last (x ∷ xs) h = let w = some_last (x ∷ xs) (omega arith) in absurd (let e : Some w.0 ≡ None = sym w.1 ∙ h in cc)
-
-key : List ℕ × List ℕ → List ℕ
-key e = e.0
-
 order_more : (parts : List PartState) (t : PartState) → InOrder (map pair_of parts) → rise_strictly t.excluded ≡ true → comes_behind parts t.prefix ≡ true → InOrder (map pair_of parts ++ pair_of t ∷ [])
 order_more parts t h strictly behind = record {
   by_prefix = subst (Rises by_numbers) (sym (map-append (λ (e : List ℕ × List ℕ). e.0) (map pair_of parts) (pair_of t ∷ []))) rising;
@@ -96,7 +90,7 @@ order_more parts t h strictly behind = record {
 
     rising : Rises by_numbers (keys parts ++ t.prefix ∷ [])
     rising = elim (last_item parts) as (λ o. last_item parts ≡ o → option_map_or (λ (z : PartState). numbers_before z.prefix t.prefix) o true ≡ true → Rises by_numbers (keys parts ++ t.prefix ∷ [])) [
-      | None ↦ λ e _. subst (λ z. Rises by_numbers (keys z ++ t.prefix ∷ [])) (sym (none_last parts e)) (tt, tt)
+      | None ↦ λ e _. subst (λ z. Rises by_numbers (keys z ++ t.prefix ∷ [])) (sym (no_last parts e)) (tt, tt)
       | Some z ↦ λ e k.
           let split = last_split parts z e in
           let same : keys parts ≡ keys (front parts) ++ z.prefix ∷ [] = ap keys split ∙ keys_more (front parts) z in
@@ -159,9 +153,6 @@ test_zero n h = elim (zero_or_more n) [ inl e ↦ e | inr l ↦ absurd (true≢f
 test_more : (n : ℕ) → (n == 0) ≡ false → 0 < n
 test_more n h = elim (zero_or_more n) [ inl e ↦ absurd (true≢false (sym (zero_test n e) ∙ h)) | inr l ↦ l ]
 
-same_from_test : (q o : List ℕ) → same_numbers q o ≡ true → q ≡ o
-same_from_test q o h = lists_exact q o (is_equal (by_numbers q o) h)
-
 same_itself : (q : List ℕ) → same_numbers q q ≡ true
 same_itself q = ap is_eq (Rattle.std.proofs.lemmas.Cmp.tied_itself nat_list_cmp_total q)
 
@@ -179,7 +170,7 @@ due_first h q paired first due = elim (zero_or_more (length h.nodes)) [
       let some = some_part h paired l in
       let last : owed_in h ≡ front (owed_in h) ++ q ∷ [] = elim (last_item (owed_in h)) as (λ o. last_item (owed_in h) ≡ o → option_map_or (same_numbers q) o (length h.nodes == 0 && length q == 0) ≡ true → owed_in h ≡ front (owed_in h) ++ q ∷ []) [
         | None ↦ λ _ k. absurd (true≢false (sym (and_parts (length h.nodes == 0) (length q == 0) k).0 ∙ more_test (length h.nodes) l))
-        | Some o ↦ λ e k. last_split (owed_in h) o e ∙ ap (λ z. front (owed_in h) ++ z ∷ []) (sym (same_from_test q o k))
+        | Some o ↦ λ e k. last_split (owed_in h) o e ∙ ap (λ z. front (owed_in h) ++ z ∷ []) (sym (same_numbers_tell q o k))
       ] refl due in
       ap (λ z. owing z (owed_in h)) some.2 ∙ ap reverse last ∙ reverse-append (front (owed_in h)) (q ∷ [])
 ]
@@ -218,7 +209,7 @@ module _ {A : Type 0} (h : Holding A) (q : List ℕ) (o : Owed) (last : last_ite
     same_is_due same = (λ i. sound i && least_is i) ∙ ap (same_numbers q) (sym same) ∙ same_itself q
 
     pub other_is_not_due : (q ≡ prefix_owed h.last o → ⊥) → is_due h q ≡ false
-    other_is_not_due other = (λ i. sound i && least_is i) ∙ false_from_ne_true (same_numbers q (prefix_owed h.last o)) (λ k. other (same_from_test q (prefix_owed h.last o) k))
+    other_is_not_due other = (λ i. sound i && least_is i) ∙ false_from_ne_true (same_numbers q (prefix_owed h.last o)) (λ k. other (same_numbers_tell q (prefix_owed h.last o) k))
 
 map-front : {X Y : Type 0} (f : X → Y) (xs : List X) → map f (front xs) ≡ front (map f xs)
 map-front f xs = sym (ap (λ n. take (n - 1) (map f xs)) (length-map xs f) ∙ take-map f (length xs - 1) xs)
@@ -268,9 +259,9 @@ module _ {A : Type 0} (p : ContactPlan) (r : RouteRequest) (h : Holding A) (q : 
   -- the others begin with numbers that the least begins with
   stay : Stay h.last q (front h.owed)
   stay = elim (last_item h.owed) as (λ z. last_item h.owed ≡ z → Stay h.last q (front h.owed)) [
-    | None ↦ λ e. subst (λ os. Stay h.last q (front os)) (sym (none_last h.owed e)) (record { same = λ o m. absurd m; within = λ o m. absurd m; nested = tt })
+    | None ↦ λ e. subst (λ os. Stay h.last q (front os)) (sym (no_last h.owed e)) (record { same = λ o m. absurd m; within = λ o m. absurd m; nested = tt })
     | Some o ↦ λ e.
-        let is : q ≡ take o.length h.last ++ o.number ∷ [] = same_from_test q (prefix_owed h.last o) (sym (least_is h q o e) ∙ due) in
+        let is : q ≡ take o.length h.last ++ o.number ∷ [] = same_numbers_tell q (prefix_owed h.last o) (sym (least_is h q o e) ∙ due) in
         let all : h.owed ≡ front h.owed ++ o ∷ [] = last_split h.owed o e in
         let w = pairs_of_last (λ (a b : Owed). a.length ≤ b.length) (front h.owed) o (subst (InPairs (λ (a b : Owed). a.length ≤ b.length)) all owed.nested) in
         let most : o.length ≤ length h.last = owed.within o (is_member_last h.owed o e) in

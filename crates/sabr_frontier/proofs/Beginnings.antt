@@ -13,10 +13,6 @@ lists_exact = slice_cmp-IsAntisymmetric nat_cmp-IsAntisymmetric
 pub numbers_exact : IsExact nat_cmp
 numbers_exact = nat_cmp-IsAntisymmetric
 
--- either the heads are one number, or nothing follows
-pub heads : (x y : ℕ) → (x ≡ y) ⊎ ((x == y) ≡ false)
-heads x y = grind (arith, nat_tests)
-
 pub same_head : (x : ℕ) → (x == x) ≡ true
 same_head x = grind (arith, nat_tests)
 
@@ -36,16 +32,6 @@ number_after-step x y n p s e = elim (x == y) as (λ b. (x == y) ≡ b → cond 
 
 pub number_after-same : (x n : ℕ) (p s : List ℕ) → number_after p s ≡ Some n → number_after (x ∷ p) (x ∷ s) ≡ Some n
 number_after-same x n p s e = ap (λ b. cond b (number_after p s) None) (same_head x) ∙ e
-
--- what follows is there, with a rest
-pub number_after-split : (p s : List ℕ) (x : ℕ) → number_after p s ≡ Some x → (r : List ℕ) × (s ≡ p ++ x ∷ r)
-number_after-split [] [] x e = cc
-number_after-split [] (y ∷ s) x e = (s, cc)
-number_after-split (y ∷ p) [] x e = cc
-number_after-split (y ∷ p) (z ∷ s) x e =
-    let h = number_after-step y z x p s e in
-    let t = number_after-split p s x h.1 in
-    (t.0, λ i. sym h.0 i ∷ t.1 i)
 
 pub number_after-irrefl : (p : List ℕ) (x : ℕ) → number_after p p ≡ Some x → ⊥
 number_after-irrefl [] x e = cc

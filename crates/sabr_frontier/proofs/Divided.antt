@@ -36,15 +36,12 @@ use Rattle.sabr_frontier.proofs.Orders.{earlier_prefix, less_from_test}
 use Rattle.sabr_frontier.proofs.Nodes.{get_Member, get_front, get_at_end, get_same, Member_split, member_cut, member_taken, member_dropped, pair_across, pairs_front, pairs_back, same_node}
 use Rattle.sabr_frontier.proofs.Splits.{prefix_stable}
 use Rattle.sabr_frontier.proofs.Refined.{index_order, node_within, kept, here, part_is, here_in, inside, cut}
+use Rattle.std.proofs.Math.Seq.{take-append_seam}
 
 -- what the searches' records say of the routes
 pub best_numbers : (p : ContactPlan) (r : RouteRequest) (q X : List ℕ) → option_map numbers_of (best_of p r q X) ≡ least_in p r q X
 unfolding best_of
 best_numbers p r q X = elim (least_in p r q X) as (λ o. option_map numbers_of (option_map (record_of p r) o) ≡ o) [ None ↦ refl | Some s ↦ refl ]
-
-take_append : (q rest : List ℕ) → take (length q) (q ++ rest) ≡ q
-take_append [] rest = refl
-take_append (y ∷ q) rest = ap (λ z. y ∷ z) (take_append q rest)
 
 -- the parts of the new nodes
 fresh_parts : {A : Type 0} (p : ContactPlan) (r : RouteRequest) (leaves : List RouteRecord) (leaf : ℕ) (x : RouteRecord) (is : slice_get leaves leaf ≡ Some x) (base : List (Node A)) (q rest : List ℕ) (count : ℕ)
@@ -54,7 +51,7 @@ fresh_parts p r leaves leaf x is base q [] count e c = ap (λ n. map (part_at le
 fresh_parts {A} p r leaves leaf x is base q (y ∷ rest) count e c =
     let new : Node A = record { leaf = leaf; length = length q; excluded = y ∷ []; route = best_of p r q (y ∷ []) } in
     let more : List (Node A) = fresh_nodes (best_of p r) leaf (q ++ y ∷ []) rest in
-    let prefix : prefix_of leaves new ≡ q = ap (λ o. front_of o (length q)) is ∙ ap (take (length q)) e ∙ take_append q (y ∷ rest) in
+    let prefix : prefix_of leaves new ≡ q = ap (λ o. front_of o (length q)) is ∙ ap (take (length q)) e ∙ take-append_seam q (y ∷ rest) in
     let first : part_at leaves (base ++ new ∷ more) (record { 0 = length base }) ≡ record { prefix = q; excluded = y ∷ []; carried = least_in p r q (y ∷ []) } =
     ap (part_of leaves) (get_at_end base more new) ∙ (λ i. record { prefix = prefix i; excluded = y ∷ []; carried = best_numbers p r q (y ∷ []) i }) in
     let long : length (base ++ new ∷ []) ≡ suc (length base) = omega (arith, length-append base (new ∷ [])) in

@@ -11,10 +11,11 @@ use Rattle.sabr_frontier.specs.Tree.{numbers_after, prefixes, tree, put_number}
 use Rattle.sabr_frontier.specs.State.{PartState, pair_of, Member}
 use Rattle.sabr_frontier.specs.Step.{same_pair, carried_in, carry, fresh}
 use Rattle.sabr_frontier.proofs.Rising.{true_or_false, has-put_in, put_again, is_equal, or_left, has_itself, turned}
-use Rattle.sabr_frontier.proofs.Beginnings.{lists_exact, numbers_exact, number_after-snoc, number_after-split, number_after-compare, number_after-trans, number_after-nil, number_after-same}
+use Rattle.sabr_frontier.proofs.Beginnings.{lists_exact, numbers_exact, number_after-snoc, number_after-compare, number_after-trans, number_after-nil, number_after-same}
 use Rattle.sabr_frontier.proofs.Trees.{In, Listed, In-first, In-later, In-cases, numbers_after_has, has_numbers_after, Rises-numbers_after, Rises-prefixes, tree_same}
 use Rattle.sabr_frontier.proofs.Members.{Member-map, Member-map_cases, Member-append_left, Member-append_right, Member-append_cases, Below-member, Less-apart, same_by_members}
 use Rattle.sabr_frontier.proofs.Closed.{tree_has, has_tree}
+use Rattle.sabr_search.proofs.Prefixes.{number_after_some}
 
 -- ---- the order of lists and their proper_beginnings
 
@@ -54,7 +55,7 @@ module _ {K : Type 0} (R : K → K → Ordering) where
   Below-front x [] ys h = (tt, h)
   Below-front x (y ∷ xs) ys h = let w = Below-front x xs ys h.1 in ((h.0, w.0), w.1)
 
-  Below-from : (x : K) (ys : List K) → ((y : K) → Member y ys → R x y ≡ Less) → Below R x ys
+  pub Below-from : (x : K) (ys : List K) → ((y : K) → Member y ys → R x y ≡ Less) → Below R x ys
   Below-from x [] f = tt
   Below-from x (y ∷ ys) f = (f y (inl refl), Below-from x ys (λ z m. f z (inr m)))
 
@@ -84,9 +85,6 @@ carried_absent (t ∷ ts) e d f = elim (true_or_false (same_pair (pair_of t) e))
   | inr h ↦ ap (λ b. cond b t.carried (carried_in ts e d)) h ∙ carried_absent ts e d (λ u m. f u (inr m))
 ]
 
-by_prefix : PartState → List ℕ
-by_prefix t = t.prefix
-
 pub carried_stands : (parts : List PartState) (t : PartState) (d : Option (List ℕ)) → Rises by_numbers (map (λ (t : PartState). t.prefix) parts) → Member t parts → carried_in parts (pair_of t) d ≡ t.carried
 carried_stands [] t d r m = absurd m
 carried_stands (u ∷ ts) t d r (inl e) = ap (λ b. cond b u.carried (carried_in ts (pair_of t) d)) (ap (λ (z : PartState). same_pair (pair_of u) (pair_of z)) e ∙ same_pair_self (pair_of u)) ∙ ap (λ (z : PartState). z.carried) (sym e)
@@ -105,10 +103,6 @@ map-append f (x ∷ xs) ys = ap (λ t. f x ∷ t) (map-append f xs ys)
 pub earlier_excludes : (S : List (List ℕ)) (p q : List ℕ) (x : ℕ) → Listed S q → number_after p q ≡ Some x → has nat_cmp x (numbers_after p S) ≡ true
 earlier_excludes S p q x (inl e) n = absurd (number_after-nil p x (ap (number_after p) (sym e) ∙ n))
 earlier_excludes S p q x (inr w) n = has_numbers_after x p w.0 S w.2 (number_after-trans p q w.0 x w.1 n w.3)
-
--- the prefixes of the block: r is q and y and more
-abbrev Stands : List ℕ → List ℕ → List ℕ → Type 0
-Stands r q b = (b ≡ q) ⊎ ((z : ℕ) × (number_after q b ≡ Some z))
 
 module _ (route : List ℕ → Bool) (least : List ℕ → List ℕ → Option (List ℕ)) where
   -- a member of the block is a beginning of r that is q or longer, with its next number alone
@@ -206,9 +200,6 @@ module _ (route : List ℕ → Bool) (least : List ℕ → List ℕ → Option (
         ]
       ]
     ] refl
-
-    Carries : List ℕ → List ℕ → Option (List ℕ) → Type 0
-    Carries q Z d = Member (record { prefix = q; excluded = Z; carried = d }) goal
 
     in_goal : (q Z : List ℕ) (d : Option (List ℕ)) → Listed (taken ∷ S) q → Z ≡ numbers_after q (taken ∷ S) → carried_in old (q, Z) (least q Z) ≡ d → Member (record { prefix = q; excluded = Z; carried = d }) goal
     in_goal q Z d l e h =
@@ -379,10 +370,10 @@ module _ (route : List ℕ → Bool) (least : List ℕ → List ℕ → Option (
       | inr h ↦ elim h [
         | inl u ↦ from_old q (elim p_listed [ inl k ↦ absurd (number_after-nil q z (ap (number_after q) (sym k) ∙ u)) | inr w ↦ inr (w.0, z, w.2, number_after-trans q p w.0 z w.1 u w.3) ])
         | inr u ↦
-            let s = number_after-split p q x u in
+            let s = number_after_some p q x u in
             let a : List ℕ = s.0 in
             let e' : number_after (p ++ x ∷ a) taken ≡ Some z = ap (λ w. number_after w taken) (sym s.1) ∙ e in
-            let v = number_after-split (p ++ x ∷ a) taken z e' in
+            let v = number_after_some (p ++ x ∷ a) taken z e' in
             let c : x ∷ rest ≡ x ∷ (a ++ z ∷ v.0) = cancel p (x ∷ rest) (x ∷ (a ++ z ∷ v.0)) (v.1 ∙ append_assoc p (x ∷ a) (z ∷ v.0)) in
             let is : rest ≡ a ++ z ∷ v.0 = cc in
             let N : List ℕ = numbers_after (p ++ x ∷ a) (taken ∷ S) in

@@ -2,10 +2,7 @@
 use Rattle.std.proofs.Common.{◌≡◌, ℕ, ◌-◌, ◌<◌, zero, suc, List, [], ◌∷◌, ◌++◌, length, take, set, get_or, Some, refl, sym, ap, ◌∙◌, arith, length-append}
 use Rattle.std.specs.Prelude.{slice_get, Vec, vec_len}
 use Rattle.sabr_frontier.specs.Undo.{modify, last_item, front}
-
-get_push : {X : Type 0} (xs : List X) (x : X) → slice_get (xs ++ x ∷ []) (length xs) ≡ Some x
-get_push [] x = refl
-get_push (y ∷ xs) x = get_push xs x
+use Rattle.sabr_search.proofs.LateLists.{get_push_here}
 
 take_push : {X : Type 0} (xs : List X) (x : X) → take (length xs) (xs ++ x ∷ []) ≡ xs
 take_push [] x = refl
@@ -15,7 +12,7 @@ less_one : {X : Type 0} (xs : List X) (x : X) → length (xs ++ x ∷ []) - 1 �
 less_one xs x = omega (arith, length-append xs (x ∷ []))
 
 pub last_item_push : {X : Type 0} (ys xs : List X) (x : X) → ys ≡ xs ++ x ∷ [] → last_item ys ≡ Some x
-last_item_push ys xs x e = ap last_item e ∙ (ap (slice_get (xs ++ x ∷ [])) (less_one xs x) ∙ get_push xs x)
+last_item_push ys xs x e = ap last_item e ∙ (ap (slice_get (xs ++ x ∷ [])) (less_one xs x) ∙ get_push_here xs x)
 
 pub front_push : {X : Type 0} (ys xs : List X) (x : X) → ys ≡ xs ++ x ∷ [] → front ys ≡ xs
 front_push ys xs x e = ap front e ∙ (ap (λ n. take n (xs ++ x ∷ [])) (less_one xs x) ∙ take_push xs x)

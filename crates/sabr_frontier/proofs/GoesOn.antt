@@ -5,11 +5,9 @@ use Rattle.std.specs.Option.{option_map_or}
 use Rattle.std.proofs.lemmas.List.{take-append-drop}
 use Rattle.sabr_model.specs.Plan.{has}
 use Rattle.sabr_model.specs.Parts.{number_after, goes_on}
-use Rattle.sabr_frontier.proofs.Beginnings.{number_after-snoc, number_after-irrefl, number_after-split}
-
-front_is : (p r : List ℕ) → take (length p) (p ++ r) ≡ p
-front_is [] r = refl
-front_is (x ∷ p) r = ap (λ z. x ∷ z) (front_is p r)
+use Rattle.sabr_frontier.proofs.Beginnings.{number_after-snoc, number_after-irrefl}
+use Rattle.std.proofs.Math.Seq.{take-append_seam}
+use Rattle.sabr_search.proofs.Prefixes.{number_after_some}
 
 nil_right : (xs : List ℕ) → xs ++ [] ≡ xs
 nil_right [] = refl
@@ -37,5 +35,5 @@ goes_there p X s (y ∷ rest) x e d n =
 pub begins_otherwise : (p X s : List ℕ) → (take (length p) s ≡ p → ⊥) → goes_on p X s ≡ false
 begins_otherwise p X s ne = elim (number_after p s) as (λ o. number_after p s ≡ o → option_map_or (λ n. not (has n X)) o false ≡ false) [
   | None ↦ λ _. refl
-  | Some x ↦ λ h. let w = number_after-split p s x h in absurd (ne (ap (take (length p)) w.1 ∙ front_is p (x ∷ w.0)))
+  | Some x ↦ λ h. let w = number_after_some p s x h in absurd (ne (ap (take (length p)) w.1 ∙ take-append_seam p (x ∷ w.0)))
 ] refl

@@ -1,6 +1,6 @@
 -- The laws of the frontier, from what holds for any notion of route.
 use Rattle.std.proofs.Common.{◌≡◌, ℕ, zero, suc, ◌+◌, ◌<◌, ◌≤◌, Bool, true, false, ltb, List, [], ◌∷◌, ◌++◌, map, take, drop, length, refl, sym, ap, subst, ◌∙◌, ◌⊎◌, inl, inr, arith, Some, None, true≢false}
-use Rattle.std.specs.Prelude.{Contains, is_some, slice_get}
+use Rattle.std.specs.Prelude.{is_some, slice_get}
 use Rattle.std.proofs.lemmas.Bool.{false_from_ne_true, ltb-true, lt-ltb}
 use Rattle.std.specs.Ordering.{is_lt}
 use Rattle.std.specs.declared.cmp.Ordering.{Ordering}
@@ -11,12 +11,11 @@ use Rattle.sabr_model.specs.Arrival.{RouteRequest}
 use Rattle.sabr_model.specs.Route.{is_route, is_path, is_prefix, by_key}
 use Rattle.sabr_model.specs.Listing.{routes}
 use Rattle.sabr_model.specs.Parts.{goes_on, least_in}
-use Rattle.sabr_model.proofs.Members.{in_from_Contains, Contains-from_in}
 use Rattle.sabr_model.proofs.Listed.{key_total}
 use Rattle.sabr_model.proofs.Prefixes.{empty_is_prefix}
 use Rattle.sabr_frontier.specs.Rising.{has}
 use Rattle.sabr_frontier.specs.Tree.{tree, numbers_after}
-use Rattle.sabr_frontier.specs.State.{State, pair_of, Member}
+use Rattle.sabr_frontier.specs.State.{State, pair_of}
 use Rattle.sabr_frontier.specs.Formed.{Within}
 use Rattle.sabr_frontier.specs.Step.{step_of, state_of}
 use Rattle.sabr_frontier.specs.Listing.{state_at, leaves_in, next_route, one_step, given_first, steps}
@@ -29,33 +28,27 @@ use Rattle.sabr_frontier.proofs.Leaves.{closed_tree}
 use Rattle.sabr_frontier.proofs.NextPlace.{next_is, law6, law6_end}
 use Rattle.sabr_frontier.proofs.Certified.{verified}
 use Rattle.sabr_frontier.proofs.Paths.{route_filled, routes_apart, route_chains, route_fits}
-use Rattle.sabr_frontier.proofs.Listed.{Member_from_in, in_from_Member, within_goes_on, goes_on_within, by_key_exact, routes_rise, routes_sound, routes_complete, least_some, least_none}
+use Rattle.sabr_frontier.proofs.Listed.{within_goes_on, goes_on_within, by_key_exact, routes_rise, routes_sound, routes_complete, least_some, least_none, member_of, contains_of}
 
 -- ---- how the parts divide the routes
-
-Member_of : {X : Type 0} (e : X) (xs : List X) → Contains xs e → Member e xs
-Member_of e xs c = Member_from_in e xs (in_from_Contains xs e c)
-
-Contains_of : {X : Type 0} (e : X) (xs : List X) → Member e xs → Contains xs e
-Contains_of e xs m = Contains-from_in xs e (in_from_Member e xs m)
 
 pub parts_divide : PartsDivide
 parts_divide p r S routes_given s is =
     let route : List ℕ → Bool = is_route p r in
-    let given : (t : List ℕ) → In t S → route t ≡ true = λ t h. routes_given t (Contains_of t S (Member_In t S h)) in
+    let given : (t : List ℕ) → In t S → route t ≡ true = λ t h. routes_given t (contains_of t S (Member_In t S h)) in
     record {
       covered = elim (true_or_false (has by_numbers s S)) [
-        | inl h ↦ inl (Contains_of s S (Member_In s S h))
+        | inl h ↦ inl (contains_of s S (Member_In s S h))
         | inr h ↦
             let w = in_some_part route (routes_apart p r) S given s is h (λ e. route_filled p r (subst (λ z. route z ≡ true) e is)) in
-            inr ((w.0, numbers_after w.0 S), Contains_of (w.0, numbers_after w.0 S) (tree S) (has_tree w.0 S w.1), within_goes_on w.0 (numbers_after w.0 S) s w.2)
+            inr ((w.0, numbers_after w.0 S), contains_of (w.0, numbers_after w.0 S) (tree S) (has_tree w.0 S w.1), within_goes_on w.0 (numbers_after w.0 S) s w.2)
       ];
       never_both = λ c a m. false_from_ne_true (goes_on a.0 a.1 s) (λ g.
-          let t = tree_has a.0 a.1 S (Member_of a (tree S) m) in
-          taken_in_none route (routes_apart p r) S given s is (In_Member s S (Member_of s S c)) a.0 (subst (λ Z. Within a.0 Z s) t.1 (goes_on_within a.0 a.1 s g)));
+          let t = tree_has a.0 a.1 S (member_of a (tree S) m) in
+          taken_in_none route (routes_apart p r) S given s is (In_Member s S (member_of s S c)) a.0 (subst (λ Z. Within a.0 Z s) t.1 (goes_on_within a.0 a.1 s g)));
       one_part = λ a b m n g h.
-          let t = tree_has a.0 a.1 S (Member_of a (tree S) m) in
-          let u = tree_has b.0 b.1 S (Member_of b (tree S) n) in
+          let t = tree_has a.0 a.1 S (member_of a (tree S) m) in
+          let u = tree_has b.0 b.1 S (member_of b (tree S) n) in
           let same : a.0 ≡ b.0 = in_one_part route (routes_apart p r) S given s is a.0 b.0 t.0 u.0 (subst (λ Z. Within a.0 Z s) t.1 (goes_on_within a.0 a.1 s g)) (subst (λ Z. Within b.0 Z s) u.1 (goes_on_within b.0 b.1 s h)) in
           let excluded : a.1 ≡ b.1 = t.1 ∙ ap (λ z. numbers_after z S) same ∙ sym u.1 in
           λ i. (same i, excluded i);

@@ -2,12 +2,12 @@
 use Rattle.std.proofs.Common.{◌≡◌, ℕ, ◌<◌, true, List, ◌∷◌, ◌++◌, length, take, refl, ap, ◌∙◌, arith, length-append}
 use Rattle.std.proofs.lemmas.List.{take_at}
 use Rattle.sabr_model.specs.Parts.{goes_on}
-use Rattle.sabr_frontier.proofs.Beginnings.{number_after-split}
 use Rattle.sabr_frontier.proofs.Listed.{goes_on_within}
+use Rattle.sabr_search.proofs.Prefixes.{number_after_some}
 
 module _ (q X s : List ℕ) (goes : goes_on q X s ≡ true) where
   split : (x : ℕ) × (rest : List ℕ) × (s ≡ q ++ x ∷ rest)
-  split = let w = goes_on_within q X s goes in let v = number_after-split q s w.0 w.1 in (w.0, v.0, v.1)
+  split = let w = goes_on_within q X s goes in let v = number_after_some q s w.0 w.1 in (w.0, v.0, v.1)
 
   pub longer_of_going : length q < length s
   longer_of_going =

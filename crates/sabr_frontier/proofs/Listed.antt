@@ -1,5 +1,6 @@
 -- The list of all routes and the least of a part, as the frontier uses them.
 use Rattle.std.proofs.Common.{◌≡◌, ℕ, true, false, ◌||◌, not, eqb, List, [], ◌∷◌, refl, sym, ap, ◌∙◌, inl, inr, Some, None, true≢false}
+use Rattle.std.specs.Prelude.{Contains}
 use Rattle.std.proofs.lemmas.Bool.{not-true, not_from_false}
 use Rattle.std.proofs.lemmas.Bool.Decides.{nat_tests}
 use Rattle.std.proofs.Common.{arith}
@@ -34,6 +35,12 @@ pub in_from_Member : {X : Type 0} (e : X) (xs : List X) → Member e xs → IsIn
 in_from_Member e [] h = h
 in_from_Member e (x ∷ xs) (inl h) = inl h
 in_from_Member e (x ∷ xs) (inr h) = inr (in_from_Member e xs h)
+
+pub member_of : {X : Type 0} (e : X) (xs : List X) → Contains xs e → Member e xs
+member_of e xs c = Member_from_in e xs (in_from_Contains xs e c)
+
+pub contains_of : {X : Type 0} (e : X) (xs : List X) → Member e xs → Contains xs e
+contains_of e xs m = Contains-from_in xs e (in_from_Member e xs m)
 
 Below_from_all : {K : Type 0} (R : K → K → Ordering) (x : K) (xs : List K) → AllByRecursion (λ z. R x z ≡ Less) xs → Below R x xs
 Below_from_all R x [] h = tt

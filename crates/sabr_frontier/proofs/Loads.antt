@@ -4,9 +4,8 @@ use Rattle.std.specs.Prelude.{slice_get, is_some}
 use Rattle.std.specs.Option.{option_map}
 use Rattle.std.specs.Ordering.{nat_cmp}
 use Rattle.std.specs.declared.cmp.Ordering.TheVariants.{Less}
-use Rattle.std.proofs.lemmas.Bool.{cases_eq}
 use Rattle.std.proofs.lemmas.Cmp.{nat_list_cmp_total, nat_cmp_total}
-use Rattle.std.proofs.lemmas.List.{length-map}
+use Rattle.std.proofs.lemmas.List.{length-map, nil_from_length}
 use Rattle.sabr_model.specs.Order.{by_numbers}
 use Rattle.sabr_model.specs.Parts.{number_after}
 use Rattle.sabr_model.specs.Plan.{ContactPlan}
@@ -28,7 +27,7 @@ use Rattle.sabr_frontier.specs.Sound.{AreGiven, IsLent, IsTree}
 use Rattle.sabr_frontier.specs.Taking.{ids_from}
 use Rattle.sabr_frontier.specs.Holding.{Holding, AreLent, IsAnswered, IsGiven, IsHeld, IsLastPlace, IsWrongLast, is_paid, loaded_tree, pairs_in, parts_in, parts_of}
 use Rattle.sabr_frontier.proofs.Rising.{length-put_in, true_or_false}
-use Rattle.sabr_frontier.proofs.Beginnings.{number_after-snoc, number_after-split, number_after-of_longer}
+use Rattle.sabr_frontier.proofs.Beginnings.{number_after-snoc, number_after-of_longer}
 use Rattle.sabr_frontier.proofs.Closed.{In_Member, Member_In, set_of_has, has_set_of, last_same}
 use Rattle.sabr_frontier.proofs.Members.{Member-map, Member-map_cases, Member-filter_cases, Member-flat_map_cases, Below-member, Less-apart}
 use Rattle.sabr_frontier.proofs.Division.{map-append}
@@ -38,10 +37,8 @@ use Rattle.sabr_frontier.proofs.Refined.{carried_there}
 use Rattle.sabr_frontier.proofs.Queues.{enqueued_all_falls}
 use Rattle.sabr_frontier.proofs.Sounds.{all_cases, all_has, all_length, block_apart}
 use Rattle.sabr_frontier.proofs.Answering.{paid_closed, paid_owes, pairs_two}
-
-front_is : (q r : List ℕ) → take (length q) (q ++ r) ≡ q
-front_is [] r = refl
-front_is (x ∷ q) r = ap (λ z. x ∷ z) (front_is q r)
+use Rattle.std.proofs.Math.Seq.{take-append_seam}
+use Rattle.sabr_search.proofs.Prefixes.{number_after_some}
 
 no_empty : (p : List ℕ) (x : ℕ) → p ++ x ∷ [] ≡ [] → ⊥
 no_empty [] x e = cc
@@ -105,7 +102,7 @@ module _ (p : ContactPlan) (r : RouteRequest) (L : List RouteRecord) where
   path = is_path p r
 
   begins : (q s : List ℕ) (n : ℕ) → number_after q s ≡ Some n → (take (length q) s ≡ q) × (length q ≤ length s)
-  begins q s n h = let w = number_after-split q s n h in (ap (take (length q)) w.1 ∙ front_is q (n ∷ w.0), omega (arith, ap (length {A = ℕ}) w.1, length-append q (n ∷ w.0)))
+  begins q s n h = let w = number_after_some q s n h in (ap (take (length q)) w.1 ∙ take-append_seam q (n ∷ w.0), omega (arith, ap (length {A = ℕ}) w.1, length-append q (n ∷ w.0)))
 
   take_none : (o : Option RouteRecord) → front_of o 0 ≡ []
   take_none None = refl
@@ -196,10 +193,6 @@ nothing_of : {X Y : Type 0} (f : X → Y) (xs : List X) → map f xs ≡ [] → 
 nothing_of f [] e = refl
 nothing_of f (x ∷ xs) e = absurd cc
 
-empty_by_length : {X : Type 0} (xs : List X) → length xs ≡ 0 → xs ≡ []
-empty_by_length [] l = refl
-empty_by_length (x ∷ xs) l = absurd (omega (arith, l))
-
 module _ {A : Type 0} (p : ContactPlan) (r : RouteRequest) (h : Holding A) (held : IsHeld p r h) (paid : is_paid h ≡ true) where
   abbrev T : Pairs
   T = pairs_in h
@@ -224,7 +217,7 @@ module _ {A : Type 0} (p : ContactPlan) (r : RouteRequest) (h : Holding A) (held
       inr (has_set_of last S (In_Member last S (subst (λ z. Member z S) same v.2)))
 
   right_given : (last : List ℕ) → ((last ≡ []) × (leaves (is_route p r) T ≡ [])) ⊎ (has by_numbers last (leaves (is_route p r) T) ≡ true) → IsGiven h.leaves last
-  right_given last (inl w) = inl (w.0, empty_by_length h.leaves (count ∙ ap length w.1))
+  right_given last (inl w) = inl (w.0, nil_from_length h.leaves (count ∙ ap length w.1))
   right_given last (inr k) = inr (record_of p r last, subst (Member (record_of p r last)) (sym answered.leaves) (Member-map (record_of p r) last S (Member_In last S (set_of_has last S k))), refl)
 
   -- each leaf is the record of a route that counts as given, and each such route has its record there

@@ -10,11 +10,12 @@ use Rattle.sabr_frontier.specs.State.{Member}
 use Rattle.sabr_frontier.specs.Formed.{IsClosed, InOrder}
 use Rattle.sabr_frontier.specs.Owing.{Owing, onward, IsGood, Owes}
 use Rattle.sabr_frontier.proofs.Rising.{true_or_false}
-use Rattle.sabr_frontier.proofs.Beginnings.{number_after-of_snoc, number_after-nil, number_after-split}
+use Rattle.sabr_frontier.proofs.Beginnings.{number_after-of_snoc, number_after-nil}
 use Rattle.sabr_frontier.proofs.Members.{Member-map, Member-map_cases, Member-filter, Member-filter_cases, Member-append_left, Member-append_right, Member-append_cases, Below-member, Less-apart}
 use Rattle.sabr_frontier.proofs.Closed.{Number_has, has_Number}
 use Rattle.sabr_frontier.proofs.Leaves.{Pairs}
 use Rattle.sabr_frontier.proofs.Division.{begins_less, above_longer}
+use Rattle.sabr_search.proofs.Prefixes.{number_after_some}
 
 module _ (route chain : List ℕ → Bool) where
   -- one pair more
@@ -260,7 +261,7 @@ module _ (route chain fits : List ℕ → Bool) (fits_nil : fits [] ≡ true)
           | inr w ↦ elim (number_after-of_snoc e.0 w.0 n w.2 (ap (number_after e.0) (sym w.3) ∙ k)) [
             | inl t ↦ not_before w.1 (subst (λ z. Member (z, w.1) D) (sym t.0) w.4)
             | inr t ↦
-                let s = number_after-split e.0 w.0 n t in
+                let s = number_after_some e.0 w.0 n t in
                 Less-apart nat_list_cmp_total e.0 (nat_list_cmp_total.trans e.0 w.0 e.0 (subst (λ z. by_numbers e.0 z ≡ Less) (sym s.1) (begins_less e.0 n s.0)) (before D e E rises w.0 w.1 w.4))
           ]
         ] in

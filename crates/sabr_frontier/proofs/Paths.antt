@@ -8,7 +8,7 @@ use Rattle.sabr_model.specs.Parts.{number_after}
 use Rattle.sabr_model.proofs.Routes.{empty_route}
 use Rattle.sabr_model.proofs.Begins.{no_route_begins_another}
 use Rattle.sabr_model.proofs.Prefixes.{prefix_is_no_route, beginning_is_prefix, beginning_goes_on}
-use Rattle.sabr_frontier.proofs.Beginnings.{number_after-split}
+use Rattle.sabr_search.proofs.Prefixes.{number_after_some}
 
 cons_empty : (x : ℕ) (s : List ℕ) → x ∷ s ≡ [] → ⊥
 cons_empty x s e = cc
@@ -20,19 +20,19 @@ module _ (p : ContactPlan) (r : RouteRequest) where
   -- no route begins another
   pub routes_apart : (s t : List ℕ) (x : ℕ) → is_route p r s ≡ true → is_route p r t ≡ true → number_after s t ≡ Some x → ⊥
   routes_apart s t x one other e =
-      let w = number_after-split s t x e in
+      let w = number_after_some s t x e in
       cons_empty x w.0 (no_route_begins_another p r s (x ∷ w.0) one (subst (λ z. is_route p r z ≡ true) w.1 other))
 
   -- a beginning of a route is a path
   pub route_chains : (q s : List ℕ) (x : ℕ) → is_route p r s ≡ true → number_after q s ≡ Some x → is_path p r (q ++ x ∷ []) ≡ true
   route_chains q s x is e =
-      let w = number_after-split q s x e in
+      let w = number_after_some q s x e in
       beginning_goes_on p r q x w.0 (subst (λ z. is_route p r z ≡ true) w.1 is)
 
   -- and a prefix where the route goes on
   pub route_fits : (q s : List ℕ) (x : ℕ) → is_route p r s ≡ true → number_after q s ≡ Some x → is_prefix p r q ≡ true
   route_fits q s x is e =
-      let w = number_after-split q s x e in
+      let w = number_after_some q s x e in
       beginning_is_prefix p r q x w.0 (subst (λ z. is_route p r z ≡ true) w.1 is)
 
   pub prefix_no_route : (q : List ℕ) → is_prefix p r q ≡ true → is_route p r q ≡ false

@@ -29,8 +29,8 @@ use Rattle.sabr_frontier.specs.Taking.{nodes_then, widened}
 use Rattle.sabr_frontier.specs.Sound.{IsTree, CanExclude, AreApart}
 use Rattle.sabr_frontier.proofs.Found.{found_is, none_found}
 use Rattle.sabr_frontier.proofs.Rising.{is_equal}
-use Rattle.sabr_frontier.proofs.Beginnings.{lists_exact, number_after-split}
-use Rattle.sabr_frontier.proofs.Members.{Member-map, Member-map_cases, Member-append_left, Member-append_right, Less-apart}
+use Rattle.sabr_frontier.proofs.Beginnings.{lists_exact}
+use Rattle.sabr_frontier.proofs.Members.{Member-map, Member-map_cases, Member-append_left, Member-append_right}
 use Rattle.sabr_frontier.proofs.Closed.{tree_has, leaves_has}
 use Rattle.sabr_frontier.proofs.Trees.{Listed}
 use Rattle.sabr_frontier.proofs.Parting.{in_one_part}
@@ -42,6 +42,7 @@ use Rattle.sabr_frontier.proofs.Ends.{length-modify}
 use Rattle.sabr_frontier.proofs.Partition.{pairs_from_rises}
 use Rattle.sabr_frontier.proofs.Nodes.{get_within, get_Member, get_front, get_other, pair_across, pairs_front, pairs_weaker, last_split}
 use Rattle.sabr_frontier.proofs.Splits.{IsCut, cut_at, prefix_length}
+use Rattle.sabr_search.proofs.Prefixes.{number_after_some}
 
 ne_from_test : (a b : ℕ) → nat_eq a b ≡ false → a ≡ b → ⊥
 ne_from_test a b e = λ s. grind (arith, nat_tests)
@@ -131,7 +132,7 @@ module _ {A : Type 0} (p : ContactPlan) (r : RouteRequest) (t : Shape A) (is : I
 
       pub cut : (rest : List ℕ) × (x.contacts ≡ prefix_of t.leaves n ++ number ∷ rest) × IsCut x.contacts (prefix_of t.leaves n) number rest n.length
       cut =
-          let w = number_after-split (prefix_of t.leaves n) x.contacts number inside.1.1 in
+          let w = number_after_some (prefix_of t.leaves n) x.contacts number inside.1.1 in
           (w.0, w.1, cut_at x.contacts (prefix_of t.leaves n) number w.0 n.length w.1 (prefix_length t.leaves n (is.lent n (get_Member t.nodes node.0 n stands))))
 
       pub can_exclude : CanExclude n x.contacts

@@ -1,5 +1,5 @@
 -- Taking a route and undoing it give back the tree, on the nose.
-use Rattle.std.proofs.Common.{◌≡◌, ℕ, ◌≤◌, zero, suc, Bool, true, false, cond, ◌&&◌, not, nat_lt, nat_eq, List, [], ◌∷◌, ◌++◌, length, filter, take, drop, Option, Some, refl, sym, ap, ◌∙◌, arith, slice_index, insert, take-append-drop}
+use Rattle.std.proofs.Common.{◌≡◌, ℕ, ◌≤◌, zero, suc, Bool, true, false, cond, ◌&&◌, not, nat_lt, nat_eq, List, [], ◌∷◌, ◌++◌, length, filter, take, drop, Option, Some, refl, sym, ap, ◌∙◌, arith, slice_index, take-append-drop}
 use Rattle.std.specs.Prelude.{slice_get}
 use Rattle.std.proofs.lemmas.Bool.Decides.{nat_tests}
 use Rattle.std.proofs.lemmas.List.Elements.{filter-append}
@@ -20,12 +20,6 @@ Passes p (x ∷ xs) = (p x ≡ true) × Passes p xs
 pub filter_all : {X : Type 0} (p : X → Bool) (xs : List X) → Passes p xs → filter p xs ≡ xs
 filter_all p [] h = refl
 filter_all p (x ∷ xs) h = ap (λ b. cond b (x ∷ filter p xs) (filter p xs)) h.0 ∙ ap (λ t. x ∷ t) (filter_all p xs h.1)
-
--- what is put in and doesn't pass is gone
-pub filter-insert : {X : Type 0} (p : X → Bool) (xs : List X) (i : ℕ) (x : X) → p x ≡ false → filter p (insert xs i x) ≡ filter p xs
-filter-insert p xs i x h =
-    filter-append p (take i xs) (x ∷ drop i xs) ∙ ap (λ z. filter p (take i xs) ++ z) (ap (λ b. cond b (x ∷ filter p (drop i xs)) (filter p (drop i xs))) h)
-    ∙ sym (filter-append p (take i xs) (drop i xs)) ∙ ap (filter p) (take-append-drop i xs)
 
 not_below : (f n c : ℕ) → c ≤ f → filter (λ (id : NodeId). nat_lt id.0 c) (ids_from f n) ≡ []
 not_below f zero c l = refl

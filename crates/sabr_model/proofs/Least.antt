@@ -1,59 +1,23 @@
 -- The least route of a part: what it is, and what tells it.
-use Rattle.std.proofs.Common.{◌≡◌, ℕ, true, false, Bool, cond, not, eqb, List, [], ◌∷◌, ◌++◌, length, refl, sym, ap, subst, ◌∙◌, inl, inr, ⊎_elim}
+use Rattle.std.proofs.Common.{◌≡◌, ℕ, true, false, Bool, cond, List, [], ◌∷◌, refl, sym, ap, subst, ◌∙◌, inl, inr, ⊎_elim}
 use Rattle.std.specs.Prelude.{◌⊎◌, IsTrue}
 use Rattle.std.specs.List.{find}
 use Rattle.std.specs.List.Sorted.{IsStrictlySortedBy}
-use Rattle.std.specs.Option.{option_map_or}
-use Rattle.std.specs.Ordering.{nat_cmp, is_lt, is_gt, ordering_reverse, ordering_then}
+use Rattle.std.specs.Ordering.{nat_cmp, is_lt, ordering_reverse, ordering_then}
 use Rattle.std.specs.Cmp.{tied_itself, nat_cmp_total}
-use Rattle.std.proofs.lemmas.Bool.{eqb-true, eq-eqb, not-true, not_from_false, both_ways, cond-true}
+use Rattle.std.proofs.lemmas.Bool.{both_ways}
 use Rattle.std.specs.declared.option.Option.TheVariants.{Some, None}
 use Rattle.std.specs.declared.cmp.Ordering.{Ordering}
 use Rattle.std.specs.declared.cmp.Ordering.TheVariants.{Less, Equal, Greater}
-use Rattle.sabr_model.specs.Order.{by_numbers}
-use Rattle.sabr_model.specs.Plan.{ContactPlan, IsPlan, has}
+use Rattle.sabr_model.specs.Plan.{ContactPlan, IsPlan}
 use Rattle.sabr_model.specs.Arrival.{RouteRequest}
-use Rattle.sabr_model.specs.Route.{is_route, delivery_of, until_of, entry_of, by_key}
+use Rattle.sabr_model.specs.Route.{is_route, until_of, entry_of, by_key}
 use Rattle.sabr_model.specs.Listing.{routes}
-use Rattle.sabr_model.specs.Parts.{number_after, goes_on, least_in}
+use Rattle.sabr_model.specs.Parts.{goes_on, least_in}
 use Rattle.sabr_model.specs.Record.{record_of, by_record}
 use Rattle.sabr_model.proofs.Members.{IsIn, in_from_Contains, Contains-from_in, all_in}
 use Rattle.sabr_model.proofs.Listed.{key_total, key_tells}
 use Rattle.sabr_model.proofs.RoutesListed.{routes_are_listed}
-
--- ---- the number after a prefix
-
-pub number_after-append : (q : List ℕ) (n : ℕ) (t : List ℕ) → number_after q (q ++ n ∷ t) ≡ Some n
-number_after-append [] n t = refl
-number_after-append (k ∷ q) n t = cond-true (eqb k k) (number_after q (q ++ n ∷ t)) None (eq-eqb k k refl) ∙ number_after-append q n t
-
--- s is the prefix, the number, and a rest
-pub parts_after : (q s : List ℕ) (n : ℕ) → number_after q s ≡ Some n → (t : List ℕ) × (s ≡ q ++ n ∷ t)
-parts_after [] [] n e = absurd cc
-parts_after [] (m ∷ s) n e = (s, let same : m ≡ n = cc in ap (λ k. k ∷ s) same)
-parts_after (k ∷ q) [] n e = absurd cc
-parts_after (k ∷ q) (m ∷ s) n e =
-    elim (eqb k m) as (λ b. eqb k m ≡ b → cond b (number_after q s) None ≡ Some n → (t : List ℕ) × (m ∷ s ≡ k ∷ (q ++ n ∷ t))) [
-      | true ↦ λ w g. let rest = parts_after q s n g in (rest.0, let same = eqb-true k m w in let e' = rest.1 in cc)
-      | false ↦ λ w g. absurd cc
-    ] refl e
-
--- how a list goes on behind a prefix
-pub record IsGoing (q excluded s : List ℕ) : Type 0 where
-  pub number : ℕ
-  pub rest : List ℕ
-  pub whole : s ≡ q ++ number ∷ rest
-  pub free : has number excluded ≡ false
-
-pub going : (q excluded s : List ℕ) → IsTrue (goes_on q excluded s) → IsGoing q excluded s
-going q excluded s h =
-    elim (number_after q s) as (λ o. number_after q s ≡ o → option_map_or (λ n. not (has n excluded)) o false ≡ true → IsGoing q excluded s) [
-      | None ↦ λ w g. absurd cc
-      | Some n ↦ λ w g. let t = parts_after q s n w in record { number = n; rest = t.0; whole = t.1; free = not-true (has n excluded) g }
-    ] refl h
-
-pub goes_on-append : (q excluded : List ℕ) (n : ℕ) (t : List ℕ) → has n excluded ≡ false → IsTrue (goes_on q excluded (q ++ n ∷ t))
-goes_on-append q excluded n t free = ap (λ o. option_map_or (λ m. not (has m excluded)) o false) (number_after-append q n t) ∙ not_from_false (has n excluded) free
 
 -- ---- the first that passes a test
 
@@ -94,13 +58,6 @@ route_is_member p r s good h = in_from_Contains (routes p r) s (((routes_are_lis
 
 -- ---- the key
 
--- delivery, then hops, then numbers
-pub key_is : (p : ContactPlan) (r : RouteRequest) (s t : List ℕ) → by_key p r s t ≡ ordering_then (nat_cmp (delivery_of p r s) (delivery_of p r t)) (ordering_then (nat_cmp (length s) (length t)) (by_numbers s t))
-key_is p r s t = refl
-
-not_after_less : (p : ContactPlan) (r : RouteRequest) (s u : List ℕ) → by_key p r u s ≡ Less → is_gt (by_key p r s u) ≡ false → ⊥
-not_after_less p r s u less h = let turned : by_key p r s u ≡ ordering_reverse Less = (key_total p r).antisymm s u ∙ ap ordering_reverse less in both_ways (is_gt (by_key p r s u)) h (ap is_gt turned)
-
 -- records compare as keys do
 pub record_order : (p : ContactPlan) (r : RouteRequest) (s t : List ℕ) → by_record (record_of p r s) (record_of p r t) ≡ by_key p r s t
 record_order p r s t =
@@ -132,25 +89,3 @@ module _ (p : ContactPlan) (r : RouteRequest) (good : IsPlan p) (q excluded : Li
   pub least_none : least_in p r q excluded ≡ None → (t : List ℕ) → IsTrue (is_route p r t) → IsTrue (goes_on q excluded t) → ⊥
   unfolding least_in
   least_none e t route on = find_none (goes_on q excluded) (routes p r) t e (route_is_member p r t good route) on
-
-  -- a part without routes has none
-  pub none_in_part : ((t : List ℕ) → IsTrue (is_route p r t) → IsTrue (goes_on q excluded t) → ⊥) → least_in p r q excluded ≡ None
-  none_in_part none =
-      elim (least_in p r q excluded) as (λ o. least_in p r q excluded ≡ o → o ≡ None) [
-        | None ↦ λ e. refl
-        | Some s ↦ λ e. let l = least_some s e in absurd (none s l.0 l.1)
-      ] refl
-
-  -- a route of the part whose key is at most that of each of its routes
-  pub least_is : (s : List ℕ) → IsTrue (is_route p r s) → IsTrue (goes_on q excluded s) → ((t : List ℕ) → IsTrue (is_route p r t) → IsTrue (goes_on q excluded t) → is_gt (by_key p r s t) ≡ false) → least_in p r q excluded ≡ Some s
-  unfolding least_in
-  least_is s route on least =
-      elim (find (goes_on q excluded) (routes p r)) as (λ o. find (goes_on q excluded) (routes p r) ≡ o → o ≡ Some s) [
-        | None ↦ λ e. absurd (find_none (goes_on q excluded) (routes p r) s e (route_is_member p r s good route) on)
-        | Some u ↦ λ e.
-            let m = find_in (goes_on q excluded) (routes p r) u e in
-            ⊎_elim
-            (λ same. ap Some (sym same))
-            (λ less. absurd (not_after_less p r s u less (least u (member_is_route p r u good m.0) m.1)))
-            (find_least (goes_on q excluded) (by_key p r) (routes p r) u s (routes_are_listed p r good).rising e (route_is_member p r s good route) on)
-      ] refl

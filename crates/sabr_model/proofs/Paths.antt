@@ -61,9 +61,6 @@ pub value_of : {X : Type 0} (o : Option X) → is_some o ≡ true → (x : X) ×
 value_of None h = absurd cc
 value_of (Some x) h = (x, refl)
 
-pub is_there : {X : Type 0} (o : Option X) (x : X) → o ≡ Some x → is_some o ≡ true
-is_there o x e = ap is_some e
-
 -- ---- lists one behind the other
 
 pub arrival_after-append : (p : ContactPlan) (r : RouteRequest) (t : ℕ) (q s : List ℕ) → arrival_after p r t (q ++ s) ≡ option_and_then (λ u. arrival_after p r u s) (arrival_after p r t q)

@@ -2,7 +2,7 @@
 use Rattle.std.proofs.Common.{◌≡◌, ℕ, false, ◌||◌, not, eqb, List, [], ◌∷◌, ◌++◌, refl, sym, ap, subst, ◌∙◌, arith, length-append, append_assoc}
 use Rattle.std.specs.Prelude.{IsTrue}
 use Rattle.std.specs.Option.{option_and_then}
-use Rattle.std.proofs.lemmas.Bool.{and_parts, and_from, or_parts, or_from, eqb-true, not-true, not_from_false, false_from_ne_true, both_ways}
+use Rattle.std.proofs.lemmas.Bool.{and_parts, and_from, or_from, eqb-true, not-true, not_from_false, false_from_ne_true, both_ways}
 use Rattle.std.proofs.lemmas.List.Folds.{list_any-append}
 use Rattle.std.specs.declared.option.Option.{Option}
 use Rattle.std.specs.declared.option.Option.TheVariants.{Some, None}
@@ -73,10 +73,3 @@ beginning_is_prefix p r q n t route =
 pub beginning_goes_on : (p : ContactPlan) (r : RouteRequest) (q : List ℕ) (n : ℕ) (t : List ℕ) → IsTrue (is_route p r (q ++ n ∷ t)) → IsTrue (is_path p r (q ++ n ∷ []))
 beginning_goes_on p r q n t route =
     beginning_is_path p r (q ++ n ∷ []) t (subst (λ s. IsTrue (is_path p r s)) (sym (append_assoc q (n ∷ []) t)) (route_is_path p r (q ++ n ∷ t) route))
-
--- a beginning of a prefix is a prefix
-pub beginning_of_prefix : (p : ContactPlan) (r : RouteRequest) (q t : List ℕ) → IsTrue (is_prefix p r (q ++ t)) → IsTrue (is_prefix p r q)
-beginning_of_prefix p r q t h =
-    let passes : has r.destination (receivers p q ++ receivers p t) ≡ false = ap (has r.destination) (sym (receivers-append p q t)) ∙ prefix_passes p r (q ++ t) h in
-    prefix_from_path p r q (beginning_is_path p r q t (prefix_is_path p r (q ++ t) h))
-    (or_parts (has r.destination (receivers p q)) (has r.destination (receivers p t)) (sym (list_any-append (eqb r.destination) (receivers p q) (receivers p t)) ∙ passes)).0

@@ -158,10 +158,6 @@ are_sent p q h =
       few = omega arith;
     }
 
--- what a contact's number names is the contact
-pub names_itself : (cs : List Contact) (n : ℕ) (c : Contact) → find (λ d. eqb d.number n) cs ≡ Some c → find (λ d. eqb d.number c.number) cs ≡ Some c
-names_itself cs n c found = subst (λ m. find (λ d. eqb d.number m) cs ≡ Some c) (sym (eqb-true c.number n (found_passes (λ d. eqb d.number n) cs c found))) found
-
 -- what stands at a place is in the list
 pub has_place : (xs : List ℕ) (k n : ℕ) → slice_get xs k ≡ Some n → has n xs ≡ true
 has_place [] k n e = absurd cc

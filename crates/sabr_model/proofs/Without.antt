@@ -1,10 +1,10 @@
 -- The contacts without one of them, and the table of nodes behind its deletion.
-use Rattle.std.proofs.Common.{◌≡◌, ℕ, ◌<◌, Bool, true, false, cond, ◌||◌, ◌&&◌, not, eqb, ltb, List, [], ◌∷◌, map, refl, sym, ap, subst, ◌∙◌, inl, inr, arith}
+use Rattle.std.proofs.Common.{◌≡◌, ℕ, ◌<◌, Bool, true, false, cond, ◌||◌, ◌&&◌, not, eqb, ltb, List, [], ◌∷◌, map, refl, sym, ap, subst, ◌∙◌, arith}
 use Rattle.std.specs.Prelude.{nat_eq, Vec}
 use Rattle.std.specs.List.{filter, find, list_any, AllByRecursion}
 use Rattle.std.specs.Bool.{then_some}
 use Rattle.std.specs.Option.{option_map}
-use Rattle.std.proofs.lemmas.Bool.{and_parts, or_cases, or_left, or_right, or_from, eqb-true, eq-eqb, ltb-true, both_ways, false_from_ne_true}
+use Rattle.std.proofs.lemmas.Bool.{and_parts, or_left, or_right, or_from, eqb-true, eq-eqb, ltb-true, both_ways, false_from_ne_true}
 use Rattle.std.specs.declared.option.Option.TheVariants.{Some, None}
 use Rattle.indexmap.specs.IndexMap.{IndexMap, IsUnique}
 use Rattle.sabr_model.specs.declared.contact.Contact.{Contact}
@@ -91,23 +91,6 @@ in_use_is n q (x ∷ cs) =
     or_assoc : (a b c : Bool) → ((a || b) || c) ≡ (a || (b || c))
     or_assoc true b c = refl
     or_assoc false b c = refl
-
--- a node in use was in use
-pub ends_were : (n : ℕ) (cs : List Contact) (q : ℕ) → has q (ends_of (without_number n cs)) ≡ true → has q (ends_of cs) ≡ true
-ends_were n [] q h = h
-ends_were n (x ∷ cs) q h =
-    elim (eqb x.number n) as (λ b. has q (ends_of (cond (not b) (x ∷ without_number n cs) (without_number n cs))) ≡ true → (eqb q x.from || (eqb q x.to || has q (ends_of cs))) ≡ true) [
-      | true ↦ λ g. or_right (eqb q x.from) (eqb q x.to || has q (ends_of cs)) (or_right (eqb q x.to) (has q (ends_of cs)) (ends_were n cs q g))
-      | false ↦ λ g.
-          elim (or_cases (eqb q x.from) (eqb q x.to || has q (ends_of (without_number n cs))) g) [
-            | inl a ↦ or_left (eqb q x.from) (eqb q x.to || has q (ends_of cs)) a
-            | inr r ↦
-                elim (or_cases (eqb q x.to) (has q (ends_of (without_number n cs))) r) [
-                  | inl a ↦ or_right (eqb q x.from) (eqb q x.to || has q (ends_of cs)) (or_left (eqb q x.to) (has q (ends_of cs)) a)
-                  | inr s ↦ or_right (eqb q x.from) (eqb q x.to || has q (ends_of cs)) (or_right (eqb q x.to) (has q (ends_of cs)) (ends_were n cs q s))
-                ]
-          ]
-    ] h
 
 -- the nodes of a standing contact are in use
 pub ends_of_found : (cs : List Contact) (n : ℕ) (c : Contact) → find (λ d. eqb d.number n) cs ≡ Some c → (has c.from (ends_of cs) ≡ true) × (has c.to (ends_of cs) ≡ true)

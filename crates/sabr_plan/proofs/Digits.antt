@@ -1,8 +1,8 @@
 -- Digits and the number that they stand for.
-use Rattle.std.proofs.Common.{◌≡◌, ℕ, suc, ◌+◌, ◌-◌, ◌*◌, ◌^◌, ◌<◌, ◌≤◌, true, false, ◌&&◌, List, [], ◌∷◌, ◌++◌, length, take, drop, get_or, refl, subst, arith, fold}
+use Rattle.std.proofs.Common.{◌≡◌, ℕ, suc, ◌+◌, ◌-◌, ◌*◌, ◌^◌, ◌<◌, ◌≤◌, true, ◌&&◌, List, [], ◌∷◌, ◌++◌, length, take, drop, get_or, refl, subst, arith, fold}
 use Rattle.std.specs.List.{list_all}
 use Rattle.std.proofs.lemmas.List.{take_more, take-append-drop}
-use Rattle.std.proofs.lemmas.List.Folds.{list_all-append, list_all_at}
+use Rattle.std.proofs.lemmas.List.Folds.{list_all-append}
 use Rattle.std.proofs.Math.Bool.{and-false}
 use Rattle.std.proofs.Math.Nat.{mul-le-mul_right, pow-suc, pow-le-pow_right}
 use borrow.Author.Tests.{lt-ltb, le-ltb}
@@ -10,9 +10,6 @@ use Rattle.std.specs.Prelude.{nat_lt, nat_le, Option, Some, None, if◌then◌el
 use Rattle.std.proofs.lemmas.Bool.{and_parts}
 use borrow.Author.Tests.{leb-true}
 use Rattle.sabr_plan.specs.Digits.{is_digit, are_digits, digits_value}
-
-with_digit : ℕ → ℕ → ℕ
-with_digit n b = n * 10 + (b - 48)
 
 fold_from : (ys : List ℕ) (n : ℕ) → n ≤ fold (λ n b. n * 10 + (b - 48)) n ys
 fold_from [] n = omega arith
@@ -48,10 +45,6 @@ take_digits xs i h all one =
 -- the number that digits stand for, below 2^64
 abbrev pub small_value : List ℕ → Option ℕ
 small_value word = if are_digits word && nat_lt (digits_value word) 18446744073709551616 then Some (digits_value word) else None
-
--- it is none where a byte is no digit
-pub small_value_none : (xs : List ℕ) (i : ℕ) → i < length xs → is_digit (get_or xs i 0) ≡ false → small_value xs ≡ None
-small_value_none xs i h other = rw (list_all_at is_digit xs i 0 h other, and-false (nat_lt 0 (length xs))) refl
 
 -- or where the digits up to a place stand for too much
 pub small_value_over : (xs : List ℕ) (i : ℕ) → i < length xs → 18446744073709551616 ≤ digits_value (take i xs) * 10 + (get_or xs i 0 - 48) → small_value xs ≡ None

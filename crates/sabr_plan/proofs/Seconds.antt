@@ -109,10 +109,6 @@ named_by-fields_of t h =
 pub second_named-text : (t : ℕ) → t ≤ 253402300799 → second_named (time_text_of t) ≡ t
 second_named-text t h = second_named-fields_at (time_text_of t) ∙ ap named_by (fields_at-text t) ∙ named_by-fields_of t h
 
--- two times with the same text are one
-pub time_text_of_injective : (t u : ℕ) → t ≤ 253402300799 → u ≤ 253402300799 → time_text_of t ≡ time_text_of u → t ≡ u
-time_text_of_injective t u h k e = sym (second_named-text t h) ∙ ap second_named e ∙ second_named-text u k
-
 -- the time of a text
 pub time_of-text : (t : ℕ) → t ≤ last_time → time_of (time_text_of t) ≡ Some t
 unfolding time_of

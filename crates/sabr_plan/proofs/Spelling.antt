@@ -66,21 +66,6 @@ shape_parts word h =
       clock = p12.1;
     }
 
--- the fields of such a text have their widths
-pub fields_at_width : (word : List ℕ) → has_shape word ≡ true → HasWidth (fields_at word)
-fields_at_width word h =
-    let p = shape_parts word h in
-    let c = pair_bytes word 0 p.century in
-    let y = pair_bytes word 2 p.year in
-    record {
-      year = omega (arith, c.2, y.2);
-      month = (pair_bytes word 5 p.month).2;
-      day = (pair_bytes word 8 p.day).2;
-      hour = (pair_bytes word 11 p.hour).2;
-      minute = (pair_bytes word 14 p.minute).2;
-      second = (pair_bytes word 17 p.clock).2;
-    }
-
 -- and it is their spelling
 pub fields_at_spelled : (word : List ℕ) → has_shape word ≡ true → word ≡ spelled (fields_at word)
 fields_at_spelled word h =

@@ -16,9 +16,8 @@ use Rattle.sabr_search.specs.Kept.{Goes, IsWayOn, IsFloor, AreDues, IsWithin}
 use Rattle.sabr_search.specs.Following.{tabled_of}
 use Rattle.sabr_search.specs.Laying.{IsWhole, AreAllLate, AreGathered}
 use Rattle.sabr_search.proofs.Ways.{Leads-later}
-use Rattle.sabr_search.proofs.Bridge.{takes_timely}
+use Rattle.sabr_search.proofs.Bridge.{takes_timely, same_some}
 use Rattle.sabr_search.proofs.Ended.{inside, late_way}
-use Rattle.sabr_search.proofs.OverLinks.{same_some}
 
 soonest_zero : (since : List ℕ) (d u t : ℕ) → slice_index since u ≡ 0 → soonest since d u ≤ t
 soonest_zero since d u t zero_is = omega (arith, zero_is)

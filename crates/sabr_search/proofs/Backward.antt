@@ -18,6 +18,7 @@ use Rattle.sabr_search.specs.Steps.{degree, sent_by_all}
 use Rattle.sabr_search.specs.Lists.{nodes_between}
 use Rattle.sabr_search.proofs.Between.{between_at, between_more, sent_more}
 use Rattle.sabr_search.proofs.HopLayers.{exact_more}
+use Rattle.sabr_search.proofs.Queues.{set_many, set_here}
 
 -- the node where a way of some hops ends is open
 pub way_open : (task : SearchTask) (ns : List ℕ) (u t v e : ℕ) → Leads (Takes task) u t ns v e → 0 < length ns → slice_index_or task.shut v false ≡ false
@@ -207,13 +208,7 @@ get_set_other (y ∷ xs) zero (suc j) x other = refl
 get_set_other (y ∷ xs) (suc k) zero x other = refl
 get_set_other (y ∷ xs) (suc k) (suc j) x other = get_set_other xs k j x (λ same. other (ap suc same))
 
-pub set_length : (xs : List ℕ) (k b : ℕ) → length (slice_set xs k b) ≡ length xs
-set_length xs k b = grind (arith, common_steps)
-
-set_here : (xs : List ℕ) (k b : ℕ) → k < length xs → slice_index (slice_set xs k b) k ≡ b
-set_here xs k b less = grind (arith, common_steps)
-
-set_other : (xs : List ℕ) (k j b : ℕ) → (j ≡ k → ⊥) → slice_index (slice_set xs k b) j ≡ slice_index xs j
+pub set_other : (xs : List ℕ) (k j b : ℕ) → (j ≡ k → ⊥) → slice_index (slice_set xs k b) j ≡ slice_index xs j
 set_other xs k j b other = grind (arith, common_steps)
 
 -- ---- a deadline that is looked up
@@ -263,7 +258,7 @@ pointed_more task best from hop bounds place0 place reached timed le many placed
       record {
         within = λ k less. elim (cases_eq k e.node) [
           | inl same ↦ omega (arith, ap (slice_index (slice_set place e.node i)) same, set_here place e.node i inside)
-          | inr other ↦ omega (arith, set_other place e.node k i other, placed.within k (omega (arith, set_length place e.node i)))
+          | inr other ↦ omega (arith, set_other place e.node k i other, placed.within k (omega (arith, set_many place e.node i)))
         ];
         own = λ k d less some. elim (cases_eq k e.node) [
           | inl same ↦
@@ -271,7 +266,7 @@ pointed_more task best from hop bounds place0 place reached timed le many placed
               ap (λ p. (slice_index_or reached p d).node) here ∙ ap (λ (y : Reached). y.node) (get_or_from_slice_get reached i e d at) ∙ sym same)
           | inr other ↦
               (let old : slice_index (slice_set place e.node i) k ≡ slice_index place k = set_other place e.node k i other in
-              ap (λ p. (slice_index_or reached p d).node) old ∙ placed.own k d (omega (arith, set_length place e.node i)) (omega (arith, old)))
+              ap (λ p. (slice_index_or reached p d).node) old ∙ placed.own k d (omega (arith, set_many place e.node i)) (omega (arith, old)))
         ];
       },
       λ p f low high here. elim (cases_eq p i) [

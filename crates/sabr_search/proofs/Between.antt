@@ -24,13 +24,6 @@ same_below (suc k) (x' ∷ xs) [] e p x less at = absurd cc
 same_below (suc k) (x' ∷ xs) (y ∷ ys) e zero x less at = let same : x' ≡ y = cc (e) in ap Some (sym same) ∙ at
 same_below (suc k) (x' ∷ xs) (y ∷ ys) e (suc p) x less at = same_below k xs ys (let rest : take k xs ≡ take k ys = cc (e) in rest) p x (omega arith) at
 
--- no entry more
-pub between_none : (reached : List Reached) (first : ℕ) → nodes_between reached first first ≡ []
-between_none [] zero = refl
-between_none [] (suc first) = refl
-between_none (e ∷ reached) zero = refl
-between_none (e ∷ reached) (suc first) = between_none reached first
-
 -- an entry more
 pub between_more : (reached : List Reached) (first place : ℕ) (e : Reached) → first ≤ place → slice_get reached place ≡ Some e → nodes_between reached first (place + 1) ≡ nodes_between reached first place ++ e.node ∷ []
 between_more reached first place e le at =

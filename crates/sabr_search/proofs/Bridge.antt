@@ -13,7 +13,7 @@ use Rattle.sabr_search.specs.Task.{SearchTask, Takes, HasNodes, IsBehind, is_clo
 use Rattle.sabr_search.proofs.Chains.{first_arrival, chain_end-cons, arrival_after-cons}
 use Rattle.sabr_search.proofs.Arrivals.{arrives_later}
 
-same_some : {X : Type 0} {x y : X} → Some x ≡ Some y → x ≡ y
+pub same_some : {X : Type 0} {x y : X} → Some x ≡ Some y → x ≡ y
 same_some h = cc
 
 -- the steps of a search are timely

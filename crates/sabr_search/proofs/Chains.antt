@@ -1,12 +1,12 @@
 -- Chains of contacts, joined and taken apart, with their arrivals.
-use Rattle.std.proofs.Common.{◌≡◌, ℕ, Bool, true, false, cond, not, ◌||◌, eqb, List, [], ◌∷◌, ◌++◌, refl, sym, ap, ◌∙◌, ⊎_elim}
-use Rattle.std.proofs.lemmas.Bool.{and_parts, and_from, or_cases, or_right, or_left, or_from, eq-eqb, eqb-true, not-true, not_from_false, false_from_ne_true}
+use Rattle.std.proofs.Common.{◌≡◌, ℕ, Bool, true, cond, ◌||◌, eqb, List, [], ◌∷◌, ◌++◌, refl, sym, ap, ◌∙◌, ⊎_elim}
+use Rattle.std.proofs.lemmas.Bool.{and_parts, and_from, or_cases, or_right, or_left, eq-eqb, eqb-true}
 use Rattle.std.proofs.lemmas.List.Folds.{list_any-append}
 use Rattle.std.specs.List.{list_all}
 use Rattle.std.specs.Option.{option_and_then}
 use Rattle.std.specs.declared.option.Option.TheVariants.{Some, None}
 use Rattle.sabr_model.specs.declared.contact.Contact.{Contact}
-use Rattle.sabr_model.specs.Plan.{ContactPlan, contact_named, has, are_different}
+use Rattle.sabr_model.specs.Plan.{ContactPlan, contact_named, has}
 use Rattle.sabr_model.specs.Arrival.{RouteRequest, arrival, arrival_after}
 use Rattle.sabr_model.specs.Route.{chain_end}
 
@@ -39,16 +39,6 @@ chain_end-cons p a n s c named from =
 pub arrival_after-cons : (p : ContactPlan) (r : RouteRequest) (t n b : ℕ) (s : List ℕ) (c : Contact) → contact_named p n ≡ Some c → arrival p r t c ≡ Some b → arrival_after p r t (n ∷ s) ≡ arrival_after p r b s
 arrival_after-cons p r t n b s c named here =
     ap (option_and_then (λ d. option_and_then (λ b. arrival_after p r b s) (arrival p r t d))) named ∙ ap (option_and_then (λ b. arrival_after p r b s)) here
-
--- two lists without repetition that share nothing, one after the other
-pub different_append : (xs ys : List ℕ) → are_different xs ≡ true → are_different ys ≡ true → ((x : ℕ) → has x xs ≡ true → has x ys ≡ true → ⊥) → are_different (xs ++ ys) ≡ true
-different_append [] ys one other apart = other
-different_append (x ∷ xs) ys one other apart =
-    let parts = and_parts (not (has x xs)) (are_different xs) one in
-    let fresh : has x (xs ++ ys) ≡ false =
-    list_any-append (eqb x) xs ys ∙ or_from (has x xs) (has x ys) (not-true (has x xs) parts.0) (false_from_ne_true (has x ys) (λ h. apart x (or_left (eqb x x) (has x xs) (eq-eqb x x refl)) h)) in
-    and_from (not (has x (xs ++ ys))) (are_different (xs ++ ys)) (not_from_false (has x (xs ++ ys)) fresh)
-    (different_append xs ys parts.1 other (λ y h g. apart y (or_right (eqb y x) (has y xs) h) g))
 
 -- what a test of all elements says of each
 pub all_of : (test : ℕ → Bool) (xs : List ℕ) → list_all test xs ≡ true → (x : ℕ) → has x xs ≡ true → test x ≡ true

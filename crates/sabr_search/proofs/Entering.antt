@@ -1,7 +1,7 @@
 -- Shutting nodes, and passing a prefix.
-use Rattle.std.proofs.Common.{◌≡◌, inl, inr, ℕ, zero, suc, ◌+◌, ◌<◌, ◌≤◌, Bool, true, false, not, ◌||◌, eqb, List, [], ◌∷◌, ◌++◌, length, take, drop, Some, None, Option, slice_get, slice_index_or, slice_set, refl, ap, sym, subst, ◌∙◌, ⊎_elim, arith, add-one}
-use Rattle.std.specs.Prelude.{IsTrue, is_some}
-use Rattle.std.proofs.lemmas.Bool.{or_right, or_from, or_cases, eq-eqb, ne_eqb, eqb-true, both_ways, cases_eq, and_parts, not-true}
+use Rattle.std.proofs.Common.{◌≡◌, inl, inr, ℕ, zero, suc, ◌+◌, ◌≤◌, Bool, true, false, not, ◌||◌, eqb, List, [], ◌∷◌, ◌++◌, length, take, drop, Some, slice_get, slice_index_or, slice_set, refl, ap, sym, subst, ◌∙◌, arith, add-one}
+use Rattle.std.specs.Prelude.{IsTrue}
+use Rattle.std.proofs.lemmas.Bool.{or_right, or_from, eq-eqb, ne_eqb, both_ways, cases_eq, and_parts, not-true}
 use Rattle.std.proofs.lemmas.List.{take_more}
 use Rattle.std.proofs.lemmas.Option.{slice_get_within, get_or_from_slice_get}
 use Rattle.sabr_model.specs.declared.contact.Contact.{Contact}
@@ -17,31 +17,19 @@ use Rattle.sabr_model.specs.Hops.{hop_arrival}
 use Rattle.sabr_search.specs.Task.{SearchTask, HasNodes, IsTask, IsBehind, is_closed, latest_arrival}
 use Rattle.sabr_search.specs.Entering.{AreShut, IsPassed}
 use Rattle.sabr_search.proofs.Arrivals.{arrival_parts}
-use Rattle.sabr_search.proofs.Backward.{get_set_here}
 use Rattle.sabr_search.proofs.Bridge.{start_is_shut}
 use Rattle.sabr_search.proofs.Chains.{has_append, first_arrival}
-use Rattle.sabr_search.proofs.PlanFacts.{has_at, hop_arrival_is, contact_window, light_small, cost_small}
+use Rattle.sabr_search.proofs.PlanFacts.{hop_arrival_is, contact_window, light_small, cost_small}
 use Rattle.sabr_search.proofs.Prefixes.{IsPrefix}
-
-flag_here : (xs : List Bool) (k : ℕ) → k < length xs → slice_index_or (slice_set xs k true) k false ≡ true
-flag_here xs k less = get_or_from_slice_get (slice_set xs k true) k true false (get_set_here xs k true less)
-
-flag_other : (xs : List Bool) (k j : ℕ) → (j ≡ k → ⊥) → slice_index_or (slice_set xs k true) j false ≡ slice_index_or xs j false
-flag_other [] k j other = refl
-flag_other (x ∷ xs) zero zero other = absurd (other refl)
-flag_other (x ∷ xs) zero (suc j) other = refl
-flag_other (x ∷ xs) (suc k) zero other = refl
-flag_other (x ∷ xs) (suc k) (suc j) other = flag_other xs k j (λ same. other (ap suc same))
-
-flags_length : (xs : List Bool) (k : ℕ) → length (slice_set xs k true) ≡ length xs
-flags_length [] k = refl
-flags_length (x ∷ xs) zero = refl
-flags_length (x ∷ xs) (suc k) = ap suc (flags_length xs k)
+use Rattle.sabr_model.proofs.Tabled.{has_place}
+use Rattle.sabr_model.proofs.Paths.{value_of}
+use Rattle.sabr_search.proofs.Law.{received}
+use Rattle.sabr_search.proofs.Queues.{flag_here, flag_other, flag_many}
 
 -- a node more is shut
 pub shut_more : (p : ContactPlan) (table : List ℕ) → HasNodes p table → (shut : List Bool) (test test' : ℕ → Bool) (k node : ℕ) → AreShut table shut test → slice_get table k ≡ Some node → ((x : ℕ) → test' x ≡ (test x || eqb x node)) → AreShut table (slice_set shut k true) test'
 shut_more p table nodes shut test test' k node so_far at more = record {
-  many = flags_length shut k ∙ so_far.many;
+  many = flag_many shut k ∙ so_far.many;
   flag = λ j x here. elim (cases_eq j k) [
     | inl same ↦
         (let node_is : x ≡ node = (let q : Some x ≡ Some node = sym here ∙ ap (slice_get table) same ∙ at in cc (q)) in
@@ -59,7 +47,7 @@ shut_more p table nodes shut test test' k node so_far at more = record {
 
 -- a node that isn't in the table needs no flag
 pub shut_same : (table : List ℕ) (shut : List Bool) (test test' : ℕ → Bool) → AreShut table shut test → ((x : ℕ) → has x table ≡ true → test' x ≡ test x) → AreShut table shut test'
-shut_same table shut test test' so_far same = record { many = so_far.many; flag = λ k x at. so_far.flag k x at ∙ sym (same x (has_at table k x at)) }
+shut_same table shut test test' so_far same = record { many = so_far.many; flag = λ k x at. so_far.flag k x at ∙ sym (same x (has_place table k x at)) }
 
 or_nothing : (a b : Bool) → (a || (b || false)) ≡ (a || b)
 or_nothing true b = refl
@@ -110,10 +98,6 @@ drop_rest [] (suc i) le = refl
 drop_rest (x ∷ xs) zero le = absurd (omega arith)
 drop_rest (x ∷ xs) (suc i) le = drop_rest xs i (omega arith)
 
-some_value : (o : Option ℕ) → is_some o ≡ true → (x : ℕ) × (o ≡ Some x)
-some_value None e = absurd cc
-some_value (Some x) e = (x, refl)
-
 -- what the next contact of a prefix is, and when it arrives
 pub record IsNextHop (p : TabledPlan) (r : RouteRequest) (t i n : ℕ) (prefix : List ℕ) : Type 0 where
   pub contact : Contact
@@ -126,8 +110,8 @@ pub record IsNextHop (p : TabledPlan) (r : RouteRequest) (t i n : ℕ) (prefix :
 pub next_hop : (p : TabledPlan) (r : RouteRequest) (prefix : List ℕ) → IsPrefix p.plan r prefix → (t i n v : ℕ) → slice_get prefix i ≡ Some n →
     chain_end p.plan v (drop i prefix) ≡ chain_end p.plan r.source prefix → arrival_after p.plan r t (drop i prefix) ≡ arrival_after p.plan r r.at prefix → IsNextHop p r t i n prefix
 next_hop p r prefix facts t i n v at chain time =
-    let ends = some_value (chain_end p.plan r.source prefix) facts.chained in
-    let timed = some_value (arrival_after p.plan r r.at prefix) facts.in_time in
+    let ends = value_of (chain_end p.plan r.source prefix) facts.chained in
+    let timed = value_of (arrival_after p.plan r r.at prefix) facts.in_time in
     let rest = drop (i + 1) prefix in
     let on : chain_end p.plan v (n ∷ rest) ≡ Some ends.0 = ap (chain_end p.plan v) (sym (drop_next prefix i n at)) ∙ chain ∙ ends.1 in
     let later : arrival_after p.plan r t (n ∷ rest) ≡ Some timed.0 = ap (arrival_after p.plan r t) (sym (drop_next prefix i n at)) ∙ time ∙ timed.1 in
@@ -143,27 +127,20 @@ next_arrival p r t i n prefix next h hop =
 
 -- ---- where source or destination isn't in the table there is no route
 
-received_at : (p : ContactPlan) (a : ℕ) (s : List ℕ) (b x : ℕ) → chain_end p a s ≡ Some b → has x (receivers p s) ≡ true → (n : ℕ) × (c : Contact) × (contact_named p n ≡ Some c) × (c.to ≡ x)
-received_at p a [] b x chain h = absurd cc
-received_at p a (n ∷ s) b x chain h =
-    let f = first_hop p a n s b chain in
-    ⊎_elim (λ here. (n, f.contact, f.named, sym (eqb-true x f.contact.to here))) (λ later. received_at p f.contact.to s b x f.rest later)
-    (or_cases (eqb x f.contact.to) (has x (receivers p s)) (sym (ap (has x) (receivers-cons p n s f.contact f.named)) ∙ h))
-
 pub no_source : (p : ContactPlan) (r : RouteRequest) (table : List ℕ) → HasNodes p table → has r.source table ≡ false → (s : List ℕ) → IsTrue (is_route p r s) → ⊥
 no_source p r table nodes out [] route = omega (arith, (route_facts p r [] route).some_hop)
 no_source p r table nodes out (n ∷ s) route =
     let h = first_hop p r.source n s r.destination (route_facts p r (n ∷ s) route).reaches in
     let place = nodes.senders n h.contact h.named in
-    both_ways (has r.source table) out (has_at table place.0 r.source (place.1 ∙ ap Some h.sent))
+    both_ways (has r.source table) out (has_place table place.0 r.source (place.1 ∙ ap Some h.sent))
 
 pub no_destination : (p : ContactPlan) (r : RouteRequest) (table : List ℕ) → HasNodes p table → has r.destination table ≡ false → (s : List ℕ) → IsTrue (is_route p r s) → ⊥
 no_destination p r table nodes out [] route = omega (arith, (route_facts p r [] route).some_hop)
 no_destination p r table nodes out (n ∷ s) route =
     let facts = route_facts p r (n ∷ s) route in
-    let m = received_at p r.source (n ∷ s) r.destination r.destination facts.reaches (end_is_received p r.source n s r.destination facts.reaches) in
+    let m = received p r.source (n ∷ s) r.destination r.destination facts.reaches (end_is_received p r.source n s r.destination facts.reaches) in
     let place = nodes.receivers m.0 m.1 m.2 in
-    both_ways (has r.destination table) out (has_at table place.0 r.destination (place.1 ∙ ap Some m.3))
+    both_ways (has r.destination table) out (has_place table place.0 r.destination (place.1 ∙ ap Some m.3))
 
 -- ---- the task behind a prefix
 

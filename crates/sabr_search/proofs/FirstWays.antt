@@ -9,7 +9,7 @@ use Rattle.std.proofs.lemmas.Option.{slice_get_within}
 use Rattle.sabr_search.specs.declared.queue.Event.{Event}
 use Rattle.sabr_search.specs.declared.layers.Best.{Best}
 use Rattle.sabr_search.specs.Ways.{Leads}
-use Rattle.sabr_search.specs.Task.{SearchTask, Takes, IsTask, never}
+use Rattle.sabr_search.specs.Task.{SearchTask, Takes, IsTask}
 use Rattle.sabr_search.specs.Steps.{senders, degree}
 use Rattle.sabr_search.specs.Made.{AreOpened}
 use Rattle.sabr_search.specs.Settling.{sent_by_settled, IsQueue, AreSettling, IsFallen, AreSettledTaken, AreSettled, IsFirstWay}
@@ -28,36 +28,6 @@ all_off : (n k : ℕ) → slice_index_or (replicate n false) k false ≡ false
 all_off zero k = refl
 all_off (suc n) zero = refl
 all_off (suc n) (suc k) = all_off n k
-
--- the start is settled first
-module _ (task : SearchTask) (is : IsTask task) (arrival : List ℕ) (opened : AreOpened task arrival) where
-  only_start : (k : ℕ) → slice_index_or (slice_set (replicate (length task.shut) false) task.start true) k false ≡ true → k ≡ task.start
-  only_start k on = elim (cases_eq k task.start) [
-    | inl same ↦ same
-    | inr other ↦ absurd (both_ways (slice_index_or (replicate (length task.shut) false) k false) (all_off (length task.shut) k) (sym (flag_other (replicate (length task.shut) false) task.start k other) ∙ on))
-  ]
-
-  pub first_state : (best : Best) → best.hops ≡ 0 → best.delivery ≡ never → AreSettling task (slice_set (replicate (length task.shut) false) task.start true) task.at arrival [] best
-  first_state best none unreached = record {
-    flags = opened.flags;
-    closed = opened.closed;
-    early = λ k on. omega (arith, ap (slice_index arrival) (only_start k on), opened.start);
-    queue_is = record {
-      waits = λ k inside open' unsettled reached. absurd (omega (arith, opened.unreached k inside open'));
-      late = λ i d lt. absurd (omega arith);
-      order = λ i d lt. absurd (omega arith);
-      since = λ i d lt. absurd (omega arith);
-      inside = λ i d lt. absurd (omega arith);
-      unshut = λ i d lt. absurd (omega arith);
-      other = λ i d lt. absurd (omega arith);
-      real = λ i d lt. absurd (omega arith);
-      few = λ i d lt. absurd (omega arith);
-    };
-    found = inl (none, unreached);
-  }
-
-  pub first_taken : (best : ℕ) → AreSettledTaken task (replicate (length task.shut) false) arrival best
-  first_taken best v n w b on s = absurd (both_ways (slice_index_or (replicate (length task.shut) false) v false) (all_off (length task.shut) v) on)
 
 -- the start is no goal
 pub goal_other : (task : SearchTask) → IsTask task → task.goal ≢ task.start

@@ -10,6 +10,7 @@ use Rattle.sabr_search.specs.Steps.{IsHopAt}
 use Rattle.sabr_model.specs.Hops.{hop_arrival}
 use Rattle.sabr_search.specs.Lists.{AreLists, IsLowered, IsKnown, Arrivals}
 use Rattle.sabr_search.proofs.PlanFacts.{hop_arrival_is}
+use Rattle.sabr_search.proofs.Bridge.{same_some}
 
 -- nothing was taken
 pub lowered_none : (shut : List Bool) (goal at begin : ℕ) (Given : Arrivals) (arrival place : List ℕ) (reached : List Reached) (best : ℕ) →
@@ -65,9 +66,6 @@ known_old goal arrival best w before x at_goal elsewhere le = elim (cases_eq w g
     | inr more ↦ inl (omega (arith, elsewhere other))
   ]
 ]
-
-same_some : {X : Type 0} {x y : X} → Some x ≡ Some y → x ≡ y
-same_some h = cc
 
 -- what a step over the contact of a hop is
 pub step_of_hop : (task : SearchTask) → IsTask task → (n : ℕ) (h : Hop) → IsHopAt task n h → (u t w x : ℕ) → Takes task n u t w x → (w ≡ h.receiver) × (hop_arrival task.request.margin t h ≡ Some x)

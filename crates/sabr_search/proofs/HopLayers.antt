@@ -40,12 +40,6 @@ module _ (T : StepRelation) (timely : IsTimely T) (E : Entries) (start at goal r
       let rest = rest_of k (h + 1) step.1 step.2 (λ j above below. tables j (omega arith) below) (omega arith) step.4 in
       (step.0 ∷ rest.0, rest.1, omega (arith, rest.2), rest.3, (step.1, step.2, step.3, rest.4))
 
-  -- so what the deadlines admit is no later than d
-  pub admits_by : (k h w b : ℕ) → ((j : ℕ) → h ≤ j → j < r → IsTable T E goal r d j) → h + k ≡ r → Admits E goal r d h w b → b ≤ d
-  admits_by k h w b tables sum admits =
-      let rest = rest_of k h w b tables sum admits in
-      omega (arith, rest.3, Leads-later T timely rest.0 w b goal rest.1 rest.4)
-
   -- every rest in time is within the deadlines
   pub admitted : AreTables T E goal r d → (ys xs : List ℕ) (v t e : ℕ) → Leads T start at xs v t → Leads T v t ys goal e → e ≤ d → length xs + length ys ≡ r → 0 < length xs →
       Admits E goal r d (length xs) v t

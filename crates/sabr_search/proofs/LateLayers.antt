@@ -7,11 +7,10 @@ use Rattle.sabr_search.specs.Task.{SearchTask, Takes, IsTask}
 use Rattle.sabr_search.specs.Made.{Entry}
 use Rattle.sabr_search.specs.Late.{AreArrivals, AreLateLayers, IsMet}
 use Rattle.sabr_search.proofs.Ways.{Leads-append, Leads-later}
-use Rattle.sabr_search.proofs.Bridge.{takes_timely}
+use Rattle.sabr_search.proofs.Bridge.{takes_timely, same_some}
 use Rattle.sabr_search.proofs.FirstWays.{goal_other}
 use Rattle.sabr_search.proofs.Backward.{way_open}
 use Rattle.sabr_search.proofs.Forward.{last_or_before}
-use Rattle.sabr_search.proofs.OverLinks.{same_some}
 
 module _ (task : SearchTask) (is : IsTask task) (since : List ℕ) (d left : ℕ) (ends late place : List ℕ) (reached : List Reached) (made : AreLateLayers task since d left ends late place reached) where
   -- layer 0 is the goal

@@ -6,10 +6,10 @@ use Rattle.std.proofs.lemmas.Option.{slice_get-get_or, slice_get_within}
 use Rattle.sabr_search.specs.declared.layers.Reached.{Reached}
 use Rattle.sabr_search.specs.Task.{SearchTask, Takes, IsTask}
 use Rattle.sabr_search.specs.Late.{soonest, InTimeFor, IsLateEntry, AreLate, IsNotedLate, IsToldLate}
-use Rattle.sabr_search.proofs.Backward.{get_set_here, get_set_other}
+use Rattle.sabr_search.proofs.Backward.{get_set_here, get_set_other, set_other}
 use Rattle.sabr_search.proofs.Between.{same_below}
-use Rattle.sabr_search.proofs.Bridge.{takes_timely}
-use Rattle.sabr_search.proofs.OverLinks.{same_some}
+use Rattle.sabr_search.proofs.Bridge.{takes_timely, same_some}
+use Rattle.sabr_search.proofs.Queues.{set_here}
 
 pub get_push_here : {X : Type 0} (xs : List X) (y : X) → slice_get (xs ++ y ∷ []) (length xs) ≡ Some y
 get_push_here [] y = refl
@@ -46,12 +46,6 @@ take_push : {X : Type 0} (k : ℕ) (xs : List X) (y : X) → k ≤ length xs →
 take_push zero xs y le = refl
 take_push (suc k) [] y le = absurd (omega arith)
 take_push (suc k) (x ∷ xs) y le = ap (λ zs. x ∷ zs) (take_push k xs y (omega arith))
-
-pub set_here : (xs : List ℕ) (k b : ℕ) → k < length xs → slice_index (slice_set xs k b) k ≡ b
-set_here xs k b less = grind (arith, common_steps)
-
-pub set_other : (xs : List ℕ) (k j b : ℕ) → (j ≡ k → ⊥) → slice_index (slice_set xs k b) j ≡ slice_index xs j
-set_other xs k j b other = grind (arith, common_steps)
 
 pub set_many : {X : Type 0} (xs : List X) (k : ℕ) (b : X) → length (slice_set xs k b) ≡ length xs
 set_many xs k b = grind (arith, common_steps)

@@ -1,6 +1,6 @@
 -- From the least way of a search to the law of finders, and the bounds on looks.
 use Rattle.std.proofs.Common.{◌≡◌, inl, inr, ℕ, suc, ◌+◌, ◌-◌, ◌*◌, ◌≤◌, true, eqb, ltb, List, [], ◌∷◌, ◌++◌, length, map, Some, None, Option, refl, ap, sym, subst, ◌∙◌, ⊎_elim, arith, length-append}
-use Rattle.std.specs.Prelude.{IsTrue, is_some, min, IfSome, IfNone, IfOk, OnErr, Ok, Err, Result}
+use Rattle.std.specs.Prelude.{IsTrue, min, IfSome, IfNone, IfOk, OnErr, Ok, Err, Result}
 use Rattle.std.proofs.Math.Nat.{mul-le-mul, mul-le-mul_right}
 use Rattle.sabr_model.specs.declared.fault.NoMemory.{NoMemory}
 use Rattle.std.specs.List.{AllByRecursion}
@@ -22,10 +22,12 @@ use Rattle.sabr_search.specs.Told.{IsTold, hops_told}
 use Rattle.sabr_search.specs.Ways.{Leads}
 use Rattle.sabr_search.specs.Task.{SearchTask, Takes, HasNodes, IsTask, IsBehind, latest_arrival, never}
 use Rattle.sabr_search.proofs.Least.{least_in_part, none_in_part}
-use Rattle.sabr_search.proofs.PlanFacts.{contact_in, has_at, takes_early}
+use Rattle.sabr_search.proofs.PlanFacts.{contact_in, takes_early}
 use Rattle.sabr_search.proofs.Prefixes.{IsPrefix}
 use Rattle.sabr_search.proofs.PartWays.{way_is_route}
 use Rattle.sabr_search.proofs.StepLists.{few_different}
+use Rattle.sabr_model.proofs.Tabled.{has_place}
+use Rattle.sabr_model.proofs.Paths.{value_of}
 
 -- no way arrives late
 pub way_early : (task : SearchTask) → IsTask task → (ns : List ℕ) (u t v e : ℕ) → t ≤ latest_arrival → Leads (Takes task) u t ns v e → e ≤ latest_arrival
@@ -40,7 +42,7 @@ receivers_length p a (n ∷ s) b chain =
     let h = first_hop p a n s b chain in
     ap length (receivers-cons p n s h.contact h.named) ∙ ap suc (receivers_length p h.contact.to s b h.rest)
 
-received : (p : ContactPlan) (a : ℕ) (s : List ℕ) (b x : ℕ) → chain_end p a s ≡ Some b → has x (receivers p s) ≡ true → (n : ℕ) × (c : Contact) × (contact_named p n ≡ Some c) × (c.to ≡ x)
+pub received : (p : ContactPlan) (a : ℕ) (s : List ℕ) (b x : ℕ) → chain_end p a s ≡ Some b → has x (receivers p s) ≡ true → (n : ℕ) × (c : Contact) × (contact_named p n ≡ Some c) × (c.to ≡ x)
 received p a [] b x chain h = absurd cc
 received p a (n ∷ s) b x chain h =
     let f = first_hop p a n s b chain in
@@ -64,13 +66,9 @@ route_few p r s route =
     let facts = route_facts p r s route in
     chain_few p r.source s r.destination facts.reaches (and_parts _ (are_different (receivers p s)) facts.different).1
 
-some_value : (o : Option ℕ) → is_some o ≡ true → (x : ℕ) × (o ≡ Some x)
-some_value None e = absurd cc
-some_value (Some x) e = (x, refl)
-
 pub prefix_few : (p : ContactPlan) (r : RouteRequest) (s : List ℕ) → IsPrefix p r s → length s ≤ length p.contacts
 prefix_few p r s facts =
-    let ends = some_value (chain_end p r.source s) facts.chained in
+    let ends = value_of (chain_end p r.source s) facts.chained in
     chain_few p r.source s ends.0 ends.1 (and_parts _ (are_different (receivers p s)) facts.different).1
 
 -- and fewer than the plan has nodes
@@ -82,8 +80,8 @@ route_nodes p r table nodes (n ∷ s) route =
     let source = nodes.senders n h.contact h.named in
     let few = few_different (r.source ∷ receivers p (n ∷ s)) table facts.different
     (λ q there. ⊎_elim
-    (λ here. has_at table source.0 q (source.1 ∙ ap Some (h.sent ∙ sym (eqb-true q r.source here))))
-    (λ later. (let m = received p r.source (n ∷ s) r.destination q facts.reaches later in let place = nodes.receivers m.0 m.1 m.2 in has_at table place.0 q (place.1 ∙ ap Some m.3)))
+    (λ here. has_place table source.0 q (source.1 ∙ ap Some (h.sent ∙ sym (eqb-true q r.source here))))
+    (λ later. (let m = received p r.source (n ∷ s) r.destination q facts.reaches later in let place = nodes.receivers m.0 m.1 m.2 in has_place table place.0 q (place.1 ∙ ap Some m.3)))
     (or_cases (eqb q r.source) (has q (receivers p (n ∷ s))) there)) in
     omega (arith, few, receivers_length p r.source (n ∷ s) r.destination facts.reaches)
 

@@ -1,11 +1,10 @@
 -- The links that a plan gives for a node are those of a search, and what bounds their passes.
-use Rattle.std.proofs.Common.{◌≡◌, ℕ, ◌+◌, ◌-◌, ◌*◌, ◌<◌, ◌≤◌, true, false, cond, eqb, List, [], ◌∷◌, length, map, take, drop, get_or, slice_get, refl, sym, ap, ◌∙◌, arith}
+use Rattle.std.proofs.Common.{◌≡◌, ℕ, ◌+◌, ◌-◌, ◌*◌, ◌≤◌, true, false, cond, eqb, List, [], ◌∷◌, length, map, slice_get, refl, sym, ap, ◌∙◌, arith}
 use Rattle.std.specs.List.{count_by, filter}
 use Rattle.std.specs.declared.option.Option.TheVariants.{Some}
 use Rattle.std.proofs.lemmas.Bool.{eqb-true, eq-eqb}
-use Rattle.std.proofs.lemmas.List.{length-take, length-drop, get_or-take, get_or-drop}
 use Rattle.std.proofs.lemmas.List.Sums.{sum_by-cons}
-use Rattle.std.proofs.lemmas.Option.{slice_get-get_or, slice_get_within, get_or_from_slice_get}
+use Rattle.std.proofs.lemmas.Option.{slice_get_within}
 use Rattle.std.proofs.Math.Nat.{mul-le-mul}
 use Rattle.sabr_model.specs.declared.contact.Contact.{Contact}
 use Rattle.sabr_model.specs.declared.link.Pass.{Pass}
@@ -19,26 +18,8 @@ use Rattle.sabr_search.specs.Steps.{place_in}
 use Rattle.sabr_search.specs.Linked.{IsPassAt, IsLinkAt, passes_of, AreLinksAt, AreSendersAt}
 use Rattle.sabr_search.proofs.Arrivals.{arrival_parts}
 use Rattle.sabr_search.proofs.StepLists.{place_is}
-
-same_some : {X : Type 0} {x y : X} → Some x ≡ Some y → x ≡ y
-same_some h = cc
-
--- an element of a part of a list, in the list
-part_at : {X : Type 0} (xs : List X) (first n k : ℕ) (x : X) → slice_get (take n (drop first xs)) k ≡ Some x → (k < n) × (slice_get xs (first + k) ≡ Some x)
-part_at xs first n k x h =
-    let within : k < length (take n (drop first xs)) = slice_get_within (take n (drop first xs)) k x h in
-    let less : k < n = omega (arith, within, length-take n (drop first xs)) in (
-      less,
-      slice_get-get_or xs (first + k) x (omega (arith, within, length-take n (drop first xs), length-drop first xs))
-          ∙ ap Some (sym (get_or-drop first xs k x) ∙ sym (get_or-take n (drop first xs) k x less) ∙ get_or_from_slice_get (take n (drop first xs)) k x x h),
-    )
-
--- an element of a list, in a part of it
-part_has : {X : Type 0} (xs : List X) (first end p : ℕ) (x : X) → first ≤ p → p < end → end ≤ length xs → slice_get xs p ≡ Some x → slice_get (take (end - first) (drop first xs)) (p - first) ≡ Some x
-part_has xs first end p x after before within h =
-    let back : first + (p - first) ≡ p = omega arith in
-    slice_get-get_or (take (end - first) (drop first xs)) (p - first) x (omega (arith, length-take (end - first) (drop first xs), length-drop first xs))
-    ∙ ap Some (get_or-take (end - first) (drop first xs) (p - first) x (omega arith) ∙ get_or-drop first xs (p - first) x ∙ ap (λ q. get_or xs q x) back ∙ get_or_from_slice_get xs p x x h)
+use Rattle.sabr_model.proofs.Different.{part_has, part_at}
+use Rattle.sabr_search.proofs.Bridge.{same_some}
 
 -- a node's contacts are as many as those of its place
 sent_few : (table : List ℕ) (u node : ℕ) → place_in table node ≡ u → (cs : List Contact) → length (sent_by cs node) ≤ count_by (λ k. eqb k u) (map (λ (c : Contact). place_in table c.from) cs)

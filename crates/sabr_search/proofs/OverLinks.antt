@@ -30,9 +30,7 @@ use Rattle.sabr_search.proofs.Arrivals.{arrival_parts}
 use Rattle.sabr_search.proofs.PlanFacts.{hop_small, light_small}
 use Rattle.sabr_search.proofs.Forward.{hop_takes}
 use Rattle.sabr_search.proofs.Linking.{cost_rises}
-
-pub same_some : {X : Type 0} {x y : X} → Some x ≡ Some y → x ≡ y
-same_some h = cc
+use Rattle.sabr_search.proofs.Bridge.{same_some}
 
 -- what stands where a list of passes has no more
 abbrev pub no_pass : Pass

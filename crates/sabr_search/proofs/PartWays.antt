@@ -4,8 +4,7 @@ use Rattle.std.specs.Prelude.{is_some, IsTrue}
 use Rattle.std.proofs.lemmas.Bool.{and_from, or_cases, or_parts, or_from, eqb-true, both_ways, not-true, not_from_false, false_from_ne_true}
 use Rattle.std.specs.List.{list_all}
 use Rattle.std.specs.Option.{option_and_then}
-use Rattle.std.specs.declared.option.Option.{Option}
-use Rattle.std.specs.declared.option.Option.TheVariants.{Some, None}
+use Rattle.std.specs.declared.option.Option.TheVariants.{Some}
 use Rattle.sabr_model.specs.Plan.{has, are_different}
 use Rattle.sabr_model.specs.Arrival.{arrival_after}
 use Rattle.sabr_model.specs.Route.{chain_end, receivers, is_route, IsRoute}
@@ -16,9 +15,11 @@ use Rattle.sabr_search.specs.Ways.{Leads}
 use Rattle.sabr_search.specs.Task.{SearchTask, Takes, IsBehind, is_closed}
 use Rattle.sabr_search.proofs.Ways.{Leads-append}
 use Rattle.sabr_search.proofs.Picks.{no_return}
-use Rattle.sabr_search.proofs.Chains.{arrival_after-append, different_append, all_of, all_from, has_right, has_either}
+use Rattle.sabr_search.proofs.Chains.{arrival_after-append, all_of, all_from, has_right, has_either}
 use Rattle.sabr_search.proofs.Prefixes.{IsPrefix, goes_on-append, goes_on_parts}
 use Rattle.sabr_search.proofs.Bridge.{takes_timely, way_from_chain, IsChain, chain_of_way}
+use Rattle.sabr_model.proofs.Different.{different_append}
+use Rattle.sabr_model.proofs.Paths.{value_of}
 
 -- a route of the part, as a way
 pub record IsPartWay (task : SearchTask) (prefix s : List ℕ) : Type 0 where
@@ -29,10 +30,6 @@ pub record IsPartWay (task : SearchTask) (prefix s : List ℕ) : Type 0 where
   pub delivers : arrival_after task.plan task.request task.request.at s ≡ Some delivery
   pub way : Leads (Takes task) task.start task.at rest task.goal delivery
 
-some_value : (o : Option ℕ) → is_some o ≡ true → (x : ℕ) × (o ≡ Some x)
-some_value None e = absurd cc
-some_value (Some x) e = (x, refl)
-
 module _ (task : SearchTask) (prefix : List ℕ) (behind : IsBehind task prefix) where
   pub part_way : (s : List ℕ) → IsTrue (is_route task.plan task.request s) → goes_on prefix task.excluded s ≡ true → IsPartWay task prefix s
   part_way s route on =
@@ -41,7 +38,7 @@ module _ (task : SearchTask) (prefix : List ℕ) (behind : IsBehind task prefix)
       let parts = goes_on_parts prefix task.excluded s on in
       let rest : List ℕ = parts.0 ∷ parts.1 in
       let facts : IsRoute p r (prefix ++ rest) = subst (λ (w : List ℕ). IsRoute p r w) parts.2 (route_facts p r s route) in
-      let timed = some_value (arrival_after p r r.at (prefix ++ rest)) facts.in_time in
+      let timed = value_of (arrival_after p r r.at (prefix ++ rest)) facts.in_time in
       let after : arrival_after p r task.at rest ≡ Some timed.0 =
       sym (arrival_after-append p r r.at prefix rest ∙ ap (option_and_then (λ b. arrival_after p r b rest)) behind.arrives) ∙ timed.1 in
       let chain : chain_end p behind.last_node rest ≡ Some r.destination =

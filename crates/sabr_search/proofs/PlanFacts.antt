@@ -1,7 +1,7 @@
 -- What a plan's rules say of a contact of a number, of its hop, and of the table of nodes.
 use Rattle.std.proofs.Common.{◌≡◌, ℕ, zero, suc, ◌+◌, ◌*◌, ◌<◌, ◌≤◌, max, Bool, true, false, ◌&&◌, cond, not, eqb, ltb, List, [], ◌∷◌, slice_get, refl, sym, ap, subst, ◌∙◌, inl, inr, ⊎_elim, arith}
 use Rattle.std.specs.Prelude.{IfSome, Contains, ◌↔◌}
-use Rattle.std.proofs.lemmas.Bool.{and_parts, not-true, both_ways, false_from_ne_true, or_left, or_right, eq-eqb, ltb-true, cond-true, lt-ltb}
+use Rattle.std.proofs.lemmas.Bool.{and_parts, not-true, both_ways, false_from_ne_true, ltb-true, cond-true, lt-ltb}
 use Rattle.std.specs.List.{find}
 use Rattle.std.specs.Option.{option_map}
 use Rattle.std.specs.declared.option.Option.{Option}
@@ -21,6 +21,7 @@ use Rattle.std.proofs.Math.Nat.{mul-le-mul}
 use Rattle.sabr_search.specs.Task.{HasNodes, SearchTask, IsTask, Takes, latest_arrival}
 use Rattle.sabr_search.specs.Steps.{IsHopAt}
 use Rattle.sabr_search.proofs.Arrivals.{arrival_parts}
+use Rattle.sabr_model.proofs.Tabled.{has_place}
 
 -- what a search through a list finds is in the list and passes
 pub found_in : {X : Type 0} (test : X → Bool) (xs : List X) (x : X) → find test xs ≡ Some x → IsIn x xs × (test x ≡ true)
@@ -78,12 +79,6 @@ hop_arrival_is p r t c h is =
     let at_end : a h.start c.end (light_of p.plan c) ≡ a h.start h.end (light_of p.plan c) = ap (λ e. a h.start e (light_of p.plan c)) (sym is.end) in
     at_start ∙ at_end ∙ ap (a h.start h.end) (sym is.light)
 
--- what stands at a place of a list is in it, and what is in it stands at a place
-pub has_at : (xs : List ℕ) (k x : ℕ) → slice_get xs k ≡ Some x → has x xs ≡ true
-has_at [] k x e = absurd cc
-has_at (y ∷ ys) zero x e = or_left (eqb x y) (has x ys) (eq-eqb x y (let same : y ≡ x = cc (e) in sym same))
-has_at (y ∷ ys) (suc k) x e = or_right (eqb x y) (has x ys) (has_at ys k x e)
-
 -- no two places of a list without repetition have one element
 pub places_apart : (xs : List ℕ) → are_different xs ≡ true → (i j x : ℕ) → slice_get xs i ≡ Some x → slice_get xs j ≡ Some x → i ≡ j
 places_apart [] d i j x e f = absurd cc
@@ -91,11 +86,11 @@ places_apart (y ∷ ys) d zero zero x e f = refl
 places_apart (y ∷ ys) d zero (suc j) x e f =
     let parts = and_parts (not (has y ys)) (are_different ys) d in
     let same : y ≡ x = cc (e) in
-    absurd (both_ways (has y ys) (not-true (has y ys) parts.0) (subst (λ w. has w ys ≡ true) (sym same) (has_at ys j x f)))
+    absurd (both_ways (has y ys) (not-true (has y ys) parts.0) (subst (λ w. has w ys ≡ true) (sym same) (has_place ys j x f)))
 places_apart (y ∷ ys) d (suc i) zero x e f =
     let parts = and_parts (not (has y ys)) (are_different ys) d in
     let same : y ≡ x = cc (f) in
-    absurd (both_ways (has y ys) (not-true (has y ys) parts.0) (subst (λ w. has w ys ≡ true) (sym same) (has_at ys i x e)))
+    absurd (both_ways (has y ys) (not-true (has y ys) parts.0) (subst (λ w. has w ys ≡ true) (sym same) (has_place ys i x e)))
 places_apart (y ∷ ys) d (suc i) (suc j) x e f = ap suc (places_apart ys (and_parts (not (has y ys)) (are_different ys) d).1 i j x e f)
 
 pub place_of : (xs : List ℕ) (x : ℕ) → IsIn x xs → (k : ℕ) × (slice_get xs k ≡ Some x)

@@ -11,12 +11,12 @@ use Rattle.sabr_model.specs.Route.{chain_end, receivers}
 use Rattle.sabr_model.proofs.Begins.{receivers-append, chain_end-append}
 use Rattle.sabr_search.specs.Ways.{Leads}
 use Rattle.sabr_search.specs.Task.{SearchTask, Takes, IsBehind}
-use Rattle.sabr_search.proofs.Chains.{different_append}
 use Rattle.sabr_search.proofs.Prefixes.{IsPrefix}
 use Rattle.sabr_search.proofs.Bridge.{IsChain, chain_of_way}
 use Rattle.sabr_search.proofs.PartWays.{way_differs}
 use Rattle.sabr_search.proofs.StepLists.{few_different}
 use Rattle.sabr_search.proofs.Law.{chain_few, contacts_few}
+use Rattle.sabr_model.proofs.Different.{different_append}
 
 -- a way with the fewest hops by its delivery is, with its prefix, no longer than the plan
 pub way_few : (task : SearchTask) (prefix : List ℕ) → IsBehind task prefix → IsPrefix task.plan task.request prefix → (s : List ℕ) (d : ℕ) → Leads (Takes task) task.start task.at s task.goal d

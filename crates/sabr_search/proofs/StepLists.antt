@@ -1,16 +1,15 @@
 -- The place of a sender in the table of nodes, and how many different numbers a list can have.
-use Rattle.std.proofs.Common.{◌≡◌, ℕ, suc, ◌+◌, ◌≤◌, true, false, cond, not, eqb, List, [], ◌∷◌, length, map, slice_get, refl, sym, ap, ◌∙◌, ⊎_elim, add-one}
-use Rattle.std.specs.Prelude.{nat_eq}
-use Rattle.std.specs.List.{AllByRecursion, IsDistinct}
+use Rattle.std.proofs.Common.{◌≡◌, ℕ, suc, ◌+◌, ◌≤◌, true, cond, eqb, List, [], ◌∷◌, length, map, slice_get, refl, sym, ap, ◌∙◌, ⊎_elim, add-one}
 use Rattle.std.specs.Cmp.{nat_eq_equiv}
 use Rattle.std.specs.declared.option.Option.TheVariants.{Some}
-use Rattle.std.proofs.lemmas.Bool.{and_parts, not-true, both_ways, eqb-true, or_parts, or_cases, cases_Bool}
+use Rattle.std.proofs.lemmas.Bool.{both_ways, eqb-true, or_cases, cases_Bool}
 use Rattle.std.proofs.lemmas.Map.Made.{length-le_from_is_member}
 use Rattle.sabr_model.specs.declared.contact.Contact.{Contact}
 use Rattle.sabr_model.specs.Plan.{ContactPlan, has, are_different}
 use Rattle.sabr_search.specs.Task.{SearchTask, HasNodes}
 use Rattle.sabr_search.specs.Steps.{place_in, senders}
-use Rattle.sabr_search.proofs.PlanFacts.{has_at}
+use Rattle.sabr_model.proofs.Listed.{distinct_from_different}
+use Rattle.sabr_model.proofs.Tabled.{has_place}
 
 -- the place of an element of a list, where no two places have it
 place_found : (xs : List ℕ) (x : ℕ) → has x xs ≡ true → slice_get xs (place_in xs x) ≡ Some x
@@ -23,19 +22,7 @@ place_found (y ∷ ys) x h =
     (cases_Bool (eqb x y))
 
 pub place_is : (p : ContactPlan) (table : List ℕ) → HasNodes p table → (u x : ℕ) → slice_get table u ≡ Some x → place_in table x ≡ u
-place_is p table nodes u x e = nodes.apart (place_in table x) u x (place_found table x (has_at table u x e)) e
-
-none_equal : (n : ℕ) (s : List ℕ) → has n s ≡ false → AllByRecursion (λ y. nat_eq n y ≡ false) s
-none_equal n [] h = tt
-none_equal n (y ∷ s) h = let parts = or_parts (eqb n y) (has n s) h in (parts.0, none_equal n s parts.1)
-
--- numbers without repetition are distinct
-pub distinct_from_different : (s : List ℕ) → are_different s ≡ true → IsDistinct nat_eq s
-unfolding IsDistinct
-distinct_from_different [] d = tt
-distinct_from_different (n ∷ s) d =
-    let parts = and_parts (not (has n s)) (are_different s) d in
-    (none_equal n s (not-true (has n s) parts.0), distinct_from_different s parts.1)
+place_is p table nodes u x e = nodes.apart (place_in table x) u x (place_found table x (has_place table u x e)) e
 
 -- different numbers of a list are no more than the list has
 pub few_different : (xs ys : List ℕ) → are_different xs ≡ true → ((q : ℕ) → has q xs ≡ true → has q ys ≡ true) → length xs ≤ length ys

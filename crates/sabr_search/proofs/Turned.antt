@@ -17,7 +17,7 @@ use Rattle.sabr_search.proofs.LateLayers.{base, placed_at, fewest, way_of}
 use Rattle.sabr_search.proofs.LateLists.{get_push_here, get_push_before, set_many}
 use Rattle.sabr_search.proofs.LateMade.{all_zero, all_many}
 use Rattle.sabr_search.proofs.MadeLayers.{index_past}
-use Rattle.sabr_search.proofs.OverLinks.{same_some}
+use Rattle.sabr_search.proofs.Bridge.{same_some}
 
 get_reverse : {X : Type 0} (xs : List X) (p : ℕ) (d : X) → p < length xs → slice_get (reverse xs) p ≡ slice_get xs (length xs - 1 - p)
 get_reverse xs p d less = slice_get-get_or (reverse xs) p d (omega (arith, length-reverse xs)) ∙ ap Some (get_or-reverse xs p d less) ∙ sym (slice_get-get_or xs (length xs - 1 - p) d (omega arith))

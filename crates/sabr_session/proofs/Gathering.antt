@@ -1,17 +1,14 @@
 -- Texts that are gathered in turn, and handed to the writer at the end.
-use Rattle.std.proofs.Common.{◌≡◌, ℕ, ◌+◌, List, [], ◌++◌, Result, Ok, Err, refl, ap, ◌∙◌, sym, append_assoc, append-nil, Option}
+use Rattle.std.proofs.Common.{◌≡◌, ℕ, ◌+◌, List, [], ◌++◌, Result, Ok, Err, ap, ◌∙◌, sym, append_assoc, append-nil, Option}
 use Rattle.std.specs.Result.{IsErrAnd}
 use Rattle.sabr_model.specs.Devices.{Written, WrittenInPart, WritesText}
-use Rattle.sabr_model.proofs.WrittenTexts.{AppendsBeginning-after, AppendsBeginning-more, Written-nil, Written-append, WritesText-after}
+use Rattle.sabr_model.proofs.WrittenTexts.{AppendsBeginning-more, Written-nil, Written-append, WritesText-after}
 use Rattle.sabr_session.specs.Gathering.{Gathered, Gathers}
+use Rattle.sabr_plan.proofs.CanonicalLines.{in_part_after}
 
 -- the bytes held, and two texts: parted behind the first text's part that was written
 split_at : (h i sent xs ys : List ℕ) → h ++ xs ≡ sent ++ i → h ++ (xs ++ ys) ≡ sent ++ (i ++ ys)
 split_at h i sent xs ys e = sym (append_assoc h xs ys) ∙ ap (λ zs. zs ++ ys) e ∙ append_assoc sent i ys
-
--- a text that is only put behind the bytes held
-pub Gathered-held : (a : Option (List ℕ)) (k : ℕ) (h xs : List ℕ) → Gathered a k h xs a k (h ++ xs)
-Gathered-held a k h xs = ([], refl, Written-nil a k)
 
 -- no text changes nothing
 pub Gathered-nil : (a : Option (List ℕ)) (k : ℕ) (h : List ℕ) → Gathered a k h [] a k h
@@ -23,16 +20,12 @@ pub Gathered-append : (a b c : Option (List ℕ)) (k m n : ℕ) (h i j xs ys : L
 Gathered-append a b c k m n h i j xs ys (sent, e, p) (rest, f, q) =
     (sent ++ rest, split_at h i sent xs ys e ∙ ap (λ zs. sent ++ zs) f ∙ sym (append_assoc sent rest j), Written-append a b c k m n sent rest p q)
 
--- a writer that fails behind what was written fails behind the whole
-failed_after : (a b c : Option (List ℕ)) (k m n : ℕ) (sent ys : List ℕ) → Written a k sent b m → WrittenInPart b m ys c n → WrittenInPart a k (sent ++ ys) c n
-failed_after a b c k m n sent ys p q = (AppendsBeginning-after a b c sent ys p.0 q.0, q.1 ∙ ap (λ j. j + 1) p.1)
-
 -- the first text is gathered, and then the second is, or the writer fails
 pub Gathers-after : {A E : Type 0} (a b c : Option (List ℕ)) (k m n : ℕ) (h i j xs ys : List ℕ) (r : Result A E)
     → Gathered a k h xs b m i → Gathers b m i ys r c n j → Gathers a k h (xs ++ ys) r c n j
 Gathers-after a b c k m n h i j xs ys (Ok _) p q = Gathered-append a b c k m n h i j xs ys p q
 Gathers-after a b c k m n h i j xs ys (Err _) (sent, e, p) q =
-    rw (split_at h i sent xs ys e) (failed_after a b c k m n sent (i ++ ys) p q)
+    rw (split_at h i sent xs ys e) (in_part_after a b c k m n sent (i ++ ys) p q)
 
 -- the writer failed in the first text, so it did in the joined text
 pub Gathers-stopped : {A E : Type 0} (P : E → Type 0) (a c : Option (List ℕ)) (k n : ℕ) (h j xs ys : List ℕ) (r : Result A E)
@@ -50,7 +43,7 @@ Gathers-unheld P a c k n h j xs (Err _) is p = (AppendsBeginning-more a c h xs p
 pub Gathers-through : {A E : Type 0} (a b c : Option (List ℕ)) (k m n : ℕ) (h xs : List ℕ) (r : Result A E)
     → Written a k h b m → WritesText b m xs r c n → Gathers a k h xs r c n []
 Gathers-through a b c k m n h xs (Ok _) p q = (h ++ xs, sym (append-nil (h ++ xs)), Written-append a b c k m n h xs p q)
-Gathers-through a b c k m n h xs (Err _) p q = failed_after a b c k m n h xs p q
+Gathers-through a b c k m n h xs (Err _) p q = in_part_after a b c k m n h xs p q
 
 -- the writer failed in the second text
 pub Gathers-stopped_after : {A E : Type 0} (P : E → Type 0) (a b c : Option (List ℕ)) (k m n : ℕ) (h i j xs ys : List ℕ) (r : Result A E)

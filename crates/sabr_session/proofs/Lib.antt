@@ -6,7 +6,7 @@ pub mod ReadNumbers
 mod SlashLists
 mod Labels
 mod PartWords
-mod Pieces
+pub mod Pieces
 mod SessionPieces
 mod SessionRowProofs
 mod SpelledWords

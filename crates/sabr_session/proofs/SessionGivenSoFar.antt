@@ -84,16 +84,6 @@ calls_kept plan calls old new (Err f) answer was told = absurd was
 calls_kept plan calls old new (Ok t) (Err f) was told = tt
 calls_kept plan calls old new (Ok t) (Ok s) was told = told ∙ was.counted
 
--- the reader failed
-pub reader_failed : (plan : TabledPlan) (calls : ℕ) (old mid new : Option (List ℕ)) (feed : Result OpenText SessionFault) (before after : ℕ)
-    → HasFed plan calls old mid feed → Consumes mid new [] → after ≡ before + 1 → ReadsSession plan old before (Err fault.Read) new after
-reader_failed plan calls old mid new (Err f) before after was consumed failed = absurd was
-reader_failed plan calls old mid new (Ok t) before after was consumed failed = record {
-  given = was.given ++ [];
-  consumed = Consumes-append old mid new was.given [] was.consumed consumed;
-  told = inr (inl (failed, refl, was.same [] false ∙ was.fine));
-}
-
 -- no session is told so that a fault is Read, unless its reader failed
 pub read_failed : (plan : TabledPlan) (old : Option (List ℕ)) (before : ℕ) (answer : Result Seen SessionFault) (new : Option (List ℕ)) (after : ℕ) → ReadsSession plan old before answer new after → IfErr answer (λ f. f ≡ fault.Read → after ≡ before + 1)
 read_failed plan old before (Ok s) new after reads = tt

@@ -1,5 +1,5 @@
 -- What a text tells of well-formed states over a plan is within its bounds.
-use Rattle.std.proofs.Common.{◌≡◌, ℕ, ◌+◌, ◌*◌, ◌<◌, ◌≤◌, Bool, true, false, cond, ltb, ◌⊎◌, inl, inr, List, [], ◌∷◌, ◌++◌, map, filter, length, refl, sym, subst, arith, Option, Some, None, is_some, unwrap_or}
+use Rattle.std.proofs.Common.{◌≡◌, ℕ, ◌+◌, ◌*◌, ◌<◌, ◌≤◌, Bool, true, false, cond, ltb, ◌⊎◌, inl, inr, List, [], ◌∷◌, ◌++◌, map, filter, length, refl, sym, subst, arith, Option, Some, None, unwrap_or}
 use Rattle.std.specs.List.{AllByRecursion, flat_map}
 use Rattle.std.specs.Option.{option_map_or}
 use Rattle.std.specs.Ordering.{nat_cmp}
@@ -19,7 +19,7 @@ use Rattle.sabr_model.specs.Route.{chain_end, is_path, is_prefix, is_route}
 use Rattle.sabr_model.proofs.Members.{IsIn}
 use Rattle.sabr_model.proofs.Begins.{first_hop}
 use Rattle.sabr_model.proofs.Listed.{named_is}
-use Rattle.sabr_model.proofs.Paths.{path_facts}
+use Rattle.sabr_model.proofs.Paths.{path_facts, value_of}
 use Rattle.sabr_model.proofs.Routes.{route_facts}
 use Rattle.sabr_frontier.specs.Rising.{Rises}
 use Rattle.sabr_frontier.specs.Rising as rising
@@ -70,10 +70,6 @@ given_number low top (d ∷ cs) c up all i =
       | inr k ↦ let rest = given_number d.number top cs c parts.1 all.1 k in (omega (arith, first, rest.0), rest.1)
     ]
 
-there : (o : Option ℕ) → is_some o ≡ true → (b : ℕ) × (o ≡ Some b)
-there None e = absurd cc
-there (Some b) e = (b, refl)
-
 -- rising numbers up to 20000
 rising_few : (x : ℕ) (X : List ℕ) → Rises nat_cmp (x ∷ X) → AreLow (x ∷ X) → length X + x ≤ 20000
 rising_few x [] up low = let h = low.0.1 in omega (arith, h)
@@ -111,7 +107,7 @@ module _ (p : ContactPlan) (r : RouteRequest) (good : IsPlan p) (asked : IsReque
       ((omega (arith, low, same), omega (arith, high, same, most)), chain_low h.contact.to s b h.rest)
 
   path_low : (s : List ℕ) → is_path p r s ≡ true → AreLow s
-  path_low s h = let end = there (chain_end p r.source s) (path_facts p r s h).chained in chain_low r.source s end.0 end.1
+  path_low s h = let end = value_of (chain_end p r.source s) (path_facts p r s h).chained in chain_low r.source s end.0 end.1
 
   path_list : (s : List ℕ) → is_path p r s ≡ true → IsContactList s
   path_list s h =

@@ -20,13 +20,6 @@ after-on w ws e = rw e refl
 pub has-on : (w : List ℕ) (ws : List (List ℕ)) → is_slash w ≡ false → list_any is_slash (w ∷ ws) ≡ list_any is_slash ws
 has-on w ws e = rw e refl
 
--- the word `/` comes first
-pub before-stop : (w : List ℕ) (ws : List (List ℕ)) → is_slash w ≡ true → before_slash (w ∷ ws) ≡ []
-before-stop w ws e = rw e refl
-
-pub after-stop : (w : List ℕ) (ws : List (List ℕ)) → is_slash w ≡ true → after_slash (w ∷ ws) ≡ ws
-after-stop w ws e = rw e refl
-
 pub has-stop : (w : List ℕ) (ws : List (List ℕ)) → is_slash w ≡ true → list_any is_slash (w ∷ ws) ≡ true
 has-stop w ws e = rw e refl
 

@@ -1,5 +1,5 @@
 -- The first six lines of a session text, as they are spelled, say what they were written of.
-use Rattle.std.proofs.Common.{◌≡◌, ℕ, ◌<◌, ◌≤◌, ◌^◌, true, false, ◌&&◌, not, eqb, ltb, leb, List, [], ◌∷◌, ◌++◌, length, take, drop, rules, refl, sym, ap, ◌∙◌, arith, append-nil, decimal, codes, Ok}
+use Rattle.std.proofs.Common.{◌≡◌, ℕ, ◌<◌, ◌≤◌, ◌^◌, true, false, ◌&&◌, not, eqb, ltb, leb, List, [], ◌∷◌, ◌++◌, length, rules, refl, sym, ap, ◌∙◌, arith, append-nil, decimal, codes, Ok}
 use Rattle.std.specs.List.{AllByRecursion}
 use Rattle.std.proofs.lemmas.Bool.{and_parts, leb-true}
 use Rattle.std.proofs.lemmas.Bool.Decides.{nat_tests}
@@ -23,6 +23,7 @@ use Rattle.sabr_session.proofs.Labels.{label-front}
 use Rattle.sabr_plan.proofs.SpelledNumbers.{same_text, number_within-spelled_within}
 use Rattle.sabr_session.proofs.SpelledWords.{IsWord, AreWithin, list_words, words-apart, words-word, words-list, list-read, decimal_is_word}
 use Rattle.sabr_session.proofs.SpelledDigests.{digest_is}
+use Rattle.std.proofs.Math.Seq.{take-append_seam, drop-append_seam}
 
 -- a list of contact numbers that a text can hold
 pub record IsContactList (ns : List ℕ) : Type 0 where
@@ -43,17 +44,9 @@ word-apart w u h = words-apart w u ∙ ap (λ ws. ws ++ words_of u) (words-word 
 number-apart : (n : ℕ) (u : List ℕ) → n < 10 ^ 64 → words_of (decimal n ++ 32 ∷ u) ≡ decimal n ∷ words_of u
 number-apart n u h = word-apart (decimal n) u (decimal_is_word n h)
 
-front_is : (label text : List ℕ) → take (length label) (label ++ text) ≡ label
-front_is [] text = refl
-front_is (b ∷ label) text = ap (λ bs. b ∷ bs) (front_is label text)
-
-back_is : (label text : List ℕ) → drop (length label) (label ++ text) ≡ text
-back_is [] text = refl
-back_is (b ∷ label) text = back_is label text
-
 -- what stands behind a label
 pub label-there : (label text : List ℕ) → behind_label label (label ++ text) ≡ Some text
-label-there label text = label-front label (label ++ text) label text true (sym (front_is label text)) (sym (back_is label text)) (same_text label label refl)
+label-there label text = label-front label (label ++ text) label text true (sym (take-append_seam label text)) (sym (drop-append_seam label text)) (same_text label label refl)
 
 -- ---- the lines of numbers and of the digest
 

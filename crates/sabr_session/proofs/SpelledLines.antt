@@ -1,13 +1,13 @@
 -- Lines of spelled pieces: they hold no LF, LF ends each, and lists are short.
-use Rattle.std.proofs.Common.{◌≡◌, ℕ, ◌+◌, ◌*◌, ◌<◌, ◌≤◌, ◌^◌, true, false, not, eqb, List, [], ◌∷◌, ◌++◌, length, refl, sym, ap, ◌∙◌, arith, append_assoc, decimal, codes, length-append}
+use Rattle.std.proofs.Common.{◌≡◌, ℕ, ◌+◌, ◌*◌, ◌<◌, ◌≤◌, ◌^◌, true, false, eqb, List, [], ◌∷◌, ◌++◌, length, refl, sym, ap, ◌∙◌, arith, append_assoc, decimal, codes, length-append}
 use Rattle.std.specs.List.{concat}
 use Rattle.std.proofs.lemmas.Bool.Decides.{nat_tests}
 use Rattle.std.proofs.lemmas.Fmt.{length-decimal-le_wide}
-use Rattle.std.proofs.lemmas.List.Folds.{list_all-append}
 use Rattle.sabr_plan.specs.Words.{TextLines, is_one_line, lines_of}
 use Rattle.sabr_plan.proofs.Lines.{lines_of-line}
 use Rattle.sabr_session.specs.SpacedNumbers.{spaced_behind, list_text}
 use Rattle.sabr_session.proofs.SpelledWords.{IsWord, AreWithin, decimal_is_word}
+use Rattle.sabr_plan.proofs.Held.{one_line-append}
 
 -- lines, LF behind each
 abbrev pub joined : List (List ℕ) → List ℕ
@@ -33,13 +33,10 @@ lf_behind [] u = refl
 lf_behind (x ∷ xs) u =
     append_assoc x (concat (xs ++ codes "\n" ∷ [])) u ∙ ap (λ y. x ++ y) (lf_behind xs u) ∙ sym (append_assoc x (concat xs) (10 ∷ u))
 
-pub line-append : (u v : List ℕ) → is_one_line u ≡ true → is_one_line v ≡ true → is_one_line (u ++ v) ≡ true
-line-append u v h k = list_all-append (λ b. not (eqb b 10)) u v ∙ rw (h, k) refl
-
 -- pieces without LF
 pub concat_line : (xs : List (List ℕ)) → AreLines xs → is_one_line (concat xs) ≡ true
 concat_line [] h = refl
-concat_line (x ∷ xs) h = line-append x (concat xs) h.0 (concat_line xs h.1)
+concat_line (x ∷ xs) h = one_line-append x (concat xs) h.0 (concat_line xs h.1)
 
 -- how long they are together
 abbrev pub lengths : List (List ℕ) → ℕ
@@ -61,12 +58,12 @@ module _ (low high : ℕ) (short : high < 10 ^ 64) where
   spaced_line : (ns : List ℕ) → AreWithin low high ns → is_one_line (spaced_behind ns) ≡ true
   spaced_line [] h = refl
   spaced_line (n ∷ ns) h =
-      line-append (decimal n) (spaced_behind ns) (word_line (decimal n) (decimal_is_word n (omega (arith, h.0.1)))) (spaced_line ns h.1)
+      one_line-append (decimal n) (spaced_behind ns) (word_line (decimal n) (decimal_is_word n (omega (arith, h.0.1)))) (spaced_line ns h.1)
 
   pub list_line : (ns : List ℕ) → AreWithin low high ns → is_one_line (list_text ns) ≡ true
   list_line [] h = refl
   list_line (n ∷ ns) h =
-      line-append (decimal n) (spaced_behind ns) (word_line (decimal n) (decimal_is_word n (omega (arith, h.0.1)))) (spaced_line ns h.1)
+      one_line-append (decimal n) (spaced_behind ns) (word_line (decimal n) (decimal_is_word n (omega (arith, h.0.1)))) (spaced_line ns h.1)
 
 -- lists of numbers of at most ten digits
 module _ (low high : ℕ) (ten : high < 10000000000) where

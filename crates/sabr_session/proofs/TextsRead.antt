@@ -20,11 +20,12 @@ use Rattle.sabr_session.specs.declared.reading.first_lines.Version.{Version}
 use Rattle.sabr_session.specs.declared.reading.first_lines.Version.TheVariants.{One, Two}
 use Rattle.sabr_plan.proofs.SpelledNumbers.{same_text}
 use Rattle.sabr_session.proofs.SpelledWords.{decimal_is_word}
-use Rattle.sabr_session.proofs.SpelledLines.{joined, AreLines, lines_of-joined, lf_behind, line-append, concat_line, length-concat, word_line, list_line, list_length, nodes_length}
+use Rattle.sabr_session.proofs.SpelledLines.{joined, AreLines, lines_of-joined, lf_behind, concat_line, length-concat, word_line, list_line, list_length, nodes_length}
 use Rattle.sabr_session.proofs.SpelledDigests.{digest_length, digest_word}
 use Rattle.sabr_session.proofs.SpelledHead.{accepted_nodes, accepted_few, time_word, digest_read, emitted_read, count_read, last_read, request_text, old_request_text, request_read, old_request_read, asked_is, old_asked_is}
 use Rattle.sabr_session.proofs.SpelledParts.{part_pieces, spelled_part, part_line_is, ArePartsOf, is_before, read_on, parts_read}
 use Rattle.sabr_session.proofs.ShortStates.{StateIsTellable}
+use Rattle.sabr_plan.proofs.Held.{one_line-append}
 
 -- ---- the lines of a text
 
@@ -175,18 +176,18 @@ module _ (p : ContactPlan) (r : RouteRequest) (s : State) (told : IsRequest r) (
 
   state_lines_are : AreLines (state_words s)
   state_lines_are = (
-    line-append (codes "emitted ") (decimal s.emitted) refl (number_line s.emitted state.given),
+    one_line-append (codes "emitted ") (decimal s.emitted) refl (number_line s.emitted state.given),
     (
-      line-append (codes "last ") (list_text s.last) refl (list_line 1 4294967295 (omega arith) s.last state.latest.within),
+      one_line-append (codes "last ") (list_text s.last) refl (list_line 1 4294967295 (omega arith) s.last state.latest.within),
       (
-        line-append (codes "parts ") (decimal (length s.parts)) refl (number_line (length s.parts) (omega (arith, text))),
+        one_line-append (codes "parts ") (decimal (length s.parts)) refl (number_line (length s.parts) (omega (arith, text))),
         parts_lines p r s.parts state.each,
       ),
     ),
   )
 
   plan_is_line : is_one_line (codes "plan " ++ encode_lower (digest_of p)) ≡ true
-  plan_is_line = line-append (codes "plan ") (encode_lower (digest_of p)) refl (word_line (encode_lower (digest_of p)) (digest_word (canonical_text p)))
+  plan_is_line = one_line-append (codes "plan ") (encode_lower (digest_of p)) refl (word_line (encode_lower (digest_of p)) (digest_word (canonical_text p)))
 
   plan_short : length (codes "plan " ++ encode_lower (digest_of p)) ≤ 660008
   plan_short = let digits = digest_length (canonical_text p) in omega (arith, digits)

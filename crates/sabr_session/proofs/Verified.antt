@@ -106,16 +106,6 @@ module _ (plan : TabledPlan) (good : IsPlan plan.plan) (old : Option (List ℕ))
             ),
           )
 
-  -- and memory was refused for certifying it
-  pub session_refused : (s : Seen) → ReadsSession plan old before (Ok s) new after → VerifiesText plan.plan old before (Err NoMemory) new after
-  session_refused s h = record { given = h.given; consumed = h.consumed; told = by_end h.told }
-    where
-      by_end : EndsText plan h.given before (Ok s) new after ⊎ (BreaksText plan h.given before (Ok s) after ⊎ RefusesText plan h.given before (Ok s) after)
-          → EndsVerified plan.plan h.given before (Err NoMemory) new after ⊎ (BreaksVerified before (Err NoMemory) after ⊎ RefusesVerified plan.plan h.given before (Err NoMemory) after)
-      by_end (inl e) = inl (e.1, refl)
-      by_end (inr (inl bad)) = absurd bad
-      by_end (inr (inr bad)) = absurd bad
-
   -- reading was refused
   pub fault_verified : (f : SessionFault) → ReadsSession plan old before (Err f) new after → (f ≡ Read → ⊥) → (f ≡ NoMemory → ⊥) → VerifiesText plan.plan old before (Ok false) new after
   fault_verified f h other known = record { given = h.given; consumed = h.consumed; told = by_end h.told }
@@ -131,17 +121,3 @@ module _ (plan : TabledPlan) (good : IsPlan plan.plan) (old : Option (List ℕ))
         | inl memory ↦ absurd (known memory)
         | inr told ↦ inr (inr (e.0, refl, (λ more x. place_accepted plan.plan good (h.given ++ more) f x (subst (λ (o : Result Said SessionFault). ComesTo plan.plan o (Err f)) (sym (told.1 more true)) refl))))
       ]
-
-  -- the reader failed
-  pub read_verified : ReadsSession plan old before (Err Read) new after → after ≡ before + 1 → VerifiesText plan.plan old before (Err Read) new after
-  read_verified h failed = record { given = h.given; consumed = h.consumed; told = inr (inl (failed, refl)) }
-
-  -- memory was refused while reading
-  pub memory_verified : ReadsSession plan old before (Err NoMemory) new after → VerifiesText plan.plan old before (Err NoMemory) new after
-  memory_verified h = record { given = h.given; consumed = h.consumed; told = by_end h.told }
-    where
-      by_end : EndsText plan h.given before (Err NoMemory) new after ⊎ (BreaksText plan h.given before (Err NoMemory) after ⊎ RefusesText plan h.given before (Err NoMemory) after)
-          → EndsVerified plan.plan h.given before (Err NoMemory) new after ⊎ (BreaksVerified before (Err NoMemory) after ⊎ RefusesVerified plan.plan h.given before (Err NoMemory) after)
-      by_end (inl e) = inl (e.1, refl)
-      by_end (inr (inl e)) = absurd (let bad : ◌≡◌ {A = SessionFault} NoMemory Read = e.1 in cc)
-      by_end (inr (inr e)) = inr (inr (e.0, refl))

@@ -213,9 +213,6 @@ ending_of_route p r s d route there =
     ap (λ o. option_map_or fault_line o (route_line (record_of p r s))) (route_has_no_fault p r s route)
     ∙ ap (λ o. route_line (record { contacts = s; delivery = unwrap_or o 0; until = until_of p s; entry = entry_of p s })) there
 
-pub ending_of_fault : (p : ContactPlan) (r : RouteRequest) (s : List ℕ) (f : HopFault) → fault_of p r s ≡ Some f → ending_line p r s ≡ fault_line f
-ending_of_fault p r s f fault = ap (λ o. option_map_or fault_line o (route_line (record_of p r s))) fault
-
 -- the delivery of a route and its termination time can be spelled
 pub ends_in_spelled_time : (p : ContactPlan) (r : RouteRequest) (s : List ℕ) (d : ℕ) → IsPlan p → IsRequest r → arrival_after p r r.at s ≡ Some d
     → (d ≤ 253402300799) × (until_of p s ≤ 253402300799)

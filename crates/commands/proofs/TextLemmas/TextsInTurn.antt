@@ -1,31 +1,9 @@
 -- Texts that a writer takes one behind the other.
-use Rattle.std.proofs.Common.{◌≡◌, ℕ, ◌+◌, ◌<◌, List, [], ◌∷◌, ◌++◌, Result, Ok, Err, Bor, map, length, get_or, take, drop, refl, sym, ap, ◌∙◌, append_assoc, append-nil, add-one, drop-cons, Option}
-use Rattle.std.specs.List.{concat}
+use Rattle.std.proofs.Common.{◌≡◌, ℕ, ◌+◌, ◌<◌, List, Result, Ok, Err, Bor, length, get_or, take, ap, ◌∙◌, Option}
 use Rattle.std.specs.Result.{IsErr}
-use Rattle.std.proofs.lemmas.List.{take_more, take-append-drop}
 use Rattle.sabr_model.specs.Devices.{Written, WrittenInPart, WritesText}
 use Rattle.sabr_model.proofs.WrittenTexts.{Written-append, AppendsBeginning-after, AppendsBeginning-more}
-
--- all of them, joined
-abbrev pub joined : List (Bor (List ℕ)) → List ℕ
-joined texts = concat (map (λ t. t.now) texts)
-
-pub joined-append : (xs ys : List (Bor (List ℕ))) → joined (xs ++ ys) ≡ joined xs ++ joined ys
-joined-append [] ys = refl
-joined-append (x ∷ xs) ys = ap (λ zs. x.now ++ zs) (joined-append xs ys) ∙ sym (append_assoc x.now (joined xs) (joined ys))
-
--- one more of them
-pub joined-more : (xs : List (Bor (List ℕ))) (i : ℕ) (d : Bor (List ℕ)) → i < length xs
-    → joined (take (i + 1) xs) ≡ joined (take i xs) ++ (get_or xs i d).now
-joined-more xs i d h =
-    ap joined (take_more xs i d h) ∙ joined-append (take i xs) (get_or xs i d ∷ []) ∙ ap (λ z. joined (take i xs) ++ z) (append-nil (get_or xs i d).now)
-
--- those before one of them, that one, and those behind it
-pub joined-at : (xs : List (Bor (List ℕ))) (i : ℕ) (d : Bor (List ℕ)) → i < length xs
-    → joined xs ≡ joined (take i xs) ++ ((get_or xs i d).now ++ joined (drop (i + 1) xs))
-joined-at xs i d h =
-    ap joined (sym (take-append-drop i xs)) ∙ joined-append (take i xs) (drop i xs)
-    ∙ ap (λ z. joined (take i xs) ++ joined z) (drop-cons xs i d h ∙ ap (λ k. get_or xs i d ∷ drop k xs) (sym (add-one i)))
+use Rattle.sabr_session.proofs.Pieces.{joined, joined-more, joined-at}
 
 -- one more text was taken
 pub Written-more : (a b c : Option (List ℕ)) (k m n : ℕ) (xs : List (Bor (List ℕ))) (i : ℕ) (d : Bor (List ℕ)) (text : List ℕ) → i < length xs

@@ -7,9 +7,10 @@ use Rattle.sabr_model.specs.Route.{is_path}
 use Rattle.sabr_model.specs.declared.following.Reached.{Reached}
 use Rattle.plain_listing.specs.declared.hop.Hop.{Hop}
 use Rattle.plain_listing.specs.Way.{numbers_of, hop_of, last_stop, may_visit}
-use Rattle.plain_listing.proofs.Hops.{ends_in_time, closed_unnamed, closed_apart, closed_shut, closed_late, path_open, hop_open}
+use Rattle.plain_listing.proofs.Hops.{closed_unnamed, closed_apart, closed_shut, closed_late, path_open, hop_open}
 use Rattle.plain_listing.proofs.way.hop_over.Goals as goal
 use Rattle.plain_listing.proofs.way.hop_over.Goals.{then-contact-end-via-then-contact-end, then-contact-end-via-else-contact-end+then-not-may_visit}
+use Rattle.sabr_model.proofs.Follows.{ends_in_time}
 
 -- the answer where the way and the number begin no route
 none_where : (b : _) (h : Hop) → b ≡ false → None ≡ cond b (Some h) None

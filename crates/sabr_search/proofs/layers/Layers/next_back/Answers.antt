@@ -1,10 +1,10 @@
 use Rattle.std.proofs.Common.{◌≡◌, ◌+◌, inl, inr, Some, slice_get, slice_index, refl, sym, ap, ◌∙◌, arith}
 use Rattle.sabr_search.proofs.Between.{entry_read, read_at}
 use Rattle.sabr_search.proofs.Forward.{last_or_before}
-use Rattle.sabr_search.proofs.OverLinks.{same_some}
 use Rattle.sabr_search.proofs.LateLists.{in_time_kept, told_rises}
 use Rattle.sabr_search.proofs.LateMade.{open_entry}
 use Rattle.sabr_search.proofs.layers.Layers.next_back.Goals as goal
+use Rattle.sabr_search.proofs.Bridge.{same_some}
 
 pub take_senders-requires-clause-node : goal.take_senders-requires-clause-node
 take_senders-requires-clause-node g c =

@@ -2,8 +2,9 @@ use Rattle.std.proofs.Common.{◌≡◌, ◌<◌, ◌+◌, Some, length, slice_i
 use Rattle.std.proofs.lemmas.Option.{slice_get_read}
 use Rattle.sabr_search.specs.Lists.{IsPlaced}
 use Rattle.sabr_search.proofs.Between.{read_at}
-use Rattle.sabr_search.proofs.Backward.{bounds_rise, pointed_more, pointed_all, timed_place, set_length}
+use Rattle.sabr_search.proofs.Backward.{bounds_rise, pointed_more, pointed_all, timed_place}
 use Rattle.sabr_search.proofs.layers.Layers.point_at.Goals as goal
+use Rattle.sabr_search.proofs.Queues.{set_many}
 
 pub index-requires : goal.index-requires
 index-requires g c =
@@ -46,7 +47,7 @@ loop-place-preserved g c =
       bounds = so_far.bounds;
       reached = so_far.reached;
       arrival = so_far.arrival;
-      flags = set_length place e.node i ∙ so_far.flags;
+      flags = set_many place e.node i ∙ so_far.flags;
       placed = rw so_far.reached more.0;
       pointed = λ p f low high here. more.1 p f (omega (arith, first)) high (rw so_far.reached at here);
     }

@@ -2,9 +2,10 @@ use Rattle.std.proofs.Common.{◌≡◌, ◌<◌, ◌+◌, false, slice_index, s
 use Rattle.sabr_search.specs.Task.{Takes}
 use Rattle.sabr_search.proofs.Between.{read_at}
 use Rattle.sabr_search.proofs.Backward.{not_start}
-use Rattle.sabr_search.proofs.LateLists.{late_noted, sound_back, set_here}
+use Rattle.sabr_search.proofs.LateLists.{late_noted, sound_back}
 use Rattle.sabr_search.proofs.layers.Layers.take_sender.Goals as goal
 use Rattle.sabr_search.proofs.layers.Layers.take_sender.Goals.{then-last-latest-via-then-last-latest, then-last-latest-via-else-last-latest+then-last-since}
+use Rattle.sabr_search.proofs.Queues.{set_here}
 
 pub returns-then-from-start-clause-told : goal.returns-then-from-start-clause-told
 returns-then-from-start-clause-told g c = λ not_met n t w b has s less. (

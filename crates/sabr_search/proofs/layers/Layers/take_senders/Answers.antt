@@ -1,9 +1,9 @@
 use Rattle.std.proofs.Common.{◌≡◌, ◌+◌, inl, inr, slice_get, slice_index, sym, ap, ◌∙◌, arith}
 use Rattle.std.proofs.lemmas.Option.{slice_get_within}
 use Rattle.sabr_search.proofs.Forward.{last_or_before}
-use Rattle.sabr_search.proofs.OverLinks.{same_some}
 use Rattle.sabr_search.proofs.LateLists.{in_time_kept, told_rises}
 use Rattle.sabr_search.proofs.layers.Layers.take_senders.Goals as goal
+use Rattle.sabr_search.proofs.Bridge.{same_some}
 
 pub take_sender-requires-clause-link : goal.take_sender-requires-clause-link
 take_sender-requires-clause-link g c = (c.in-Some.ensures.each c.loop-place.place (record { sender = c.at-from.result.node; passes = c.at-from.result.passes.now }) c.at-from.ensures.link, c.at-from.ensures.bounds)

@@ -4,9 +4,10 @@ use Rattle.std.proofs.lemmas.Bool.{cases_lt}
 use Rattle.sabr_model.specs.declared.link.Pass.{Pass}
 use Rattle.sabr_search.proofs.PlanFacts.{hop_arrives}
 use Rattle.sabr_search.proofs.Forward.{step_of_hop, last_or_before}
-use Rattle.sabr_search.proofs.OverLinks.{same_some, no_pass, none_ended, none_excluded, least_light_small, late_over, ruled_out, pass_takes, step_at, step_over}
+use Rattle.sabr_search.proofs.OverLinks.{no_pass, none_ended, none_excluded, least_light_small, late_over, ruled_out, pass_takes, step_at, step_over}
 use Rattle.sabr_search.proofs.task.Task.arrive_over.Goals as goal
 use Rattle.sabr_search.proofs.task.Task.arrive_over.Goals.{in-Some, in_default}
+use Rattle.sabr_search.proofs.Bridge.{same_some}
 
 pub returns-then-rules_out-clause-full : goal.returns-then-rules_out-clause-full
 returns-then-rules_out-clause-full g c = λ n w b has s.
