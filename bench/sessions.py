@@ -1,6 +1,9 @@
 #!/usr/bin/env python3
 """Times session texts: the writing, reading and verifying of them, beside the listing of their routes.
 
+Each run writes, or reads, a text ten times. The least of them is told, and behind it the first, which has the first use
+of code and memory in it.
+
     sessions.py [PROGRAM] --plan FILE [--plan FILE ..] [--questions FILE] [--counts N,N,..] [--repeats N]
                 [--rounds N] [--most-seconds S] [--json FILE]
 
@@ -22,7 +25,7 @@ import plans
 
 BUILT = measure.built("session_bench")
 COUNTS = [10, 1000, 10000]
-NANOSECONDS = re.compile(r"(listing|writing|reading|verifying) (\d+) ns")
+NANOSECONDS = re.compile(r"(\w+) (\d+) ns")
 
 
 def timed(words, most_seconds):
@@ -77,8 +80,8 @@ def better_of(first, again):
 
 def cells(told):
     if isinstance(told, str):
-        return [told] + ["-"] * 8
-    each = [f"{told[what] / told['bytes']:.1f}" for what in ("writing", "reading")]
+        return [told] + ["-"] * 10
+    each = [f"{told[what] / told['bytes']:.1f}" for what in ("writing", "first_writing", "reading", "first_reading")]
     spent = [f"{told[what] / 1e6:.2f}" for what in ("listing", "verifying")]
     memory = ["-" if told[what] is None else f"{told[what] / 1024:.1f}" for what in ("written_kb", "read_kb", "verified_kb")]
     return [told["routes"], told["bytes"], *each, *spent, *memory]
@@ -99,7 +102,7 @@ def main():
     if not os.access(given.program, os.X_OK):
         raise SystemExit(f"sessions.py: there is no program {given.program}: build it by rt run in crates/session_bench")
     machine = measure.Machine(given.repeats)
-    heads = ["routes", "bytes", "write ns/byte", "read ns/byte", "listing ms", "verify ms", "MB listed", "MB read", "MB verified"]
+    heads = ["routes", "bytes", "write ns/byte", "first", "read ns/byte", "first", "listing ms", "verify ms", "MB listed", "MB read", "MB verified"]
     widths = measure.print_head(["plan            ", "count", *heads])
     asked = [(path, ends, count) for path, ends in listing.asked(given) for count in given.counts]
     with tempfile.TemporaryDirectory() as folder:

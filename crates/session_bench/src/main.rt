@@ -1,15 +1,47 @@
 //! The program `session_bench`: times a listing and the text of its session: the writing, reading and verifying of it.
 #![tactic(auto)]
 
+ghost use Rattle.std.specs.Prelude.{◌≡◌};
+ghost use Rattle.sabr_plan.specs.Canonical.{digest_of};
+
 use sabr_frontier::Session;
 use sabr_model::{Device, Plan, Request};
 use sabr_plan::{digest, parse_time, read_plan};
 use sabr_search::Settled;
 use sabr_session::{read_session, verify, write_session};
+use std::env;
+use std::fs::{self, OpenOptions};
 use std::process::ExitCode;
 use std::rt::{Env, Files};
 use std::time::{Clock, Instant};
-use std::{env, fs};
+
+/// A text is written, or read, so often more.
+const AGAIN: u32 = 9;
+
+/// The nanoseconds of a call that was made again and again: the first time has the first use of code and memory in it.
+#[derive(Clone, Copy)]
+struct Times {
+    first: u64,
+    least: u64,
+}
+
+impl Times {
+    /// Begins with the first time.
+    fn of(first: u64) -> Times {
+        Times {
+            first,
+            least: first,
+        }
+    }
+
+    /// Takes one time more.
+    fn and(self, again: u64) -> Times {
+        Times {
+            first: self.first,
+            least: self.least.min(again),
+        }
+    }
+}
 
 /// What was done, and the nanoseconds that it took without the reading of the plan.
 #[derive(Clone, Copy)]
@@ -18,12 +50,12 @@ enum Told {
     Written {
         routes: usize,
         listing: u64,
-        writing: u64,
+        writing: Times,
     },
     /// A session of so many routes was read.
     Read {
         routes: u128,
-        reading: u64,
+        reading: Times,
     },
     /// A text was verified.
     Verified {
@@ -40,7 +72,22 @@ fn nanoseconds_since<R: Clock>(rt: &R, begin: Instant) -> u64 {
     u64::try_from(passed.as_nanos()).unwrap_or(u64::MAX)
 }
 
-/// Lists the first routes, and writes their session to a new file.
+/// Writes a session to a file, and gives the nanoseconds.
+fn write_once<R: Files + Clock + AllocGlobal>(
+    rt: &R,
+    session: &Session<'_, Settled>,
+    digest: &[u8; 32],
+    file: R::File,
+) -> Option<u64>
+    requires { digest.now ≡ digest_of session.now.plan.plan }
+{
+    let mut writer = Device::new(file);
+    let begin = Instant::now(rt).ok()?;
+    write_session(session, digest, &mut writer).ok()?;
+    Some(nanoseconds_since(rt, begin))
+}
+
+/// Lists the first routes, and writes their session to a new file, and then over itself again and again.
 fn written<R: Files + Clock + AllocGlobal>(
     rt: &R,
     plan: &Plan,
@@ -53,28 +100,45 @@ fn written<R: Files + Clock + AllocGlobal>(
     let routes = session.page(count.min(10000)).ok()?.len();
     let listing = nanoseconds_since(rt, begin);
     let digest = digest(session.plan());
-    let mut writer = Device::new(fs::create(rt, path).ok()?);
-    let begin = Instant::now(rt).ok()?;
-    write_session(&session, &digest, &mut writer).ok()?;
+    let mut writing = Times::of(write_once(rt, &session, &digest, fs::create(rt, path).ok()?)?);
+    let mut options = OpenOptions::new();
+    options.write(true);
+    for _ in 0..AGAIN {
+        writing = writing.and(write_once(rt, &session, &digest, options.open(rt, path).ok()?)?);
+    }
     Some(Told::Written {
         routes,
         listing,
-        writing: nanoseconds_since(rt, begin),
+        writing,
     })
 }
 
-/// Reads a session's file.
-fn read_back<R: Files + Clock + AllocGlobal>(rt: &R, plan: &Plan, path: &str) -> Option<Told> {
-    let digest = digest(plan);
+/// Reads a session's file, and gives its count of routes and the nanoseconds.
+fn read_once<R: Files + Clock + AllocGlobal>(
+    rt: &R,
+    plan: &Plan,
+    digest: &[u8; 32],
+    path: &str,
+) -> Option<(u128, u64)>
+    requires { digest.now ≡ digest_of plan.now.plan }
+{
     let mut reader = Device::new(fs::open(rt, path).ok()?);
     let finder = Settled::new(rt.alloc());
     let begin = Instant::now(rt).ok()?;
-    let session = read_session(rt.alloc(), &mut reader, plan, &digest, finder).ok()?;
+    let session = read_session(rt.alloc(), &mut reader, plan, digest, finder).ok()?;
     let reading = nanoseconds_since(rt, begin);
-    Some(Told::Read {
-        routes: session.emitted(),
-        reading,
-    })
+    Some((session.emitted(), reading))
+}
+
+/// Reads a session's file again and again.
+fn read_back<R: Files + Clock + AllocGlobal>(rt: &R, plan: &Plan, path: &str) -> Option<Told> {
+    let digest = digest(plan);
+    let (routes, first) = read_once(rt, plan, &digest, path)?;
+    let mut reading = Times::of(first);
+    for _ in 0..AGAIN {
+        reading = reading.and(read_once(rt, plan, &digest, path)?.1);
+    }
+    Some(Told::Read { routes, reading })
 }
 
 /// Verifies a session's file.
@@ -142,11 +206,15 @@ fn main(rt: HostRuntime) -> ExitCode {
             writing,
         } => {
             let _ = println!(rt; "written {routes} routes");
-            let _ = eprintln!(rt; "listing {listing} ns, writing {writing} ns");
+            let Times { first, least } = writing;
+            let _ = eprintln!(rt;
+                "listing {listing} ns, first_writing {first} ns, writing {least} ns"
+            );
         }
         Told::Read { routes, reading } => {
             let _ = println!(rt; "read {routes} routes");
-            let _ = eprintln!(rt; "reading {reading} ns");
+            let Times { first, least } = reading;
+            let _ = eprintln!(rt; "first_reading {first} ns, reading {least} ns");
         }
         Told::Verified { yes, verifying } => {
             let answer = if yes { "yes" } else { "no" };
