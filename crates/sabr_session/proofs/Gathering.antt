@@ -1,5 +1,5 @@
 -- Texts that are gathered in turn, and handed to the writer at the end.
-use Rattle.std.proofs.Common.{◌≡◌, ℕ, ◌+◌, List, [], ◌++◌, Result, Ok, Err, ap, ◌∙◌, sym, append_assoc, append-nil, Option}
+use Rattle.std.proofs.Common.{◌≡◌, ℕ, List, [], ◌++◌, Result, Ok, Err, ap, ◌∙◌, sym, append_assoc, append-nil, Option}
 use Rattle.std.specs.Result.{IsErrAnd}
 use Rattle.sabr_model.specs.Devices.{Written, WrittenInPart, WritesText}
 use Rattle.sabr_model.proofs.WrittenTexts.{AppendsBeginning-more, Written-nil, Written-append, WritesText-after}

@@ -1,5 +1,5 @@
 -- The texts of places are those that are read as a state of their place.
-use Rattle.std.proofs.Common.{◌≡◌, ℕ, ◌+◌, Bool, true, false, ◌⊎◌, inl, inr, ◌↔◌, List, ◌++◌, refl, sym, subst, ap, ◌∙◌, Option, Result, Ok, Err}
+use Rattle.std.proofs.Common.{◌≡◌, ℕ, Bool, true, false, ◌⊎◌, inl, inr, ◌↔◌, List, ◌++◌, refl, sym, subst, ap, ◌∙◌, Option, Result, Ok, Err}
 use Rattle.sabr_model.specs.Plan.{ContactPlan, TabledPlan, IsPlan}
 use Rattle.sabr_model.specs.Arrival.{RouteRequest}
 use Rattle.sabr_model.specs.Asking.{IsRequest}
