@@ -4,7 +4,7 @@
     searching.py [PROGRAM] --plan FILE [--plan FILE ..] [--questions FILE] [--count N] [--finders layered,settled]
                  [--repeats N] [--most-seconds S] [--json FILE]
 
-PROGRAM is crates/search_bench/out/search_bench where it isn't given. The nodes and the time are those of the plan's line
+PROGRAM is crates/bench/out/bench where it isn't given. The nodes and the time are those of the plan's line
 `# ask FROM TO TIME`, of --from, --to and --at, or of a file of questions: a list in JSON of objects with the words
 `plan` (a path, from that file's folder), `from`, `to` and `at`; these plans come behind the others. A look is a read of
 a contact's record. Status 1: a run failed, or two finders gave pages of different length.
@@ -18,7 +18,7 @@ import sys
 import listing
 import measure
 
-BUILT = measure.built("search_bench")
+BUILT = measure.built("bench")
 TOLD = re.compile(r"first (\d+) ns (\d+) looks, page (\d+) ns, its searches (\d+) ns (\d+) looks")
 TIMES = ("first_ns", "page_ns", "searches_ns")
 
@@ -62,7 +62,7 @@ def row_of(given, path, ends):
     """The figures of one plan, a set for each finder."""
     row = {}
     for finder in given.finders:
-        words = [os.path.abspath(given.program), finder, path, *ends, str(given.count)]
+        words = [os.path.abspath(given.program), "search", finder, path, *ends, str(given.count)]
         row[finder] = best_of(words, given.repeats, given.most_seconds)
     return row
 
@@ -85,7 +85,7 @@ def read_words():
 def main():
     given = read_words()
     if not os.access(given.program, os.X_OK):
-        raise SystemExit(f"searching.py: there is no program {given.program}: build it by rt run in crates/search_bench")
+        raise SystemExit(f"searching.py: there is no program {given.program}: build it by rt run in crates/bench")
     machine = measure.Machine(given.repeats)
     heads = [head for finder in given.finders for head in (f"{finder} first ms", "looks", "page ms", "looks")]
     widths = measure.print_head(["plan            ", "routes", "searches", *heads])

@@ -7,7 +7,7 @@ of code and memory in it.
     sessions.py [PROGRAM] --plan FILE [--plan FILE ..] [--questions FILE] [--counts N,N,..] [--repeats N]
                 [--rounds N] [--most-seconds S] [--json FILE]
 
-PROGRAM is crates/session_bench/out/session_bench where it isn't given. The nodes and the time are those of the plan's
+PROGRAM is crates/bench/out/bench where it isn't given. The nodes and the time are those of the plan's
 line `# ask FROM TO TIME`, of --from, --to and --at, or of a file of questions: a list in JSON of objects with the words
 `plan` (a path, from that file's folder), `from`, `to` and `at`; these plans come behind the others. Status 1: a run
 failed, a text was read as another number of routes, or one wasn't verified.
@@ -23,7 +23,7 @@ import listing
 import measure
 import plans
 
-BUILT = measure.built("session_bench")
+BUILT = measure.built("bench")
 COUNTS = [10, 1000, 10000]
 NANOSECONDS = re.compile(r"(\w+) (\d+) ns")
 
@@ -51,11 +51,11 @@ def best_of(words, given):
 
 def figures_of(path, ends, count, text, given):
     """The figures of one text, or how a run ended that has none."""
-    program = os.path.abspath(given.program)
+    bench = [os.path.abspath(given.program), "session"]
     runs = {
-        "written": [program, path, text, *ends, str(count)],
-        "read": [program, "read", path, text],
-        "verified": [program, "verify", path, text],
+        "written": [*bench, path, text, *ends, str(count)],
+        "read": [*bench, "read", path, text],
+        "verified": [*bench, "verify", path, text],
     }
     told, times = {}, {}
     for name, words in runs.items():
@@ -100,7 +100,7 @@ def read_words():
 def main():
     given = read_words()
     if not os.access(given.program, os.X_OK):
-        raise SystemExit(f"sessions.py: there is no program {given.program}: build it by rt run in crates/session_bench")
+        raise SystemExit(f"sessions.py: there is no program {given.program}: build it by rt run in crates/bench")
     machine = measure.Machine(given.repeats)
     heads = ["routes", "bytes", "write ns/byte", "first", "read ns/byte", "first", "listing ms", "verify ms", "MB listed", "MB read", "MB verified"]
     widths = measure.print_head(["plan            ", "count", *heads])

@@ -15,6 +15,6 @@ pub use plan_texts::{REFERENCE, TEXT_OF_A, TEXT_OF_B, TEXT_OF_C};
 pub use session_texts::{BEHIND_THREE, BEHIND_TWO, FIRST_TWO, HEAD, OLD_HEAD, SESSION_OF_C, THIRD};
 pub use states::{STATES_A, STATES_C, Shown, State};
 pub use tables::{
-    PLAN_A, PLAN_A_WITH_A_GAP, PLAN_B, PLAN_C, PLAN_C_WITH_GAPS, Pair, PlanTable, Window,
-    add_light, add_window, plan_d,
+    PLAN_A, PLAN_A_WITH_A_GAP, PLAN_B, PLAN_C, PLAN_C_WITH_GAPS, PLAN_D, Pair, PlanTable, Window,
+    add_light, add_window,
 };

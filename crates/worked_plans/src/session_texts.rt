@@ -6,13 +6,13 @@ cgr-session 2\n\
 plan 141332fc8a469d56442d0323b136f9e5ff2f4859004f96653cdeb76015a2a51f\n\
 request 1 3 2030/01/01-00:00:00 0 20000 / -\n";
 
-/// The same in version 1.
+/// The same lines in version 1.
 pub const OLD_HEAD: &str = "\
 cgr-session 1\n\
 plan 141332fc8a469d56442d0323b136f9e5ff2f4859004f96653cdeb76015a2a51f\n\
 request 1 3 2030/01/01-00:00:00 0\n";
 
-/// What stands behind where two routes were given.
+/// The other lines after two routes.
 pub const BEHIND_TWO: &str = "\
 emitted 2\n\
 last 1 2\n\
@@ -21,7 +21,7 @@ part - / 1 / 3\n\
 part 1 / 2 4 / -\n\
 end\n";
 
-/// What stands behind where all three were given.
+/// The other lines after all three routes.
 pub const BEHIND_THREE: &str = "\
 emitted 3\n\
 last 3\n\

@@ -10,17 +10,20 @@ pub type Pair = (u64, u64, u32);
 /// A contact: sender, receiver, and its window in seconds after `BEGIN`.
 pub type Window = (u64, u64, u32, u32);
 
-/// A plan as a table: its light times for 1000 seconds from `BEGIN` on, its contacts, those of them that are deleted,
-/// and the contacts behind these.
+/// A plan as a table, in the order in which a plan takes it.
 #[derive(Clone, Copy)]
 pub struct PlanTable {
-    /// Light times for 1000 seconds from `BEGIN` on.
+    /// When the light times end, in seconds after `BEGIN`. They hold from `BEGIN` on.
+    pub lights_end: u32,
+    /// The light times.
     pub pairs: &'static [Pair],
+    /// How many contacts from node 1 to node 2 come first: they start in second 1, 2 and so on, and end in second 5000.
+    pub staggered: u32,
     /// The contacts.
     pub windows: &'static [Window],
     /// Those of them that are deleted.
     pub deleted: &'static [Window],
-    /// The contacts behind these.
+    /// The contacts that are added then.
     pub more: &'static [Window],
 }
 
@@ -54,7 +57,9 @@ const MORE_OF_C: [Window; 2] = [(2, 4, 0, 100), (4, 2, 0, 100)];
 
 /// Two relays between 1 and 3, and a direct contact.
 pub const PLAN_A: PlanTable = PlanTable {
+    lights_end: 1000,
     pairs: &LIGHTS_OF_A,
+    staggered: 0,
     windows: &WINDOWS_OF_A,
     deleted: &[],
     more: &[],
@@ -62,7 +67,9 @@ pub const PLAN_A: PlanTable = PlanTable {
 
 /// Three ways from 1 to 3 without light time.
 pub const PLAN_B: PlanTable = PlanTable {
+    lights_end: 1000,
     pairs: &NO_LIGHT,
+    staggered: 0,
     windows: &WINDOWS_OF_B,
     deleted: &[],
     more: &[],
@@ -70,7 +77,9 @@ pub const PLAN_B: PlanTable = PlanTable {
 
 /// The same with contacts between the two relays.
 pub const PLAN_C: PlanTable = PlanTable {
+    lights_end: 1000,
     pairs: &NO_LIGHT,
+    staggered: 0,
     windows: &WINDOWS_OF_B,
     deleted: &[],
     more: &MORE_OF_C,
@@ -78,7 +87,9 @@ pub const PLAN_C: PlanTable = PlanTable {
 
 /// Plan A, of which the last contact was deleted and added again: number 4 is none, and number 5 is what it was.
 pub const PLAN_A_WITH_A_GAP: PlanTable = PlanTable {
+    lights_end: 1000,
     pairs: &LIGHTS_OF_A,
+    staggered: 0,
     windows: &WINDOWS_OF_A,
     deleted: &[(2, 3, 0, 200)],
     more: &[(2, 3, 0, 200)],
@@ -86,10 +97,22 @@ pub const PLAN_A_WITH_A_GAP: PlanTable = PlanTable {
 
 /// Plan C, of which contacts 1 and 3 were deleted and the first was added again as number 8.
 pub const PLAN_C_WITH_GAPS: PlanTable = PlanTable {
+    lights_end: 1000,
     pairs: &NO_LIGHT,
+    staggered: 0,
     windows: &WINDOWS_OF_B,
     deleted: &[(1, 2, 0, 100), (1, 3, 10, 100)],
     more: &[(2, 4, 0, 100), (4, 2, 0, 100), (1, 2, 0, 100)],
+};
+
+/// A thousand contacts from node 1 to node 2, and two from there to node 3.
+pub const PLAN_D: PlanTable = PlanTable {
+    lights_end: 9000,
+    pairs: &[(1, 2, 0), (2, 3, 0)],
+    staggered: 1000,
+    windows: &[(2, 3, 2000, 5000), (2, 3, 2001, 5000)],
+    deleted: &[],
+    more: &[],
 };
 
 /// Adds a light time over a window in seconds after `BEGIN`.
@@ -118,6 +141,7 @@ pub fn add_window<A: Allocator + Copy>(
     Ok(())
 }
 
+/// Adds contacts.
 fn add_windows<A: Allocator + Copy>(
     plan: &mut Plan<A>,
     windows: &[Window],
@@ -128,10 +152,29 @@ fn add_windows<A: Allocator + Copy>(
     Ok(())
 }
 
-/// Makes the plan ready for searches.
-fn made_ready<A: Allocator + Copy>(mut plan: Plan<A>) -> Result<Plan<A>, AddFault> {
+/// Adds all that a table has.
+fn add_table<A: Allocator + Copy>(plan: &mut Plan<A>, table: &PlanTable) -> Result<(), AddFault> {
+    for pair in table.pairs {
+        add_light(plan, pair, 0, table.lights_end)?;
+    }
+    for start in 1..=table.staggered {
+        add_window(plan, &(1, 2, start, 5000))?;
+    }
+    add_windows(plan, table.windows)?;
+    for (from, to, start, _) in table.deleted {
+        plan.delete_contact(*from, *to, BEGIN + *start as u64)?;
+    }
+    add_windows(plan, table.more)
+}
+
+/// Does the same, and makes the plan ready for searches.
+fn add_and_make_ready<A: Allocator + Copy>(
+    plan: &mut Plan<A>,
+    table: &PlanTable,
+) -> Result<(), AddFault> {
+    add_table(plan, table)?;
     match plan.make_ready() {
-        Ok(()) => Ok(plan),
+        Ok(()) => Ok(()),
         Err(_) => Err(AddFault::NoMemory),
     }
 }
@@ -140,32 +183,14 @@ impl PlanTable {
     /// Builds the plan.
     pub fn plan<A: Allocator + Copy>(&self, alloc: A) -> Result<Plan<A>, AddFault> {
         let mut plan = Plan::new(alloc);
-        for pair in self.pairs {
-            add_light(&mut plan, pair, 0, 1000)?;
-        }
-        add_windows(&mut plan, self.windows)?;
-        for (from, to, start, _) in self.deleted {
-            plan.delete_contact(*from, *to, BEGIN + *start as u64)?;
-        }
-        add_windows(&mut plan, self.more)?;
+        add_table(&mut plan, self)?;
         Ok(plan)
     }
 
     /// Builds the plan, ready for searches.
     pub fn made_ready<A: Allocator + Copy>(&self, alloc: A) -> Result<Plan<A>, AddFault> {
-        made_ready(self.plan(alloc)?)
+        let mut plan = Plan::new(alloc);
+        add_and_make_ready(&mut plan, self)?;
+        Ok(plan)
     }
-}
-
-/// Builds plan D, ready for searches: a thousand contacts from node 1 to node 2, and two from there to node 3.
-pub fn plan_d<A: Allocator + Copy>(alloc: A) -> Result<Plan<A>, AddFault> {
-    let mut plan = Plan::new(alloc);
-    add_light(&mut plan, &(1, 2, 0), 0, 9000)?;
-    add_light(&mut plan, &(2, 3, 0), 0, 9000)?;
-    for start in 1..=1000u32 {
-        add_window(&mut plan, &(1, 2, start, 5000))?;
-    }
-    add_window(&mut plan, &(2, 3, 2000, 5000))?;
-    add_window(&mut plan, &(2, 3, 2001, 5000))?;
-    made_ready(plan)
 }

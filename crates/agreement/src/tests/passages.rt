@@ -9,7 +9,7 @@ use crate::tests::draws::Draws;
 use crate::tests::plans::{ASKED, WORKED, case_of};
 use crate::tests::texts::{Fresh, is_among, is_verified, session_of, text_of, texts_of};
 use crate::tests::walks::Walk;
-use pieces::LimitedWriter;
+use failing::LimitedWriter;
 use sabr_frontier::Session;
 use sabr_model::{Plan, Request};
 use sabr_search::{Layered, Settled};

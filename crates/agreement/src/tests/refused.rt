@@ -2,8 +2,7 @@
 
 use crate::tests::cases::Wrong;
 use crate::tests::texts::{session_of, text_of};
-use pieces::LimitedWriter;
-use ration::Ration;
+use failing::{LimitedWriter, Ration};
 use sabr_frontier::Session;
 use sabr_model::{Plan, Route};
 use sabr_search::{BestOf, Settled};

@@ -1,7 +1,7 @@
 //! Session texts: written, read again and verified.
 
 use crate::tests::cases::Wrong;
-use pieces::{End, LimitedWriter, PieceReader};
+use failing::{End, LimitedWriter, PieceReader};
 use sabr_frontier::Session;
 use sabr_model::{Plan, Request};
 use sabr_plan::digest;

@@ -1,8 +1,7 @@
 //! Runs over readers, writers and an allocator that fail at each place in turn.
 
 use commands::{Status, run_check, run_explain, run_first, run_next, run_verify};
-use pieces::{End, LimitedWriter, PieceReader};
-use ration::Ration;
+use failing::{End, LimitedWriter, PieceReader, Ration};
 use sabr_model::Request;
 use std::alloc::{Allocator, Global};
 use std::process::Abort;

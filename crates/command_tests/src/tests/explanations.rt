@@ -2,7 +2,7 @@
 
 use crate::tests::running::{run_line, run_over};
 use commands::{Status, run_explain};
-use pieces::{End, LimitedWriter, PieceReader};
+use failing::{End, LimitedWriter, PieceReader};
 use sabr_model::Request;
 use std::test::Fail;
 use worked_plans::{REFERENCE, TEXT_OF_A};

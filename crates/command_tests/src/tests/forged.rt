@@ -1,7 +1,7 @@
 //! Session texts over plan A that were cut or edited: what `next` and `verify` tell of each.
 
 use commands::{Status, run_next, run_verify};
-use pieces::{End, LimitedWriter, PieceReader};
+use failing::{End, LimitedWriter, PieceReader};
 use std::process::Abort;
 use std::test::Fail;
 use worked_plans::{BEHIND_THREE, BEHIND_TWO, HEAD, OLD_HEAD, TEXT_OF_A, TEXT_OF_B, THIRD};

@@ -1,7 +1,7 @@
 //! A run of the program over a plan's file.
 
 use commands::{Status, run_words};
-use pieces::LimitedWriter;
+use failing::LimitedWriter;
 use std::fs;
 use std::test::Fail;
 

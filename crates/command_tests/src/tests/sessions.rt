@@ -2,7 +2,7 @@
 
 use crate::tests::running::{Outcome, run_line};
 use commands::{Status, run_words};
-use pieces::LimitedWriter;
+use failing::LimitedWriter;
 use std::fs;
 use std::process::Abort;
 use std::rt::Files;

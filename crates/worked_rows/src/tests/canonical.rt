@@ -3,8 +3,7 @@
 
 use crate::tests::plan_reading::read_in_pieces;
 use crate::tests::plan_texts::CANONICAL_A;
-use pieces::{End, LimitedWriter, PieceReader};
-use ration::Ration;
+use failing::{End, LimitedWriter, PieceReader, Ration};
 use sabr_plan::{PlanFault, PlanKind, canonical, digest, read_plan};
 use std::alloc::Allocator;
 use std::test::Fail;

@@ -1,7 +1,7 @@
 //! The limits of plan texts: each met, and each passed by one.
 
 use crate::tests::plan_reading::{is_refused_so, joined};
-use pieces::End;
+use failing::End;
 use sabr_plan::PlanKind;
 use std::alloc::Global;
 use std::test::Fail;

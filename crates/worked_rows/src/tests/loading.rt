@@ -1,7 +1,7 @@
 //! A state that is loaded part by part, each growth refused in turn.
 
 use crate::tests::standing::stands_at;
-use ration::Ration;
+use failing::Ration;
 use sabr_frontier::{LoadFault, Loader, Session};
 use sabr_model::Plan;
 use sabr_search::Settled;

@@ -1,7 +1,7 @@
 //! The least routes of parts by both finders, and each growth of a search refused in turn.
 
 use crate::tests::listed::is_route;
-use ration::Ration;
+use failing::Ration;
 use sabr_model::{AddFault, Plan, Request};
 use sabr_search::{BestOf, Layered, Part, Settled, fits};
 use std::alloc::Allocator;

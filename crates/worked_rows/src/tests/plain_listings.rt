@@ -1,8 +1,8 @@
 //! Plain listings: pages of each size, each growth refused in turn, and a way of many hops.
 
 use crate::tests::listed::are_routes;
+use failing::Ration;
 use plain_listing::{Page, first_routes};
-use ration::Ration;
 use sabr_model::{AddFault, Plan, Request};
 use std::alloc::Allocator;
 use std::test::Fail;

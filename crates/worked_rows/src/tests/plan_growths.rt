@@ -2,7 +2,7 @@
 
 ghost use Rattle.std.specs.Prelude.{◌<◌, ◌≤◌};
 
-use ration::Ration;
+use failing::Ration;
 use sabr_model::{AddFault, GatheredContacts, GatheredRanges, Plan};
 use std::alloc::Allocator;
 use std::test::*;

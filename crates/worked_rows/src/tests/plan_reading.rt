@@ -1,6 +1,6 @@
 //! Ways to read plan texts.
 
-use pieces::{End, PieceReader};
+use failing::{End, PieceReader};
 use sabr_model::{Device, Plan};
 use sabr_plan::{PlanFault, PlanKind, read_plan};
 use std::alloc::{Allocator, Global};

@@ -1,7 +1,7 @@
 //! Plan texts that are read, each with the canonical text of its plan.
 
 use crate::tests::plan_reading::{PIECES, RANGES_OF_A, joined, read_in_pieces};
-use pieces::LimitedWriter;
+use failing::LimitedWriter;
 use sabr_plan::canonical;
 use std::test::Fail;
 use worked_plans::{REFERENCE, TEXT_OF_A};

@@ -1,7 +1,7 @@
 //! The first bad line of plan texts, and what is wrong with it.
 
 use crate::tests::plan_reading::{RANGES_OF_A, is_refused_so, joined};
-use pieces::End;
+use failing::End;
 use sabr_plan::PlanKind;
 use std::test::Fail;
 use worked_plans::{REFERENCE, TEXT_OF_A};

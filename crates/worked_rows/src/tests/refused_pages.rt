@@ -2,14 +2,14 @@
 
 use crate::tests::listed::are_routes;
 use crate::tests::standing::{stands_at, started};
-use ration::Ration;
+use failing::Ration;
 use sabr_frontier::Session;
 use sabr_model::Plan;
 use sabr_search::Settled;
 use std::alloc::Allocator;
 use std::test::Fail;
 use worked_plans::{
-    LISTED_A, LISTED_C, Listed, PLAN_A, PLAN_C, PlanTable, STATES_A, STATES_C, State, plan_d,
+    LISTED_A, LISTED_C, Listed, PLAN_A, PLAN_C, PLAN_D, PlanTable, STATES_A, STATES_C, State,
 };
 
 /// A plan, its states, how many routes are given at first, and the routes of the page behind them.
@@ -195,7 +195,7 @@ fn takes_few<A: Allocator + Copy>(
 #[test]
 fn a_route_from_a_thousand_parts_copies_no_part(rt: HostRuntime) -> Result<(), Fail> {
     let ration = Ration::new(rt.alloc(), 0);
-    let plan = plan_d(&ration).ok().ok_or("plan")?;
+    let plan = PLAN_D.made_ready(&ration).ok().ok_or("plan")?;
     let mut session = started(&ration, &plan, Settled::new(&ration)).ok_or("start")?;
     assert_eq!(rt; takes_few(&mut session, &ration), Some(true));
     Ok(())
@@ -245,7 +245,7 @@ fn tables_left_out<A: Allocator + Copy>(alloc: A, ration: &Ration, plan: &Plan<A
 #[test]
 fn a_table_without_memory_is_left_out(rt: HostRuntime) -> Result<(), Fail> {
     let ration = Ration::new(rt.alloc(), 0);
-    let plan = plan_d(&ration).ok().ok_or("plan")?;
+    let plan = PLAN_D.made_ready(&ration).ok().ok_or("plan")?;
     let left_out = tables_left_out(&ration, &ration, &plan);
     assert!(rt;
         left_out.is_some_and(|count| count > 3),

@@ -3,7 +3,7 @@
 ghost use Rattle.std.specs.Prelude.{◌≤◌, All, IfOk};
 ghost use Rattle.sabr_session.specs.ReportText.{HasSpelledTimes};
 
-use pieces::LimitedWriter;
+use failing::LimitedWriter;
 use sabr_model::{Numbers, Route};
 use sabr_session::{write_report, write_route};
 use std::alloc::{AllocError, Global};

@@ -2,8 +2,7 @@
 
 use crate::tests::plan_reading::ready_plan;
 use crate::tests::session_refusals::GREATEST_COUNT;
-use pieces::{End, LimitedWriter, PieceReader};
-use ration::Ration;
+use failing::{End, LimitedWriter, PieceReader, Ration};
 use sabr_frontier::Session;
 use sabr_model::{NoMemory, Plan};
 use sabr_plan::digest;

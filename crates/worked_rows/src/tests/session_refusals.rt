@@ -1,7 +1,7 @@
 //! Session texts over plan A that are refused, each with its first fault.
 
 use crate::tests::session_reading::{PIECES, fault_of, joined};
-use pieces::End;
+use failing::End;
 use sabr_session::SessionFault;
 use std::alloc::Global;
 use std::test::Fail;

@@ -1,7 +1,7 @@
 //! The texts of sessions over plans A and C. The digests were taken with another program.
 
 use crate::tests::plan_reading::ready_plan;
-use pieces::LimitedWriter;
+use failing::LimitedWriter;
 use sabr_frontier::Session;
 use sabr_model::{Plan, Write};
 use sabr_plan::digest;

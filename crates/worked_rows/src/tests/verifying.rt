@@ -2,8 +2,7 @@
 
 use crate::tests::plan_reading::ready_plan;
 use crate::tests::session_reading::{PIECES, joined};
-use pieces::{End, PieceReader};
-use ration::Ration;
+use failing::{End, PieceReader, Ration};
 use sabr_model::Plan;
 use sabr_plan::digest;
 use sabr_search::{BestOf, Layered, Settled};

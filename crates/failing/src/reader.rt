@@ -4,7 +4,7 @@ ghost use Rattle.std.specs.Prelude.{◌≡◌, ◌<◌, ◌≤◌, Some, take, l
 
 use sabr_model::{Failed, GhostCount, Read};
 
-/// What a reader answers once it has given all its bytes.
+/// What a reader returns once it has given all its bytes.
 #[derive(Clone, Copy, Debug, PartialEq, Eq)]
 pub enum End {
     /// The end of the text.
@@ -20,7 +20,7 @@ pub struct PieceReader<'a> {
     bytes: &'a [u8],
     /// The most bytes of a piece.
     piece: usize,
-    /// What comes behind the bytes.
+    /// What comes after the bytes.
     end: End,
     /// How often it failed, for proofs alone.
     failures: GhostCount,
@@ -42,7 +42,7 @@ impl<'a> PieceReader<'a> {
         }
     }
 
-    /// Gives a reader that gives the first `limit` bytes and then fails.
+    /// Makes a reader that gives the first `limit` bytes and then fails.
     pub fn failing_after(bytes: &'a [u8], limit: usize, piece: usize) -> PieceReader<'a>
         requires limit { limit ≤ length bytes.now }
         requires piece { 0 < piece }

@@ -7,7 +7,7 @@ use std::alloc::{Allocator, Global};
 
 /// Takes bytes in pieces of a chosen size at most, up to a limit, and fails beyond it. It keeps what it took.
 ///
-/// It fails, too, where no memory is left for the bytes.
+/// It fails, too, if no memory is left for the bytes.
 #[derive(Drop)]
 pub struct LimitedWriter<A: Allocator + Copy = Global> {
     /// What it took.
@@ -18,7 +18,7 @@ pub struct LimitedWriter<A: Allocator + Copy = Global> {
     piece: usize,
     /// Whether `flush` fails.
     flush_fails: bool,
-    /// Whether nothing was taken since the last `flush` that answered well.
+    /// Whether nothing was taken since the last `flush` that succeeded.
     is_flushed: bool,
     /// How often it failed, for proofs alone.
     failures: GhostCount,
@@ -40,7 +40,7 @@ impl<A: Allocator + Copy> LimitedWriter<A> {
         }
     }
 
-    /// Does the same, with a `flush` that fails.
+    /// Makes such a writer whose `flush` fails.
     pub fn with_failing_flush(alloc: A, limit: usize, piece: usize) -> LimitedWriter<A>
         ensures held { result.held.items ≡ [] }
         ensures failures { result.failures.count ≡ 0 }
@@ -50,14 +50,14 @@ impl<A: Allocator + Copy> LimitedWriter<A> {
         writer
     }
 
-    /// Gives the bytes that were taken.
+    /// The bytes that were taken.
     pub fn held(&self) -> &[u8]
         ensures { result.now ≡ self.now.held.items }
     {
         &self.held
     }
 
-    /// Tells whether it was flushed, and has taken nothing and failed at nothing since.
+    /// Whether it was flushed, and has taken nothing and failed at nothing since.
     pub fn is_flushed(&self) -> bool
         ensures { result ≡ self.now.is_flushed }
     {

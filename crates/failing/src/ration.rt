@@ -26,7 +26,7 @@ impl<B: Allocator> Ration<B> {
         self.tally.set(Tally { made: 0, refused });
     }
 
-    /// Gives the requests made since the count began, the refused one among them.
+    /// The requests made since the count began, the refused one among them.
     pub fn requests(&self) -> u64 {
         self.tally.get().made
     }

@@ -1,38 +1,11 @@
 //! A finder that adds up the time and the looks of its searches.
 
+use crate::watch::Watch;
 use sabr_model::{NoMemory, Plan, Request, Route};
 use sabr_search::{BestOf, Part};
 use std::alloc::Allocator;
 use std::cell::Cell;
-use std::time::{Clock, Instant};
-
-/// Time since it was made.
-#[derive(Drop)]
-pub struct Watch<'r, R: Clock> {
-    clock: &'r R,
-    begin: Option<Instant>,
-}
-
-impl<'r, R: Clock> Watch<'r, R> {
-    /// Makes a watch that begins now.
-    pub fn new(clock: &'r R) -> Watch<'r, R> {
-        Watch {
-            clock,
-            begin: Instant::now(clock).ok(),
-        }
-    }
-
-    /// Gives the nanoseconds since it began; 0 where the clock fails.
-    pub fn nanoseconds(&self) -> u64 {
-        let Some(begin) = self.begin else {
-            return 0;
-        };
-        let Ok(passed) = begin.elapsed(self.clock) else {
-            return 0;
-        };
-        u64::try_from(passed.as_nanos()).unwrap_or(u64::MAX)
-    }
-}
+use std::time::Clock;
 
 /// How many searches there were, and what they took together.
 #[derive(Clone, Copy)]
@@ -43,6 +16,7 @@ pub struct Searches {
 }
 
 impl Searches {
+    /// No search yet.
     pub fn none() -> Searches {
         Searches {
             count: 0,

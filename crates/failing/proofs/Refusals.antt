@@ -16,8 +16,8 @@ use denote.Steps.{nothing, only}
 use denote.Triple.Statement.{Contract}
 use denote.Triple.Spec.{triple_of}
 use Rattle.std.specs.contracts.cell.Cell as CellOf
-use Rattle.ration.specs.contracts.tally.Tally as Tallied
-use Rattle.ration.specs.contracts.tally.is_refused as Asked
+use Rattle.failing.specs.contracts.tally.Tally as Tallied
+use Rattle.failing.specs.contracts.tally.is_refused as Asked
 
 -- a cell with a tally
 abbrev TallyCell : RattleType

@@ -9,7 +9,7 @@ pub(crate) struct Tally {
     pub refused: u64,
 }
 
-/// Counts a request, and tells whether it is the one to refuse.
+/// Counts a request, and returns whether it is the one to refuse.
 pub(crate) fn is_refused(tally: &Cell<Tally>) -> bool {
     let Tally { made, refused } = tally.get();
     let made = made.wrapping_add(1);

@@ -1,0 +1,31 @@
+//! A watch.
+
+use std::time::{Clock, Instant};
+
+/// Time since it was made.
+#[derive(Drop)]
+pub struct Watch<'r, R: Clock> {
+    clock: &'r R,
+    begin: Option<Instant>,
+}
+
+impl<'r, R: Clock> Watch<'r, R> {
+    /// Makes a watch that begins now.
+    pub fn new(clock: &'r R) -> Watch<'r, R> {
+        Watch {
+            clock,
+            begin: Instant::now(clock).ok(),
+        }
+    }
+
+    /// The nanoseconds since it began; 0 if the clock fails.
+    pub fn nanoseconds(&self) -> u64 {
+        let Some(begin) = self.begin else {
+            return 0;
+        };
+        let Ok(passed) = begin.elapsed(self.clock) else {
+            return 0;
+        };
+        u64::try_from(passed.as_nanos()).unwrap_or(u64::MAX)
+    }
+}
