@@ -1,15 +1,87 @@
 #!/usr/bin/env bash
-# Tries tools/timeline without the program: the picture that the examples show is the one that the tool draws, and a
-# plan is listed and drawn as it stands. Its last line is 'N passed, M failed'.
+# Tries tools/timeline without the program, for which a script stands in: the picture that the examples show is the one
+# that the tool draws, whatever is drawn lies at its time, and a plan is listed and drawn as it stands. Its last line is
+# 'picture: N passed, M failed'.
 set -u
 cd "$(dirname "$0")/.."
 source tests/expect.sh
 room=$(mktemp -d)
 trap 'rm -rf "$room"' EXIT
+mars=(--plan examples/relay.txt --explained examples/relay-routes.txt)
+day=(2030/01/01-00:00:00 2030/01/02-00:00:00)
 
-tools/timeline --plan examples/relay.txt --explained examples/relay-routes.txt >"$room/relay.svg"
+# ---- The day at Mars -------------------------------------------------------------------------------------------
+
+tools/timeline "${mars[@]}" --between "${day[@]}" >"$room/relay.svg"
 expect 'the day at Mars' '' "$(cmp examples/relay.svg "$room/relay.svg" 2>&1)"
-expect 'it is XML' 'svg' "$(python3 -c 'import sys, xml.etree.ElementTree as tree; print(tree.parse(sys.argv[1]).getroot().tag.split("}")[1])' "$room/relay.svg")"
+expect 'all lies at its time' '9 ticks, 20 bars, 9 hops, 6 waits' "$(tests/picture_faults "$room/relay.svg" "${day[@]}")"
+
+# Cut at both sides: contact 10 is over and the wait for 12 isn't; route 1 is on its way.
+cut=(2030/01/01-02:35:00 2030/01/01-05:30:00)
+tools/timeline "${mars[@]}" --between "${cut[@]}" >"$room/cut.svg"
+expect 'a part of the day' '6 ticks, 6 bars, 4 hops, 3 waits' "$(tests/picture_faults "$room/cut.svg" "${cut[@]}")"
+expect 'links without a contact' '9 more links have no contact in this span' "$(grep -o '[0-9]* more links[^<]*' "$room/cut.svg")"
+
+expect 'a part of the day, as text: hops in the span' '4' \
+    "$(tools/timeline "${mars[@]}" --between "${cut[@]}" --text | grep -c '^  route.*#')"
+
+# The routes' span: from 01:00:00 to 06:27:22, with a twentieth and a second more at both sides.
+tools/timeline "${mars[@]}" >"$room/routes.svg"
+expect 'the span of the routes' '6 ticks, 9 bars, 9 hops, 6 waits' \
+    "$(tests/picture_faults "$room/routes.svg" 2030/01/01-00:43:37 2030/01/01-06:43:45)"
+
+# Each kind of fault is seen.
+faulty() {
+    sed "$2" "$room/relay.svg" >"$room/faulty.svg"
+    expect "a fault: $1" "$3" "$(tests/picture_faults "$room/faulty.svg" "${day[@]}" | head -n -1 | cut -d , -f 1 | uniq)"
+}
+faulty 'a bar' '/contact 12:/s/ x="/&1/' 'contact 12: 21 → 12'
+faulty 'a hop' '/hop .*route 1, contact 11:/s/d="M1/&0/' 'route 1'
+faulty 'a wait' '/wait .*route 2, node 21:/s/d="M1/&0/' 'route 2'
+faulty 'a tick' '/class="tick".*06:00:00/s/d="M2/&0/' '2030/01/01-06:00:00: 2030/01/01-06:00:00 is drawn at 2016.0
+the tick of 2030/01/01-06:00:00 is labelled []'
+faulty 'a label' 's:>06\:00</text>:>07\:00</text>:' "the tick of 2030/01/01-06:00:00 is labelled ['07:00']"
+faulty 'a colour' '0,/.bar { fill: #[0-9a-f]*/s//.bar { fill: #c0c0c0/' 'bar has a contrast of 1.66 in light surroundings'
+
+# ---- The axis --------------------------------------------------------------------------------------------------
+
+# axis FIRST LAST: what stands above the ticks, and what stands at them
+axis() {
+    tools/timeline --plan examples/relay.txt --between "$1" "$2" >"$room/axis.svg"
+    tests/picture_faults "$room/axis.svg" "$1" "$2" | sed 's/, 0 hops, 0 waits$//; s/, [0-9]* bars*$//'
+    for y in 15 32; do
+        sed -n "s:.* y=\"$y\" text-anchor=\"middle\">\(.*\)</text>:\1:p" "$room/axis.svg" | paste -s -d ' '
+    done
+}
+expect 'ten seconds' '5 ticks
+2029/12/31 2030/01/01
+23:59:56 23:59:58 00:00:00 00:00:02 00:00:04' "$(axis 2029/12/31-23:59:55 2030/01/01-00:00:05)"
+expect 'an hour' '7 ticks
+2030/01/01
+01:00 01:10 01:20 01:30 01:40 01:50 02:00' "$(axis 2030/01/01-01:00:00 2030/01/01-02:00:00)"
+expect 'two days: the first date has no room' '8 ticks
+2030/01/02 01/03
+18:00 00:00 06:00 12:00 18:00 00:00 06:00 12:00' "$(axis 2030/01/01-17:00:00 2030/01/03-17:00:00)"
+expect 'two days of two years' '8 ticks
+2029/12/31 2030/01/01
+00:00 06:00 12:00 18:00 00:00 06:00 12:00 18:00' "$(axis 2029/12/30-20:00:00 2030/01/01-20:00:00)"
+expect 'a week' '7 ticks
+2029 2030
+12/29 12/30 12/31 01/01 01/02 01/03 01/04' "$(axis 2029/12/28-13:00:00 2030/01/04-13:00:00)"
+expect 'a month: its Mondays' '4 ticks
+2030
+02/04 02/11 02/18 02/25' "$(axis 2030/02/01-00:00:00 2030/03/01-00:00:00)"
+expect 'a year' '6 ticks
+2030
+01/01 03/01 05/01 07/01 09/01 11/01' "$(axis 2029/11/17-00:00:00 2030/11/17-00:00:00)"
+expect 'ten years' '10 ticks
+
+2030 2031 2032 2033 2034 2035 2036 2037 2038 2039' "$(axis 2029/11/17-00:00:00 2039/11/17-00:00:00)"
+expect 'all times' '8 ticks
+
+2000 3000 4000 5000 6000 7000 8000 9000' "$(axis 1970/01/01-00:00:00 9998/12/31-23:59:59)"
+
+# ---- Plans -----------------------------------------------------------------------------------------------------
 
 # A light time for one way alone wins, a deleted contact's number is left out, a contact may have no light time, and
 # of a range only the contacts that start within it have its light time.
@@ -23,35 +95,142 @@ a contact +10 +60 2 1 1000
 a contact +50 +100 1 2 1000
 d contact +10 1 2
 PLAN
-expect 'a list' 'contact  from  to                start                  end  light
-      1     1   2  2030/01/01-00:00:00  2030/01/01-00:01:00      7
-      3     2   1  2030/01/01-00:00:10  2030/01/01-00:01:00      9
-      4     1   2  2030/01/01-00:00:50  2030/01/01-00:01:40      -' "$(tools/timeline --plan "$room/plan.txt" --list)"
 cat >"$room/routes.txt" <<'ROUTES'
 hop 1 contact 1 from 1 to 2 send 2030/01/01-00:00:00 arrive 2030/01/01-00:00:07
 delivery 2030/01/01-00:00:07 hops 1 entry 2 until 2030/01/01-00:01:00 contacts 1
 ROUTES
-expect 'as text' '           2030/01/01
-           00:00:00       00:00:30       00:01:00       00:01:30
-1 > 2      1========================4=======================
-  route 1  ####
-2 > 1           3========================
-route 1  delivery 2030/01/01-00:00:07  contacts 1' "$(tools/timeline --plan "$room/plan.txt" --explained "$room/routes.txt" --text --columns 67)"
-expect 'the links of the routes alone' '1 > 2' "$(tools/timeline --plan "$room/plan.txt" --explained "$room/routes.txt" --text --used |
-    grep -o '^. > .')"
-expect 'a row for each link' '2' "$(tools/timeline --plan "$room/plan.txt" | grep -c ' → .</text>')"
-expect 'nothing stands' '0' "$(tools/timeline --plan /dev/null >"$room/none.svg"; echo $?)"
+cat >"$room/names.txt" <<'NAMES'
+# the nodes
+1 A & B
 
-refused() {
-    told=$(tools/timeline "${@:2}" 2>&1 >"$room/said")
-    expect "$1" "1 0 timeline: $wanted" "$? $(wc -c <"$room/said") $told"
+2	basse station
+NAMES
+plan=(--plan "$room/plan.txt")
+minutes=(--between 2030/01/01-00:00:00 2030/01/01-00:01:40)
+expect 'a list' 'contact  from  to                start                  end  light
+      1     1   2  2030/01/01-00:00:00  2030/01/01-00:01:00      7
+      3     2   1  2030/01/01-00:00:10  2030/01/01-00:01:00      9
+      4     1   2  2030/01/01-00:00:50  2030/01/01-00:01:40      -' "$(tools/timeline "${plan[@]}" --list)"
+expect 'a list with names, of a span' 'contact  from  to                start                  end  light  nodes
+      4     1   2  2030/01/01-00:00:50  2030/01/01-00:01:40      -  A & B > basse station' \
+    "$(tools/timeline "${plan[@]}" --list --names "$room/names.txt" --between 2030/01/01-00:01:00 2030/01/02-00:00:00)"
+
+# 60 columns for 100 seconds; contacts 1 and 4 overlap.
+expect 'as text' '           2030/01/01
+UTC        00:00:00          00:00:30          00:01:00          00:01:30
+1 > 2      1===================================
+  route 1  #####
+                                         4=============================
+2 > 1            3=============================
+= contact, with its number   # sending to arrival   . wait
+route 1: delivery 2030/01/01-00:00:07, contacts 1' \
+    "$(tools/timeline "${plan[@]}" --explained "$room/routes.txt" --text --columns 78 "${minutes[@]}")"
+expect 'the links of the routes alone' '1 > 2' "$(tools/timeline "${plan[@]}" --explained "$room/routes.txt" --text --used |
+    grep -o '^. > .')"
+tools/timeline "${plan[@]}" "${minutes[@]}" --names "$room/names.txt" >"$room/named.svg"
+expect 'a row for each link, with names' 'A &amp; B → basse station
+basse station → A &amp; B' "$(grep -o '[^>]* → [^<]*</text>' "$room/named.svg" | sed 's:</text>::')"
+expect 'overlapping windows' '7 ticks, 3 bars, 0 hops, 0 waits' "$(tests/picture_faults "$room/named.svg" "${minutes[@]:1}")"
+expect 'two lanes' '2' "$(grep 'contact [14]:' "$room/named.svg" | grep -o ' y="[0-9]*"' | sort -u | wc -l)"
+expect 'nothing stands' 'no contacts' "$(tools/timeline --plan /dev/null | grep -o 'no [a-z]*')"
+expect 'nothing stands, as text' 'no contacts' "$(tools/timeline --plan /dev/null --text)"
+
+# ---- Routes ----------------------------------------------------------------------------------------------------
+
+# Twenty routes at the same time, by twenty chains of two contacts over one link.
+for ((it = 0; it < 20; it++)); do
+    echo "a contact 2030/01/01-00:00:$((10 + it)) 2030/01/01-00:02:00 1 2 5"
+done >"$room/twenty.txt"
+echo 'a contact 2030/01/01-00:00:00 2030/01/01-00:02:00 2 3 5' >>"$room/twenty.txt"
+for ((it = 0; it < 20; it++)); do
+    echo "hop 1 contact $((it + 1)) from 1 to 2 send 2030/01/01-00:00:$((10 + it)) arrive 2030/01/01-00:00:$((11 + it))"
+    echo "hop 2 contact 21 from 2 to 3 send 2030/01/01-00:00:$((11 + it)) arrive 2030/01/01-00:00:40"
+    echo "delivery 2030/01/01-00:00:40 hops 2 entry 2 until 2030/01/01-00:02:00 contacts $((it + 1)) 21"
+done >"$room/twenty-routes.txt"
+minute=(2030/01/01-00:00:00 2030/01/01-00:01:00)
+tools/timeline --plan "$room/twenty.txt" --explained "$room/twenty-routes.txt" --between "${minute[@]}" >"$room/twenty.svg"
+expect 'twenty routes' '7 ticks, 21 bars, 40 hops, 20 waits' "$(tests/picture_faults "$room/twenty.svg" "${minute[@]}")"
+expect 'told apart' '20' "$(grep -o 'wait line[0-9]* dash[0-9]*" d="M-' "$room/twenty.svg" | sort -u | wc -l)"
+ranks() {
+    sed -n 's:.*class="rank".*>\([0-9]*\)</tspan></text>:\1:p' "$room/$1.svg" | sort -n | uniq -c | awk '{ print $1, $2 }'
 }
-wanted="plan line 3 can't be read: does cgrlist check accept this plan?"
-refused 'no plan' --plan tests/expect.sh
-wanted='the routes are not of this plan: it has no contact from 12 to 1'
-refused 'routes of another plan' --plan "$room/plan.txt" --explained examples/relay-routes.txt
-wanted="this is no line of a route's explanation: refused: Empty"
+expect 'ranks at the ends of three routes' '1 1
+1 2
+1 3' "$(ranks relay)"
+expect 'ranks at the hops of twenty' "$(seq 20 | sed 's/^/2 /')" "$(ranks twenty)"
+
+# The program is asked for the routes of a request.
+cat >"$room/program" <<STUB
+#!/bin/sh
+echo "\$*" >>"$room/asked"
+case \$* in
+first*) printf '%s\n' '1 delivery 2030/01/01-00:00:07 hops 1 entry 2 until 2030/01/01-00:01:00 contacts 1' more ;;
+explain*) cat "$room/routes.txt" ;;
+esac
+STUB
+printf '#!/bin/sh\necho end\n' >"$room/ends"
+printf '#!/bin/sh\necho "cgrlist: plan line 3: NoReference" >&2\nexit 3\n' >"$room/fails"
+chmod +x "$room/program" "$room/ends" "$room/fails"
+request=("${plan[@]}" --from 1 --to 2 --at 2030/01/01-00:00:00 --margin-ppm 5)
+wanted=$(tools/timeline "${plan[@]}" --explained "$room/routes.txt")
+expect 'the first routes' "$wanted" "$(tools/timeline "${request[@]}" --count 1 --program "$room/program")"
+expect 'what was asked' "first ${request[*]} --count 1
+explain ${request[*]} --contacts 1" "$(cat "$room/asked")"
+echo '4 delivery 2030/01/01-00:00:07 hops 1 entry 2 until 2030/01/01-00:01:00 contacts 1' >"$room/report.txt"
+expect 'the routes of a report' 'route 4: delivery 2030/01/01-00:00:07, contacts 1' \
+    "$(tools/timeline "${request[@]}" --report "$room/report.txt" --program "$room/program" --text | tail -n 1)"
+expect 'no route' 'no route' "$(tools/timeline "${request[@]}" --count 1 --program "$room/ends" | grep -o 'no route')"
+expect 'no route, no link' 'no route' "$(tools/timeline "${request[@]}" --count 1 --program "$room/ends" --used --text)"
+
+# Where the program is looked for: beside the folder of the tool, and in the path.
+mkdir -p "$room/share/tools" "$room/bin"
+cp tools/timeline tools/contact_plan.py "$room/share/tools"
+ln -s "$room/share/tools/timeline" "$room/bin/cgrlist-timeline"
+ln -s "$room/ends" "$room/bin/cgrlist"
+expect 'the program in the path' 'no route' \
+    "$(PATH=$room/bin:$PATH cgrlist-timeline "${request[@]}" --count 1 --text | grep '^no')"
+ln -s "$room/program" "$room/share/cgrlist"
+expect 'the program of the clone' 'route 1: delivery 2030/01/01-00:00:07, contacts 1' \
+    "$(PATH=$room/bin:$PATH cgrlist-timeline "${request[@]}" --count 1 --text | tail -n 1)"
+expect 'no compiled module is left' "$room/share/tools/contact_plan.py
+$room/share/tools/timeline" "$(find "$room/share/tools" -type f | sort)"
+
+# ---- What is refused -------------------------------------------------------------------------------------------
+
+# refused STATUS MESSAGE WORD ..: nothing is printed but the message
+refused() {
+    told=$(tools/timeline "${@:3}" 2>&1 >"$room/said")
+    expect "refused: $2" "$1 0 $2" "$? $(wc -c <"$room/said") $told"
+}
+refused 3 "timeline: plan line 3 can't be read: does cgrlist check accept this plan?" --plan tests/expect.sh
+refused 5 'timeline: /nowhere: No such file or directory' --plan /nowhere
+refused 2 'timeline: the following arguments are required: --plan; --help tells the words'
+refused 2 'timeline: --between: not a time: 2030; --help tells the words' "${plan[@]}" --between 2030 2031
+refused 2 "timeline: --between: the first time isn't before the second; --help tells the words" \
+    "${plan[@]}" --between "${day[1]}" "${day[0]}"
+refused 2 'timeline: --used needs routes: --count, --report or --explained; --help tells the words' "${plan[@]}" --used
+refused 2 'timeline: --count and --report need the request: --from, --to, --at; --help tells the words' "${plan[@]}" --count 1
+refused 1 'timeline: the routes are not of this plan: it has no contact 4 from 31 to 22' \
+    "${plan[@]}" --explained examples/relay-routes.txt
 echo 'refused: Empty' >"$room/refused.txt"
-refused 'no route' --plan "$room/plan.txt" --explained "$room/refused.txt"
+refused 1 "timeline: this is no line of a route's explanation: refused: Empty" "${plan[@]}" --explained "$room/refused.txt"
+head -n 1 "$room/routes.txt" >"$room/refused.txt"
+refused 1 "timeline: the explanations are cut: the last one has no line 'delivery'" "${plan[@]}" --explained "$room/refused.txt"
+refused 1 'timeline: this is no line of a report: refused: Empty' "${request[@]}" --program "$room/program" --report <(echo 'refused: Empty')
+refused 1 "timeline: names line 1: it doesn't begin with a node's number: lander 31" "${plan[@]}" --names <(echo 'lander 31')
+refused 1 'timeline: names line 2: the node or the name stands in a line above: 2 a' "${plan[@]}" --names <(printf '1 a\n2 a\n')
+refused 3 'cgrlist: plan line 3: NoReference' "${request[@]}" --count 1 --program "$room/fails"
+refused 125 'timeline: there is no program: looked for /nowhere' "${request[@]}" --count 1 --program /nowhere
+refused 1 'timeline: the plan is a pipe: the program has to read it again, so give it as a file' \
+    --plan <(cat "$room/plan.txt") "${request[@]:2}" --count 1 --program "$room/program"
+told=$(tools/timeline "${plan[@]}" 2>&1 >/dev/full)
+expect 'a full disk' '5 timeline: No space left on device' "$? $told"
+told=$(tools/timeline "${plan[@]}" 2>&1 >&-)
+expect 'no standard output' '5 timeline: standard output is closed' "$? $told"
+
+# Nobody reads on: more is to be written than a pipe holds.
+seq 1000 | sed 's/.*/a contact 2030\/01\/01-00:00:00 2030\/01\/01-01:00:00 & 1001 5/' >"$room/many.txt"
+tools/timeline --plan "$room/many.txt" 2>"$room/told" | head -n 1 >"$room/said"
+expect 'a closed pipe' '' "$(cat "$room/told")"
 
 finish picture

@@ -250,10 +250,18 @@ _EXPLAINED = re.compile(_ROUTE)
 _HOP = re.compile(r"hop \d+ contact (\d+) from (\d+) to (\d+) send (\S+) arrive (\S+)")
 
 
+def _told_second(text):
+    """A time of a report or an explanation."""
+    try:
+        return seconds_of(text)
+    except ValueError as error:
+        raise Refused(f"this is no time of a report: {text}") from error
+
+
 def _route(rank, words, hops=()):
     delivery, entry, until, contacts = words
     numbers = tuple(map(int, contacts.split()))
-    return Route(int(rank), seconds_of(delivery), int(entry), seconds_of(until), numbers, tuple(hops))
+    return Route(int(rank), _told_second(delivery), int(entry), _told_second(until), numbers, tuple(hops))
 
 
 def report_of(lines):
@@ -275,7 +283,7 @@ def explained_routes(lines, ranks=None):
     routes, hops = [], []
     for line in map(str.strip, lines):
         if found := _HOP.fullmatch(line):
-            hops.append(Hop(*map(int, found.groups()[:3]), seconds_of(found[4]), seconds_of(found[5])))
+            hops.append(Hop(*map(int, found.groups()[:3]), _told_second(found[4]), _told_second(found[5])))
         elif found := _EXPLAINED.fullmatch(line):
             rank = ranks[len(routes)] if ranks else len(routes) + 1
             routes.append(_route(rank, found.groups(), hops))
@@ -325,10 +333,10 @@ class Program:
 
     def __init__(self, given=None):
         """Takes the program that is given, the script of the clone that the tool stands in, or the one in the path."""
-        places = [given] if given else [SCRIPT, "cgrlist"]
+        places = [SCRIPT, "cgrlist"] if given is None else [given]
         self.path = next(filter(None, map(shutil.which, places)), None)
         if not self.path:
-            looked = given or f"{SCRIPT} and for cgrlist in the path; --program names another place"
+            looked = f"{SCRIPT} and for cgrlist in the path; --program names another place" if given is None else given or "''"
             raise Refused(f"there is no program: looked for {looked}", START_STATUS)
 
     def first(self, request, count):
