@@ -1,11 +1,3 @@
-//! Runs of the program over files, readers and writers.
+//! Runs of the commands over readers, writers and allocators.
 
-mod checks;
 mod devices;
-mod explanations;
-mod forged;
-mod help;
-mod listings;
-mod refusals;
-mod running;
-mod sessions;

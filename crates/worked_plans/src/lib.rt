@@ -11,7 +11,7 @@ mod tables;
 
 pub use asked::{ALL, Asked, BEGIN, request_of};
 pub use listings::{LISTED_A, LISTED_C, Listed};
-pub use plan_texts::{REFERENCE, TEXT_OF_A, TEXT_OF_B, TEXT_OF_C};
+pub use plan_texts::{REFERENCE, TEXT_OF_A, TEXT_OF_C};
 pub use session_texts::{BEHIND_THREE, BEHIND_TWO, FIRST_TWO, HEAD, OLD_HEAD, SESSION_OF_C, THIRD};
 pub use states::{STATES_A, STATES_C, Shown, State};
 pub use tables::{

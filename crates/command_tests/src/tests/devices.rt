@@ -1,4 +1,5 @@
-//! Runs over readers, writers and an allocator that fail at each place in turn.
+//! Runs that no words and files bring about: over readers, writers and an allocator that fail at each place in turn, and
+//! of the empty list of contacts.
 
 use commands::{Status, run_check, run_explain, run_first, run_next, run_verify};
 use failing::{End, LimitedWriter, PieceReader, Ration};
@@ -6,7 +7,9 @@ use sabr_model::Request;
 use std::alloc::{Allocator, Global};
 use std::process::Abort;
 use std::test::Fail;
-use worked_plans::{BEHIND_THREE, BEHIND_TWO, FIRST_TWO, HEAD, TEXT_OF_A, TEXT_OF_C, THIRD};
+use worked_plans::{
+    BEHIND_THREE, BEHIND_TWO, FIRST_TWO, HEAD, OLD_HEAD, TEXT_OF_A, TEXT_OF_C, THIRD,
+};
 
 const CHECK_OF_A: &str = "\
 contacts 4\n\
@@ -106,6 +109,16 @@ impl Run {
         writers: &mut Writers,
     ) -> Status {
         let mut old = PieceReader::new(old, 4096, End::Ended);
+        self.over_readers(alloc, plan, &mut old, writers)
+    }
+
+    fn over_readers<A: Allocator + Copy>(
+        self,
+        alloc: A,
+        plan: &mut PieceReader<'_>,
+        old: &mut PieceReader<'_>,
+        writers: &mut Writers,
+    ) -> Status {
         let out = &mut writers.out;
         let session = &mut writers.session;
         let err = &mut writers.err;
@@ -113,8 +126,8 @@ impl Run {
             Run::FirstTwo => run_first(alloc, plan, request(), 2, out, true, session, err),
             Run::FirstThree => run_first(alloc, plan, request(), 3, out, true, session, err),
             Run::Unkept => run_first(alloc, plan, request(), 3, out, false, session, err),
-            Run::NextFive => run_next(alloc, plan, &mut old, 5, out, true, session, err),
-            Run::Verify => run_verify(alloc, plan, &mut old, out, err),
+            Run::NextFive => run_next(alloc, plan, old, 5, out, true, session, err),
+            Run::Verify => run_verify(alloc, plan, old, out, err),
             Run::Check => run_check(alloc, plan, out, err),
             Run::Explain => run_explain(alloc, plan, request(), &[1, 2], out, err),
         }
@@ -226,6 +239,60 @@ fn a_failed_reader_is_told(rt: HostRuntime) -> Result<(), Fail> {
             );
         }
     }
+    Ok(())
+}
+
+#[test]
+fn a_failed_reader_of_a_session_is_told(rt: HostRuntime) -> Result<(), Fail> {
+    for head in [HEAD, OLD_HEAD] {
+        let text = format!(in rt.alloc(); "{head}{BEHIND_TWO}x")?;
+        let text = text.as_str().as_bytes();
+        for run in [Run::NextFive, Run::Verify] {
+            for limit in 0..text.len() {
+                let mut old = PieceReader::failing_after(text, limit, 4096);
+                let mut writers = Writers::ample(rt.alloc());
+                let mut plan = reader_of_a(4096);
+                let status = run.over_readers(rt.alloc(), &mut plan, &mut old, &mut writers);
+                assert_eq!(rt; status, Status::Io, "at {limit}");
+                assert_eq!(rt; writers.out.held(), b"".as_slice(), "at {limit}");
+                assert_eq!(rt; writers.session.held(), b"".as_slice(), "at {limit}");
+                assert_eq!(rt;
+                    writers.err.held(),
+                    b"cgrlist: session: read failed\n".as_slice(),
+                    "at {limit}"
+                );
+            }
+        }
+        for (run, status, line, message) in [
+            (
+                Run::NextFive,
+                Status::Session,
+                b"".as_slice(),
+                b"cgrlist: session line 10: BadLine\n".as_slice(),
+            ),
+            (Run::Verify, Status::No, b"no\n".as_slice(), b"".as_slice()),
+        ] {
+            let mut old = PieceReader::new(text, 4096, End::Fails);
+            let mut writers = Writers::ample(rt.alloc());
+            let mut plan = reader_of_a(4096);
+            let ended = run.over_readers(rt.alloc(), &mut plan, &mut old, &mut writers);
+            assert_eq!(rt; ended, status);
+            assert_eq!(rt; writers.out.held(), line);
+            assert_eq!(rt; writers.session.held(), b"".as_slice());
+            assert_eq!(rt; writers.err.held(), message);
+        }
+    }
+    Ok(())
+}
+
+#[test]
+fn the_empty_list_is_explained(rt: HostRuntime) -> Result<(), Fail> {
+    let mut writers = Writers::ample(rt.alloc());
+    let (out, err) = (&mut writers.out, &mut writers.err);
+    let status = run_explain(rt.alloc(), &mut reader_of_a(4096), request(), &[], out, err);
+    assert_eq!(rt; status, Status::No);
+    assert_eq!(rt; writers.out.held(), b"refused: Empty\n".as_slice());
+    assert_eq!(rt; writers.err.held(), b"".as_slice());
     Ok(())
 }
 
