@@ -19,4 +19,4 @@ pub use program::{run_arguments, run_words};
 pub use rows::explanations_of_plan_a;
 pub use runs::{run_check, run_explain, run_first, run_next, run_verify};
 pub use status::Status;
-pub use words::ValueName;
+pub use words::{ValueFault, ValueName, Values, read_values};
