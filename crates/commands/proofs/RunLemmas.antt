@@ -3,3 +3,5 @@ pub mod SessionPages
 pub mod PageTexts
 pub mod OldSessions
 pub mod RunsFollow
+pub mod NextPages
+pub mod StandingPages

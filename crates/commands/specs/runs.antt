@@ -2,3 +2,5 @@
 pub mod Runs
 pub mod SessionRuns
 pub mod EveryRun
+pub mod NextPage
+pub mod PagesLeft

@@ -73,7 +73,7 @@ pub fn list<R: Files + AllocGlobal, O: Write, E: Write>(
     requires { IsTrue (has_count command) }
 {
     let alloc = rt.alloc();
-    let values = read_values(alloc, command, words)?;
+    let values = read_values(alloc, command.declared().name, words)?;
     let count = values.count.unwrap();
     let mut plan = open_plan(rt, words)?;
     let beginning = begin(rt, words, values.request)?;
@@ -137,7 +137,7 @@ pub fn explain<R: Files + AllocGlobal, O: Write, E: Write>(
     err: &mut E,
 ) -> Result<Status, Failure> {
     let alloc = rt.alloc();
-    let values = read_values(alloc, CommandName::Explain, words)?;
+    let values = read_values(alloc, CommandName::Explain.declared().name, words)?;
     let request = values.request.unwrap();
     let contacts = values.contacts.as_slice();
     let mut plan = open_plan(rt, words)?;

@@ -1,7 +1,7 @@
 //! The commands, each declared in one place: its name, what help tells of it, its words, and its run.
 
-ghost use Rattle.std.specs.Prelude.{◌≡◌};
-ghost use Rattle.commands.specs.words.Values.{has_request, has_count, has_contacts};
+ghost use Rattle.std.specs.Prelude.{◌≡◌, Some};
+ghost use Rattle.commands.specs.words.Values.{command_named, has_request, has_count, has_contacts};
 
 use crate::calls::{check, explain, list, verify};
 use crate::failure::Failure;
@@ -56,6 +56,7 @@ pub struct Declared<'a> {
 impl CommandName {
     /// Tells what is declared of the command.
     pub fn declared<'a>(self) -> Declared<'a>
+        ensures name { command_named result.name.now ≡ Some self }
         ensures request { result.has_request ≡ has_request self }
         ensures count { result.has_count ≡ has_count self }
         ensures contacts { result.has_contacts ≡ has_contacts self }
@@ -141,11 +142,21 @@ impl CommandName {
 }
 
 /// Finds the command of a name.
-pub fn command_named(name: &str) -> Option<CommandName> {
-    for command in COMMANDS {
-        if command.declared().name == name {
-            return Some(command);
-        }
+pub fn command_named(name: &str) -> Option<CommandName>
+    ensures { result ≡ command_named name.now }
+{
+    let name = name.as_bytes();
+    if name == b"first".as_slice() {
+        Some(CommandName::First)
+    } else if name == b"next".as_slice() {
+        Some(CommandName::Next)
+    } else if name == b"verify".as_slice() {
+        Some(CommandName::Verify)
+    } else if name == b"check".as_slice() {
+        Some(CommandName::Check)
+    } else if name == b"explain".as_slice() {
+        Some(CommandName::Explain)
+    } else {
+        None
     }
-    None
 }

@@ -2,10 +2,10 @@
 
 ghost use Rattle.std.specs.Prelude.{◌≡◌};
 ghost use Rattle.commands.specs.declared.failure.Failure.TheVariants as failure;
-ghost use Rattle.commands.specs.texts.Messages.{status_of, failure_of_plan, failure_of_session};
+ghost use Rattle.commands.specs.texts.Messages.{status_of, failure_of_plan, failure_of_session, failure_of_value};
 
 use crate::status::Status;
-use crate::words::ValueName;
+use crate::words::{ValueFault, ValueName};
 use sabr_model::{NoMemory, WriteFault};
 use sabr_plan::{PlanFault, PlanKind};
 use sabr_session::SessionFault;
@@ -53,6 +53,20 @@ impl Failure {
             }
             Failure::PlanRead | Failure::SessionRead | Failure::Write => Status::Io,
             Failure::NoMemory => Status::Memory,
+        }
+    }
+}
+
+/// The failure that refused values are.
+impl From<ValueFault> for Failure {
+    ghost from_gives = { λ fault e. e ≡ failure_of_value fault };
+
+    fn from(fault: ValueFault) -> Failure {
+        match fault {
+            ValueFault::Bad(name) => Failure::BadValue(name),
+            ValueFault::SameNode => Failure::SameNode,
+            ValueFault::NoMemory => Failure::NoMemory,
+            ValueFault::BadAvoid => Failure::BadAvoid,
         }
     }
 }

@@ -1,6 +1,8 @@
-//! The headline as a theorem: the contract of a function that does nothing.
+//! The headline and what it says of single runs and calls, as theorems: the contracts of functions that do nothing.
 
 ghost use Rattle.commands.specs.runs.EveryRun.{EveryRunFollows};
+ghost use Rattle.commands.specs.runs.NextPage.{NextGoesOn};
+ghost use Rattle.commands.specs.runs.PagesLeft.{PagesStand};
 
 /// Shows that every run of a session follows the list of all routes. Whatever sizes its pages have, and wherever it went through
 /// its text on the way, its pages one behind the other are the next routes of the list, best first, none left out and
@@ -12,4 +14,18 @@ ghost use Rattle.commands.specs.runs.EveryRun.{EveryRunFollows};
 /// the calls take 0 to 10000.
 pub fn every_run()
     ensures { EveryRunFollows }
+{}
+
+/// Shows that a run `next` over the session text of a place of the list writes the report of the page from there on, ranked
+/// from the place's next rank, and leaves the session text of the place after it. Where one of its writers failed that
+/// writer holds a beginning, and where memory was refused or the session's reader failed nothing was written.
+pub fn next_goes_on()
+    ensures { NextGoesOn }
+{}
+
+/// Shows that after any pages, refusals and steps back a session is that of the pages that weren't taken back, in the
+/// order in which they were given and nothing else; and so are the states that it can go back to. From a place of the
+/// list it stands at the place after their routes.
+pub fn pages_stand()
+    ensures { PagesStand }
 {}

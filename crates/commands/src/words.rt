@@ -4,9 +4,11 @@ mod command_line;
 mod first_piece;
 mod lists;
 mod request_words;
+mod value_fault;
 mod value_name;
 mod values;
 
 pub use command_line::parsed;
+pub use value_fault::ValueFault;
 pub use value_name::ValueName;
-pub use values::read_values;
+pub use values::{Values, read_values};

@@ -1,13 +1,14 @@
 -- A text that goes on with a piece, or that a piece ends.
-use Rattle.std.proofs.Common.{◌≡◌, ℕ, ◌+◌, ◌≤◌, ◌⊎◌, inl, inr, Bool, true, false, ◌&&◌, List, [], ◌∷◌, ◌++◌, length, refl, sym, ap, ◌∙◌, arith, Result, Ok, Err, length-append}
+use Rattle.std.proofs.Common.{◌≡◌, ℕ, ◌+◌, ◌≤◌, ◌⊎◌, inl, inr, Bool, true, false, ◌&&◌, List, [], ◌∷◌, ◌++◌, length, refl, sym, ap, ◌∙◌, arith, Result, Ok, Err, append_assoc, length-append}
 use Rattle.sabr_plan.specs.Canonical.{digest_of}
-use Rattle.sabr_plan.specs.Words.{is_one_line, has_bytes}
+use Rattle.sabr_plan.specs.Words.{TextLines, is_one_line, has_bytes, lines_of}
 use Rattle.sabr_plan.proofs.Held.{one_line-append}
+use Rattle.sabr_plan.proofs.Lines.{lines_of-one, lines_of-line}
 use Rattle.sabr_session.specs.declared.session_fault.SessionFault.{SessionFault}
 use Rattle.sabr_session.specs.declared.session_fault.SessionFault.TheVariants as fault
 use Rattle.sabr_session.specs.SessionRead.{Said, misspelled, read_line, is_behind, last_line}
 use Rattle.sabr_frontier.specs.Session.{Seen}
-use Rattle.sabr_session.specs.SessionFed.{IsSessionFrom, OpenText, outcome, outcome_of, is_bad_front, GoesOn, IsRefusedPiece, weight}
+use Rattle.sabr_session.specs.SessionFed.{SessionFed, IsSessionFrom, OpenText, outcome, outcome_of, is_bad_front, GoesOn, IsRefusedPiece, weight}
 use Rattle.sabr_session.specs.SessionLeaving.{Leaves}
 use Rattle.sabr_session.proofs.SessionOutcomes.{outcome-end, outcome-read, line_refused, line_read, rest_held, rest_refused}
 use Rattle.sabr_session.proofs.NeverRead.{misspelled_not, line_not_read}
@@ -17,10 +18,11 @@ pub record HasTaken (old : OpenText) (piece : List ℕ) (t : OpenText) (rest : L
   pub plan : t.plan ≡ old.plan
   pub calls : t.calls ≡ old.calls
   pub same : (more : List ℕ) (ended : Bool) → outcome old.plan.plan (digest_of old.plan.plan) old.fed (piece ++ more) ended ≡ outcome old.plan.plan (digest_of old.plan.plan) t.fed (rest ++ more) ended
+  pub held : (lines_of (old.fed.held ++ piece)).open_line ≡ (lines_of (t.fed.held ++ rest)).open_line
   pub grows : weight old + length piece ≤ weight t + length rest
 
 pub nothing_taken : (t : OpenText) (piece : List ℕ) → HasTaken t piece t piece
-nothing_taken t piece = record { plan = refl; calls = refl; same = λ more ended. refl; grows = omega arith }
+nothing_taken t piece = record { plan = refl; calls = refl; same = λ more ended. refl; held = refl; grows = omega arith }
 
 module _ (old : OpenText) (piece : List ℕ) (t : OpenText) (rest : List ℕ) (taken : HasTaken old piece t rest) (held : is_one_line t.fed.held ≡ true) where
   -- a line of the piece is refused
@@ -31,6 +33,14 @@ module _ (old : OpenText) (piece : List ℕ) (t : OpenText) (rest : List ℕ) (t
       let e : read_line old.plan.plan (digest_of old.plan.plan) (t.fed.lines + 1) t.fed.said (t.fed.held ++ front) ≡ Err f = rw (← taken.plan) is in
       inr (line_not_read _ _ _ _ _ f e, line_refused old.plan.plan (digest_of old.plan.plan) old.fed piece t.fed rest taken.same held front back one parted f e)
 
+  -- what is open behind it
+  open_behind : (front back : List ℕ) → is_one_line front ≡ true → rest ≡ front ++ 10 ∷ back → (lines_of (t.fed.held ++ rest)).open_line ≡ (lines_of back).open_line
+  open_behind front back one parted =
+      let line = t.fed.held ++ front in
+      let whole : is_one_line line ≡ true = one_line-append t.fed.held front held one in
+      let bytes : t.fed.held ++ rest ≡ line ++ 10 ∷ back = ap (λ (b : List ℕ). t.fed.held ++ b) parted ∙ sym (append_assoc t.fed.held front (10 ∷ back)) in
+      ap (λ (u : TextLines). u.open_line) (ap lines_of bytes ∙ lines_of-line line back whole)
+
   -- or read
   pub line_then_read : (front back : List ℕ) → is_one_line front ≡ true → rest ≡ front ++ 10 ∷ back → (new : OpenText) → new.plan ≡ t.plan → new.calls ≡ t.calls
       → read_line t.plan.plan (digest_of t.plan.plan) (t.fed.lines + 1) t.fed.said (t.fed.held ++ front) ≡ Ok new.fed.said
@@ -39,6 +49,7 @@ module _ (old : OpenText) (piece : List ℕ) (t : OpenText) (rest : List ℕ) (t
     plan = plan ∙ taken.plan;
     calls = calls ∙ taken.calls;
     same = line_read old.plan.plan (digest_of old.plan.plan) old.fed piece t.fed rest taken.same held front back one parted new.fed (rw (← taken.plan) is) lines none;
+    held = taken.held ∙ open_behind front back one parted ∙ ap (λ (b : List ℕ). (lines_of (b ++ back)).open_line) (sym none);
     grows = omega (arith, taken.grows, lines, ap length none, ap length parted, length-append front (10 ∷ back));
   }
 
@@ -54,6 +65,7 @@ module _ (old : OpenText) (piece : List ℕ) (t : OpenText) (rest : List ℕ) (t
       record {
         plan = plan;
         calls = ap (λ (t : OpenText). t.calls) is ∙ taken.calls;
+        held = ap (λ (s : SessionFed). s.held) fed ∙ sym (taken.held ∙ ap (λ (u : TextLines). u.open_line) (lines_of-one (t.fed.held ++ rest) whole));
         same = λ more ended. rest_held p h old.fed piece t.fed rest taken.same held new.fed fed more ended ∙ rw plan refl;
         fine = rw (plan, fed) (outcome-read p h (record t.fed { held = t.fed.held ++ rest }) whole good);
       }

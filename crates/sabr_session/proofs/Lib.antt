@@ -19,6 +19,7 @@ pub mod SaidLines
 pub mod NeverRead
 pub mod GoingOn
 pub mod SessionGivenSoFar
+mod OpenLines
 mod PiecesJoined
 pub mod SessionOutcomes
 pub mod FormedSessions

@@ -1,7 +1,8 @@
 -- What pieces of a session text come to, fed one after the other.
-use Rattle.std.proofs.Common.{◌≡◌, ◌≢◌, ℕ, Bool, true, false, ◌⊎◌, inl, inr, List, [], ◌∷◌, ◌++◌, refl, sym, ap, ◌∙◌, append_assoc, append-nil, Result, Ok, Err}
+use Rattle.std.proofs.Common.{◌≡◌, ◌≢◌, ℕ, Bool, true, false, ◌⊎◌, inl, inr, List, [], ◌∷◌, ◌++◌, refl, sym, ap, ◌∙◌, append_assoc, append-nil, Result, Ok, Err, IfOk}
 use Rattle.sabr_model.specs.Plan.{TabledPlan}
 use Rattle.sabr_plan.specs.Canonical.{digest_of}
+use Rattle.sabr_plan.specs.Words.{lines_of}
 use Rattle.sabr_frontier.specs.Session.{Seen}
 use Rattle.sabr_session.specs.SessionFed.{OpenText, opened_over, outcome_of, IsFed, IsFinished, IsSessionFrom}
 use Rattle.sabr_session.specs.SessionGiven.{said_over}
@@ -9,10 +10,11 @@ use Rattle.sabr_session.specs.FedInTurn.{AreFed, bytes_of, IsAnswerSoFar, Pieces
 use Rattle.sabr_session.specs.declared.session_fault.SessionFault.{SessionFault}
 use Rattle.sabr_session.specs.declared.session_fault.SessionFault.TheVariants as fault
 use Rattle.sabr_session.proofs.SessionOutcomes.{said_of-outcome}
+use Rattle.sabr_session.proofs.OpenLines.{open_line-append}
 
 -- behind these bytes, what was fed comes to what they come to
 abbrev SoFar : TabledPlan → List ℕ → Result OpenText SessionFault → Type 0
-SoFar plan bytes (Ok t) = (t.plan ≡ plan) × ((more : List ℕ) (ended : Bool) → said_over plan (bytes ++ more) ended ≡ outcome_of t more ended)
+SoFar plan bytes (Ok t) = (t.plan ≡ plan) × ((more : List ℕ) (ended : Bool) → said_over plan (bytes ++ more) ended ≡ outcome_of t more ended) × (t.fed.held ≡ (lines_of bytes).open_line)
 SoFar plan bytes (Err f) = (f ≡ fault.NoMemory) ⊎ ((f ≢ fault.Read) × ((more : List ℕ) (ended : Bool) → said_over plan (bytes ++ more) ended ≡ Err f))
 
 module _ (plan : TabledPlan) where
@@ -26,7 +28,8 @@ module _ (plan : TabledPlan) where
   piece_fed : (bytes piece : List ℕ) (old new : Result OpenText SessionFault) (answer : Result (Unit {0}) SessionFault) → SoFar plan bytes old → IsFed old piece answer new → SoFar plan (bytes ++ piece) new × IsAnswerSoFar plan (bytes ++ piece) answer
   piece_fed bytes piece (Ok t) (Ok s) (Ok u) so fed =
       let same : (more : List ℕ) (ended : Bool) → said_over plan ((bytes ++ piece) ++ more) ended ≡ outcome_of s more ended = λ more ended. regrouped bytes piece more ended ∙ so.1 (piece ++ more) ended ∙ fed.same more ended in
-      ((fed.plan ∙ so.0, same), behind_all (bytes ++ piece) false ∙ same [] false ∙ fed.fine)
+      let held : s.fed.held ≡ (lines_of (bytes ++ piece)).open_line = fed.held ∙ ap (λ b. (lines_of (b ++ piece)).open_line) so.2 ∙ sym (open_line-append bytes piece) in
+      ((fed.plan ∙ so.0, same, held), behind_all (bytes ++ piece) false ∙ same [] false ∙ fed.fine)
   piece_fed bytes piece (Ok t) (Err g) (Ok u) so fed = absurd fed
   piece_fed bytes piece (Ok t) (Ok s) (Err f) so fed = absurd cc
   piece_fed bytes piece (Ok t) (Err g) (Err f) so fed = by_refusal fed.1
@@ -54,18 +57,28 @@ module _ (plan : TabledPlan) where
   all_fed bytes (f ∷ fed) old new so (mid, first, rest) =
       rw (← append_assoc bytes f.0 (bytes_of fed)) (all_fed (bytes ++ f.0) fed mid new (piece_fed bytes f.0 old mid f.1 so first).0 rest)
 
+  -- what is held
+  held_so : (bytes : List ℕ) (old : Result OpenText SessionFault) → SoFar plan bytes old → IfOk old (λ t. t.fed.held ≡ (lines_of bytes).open_line)
+  held_so bytes (Ok t) so = so.2
+  held_so bytes (Err f) so = tt
+
   -- the end
   ended_so : (bytes : List ℕ) (old : Result OpenText SessionFault) (answer : Result Seen SessionFault) → SoFar plan bytes old → IsFinished old answer → IsSessionFrom plan (said_over plan bytes true) answer
   ended_so bytes (Ok t) answer so finished = rw (behind_all bytes true, so.1 [] true, ← so.0) finished
   ended_so bytes (Err f) answer (inl memory) finished = rw finished (inl memory)
   ended_so bytes (Err f) answer (inr (other, refused)) finished = rw (finished, behind_all bytes true, refused [] true) (inr refl)
 
+nothing_held : [] ≡ (lines_of []).open_line
+unfolding lines_of
+nothing_held = refl
+
 -- pieces are one text
 pub pieces_joined : PiecesAreOneText
 pieces_joined plan calls fed old are =
-    let start : SoFar plan [] (Ok (opened_over plan calls)) = (refl, λ more ended. said_of-outcome plan.plan (digest_of plan.plan) more ended) in
+    let start : SoFar plan [] (Ok (opened_over plan calls)) = (refl, (λ more ended. said_of-outcome plan.plan (digest_of plan.plan) more ended), nothing_held) in
     let so : SoFar plan (bytes_of fed) old = all_fed plan [] fed (Ok (opened_over plan calls)) old start are in
     record {
       piece = λ piece answer new is. (piece_fed plan (bytes_of fed) piece old new answer so is).1;
+      held = held_so plan (bytes_of fed) old so;
       end = λ answer finished. ended_so plan (bytes_of fed) old answer so finished;
     }

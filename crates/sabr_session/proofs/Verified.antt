@@ -1,5 +1,5 @@
 -- The texts of places are those that are read as a state of their place.
-use Rattle.std.proofs.Common.{◌≡◌, ℕ, Bool, true, false, ◌⊎◌, inl, inr, ◌↔◌, List, ◌++◌, refl, sym, subst, ap, ◌∙◌, Option, Result, Ok, Err}
+use Rattle.std.proofs.Common.{◌≡◌, ℕ, ◌+◌, arith, Bool, true, false, ◌⊎◌, inl, inr, ◌↔◌, List, ◌++◌, refl, sym, subst, ap, ◌∙◌, Option, Result, Ok, Err}
 use Rattle.sabr_model.specs.Plan.{ContactPlan, TabledPlan, IsPlan}
 use Rattle.sabr_model.specs.Arrival.{RouteRequest}
 use Rattle.sabr_model.specs.Asking.{IsRequest}
@@ -12,6 +12,7 @@ use Rattle.sabr_session.specs.SessionText.{HasText}
 use Rattle.sabr_session.specs.SessionRead.{Said, said_of, state_of, ComesTo, IsSessionOf}
 use Rattle.sabr_session.specs.SessionGiven.{ReadsSession, EndsText, BreaksText, RefusesText}
 use Rattle.sabr_session.specs.Verifying.{IsSessionText, EndsVerified, BreaksVerified, RefusesVerified, VerifiesText}
+use Rattle.sabr_session.proofs.SessionGivenSoFar.{read_failed}
 use Rattle.sabr_session.specs.declared.session_fault.SessionFault.{SessionFault}
 use Rattle.sabr_session.specs.declared.session_fault.SessionFault.TheVariants.{Read, NoMemory}
 use Rattle.sabr_session.proofs.OneAnswer.{is_read_back}
@@ -91,7 +92,7 @@ module _ (plan : TabledPlan) (good : IsPlan plan.plan) (old : Option (List ℕ))
   session_verified s h asked said_yes placed = record { given = h.given; consumed = h.consumed; told = by_end h.told }
     where
       by_end : EndsText plan h.given before (Ok s) new after ⊎ (BreaksText plan h.given before (Ok s) after ⊎ RefusesText plan h.given before (Ok s) after)
-          → EndsVerified plan.plan h.given before (Ok said_yes) new after ⊎ (BreaksVerified before (Ok said_yes) after ⊎ RefusesVerified plan.plan h.given before (Ok said_yes) after)
+          → EndsVerified plan.plan h.given before (Ok said_yes) new after ⊎ (BreaksVerified plan.plan h.given before (Ok said_yes) after ⊎ RefusesVerified plan.plan h.given before (Ok said_yes) after)
       by_end (inr (inl bad)) = absurd bad
       by_end (inr (inr bad)) = absurd bad
       by_end (inl e) =
@@ -111,7 +112,7 @@ module _ (plan : TabledPlan) (good : IsPlan plan.plan) (old : Option (List ℕ))
   fault_verified f h other known = record { given = h.given; consumed = h.consumed; told = by_end h.told }
     where
       by_end : EndsText plan h.given before (Err f) new after ⊎ (BreaksText plan h.given before (Err f) after ⊎ RefusesText plan h.given before (Err f) after)
-          → EndsVerified plan.plan h.given before (Ok false) new after ⊎ (BreaksVerified before (Ok false) after ⊎ RefusesVerified plan.plan h.given before (Ok false) after)
+          → EndsVerified plan.plan h.given before (Ok false) new after ⊎ (BreaksVerified plan.plan h.given before (Ok false) after ⊎ RefusesVerified plan.plan h.given before (Ok false) after)
       by_end (inl e) = elim e.2 [
         | inl memory ↦ absurd (known memory)
         | inr told ↦ inl (e.0, e.1, ((λ t. absurd cc), (λ x. absurd (place_accepted plan.plan good h.given f x told))))
@@ -119,5 +120,21 @@ module _ (plan : TabledPlan) (good : IsPlan plan.plan) (old : Option (List ℕ))
       by_end (inr (inl e)) = absurd (other e.1)
       by_end (inr (inr e)) = elim e.1 [
         | inl memory ↦ absurd (known memory)
-        | inr told ↦ inr (inr (e.0, refl, (λ more x. place_accepted plan.plan good (h.given ++ more) f x (subst (λ (o : Result Said SessionFault). ComesTo plan.plan o (Err f)) (sym (told.1 more true)) refl))))
+        | inr told ↦ inr (inr (e.0, refl, record { fault = f; other = told.0; told = told.1 }, (λ more x. place_accepted plan.plan good (h.given ++ more) f x (subst (λ (o : Result Said SessionFault). ComesTo plan.plan o (Err f)) (sym (told.1 more true)) refl))))
+      ]
+
+  -- the reader failed
+  pub break_verified : (f : SessionFault) → ReadsSession plan old before (Err f) new after → f ≡ Read → VerifiesText plan.plan old before (Err Read) new after
+  break_verified f h is = record { given = h.given; consumed = h.consumed; told = by_end h.told }
+    where
+      by_end : EndsText plan h.given before (Err f) new after ⊎ (BreaksText plan h.given before (Err f) after ⊎ RefusesText plan h.given before (Err f) after)
+          → EndsVerified plan.plan h.given before (Err Read) new after ⊎ (BreaksVerified plan.plan h.given before (Err Read) after ⊎ RefusesVerified plan.plan h.given before (Err Read) after)
+      by_end (inl e) =
+          let failed : after ≡ before + 1 = read_failed plan old before (Err f) new after h is in
+          let fine : after ≡ before = e.1 in
+          absurd (omega (arith, failed, fine))
+      by_end (inr (inl e)) = inr (inl (e.0, refl, e.2 ∙ ap Err is))
+      by_end (inr (inr e)) = elim e.1 [
+        | inl memory ↦ absurd cc
+        | inr told ↦ absurd (told.0 is)
       ]

@@ -1,6 +1,7 @@
 -- Pieces of a session text, fed one after the other, are one text.
-use Rattle.std.specs.Prelude.{◌≡◌, ◌≢◌, ℕ, true, false, List, [], ◌∷◌, ◌++◌, flat_map, Result, Ok, Err, ◌⊎◌}
+use Rattle.std.specs.Prelude.{◌≡◌, ◌≢◌, ℕ, true, false, List, [], ◌∷◌, ◌++◌, flat_map, Result, Ok, Err, IfOk, ◌⊎◌}
 use Rattle.sabr_model.specs.Plan.{TabledPlan}
+use Rattle.sabr_plan.specs.Words.{lines_of}
 use Rattle.sabr_frontier.specs.Session.{Seen}
 use Rattle.sabr_session.specs.SessionFed.{OpenText, opened_over, IsFed, IsFinished, IsSessionFrom}
 use Rattle.sabr_session.specs.SessionGiven.{said_over}
@@ -22,9 +23,10 @@ abbrev pub IsAnswerSoFar : TabledPlan → List ℕ → Result (Unit {0}) Session
 IsAnswerSoFar plan bytes (Ok u) = said_over plan bytes false ≡ Err Read
 IsAnswerSoFar plan bytes (Err f) = (f ≡ NoMemory) ⊎ ((f ≢ Read) × (said_over plan bytes false ≡ Err f))
 
--- behind these pieces, the next is answered by all bytes so far, and so is the end
+-- after these pieces, the next is answered by all bytes so far, and so is the end; what is held is the line after the last LF
 pub record IsOneText (plan : TabledPlan) (fed : List (List ℕ × Result (Unit {0}) SessionFault)) (old : Result OpenText SessionFault) : Type 0 where
   pub piece : (piece : List ℕ) (answer : Result (Unit {0}) SessionFault) (new : Result OpenText SessionFault) → IsFed old piece answer new → IsAnswerSoFar plan (bytes_of fed ++ piece) answer
+  pub held : IfOk old (λ t. t.fed.held ≡ (lines_of (bytes_of fed)).open_line)
   pub end : (answer : Result Seen SessionFault) → IsFinished old answer → IsSessionFrom plan (said_over plan (bytes_of fed) true) answer
 
 -- for whatever pieces

@@ -43,11 +43,12 @@ opened_over plan calls = record { plan = plan; calls = calls; fed = nothing_fed 
 abbrev pub outcome_of : OpenText → List ℕ → Bool → Result Said SessionFault
 outcome_of t bytes ended = outcome t.plan.plan (digest_of t.plan.plan) t.fed bytes ended
 
--- a piece goes on with a text: whatever comes behind it, the text comes to the same, and where the reader fails there,
--- that is what is told
+-- a piece goes on with a text: the line after the last LF is held, and no more; whatever follows, the text comes to the
+-- same; and where the reader fails there, Read is the answer
 pub record GoesOn (old : OpenText) (piece : List ℕ) (new : OpenText) : Type 0 where
   pub plan : new.plan ≡ old.plan
   pub calls : new.calls ≡ old.calls
+  pub held : new.fed.held ≡ (lines_of (old.fed.held ++ piece)).open_line
   pub same : (more : List ℕ) (ended : Bool) → outcome_of old (piece ++ more) ended ≡ outcome_of new more ended
   pub fine : outcome_of new [] false ≡ Err Read
 

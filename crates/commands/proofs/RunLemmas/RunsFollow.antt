@@ -32,11 +32,11 @@ take_then (suc k) n (x ∷ xs) =
 
 module _ (p : ContactPlan) (r : RouteRequest) (good : IsPlan p) (accepted : IsRequest r) where
   -- the place behind a page
-  next_within : (i k : ℕ) → i ≤ length (routes p r) → i + length (page_of p r i k) ≤ length (routes p r)
+  pub next_within : (i k : ℕ) → i ≤ length (routes p r) → i + length (page_of p r i k) ≤ length (routes p r)
   next_within i k h = omega (arith, length-take k (drop i (routes p r)), length-drop i (routes p r))
 
   -- two pages, one behind the other
-  pages_joined : (i k n : ℕ) → page_of p r i k ++ page_of p r (i + length (page_of p r i k)) n ≡ page_of p r i (k + n)
+  pub pages_joined : (i k n : ℕ) → page_of p r i k ++ page_of p r (i + length (page_of p r i k)) n ≡ page_of p r i (k + n)
   pages_joined i k n =
       ap (λ xs. page_of p r i k ++ take n xs) (sym (drop-drop (length (page_of p r i k)) i (routes p r))) ∙ take_then k n (drop i (routes p r))
 
@@ -129,7 +129,7 @@ module _ (p : ContactPlan) (r : RouteRequest) (good : IsPlan p) (accepted : IsRe
   at_place i (from_text bytes) is = (text_at i bytes is).0
 
   -- a text of a place is read to its state
-  text_begins : (i : ℕ) (bytes : List ℕ) → IsAt p r i (from_text bytes) → IsSessionOf p (digest_of p) bytes true (Ok (r, state_at p r i))
+  pub text_begins : (i : ℕ) (bytes : List ℕ) → IsAt p r i (from_text bytes) → IsSessionOf p (digest_of p) bytes true (Ok (r, state_at p r i))
   text_begins i bytes is =
       let text = text_at i bytes is in
       let back = read_back i text.0 text.1 in

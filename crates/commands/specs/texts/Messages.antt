@@ -12,6 +12,8 @@ use Rattle.commands.specs.declared.status.Status.{Status}
 use Rattle.commands.specs.declared.status.Status.TheVariants as status
 use Rattle.commands.specs.declared.failure.Failure.{Failure}
 use Rattle.commands.specs.declared.failure.Failure.TheVariants as failure
+use Rattle.commands.specs.declared.words.value_fault.ValueFault.{ValueFault}
+use Rattle.commands.specs.declared.words.value_fault.ValueFault.TheVariants as value
 use Rattle.commands.specs.words.Values.{name_text}
 
 -- a kind of a bad line, by its name
@@ -41,6 +43,13 @@ failure_of_kind fault _ = failure.PlanLine fault
 
 abbrev pub failure_of_plan : PlanFault → Failure
 failure_of_plan fault = failure_of_kind fault fault.kind
+
+-- the failure that refused values are
+abbrev pub failure_of_value : ValueFault → Failure
+failure_of_value (value.Bad name) = failure.BadValue name
+failure_of_value value.SameNode = failure.SameNode
+failure_of_value value.NoMemory = failure.NoMemory
+failure_of_value value.BadAvoid = failure.BadAvoid
 
 -- a fault of a session text, by its name
 abbrev pub session_kind_text : SessionFault → List ℕ

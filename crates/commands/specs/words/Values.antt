@@ -1,5 +1,6 @@
 -- The strict reading of a command's texts. The order in which bad ones are told is this project's profile.
 use Rattle.std.specs.Prelude.{ℕ, ◌<◌, ◌≤◌, Bool, true, false, not, ◌==◌, List, [], Result, Ok, Err, codes, if◌then◌else◌}
+use Rattle.std.specs.Str.{bytes_eq}
 use Rattle.std.specs.declared.option.Option.{Option}
 use Rattle.std.specs.declared.option.Option.TheVariants.{Some, None}
 use Rattle.clap.specs.declared.parser.matches.Found.{Found}
@@ -12,8 +13,8 @@ use Rattle.commands.specs.declared.words.value_name.ValueName.{ValueName}
 use Rattle.commands.specs.declared.words.value_name.ValueName.TheVariants.{From, To, At, MarginPpm, MaxHops, Avoid, Count, Contacts}
 use Rattle.commands.specs.declared.command.CommandName.{CommandName}
 use Rattle.commands.specs.declared.command.CommandName.TheVariants as command
-use Rattle.commands.specs.declared.failure.Failure.{Failure}
-use Rattle.commands.specs.declared.failure.Failure.TheVariants.{BadValue, SameNode, BadAvoid}
+use Rattle.commands.specs.declared.words.value_fault.ValueFault.{ValueFault}
+use Rattle.commands.specs.declared.words.value_fault.ValueFault.TheVariants.{Bad, SameNode, BadAvoid}
 use Rattle.sabr_model.specs.declared.request_values.RequestValues.{RequestValues}
 use Rattle.commands.specs.words.Lists.{numbers_within, nodes_listed}
 use Rattle.sabr_plan.specs.Numbers.{number_within}
@@ -34,8 +35,8 @@ abbrev pub text_under : Found → ValueName → Option (List ℕ)
 text_under found name = first_value found (name_text name)
 
 -- a value, or its name as a bad one
-abbrev pub or_bad : {A : Type 0} → ValueName → Option A → Result A Failure
-or_bad name None = Err (BadValue name)
+abbrev pub or_bad : {A : Type 0} → ValueName → Option A → Result A ValueFault
+or_bad name None = Err (Bad name)
 or_bad name (Some a) = Ok a
 
 -- what a text that has to be there says
@@ -49,16 +50,16 @@ given_or otherwise reads None = Some otherwise
 given_or otherwise reads (Some text) = reads text
 
 -- goes on where nothing was refused
-abbrev pub and_then : {A B : Type 0} → Result A Failure → (A → Result B Failure) → Result B Failure
+abbrev pub and_then : {A B : Type 0} → Result A ValueFault → (A → Result B ValueFault) → Result B ValueFault
 and_then (Ok a) k = k a
 and_then (Err e) k = Err e
 
 -- a value that has to be there
-abbrev pub value_of : {A : Type 0} → (List ℕ → Option A) → Found → ValueName → Result A Failure
+abbrev pub value_of : {A : Type 0} → (List ℕ → Option A) → Found → ValueName → Result A ValueFault
 value_of reads found name = or_bad name (needed reads (text_under found name))
 
 -- a value that may be left out
-abbrev pub value_or : {A : Type 0} → A → (List ℕ → Option A) → Found → ValueName → Result A Failure
+abbrev pub value_or : {A : Type 0} → A → (List ℕ → Option A) → Found → ValueName → Result A ValueFault
 value_or otherwise reads found name = or_bad name (given_or otherwise reads (text_under found name))
 
 -- a node on the command line
@@ -66,14 +67,14 @@ abbrev pub node_of : List ℕ → Option ℕ
 node_of text = number_within 1 18446744073709551615 text
 
 -- the limits and avoided nodes, behind the values of a request without limits
-unfoldable pub limits_of : ℕ → ℕ → ℕ → ℕ → Found → Result RequestValues Failure
+unfoldable pub limits_of : ℕ → ℕ → ℕ → ℕ → Found → Result RequestValues ValueFault
 limits_of from to at margin found =
     and_then (value_or most_hops (number_within 1 most_hops) found MaxHops) (λ hops.
     and_then (value_or [] nodes_listed found Avoid) (λ avoid.
     Ok (record { from = from; to = to; at = at; margin_ppm = margin; max_hops = hops; avoid = avoid })))
 
 -- what is asked for, word by word; the first bad word in this order is told
-unfoldable pub request_words : Found → Result RequestValues Failure
+unfoldable pub request_words : Found → Result RequestValues ValueFault
 request_words found =
     and_then (value_of node_of found From) (λ from.
     and_then (value_of node_of found To) (λ to.
@@ -90,11 +91,21 @@ pub record IsInRange (w : RequestValues) : Type 0 where
   pub hops : (0 < w.max_hops) × (w.max_hops ≤ most_hops)
 
 -- the request of these words: different nodes first, then nodes that may be avoided
-unfoldable pub request_of : RequestValues → Result RouteRequest Failure
+unfoldable pub request_of : RequestValues → Result RouteRequest ValueFault
 request_of w =
     if w.from == w.to then Err SameNode
     else if not (may_avoid w.from w.to w.avoid) then Err BadAvoid
     else Ok (with_limits (unlimited w.from w.to w.at w.margin_ppm) w.max_hops w.avoid)
+
+-- the command of a name on the command line, where it is one
+abbrev pub command_named : List ℕ → Option CommandName
+command_named name =
+    if bytes_eq name (codes "first") then Some command.First
+    else if bytes_eq name (codes "next") then Some command.Next
+    else if bytes_eq name (codes "verify") then Some command.Verify
+    else if bytes_eq name (codes "check") then Some command.Check
+    else if bytes_eq name (codes "explain") then Some command.Explain
+    else None
 
 -- commands with a request
 abbrev pub has_request : CommandName → Bool
@@ -120,28 +131,28 @@ pub record ValuesRead : Type 0 where
   pub contacts : List ℕ
 
 -- something that a command has, or nothing
-abbrev pub where_asked : {A : Type 0} → Bool → Result A Failure → Result (Option A) Failure
+abbrev pub where_asked : {A : Type 0} → Bool → Result A ValueFault → Result (Option A) ValueFault
 where_asked asked value = if asked then and_then value (λ a. Ok (Some a)) else Ok None
 
 -- the words of a request, where the command has one
-abbrev pub words_where_asked : CommandName → Found → Result (Option RequestValues) Failure
+abbrev pub words_where_asked : CommandName → Found → Result (Option RequestValues) ValueFault
 words_where_asked name found = where_asked (has_request name) (request_words found)
 
 -- the count of routes, where the command has one
-abbrev pub count_where_asked : CommandName → Found → Result (Option ℕ) Failure
+abbrev pub count_where_asked : CommandName → Found → Result (Option ℕ) ValueFault
 count_where_asked name found = where_asked (has_count name) (value_of (number_within 1 10000) found Count)
 
 -- the contacts, where the command has them
-abbrev pub contacts_where_asked : CommandName → Found → Result (List ℕ) Failure
+abbrev pub contacts_where_asked : CommandName → Found → Result (List ℕ) ValueFault
 contacts_where_asked name found = if has_contacts name then value_of (numbers_within 1 4294967295) found Contacts else Ok []
 
 -- the request of words that are there
-abbrev pub request_where_asked : Option RequestValues → Result (Option RouteRequest) Failure
+abbrev pub request_where_asked : Option RequestValues → Result (Option RouteRequest) ValueFault
 request_where_asked None = Ok None
 request_where_asked (Some words) = and_then (request_of words) (λ request. Ok (Some request))
 
 -- the strict reading of a command's texts
-unfoldable pub values_of : CommandName → Found → Result ValuesRead Failure
+unfoldable pub values_of : CommandName → Found → Result ValuesRead ValueFault
 values_of name found =
     and_then (words_where_asked name found) (λ words.
     and_then (count_where_asked name found) (λ count.

@@ -9,8 +9,8 @@ ghost use Rattle.commands.specs.words.Values.{text_under, value_of, value_or, li
 ghost use Rattle.sabr_model.specs.Plan.{IsNode, last_time};
 ghost use Rattle.sabr_model.specs.Asking.{most_margin};
 
-use crate::failure::Failure;
 use crate::words::lists::nodes_listed;
+use crate::words::value_fault::ValueFault;
 use crate::words::value_name::ValueName;
 use clap::ArgMatches;
 use sabr_model::{MOST_HOPS, MOST_MARGIN, NodeList, Request, RequestValues};
@@ -30,18 +30,18 @@ pub fn text_under<'a>(matches: &ArgMatches<'a>, name: ValueName) -> Option<&'a [
 ///
 /// # Errors
 ///
-/// [`Failure::BadValue`] where it isn't there, or isn't spelled as it must be.
+/// [`ValueFault::Bad`] where it isn't there, or isn't spelled as it must be.
 pub fn number_given(
     matches: &ArgMatches<'_>,
     name: ValueName,
     low: u64,
     high: u64,
-) -> Result<u64, Failure>
+) -> Result<u64, ValueFault>
     ensures value { result ≡ value_of (number_within low high) (found_of matches.now) name }
     ensures range { IfOk result (λ n. (low ≤ n) × (n ≤ high)) }
 {
-    let text = text_under(matches, name).ok_or(Failure::BadValue(name))?;
-    number_within(text, low, high).ok_or(Failure::BadValue(name))
+    let text = text_under(matches, name).ok_or(ValueFault::Bad(name))?;
+    number_within(text, low, high).ok_or(ValueFault::Bad(name))
 }
 
 /// Reads a number from `low` to `high` that may be left out.
@@ -51,7 +51,7 @@ fn number_or(
     low: u64,
     high: u64,
     otherwise: u64,
-) -> Result<u64, Failure>
+) -> Result<u64, ValueFault>
     requires { (low ≤ otherwise) × (otherwise ≤ high) }
     ensures value { result ≡ value_or otherwise (number_within low high) (found_of matches.now) name }
     ensures range { IfOk result (λ n. (low ≤ n) × (n ≤ high)) }
@@ -59,27 +59,27 @@ fn number_or(
     let Some(text) = text_under(matches, name) else {
         return Ok(otherwise);
     };
-    number_within(text, low, high).ok_or(Failure::BadValue(name))
+    number_within(text, low, high).ok_or(ValueFault::Bad(name))
 }
 
 /// Reads when the bundle is at the source.
-fn time_given(matches: &ArgMatches<'_>) -> Result<u64, Failure>
+fn time_given(matches: &ArgMatches<'_>) -> Result<u64, ValueFault>
     ensures value { result ≡ value_of time_of (found_of matches.now) ValueName.At }
     ensures range { IfOk result (λ t. t ≤ last_time) }
 {
-    let bad = Failure::BadValue(ValueName::At);
+    let bad = ValueFault::Bad(ValueName::At);
     let text = text_under(matches, ValueName::At).ok_or(bad)?;
     parse_time(text).ok_or(bad)
 }
 
 /// Reads the nodes to avoid.
-fn avoided(matches: &ArgMatches<'_>) -> Result<NodeList, Failure>
+fn avoided(matches: &ArgMatches<'_>) -> Result<NodeList, ValueFault>
     ensures { result ≡ value_or [] nodes_listed (found_of matches.now) ValueName.Avoid }
 {
     let Some(text) = text_under(matches, ValueName::Avoid) else {
         return Ok(NodeList::new());
     };
-    nodes_listed(text).ok_or(Failure::BadValue(ValueName::Avoid))
+    nodes_listed(text).ok_or(ValueFault::Bad(ValueName::Avoid))
 }
 
 /// Reads the limits, behind the values of a request without limits.
@@ -90,11 +90,11 @@ fn with_limit_words(
     at: u64,
     margin_ppm: u32,
     matches: &ArgMatches<'_>,
-) -> Result<RequestValues, Failure>
+) -> Result<RequestValues, ValueFault>
     requires { IsNode from × IsNode to × (at ≤ last_time) × (margin_ppm ≤ most_margin) }
     ensures value { result ≡ limits_of from to at margin_ppm (found_of matches.now) }
     ensures range { IfOk result IsInRange }
-    ensures memory { ¬ IsErrOf result Failure.NoMemory }
+    ensures memory { ¬ IsErrOf result ValueFault.NoMemory }
 {
     let most = MOST_HOPS as u64;
     let max_hops = number_or(matches, ValueName::MaxHops, 1, most, most)? as u32;
@@ -113,12 +113,12 @@ fn with_limit_words(
 ///
 /// # Errors
 ///
-/// [`Failure::BadValue`] with the first bad word in the order of [`ValueName`].
+/// [`ValueFault::Bad`] with the first bad word in the order of [`ValueName`].
 #[tactic(auto, unfolding(crate::specs::words::Values::request_words))]
-pub fn request_words(matches: &ArgMatches<'_>) -> Result<RequestValues, Failure>
+pub fn request_words(matches: &ArgMatches<'_>) -> Result<RequestValues, ValueFault>
     ensures value { result ≡ request_words (found_of matches.now) }
     ensures range { IfOk result IsInRange }
-    ensures memory { ¬ IsErrOf result Failure.NoMemory }
+    ensures memory { ¬ IsErrOf result ValueFault.NoMemory }
 {
     let from = number_given(matches, ValueName::From, 1, u64::MAX)?;
     let to = number_given(matches, ValueName::To, 1, u64::MAX)?;
@@ -131,19 +131,19 @@ pub fn request_words(matches: &ArgMatches<'_>) -> Result<RequestValues, Failure>
 ///
 /// # Errors
 ///
-/// [`Failure::SameNode`] where source and destination are one node; and else [`Failure::BadAvoid`] where the avoided
+/// [`ValueFault::SameNode`] where source and destination are one node; and else [`ValueFault::BadAvoid`] where the avoided
 /// nodes don't rise strictly, or hold the source or the destination.
 #[tactic(auto, unfolding(crate::specs::words::Values::request_of))]
-pub fn request_of(words: &RequestValues) -> Result<Request, Failure>
+pub fn request_of(words: &RequestValues) -> Result<Request, ValueFault>
     requires { IsInRange words.now }
     ensures value { result ≡ request_of words.now }
-    ensures memory { ¬ IsErrOf result Failure.NoMemory }
+    ensures memory { ¬ IsErrOf result ValueFault.NoMemory }
 {
     let Ok(request) = Request::new(words.from, words.to, words.at, words.margin_ppm) else {
-        return Err(Failure::SameNode);
+        return Err(ValueFault::SameNode);
     };
     let Ok(limited) = request.with_limits(words.max_hops, words.avoid.as_slice()) else {
-        return Err(Failure::BadAvoid);
+        return Err(ValueFault::BadAvoid);
     };
     Ok(limited)
 }

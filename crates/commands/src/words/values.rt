@@ -3,12 +3,12 @@
 ghost use Rattle.std.specs.Prelude.{◌≡◌, [], Ok, Err, IfOk, IfErr, IfSome, IsTrue, IsErrOf, ◌⊎◌, ◌≤◌, is_some};
 ghost use Rattle.clap.specs.Matches.{found_of};
 ghost use Rattle.commands.specs.words.Lists.{numbers_within};
-ghost use Rattle.commands.specs.words.Values.{has_request, has_count, has_contacts, value_of, values_of, words_where_asked, count_where_asked, contacts_where_asked, request_where_asked, IsInRange};
+ghost use Rattle.commands.specs.words.Values.{command_named, has_request, has_count, has_contacts, value_of, values_of, words_where_asked, count_where_asked, contacts_where_asked, request_where_asked, IsInRange};
 
-use crate::command::CommandName;
-use crate::failure::Failure;
+use crate::command::{CommandName, command_named};
 use crate::words::lists::contacts_listed;
 use crate::words::request_words::{number_given, request_of, request_words, text_under};
+use crate::words::value_fault::ValueFault;
 use crate::words::value_name::ValueName;
 use clap::ArgMatches;
 use sabr_model::{Numbers, Request, RequestValues};
@@ -30,11 +30,11 @@ pub struct Values<A: Allocator + Copy = Global> {
 fn words_where_asked(
     command: CommandName,
     matches: &ArgMatches<'_>,
-) -> Result<Option<RequestValues>, Failure>
+) -> Result<Option<RequestValues>, ValueFault>
     ensures value { result ≡ words_where_asked command (found_of matches.now) }
     ensures range { IfOk result (λ words. IfSome words IsInRange) }
     ensures asked { IfOk result (λ words. is_some words ≡ has_request command) }
-    ensures memory { ¬ IsErrOf result Failure.NoMemory }
+    ensures memory { ¬ IsErrOf result ValueFault.NoMemory }
 {
     if !command.declared().has_request {
         return Ok(None);
@@ -45,7 +45,10 @@ fn words_where_asked(
 
 /// Reads the count of routes, where the command has one.
 #[tactic(auto, unfolding(crate::specs::words::Values::count_where_asked))]
-fn count_where_asked(command: CommandName, matches: &ArgMatches<'_>) -> Result<Option<u32>, Failure>
+fn count_where_asked(
+    command: CommandName,
+    matches: &ArgMatches<'_>,
+) -> Result<Option<u32>, ValueFault>
     ensures value { result ≡ count_where_asked command (found_of matches.now) }
     ensures asked { IfOk result (λ count. is_some count ≡ has_count command) }
     ensures range { IfOk result (λ count. IfSome count (λ n. (1 ≤ n) × (n ≤ 10000))) }
@@ -63,26 +66,26 @@ fn contacts_where_asked<A: Allocator + Copy>(
     alloc: A,
     command: CommandName,
     matches: &ArgMatches<'_>,
-) -> Result<Numbers<A>, Failure>
+) -> Result<Numbers<A>, ValueFault>
     ensures ok { IfOk result (λ contacts. contacts_where_asked command (found_of matches.now) ≡ Ok contacts) }
-    ensures err { IfErr result (λ e. (e ≡ Failure.NoMemory) ⊎ (contacts_where_asked command (found_of matches.now) ≡ Err e)) }
-    ensures memory { IsErrOf result Failure.NoMemory → IsTrue (has_contacts command) }
+    ensures err { IfErr result (λ e. (e ≡ ValueFault.NoMemory) ⊎ (contacts_where_asked command (found_of matches.now) ≡ Err e)) }
+    ensures memory { IsErrOf result ValueFault.NoMemory → IsTrue (has_contacts command) }
 {
     if !command.declared().has_contacts {
         return Ok(Numbers::new(Vec::new(alloc)));
     }
-    let bad = Failure::BadValue(ValueName::Contacts);
+    let bad = ValueFault::Bad(ValueName::Contacts);
     let text = text_under(matches, ValueName::Contacts).ok_or(bad)?;
     contacts_listed(alloc, text)?.ok_or(bad)
 }
 
 /// Makes the request of words that are there.
 #[tactic(auto, unfolding(crate::specs::words::Values::request_where_asked))]
-fn request_where_asked(words: &Option<RequestValues>) -> Result<Option<Request>, Failure>
+fn request_where_asked(words: &Option<RequestValues>) -> Result<Option<Request>, ValueFault>
     requires { IfSome words.now IsInRange }
     ensures value { result ≡ request_where_asked words.now }
     ensures asked { IfOk result (λ request. is_some request ≡ is_some words.now) }
-    ensures memory { ¬ IsErrOf result Failure.NoMemory }
+    ensures memory { ¬ IsErrOf result ValueFault.NoMemory }
 {
     let Some(words) = words else {
         return Ok(None);
@@ -91,26 +94,16 @@ fn request_where_asked(words: &Option<RequestValues>) -> Result<Option<Request>,
     Ok(Some(request))
 }
 
-/// Reads the values of a command strictly: `matches` holds the texts that were given under the names of its words.
-///
-/// Nodes, numbers and counts are decimal without a sign or leading zero and within their limits, a time
-/// is `yyyy/mm/dd-hh:mm:ss`, and lists are joined by single commas. The margin is 0 and the limit on hops
-/// 20000 where they aren't given, and then no node is avoided.
-///
-/// # Errors
-///
-/// The first that holds: [`Failure::BadValue`] with the first bad word in the order of [`ValueName`],
-/// [`Failure::SameNode`], [`Failure::BadAvoid`]. [`Failure::NoMemory`] comes only where memory
-/// for contacts was refused.
+/// Reads the values of a command, as [`read_values`].
 #[tactic(auto, unfolding(crate::specs::words::Values::values_of))]
-pub fn read_values<A: Allocator + Copy>(
+fn values_of<A: Allocator + Copy>(
     alloc: A,
     command: CommandName,
     matches: &ArgMatches<'_>,
-) -> Result<Values<A>, Failure>
+) -> Result<Values<A>, ValueFault>
     ensures ok { IfOk result (λ v. values_of command (found_of matches.now) ≡ Ok (record { request = v.request; count = v.count; contacts = v.contacts })) }
-    ensures err { IfErr result (λ e. (e ≡ Failure.NoMemory) ⊎ (values_of command (found_of matches.now) ≡ Err e)) }
-    ensures memory { IsErrOf result Failure.NoMemory → IsTrue (has_contacts command) }
+    ensures err { IfErr result (λ e. (e ≡ ValueFault.NoMemory) ⊎ (values_of command (found_of matches.now) ≡ Err e)) }
+    ensures memory { IsErrOf result ValueFault.NoMemory → IsTrue (has_contacts command) }
     ensures request { IfOk result (λ v. is_some v.request ≡ has_request command) }
     ensures count { IfOk result (λ v. is_some v.count ≡ has_count command) }
     ensures count_range { IfOk result (λ v. IfSome v.count (λ n. (1 ≤ n) × (n ≤ 10000))) }
@@ -124,4 +117,33 @@ pub fn read_values<A: Allocator + Copy>(
         count,
         contacts,
     })
+}
+
+/// Reads the values of the command of this name strictly: `matches` holds the texts that were given under the names of its
+/// words. The name is that of one of the five commands.
+///
+/// Nodes, numbers and counts are decimal without a sign or leading zero and within their limits, a time
+/// is `yyyy/mm/dd-hh:mm:ss`, and lists are joined by single commas. The margin is 0 and the limit on hops
+/// 20000 where they aren't given, and then no node is avoided.
+///
+/// # Errors
+///
+/// The first that holds: [`ValueFault::Bad`] with the first bad word in the order of [`ValueName`],
+/// [`ValueFault::SameNode`], [`ValueFault::BadAvoid`]. [`ValueFault::NoMemory`] comes only where memory
+/// for contacts was refused.
+pub fn read_values<A: Allocator + Copy>(
+    alloc: A,
+    command: &str,
+    matches: &ArgMatches<'_>,
+) -> Result<Values<A>, ValueFault>
+    requires { IsTrue (is_some (command_named command.now)) }
+    ensures ok { IfSome (command_named command.now) (λ name. IfOk result (λ v. values_of name (found_of matches.now) ≡ Ok (record { request = v.request; count = v.count; contacts = v.contacts }))) }
+    ensures err { IfSome (command_named command.now) (λ name. IfErr result (λ e. (e ≡ ValueFault.NoMemory) ⊎ (values_of name (found_of matches.now) ≡ Err e))) }
+    ensures memory { IfSome (command_named command.now) (λ name. IsErrOf result ValueFault.NoMemory → IsTrue (has_contacts name)) }
+    ensures request { IfSome (command_named command.now) (λ name. IfOk result (λ v. is_some v.request ≡ has_request name)) }
+    ensures count { IfSome (command_named command.now) (λ name. IfOk result (λ v. is_some v.count ≡ has_count name)) }
+    ensures count_range { IfOk result (λ v. IfSome v.count (λ n. (1 ≤ n) × (n ≤ 10000))) }
+{
+    let command = command_named(command).unwrap();
+    values_of(alloc, command, matches)
 }

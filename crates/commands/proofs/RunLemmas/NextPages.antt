@@ -1,0 +1,116 @@
+-- A next run over the session text of a place writes the page from there on.
+use Rattle.std.proofs.Common.{◌≡◌, ℕ, ◌+◌, Bool, true, List, ◌++◌, length, map, append-nil, refl, sym, ap, subst, ◌∙◌, ◌⊎◌, inl, inr, Option, Some, None, Result, Ok, Err}
+use Rattle.std.specs.Prelude.{is_some}
+use Rattle.std.specs.Io.KnownBytes.{Consumes, IsAtEnd}
+use Rattle.sabr_model.specs.Plan.{TabledPlan, IsPlan}
+use Rattle.sabr_model.specs.Arrival.{RouteRequest}
+use Rattle.sabr_model.specs.Listing.{page_of}
+use Rattle.sabr_model.specs.Record.{record_of}
+use Rattle.sabr_plan.specs.Canonical.{digest_of}
+use Rattle.sabr_frontier.specs.State.{State}
+use Rattle.sabr_frontier.specs.Session.{Seen}
+use Rattle.sabr_frontier.specs.Listing.{state_at, steps, next_route}
+use Rattle.sabr_frontier.proofs.Lawful.{steps_follow}
+use Rattle.sabr_frontier.proofs.PlacesFormed.{emitted_at}
+use Rattle.sabr_session.specs.ReportText.{report_text}
+use Rattle.sabr_session.specs.SessionRead.{Said, ComesTo, IsSessionOf}
+use Rattle.sabr_session.specs.SessionGiven.{ReadsSession, said_over}
+use Rattle.sabr_session.specs.Verifying.{IsSessionText}
+use Rattle.sabr_session.specs.declared.session_fault.SessionFault.{SessionFault}
+use Rattle.sabr_session.specs.declared.session_fault.SessionFault.TheVariants as fault
+use Rattle.sabr_session.proofs.OneAnswer.{answers_once}
+use Rattle.commands.specs.declared.failure.Failure.{Failure}
+use Rattle.commands.specs.declared.failure.Failure.TheVariants as failure
+use Rattle.commands.specs.texts.Messages.{failure_of_session}
+use Rattle.commands.specs.runs.Runs.{Untouched}
+use Rattle.commands.specs.runs.SessionRuns.{WritesNextPage, WritesPage, next_report, report_behind, kept_text, place_of}
+use Rattle.commands.specs.runs.NextPage.{report_from, text_after, NextGoesOn}
+use Rattle.commands.proofs.RunLemmas.RunsFollow.{next_within, text_begins}
+
+-- of a reader that has these bytes, what was read is a beginning of them, and all where it ended
+some_more : (bytes given : List ℕ) (left : Option (List ℕ)) → Consumes (Some bytes) left given → (more : List ℕ) × (given ++ more ≡ bytes)
+some_more bytes given None taken = absurd taken
+some_more bytes given (Some more) taken = (more, sym taken)
+
+none_more : (bytes given : List ℕ) (left : Option (List ℕ)) → Consumes (Some bytes) left given → IsAtEnd left → given ≡ bytes
+none_more bytes given None taken end = absurd taken
+none_more bytes given (Some more) taken end = sym (append-nil given) ∙ ap (λ b. given ++ b) (sym end) ∙ sym taken
+
+module _ (p : TabledPlan) (bytes : List ℕ) (good : IsPlan p.plan) (text : IsSessionText p.plan bytes) where
+  -- the request and the state of the place
+  abbrev place : RouteRequest × State
+  place = (text.request, state_at p.plan text.request text.place)
+
+  is_place : IsSessionOf p.plan (digest_of p.plan) bytes true (Ok place)
+  is_place = text_begins p.plan text.request good text.accepted text.place bytes (text, refl, refl)
+
+  one_place : (answer : Result (RouteRequest × State) SessionFault) → IsSessionOf p.plan (digest_of p.plan) bytes true answer → answer ≡ Ok place
+  one_place answer is = answers_once p.plan (digest_of p.plan) bytes true answer (Ok place) is is_place
+
+  -- what is read: that place; or the reader failed, or memory was refused
+  abbrev IsReadTo : ℕ → Result (RouteRequest × State) SessionFault → ℕ → Type 0
+  IsReadTo before (Ok x) after = x ≡ place
+  IsReadTo before (Err f) after = (f ≡ fault.NoMemory) ⊎ ((f ≡ fault.Read) × (after ≡ before + 1))
+
+  all_read : (given : List ℕ) (answer : Result (RouteRequest × State) SessionFault) → given ≡ bytes → ComesTo p.plan (said_over p given true) answer → answer ≡ Ok place
+  all_read given answer all is = one_place answer (subst (λ b. IsSessionOf p.plan (digest_of p.plan) b true answer) all is)
+
+  is_read_to : (before : ℕ) (told : Result Seen SessionFault) (left : Option (List ℕ)) (after : ℕ) → ReadsSession p (Some bytes) before told left after → IsReadTo before (place_of told) after
+  is_read_to before (Ok s) left after h = elim h.told [
+    | inl (end, fine, from) ↦ let is = all_read h.given (Ok (s.request, s.state)) (none_more bytes h.given left h.consumed end) from.1 in cc
+    | inr (inl broken) ↦ absurd broken
+    | inr (inr refused) ↦ absurd refused
+  ]
+  is_read_to before (Err f) left after h = elim h.told [
+    | inl (end, fine, inl memory) ↦ inl memory
+    | inl (end, fine, inr is) ↦ let other = all_read h.given (Err f) (none_more bytes h.given left h.consumed end) is in absurd cc
+    | inr (inl (failed, is, broken)) ↦ inr (is, failed)
+    | inr (inr (fine, inl memory)) ↦ inl memory
+    | inr (inr (fine, inr (not_read, refused))) ↦
+        let more = some_more bytes h.given left h.consumed in
+        let is : ComesTo p.plan (said_over p (h.given ++ more.0) true) (Err f) = subst (λ (o : Result Said SessionFault). ComesTo p.plan o (Err f)) (sym (refused more.0 true)) refl in
+        let other = all_read (h.given ++ more.0) (Err f) more.1 is in
+        absurd cc
+  ]
+
+  -- the page from there on
+  page_is : (count : ℕ) → steps p.plan place.0 count place.1 ≡ (page_of p.plan text.request text.place count, state_at p.plan text.request (text.place + length (page_of p.plan text.request text.place count)))
+  page_is count = (steps_follow p.plan text.request good).pages text.place count text.within
+
+  report_is : (count : ℕ) → next_report p.plan place.0 place.1 count ≡ report_from p.plan text.request text.place count
+  report_is count =
+      let page = page_of p.plan text.request text.place count in
+      ap (λ n. report_behind p.plan text.request n (steps p.plan place.0 count place.1)) (emitted_at p.plan text.request text.place text.within)
+      ∙ ap (report_behind p.plan text.request text.place) (page_is count)
+      ∙ ap (report_text (map (record_of p.plan text.request) page) (text.place + 1))
+      ((steps_follow p.plan text.request good).carries (text.place + length page) (next_within p.plan text.request good text.accepted text.place count text.within))
+
+  text_is : (keep : Bool) (count : ℕ) → kept_text keep p.plan place.0 (steps p.plan place.0 count place.1).1 ≡ text_after keep p.plan text.request text.place count
+  text_is keep count = ap (λ (w : List (List ℕ) × State). kept_text keep p.plan text.request w.1) (page_is count)
+
+  module _ (keep : Bool) (count : ℕ) (end : Result (Unit {0}) Failure) (old : Option (List ℕ)) (before : ℕ) (new : Option (List ℕ)) (after : ℕ) (flushed : Bool)
+      (old₁ : Option (List ℕ)) (before₁ : ℕ) (new₁ : Option (List ℕ)) (after₁ : ℕ) (flushed₁ : Bool) where
+    abbrev Leaves : List ℕ → List ℕ → Result (Unit {0}) Failure → Type 0
+    Leaves report kept end = WritesPage keep report kept end old before new after flushed old₁ before₁ new₁ after₁ flushed₁
+
+    abbrev Runs : Result (RouteRequest × State) SessionFault → Type 0
+    Runs answer = WritesNextPage (Ok p) answer keep count end old before new after flushed old₁ before₁ new₁ after₁ flushed₁
+
+    by_answer : (faults faults_then : ℕ) (answer : Result (RouteRequest × State) SessionFault) → IsReadTo faults answer faults_then → Runs answer
+        → Leaves (report_from p.plan text.request text.place count) (text_after keep p.plan text.request text.place count) end
+        ⊎ ((faults_then ≡ faults + 1) × (end ≡ Err failure.SessionRead) × Untouched old before new after × Untouched old₁ before₁ new₁ after₁)
+    by_answer faults faults_then (Ok x) is run =
+        let from : Leaves (next_report p.plan place.0 place.1 count) (kept_text keep p.plan place.0 (steps p.plan place.0 count place.1).1) end = subst (λ (w : RouteRequest × State). Runs (Ok w)) is run in
+        let reported = subst (λ (r : List ℕ). Leaves r (kept_text keep p.plan place.0 (steps p.plan place.0 count place.1).1) end) (report_is count) from in
+        inl (subst (λ (k : List ℕ). Leaves (report_from p.plan text.request text.place count) k end) (text_is keep count) reported)
+    by_answer faults faults_then (Err f) (inl memory) run =
+        let ended : end ≡ Err failure.NoMemory = run.0 ∙ ap (λ (g : SessionFault). Err (failure_of_session g)) memory in
+        inl (subst (λ (e : Result (Unit {0}) Failure). Leaves (report_from p.plan text.request text.place count) (text_after keep p.plan text.request text.place count) e) (sym ended) (run.1, run.2))
+    by_answer faults faults_then (Err f) (inr (read, failed)) run =
+        let ended : end ≡ Err failure.SessionRead = run.0 ∙ ap (λ (g : SessionFault). Err (failure_of_session g)) read in
+        inr (failed, ended, run.1, run.2)
+
+-- every next run over such a text goes on from its place
+pub next_goes_on : NextGoesOn
+next_goes_on p bytes good text faults told left faults_then reads keep count end old before new after flushed old₁ before₁ new₁ after₁ flushed₁ =
+    by_answer p bytes good text keep count end old before new after flushed old₁ before₁ new₁ after₁ flushed₁ faults faults_then (place_of told) (is_read_to p bytes good text faults told left faults_then reads)

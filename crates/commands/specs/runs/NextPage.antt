@@ -1,0 +1,40 @@
+-- What a run `next` leaves over the session text of a place of the listing.
+use Rattle.std.specs.Prelude.{◌≡◌, ℕ, ◌+◌, nat_lt, Bool, ◌⊎◌, List, [], length, map, Option, Some, Result, Ok, Err, if◌then◌else◌}
+use Rattle.sabr_model.specs.Plan.{ContactPlan, TabledPlan, IsPlan}
+use Rattle.sabr_model.specs.Arrival.{RouteRequest}
+use Rattle.sabr_model.specs.Listing.{routes, page_of}
+use Rattle.sabr_model.specs.Record.{record_of}
+use Rattle.sabr_frontier.specs.Session.{Seen}
+use Rattle.sabr_session.specs.ReportText.{report_text}
+use Rattle.sabr_session.specs.SessionText.{session_text}
+use Rattle.sabr_session.specs.Verifying.{IsSessionText}
+use Rattle.sabr_session.specs.declared.session_fault.SessionFault.{SessionFault}
+use Rattle.commands.specs.declared.failure.Failure.{Failure}
+use Rattle.commands.specs.declared.failure.Failure.TheVariants as failure
+use Rattle.commands.specs.runs.Runs.{Untouched}
+use Rattle.commands.specs.runs.SessionRuns.{ReadsOldSession, WritesNextPage, WritesPage, place_of}
+
+-- the report of the page from place i on: ranked from i + 1, and whether the listing goes on after it
+abbrev pub report_from : ContactPlan → RouteRequest → ℕ → ℕ → List ℕ
+report_from p r i count =
+    report_text (map (record_of p r) (page_of p r i count)) (i + 1) (nat_lt (i + length (page_of p r i count)) (length (routes p r)))
+
+-- the session text of the place after that page, where it is to be kept
+abbrev pub text_after : Bool → ContactPlan → RouteRequest → ℕ → ℕ → List ℕ
+text_after keep p r i count = if keep then session_text p r (i + length (page_of p r i count)) else []
+
+-- a reader has these bytes and no others: whatever is read of it, a next run leaves the page from place i on, as a run
+-- that lists that page; or the reader failed, and nothing is written
+abbrev pub GoesOnFrom : TabledPlan → RouteRequest → ℕ → List ℕ → Type 0
+GoesOnFrom p r i bytes =
+    (faults : ℕ) (told : Result Seen SessionFault) (left : Option (List ℕ)) (faults_then : ℕ) → ReadsOldSession (Ok p) (Some bytes) faults told left faults_then
+    → (keep : Bool) (count : ℕ) (end : Result (Unit {0}) Failure)
+    (old : Option (List ℕ)) (before : ℕ) (new : Option (List ℕ)) (after : ℕ) (flushed : Bool)
+    (old₁ : Option (List ℕ)) (before₁ : ℕ) (new₁ : Option (List ℕ)) (after₁ : ℕ) (flushed₁ : Bool)
+    → WritesNextPage (Ok p) (place_of told) keep count end old before new after flushed old₁ before₁ new₁ after₁ flushed₁
+    → WritesPage keep (report_from p.plan r i count) (text_after keep p.plan r i count) end old before new after flushed old₁ before₁ new₁ after₁ flushed₁
+    ⊎ ((faults_then ≡ faults + 1) × (end ≡ Err failure.SessionRead) × Untouched old before new after × Untouched old₁ before₁ new₁ after₁)
+
+-- over every accepted plan, from every session text of a place
+abbrev pub NextGoesOn : Type 0
+NextGoesOn = (p : TabledPlan) (bytes : List ℕ) → IsPlan p.plan → (text : IsSessionText p.plan bytes) → GoesOnFrom p text.request text.place bytes
