@@ -1,6 +1,5 @@
 -- A next run over the session text of a place writes the page from there on.
 use Rattle.std.proofs.Common.{◌≡◌, ℕ, ◌+◌, Bool, true, List, ◌++◌, length, map, append-nil, refl, sym, ap, subst, ◌∙◌, ◌⊎◌, inl, inr, Option, Some, None, Result, Ok, Err}
-use Rattle.std.specs.Prelude.{is_some}
 use Rattle.std.specs.Io.KnownBytes.{Consumes, IsAtEnd}
 use Rattle.sabr_model.specs.Plan.{TabledPlan, IsPlan}
 use Rattle.sabr_model.specs.Arrival.{RouteRequest}
@@ -9,7 +8,7 @@ use Rattle.sabr_model.specs.Record.{record_of}
 use Rattle.sabr_plan.specs.Canonical.{digest_of}
 use Rattle.sabr_frontier.specs.State.{State}
 use Rattle.sabr_frontier.specs.Session.{Seen}
-use Rattle.sabr_frontier.specs.Listing.{state_at, steps, next_route}
+use Rattle.sabr_frontier.specs.Listing.{state_at, steps}
 use Rattle.sabr_frontier.proofs.Lawful.{steps_follow}
 use Rattle.sabr_frontier.proofs.PlacesFormed.{emitted_at}
 use Rattle.sabr_session.specs.ReportText.{report_text}
