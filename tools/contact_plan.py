@@ -414,9 +414,9 @@ def add_names_word(parser):
 class Words(argparse.ArgumentParser):
     """A parser of a tool's command line, whose help is the tool's own text. A bad word is told in one line."""
 
-    def __init__(self, name, text):
+    def __init__(self, text):
         shape = argparse.RawDescriptionHelpFormatter
-        super().__init__(prog=name, description=text, formatter_class=shape, allow_abbrev=False)
+        super().__init__(prog=os.path.basename(sys.argv[0]), description=text, formatter_class=shape, allow_abbrev=False)
 
     def error(self, message):
         """Refuses the words."""
