@@ -8,7 +8,7 @@ use Rattle.sabr_model.specs.Record.{RouteRecord}
 use Rattle.sabr_search.specs.declared.layers.Best.{Best}
 use Rattle.sabr_search.specs.declared.layers.Limits.{Limits}
 use Rattle.sabr_search.specs.Ways.{Leads}
-use Rattle.sabr_search.specs.Part.{IsLeast}
+use Rattle.sabr_search.specs.Answers.{IsAnswered}
 use Rattle.sabr_search.specs.Task.{SearchTask, Takes, IsTask, IsBehind}
 use Rattle.sabr_search.specs.Picks.{IsLeastWay}
 use Rattle.sabr_search.specs.Told.{IsTold, hops_told}
@@ -16,7 +16,7 @@ use Rattle.sabr_search.specs.Settling.{IsFirstWay}
 use Rattle.sabr_search.specs.Limits.{AreLimits}
 use Rattle.sabr_search.proofs.Prefixes.{IsPrefix}
 use Rattle.sabr_search.proofs.Shortness.{way_few}
-use Rattle.sabr_search.proofs.FirstLimits.{none_within_limits, least_within_limits}
+use Rattle.sabr_search.proofs.FirstLimits.{answered}
 
 module _ (task : SearchTask) (is : IsTask task) (prefix : List ℕ) (behind : IsBehind task prefix) (facts : IsPrefix task.plan task.request prefix) (first : Best) (found : IsFirstWay task first)
     (some : 0 < first.hops) (limits : Limits) (are : AreLimits task.request.max_hops (length prefix) first limits) where
@@ -37,12 +37,11 @@ module _ (task : SearchTask) (is : IsTask task) (prefix : List ℕ) (behind : Is
   abbrev pub IsRouteFound : RouteRecord → Type 0
   IsRouteFound route = (s : List ℕ) × (route.contacts ≡ prefix ++ s) × IsLeastWay task limits.hops limits.ceiling s route.delivery × IsTold task.plan route
 
-  -- so the answer is the least route
-  pub least_told : {E : Type 0} (result : Result (Option RouteRecord) E) → IfOk result (λ o. IfNone o IsNothing) → IfOk result (λ o. IfSome o IsRouteFound) →
-      IfOk result (IsLeast task.plan task.request prefix task.excluded)
-  least_told (Err e) none told = tt
-  least_told (Ok None) none told = none_within_limits task is prefix behind facts first found some limits are none
-  least_told (Ok (Some route)) none told = least_within_limits task is prefix behind facts first found some limits are told.0 route told.1 told.2 told.3
+  -- so it is the answer with the hops that are left
+  pub answer_told : {E : Type 0} (left : ℕ) → length prefix + left ≡ task.request.max_hops → (result : Result (Option RouteRecord) E) → IfOk result (λ o. IfNone o IsNothing) → IfOk result (λ o. IfSome o IsRouteFound) →
+      IfOk result (IsAnswered task prefix left)
+  answer_told left all (Err e) none told = tt
+  answer_told left all (Ok o) none told = answered task is prefix behind facts first found some limits are left all o none told
 
   -- a route that is found is no longer than the plan
   pub told_short : (o : Option RouteRecord) → IfSome o IsRouteFound → hops_told o ≤ length task.plan.contacts

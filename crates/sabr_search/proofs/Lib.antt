@@ -36,3 +36,4 @@ pub mod Beside
 pub mod Tries
 pub mod Ended
 pub mod Rising
+pub mod Answers

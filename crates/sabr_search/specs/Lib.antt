@@ -17,3 +17,4 @@ pub mod Part
 pub mod Kept
 pub mod Following
 pub mod Laying
+pub mod Answers

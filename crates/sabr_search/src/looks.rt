@@ -42,7 +42,9 @@ impl Looks {
         ensures counted { self.new.count ≡ self.old.count + length contacts.now }
         ensures same { result.now ≡ contacts.now }
     {
-        self.count += contacts.len() as u64;
+        for _ in contacts {
+            self.look(());
+        }
         contacts
     }
 

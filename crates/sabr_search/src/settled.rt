@@ -8,6 +8,7 @@ ghost use Rattle.sabr_search.specs.Part.{IsLeast};
 ghost use Rattle.sabr_search.specs.Task.{IsTask, IsBehind};
 ghost use Rattle.sabr_search.specs.Told.{hops_told};
 ghost use Rattle.sabr_search.specs.Kept.{IsKept};
+ghost use Rattle.sabr_search.specs.Answers.{IsAnswered};
 ghost use Rattle.sabr_search.specs.Following.{tabled_of};
 
 use crate::best::BestOf;
@@ -38,7 +39,7 @@ fn least_route<A: Allocator + Copy>(
     requires hops { max_hops ≡ task.now.request.max_hops }
     requires nodes { length task.now.table ≤ 40000 }
     requires few { looks.old.count ≤ length task.now.plan.contacts }
-    ensures least { IfOk result (IsLeast task.now.plan task.now.request prefix.now task.now.excluded) }
+    ensures answered { IfOk result (IsAnswered task.now prefix.now (max_hops - length prefix.now)) }
     ensures bound { looks.new.count ≤ (3 * length task.now.table + 1) * length task.now.plan.contacts }
     ensures counted { IfOk result (λ answer. hops_told answer ≤ looks.new.count) }
     ensures cut { IfOk result (λ answer. max_hops ≡ most_hops → looks.new.count ≤ (3 * (hops_told answer - length prefix.now) + 3) * length task.now.plan.contacts) }

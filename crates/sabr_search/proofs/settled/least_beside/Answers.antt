@@ -1,7 +1,8 @@
-use Rattle.std.proofs.Common.{◌-◌, length, arith}
+use Rattle.std.proofs.Common.{◌+◌, ◌-◌, ◌≡◌, length, arith}
 use Rattle.sabr_search.specs.Told.{hops_told}
 use Rattle.sabr_search.proofs.Prefixes.{prefix_facts}
 use Rattle.sabr_search.proofs.Law.{prefix_few}
+use Rattle.sabr_search.proofs.FirstLimits.{answers_are_least}
 use Rattle.sabr_search.proofs.Beside.{told_sizes, told_longer, told_is_least, picks_within, picks_cut}
 use Rattle.sabr_search.proofs.settled.least_beside.Goals as goal
 
@@ -45,3 +46,11 @@ returns-in-Some-clause-cut g c = λ most.
 
 pub returns-in-Some-clause-longer : goal.returns-in-Some-clause-longer
 returns-in-Some-clause-longer g c = told_longer c.args.task.now c.args.prefix.now c.args.max_hops c.in-Some.answer (rw c.in-Some.is at c.in_ok-followed.ensures.some)
+
+pub returns-clause-least : goal.returns-clause-least
+returns-clause-least g c =
+    let task = c.args.task.now in
+    let prefix = c.args.prefix.now in
+    let facts = prefix_facts task.plan task.request prefix c.requires.fits in
+    let all : length prefix + (c.args.max_hops - length prefix) ≡ task.request.max_hops = omega (arith, facts.within, c.requires.hops) in
+    answers_are_least task c.requires.task prefix c.requires.behind facts (c.args.max_hops - length prefix) all c.least_route.result c.least_route.ensures.answered

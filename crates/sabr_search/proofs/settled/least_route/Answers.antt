@@ -1,10 +1,9 @@
-use Rattle.std.proofs.Common.{◌*◌, ◌≤◌, length, arith}
+use Rattle.std.proofs.Common.{◌-◌, ◌*◌, ◌≤◌, length, arith}
 use Rattle.std.proofs.Math.Nat.{mul-le-mul, mul-le-mul_right}
 use Rattle.sabr_search.specs.Limits.{AreLimits}
 use Rattle.sabr_search.proofs.Prefixes.{prefix_facts}
 use Rattle.sabr_search.proofs.Law.{contacts_few, prefix_few}
-use Rattle.sabr_search.proofs.FirstLimits.{none_without_way}
-use Rattle.sabr_search.proofs.Cuts.{least_told, cut_told, bound_told, hops_within}
+use Rattle.sabr_search.proofs.Cuts.{answer_told, cut_told, bound_told, hops_within}
 use Rattle.sabr_search.proofs.settled.least_route.Goals as goal
 
 pub run-requires-clause-few : goal.run-requires-clause-few
@@ -18,11 +17,8 @@ returns-in_err-first-clause-bound g c =
     let some : 1 * length c.args.task.now.plan.contacts ≤ length c.args.task.now.table * length c.args.task.now.plan.contacts = mul-le-mul_right (length c.args.task.now.plan.contacts) (omega (arith, c.requires.task.start_in)) in
     omega (arith, c.requires.few, c.run.ensures.looks, some, prefix_few c.args.task.now.plan c.args.task.now.request c.args.prefix.now facts)
 
-pub returns-then-first-eq0-clause-least : goal.returns-then-first-eq0-clause-least
-returns-then-first-eq0-clause-least g c =
-    let task = c.args.task.now in
-    let facts = prefix_facts task.plan task.request c.args.prefix.now c.requires.fits in
-    none_without_way task c.requires.task c.args.prefix.now c.requires.behind facts c.in_ok-first.first c.in_ok-first.ensures.first c.if-first-eq0.true
+pub returns-then-first-eq0-clause-answered : goal.returns-then-first-eq0-clause-answered
+returns-then-first-eq0-clause-answered g c = λ ns e within way. c.in_ok-first.ensures.first.none c.if-first-eq0.true ns e way
 
 pub returns-then-first-eq0-clause-bound : goal.returns-then-first-eq0-clause-bound
 returns-then-first-eq0-clause-bound g c =
@@ -59,13 +55,13 @@ answer_by-requires-clause-many g c =
     let within = hops_within task c.requires.task c.args.prefix.now c.requires.behind facts c.in_ok-first.first c.in_ok-first.ensures.first (omega arith) c.limits_of-limits.result limits in
     omega (arith, within, c.requires.nodes, contacts_few task.plan c.requires.task.plan, prefix_few task.plan task.request c.args.prefix.now facts)
 
-pub returns-clause-least : goal.returns-clause-least
-returns-clause-least g c =
+pub returns-clause-answered : goal.returns-clause-answered
+returns-clause-answered g c =
     let task = c.args.task.now in
     let facts = prefix_facts task.plan task.request c.args.prefix.now c.requires.fits in
     let limits : AreLimits task.request.max_hops (length c.args.prefix.now) c.in_ok-first.first c.limits_of-limits.result = rw c.requires.hops at c.limits_of-limits.ensures in
-    least_told task c.requires.task c.args.prefix.now c.requires.behind facts c.in_ok-first.first c.in_ok-first.ensures.first (omega arith) c.limits_of-limits.result limits
-    c.answer_by.result c.answer_by.ensures.none c.answer_by.ensures.some
+    answer_told task c.requires.task c.args.prefix.now c.requires.behind facts c.in_ok-first.first c.in_ok-first.ensures.first (omega arith) c.limits_of-limits.result limits
+    (c.args.max_hops - length c.args.prefix.now) (omega (arith, facts.within, c.requires.hops)) c.answer_by.result c.answer_by.ensures.none c.answer_by.ensures.some
 
 pub returns-clause-bound : goal.returns-clause-bound
 returns-clause-bound g c =

@@ -1,3 +1,0 @@
-//! Runs of the commands over readers, writers and allocators.
-
-mod devices;
