@@ -6,7 +6,7 @@
 
 The nodes and the time are those of the plan's line `# ask FROM TO TIME`, of --from, --to and --at, or of a file of
 questions: a list in JSON of objects with the words `plan` (a path, from that file's folder), `from`, `to` and `at`;
-these plans come behind the others. A program that runs into the limit of seconds isn't asked for greater counts of
+these plans come after the others. A program that runs into the limit of seconds isn't asked for greater counts of
 that plan. Status 1: a program failed, or two answers differ.
 """
 import argparse

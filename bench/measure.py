@@ -14,7 +14,7 @@ GNU_TIME = "/usr/bin/time"
 
 
 class Program:
-    """A program to run, with words that stand behind those of each question."""
+    """A program to run, with words that come after those of each question."""
 
     def __init__(self, command):
         self.path, *self.further = shlex.split(command)
@@ -212,7 +212,7 @@ def programs_of(given):
 
 
 def end(given, machine, rows, programs=()):
-    """Tells how busy the machine was in the end, and writes the figures where they are asked for."""
+    """Says how busy the machine was in the end, and writes the figures if they are asked for."""
     machine.end()
     if given.json is None:
         return

@@ -118,7 +118,7 @@ def add_words(words):
     words.add_argument("--seed", type=int, default=1)
     words.add_argument("--contacts", type=numbers, default=list(SIZES), help="how many, joined by commas")
     words.add_argument("--shapes", default=",".join(SHAPES), help="spread, hub, or both joined by a comma")
-    words.add_argument("--ranges-last", action="store_true", help="the ranges stand behind the contacts")
+    words.add_argument("--ranges-last", action="store_true", help="the ranges come after the contacts")
 
 
 def write_all(given):

@@ -6,7 +6,7 @@
 
 PROGRAM is crates/bench/out/bench where it isn't given. The nodes and the time are those of the plan's line
 `# ask FROM TO TIME`, of --from, --to and --at, or of a file of questions: a list in JSON of objects with the words
-`plan` (a path, from that file's folder), `from`, `to` and `at`; these plans come behind the others. A look is a read of
+`plan` (a path, from that file's folder), `from`, `to` and `at`; these plans come after the others. A look is a read of
 a contact's record. Status 1: a run failed, or two finders gave pages of different length.
 """
 import argparse
@@ -24,7 +24,7 @@ TIMES = ("first_ns", "page_ns", "searches_ns")
 
 
 def searched(words, most_seconds):
-    """What one run tells: its figures, `stopped`, or `failed`."""
+    """What one run says: its figures, `stopped`, or `failed`."""
     try:
         run = subprocess.run(words, stdin=subprocess.DEVNULL, capture_output=True, text=True, timeout=most_seconds)
     except subprocess.TimeoutExpired:

@@ -1,7 +1,7 @@
 #!/usr/bin/env python3
 """Times session texts: the writing, reading and verifying of them, beside the listing of their routes.
 
-Each run writes, or reads, a text ten times. The least of them is told, and behind it the first, which has the first use
+Each run writes, or reads, a text ten times. The least of them is printed, and after it the first, which has the first use
 of code and memory in it.
 
     sessions.py [PROGRAM] --plan FILE [--plan FILE ..] [--questions FILE] [--counts N,N,..] [--repeats N]
@@ -9,7 +9,7 @@ of code and memory in it.
 
 PROGRAM is crates/bench/out/bench where it isn't given. The nodes and the time are those of the plan's
 line `# ask FROM TO TIME`, of --from, --to and --at, or of a file of questions: a list in JSON of objects with the words
-`plan` (a path, from that file's folder), `from`, `to` and `at`; these plans come behind the others. Status 1: a run
+`plan` (a path, from that file's folder), `from`, `to` and `at`; these plans come after the others. Status 1: a run
 failed, a text was read as another number of routes, or one wasn't verified.
 """
 import argparse

@@ -102,13 +102,13 @@ status 5' "$(answered latest --plan "$room/none.txt" --from 1 --to 3 --by $day-0
 
 for by in 2030/1/1-00:00:00 1969/12/31-23:59:59 9999/01/01-00:00:00; do
     expect "no deadline: $by" \
-        "latest: argument --by: no time yyyy/mm/dd-hh:mm:ss of the years 1970 to 9998: $by; --help tells the words
+        "latest: argument --by: no time yyyy/mm/dd-hh:mm:ss of the years 1970 to 9998: $by; see --help
 status 2" "$(from_a --by $by)"
 done
 echo 'lander 31' >"$room/bad-names"
 expect 'bad names are no answer' "latest: names line 1: it doesn't begin with a node's number: lander 31
 status 2" "$(from_a --by $day-00:01:00 --names "$room/bad-names")"
-expect 'a word that is missing' 'report: without --report these words are missing: --count; --help tells the words
+expect 'a word that is missing' 'report: without --report these words are missing: --count; see --help
 status 2' "$(answered report --plan examples/a.txt --from 1 --to 3 --at $day-00:00:00)"
 
 printf '#!/bin/sh\necho "cgrlist: no memory" >&2\nexit 6\n' >"$room/fails"
@@ -191,9 +191,9 @@ expect 'a contact that is not there' 'report: the plan has no contact 4
 status 1' "$(read_report --plan "$room/lost.txt" <"$room/first")"
 expect 'another plan' "report: route 1 isn't one of this plan: its contacts don't go from node to node
 status 1" "$(read_report --plan examples/relay.txt <"$room/first")"
-expect 'a report and a request' 'report: --report takes the place of a request and its count; --help tells the words
+expect 'a report and a request' 'report: --report takes the place of a request and its count; see --help
 status 2' "$(read_report --plan examples/a.txt --count 1 </dev/null)"
-expect 'a node that is none' "report: argument --via: no node's number: relay; --help tells the words
+expect 'a node that is none' "report: argument --via: no node's number: relay; see --help
 status 2" "$(read_report --plan examples/a.txt --via relay </dev/null)"
 
 { yes "$(sed 1q "$room/first")" | sed 10000q; echo end; } >"$room/long"

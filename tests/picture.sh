@@ -204,12 +204,12 @@ refused() {
 }
 refused 3 "timeline: plan line 3 can't be read: does cgrlist check accept this plan?" --plan tests/expect.sh
 refused 5 'timeline: /nowhere: No such file or directory' --plan /nowhere
-refused 2 'timeline: the following arguments are required: --plan; --help tells the words'
-refused 2 'timeline: --between: not a time: 2030; --help tells the words' "${plan[@]}" --between 2030 2031
-refused 2 "timeline: --between: the first time isn't before the second; --help tells the words" \
+refused 2 'timeline: the following arguments are required: --plan; see --help'
+refused 2 'timeline: --between: not a time: 2030; see --help' "${plan[@]}" --between 2030 2031
+refused 2 "timeline: --between: the first time isn't before the second; see --help" \
     "${plan[@]}" --between "${day[1]}" "${day[0]}"
-refused 2 'timeline: --used needs routes: --count, --report or --explained; --help tells the words' "${plan[@]}" --used
-refused 2 'timeline: --count and --report need the request: --from, --to, --at; --help tells the words' "${plan[@]}" --count 1
+refused 2 'timeline: --used needs routes: --count, --report or --explained; see --help' "${plan[@]}" --used
+refused 2 'timeline: --count and --report need the request: --from, --to, --at; see --help' "${plan[@]}" --count 1
 refused 1 'timeline: the routes are not of this plan: it has no contact 4 from 31 to 22' \
     "${plan[@]}" --explained examples/relay-routes.txt
 echo 'refused: Empty' >"$room/refused.txt"

@@ -112,7 +112,7 @@ expect 'the others say that they wait' '1 2' \
 
 new_clone
 UNTIL='is proved' call check
-expect 'the first line tells what a build takes' yes \
+expect 'the first line says what a build takes' yes \
     "$([[ $told == 'cgrlist: building with '[1-8]' jobs (from nothing: '*' minutes on '*' processors, '*' GB of disk); the log is '"$out/build.log"$'\n'* ]] && echo yes)"
 expect 'a proved crate has a line' 'cgrlist: 0 min: low is proved, 1 of 2 crates' "$(sed -n 2p <<<"$told")"
 touch_a_source

@@ -420,7 +420,7 @@ class Words(argparse.ArgumentParser):
 
     def error(self, message):
         """Refuses the words."""
-        raise Refused(f"{message}; --help tells the words", WORDS_STATUS)
+        raise Refused(f"{message}; see --help", WORDS_STATUS)
 
 
 def lines_of(path):
@@ -430,7 +430,7 @@ def lines_of(path):
 
 
 def run_tool(name, tool):
-    """Prints the text that a tool returns. If it is refused, tells why and ends with that status."""
+    """Prints the text that a tool returns. If it is refused, says why and ends with that status."""
     signal.signal(signal.SIGPIPE, signal.SIG_DFL)
     signal.signal(signal.SIGINT, signal.SIG_DFL)
     if sys.stdout is None:
