@@ -1,0 +1,86 @@
+//! The steps that run a command over the plan's text and the session's text.
+
+ghost use Rattle.std.specs.Prelude.{◌≤◌, IfSome};
+
+use crate::desk::Desk;
+use crate::words::{Words, numbers, small_number};
+use commands::{Status, run_check, run_explain, run_first, run_next, run_verify};
+use failing::LimitedWriter;
+use std::alloc::{Allocator, Global};
+
+/// What a command writes to.
+#[derive(Drop)]
+struct Writers {
+    out: LimitedWriter,
+    kept: LimitedWriter,
+    err: LimitedWriter,
+}
+
+/// Runs a command: its status, and what each writer holds.
+pub fn command_step<A: Allocator + Copy>(
+    alloc: A,
+    desk: &Desk<'_>,
+    words: &mut Words<'_>,
+) -> Option<String> {
+    let mut writers = Writers {
+        out: desk.out.writer(desk.alloc),
+        kept: desk.kept.writer(desk.alloc),
+        err: desk.err.writer(desk.alloc),
+    };
+    let status = status_of(alloc, desk, words, &mut writers)?;
+    let out = digits(desk.alloc, &writers.out)?;
+    let kept = digits(desk.alloc, &writers.kept)?;
+    let err = digits(desk.alloc, &writers.err)?;
+    format!(in desk.alloc; "{} {out} {kept} {err}", status.number()).ok()
+}
+
+/// What a writer holds, in hexadecimal digits; `-` for nothing.
+fn digits(alloc: Global, writer: &LimitedWriter) -> Option<String> {
+    if writer.held().is_empty() {
+        return String::from_str(alloc, "-").ok();
+    }
+    hex::encode(alloc, writer.held()).ok()
+}
+
+/// Runs the command that the next word names.
+fn status_of<A: Allocator + Copy>(
+    alloc: A,
+    desk: &Desk<'_>,
+    words: &mut Words<'_>,
+    writers: &mut Writers,
+) -> Option<Status> {
+    let plan = &mut desk.plan.reader();
+    let old = &mut desk.session.reader();
+    let (out, kept, err) = (&mut writers.out, &mut writers.kept, &mut writers.err);
+    match words.next()? {
+        "first" => {
+            let (count, keeps) = count_of(words)?;
+            let request = desk.asked.request().ok()?;
+            Some(run_first(alloc, plan, request, count, out, keeps, kept, err))
+        }
+        "next" => {
+            let (count, keeps) = count_of(words)?;
+            Some(run_next(alloc, plan, old, count, out, keeps, kept, err))
+        }
+        "verify" => Some(run_verify(alloc, plan, old, out, err)),
+        "check" => Some(run_check(alloc, plan, out, err)),
+        "explain" => {
+            let contacts = numbers(desk.alloc, words)?;
+            let request = desk.asked.request().ok()?;
+            Some(run_explain(alloc, plan, request, &contacts, out, err))
+        }
+        _ => None,
+    }
+}
+
+/// Takes a count of routes, and whether the session is kept.
+fn count_of(words: &mut Words<'_>) -> Option<(u32, bool)>
+    ensures { IfSome result (λ asked. (1 ≤ asked.0) × (asked.0 ≤ 10000)) }
+{
+    let count = small_number(words)?;
+    let keeps = words.next() == Some("keep");
+    if count < 1 || count > 10000 {
+        return None;
+    }
+    Some((count, keeps))
+}

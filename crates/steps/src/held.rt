@@ -1,0 +1,121 @@
+//! The session that was made last over a plan, and the steps that make one.
+
+use crate::answers::{done, no_memory, refused, routes, yes_or_no};
+use crate::desk::Desk;
+use crate::fresh::Fresh;
+use crate::loading::{fed, loaded};
+use crate::words::{Words, small_number};
+use plain_listing::first_routes;
+use sabr_frontier::{Loader, Session};
+use sabr_model::Plan;
+use sabr_plan::digest;
+use sabr_session::{SessionFeed, read_session, verify};
+use std::alloc::Allocator;
+
+/// The session that was made last over a plan.
+#[derive(Drop)]
+pub struct Held<'p, B: Fresh<A>, A: Allocator + Copy> {
+    alloc: A,
+    plan: &'p Plan<A>,
+    session: Option<Session<'p, B, A>>,
+}
+
+impl<'p, B: Fresh<A>, A: Allocator + Copy> Held<'p, B, A> {
+    /// Begins without a session.
+    pub fn new(alloc: A, plan: &'p Plan<A>) -> Held<'p, B, A> {
+        Held {
+            alloc,
+            plan,
+            session: None,
+        }
+    }
+
+    /// The plan.
+    pub fn plan(&self) -> &'p Plan<A> {
+        self.plan
+    }
+
+    /// The session.
+    pub fn session(&mut self) -> Option<&mut Session<'p, B, A>> {
+        self.session.as_mut()
+    }
+
+    /// Starts a session.
+    pub fn start(&mut self, desk: &Desk<'_>) -> Option<String> {
+        let request = desk.asked.request().ok()?;
+        match Session::start(self.alloc, self.plan, request, B::fresh(self.alloc)) {
+            Ok(started) => {
+                self.session = Some(started);
+                done(desk.alloc)
+            }
+            Err(_) => no_memory(desk.alloc),
+        }
+    }
+
+    /// Reads a session from its text.
+    pub fn read(&mut self, desk: &Desk<'_>) -> Option<String> {
+        let mut reader = desk.session.reader();
+        let digest = digest(self.plan);
+        let finder = B::fresh(self.alloc);
+        match read_session(self.alloc, &mut reader, self.plan, &digest, finder) {
+            Ok(told) => {
+                self.session = Some(told);
+                done(desk.alloc)
+            }
+            Err(fault) => refused(desk.alloc, fault),
+        }
+    }
+
+    /// Loads a session part by part, by the steps up to `finish`.
+    pub fn load(&mut self, desk: &mut Desk<'_>) -> Option<String> {
+        let request = desk.asked.request().ok()?;
+        let loader = Loader::new(self.alloc, self.plan, request, B::fresh(self.alloc));
+        match loaded(loader, desk)? {
+            Ok(loaded) => {
+                self.session = Some(loaded);
+                done(desk.alloc)
+            }
+            Err(fault) => refused(desk.alloc, fault),
+        }
+    }
+
+    /// Feeds a session's text, by the steps up to `finish`.
+    pub fn feed(&mut self, desk: &mut Desk<'_>) -> Option<String> {
+        let digest = digest(self.plan);
+        let finder = B::fresh(self.alloc);
+        let feed = SessionFeed::new(self.alloc, self.plan, &digest, finder);
+        match fed(feed, desk)? {
+            Ok(told) => {
+                self.session = Some(told);
+                done(desk.alloc)
+            }
+            Err(fault) => refused(desk.alloc, fault),
+        }
+    }
+
+    /// Verifies a session's text.
+    pub fn verify(&self, desk: &Desk<'_>) -> Option<String> {
+        let mut reader = desk.session.reader();
+        let digest = digest(self.plan);
+        let finder = B::fresh(self.alloc);
+        match verify(self.alloc, &mut reader, self.plan, &digest, finder) {
+            Ok(yes) => yes_or_no(desk.alloc, yes),
+            Err(fault) => refused(desk.alloc, fault),
+        }
+    }
+
+    /// The first routes of the plain listing, at most 10000, and whether there are more.
+    pub fn plain(&self, desk: &Desk<'_>, words: &mut Words<'_>) -> Option<String> {
+        let request = desk.asked.request().ok()?;
+        let count = small_number(words)?.min(10000);
+        match first_routes(self.alloc, self.plan, &request, count) {
+            Ok(page) => {
+                let mut text = routes(desk.alloc, page.routes.as_slice())?;
+                text.push_str(if page.more { " more" } else { " end" })
+                    .ok()?;
+                Some(text)
+            }
+            Err(_) => no_memory(desk.alloc),
+        }
+    }
+}

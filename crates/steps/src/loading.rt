@@ -1,0 +1,87 @@
+//! The steps that load a session part by part, or feed its text.
+
+use crate::answers::{done, refused};
+use crate::desk::{Desk, decoded};
+use crate::words::{Words, numbers};
+use sabr_frontier::{LoadFault, Loader, Session};
+use sabr_search::BestOf;
+use sabr_session::{SessionFault, SessionFeed};
+use std::alloc::{Allocator, Global};
+
+/// Takes the steps up to `finish`, which ends the loading.
+pub fn loaded<'p, A: Allocator + Copy, B: BestOf<A>>(
+    mut loader: Loader<'p, B, A>,
+    desk: &mut Desk<'_>,
+) -> Option<Result<Session<'p, B, A>, LoadFault>> {
+    let begun = done(desk.alloc);
+    desk.say(begun);
+    for _ in 0..u64::MAX {
+        let (name, mut words) = desk.next()?;
+        if name == "finish" {
+            let emitted = words.next()?.parse::<u128>().ok()?;
+            let last = numbers(desk.alloc, &mut words)?;
+            return Some(loader.finish(emitted, &last));
+        }
+        let answer = match name {
+            "part" => add_part(&mut loader, desk.alloc, &mut words),
+            _ => desk.step(name, &mut words),
+        };
+        desk.say(answer);
+    }
+    None
+}
+
+/// Adds the part PREFIX / EXCLUDED / ROUTE.
+fn add_part<A: Allocator + Copy, B: BestOf<A>>(
+    loader: &mut Loader<'_, B, A>,
+    alloc: Global,
+    words: &mut Words<'_>,
+) -> Option<String> {
+    let prefix = numbers(alloc, words)?;
+    let excluded = numbers(alloc, words)?;
+    let route = numbers(alloc, words)?;
+    let carried = if route.is_empty() {
+        None
+    } else {
+        Some(route.as_slice())
+    };
+    match loader.add_part(&prefix, &excluded, carried) {
+        Ok(()) => done(alloc),
+        Err(fault) => refused(alloc, fault),
+    }
+}
+
+/// Takes the steps up to `finish`, which ends the text.
+pub fn fed<'p, A: Allocator + Copy, B: BestOf<A>>(
+    mut feed: SessionFeed<'p, B, A>,
+    desk: &mut Desk<'_>,
+) -> Option<Result<Session<'p, B, A>, SessionFault>> {
+    let begun = done(desk.alloc);
+    desk.say(begun);
+    for _ in 0..u64::MAX {
+        let (name, mut words) = desk.next()?;
+        if name == "finish" {
+            return Some(feed.finish());
+        }
+        let answer = feed_step(&mut feed, desk, name, &mut words);
+        desk.say(answer);
+    }
+    None
+}
+
+/// Feeds a piece, or tells how many bytes are held.
+fn feed_step<A: Allocator + Copy, B: BestOf<A>>(
+    feed: &mut SessionFeed<'_, B, A>,
+    desk: &mut Desk<'_>,
+    name: &str,
+    words: &mut Words<'_>,
+) -> Option<String> {
+    match name {
+        "piece" => match feed.feed(&decoded(desk.alloc, words)?) {
+            Ok(()) => done(desk.alloc),
+            Err(fault) => refused(desk.alloc, fault),
+        },
+        "held" => format!(in desk.alloc; "{}", feed.held()).ok(),
+        _ => desk.step(name, words),
+    }
+}

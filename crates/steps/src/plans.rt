@@ -1,0 +1,152 @@
+//! The steps that make a plan.
+
+use crate::answers::{bytes, done, no_memory, refused};
+use crate::commands_called::command_step;
+use crate::desk::Desk;
+use crate::over_plan::steps_over;
+use crate::words::{Words, number, small_number};
+use failing::Ration;
+use sabr_model::{AddFault, LAST_TIME, Plan};
+use sabr_plan::{canonical, digest, read_plan};
+use sabr_search::{Layered, Settled};
+use std::alloc::{Allocator, Global};
+
+/// Takes all steps.
+pub fn perform<'r>(ration: &'r Ration, desk: &mut Desk<'_>) {
+    let mut plan = Plan::new(ration);
+    let mut settled = Settled::new(ration);
+    let mut layered = Layered::new(ration);
+    for _ in 0..u64::MAX {
+        let Some((name, mut words)) = desk.next() else {
+            return;
+        };
+        match name {
+            "fresh" => {
+                settled = Settled::new(ration);
+                layered = Layered::new(ration);
+                let made = done(desk.alloc);
+                desk.say(made);
+            }
+            "settled" => steps_over(ration, &plan, &mut settled, desk),
+            "layered" => steps_over(ration, &plan, &mut layered, desk),
+            _ => {
+                let answer = plan_step(ration, &mut plan, desk, name, &mut words);
+                desk.say(answer);
+            }
+        }
+    }
+}
+
+/// Does a step that changes the plan, shows it, or needs none.
+fn plan_step<A: Allocator + Copy>(
+    alloc: A,
+    plan: &mut Plan<A>,
+    desk: &mut Desk<'_>,
+    name: &str,
+    words: &mut Words<'_>,
+) -> Option<String> {
+    match name {
+        "new" => {
+            *plan = Plan::new(alloc);
+            done(desk.alloc)
+        }
+        "read" => read(alloc, plan, desk),
+        "ready" => match plan.make_ready() {
+            Ok(()) => done(desk.alloc),
+            Err(_) => no_memory(desk.alloc),
+        },
+        "contact" => numbered(desk.alloc, add_contact(plan, words)?),
+        "range" => answered(desk.alloc, add_range(plan, words)?),
+        "drop-contact" => numbered(desk.alloc, delete_contact(plan, words)?),
+        "drop-range" => answered(desk.alloc, delete_range(plan, words)?),
+        "canonical" => canonical_text(plan, desk),
+        "digest" => bytes(desk.alloc, &digest(plan)),
+        "run" => command_step(alloc, desk, words),
+        _ => desk.step(name, words),
+    }
+}
+
+/// Reads the plan's text.
+fn read<A: Allocator + Copy>(alloc: A, plan: &mut Plan<A>, desk: &Desk<'_>) -> Option<String> {
+    match read_plan(alloc, &mut desk.plan.reader()) {
+        Ok(planned) => {
+            *plan = planned;
+            done(desk.alloc)
+        }
+        Err(fault) => { format!(in desk.alloc; "{} {:?}: {fault}", fault.line, fault.kind).ok() }
+    }
+}
+
+/// Writes the canonical text: what the writer holds, and whether all of it was written.
+fn canonical_text<A: Allocator + Copy>(plan: &Plan<A>, desk: &Desk<'_>) -> Option<String> {
+    let mut writer = desk.out.writer(desk.alloc);
+    let written = canonical(plan, &mut writer).is_ok();
+    held(desk.alloc, written, writer.held())
+}
+
+/// Whether a text was written, and what its writer holds.
+pub fn held(alloc: Global, written: bool, held: &[u8]) -> Option<String> {
+    let word = if written { "ok" } else { "WriteFault" };
+    let digits = hex::encode(alloc, held).ok()?;
+    format!(in alloc; "{word} {digits}").ok()
+}
+
+fn numbered(alloc: Global, answer: Result<u32, AddFault>) -> Option<String> {
+    match answer {
+        Ok(number) => format!(in alloc; "{number}").ok(),
+        Err(fault) => refused(alloc, fault),
+    }
+}
+
+fn answered(alloc: Global, answer: Result<(), AddFault>) -> Option<String> {
+    match answer {
+        Ok(()) => done(alloc),
+        Err(fault) => refused(alloc, fault),
+    }
+}
+
+/// Adds the contact FROM TO START END RATE.
+fn add_contact<A: Allocator + Copy>(
+    plan: &mut Plan<A>,
+    words: &mut Words<'_>,
+) -> Option<Result<u32, AddFault>> {
+    let (from, to) = (number(words)?, number(words)?);
+    let (start, end) = (number(words)?, number(words)?);
+    let rate = number(words)?;
+    if from < 1 || to < 1 || start > LAST_TIME || end > LAST_TIME {
+        return None;
+    }
+    Some(plan.add_contact(from, to, start, end, rate))
+}
+
+/// Adds the range ONE OTHER START END LIGHT.
+fn add_range<A: Allocator + Copy>(
+    plan: &mut Plan<A>,
+    words: &mut Words<'_>,
+) -> Option<Result<(), AddFault>> {
+    let (one, other) = (number(words)?, number(words)?);
+    let (start, end) = (number(words)?, number(words)?);
+    let light = small_number(words)?;
+    if one < 1 || other < 1 || start > LAST_TIME || end > LAST_TIME || light > 1000000 {
+        return None;
+    }
+    Some(plan.add_range(one, other, start, end, light))
+}
+
+/// Deletes the contact FROM TO START.
+fn delete_contact<A: Allocator + Copy>(
+    plan: &mut Plan<A>,
+    words: &mut Words<'_>,
+) -> Option<Result<u32, AddFault>> {
+    let (from, to, start) = (number(words)?, number(words)?, number(words)?);
+    Some(plan.delete_contact(from, to, start))
+}
+
+/// Deletes the range ONE OTHER START.
+fn delete_range<A: Allocator + Copy>(
+    plan: &mut Plan<A>,
+    words: &mut Words<'_>,
+) -> Option<Result<(), AddFault>> {
+    let (one, other, start) = (number(words)?, number(words)?, number(words)?);
+    Some(plan.delete_range(one, other, start))
+}
