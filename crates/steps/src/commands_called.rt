@@ -2,9 +2,12 @@
 
 ghost use Rattle.std.specs.Prelude.{◌≤◌, IfSome};
 
+use crate::answers::refused;
 use crate::desk::Desk;
 use crate::words::{Words, numbers, small_number};
-use commands::{Status, run_check, run_explain, run_first, run_next, run_verify};
+use commands::{
+    Status, ValueFault, ValueName, run_check, run_explain, run_first, run_next, run_verify,
+};
 use failing::LimitedWriter;
 use std::alloc::{Allocator, Global};
 
@@ -32,6 +35,18 @@ pub fn command_step<A: Allocator + Copy>(
     let kept = digits(desk.alloc, &writers.kept)?;
     let err = digits(desk.alloc, &writers.err)?;
     format!(in desk.alloc; "{} {out} {kept} {err}", status.number()).ok()
+}
+
+/// The fault of a value that the next word names, and its text.
+pub fn value_fault(alloc: Global, words: &mut Words<'_>) -> Option<String> {
+    let fault = match words.next()? {
+        "Bad" => ValueFault::Bad(ValueName::Count),
+        "SameNode" => ValueFault::SameNode,
+        "NoMemory" => ValueFault::NoMemory,
+        "BadAvoid" => ValueFault::BadAvoid,
+        _ => return None,
+    };
+    refused(alloc, fault)
 }
 
 /// What a writer holds, in hexadecimal digits; `-` for nothing.

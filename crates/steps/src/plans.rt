@@ -1,7 +1,7 @@
 //! The steps that make a plan.
 
 use crate::answers::{bytes, done, no_memory, refused};
-use crate::commands_called::command_step;
+use crate::commands_called::{command_step, value_fault};
 use crate::desk::Desk;
 use crate::over_plan::steps_over;
 use crate::words::{Words, number, small_number};
@@ -62,6 +62,7 @@ fn plan_step<A: Allocator + Copy>(
         "canonical" => canonical_text(plan, desk),
         "digest" => bytes(desk.alloc, &digest(plan)),
         "run" => command_step(alloc, desk, words),
+        "value-fault" => value_fault(desk.alloc, words),
         _ => desk.step(name, words),
     }
 }
