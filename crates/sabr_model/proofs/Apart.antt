@@ -1,4 +1,4 @@
--- Lists in which no element stands twice.
+-- Lists in which no element occurs twice.
 use Rattle.std.proofs.Common.{◌≡◌, ℕ, Bool, true, false, cond, not, List, [], ◌∷◌, ◌++◌, map, refl, sym, subst, inl, inr, ⊎_elim}
 use Rattle.std.specs.List.{filter, flat_map, list_any}
 use Rattle.std.specs.List.Sorted.{IsStrictlySortedBy}
@@ -12,7 +12,7 @@ use Rattle.sabr_model.specs.Order.{by_numbers, same_numbers}
 use Rattle.sabr_model.specs.Plan.{none_twice}
 use Rattle.sabr_model.proofs.Members.{IsIn, filter_in, flat_map_in, map_in, append_cases, all_in}
 
--- no element is among those behind it
+-- no element is among those after it
 abbrev pub AreApart : {X : Type 0} → List X → Type 0
 AreApart [] = Unit {0}
 AreApart (x ∷ xs) = (IsIn x xs → ⊥) × AreApart xs
@@ -43,7 +43,7 @@ module _ {X : Type 0} where
       apart-append (f x) (flat_map f xs) (each x) (apart-flat_map f each one xs a.1)
       (λ z l r. let m = flat_map_in f z xs r in a.0 (subst (λ w. IsIn w xs) (sym (one x m.0 z l m.2)) m.1))
 
-  -- none passes a test that only equal elements pass
+  -- no two elements pass a test that only equal elements pass
   pub apart-none_twice : (same : X → X → Bool) → ((x y : X) → same x y ≡ true → x ≡ y) → (xs : List X) → AreApart xs → none_twice same xs ≡ true
   apart-none_twice same exact [] a = refl
   apart-none_twice same exact (x ∷ xs) a =
@@ -55,7 +55,7 @@ module _ {X : Type 0} where
       found test x [] tells h = absurd cc
       found test x (y ∷ ys) tells h = ⊎_elim (λ e. inl (tells y e)) (λ k. inr (found test x ys tells k)) (or_cases (test y) (list_any test ys) h)
 
-  -- a list that rises strictly
+  -- the same for a list that rises strictly
   pub apart-sorted : (cmp : X → X → Ordering) → IsTotalOrder cmp → (xs : List X) → IsStrictlySortedBy cmp xs → AreApart xs
   unfolding IsStrictlySortedBy
   apart-sorted cmp total [] sorted = tt
@@ -64,7 +64,7 @@ module _ {X : Type 0} where
     apart-sorted cmp total xs sorted.1,
   )
 
--- equal numbers from the front make one list
+-- lists with the same numbers are the same
 pub same_numbers_tell : (s t : List ℕ) → same_numbers s t ≡ true → s ≡ t
 same_numbers_tell s t h = slice_cmp-IsAntisymmetric nat_cmp-IsAntisymmetric s t (tie (by_numbers s t) h)
   where

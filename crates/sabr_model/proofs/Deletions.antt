@@ -1,4 +1,4 @@
--- A plan stays a plan without some of its contacts or ranges.
+-- A plan without some of its contacts or ranges is a plan.
 use Rattle.std.proofs.Common.{◌≡◌, ℕ, ◌<◌, ◌≤◌, ◌^◌, Bool, true, false, cond, ◌&&◌, not, eqb, ltb, List, [], ◌∷◌, length, map, refl, sym, ap, subst, ◌∙◌, arith}
 use Rattle.std.specs.List.{filter, find, list_any, AllByRecursion}
 use Rattle.std.specs.List.Sorted.{IsStrictlySortedBy}
@@ -18,7 +18,7 @@ module _ {X : Type 0} where
   all_filter P t (x ∷ xs) all =
       elim (t x) as (λ b. AllByRecursion P (cond b (x ∷ filter t xs) (filter t xs))) [ true ↦ (all.0, all_filter P t xs all.1) | false ↦ all_filter P t xs all.1 ]
 
-  -- what none passes, none of fewer passes
+  -- if no element passes a test, none of a filtered list does
   any_filter : (p t : X → Bool) (xs : List X) → list_any p xs ≡ false → list_any p (filter t xs) ≡ false
   any_filter p t [] none = refl
   any_filter p t (x ∷ xs) none =
@@ -28,7 +28,7 @@ module _ {X : Type 0} where
         | false ↦ any_filter p t xs parts.1
       ]
 
-  -- where no two pass a test, no two of fewer do
+  -- if no two elements pass a test, no two of a filtered list do
   pub none_twice-filter : (same : X → X → Bool) (t : X → Bool) (xs : List X) → none_twice same xs ≡ true → none_twice same (filter t xs) ≡ true
   none_twice-filter same t [] none = refl
   none_twice-filter same t (x ∷ xs) none =
@@ -47,7 +47,7 @@ module _ {X : Type 0} where
       let rest = length-filter_le t xs in
       elim (t x) as (λ b. length (cond b (x ∷ filter t xs) (filter t xs)) ≤ length (x ∷ xs)) [ true ↦ omega (arith, rest) | false ↦ omega (arith, rest) ]
 
-  -- what holds of all holds of what is found
+  -- what holds for all elements holds for the one that is found
   pub all_found : (P : X → Type 0) (t : X → Bool) (xs : List X) (x : X) → AllByRecursion P xs → find t xs ≡ Some x → P x
   all_found P t [] x all found = absurd cc
   all_found P t (y ∷ ys) x all found =
@@ -56,7 +56,7 @@ module _ {X : Type 0} where
         | false ↦ λ e. all_found P t ys x all.1 e
       ] found
 
-  -- what is found passes the test
+  -- the element that is found passes the test
   pub found_passes : (t : X → Bool) (xs : List X) (x : X) → find t xs ≡ Some x → t x ≡ true
   found_passes t [] x found = absurd cc
   found_passes t (y ∷ ys) x found =
@@ -65,36 +65,36 @@ module _ {X : Type 0} where
         | false ↦ λ h e. found_passes t ys x e
       ] refl found
 
-  -- where none passes, each fails
+  -- if no element passes, each fails
   pub any_none : (p : X → Bool) (xs : List X) → list_any p xs ≡ false → AllByRecursion (λ x. p x ≡ false) xs
   any_none p [] none = tt
   any_none p (x ∷ xs) none = let parts = or_parts (p x) (list_any p xs) none in (parts.0, any_none p xs parts.1)
 
-  -- tests that agree on a list leave the same of it
+  -- two tests that agree on a list filter it alike
   filter_alike : (p q : X → Bool) (xs : List X) → AllByRecursion (λ x. p x ≡ q x) xs → filter (λ x. not (p x)) xs ≡ filter (λ x. not (q x)) xs
   filter_alike p q [] all = refl
   filter_alike p q (x ∷ xs) all =
       ap (λ b. cond (not b) (x ∷ filter (λ y. not (p y)) xs) (filter (λ y. not (p y)) xs)) all.0
       ∙ ap (λ ys. cond (not (q x)) (x ∷ ys) ys) (filter_alike p q xs all.1)
 
-  -- from two facts of each element a third
+  -- two facts of each element imply a third
   all_two : (P Q R : X → Type 0) → ((x : X) → P x → Q x → R x) → (xs : List X) → AllByRecursion P xs → AllByRecursion Q xs → AllByRecursion R xs
   all_two P Q R gives [] p q = tt
   all_two P Q R gives (x ∷ xs) p q = (gives x p.0 q.0, all_two P Q R gives xs p.1 q.1)
 
-  -- from a fact of each element another
+  -- a fact of each element implies another
   all_one : (P Q : X → Type 0) → ((x : X) → P x → Q x) → (xs : List X) → AllByRecursion P xs → AllByRecursion Q xs
   all_one P Q gives [] p = tt
   all_one P Q gives (x ∷ xs) p = (gives x p.0, all_one P Q gives xs p.1)
 
--- what rises above more rises above less
+-- numbers that rise above a bound rise above a lesser bound
 rises_weaker : (low high : ℕ) (xs : List ℕ) → low ≤ high → rises_above high xs ≡ true → rises_above low xs ≡ true
 rises_weaker low high [] le rises = refl
 rises_weaker low high (x ∷ xs) le rises =
     let parts = and_parts (ltb high x) (rises_above x xs) rises in
     and_from (ltb low x) (rises_above x xs) (lt-ltb low x (let lt = ltb-true high x parts.0 in omega (arith, lt, le))) parts.1
 
--- fewer of rising numbers rise
+-- some of rising numbers rise
 rises_filter : (low : ℕ) (t : Contact → Bool) (cs : List Contact) → rises_above low (map (λ d. d.number) cs) ≡ true → rises_above low (map (λ d. d.number) (filter t cs)) ≡ true
 rises_filter low t [] rises = refl
 rises_filter low t (c ∷ cs) rises =
@@ -105,7 +105,7 @@ rises_filter low t (c ∷ cs) rises =
       | false ↦ rises_weaker low c.number (map (λ d. d.number) (filter t cs)) (let lt = ltb-true low c.number parts.0 in omega (arith, lt)) rest
     ]
 
--- fewer keys are above as well
+-- some of the keys above a key are above it
 keys_filter : (t : Range → Bool) (k : List ℕ) (rs : List Range) → AllByRecursion (λ y. by_numbers k y ≡ Less) (map range_key rs) → AllByRecursion (λ y. by_numbers k y ≡ Less) (map range_key (filter t rs))
 keys_filter t k [] all = tt
 keys_filter t k (r ∷ rs) all =
@@ -114,7 +114,7 @@ keys_filter t k (r ∷ rs) all =
       | false ↦ keys_filter t k rs all.1
     ]
 
--- fewer of sorted ranges are sorted
+-- some of sorted ranges are sorted
 sorted_filter : (t : Range → Bool) (rs : List Range) → IsStrictlySortedBy by_numbers (map range_key rs) → IsStrictlySortedBy by_numbers (map range_key (filter t rs))
 unfolding IsStrictlySortedBy
 sorted_filter t [] sorted = tt
@@ -202,13 +202,13 @@ opening_one from to start (x ∷ cs) c none found =
       | false ↦ λ h e. ((λ yes. absurd (both_ways (opens from to start x) h yes)), opening_one from to start cs c parts.1 e)
     ] refl found
 
--- two tests that give each other are the same
+-- two tests, each of which implies the other, are the same
 alike : (a b : Bool) → (a ≡ true → b ≡ true) → (b ≡ true → a ≡ true) → a ≡ b
 alike true b f g = sym (f refl)
 alike false true f g = g refl
 alike false false f g = refl
 
--- leaving out the opening leaves out the number
+-- filtering out the opening filters out the number
 pub without_opening : (p : ContactPlan) (from to start : ℕ) (c : Contact) → IsPlan p → find (opens from to start) p.contacts ≡ Some c → filter (λ d. not (opens from to start d)) p.contacts ≡ without_number c.number p.contacts
 without_opening p from to start c h found =
     let by_number = found_by_number 0 (opens from to start) p.contacts c h.numbers_rise found in

@@ -1,4 +1,4 @@
--- Numbers that differ, in parts of lists and in lists put together; the numbers of passes.
+-- Numbers that differ, in parts of lists and in joined lists; the numbers of passes.
 use Rattle.std.proofs.Common.{◌≡◌, ℕ, suc, ◌+◌, ◌-◌, ◌<◌, ◌≤◌, true, false, not, ◌||◌, eqb, List, [], ◌∷◌, ◌++◌, length, get_or, take, drop, refl, sym, ap, subst, ◌∙◌, inl, inr, arith, length-drop}
 use Rattle.std.specs.Prelude.{slice_get, Some, IsPermutation}
 use Rattle.std.specs.Option.{option_map}
@@ -18,9 +18,9 @@ use Rattle.sabr_model.proofs.Listed.{distinct_from_different}
 use Rattle.sabr_model.proofs.Tabled.{place_one, different_from_distinct}
 use Rattle.sabr_model.proofs.ReadyLemmas.{different_drop}
 
--- ---- lists put together
+-- ---- joined lists
 
--- two lists of different numbers, and none in both
+-- two lists of different numbers that have no number in common
 pub different_append : (xs ys : List ℕ) → are_different xs ≡ true → are_different ys ≡ true → ((n : ℕ) → has n xs ≡ true → has n ys ≡ true → ⊥) → are_different (xs ++ ys) ≡ true
 different_append [] ys a b apart = b
 different_append (x ∷ xs) ys a b apart =
@@ -39,7 +39,7 @@ different_front (x ∷ xs) ys d =
     let none : has x xs ≡ false = false_from_ne_true (has x xs) (λ t. both_ways (has x (xs ++ ys)) (not-true (has x (xs ++ ys)) p.0) (list_any-append (eqb x) xs ys ∙ or_left (has x xs) (has x ys) t)) in
     and_from (not (has x xs)) (are_different xs) (not_from_false (has x xs) none) (different_front xs ys p.1)
 
--- its last number stands nowhere else
+-- its last number occurs nowhere else
 pub different_last : (xs : List ℕ) (n : ℕ) → are_different (xs ++ n ∷ []) ≡ true → has n xs ≡ true → ⊥
 different_last [] n d h = absurd cc
 different_last (x ∷ xs) n d h =
@@ -59,7 +59,7 @@ different_part n k xs d =
 
 -- ---- parts of a list
 
--- what stands in a part stands in the list
+-- an element of a part is an element of the list
 pub part_at : {X : Type 0} (xs : List X) (first n k : ℕ) (x : X) → slice_get (take n (drop first xs)) k ≡ Some x → (k < n) × (slice_get xs (first + k) ≡ Some x)
 part_at xs first n k x h =
     let within : k < length (take n (drop first xs)) = slice_get_within (take n (drop first xs)) k x h in
@@ -69,7 +69,7 @@ part_at xs first n k x h =
           ∙ ap Some (sym (get_or-drop first xs k x) ∙ sym (get_or-take n (drop first xs) k x less) ∙ get_or_from_slice_get (take n (drop first xs)) k x x h),
     )
 
--- and the other way round
+-- and the reverse
 pub part_has : {X : Type 0} (xs : List X) (first end p : ℕ) (x : X) → first ≤ p → p < end → end ≤ length xs → slice_get xs p ≡ Some x → slice_get (take (end - first) (drop first xs)) (p - first) ≡ Some x
 part_has xs first end p x after before within h =
     let back : first + (p - first) ≡ p = omega arith in
@@ -78,7 +78,7 @@ part_has xs first end p x after before within h =
 
 -- ---- the numbers of passes
 
--- a number stands where its pass does
+-- a number has the place of its pass
 pub number_at : (xs : List Pass) (k : ℕ) (x : Pass) → slice_get xs k ≡ Some x → slice_get (numbers_of xs) k ≡ Some x.number
 number_at xs k x at = slice_get-map (λ (y : Pass). y.number) xs k ∙ ap (option_map (λ (y : Pass). y.number)) at
 
@@ -91,7 +91,7 @@ pass_of_number n (x ∷ xs) h =
       | inr later ↦ let w = pass_of_number n xs later in (suc w.0, w.1, w.2, w.3)
     ]
 
--- where the numbers differ, one stands at one place
+-- if the numbers differ, each is at one place
 pub number_once : (xs : List Pass) (i k : ℕ) (x y : Pass) → are_different (numbers_of xs) ≡ true → slice_get xs i ≡ Some x → slice_get xs k ≡ Some y → x.number ≡ y.number → i ≡ k
 number_once xs i k x y d at_i at_k same = place_one (numbers_of xs) i k x.number d (number_at xs i x at_i) (number_at xs k y at_k ∙ ap Some (sym same))
 
@@ -105,7 +105,7 @@ numbers_same (x ∷ xs) (y ∷ ys) s =
     let head : x.number ≡ y.number = sym (s.each 0 x).number in
     ap (λ n. n ∷ numbers_of xs) head ∙ ap (λ ns. y.number ∷ ns) (numbers_same xs ys rest)
 
--- numbers that differ still do where the passes were put in order and bounded
+-- numbers that differ still do after the passes were sorted and bounded
 pub different_then : (made sorted first ready : List Pass) → IsPermutation made sorted → AreSamePasses sorted first → AreSamePasses first ready → are_different (numbers_of made) ≡ true → are_different (numbers_of ready) ≡ true
 different_then made sorted first ready moved same same_too d =
     let moved_numbers : IsPermutation (numbers_of made) (numbers_of sorted) = IsPermutation-map (λ (x : Pass). x.number) made sorted moved in

@@ -1,4 +1,4 @@
--- A list without a fault is a route, and the other way round.
+-- A list without a fault is a route, and the reverse.
 use Rattle.std.proofs.Common.{◌≡◌, ℕ, ◌+◌, max, Bool, true, false, cond, not, eqb, leb, ltb, List, [], ◌∷◌, ◌++◌, length, refl, sym, ap, subst, ◌∙◌, arith, append_assoc}
 use Rattle.std.specs.Prelude.{is_none, IsTrue}
 use Rattle.std.specs.Option.{option_map, option_map_or, option_and_then}
@@ -25,7 +25,7 @@ neither : (o o' : Option HopFault) → fault_or o o' ≡ None → (o ≡ None) �
 neither None o' e = (refl, e)
 neither (Some f) o' e = absurd cc
 
--- no fault is told exactly where no question is answered by one
+-- if there is no fault, no check found one
 none_of_six : (a b c d e f : Bool) (x : ℕ) → cond a (Some (NotChained x)) (cond b (Some (NodeAgain x)) (cond c (Some (NoLight x)) (cond d (Some (TooLate x)) (cond e (Some (AvoidedNode x)) (cond f (Some (TooManyHops x)) None))))) ≡ None
     → (a ≡ false) × (b ≡ false) × (c ≡ false) × (d ≡ false) × (e ≡ false) × (f ≡ false)
 none_of_six true b c d e f x h = absurd cc
@@ -49,7 +49,7 @@ lit_of false f o x e = absurd cc
 lit : (p : ContactPlan) (r : RouteRequest) (t : ℕ) (c : Contact) (x : ℕ) → arrival p r t c ≡ Some x → is_none (light_of p c) ≡ false
 lit p r t c x e = lit_of (ltb (max t c.start) c.end) (λ l. max t c.start + cost r.margin l) (light_of p c) x e
 
--- a hop on from a path has no fault
+-- a hop that continues a path has no fault
 pub hop_is_good : (p : ContactPlan) (r : RouteRequest) (q : List ℕ) (n : ℕ) → IsHop p r q n → fault_at p r q n ≡ None
 hop_is_good p r q n hop =
     let c = hop.contact in
@@ -83,7 +83,7 @@ not_none : {X : Type 0} (o : Option X) → is_none o ≡ false → (x : X) × (o
 not_none None h = absurd cc
 not_none (Some x) h = (x, refl)
 
--- and what has no fault is a hop on
+-- and a number without a fault continues the path
 pub good_is_hop : (p : ContactPlan) (r : RouteRequest) (q : List ℕ) (n : ℕ) → IsTrue (is_path p r q) → fault_at p r q n ≡ None → IsHop p r q n
 good_is_hop p r q n path e =
     elim (contact_named p n) as (λ o. contact_named p n ≡ o → option_map_or (contact_fault p r q) o (Some (NoSuchContact (length q + 1))) ≡ None → IsHop p r q n) [
@@ -116,7 +116,7 @@ good_is_hop p r q n path e =
 
 -- ---- the whole list
 
--- numbers without a fault behind a path make a path, and the other way round
+-- numbers without a fault after a path make a path, and the reverse
 pub good_is_path : (p : ContactPlan) (r : RouteRequest) (q s : List ℕ) → IsTrue (is_path p r q) → first_fault p r q s ≡ None → IsTrue (is_path p r (q ++ s))
 good_is_path p r q [] path e = subst (λ w. IsTrue (is_path p r w)) (sym (append-nil q)) path
 good_is_path p r q (n ∷ s) path e =
@@ -153,7 +153,7 @@ route_has_no_fault p r (n ∷ s) h =
     ∙ ap (λ o. cond (option_map_or (λ b. eqb b r.destination) o false) None (Some WrongEnd)) f.reaches
     ∙ ap (λ b. cond b None (Some WrongEnd)) (eq-eqb r.destination r.destination refl)
 
--- what has a fault is no route
+-- a list with a fault is no route
 pub fault_is_no_route : (p : ContactPlan) (r : RouteRequest) (s : List ℕ) (f : HopFault) → fault_of p r s ≡ Some f → is_route p r s ≡ false
 fault_is_no_route p r s f e = false_from_ne_true (is_route p r s) (λ h. let none = route_has_no_fault p r s h in let no : ⊥ = cc in no)
 

@@ -5,7 +5,7 @@ use Rattle.std.proofs.lemmas.Bool.{or_parts, eqb-true, eq-eqb, both_ways, false_
 use Rattle.std.proofs.lemmas.List.Folds.{list_any_at}
 use Rattle.sabr_model.specs.Plan.{has}
 
--- equality of numbers holds both ways round
+-- equality of numbers is symmetric
 pub eqb_flip : (a b : ℕ) → eqb a b ≡ eqb b a
 eqb_flip a b =
     elim (cases_Bool (eqb a b)) [
@@ -13,11 +13,11 @@ eqb_flip a b =
       | inr f ↦ f ∙ sym (false_from_ne_true (eqb b a) (λ t. both_ways (eqb a b) f (eq-eqb a b (sym (eqb-true b a t)))))
     ]
 
--- what stands at a place is in the list
+-- the number at a place is in the list
 pub has_at : (xs : List ℕ) (k d : ℕ) → k < length xs → has (get_or xs k d) xs ≡ true
 has_at xs k d lt = list_any_at (λ y. eqb (get_or xs k d) y) xs k d lt (eq-eqb (get_or xs k d) (get_or xs k d) refl)
 
--- taking out a number that is not there changes nothing
+-- removing a number that is not there changes nothing
 pub without_absent : (xs : List ℕ) (n : ℕ) → has n xs ≡ false → filter (λ k. not (eqb k n)) xs ≡ xs
 without_absent [] n h = refl
 without_absent (x ∷ xs) n h =

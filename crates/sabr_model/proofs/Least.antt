@@ -1,4 +1,4 @@
--- The least route of a part: what it is, and what tells it.
+-- The least route of a part: what it is, and how it is recognized.
 use Rattle.std.proofs.Common.{◌≡◌, ℕ, true, false, Bool, cond, List, [], ◌∷◌, refl, sym, ap, subst, ◌∙◌, inl, inr, ⊎_elim}
 use Rattle.std.specs.Prelude.{◌⊎◌, IsTrue}
 use Rattle.std.specs.List.{find}
@@ -38,7 +38,7 @@ module _ {X : Type 0} (test : X → Bool) where
         | false ↦ λ w g. ⊎_elim (λ same. both_ways (test y) w (subst (λ z. test z ≡ true) same h)) (λ k. find_none ys t g k h) i
       ] refl e
 
-  -- in a list that rises it is the least
+  -- in a list that rises it is the least that passes
   find_least : (cmp : X → X → Ordering) (xs : List X) (x t : X) → IsStrictlySortedBy cmp xs → find test xs ≡ Some x → IsIn t xs → test t ≡ true → (t ≡ x) ⊎ (cmp x t ≡ Less)
   unfolding IsStrictlySortedBy
   find_least cmp [] x t sorted e i h = absurd i

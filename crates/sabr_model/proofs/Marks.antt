@@ -34,11 +34,11 @@ all_set zero i less = absurd (omega (arith, less))
 all_set (suc count) zero less = refl
 all_set (suc count) (suc i) less = all_set count i (omega (arith, less))
 
--- where all classes are marked, those of any nodes are
+-- if all classes are marked, those of any nodes are
 pub all_marked : (nodes : List ℕ) → AreMarked (replicate 64 true) nodes
 all_marked nodes = λ node there. all_set 64 (node % 64) (mod-lt node (omega arith))
 
--- the one receiver of a chain of one contact is its end
+-- the only receiver of a chain of one contact is its end
 lone_receiver : (p : ContactPlan) (a n node x : ℕ) → chain_end p a (n ∷ []) ≡ Some node → has x (receivers p (n ∷ [])) ≡ true → x ≡ node
 lone_receiver p a n node x chain there =
     let hop = first_hop p a n [] node chain in
@@ -58,12 +58,12 @@ last_receiver p a q n node x chain =
 abbrev to_of : Contact → ℕ
 to_of c = c.to
 
--- a receiver of a list with one number more is one of the list's or one of the number's
+-- a receiver of a list with one more number is the list's or the number's
 either : (p : ContactPlan) (q : List ℕ) (n x : ℕ) → has x (receivers p (q ++ n ∷ [])) ≡ true → (has x (receivers p q) ≡ true) ⊎ (has x (receivers p (n ∷ [])) ≡ true)
 either p q n x there = or_cases (has x (receivers p q)) (has x (receivers p (n ∷ [])))
     (sym (list_any-append (eqb x) (receivers p q) (receivers p (n ∷ []))) ∙ sym (ap (has x) (receivers-append p q (n ∷ []))) ∙ there)
 
--- with the class of a node that alone one number more may add to the receivers
+-- the marks, with the class of the only node that one more number may add to the receivers
 marked_more : (p : ContactPlan) (marks : List Bool) (q : List ℕ) (n node : ℕ) → ((x : ℕ) → has x (receivers p (n ∷ [])) ≡ true → x ≡ node) → length marks ≡ 64 → AreMarked marks (receivers p q) → AreMarked (slice_set marks (node % 64) true) (receivers p (q ++ n ∷ []))
 marked_more p marks q n node alone many so_far = λ x there.
     elim (either p q n x there) [
@@ -73,11 +73,11 @@ marked_more p marks q n node alone many so_far = λ x there.
           ap (λ y. slice_index_or (slice_set marks (node % 64) true) (y % 64) false) same ∙ set_here marks (node % 64) (let less : node % 64 < 64 = mod-lt node (omega arith) in omega (arith, less, many))
     ]
 
--- with the class of the node that one contact more leads to
+-- the marks, with the class of the node that one more contact leads to
 pub marked_on : (p : ContactPlan) (a : ℕ) (marks : List Bool) (q : List ℕ) (n node : ℕ) → chain_end p a (q ++ n ∷ []) ≡ Some node → length marks ≡ 64 → AreMarked marks (receivers p q) → AreMarked (slice_set marks (node % 64) true) (receivers p (q ++ n ∷ []))
 marked_on p a marks q n node chain = marked_more p marks q n node (λ x. last_receiver p a q n node x chain)
 
--- with the class of the receiver of a number's contact
+-- the marks, with the class of the receiver of a number's contact
 pub marked_contact : (p : ContactPlan) (marks : List Bool) (q : List ℕ) (n : ℕ) (c : Contact) → contact_named p n ≡ Some c → length marks ≡ 64 → AreMarked marks (receivers p q) → AreMarked (slice_set marks (c.to % 64) true) (receivers p (q ++ n ∷ []))
 marked_contact p marks q n c named = marked_more p marks q n c.to (λ x there.
     elim (or_cases (eqb x c.to) false (sym (ap (λ o. has x (map to_of (cons_option o []))) named) ∙ there)) [

@@ -1,4 +1,4 @@
--- Chains that can be the beginning of a route: their facts, their beginnings, and one hop more.
+-- Chains that can be the beginning of a route: their facts, their beginnings, and one more hop.
 use Rattle.std.proofs.Common.{◌≡◌, ℕ, ◌<◌, Bool, true, false, cond, ◌&&◌, ◌||◌, not, eqb, leb, List, [], ◌∷◌, ◌++◌, length, refl, sym, ap, ◌∙◌, arith, length-append}
 use Rattle.std.specs.Prelude.{is_some, IsTrue}
 use Rattle.std.specs.List.{list_all}
@@ -43,7 +43,7 @@ path_from_facts p r s h =
     h.allowed)
     (le-leb (length s) r.max_hops h.within)
 
--- a route is a path that ends at the destination and has a hop
+-- a route is a path that has a hop and ends at the destination
 pub route_is_path : (p : ContactPlan) (r : RouteRequest) (s : List ℕ) → IsTrue (is_route p r s) → IsTrue (is_path p r s)
 route_is_path p r s h =
     let f = route_facts p r s h in
@@ -54,14 +54,14 @@ route_from_path p r s h some reaches =
     let f = path_facts p r s h in
     route_from_facts p r s (record { some_hop = some; reaches = reaches; different = f.different; in_time = f.in_time; allowed = f.allowed; within = f.within })
 
--- ---- what stands, as a value
+-- ---- options that have a value
 
--- an option that is there has a value
+-- an option that is not None has a value
 pub value_of : {X : Type 0} (o : Option X) → is_some o ≡ true → (x : X) × (o ≡ Some x)
 value_of None h = absurd cc
 value_of (Some x) h = (x, refl)
 
--- ---- lists one behind the other
+-- ---- joined lists
 
 pub arrival_after-append : (p : ContactPlan) (r : RouteRequest) (t : ℕ) (q s : List ℕ) → arrival_after p r t (q ++ s) ≡ option_and_then (λ u. arrival_after p r u s) (arrival_after p r t q)
 arrival_after-append p r t [] s = refl
@@ -74,12 +74,12 @@ arrival_after-append p r t (n ∷ q) s =
       ]
     ]
 
--- where a function of an option's value is there, so is the option
+-- if a function of an option's value has a result, the option has a value
 before_then : {X Y : Type 0} (f : X → Option Y) (o : Option X) → is_some (option_and_then f o) ≡ true → is_some o ≡ true
 before_then f None h = h
 before_then f (Some x) h = refl
 
--- numbers in front of others are different where all are
+-- if all numbers of a joined list are different, those in front are
 pub different_front : (xs ys : List ℕ) → are_different (xs ++ ys) ≡ true → are_different xs ≡ true
 different_front [] ys d = refl
 different_front (x ∷ xs) ys d =
@@ -103,9 +103,9 @@ beginning_is_path p r q s h =
       within = let w = f.within in omega (arith, length-append q s);
     })
 
--- ---- one hop more
+-- ---- one more hop
 
--- a hop of contact n that goes on from the path q
+-- a hop over contact n that continues the path q
 pub record IsHop (p : ContactPlan) (r : RouteRequest) (q : List ℕ) (n : ℕ) : Type 0 where
   pub contact : Contact
   pub named : contact_named p n ≡ Some contact
@@ -131,18 +131,18 @@ different_push (y ∷ xs) x d new =
     let fresh : has y (xs ++ x ∷ []) ≡ false = list_any-append (eqb y) xs (x ∷ []) ∙ or_from (has y xs) (eqb y x || false) (not-true (has y xs) parts.0) (or_from (eqb y x) false apart refl) in
     and_from (not (has y (xs ++ x ∷ []))) (are_different (xs ++ x ∷ [])) (not_from_false (has y (xs ++ x ∷ [])) fresh) (different_push xs x parts.1 other.1)
 
--- the receivers behind one hop more
+-- the receivers after one more hop
 pub receivers_push : (p : ContactPlan) (q : List ℕ) (n : ℕ) (c : Contact) → contact_named p n ≡ Some c → receivers p (q ++ n ∷ []) ≡ receivers p q ++ c.to ∷ []
 receivers_push p q n c e = receivers-append p q (n ∷ []) ∙ ap (λ w. receivers p q ++ w) (receivers-cons p n [] c e)
 
--- where a chain with one hop more ends
+-- where a chain with one more hop ends
 pub chain_end_push : (p : ContactPlan) (a : ℕ) (q : List ℕ) (n : ℕ) (c : Contact) → contact_named p n ≡ Some c → chain_end p a q ≡ Some c.from → chain_end p a (q ++ n ∷ []) ≡ Some c.to
 chain_end_push p a q n c named e =
     chain_end-append p a q (n ∷ []) ∙ ap (option_and_then (λ b. chain_end p b (n ∷ []))) e
     ∙ ap (option_and_then (λ (d : Contact). cond (eqb d.from c.from) (Some d.to) None)) named
     ∙ ap (λ b. cond b (Some c.to) None) (eq-eqb c.from c.from refl)
 
--- when one hop more arrives
+-- when one more hop arrives
 pub arrival_after_push : (p : ContactPlan) (r : RouteRequest) (t : ℕ) (q : List ℕ) (n : ℕ) (c : Contact) (u v : ℕ) → contact_named p n ≡ Some c → arrival_after p r t q ≡ Some u → arrival p r u c ≡ Some v → arrival_after p r t (q ++ n ∷ []) ≡ Some v
 arrival_after_push p r t q n c u v named e arrives =
     arrival_after-append p r t q (n ∷ []) ∙ ap (option_and_then (λ w. arrival_after p r w (n ∷ []))) e

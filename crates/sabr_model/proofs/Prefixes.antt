@@ -1,4 +1,4 @@
--- Chains that routes may begin with and go on from.
+-- Chains with which routes may begin and continue.
 use Rattle.std.proofs.Common.{◌≡◌, ℕ, false, ◌||◌, not, eqb, List, [], ◌∷◌, ◌++◌, refl, sym, ap, subst, ◌∙◌, arith, length-append, append_assoc}
 use Rattle.std.specs.Prelude.{IsTrue}
 use Rattle.std.specs.Option.{option_and_then}
@@ -17,7 +17,7 @@ pub prefix_is_path : (p : ContactPlan) (r : RouteRequest) (q : List ℕ) → IsT
 unfolding is_prefix
 prefix_is_path p r q h = (and_parts (is_path p r q) (not (has r.destination (receivers p q))) h).0
 
--- it doesn't come by the destination
+-- it doesn't reach the destination
 pub prefix_passes : (p : ContactPlan) (r : RouteRequest) (q : List ℕ) → IsTrue (is_prefix p r q) → has r.destination (receivers p q) ≡ false
 unfolding is_prefix
 prefix_passes p r q h = not-true (has r.destination (receivers p q)) (and_parts (is_path p r q) (not (has r.destination (receivers p q))) h).1
@@ -39,7 +39,7 @@ prefix_is_no_route p r [] h route = empty_route p r route
 prefix_is_no_route p r (n ∷ q) h route =
     both_ways (has r.destination (receivers p (n ∷ q))) (prefix_passes p r (n ∷ q) h) (end_is_received p r.source n q r.destination (route_facts p r (n ∷ q) route).reaches)
 
--- a path of one hop more than a prefix is a route or a prefix
+-- a path of one more hop than a prefix is a route or a prefix
 pub prefix_goes_on : (p : ContactPlan) (r : RouteRequest) (q : List ℕ) (n : ℕ) → IsTrue (is_prefix p r q) → IsTrue (is_path p r (q ++ n ∷ [])) → is_route p r (q ++ n ∷ []) ≡ false → IsTrue (is_prefix p r (q ++ n ∷ []))
 prefix_goes_on p r q n h path none =
     let hop = hop_facts p r q n path in
@@ -69,7 +69,7 @@ beginning_is_prefix p r q n t route =
     reached None f b e = absurd cc
     reached (Some a) f b e = (a, e)
 
--- and with one hop more it is a path
+-- a proper beginning of a route, with the next hop, is a path
 pub beginning_goes_on : (p : ContactPlan) (r : RouteRequest) (q : List ℕ) (n : ℕ) (t : List ℕ) → IsTrue (is_route p r (q ++ n ∷ t)) → IsTrue (is_path p r (q ++ n ∷ []))
 beginning_goes_on p r q n t route =
     beginning_is_path p r (q ++ n ∷ []) t (subst (λ s. IsTrue (is_path p r s)) (sym (append_assoc q (n ∷ []) t)) (route_is_path p r (q ++ n ∷ t) route))

@@ -1,4 +1,4 @@
--- A plan stays a plan behind a range that is not refused, and where that range goes.
+-- A plan with one more range that is not refused is a plan, and the place where that range goes.
 use Rattle.std.proofs.Common.{◌≡◌, ◌≢◌, ℕ, zero, suc, ◌+◌, ◌<◌, ◌≤◌, Bool, true, false, cond, ◌||◌, ◌&&◌, not, eqb, ltb, leb, List, [], ◌∷◌, length, get_or, map, refl, sym, ap, subst, ◌∙◌, arith}
 use Rattle.std.specs.List.{insert, list_any, AllByRecursion}
 use Rattle.std.specs.List.Sorted.{IsStrictlySortedBy}
@@ -17,14 +17,14 @@ use Rattle.sabr_model.specs.Adding.{range_refusal, with_range, by_range_key}
 use Rattle.sabr_model.proofs.Has.{eqb_flip}
 use Rattle.sabr_model.proofs.Ordered.{all_put, sorted_put}
 
--- what an accepted range is
+-- the facts of an accepted range
 pub record IsAcceptedRange (p : ContactPlan) (r : Range) : Type 0 where
   pub window : r.start < r.end
   pub apart : eqb r.one r.other ≡ false
   pub new : list_any (overlap r) p.ranges ≡ false
   pub room : length p.ranges < 20000
 
--- where no refusal comes, each test failed
+-- if there is no refusal, each test failed
 pub choice : (a b c d : Bool) → cond a (Some EmptyWindow) (cond b (Some SelfPair) (cond c (Some RangeOverlap) (cond d (Some TooMany) None))) ≡ None → (a ≡ false) × (b ≡ false) × (c ≡ false) × (d ≡ false)
 choice true b c d e = absurd cc
 choice false true c d e = absurd cc
@@ -32,25 +32,25 @@ choice false false true d e = absurd cc
 choice false false false true e = absurd cc
 choice false false false false e = (refl, refl, refl, refl)
 
--- what is known of a range that is not refused
+-- a range that is not refused has these facts
 pub accepted_range : (p : ContactPlan) (r : Range) → range_refusal p r ≡ None → IsAcceptedRange p r
 accepted_range p r e =
     let parts = choice (leb r.end r.start) (eqb r.one r.other) (list_any (overlap r) p.ranges) (leb 20000 (length p.ranges)) e in
     record { window = leb-false r.end r.start parts.0; apart = parts.1; new = parts.2; room = leb-false 20000 (length p.ranges) parts.3 }
 
--- and, the other way round
+-- and is commutative
 and_swap : (a b : Bool) → (a && b) ≡ (b && a)
 and_swap true true = refl
 and_swap true false = refl
 and_swap false true = refl
 and_swap false false = refl
 
--- and, grouped the other way
+-- and is associative
 and_assoc : (a b c : Bool) → ((a && b) && c) ≡ (a && (b && c))
 and_assoc true b c = refl
 and_assoc false b c = refl
 
--- overlap holds both ways round
+-- overlap is symmetric
 overlap_flip : (a b : Range) → overlap a b ≡ overlap b a
 overlap_flip a b =
     ap (λ x. x && eqb a.other b.other && ltb a.start b.end && ltb b.start a.end) (eqb_flip a.one b.one)
@@ -70,7 +70,7 @@ module _ {X : Type 0} (cmp : X → X → Ordering) where
         | Greater ↦ or_from (p y) (list_any p (put_in cmp x ys)) parts.0 (any_put p x ys one parts.1)
       ]
 
-  -- where no two pass a test, none do behind an element that passes with none
+  -- if no two elements pass a test, no two do after putting in one that passes with none
   none_twice-put : (same : X → X → Bool) → ((x y : X) → same x y ≡ same y x) → (x : X) (ys : List X) → none_twice same ys ≡ true → list_any (same x) ys ≡ false → none_twice same (put_in cmp x ys) ≡ true
   none_twice-put same flips x [] none new = refl
   none_twice-put same flips x (y ∷ ys) none new =
@@ -84,14 +84,14 @@ module _ {X : Type 0} (cmp : X → X → Ordering) where
             (none_twice-put same flips x ys parts.1 other.1)
       ]
 
-  -- a put adds one at most
+  -- a put adds at most one element
   length-put_le : (x : X) (ys : List X) → length (put_in cmp x ys) ≤ length ys + 1
   length-put_le x [] = omega arith
   length-put_le x (y ∷ ys) =
       let rest = length-put_le x ys in
       elim (cmp x y) as (λ o. length (elim o as (λ _. List X) [ Less ↦ x ∷ y ∷ ys | Equal ↦ y ∷ ys | Greater ↦ y ∷ put_in cmp x ys ]) ≤ length (y ∷ ys) + 1) [ Less ↦ omega arith | Equal ↦ omega arith | Greater ↦ omega (arith, rest) ]
 
-  -- an insert behind all that come before x, and before one that comes behind it
+  -- an insert after all elements that come before x, and before one that comes after it, is a put
   pub insert_is_put : (x : X) (ys : List X) (i : ℕ) → i ≤ length ys → ((k : ℕ) → k < i → cmp x (get_or ys k x) ≡ Greater) → (i < length ys → cmp x (get_or ys i x) ≡ Less) → insert ys i x ≡ put_in cmp x ys
   insert_is_put x [] zero le before at = refl
   insert_is_put x [] (suc i) le before at = absurd (omega arith)
@@ -100,7 +100,7 @@ module _ {X : Type 0} (cmp : X → X → Ordering) where
       ap (λ zs. y ∷ zs) (insert_is_put x ys i (omega arith) (λ k lt. before (suc k) (omega arith)) (λ lt. at (omega arith)))
       ∙ ap (λ o. elim o as (λ _. List X) [ Less ↦ x ∷ y ∷ ys | Equal ↦ y ∷ ys | Greater ↦ y ∷ put_in cmp x ys ]) (sym (before zero (omega arith)))
 
--- the keys behind a put
+-- the keys after a put
 keys-put : (r : Range) (rs : List Range) → map range_key (put_in by_range_key r rs) ≡ put_in by_numbers (range_key r) (map range_key rs)
 keys-put r [] = refl
 keys-put r (s ∷ rs) =
@@ -110,7 +110,7 @@ keys-put r (s ∷ rs) =
       | Greater ↦ ap (λ ks. range_key s ∷ ks) (keys-put r rs)
     ]
 
--- a plan with one range more that is not refused is a plan
+-- a plan with one more range that is not refused is a plan
 pub IsPlan-range : (p : ContactPlan) (r : Range) → IsPlan p → IsNode r.one → IsNode r.other → r.end ≤ last_time → r.light ≤ 1000000 → range_refusal p r ≡ None → IsPlan (with_range p r)
 IsPlan-range p r h one other ends light accept =
     let a = accepted_range p r accept in
@@ -130,7 +130,7 @@ IsPlan-range p r h one other ends light accept =
       range_count = let most = length-put_le by_range_key r p.ranges in let room = a.room in omega (arith, most, room);
     }
 
--- ranges of one key overlap, where neither is empty
+-- ranges of one key overlap if neither is empty
 pub same_key_overlaps : (r s : Range) → r.start < r.end → s.start < s.end → by_range_key r s ≡ Equal → overlap r s ≡ true
 same_key_overlaps r s a b e =
     let same : range_key r ≡ range_key s = slice_cmp-IsAntisymmetric nat_cmp-IsAntisymmetric (range_key r) (range_key s) e in
@@ -143,13 +143,13 @@ same_key_overlaps r s a b e =
     (lt-ltb r.start s.end (omega (arith, start, b))))
     (lt-ltb s.start r.end (omega (arith, start, a)))
 
--- what holds of all holds at each place
+-- what holds for all elements holds at each place
 pub all_at : {X : Type 0} (P : X → Type 0) (xs : List X) (i : ℕ) (d : X) → AllByRecursion P xs → i < length xs → P (get_or xs i d)
 all_at P [] i d all lt = absurd (omega arith)
 all_at P (x ∷ xs) zero d all lt = all.0
 all_at P (x ∷ xs) (suc i) d all lt = all_at P xs i d all.1 (omega arith)
 
--- neither greater nor equal is less
+-- an ordering that is neither greater nor equal is less
 order_left : (o : Ordering) → o ≢ Greater → o ≢ Equal → o ≡ Less
 order_left Less a b = refl
 order_left Equal a b = absurd (b refl)

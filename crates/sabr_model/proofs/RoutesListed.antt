@@ -1,4 +1,4 @@
--- The list of all routes has exactly the routes, each once, and their keys rise strictly.
+-- The list of all routes holds exactly the routes, each once, and their keys rise strictly.
 use Rattle.std.specs.List.{filter}
 use Rattle.sabr_model.specs.Order.{same_numbers}
 use Rattle.sabr_model.specs.Route.{is_route, by_key}

@@ -1,4 +1,4 @@
--- The worked plans keep what every plan keeps, and the worked requests are accepted.
+-- The worked plans obey the rules of plans, and the worked requests are accepted.
 use Rattle.std.specs.Prelude.{[], ◌∷◌}
 use Rattle.std.proofs.Common.{refl, rules, arith}
 use Rattle.std.specs.List.Sorted.{IsStrictlySortedBy}

@@ -1,4 +1,4 @@
--- One step on the table of nodes: a node found, a node more, and a list written at an index.
+-- One step on the table of nodes: a node found, one more node, and a list written at an index.
 use Rattle.std.proofs.Common.{◌≡◌, ℕ, zero, suc, Bool, true, false, cond, eqb, List, [], ◌∷◌, ◌++◌, length, position, refl, sym, ap, subst, ◌∙◌}
 use Rattle.std.specs.Prelude.{nat_eq, slice_get, is_some, MatchOption, unwrap_or, Vec}
 use Rattle.std.specs.List.{IsDistinct}
@@ -20,15 +20,15 @@ use Rattle.sabr_model.proofs.Tabled.{index_tells}
 pub found_at : (xs : List ℕ) (n k : ℕ) → Some k ≡ position (nat_eq n) xs → slice_get xs k ≡ Some n
 found_at xs n k e = subst (λ (o : Option ℕ). MatchOption o (has n xs ≡ false) (λ i. slice_get xs i ≡ Some n)) (sym e) (index_tells xs n)
 
--- ---- a node more
+-- ---- one more node
 
--- nodes keep their places before one more
+-- nodes keep their places if one more is added
 places_push : (xs : List ℕ) (n : ℕ) → KeepsPlaces xs (xs ++ n ∷ [])
 places_push [] n k m e = absurd cc
 places_push (x ∷ xs) n zero m e = e
 places_push (x ∷ xs) n (suc k) m e = places_push xs n k m e
 
--- and it stands behind them
+-- the node that is added is after the others
 last_at : (xs : List ℕ) (n : ℕ) → slice_get (xs ++ n ∷ []) (length xs) ≡ Some n
 last_at [] n = refl
 last_at (x ∷ xs) n = last_at xs n
@@ -37,7 +37,7 @@ keys_push : {V : Type 0} (es : List (ℕ × V)) (n : ℕ) (v : V) → keys_of (e
 keys_push [] n v = refl
 keys_push (e ∷ es) n v = ap (λ ks. e.0 ∷ ks) (keys_push es n v)
 
--- where there is nothing, it is none
+-- if an option has no value, it is None
 none_there : {X : Type 0} (o : Option X) → false ≡ is_some o → o ≡ None
 none_there None e = refl
 none_there (Some x) e = absurd cc
@@ -50,7 +50,7 @@ module _ {V S : Type 0} (table new : IndexMap ℕ V S) (n : ℕ) (v : V) (missin
   pub new_places : KeepsPlaces (keys table) (keys new)
   new_places = subst (KeepsPlaces (keys table)) (sym new_keys) (places_push (keys table) n)
 
-  -- and the new node goes behind them
+  -- and the new node is added after them
   pub new_at : (k : ℕ) → k ≡ index_map_len table → slice_get (keys new) k ≡ Some n
   new_at k e =
       ap (λ xs. slice_get xs k) new_keys
@@ -59,19 +59,19 @@ module _ {V S : Type 0} (table new : IndexMap ℕ V S) (n : ℕ) (v : V) (missin
 
 -- ---- a list written at an index
 
--- a key and a value of one index are an entry
+-- a key and a value at one index are an entry
 entry_at : {V : Type 0} (es : List (ℕ × V)) (i n : ℕ) (v : V) → slice_get (keys_of es) i ≡ Some n → Some v ≡ slice_get (values_of es) i → slice_get es i ≡ Some (n, v)
 entry_at [] i n v key value = absurd cc
 entry_at (e ∷ es) zero n v key value = let a : e.0 ≡ n = cc in let b : e.1 ≡ v = cc in (λ j. Some (a j, b j))
 entry_at (e ∷ es) (suc i) n v key value = entry_at es i n v key value
 
--- where there is a key there is a value
+-- if there is a key there is a value
 pub value_there : {V : Type 0} (es : List (ℕ × V)) (i n : ℕ) → slice_get (keys_of es) i ≡ Some n → None ≡ slice_get (values_of es) i → ⊥
 value_there [] i n key value = absurd cc
 value_there (e ∷ es) zero n key value = absurd cc
 value_there (e ∷ es) (suc i) n key value = value_there es i n key value
 
--- no two nodes are the same behind a write
+-- no two nodes are the same after a write
 pub unique_kept : {V S : Type 0} (table : IndexMap ℕ V S) (i : ℕ) (w : V) → IsUnique nat_eq table → IsUnique nat_eq (with_value_at table i w)
 unique_kept table i w unique = subst (IsDistinct nat_eq) (sym (keys-with_value_at table i w)) unique
 
@@ -79,7 +79,7 @@ module _ {A S : Type 0} (table : IndexMap ℕ (Vec ℕ A) S) (i node : ℕ) (v w
   written : (q : ℕ) → get nat_eq (with_value_at table i w) q ≡ cond (eqb node q) (Some w) (get nat_eq table q)
   written = (updates-with_value_at table i w nat_eq_equiv unique node v (entry_at table.entries i node v key value)).0
 
-  -- a number behind the others of the node
+  -- a number added after the node's others
   pub list_pushed : (number : ℕ) → w.items ≡ v.items ++ number ∷ [] → (q : ℕ) → list_at (with_value_at table i w) q ≡ with_number (list_at table q) (eqb q node) number
   list_pushed number more q = by (eqb q node) refl
     where
@@ -91,7 +91,7 @@ module _ {A S : Type 0} (table : IndexMap ℕ (Vec ℕ A) S) (i node : ℕ) (v w
           ∙ ap (λ (o : Option (Vec ℕ A)). Some (unwrap_or (option_map (λ x. x.items) o) [] ++ number ∷ [])) (sym held)
       by false e = ap (option_map (λ (x : Vec ℕ A). x.items)) (written q ∙ ap (λ b. cond b (Some w) (get nat_eq table q)) (eqb_flip node q ∙ e))
 
-  -- and the same numbers again
+  -- and the same numbers as before
   pub list_kept : w.items ≡ v.items → (q : ℕ) → list_at (with_value_at table i w) q ≡ list_at table q
   list_kept same q = by (eqb q node) refl
     where

@@ -39,7 +39,7 @@ is_tabled p table h = record { nodes = λ q. has_node p.contacts table q h; once
 
 -- ---- the place of a node
 
--- where nothing is found, none passes
+-- if nothing is found, no element passes
 none_any : {X : Type 0} (p : X → Bool) (xs : List X) → find p xs ≡ None → list_any p xs ≡ false
 none_any p [] e = refl
 none_any p (x ∷ xs) e =
@@ -48,7 +48,7 @@ none_any p (x ∷ xs) e =
       | false ↦ λ h. none_any p xs h
     ] e
 
--- a place that is found holds the node, and none means that it is missing
+-- a place that is found holds the node, and None means that the node is missing
 pub index_tells : (xs : List ℕ) (n : ℕ) → MatchOption (position (nat_eq n) xs) (has n xs ≡ false) (λ k. slice_get xs k ≡ Some n)
 index_tells xs n = by (position (nat_eq n) xs) refl
   where
@@ -71,7 +71,7 @@ index_of_member xs n (Some k) h there = h
 
 -- ---- the contacts that a node sends
 
--- a number sent is that of a contact of that sender
+-- a number that a node sends is that of a contact of this sender
 pub sent_number : (low : ℕ) (cs : List Contact) (q n : ℕ) → rises_above low (map (λ d. d.number) cs) ≡ true → has n (sent_by cs q) ≡ true → (c : Contact) × (find (λ d. eqb d.number n) cs ≡ Some c) × (c.from ≡ q)
 sent_number low [] q n rises h = absurd cc
 sent_number low (x ∷ cs) q n rises h =
@@ -93,7 +93,7 @@ sent_number low (x ∷ cs) q n rises h =
       | false ↦ λ e g. rest g
     ] refl h
 
--- and the number of a contact of that sender is sent
+-- and a node sends the number of each contact of which it is the sender
 pub number_sent : (cs : List Contact) (n : ℕ) (c : Contact) → find (λ d. eqb d.number n) cs ≡ Some c → has n (sent_by cs c.from) ≡ true
 number_sent [] n c found = absurd cc
 number_sent (x ∷ cs) n c found =
@@ -123,7 +123,7 @@ different_rising low (c ∷ cs) rises =
     let rest = map (λ (d : Contact). d.number) cs in
     and_from (not (has c.number rest)) (are_different rest) (not_from_false (has c.number rest) (below_all c.number cs (all_above c.number cs parts.1))) (different_rising c.number cs parts.1)
 
--- a number that none has, none of fewer has
+-- if no contact has a number, none of a filtered list has it
 has_fewer : (n : ℕ) (t : Contact → Bool) (cs : List Contact) → has n (map (λ d. d.number) cs) ≡ false → has n (map (λ d. d.number) (filter t cs)) ≡ false
 has_fewer n t [] none = refl
 has_fewer n t (c ∷ cs) none =
@@ -134,7 +134,7 @@ has_fewer n t (c ∷ cs) none =
       | false ↦ rest
     ]
 
--- fewer of different numbers are different
+-- some of different numbers are different
 different_fewer : (t : Contact → Bool) (cs : List Contact) → are_different (map (λ d. d.number) cs) ≡ true → are_different (map (λ d. d.number) (filter t cs)) ≡ true
 different_fewer t [] d = refl
 different_fewer t (c ∷ cs) d =
@@ -158,13 +158,13 @@ are_sent p q h =
       few = omega arith;
     }
 
--- what stands at a place is in the list
+-- the number at a place is in the list
 pub has_place : (xs : List ℕ) (k n : ℕ) → slice_get xs k ≡ Some n → has n xs ≡ true
 has_place [] k n e = absurd cc
 has_place (x ∷ xs) zero n e = let same : n ≡ x = cc in or_left (eqb n x) (has n xs) (eq-eqb n x same)
 has_place (x ∷ xs) (suc k) n e = or_right (eqb n x) (has n xs) (has_place xs k n e)
 
--- a node stands at one place of the table
+-- a node is at only one place of the table
 pub place_one : (xs : List ℕ) (i j n : ℕ) → are_different xs ≡ true → slice_get xs i ≡ Some n → slice_get xs j ≡ Some n → i ≡ j
 place_one [] i j n d a b = absurd cc
 place_one (x ∷ xs) zero zero n d a b = refl

@@ -1,4 +1,4 @@
--- What the record of a list tells where the list gets one number more.
+-- What the record of a list holds after one more number.
 use Rattle.std.proofs.Common.{◌≡◌, ℕ, suc, true, false, arith, min, List, [], ◌∷◌, ◌++◌, length, refl, sym, ap, ◌∙◌, true≢false, Option, Some, None}
 use Rattle.std.specs.Prelude.{◌==◌}
 use Rattle.std.specs.List.{fold, cons_option}
@@ -32,7 +32,7 @@ module _ (p : ContactPlan) (n : ℕ) where
   entry_kept [] h = absurd (true≢false h)
   entry_kept (x ∷ s) h = refl
 
-  -- no contact
+  -- the number has no contact
   pub told_none : (s : List ℕ) → contact_named p n ≡ None → told_of p s ≡ told_of p (s ++ n ∷ [])
   told_none s named =
       let until = until_more s None named in
@@ -43,7 +43,7 @@ module _ (p : ContactPlan) (n : ℕ) where
       none [] = ap (λ o. option_map_or (λ (c : Contact). c.to) o 0) named
       none (x ∷ s) = refl
 
-  -- a contact
+  -- the number has a contact, and the list was empty
   pub told_first : (s : List ℕ) (c : Contact) → contact_named p n ≡ Some c → (length s == 0) ≡ true → record { until = min (until_of p s) c.end; entry = c.to } ≡ told_of p (s ++ n ∷ [])
   told_first s c named h = λ i. record { until = sym (until_more s (Some c) named) i; entry = sym (entry_first s (Some c) named h) i }
 

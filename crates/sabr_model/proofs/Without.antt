@@ -1,4 +1,4 @@
--- The contacts without one of them, and the table of nodes behind its deletion.
+-- The contacts without one of them, and the table of nodes after its deletion.
 use Rattle.std.proofs.Common.{◌≡◌, ℕ, ◌<◌, Bool, true, false, cond, ◌||◌, ◌&&◌, not, eqb, ltb, List, [], ◌∷◌, map, refl, sym, ap, subst, ◌∙◌, arith}
 use Rattle.std.specs.Prelude.{nat_eq, Vec}
 use Rattle.std.specs.List.{filter, find, list_any, AllByRecursion}
@@ -24,7 +24,7 @@ all_above low (x ∷ cs) rises =
     weaker [] all lt = tt
     weaker (d ∷ ds) all lt = (let one : x.number < d.number = all.0 in omega (arith, one, lt), weaker ds all.1 lt)
 
--- each contact of the number is this one
+-- each contact with the number is this one
 abbrev pub IsOne : Contact → ℕ → List Contact → Type 0
 IsOne c n cs = AllByRecursion (λ d. eqb d.number n ≡ true → d ≡ c) cs
 
@@ -63,7 +63,7 @@ absent_sent c n (x ∷ cs) q one ne = by (absent_sent c n cs q one.1 ne) (eqb q 
         ap (λ b. has n (map (λ (d : Contact). d.number) (cond b (x ∷ filter (λ d. eqb q d.from) cs) (filter (λ d. eqb q d.from) cs)))) e
         ∙ rest
 
--- any node but its two is in use as before
+-- every node except its two is in use as before
 pub ends_kept : (c : Contact) (n : ℕ) (cs : List Contact) (q : ℕ) → IsOne c n cs → eqb q c.from ≡ false → eqb q c.to ≡ false → has q (ends_of (without_number n cs)) ≡ has q (ends_of cs)
 ends_kept c n [] q one f t = refl
 ends_kept c n (x ∷ cs) q one f t = by (ends_kept c n cs q one.1 f t) (eqb x.number n) refl
@@ -79,7 +79,7 @@ ends_kept c n (x ∷ cs) q one f t = by (ends_kept c n cs q one.1 f t) (eqb x.nu
         ap (λ b. has q (ends_of (cond (not b) (x ∷ without_number n cs) (without_number n cs)))) e
         ∙ ap (λ b. eqb q x.from || (eqb q x.to || b)) rest
 
--- a test of each contact for its number and its nodes
+-- testing each contact for its number and its nodes tests whether a node is in use without that number
 pub in_use_is : (n q : ℕ) (cs : List Contact) → list_any (λ d. not (eqb d.number n) && (eqb q d.from || eqb q d.to)) cs ≡ has q (ends_of (without_number n cs))
 in_use_is n q [] = refl
 in_use_is n q (x ∷ cs) =
@@ -130,17 +130,17 @@ sent_by-without (x ∷ cs) n q =
 
 -- ---- the table
 
--- a node that is both sender and receiver goes once
+-- a node that is both sender and receiver is removed once
 two : {X : Type 0} (u : Bool) (x : X) → cond (not u) None (cond (not u) None (Some x)) ≡ then_some u x
 two true x = refl
 two false x = refl
 
--- a node goes unless it is used
+-- a node is removed unless it is used
 once_gone : {X : Type 0} (u : Bool) (x : X) → cond (not u) None (Some x) ≡ then_some u x
 once_gone true x = refl
 once_gone false x = refl
 
--- what is left under a node: is_from and is_to say whether it is the contact's sender or receiver
+-- what is left for a node: is_from and is_to say whether it is the contact's sender or receiver
 left : (is_from is_to from_used to_used used was : Bool) (f : List ℕ → List ℕ) (xs : List ℕ)
     → (is_from ≡ true → from_used ≡ used) → (is_to ≡ true → to_used ≡ used) → (is_from ≡ true → was ≡ true) → (is_to ≡ true → was ≡ true) → (is_from ≡ false → is_to ≡ false → used ≡ was)
     → cond (is_to && not to_used) None (cond (is_from && not from_used) None (cond is_from (option_map f (then_some was xs)) (then_some was xs))) ≡ then_some used (cond is_from (f xs) xs)
@@ -155,7 +155,7 @@ left false true from_used to_used used was f xs a b c d e =
     rw (q, r) (once_gone used xs)
 left false false from_used to_used used was f xs a b c d e = ap (λ u. then_some u xs) (sym (e refl refl))
 
--- the table behind a deletion
+-- the table after a deletion
 pub IsTableOf-without : {S A : Type 0} (low : ℕ) (cs : List Contact) (c : Contact) (t0 t1 t2 t3 : IndexMap ℕ (Vec ℕ A) S) (from_used to_used : Bool)
     → rises_above low (map (λ d. d.number) cs) ≡ true → find (λ d. eqb d.number c.number) cs ≡ Some c → IsTableOf cs t0 → IsUnique nat_eq t3
     → from_used ≡ has c.from (ends_of (without_number c.number cs)) → to_used ≡ has c.to (ends_of (without_number c.number cs))

@@ -1,16 +1,16 @@
--- Texts that are written in turn: what their callers have of the whole text.
+-- Texts that are written in turn, and what this says about the joined text.
 use Rattle.std.proofs.Common.{◌≡◌, ℕ, ◌+◌, List, [], ◌++◌, Result, Ok, Err, refl, ap, ◌∙◌, sym, append_assoc, append-nil, Option, Some, None}
 use Rattle.std.specs.Io.KnownBytes.{Appends, Keeps}
 use Rattle.std.proofs.KnownBytes.{Appends-nil, Appends-trans}
 use Rattle.sabr_model.specs.Devices.{AppendsBeginning, Written, WrittenInPart, WritesText}
 
--- no byte more keeps the bytes
+-- adding no bytes keeps the bytes
 pub Keeps-nil : (a b : Option (List ℕ)) → Appends a b [] → Keeps a b
 Keeps-nil None b p = tt
 Keeps-nil (Some a) None p = absurd p
 Keeps-nil (Some a) (Some b) p = p ∙ append-nil a
 
--- a beginning of the second text, behind the first
+-- a beginning of the second text, after the first
 pub AppendsBeginning-after : (a b c : Option (List ℕ)) (xs ys : List ℕ) → Appends a b xs → AppendsBeginning b c ys → AppendsBeginning a c (xs ++ ys)
 AppendsBeginning-after a b c xs ys p (front, back, q) =
     (xs ++ front, (back.0, ap (λ zs. xs ++ zs) back.1 ∙ sym (append_assoc xs front back.0)), Appends-trans a b c xs front p q)
@@ -28,7 +28,7 @@ Written-nil a k = (Appends-nil a, refl)
 pub Written-append : (a b c : Option (List ℕ)) (k m n : ℕ) (xs ys : List ℕ) → Written a k xs b m → Written b m ys c n → Written a k (xs ++ ys) c n
 Written-append a b c k m n xs ys p q = (Appends-trans a b c xs ys p.0 q.0, q.1 ∙ p.1)
 
--- the first text is written, and then the second is, or fails
+-- the first text is written, and then the second is written or fails
 pub WritesText-after : {A E : Type 0} (a b c : Option (List ℕ)) (k m n : ℕ) (xs ys : List ℕ) (r : Result A E)
     → Written a k xs b m → WritesText b m ys r c n → WritesText a k (xs ++ ys) r c n
 WritesText-after a b c k m n xs ys (Ok _) p q = Written-append a b c k m n xs ys p q

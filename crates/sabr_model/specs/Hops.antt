@@ -7,7 +7,7 @@ use Rattle.sabr_model.specs.declared.hop.Hop.{Hop}
 use Rattle.sabr_model.specs.Plan.{last_time, most_light}
 use Rattle.sabr_model.specs.Arrival.{cost}
 
--- the arrival over the hop, with a margin in parts in a million, of what is at its sender at t
+-- the arrival over the hop, with a margin in parts per million, of a bundle that is at its sender at t
 abbrev pub hop_arrival : ℕ → ℕ → Hop → Option ℕ
 hop_arrival margin t h = if nat_lt (max t h.start) h.end then option_map (λ l. max t h.start + cost margin l) h.light else None
 

@@ -11,7 +11,7 @@ use Rattle.sabr_model.specs.Route.{is_route, by_key}
 use Rattle.sabr_model.specs.Fault.{fault_of}
 use Rattle.sabr_model.specs.Listing.{candidates, routes}
 
--- whoever is at the sender earlier arrives, and no later
+-- a bundle that is at the sender earlier also arrives, and no later
 abbrev pub ArrivalIsMonotone : Type 0
 ArrivalIsMonotone =
     (p : ContactPlan) (r : RouteRequest) (c : Contact) (t u x : ℕ) → t ≤ u → arrival p r u c ≡ Some x
@@ -22,7 +22,7 @@ abbrev pub NoRouteBeginsAnother : Type 0
 NoRouteBeginsAnother =
     (p : ContactPlan) (r : RouteRequest) (s t : List ℕ) → IsTrue (is_route p r s) → IsTrue (is_route p r (s ++ t)) → t ≡ []
 
--- a list has no fault exactly where it is a route
+-- a list has no fault if and only if it is a route
 abbrev pub FaultsTellRoutes : Type 0
 FaultsTellRoutes = (p : ContactPlan) (r : RouteRequest) (s : List ℕ) → (fault_of p r s ≡ None) ↔ IsTrue (is_route p r s)
 
@@ -31,16 +31,16 @@ pub record IsListOfCandidates (n : ℕ) : Type 0 where
   pub members : (s : List ℕ) → Contains (candidates n) s ↔ (IsTrue (are_different s) × AllByRecursion (λ m. (0 < m) × (m ≤ n)) s)
   pub once : IsTrue (none_twice same_numbers (candidates n))
 
--- that, for every n
+-- the same, for every n
 abbrev pub CandidatesAreListed : Type 0
 CandidatesAreListed = (n : ℕ) → IsListOfCandidates n
 
--- the list of all routes has exactly the routes, each once, and their keys rise strictly
+-- the list of all routes holds exactly the routes, each once, and their keys rise strictly
 pub record IsListOfRoutes (p : ContactPlan) (r : RouteRequest) : Type 0 where
   pub members : (s : List ℕ) → Contains (routes p r) s ↔ IsTrue (is_route p r s)
   pub once : IsTrue (none_twice same_numbers (routes p r))
   pub rising : IsStrictlySortedBy (by_key p r) (routes p r)
 
--- that, for every contact plan and request
+-- the same, for every contact plan and request
 abbrev pub RoutesAreListed : Type 0
 RoutesAreListed = (p : ContactPlan) (r : RouteRequest) → IsPlan p → IsListOfRoutes p r

@@ -7,13 +7,13 @@ use Rattle.sabr_model.specs.Order.{by_numbers}
 use Rattle.sabr_model.specs.declared.contact.Contact.{Contact}
 use Rattle.sabr_model.specs.declared.contact.Range.{Range}
 
--- the contacts and ranges that stand, and the greatest number that a contact was ever given, 0 at first
+-- the standing contacts and ranges, and the greatest number ever assigned to a contact, 0 at first
 pub record ContactPlan : Type 0 where
   pub contacts : List Contact
   pub ranges : List Range
   pub greatest : ℕ
 
--- a plan as its callers see it: what stands, and the nodes that send or receive a standing contact, each
+-- a plan as its callers see it: its contacts and ranges, and the nodes that send or receive a standing contact, each
 -- once, in the order of their table
 pub record TabledPlan : Type 0 where
   pub plan : ContactPlan
@@ -31,7 +31,7 @@ most_records = 20000
 abbrev pub most_light : ℕ
 most_light = 1000000
 
--- the standing contact of a number
+-- the standing contact with this number
 abbrev pub contact_named : ContactPlan → ℕ → Option Contact
 contact_named p n = find (λ c. c.number == n) p.contacts
 
@@ -44,12 +44,12 @@ rises_above low (x ∷ xs) = nat_lt low x && rises_above x xs
 abbrev pub has : ℕ → List ℕ → Bool
 has x ys = list_any (λ y. x == y) ys
 
--- no number stands twice
+-- no number occurs twice
 abbrev pub are_different : List ℕ → Bool
 are_different [] = true
 are_different (x ∷ xs) = not (has x xs) && are_different xs
 
--- from a start up to, and without, an end that is behind it and not above the greatest time
+-- from a start up to, and without, an end that is after it and not above the greatest time
 abbrev pub IsWindow : ℕ → ℕ → Type 0
 IsWindow start end = (start < end) × (end ≤ last_time)
 
@@ -78,12 +78,12 @@ abbrev pub none_twice : {X : Type 0} → (X → X → Bool) → List X → Bool
 none_twice same [] = true
 none_twice same (x ∷ xs) = not (list_any (same x) xs) && none_twice same xs
 
--- ranges rise by their pair of nodes and then by their start
+-- the key of a range: its pair of nodes, then its start
 abbrev pub range_key : Range → List ℕ
 range_key r = r.one ∷ r.other ∷ r.start ∷ []
 
--- what every plan keeps: windows and nodes that are good, numbers that rise up to the greatest given, no
--- opening of a contact twice, ranges in order and apart, and the limits (this project's profile of ionrc(5))
+-- what holds for every plan: valid windows and nodes, numbers that rise up to the greatest assigned, no two contacts
+-- with one opening, ranges in order that don't overlap, and the limits (this project's profile of ionrc(5))
 pub record IsPlan (p : ContactPlan) : Type 0 where
   pub contact_windows : AllByRecursion (λ c. IsWindow c.start c.end) p.contacts
   pub contact_nodes : AllByRecursion (λ c. IsPair c.from c.to) p.contacts

@@ -19,7 +19,7 @@ pub record IsHopOf (p : TabledPlan) (c : Contact) (h : Hop) : Type 0 where
   pub receiver : slice_get p.table h.receiver ≡ Some c.to
   pub light : h.light ≡ light_of p.plan c
 
--- the hop is that of the standing contact of a number
+-- the hop is that of the standing contact with this number
 pub record IsHopNamed (p : TabledPlan) (n : ℕ) (h : Hop) : Type 0 where
   pub contact : Contact
   pub named : contact_named p.plan n ≡ Some contact

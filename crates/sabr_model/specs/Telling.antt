@@ -1,4 +1,4 @@
--- What the record of a list of numbers tells beside them and their delivery.
+-- What the record of a list of numbers holds besides them and their delivery.
 use Rattle.std.specs.Prelude.{ℕ, List}
 use Rattle.sabr_model.specs.Plan.{ContactPlan}
 use Rattle.sabr_model.specs.Route.{until_of, entry_of}

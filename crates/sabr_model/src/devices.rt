@@ -1,4 +1,4 @@
-//! Readers and writers whose contracts tell the bytes that move and how often they failed.
+//! Readers and writers whose contracts state which bytes move and how often a device has failed.
 
 mod flush_mark;
 mod std_device;

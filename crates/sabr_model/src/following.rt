@@ -12,16 +12,16 @@ use crate::plan::Plan;
 use crate::request::Request;
 use std::alloc::Allocator;
 
-/// Where a bundle is, and since when.
+/// A node that a bundle has reached, and when.
 #[derive(Clone, Copy, Debug, PartialEq, Eq)]
 pub struct Reached {
-    /// The node that has it.
+    /// The node where the bundle is.
     pub node: u64,
-    /// The second of its arrival there, since 1970-01-01T00:00:00Z.
+    /// The second of its arrival there, in seconds since 1970-01-01T00:00:00Z.
     pub at: u64,
 }
 
-/// Tells whether the contact of a number is received by the node.
+/// Returns true if the node receives the contact with this number.
 fn receives<A: Allocator + Copy>(plan: &Plan<A>, number: u32, node: u64) -> bool
     ensures { result ≡ receives plan.now.plan node number }
 {
@@ -31,7 +31,7 @@ fn receives<A: Allocator + Copy>(plan: &Plan<A>, number: u32, node: u64) -> bool
     }
 }
 
-/// Tells whether one of these contacts is received by the node.
+/// Returns true if the node receives one of these contacts.
 fn is_received<A: Allocator + Copy>(plan: &Plan<A>, numbers: &[u32], node: u64) -> bool
     ensures { result ≡ has node (receivers plan.now.plan numbers.now) }
 {
@@ -43,7 +43,7 @@ fn is_received<A: Allocator + Copy>(plan: &Plan<A>, numbers: &[u32], node: u64) 
     false
 }
 
-/// Tells whether one of these contacts, of whose receivers the classes are marked, is received by the node.
+/// Returns true if the node receives one of these contacts, the classes of whose receivers are marked.
 fn is_again<A: Allocator + Copy>(
     plan: &Plan<A>,
     marks: &[bool; 64],
@@ -56,7 +56,7 @@ fn is_again<A: Allocator + Copy>(
     marks[(node % 64) as usize] && is_received(plan, numbers, node)
 }
 
-/// Gives one hop more, behind those in `front`, which have no fault and lead to `here`.
+/// Adds a hop after those in `front`, which have no fault and lead to `here`.
 fn take_hop<A: Allocator + Copy>(
     plan: &Plan<A>,
     request: &Request,
@@ -100,19 +100,18 @@ fn take_hop<A: Allocator + Copy>(
     })
 }
 
-/// Gives the best-case delivery time of the route that the contacts of these numbers make, in seconds since
+/// Returns the best-case delivery time of the route that the contacts of these numbers make, in seconds since
 /// 1970-01-01T00:00:00Z (CCSDS 734.3-B-1: best-case delivery time).
 ///
-/// It takes no memory. It reads each contact and, against visiting a node twice, the contacts before it:
-/// the time grows with the square of the number of hops before the first fault.
+/// It takes no memory. It reads each contact, and the contacts before it, to see that no node is visited twice. Its
+/// time grows with the square of the number of hops before the first fault.
 ///
 /// # Errors
 ///
-/// Where the list is no route of the request over the plan: the fault of the least place that has one,
-/// and of one place the first of [`HopFault::NoSuchContact`], [`HopFault::NotChained`],
-/// [`HopFault::NodeAgain`], [`HopFault::NoLight`], [`HopFault::TooLate`], [`HopFault::AvoidedNode`],
-/// [`HopFault::TooManyHops`]; [`HopFault::Empty`] for the empty list, and [`HopFault::WrongEnd`] where no
-/// hop has a fault and the last receiver isn't the destination.
+/// If the list is no route of the request over the plan: the fault of the least place that has one, and of one place
+/// the first of [`HopFault::NoSuchContact`], [`HopFault::NotChained`], [`HopFault::NodeAgain`], [`HopFault::NoLight`],
+/// [`HopFault::TooLate`], [`HopFault::AvoidedNode`], [`HopFault::TooManyHops`]. [`HopFault::Empty`] for the empty list.
+/// [`HopFault::WrongEnd`] if no hop has a fault and the last receiver isn't the destination.
 pub fn follow<A: Allocator + Copy>(
     plan: &Plan<A>,
     request: &Request,
@@ -134,7 +133,7 @@ pub fn follow<A: Allocator + Copy>(
     end_on(plan, request, &marks, prefix, here, *last)
 }
 
-/// Goes on along a list, of which the first numbers, `first` of them, have no fault and lead to `here`.
+/// Continues along a list whose first `first` numbers have no fault and lead to `here`.
 fn follow_rest<A: Allocator + Copy>(
     plan: &Plan<A>,
     request: &Request,
@@ -159,10 +158,10 @@ fn follow_rest<A: Allocator + Copy>(
     Ok(here)
 }
 
-/// Tells where a path and one number more lead, where `here` is where the path leads: for the empty one the source, since
-/// the bundle is there.
+/// Returns where a path and one more number lead. `here` is where the path leads; the empty path leads to the source,
+/// where the bundle is.
 ///
-/// It reads the one contact and, against visiting a node twice, those of the prefix.
+/// It reads the contact with that number, and those of the prefix, to see that no node is visited twice.
 ///
 /// # Errors
 ///
@@ -194,9 +193,9 @@ fn mark_receivers<A: Allocator + Copy>(plan: &Plan<A>, marks: &mut [bool; 64], n
     }
 }
 
-/// Tells what [`follow`] answers for a list whose first numbers, `first` of them, are a path that leads to `here`.
+/// Returns what [`follow`] returns, for a list whose first `first` numbers are a path that leads to `here`.
 ///
-/// It takes no memory. Of the contacts that were followed it reads the receivers alone.
+/// It takes no memory. Of the contacts that were followed before, it reads only the receivers.
 ///
 /// # Errors
 ///
@@ -224,7 +223,7 @@ pub fn follow_behind<A: Allocator + Copy>(
     end_on(plan, request, &marks, front, here, *last)
 }
 
-/// Tells what [`follow`] answers for a path and one number more, where the path leads to `here`, and the classes of its
+/// Returns what [`follow`] returns for a path and one more number. The path leads to `here`, and the classes of its
 /// receivers are marked.
 fn end_on<A: Allocator + Copy>(
     plan: &Plan<A>,

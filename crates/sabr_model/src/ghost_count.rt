@@ -1,11 +1,11 @@
-//! A count that proofs alone see: of a device's failures, of a finder's calls.
+//! A count that only proofs see: of a device's failures, or of a finder's calls.
 
 ghost use Rattle.std.specs.Prelude.{◌≡◌, ℕ, ◌+◌};
 ghost use Rattle.std.specs.Borrow.{ftrue};
 
 use std::marker::Model;
 
-/// A count that proofs alone see. It takes no bytes and has no greatest number.
+/// A count that only proofs see. It takes no bytes and has no upper bound.
 #[derive(Drop)]
 pub struct GhostCount {
     pub ghost count: { ℕ },
@@ -16,14 +16,14 @@ impl Model for GhostCount {
 }
 
 impl GhostCount {
-    /// Begins with nothing counted so far.
+    /// Starts at 0.
     pub fn new() -> GhostCount
         ensures { result.count ≡ 0 }
     {
         GhostCount {}
     }
 
-    /// Gives one more.
+    /// Counts one more.
     pub fn add(&mut self)
         ensures { self.new.count ≡ self.old.count + 1 }
     {}

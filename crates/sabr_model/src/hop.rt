@@ -10,17 +10,17 @@ use crate::request::Request;
 pub struct Hop {
     /// The first second at which the contact can be used.
     pub start: u64,
-    /// The first second at which it no longer can.
+    /// The first second at which the contact can no longer be used.
     pub end: u64,
     /// The index of its receiver in the table of nodes.
     pub receiver: usize,
-    /// The one-way light time in seconds that is in force at its start, if a range gives one.
+    /// The one-way light time in seconds that is in force at the contact's start, if a range states one.
     pub light: Option<u32>,
 }
 
 impl Hop {
-    /// Gives the second at which a bundle arrives that is at the sender at `at`; none where it is too late or no light time
-    /// is known.
+    /// Returns the second at which a bundle arrives that is at the sender at `at`. None if it is too late or no light
+    /// time is known.
     pub fn arrive(&self, request: &Request, at: u64) -> Option<u64>
         requires { IsSmall self.now }
         ensures { result ≡ hop_arrival request.now.margin at self.now }

@@ -1,7 +1,7 @@
 //! A node's contacts as a search reads them: link by link, and by start on each link.
 
-/// A standing contact with a light time, among those of one link in order of their starts. Beside it stands what bounds
-/// those before it and those behind it, so that a search can leave out most of them.
+/// A standing contact with a light time, among the contacts of one link in order of their starts. With it are bounds on
+/// the contacts before and after it, so that a search can skip most of them.
 #[derive(Clone, Copy, Debug, PartialEq, Eq)]
 pub struct Pass {
     /// The contact's number.
@@ -12,53 +12,53 @@ pub struct Pass {
     pub light: u32,
     /// The first second at which the contact can be used.
     pub start: u64,
-    /// The first second at which it no longer can.
+    /// The first second at which the contact can no longer be used.
     pub end: u64,
     /// The greatest end of this contact and those before it on the link.
     pub latest_end: u64,
     /// The least light time of this contact and those before it on the link.
     pub least_light_before: u32,
-    /// The least light time of this contact and those behind it on the link.
+    /// The least light time of this contact and those after it on the link.
     pub least_light_behind: u32,
-    /// The least number of this contact and those behind it on the link.
+    /// The least number of this contact and those after it on the link.
     pub least_number_behind: u32,
-    /// How many contacts behind this one surely have the numbers behind its own, one by one, where the link has as many.
+    /// A number of contacts after this one whose numbers surely follow its own one by one, if the link has that many.
     pub in_row_behind: u32,
 }
 
-/// What holds for each pass of a link, so that a search can leave out the whole link.
+/// Bounds that hold for each pass of a link, so that a search can skip the whole link.
 #[derive(Clone, Copy, Debug, PartialEq, Eq)]
 pub struct LinkBounds {
-    /// A second by which each has ended.
+    /// A second by which each pass has ended.
     pub latest_end: u64,
-    /// A light time in seconds that none is below.
+    /// A light time in seconds that no pass is below.
     pub least_light: u32,
-    /// A second before which nothing arrives over any of them.
+    /// A second before which nothing arrives over any pass.
     pub soonest: u64,
 }
 
-/// The contacts from one node to another: a range of places among the node's passes, and what bounds them all.
+/// The contacts from one node to another: a range of places among the node's passes, with bounds for all of them.
 #[derive(Clone, Copy, Debug, PartialEq, Eq)]
 pub struct Link {
     /// The index of the receiver in the table of nodes.
     pub receiver: usize,
     /// The place of the link's first pass.
     pub first: usize,
-    /// The place behind its last.
+    /// The place after the link's last pass.
     pub end: usize,
-    /// What holds for each of its passes.
+    /// The bounds that hold for each of its passes.
     pub bounds: LinkBounds,
 }
 
-/// The links of one node, and the passes over which they lie one behind the other.
+/// The links of one node, and the passes that they lie over, one link after another.
 #[derive(Clone, Copy)]
 pub struct Links<'a> {
     pub links: &'a [Link],
     pub passes: &'a [Pass],
 }
 
-/// A link as its receiver sees it: the index of its sender in the table of nodes, its passes by start, and what bounds
-/// them all.
+/// A link as its receiver sees it: the index of its sender in the table of nodes, its passes by start, and bounds for
+/// all of them.
 #[derive(Clone, Copy)]
 pub struct Sender<'a> {
     pub node: usize,

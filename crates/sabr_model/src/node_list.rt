@@ -1,4 +1,4 @@
-//! A few nodes.
+//! A short list of nodes.
 
 ghost use Rattle.std.specs.Prelude.{◌≡◌, ◌≤◌, ◌<◌, ◌∷◌, ◌++◌, [], None, IfSome, MatchOption, length};
 
@@ -6,7 +6,7 @@ use crate::limits::MOST_AVOIDED;
 use arrayvec::ArrayVec;
 use std::marker::Model;
 
-/// At most 16 nodes, as many as a request avoids (this project's profile). It holds no memory.
+/// At most 16 nodes, the most that a request avoids (this project's profile). It holds no memory.
 #[derive(Drop)]
 pub struct NodeList {
     nodes: ArrayVec<u64, MOST_AVOIDED>,
@@ -21,7 +21,7 @@ impl Model for NodeList {
 }
 
 impl NodeList {
-    /// Begins without a node.
+    /// Makes an empty list.
     pub fn new() -> NodeList
         ensures { result ≡ [] }
     {
@@ -30,7 +30,7 @@ impl NodeList {
         }
     }
 
-    /// Gives these nodes, if there is room.
+    /// Makes the list of these nodes, if there is room.
     pub fn of(nodes: &[u64]) -> Option<NodeList>
         ensures { MatchOption result (16 < length nodes.now) (λ list. list ≡ nodes.now) }
     {
@@ -41,7 +41,7 @@ impl NodeList {
         }
     }
 
-    /// Gives the nodes.
+    /// The nodes.
     pub fn as_slice(&self) -> &[u64]
         ensures value { result.now ≡ self.now }
         ensures limit { length self.now ≤ 16 }
@@ -49,7 +49,7 @@ impl NodeList {
         self.nodes.as_slice()
     }
 
-    /// Puts a node behind the others, if there is room.
+    /// Adds a node at the end, if there is room.
     pub fn push(&mut self, node: u64) -> Option<()>
         ensures pushed { IfSome result (λ _. self.new ≡ self.old ++ node ∷ []) }
         ensures limit { IfSome result (λ _. length self.new ≤ 16) }

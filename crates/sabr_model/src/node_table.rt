@@ -1,4 +1,4 @@
-//! The table of nodes: under each node the numbers of the contacts that it sends.
+//! The table of nodes: for each node, the numbers of the contacts that it sends.
 
 ghost use Rattle.std.specs.Prelude.{◌≡◌, ℕ, ◌==◌, ◌<◌, ◌≤◌, ◌+◌, ◌∷◌, ◌++◌, Some, None, IsTrue, map, find, not, ◌&&◌, ◌||◌, filter, nat_eq, slice_get, IfOk, OnOk, OnErr, IsOk, if◌then◌else◌};
 ghost use Rattle.std.specs.Option.{option_map};
@@ -14,10 +14,10 @@ use indexmap::IndexMap;
 use std::alloc::{AllocError, Allocator};
 use std::hash::{BuildHasherDefault, FoldHasher};
 
-/// Under each node the rising numbers of the contacts that it sends.
+/// For each node, the rising numbers of the contacts that it sends.
 pub type NodeTable<A> = IndexMap<u64, Vec<u32, A>, BuildHasherDefault<FoldHasher>, A>;
 
-/// Puts the number behind those that the node sends, and answers the node's index.
+/// Adds the number after those that the node sends, and returns the node's index.
 fn add_number<A: Allocator + Copy>(
     alloc: A,
     table: &mut NodeTable<A>,
@@ -48,7 +48,7 @@ fn add_number<A: Allocator + Copy>(
     }
 }
 
-/// Puts the number behind those that the node at an index sends.
+/// Adds the number after those that the node at an index sends.
 fn push_number<A: Allocator + Copy>(
     table: &mut NodeTable<A>,
     index: usize,
@@ -67,7 +67,7 @@ fn push_number<A: Allocator + Copy>(
     Ok(())
 }
 
-/// Makes sure that the node is in the table, and answers its index.
+/// Makes sure that the node is in the table, and returns its index.
 fn add_node<A: Allocator + Copy>(
     alloc: A,
     table: &mut NodeTable<A>,
@@ -92,7 +92,7 @@ fn add_node<A: Allocator + Copy>(
     }
 }
 
-/// Notes a contact that is to be added behind the others, and answers the indexes of its nodes, each found in one look-up.
+/// Notes a contact that is to be added after the others, and returns the indexes of its nodes. Each is looked up once.
 pub fn note_contact<A: Allocator + Copy>(
     alloc: A,
     table: &mut NodeTable<A>,
@@ -112,7 +112,7 @@ pub fn note_contact<A: Allocator + Copy>(
     Ok(Ends { from, to })
 }
 
-/// Gives the table of the nodes of contacts by number, and the ends of each contact.
+/// Makes the table of the nodes of contacts in order of number, and the ends of each contact.
 pub fn table_of<A: Allocator + Copy>(
     alloc: A,
     contacts: &[Contact],
@@ -130,7 +130,7 @@ pub fn table_of<A: Allocator + Copy>(
     Ok((table, ends))
 }
 
-/// Takes the number out of those that the node sends.
+/// Removes the number from those that the node sends.
 fn take_number<A: Allocator + Copy>(table: &mut NodeTable<A>, node: u64, number: u32)
     requires { IsUnique nat_eq table.old }
     ensures lists { (q : ℕ) → list_at table.new q ≡ (if q == node then option_map (filter (λ n. not (n == number))) (list_at table.old q) else list_at table.old q) }
@@ -141,14 +141,14 @@ fn take_number<A: Allocator + Copy>(table: &mut NodeTable<A>, node: u64, number:
     }
 }
 
-/// Takes the number out of the list.
+/// Removes the number from the list.
 fn take_out<A: Allocator + Copy>(numbers: &mut Vec<u32, A>, number: u32)
     ensures { numbers.new.items ≡ filter (λ n. not (n == number)) numbers.old.items }
 {
     numbers.retain(|n| !(*n == number));
 }
 
-/// Takes the node out of the table unless it is in use.
+/// Removes the node from the table unless it is in use.
 fn keep_node<A: Allocator + Copy>(table: &mut NodeTable<A>, node: u64, used: bool)
     requires { IsUnique nat_eq table.old }
     ensures lists { (q : ℕ) → list_at table.new q ≡ (if q == node && not used then None else list_at table.old q) }
@@ -159,14 +159,14 @@ fn keep_node<A: Allocator + Copy>(table: &mut NodeTable<A>, node: u64, used: boo
     }
 }
 
-/// Tells whether the node sends or receives a contact of another number.
+/// Returns true if the node sends or receives a contact of another number.
 fn is_in_use(contacts: &[Contact], number: u32, node: u64) -> bool
     ensures { result ≡ list_any (λ c. not (c.number == number) && (node == c.from || node == c.to)) contacts.now }
 {
     contacts.iter().any(|c| !(c.number == number) && (node == c.from || node == c.to))
 }
 
-/// Forgets a contact that is to be deleted, and its nodes where no other contact has them.
+/// Removes a contact that is to be deleted, and each of its nodes that no other contact has.
 pub fn forget_contact<A: Allocator + Copy>(
     table: &mut NodeTable<A>,
     contacts: &[Contact],

@@ -5,7 +5,7 @@ ghost use Rattle.std.specs.Prelude.{◌≡◌, ◌==◌, length};
 use std::alloc::{Allocator, Global};
 use std::marker::Model;
 
-/// Contact numbers, one after the other. Contracts see the list.
+/// Contact numbers in a row. Contracts see the list.
 #[derive(Debug, Drop)]
 pub struct Numbers<A: Allocator + Copy = Global> {
     items: Vec<u32, A>,
@@ -27,28 +27,28 @@ impl<A: Allocator + Copy> Numbers<A> {
         Numbers { items }
     }
 
-    /// Gives the vector that holds the list. It takes no memory.
+    /// Returns the vector that holds the list. It takes no memory.
     pub fn into_vec(self) -> Vec<u32, A>
         ensures { result.items ≡ self }
     {
         self.items
     }
 
-    /// Gives the numbers, from the first to the last.
+    /// The numbers, from the first to the last.
     pub fn as_slice(&self) -> &[u32]
         ensures { result.now ≡ self.now }
     {
         self.items.as_slice()
     }
 
-    /// Tells how many numbers there are.
+    /// The number of entries.
     pub fn len(&self) -> usize
         ensures { result ≡ length self.now }
     {
         self.items.len()
     }
 
-    /// Tells whether there is none.
+    /// Returns true if the list has no number.
     pub fn is_empty(&self) -> bool
         ensures { result ≡ (length self.now == 0) }
     {

@@ -1,4 +1,4 @@
-//! What no two standing contacts share: sender, receiver and start.
+//! What no two standing contacts have in common: sender, receiver and start.
 
 /// The sender, the receiver and the start of a contact.
 #[derive(Clone, Copy, Debug, PartialEq, Eq, Hash)]
@@ -7,6 +7,6 @@ pub struct Opening {
     pub from: u64,
     /// The receiving node.
     pub to: u64,
-    /// The first second at which it can be used, since 1970-01-01T00:00:00Z.
+    /// The first second at which the contact can be used, since 1970-01-01T00:00:00Z.
     pub start: u64,
 }

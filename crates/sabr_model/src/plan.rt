@@ -1,4 +1,4 @@
-//! A contact plan: its contacts, its ranges and the table of its nodes, behind one invariant.
+//! A contact plan: its contacts, its ranges and the table of its nodes, under one invariant.
 
 mod add_contact;
 mod add_range;
@@ -40,30 +40,30 @@ use std::marker::Model;
 
 /// A contact plan (CCSDS 734.3-B-1): contacts by number, ranges by pair of nodes and start, and the table of nodes.
 ///
-/// Which contacts and ranges a plan takes is this project's profile of ionrc(5): `add_contact` and `add_range` say it.
+/// Which contacts and ranges a plan accepts is this project's profile of ionrc(5); see `add_contact` and `add_range`.
 #[derive(Drop)]
 pub struct Plan<A: Allocator + Copy = Global> {
-    /// Where the tables take their memory.
+    /// The allocator of the tables.
     alloc: A,
     /// The standing contacts by number.
     contacts: Vec<Contact, A>,
     /// The standing ranges by pair and start.
     ranges: Vec<Range, A>,
-    /// The nodes, each with the numbers that it sends.
+    /// The nodes, each with the numbers of the contacts that it sends.
     table: NodeTable<A>,
-    /// The greatest number ever given.
+    /// The greatest number ever assigned.
     greatest: u32,
-    /// What no two contacts share, as far as it is kept.
+    /// The sender, receiver and start of contacts, as far as they are kept; no two contacts have all three in common.
     openings: Openings<A>,
-    /// Beside each contact what a search reads of it, where the plan is ready.
+    /// For each contact what a search reads of it, if the plan is ready.
     hops: Vec<Hop, A>,
-    /// Beside the first contacts the indexes of their nodes.
+    /// For the first contacts the indexes of their nodes.
     ends: Vec<Ends, A>,
-    /// By node its links, where the plan is ready.
+    /// For each node its links, if the plan is ready.
     linked: Vec<NodeLinks<A>, A>,
-    /// By node the links that lead to it, where the plan is ready.
+    /// For each node the links that lead to it, if the plan is ready.
     incoming: IncomingLinks<A>,
-    /// Whether hops and links stand.
+    /// Whether hops and links are made and up to date.
     ready: bool,
 }
 

@@ -1,4 +1,4 @@
-//! What is asked for, before it is judged.
+//! The values of a request, before they are checked.
 
 use crate::node_list::NodeList;
 
@@ -11,9 +11,9 @@ pub struct RequestValues {
     pub to: u64,
     /// When the bundle is at the source, in seconds since 1970-01-01T00:00:00Z.
     pub at: u64,
-    /// The margin on light times, in parts in a million.
+    /// The margin on light times, in parts per million.
     pub margin_ppm: u32,
-    /// The most contacts of a route.
+    /// The most contacts that a route may have.
     pub max_hops: u32,
     /// The nodes that no route passes.
     pub avoid: NodeList,

@@ -1,4 +1,4 @@
-//! What the record of a route tells beside its numbers and its delivery.
+//! What the record of a route holds besides its numbers and its delivery.
 
 ghost use Rattle.std.specs.Prelude.{◌≡◌, ◌∷◌, ◌++◌, []};
 ghost use Rattle.sabr_model.specs.Telling.{told_of};
@@ -9,12 +9,12 @@ use crate::plan::Plan;
 use crate::route::Route;
 use std::alloc::Allocator;
 
-/// What the record of a list of numbers tells beside them and their delivery.
+/// What the record of a list of numbers holds besides them and their delivery.
 #[derive(Clone, Copy, Debug, PartialEq, Eq)]
 pub struct Told {
     /// The termination time: the least end of the contacts.
     pub until: u64,
-    /// The entry node: the receiver of the first contact; 0 where there is none.
+    /// The entry node: the receiver of the first contact; 0 if there is none.
     pub entry: u64,
 }
 
@@ -33,7 +33,7 @@ impl Told {
         told
     }
 
-    /// Finds those of a prefix and one number more, where these are those of the prefix. It reads the one contact.
+    /// Extends those of a prefix, which are `self`, by one more number. It reads only the contact with that number.
     pub fn extended<A: Allocator + Copy>(self, plan: &Plan<A>, prefix: &[u32], number: u32) -> Told
         requires { self ≡ told_of plan.now.plan prefix.now }
         ensures { result ≡ told_of plan.now.plan (prefix.now ++ number ∷ []) }
@@ -54,7 +54,7 @@ impl Told {
         }
     }
 
-    /// Gives the record of a list of which this is told, with this delivery. It takes no memory.
+    /// Makes the record of the list that `self` belongs to, with this delivery. It takes no memory.
     pub fn route<A: Allocator + Copy>(self, numbers: Vec<u32, A>, delivery: u64) -> Route<A>
         ensures { result ≡ record { contacts = numbers.items; delivery = delivery; until = self.until; entry = self.entry } }
     {

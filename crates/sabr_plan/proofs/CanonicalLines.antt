@@ -6,21 +6,21 @@ use Rattle.std.proofs.lemmas.List.Concat.{flat_map-append}
 use Rattle.sabr_model.specs.Devices.{Written, WrittenInPart, WritesText}
 use Rattle.sabr_model.proofs.WrittenTexts.{AppendsBeginning-after, AppendsBeginning-more, Written-append, WritesText-after}
 
--- a text of which a beginning was written, with more behind it
+-- a beginning of a text was written, and more comes after that text
 pub in_part_more : (a c : Option (List ℕ)) (k n : ℕ) (xs ys : List ℕ) → WrittenInPart a k xs c n → WrittenInPart a k (xs ++ ys) c n
 in_part_more a c k n xs ys p = (AppendsBeginning-more a c xs ys p.0, p.1)
 
--- behind a text that was written
+-- a beginning of a text was written, after another text that was written
 pub in_part_after : (a b c : Option (List ℕ)) (k m n : ℕ) (xs ys : List ℕ) → Written a k xs b m → WrittenInPart b m ys c n → WrittenInPart a k (xs ++ ys) c n
 in_part_after a b c k m n xs ys p q = (AppendsBeginning-after a b c xs ys p.0 q.0, q.1 ∙ ap (λ j. j + 1) p.1)
 
--- the lines before a record, its own, and those behind it
+-- the lines before a record, its own, and those after it
 pub flat_map-parted : {X : Type 0} (line : X → List ℕ) (xs : List X) (i : ℕ) (d : X) → i < length xs → flat_map line xs ≡ (flat_map line (take i xs) ++ line (get_or xs i d)) ++ flat_map line (drop (i + 1) xs)
 flat_map-parted line xs i d h =
     ap (flat_map line) (sym (take-append-drop (i + 1) xs)) ∙ flat_map-append line (take (i + 1) xs) (drop (i + 1) xs)
     ∙ ap (λ s. s ++ flat_map line (drop (i + 1) xs)) (ap (flat_map line) (take_more xs i d h) ∙ flat_map-append line (take i xs) (get_or xs i d ∷ []) ∙ ap (λ s. flat_map line (take i xs) ++ s) (append-nil (line (get_or xs i d))))
 
--- the line of a record was not written, or in part
+-- the line of a record was not written, or only in part
 pub stopped_at : {X : Type 0} (line : X → List ℕ) (xs : List X) (i : ℕ) (d : X) → i < length xs → (bytes : List ℕ) → bytes ≡ line (get_or xs i d) → (a b c : Option (List ℕ)) (k m n : ℕ) → Written a k (flat_map line (take i xs)) b m → WrittenInPart b m bytes c n → WrittenInPart a k (flat_map line xs) c n
 stopped_at line xs i d h bytes is a b c k m n before part =
     let own : WrittenInPart b m (line (get_or xs i d)) c n = rw is at part in

@@ -11,7 +11,7 @@ use Rattle.sabr_plan.specs.Times.{CalendarDay, day_after_epoch}
 use Rattle.sabr_plan.proofs.Days.{IsDay, day_after_epoch_is, same_day}
 
 module _ (year month day : ℕ) (y : year < 10000) (m : month < 100) (d : day < 100) where
-  -- the numbers as jiff takes them
+  -- the numbers as jiff sees them
   year_is : to_z w16 year ≡ pos year
   year_is = to_z_pos w16 year (omega arith)
 
@@ -47,7 +47,7 @@ module _ (year month day : ℕ) (y : year < 10000) (m : month < 100) (d : day < 
         let made : ◌≡◌ {A = CalendarDay} (record { year = (day_after_epoch n).year; month = (day_after_epoch n).month; day = (day_after_epoch n).day }) (record { year = year; month = month; day = day }) = rw (p, q, r) refl in
         made
 
--- a day number that is not negative
+-- a day number that is not negative when cast is at most 2932896, and casting keeps it
 pub not_negative : (z : ℤ) → IsEpochDay z → lt_z (to_z w32 (of_z w32 z)) (pos 0) ≡ false → (unsigned_abs (to_z w32 (of_z w32 z)) ≤ 2932896) × (z ≡ pos (unsigned_abs (to_z w32 (of_z w32 z))))
 not_negative (pos n) h e =
     let small : n ≤ 2932896 = omega (arith, signed_arith, h.1) in
@@ -58,10 +58,10 @@ not_negative (negsuc n) h e =
     let back : to_z w32 (of_z w32 (negsuc n)) ≡ negsuc n = back_small w32 (negsuc n) (omega arith) in
     absurd (false≢true (sym (rw back at e)))
 
--- and one that is
+-- the number of a day from 1970 to 9999 is not negative when cast
 pub negative : (n : ℕ) → n ≤ 2932896 → (z : ℤ) → z ≡ pos n → lt_z (to_z w32 (of_z w32 z)) (pos 0) ≡ true → ⊥
 negative n h z e lt = omega (arith, signed_arith)
 
--- a year of that size is cast as it is
+-- a year of that size keeps its value when cast
 pub cast_year : (z : ℤ) (n : ℕ) → z ≡ pos n → n < 10000 → to_z w16 (of_z w16 z) ≡ pos n
 cast_year z n e h = omega (arith, signed_arith)

@@ -1,4 +1,4 @@
--- The days of the calendar, one after the other, and their numbers.
+-- The days of the calendar, one after another, and their numbers.
 use Rattle.std.proofs.Common.{◌≡◌, ℕ, zero, suc, ◌+◌, ◌<◌, ◌≤◌, inl, inr, sym, ap, ◌∙◌, arith, rules, pos}
 use Rattle.std.proofs.lemmas.Bool.{cases_lt}
 use borrow.Author.Tests.{lt-ltb, le-ltb}
@@ -10,7 +10,7 @@ use Rattle.jiff_core.proofs.CalendarLemmas.{days_in_month_bounds}
 use Rattle.jiff_core.proofs.DateLemmas.{epoch_day_injective, days_from_civil-day, days_from_civil-next_month, days_from_civil-next_year, days_from_civil-max}
 use Rattle.sabr_plan.specs.Times.{CalendarDay, next_day, day_after_epoch}
 
--- the calendar has the day, not before 1970, and n is its number
+-- the calendar has the day, it is not before 1970, and n is its number
 pub record IsDay (n : ℕ) (d : CalendarDay) : Type 0 where
   pub since : 1970 ≤ d.year
   pub civil : IsCivilDate (pos d.year) d.month d.day

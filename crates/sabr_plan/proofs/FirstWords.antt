@@ -1,4 +1,4 @@
--- The words of a line, one after the other.
+-- The words of a line, one after another.
 use Rattle.std.proofs.Common.{◌≡◌, ℕ, suc, ◌+◌, ◌<◌, true, false, List, [], ◌∷◌, ◌++◌, length, drop, get_or, refl, sym, ap, ◌∙◌, arith, append-nil}
 use Rattle.std.specs.List.{All}
 use Rattle.std.proofs.Math.Seq.{drop-cons}
@@ -16,7 +16,7 @@ pub words_of-drop : (text : List ℕ) (i : ℕ) → i < length text → is_blank
 words_of-drop text i h blank =
     sym (rw (drop-cons text i 0 h) (rw (add-one i) (words_of-blank (get_or text i 0) (drop (suc i) text) blank)))
 
--- no byte, no word
+-- no bytes have no word
 pub words_of-nil : words_of [] ≡ []
 unfolding words_of
 words_of-nil = refl
@@ -29,7 +29,7 @@ word_before : (w : List ℕ) (b : ℕ) (s : List ℕ) → 0 < length w → All (
 unfolding words_of
 word_before w b s some all blank = rw (slice_split_at is_blank w b s all blank) (rw (lt-ltb _ _ some) refl)
 
--- a word that a blank or the end of the text follows is the first
+-- a word is the first if a blank or the end of the text follows it
 pub first_is : (w rest : List ℕ) → 0 < length w → All (λ b. is_blank b ≡ false) w → (0 < length rest → is_blank (get_or rest 0 0) ≡ true) → words_of (w ++ rest) ≡ w ∷ words_of rest
 first_is w [] some all ends = rw (append-nil w, words_of-nil) (last_word w some all)
 first_is w (b ∷ s) some all ends =

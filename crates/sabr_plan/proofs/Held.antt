@@ -24,14 +24,14 @@ one_line_from (x ∷ xs) none =
       | false ↦ λ e. one_line_from xs (λ k h. none (suc k) (omega arith))
     ]) refl
 
--- nor any before the first LF
+-- nor before the first LF
 pub one_line_before : (xs : List ℕ) (end : ℕ) → end < length xs → ((k : ℕ) → k < end → eqb (get_or xs k 0) 10 ≡ true → ⊥) → is_one_line (take end xs) ≡ true
 one_line_before xs end h none =
     one_line_from (take end xs) (λ k below e.
     let within : k < end = omega (arith, length-take end xs) in
     none k within (sym (ap (λ b. eqb b 10) (get_or-take end xs k 0 within)) ∙ e))
 
--- what is held is within the limits, so behind it the reader's failure is told
+-- what is held is within the limits, so the reader's failure after it is what is reported
 pub broken_held : (lines : ℕ) (held : List ℕ) → lines ≤ 1000000 → length held ≤ 255 * (1000000 - lines) → length held ≤ 255 → broken_line (lines + 1) held ≡ record { line = lines + 1; kind = kind.Read }
 broken_held lines held within room limit =
     let at_n : PlanKind → PlanFault = λ k. record { line = lines + 1; kind = k } in
@@ -41,12 +41,12 @@ broken_held lines held within room limit =
       | inr full ↦ rw (le-ltb 0 (length held) (omega arith), and-false (ltb 1000000 (lines + 1)), few) refl
     ]
 
--- a line within the limits is judged
+-- a line within the limits is read
 pub limited-judged : (n : ℕ) (r : Reading) (line : List ℕ) → n ≤ 1000000 → length line ≤ 255 → limited n r line ≡ judged r line
 unfolding limited
 limited-judged n r line few short = rw (le-ltb 1000000 n few, le-ltb 255 (length line) short) refl
 
--- also once all of it is held
+-- also when all of it is held
 pub held_judged : {U : Type 0} (s new : Fed) (back : List ℕ) (r : Result U PlanKind) (after : Reading) → new ≡ record { lines = s.lines; reading = s.reading; held = s.held ++ back } → s.lines < 1000000 → length new.held ≤ 255 → Leaves (judged new.reading new.held) r after → Leaves (limited (s.lines + 1) s.reading (s.held ++ back)) r after
 held_judged s new back r after e few short is =
     let held : new.held ≡ s.held ++ back = ap (λ (s : Fed). s.held) e in

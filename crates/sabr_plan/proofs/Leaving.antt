@@ -1,4 +1,4 @@
--- A change of a plan, as its call answers it.
+-- A change of a plan, as its call returns it.
 use Rattle.std.proofs.Common.{◌≡◌, ℕ, ◌⊎◌, Bool, true, false, inl, inr, refl, sym, ap, ◌∙◌, Option, Some, None, Result, Ok, Err, OnOk, is_some, ok_or}
 use Rattle.std.specs.Result.{IsOkUnless}
 use Rattle.sabr_model.specs.Plan.{ContactPlan}
@@ -7,7 +7,7 @@ use Rattle.sabr_model.specs.declared.fault.AddFault.TheVariants as add
 use Rattle.sabr_plan.specs.declared.fault.PlanKind.TheVariants as kind
 use Rattle.sabr_plan.specs.Reading.{kind_of, changed, unless_named}
 
--- how a call answers that may be refused so
+-- what a call returns that may be refused in this way
 pub record IsAnswered {X : Type 0} (refusal : Option AddFault) (r : Result X AddFault) (p new : ContactPlan) : Type 0 where
   pub refused : (f : AddFault) → refusal ≡ Some f → r ≡ Err f
   pub accepted : refusal ≡ None → IsOkUnless r add.NoMemory
@@ -33,7 +33,7 @@ pub contact_deleted : (o : Option ℕ) (r : Result ℕ AddFault) (p new : Contac
 contact_deleted (Some n) r p new e ok = record { refused = λ f is. cc; accepted = λ is. rw e tt; ok = ok }
 contact_deleted None r p new e ok = record { refused = λ f is. let same : add.NothingToDelete ≡ f = cc in e ∙ ap Err same; accepted = λ is. cc; ok = ok }
 
--- how a deletion of a range is answered, which may want memory
+-- what a deletion of a range returns, which may run out of memory
 pub record IsDeleted {X : Type 0} (named : Bool) (r : Result X AddFault) (p new : ContactPlan) : Type 0 where
   pub refused : named ≡ false → (r ≡ Err add.NothingToDelete) ⊎ (r ≡ Err add.NoMemory)
   pub accepted : named ≡ true → IsOkUnless r add.NoMemory

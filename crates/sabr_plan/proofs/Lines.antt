@@ -20,7 +20,7 @@ one_more : (b : ℕ) (bytes : List ℕ) (ended : List (List ℕ)) (rest : List �
 one_more b bytes [] rest = refl
 one_more b bytes (line ∷ lines) rest = refl
 
--- bytes without LF stand before the first line
+-- bytes without LF are put before the first line
 pub lines_of-front : (bytes more : List ℕ) → is_one_line bytes ≡ true → lines_of (bytes ++ more) ≡ in_front bytes (lines_of more)
 unfolding lines_of
 lines_of-front [] more one = sym (no_bytes (lines_of more).ended (lines_of more).open_line)
@@ -45,7 +45,7 @@ behind_lf : (back : List ℕ) → 0 < length back → get_or back 0 0 ≡ 10 →
 behind_lf [] some lf = absurd (omega arith)
 behind_lf (b ∷ back) some lf = ap (λ x. x ∷ back) lf
 
--- a text up to its first LF, and behind it
+-- a text up to its first LF, and after it
 pub parted : (text front back rest : List ℕ) (end : ℕ) → front ≡ take end text → back ≡ drop end text → end < length text → get_or text end 0 ≡ 10 → rest ≡ drop 1 back → text ≡ front ++ 10 ∷ rest
 parted text front back rest end a b h lf c =
     let some : 0 < length back = omega (arith, ap length b, length-drop end text) in

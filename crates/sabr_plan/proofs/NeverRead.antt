@@ -179,11 +179,11 @@ text_not bytes =
 no_memory : kind.NoMemory ≢ kind.Read
 no_memory e = cc
 
--- a text whose reader ended is never refused so
+-- a text whose reader ended is never refused for a failed reader
 pub ended_not_read : (bytes : List ℕ) (f : PlanFault) → plan_of bytes true ≡ Err f → f.kind ≢ kind.Read
 ended_not_read bytes f e = rw e at (text_not bytes)
 
--- that answer comes only where the reader failed
+-- `Read` comes only if the reader failed
 pub read_failed : (old : Option (List ℕ)) (before : ℕ) (answer : Result TabledPlan PlanFault) (new : Option (List ℕ)) (after : ℕ) → ReadsPlan old before answer new after → IfErr answer (λ f. f.kind ≡ kind.Read → after ≡ before + 1)
 read_failed old before (Ok p) new after reads = tt
 read_failed old before (Err f) new after reads = λ e.

@@ -1,4 +1,4 @@
--- What comes of a text, one piece after the other.
+-- The outcome of a text, one piece after another.
 use Rattle.std.proofs.Common.{◌≡◌, ◌≢◌, ℕ, suc, ◌+◌, Bool, true, false, ◌&&◌, not, eqb, ltb, List, [], ◌∷◌, ◌++◌, length, refl, sym, ap, ◌∙◌, arith, append_assoc, append-nil, length-append, Result, Ok, Err}
 use borrow.Author.Tests.{lt-ltb, le-ltb, ltb-true, ltb-false}
 use Rattle.std.proofs.lemmas.List.Folds.{list_all-append}
@@ -19,12 +19,12 @@ and_then-and_then : {A B C E : Type 0} (r : Result A E) (f : A → Result B E) (
 and_then-and_then (Ok x) f g = refl
 and_then-and_then (Err e) f g = refl
 
--- second steps that give the same
+-- second steps with the same results
 after : {A B E : Type 0} (r : Result A E) {f g : A → Result B E} → ((x : A) → f x ≡ g x) → and_then r f ≡ and_then r g
 after (Ok x) same = same x
 after (Err e) same = refl
 
--- what the lines of a text come to, from number n on
+-- the outcome of the lines of a text, from number n on
 lines_outcome : ℕ → Reading → TextLines → Bool → Result ContactPlan PlanFault
 lines_outcome n r t ended = and_then (read_lines n r t.ended) (last_line ended (n + length t.ended) t.open_line)
 
@@ -44,7 +44,7 @@ lines_outcome-last n r rest ended =
     let count : n + 0 ≡ n = omega arith in
     ap (λ k. last_line ended k rest r) count
 
--- nothing was fed at first
+-- the plan of a text is the outcome from the state in which nothing was fed
 pub plan_of-outcome : (bytes : List ℕ) (ended : Bool) → plan_of bytes ended ≡ outcome nothing_fed bytes ended
 unfolding plan_of outcome
 plan_of-outcome bytes ended =
@@ -68,23 +68,23 @@ pub outcome-held : (s : Fed) (bytes more : List ℕ) (ended : Bool) → outcome 
 unfolding outcome
 outcome-held s bytes more ended = rw append_assoc refl
 
--- a text ends, or breaks off, behind what is held
+-- a text ends, or breaks off, after what is held
 pub outcome-end : (s : Fed) (ended : Bool) → is_one_line s.held ≡ true → outcome s [] ended ≡ last_line ended (s.lines + 1) s.held s.reading
 outcome-end s ended one =
     outcome-lines s [] ended ∙ ap (λ t. lines_outcome (s.lines + 1) s.reading t ended) (ap lines_of (append-nil s.held) ∙ lines_of-one s.held one) ∙ lines_outcome-last (s.lines + 1) s.reading s.held ended
 
--- a line that is too far on, or too long, is refused for its beginning
+-- a line with too high a number, or too long, is refused for its beginning
 choose : (far some long longer : Bool) (judgement : Result Reading PlanKind) → (some ≡ false → long ≡ false) → (long ≡ true → longer ≡ true) → (if far && some then kind.TooMany else if long then kind.LineTooLong else kind.Read) ≢ kind.Read → (if far then Err kind.TooMany else if longer then Err kind.LineTooLong else judgement) ≡ Err (if far && some then kind.TooMany else if long then kind.LineTooLong else kind.Read)
 choose true true long longer judgement p q other = refl
 choose true false long longer judgement p q other = absurd (other (rw (p refl) refl))
 choose false some true longer judgement p q other = rw (q refl) refl
 choose false some false longer judgement p q other = absurd (other refl)
 
--- nothing is not long
+-- the empty line is not long
 short : (front : List ℕ) → has_bytes front ≡ false → ltb 255 (length front) ≡ false
 short front none = let h = ltb-false 0 (length front) none in le-ltb 255 (length front) (omega arith)
 
--- what is long stays long
+-- a line that is too long stays too long
 longer : (front back : List ℕ) → ltb 255 (length front) ≡ true → ltb 255 (length (front ++ back)) ≡ true
 longer front back long = let h = ltb-true 255 (length front) long in lt-ltb 255 (length (front ++ back)) (omega (arith, length-append front back))
 
@@ -92,7 +92,7 @@ refused_line : (n : ℕ) (r : Reading) (front back : List ℕ) → (broken_line 
 unfolding limited
 refused_line n r front back other = choose (ltb 1000000 n) (has_bytes front) (ltb 255 (length front)) (ltb 255 (length (front ++ back))) (judged r (front ++ back)) (short front) (longer front back) other
 
--- so it has bytes
+-- bytes that are refused are not empty
 some_front : (n : ℕ) (front : List ℕ) → (broken_line n front).kind ≢ kind.Read → has_bytes front ≡ true
 some_front n front other =
     (elim (has_bytes front) as (λ b. has_bytes front ≡ b → b ≡ true) [
@@ -116,19 +116,19 @@ still_broken n front back other =
     let at_n : PlanKind → PlanFault = λ k. record { line = n; kind = k } in
     rw (some, more) (ap at_n same)
 
--- the last line too
+-- a last line is refused for its beginning, too
 last_refused : (n : ℕ) (r : Reading) (front back : List ℕ) (ended : Bool) → (broken_line n front).kind ≢ kind.Read → last_line ended n (front ++ back) r ≡ Err (broken_line n front)
 last_refused n r front back true other =
     rw (some_more front back (some_front n front other), refused_line n r front back other) refl
 last_refused n r front back false other = ap Err (still_broken n front back other)
 
--- whatever comes behind it
+-- the lines are refused for the beginning of the first, whatever comes after it
 front_refused : (n : ℕ) (r : Reading) (front : List ℕ) (lines : List (List ℕ)) (rest : List ℕ) (ended : Bool) → (broken_line n front).kind ≢ kind.Read → lines_outcome n r (in_front front (record { ended = lines; open_line = rest })) ended ≡ Err (broken_line n front)
 front_refused n r front [] rest ended other = lines_outcome-last n r (front ++ rest) ended ∙ last_refused n r front rest ended other
 front_refused n r front (line ∷ lines) rest ended other =
     lines_outcome-more n r (front ++ line) lines rest ended ∙ rw (refused_line n r front line other) refl
 
--- bytes that are refused, whatever comes behind them
+-- bytes that are refused, whatever comes after them
 pub outcome-refused : (s : Fed) (bytes more : List ℕ) (ended : Bool) → is_one_line s.held ≡ true → is_one_line bytes ≡ true → (broken_line (s.lines + 1) (s.held ++ bytes)).kind ≢ kind.Read → outcome s (bytes ++ more) ended ≡ Err (broken_line (s.lines + 1) (s.held ++ bytes))
 outcome-refused s bytes more ended held one other =
     let front = s.held ++ bytes in

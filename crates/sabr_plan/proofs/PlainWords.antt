@@ -1,4 +1,4 @@
--- A text of graphic words, each behind one space, has those words.
+-- A text of graphic words, each after one space, has those words.
 use Rattle.std.proofs.Common.{◌≡◌, ◌≢◌, ℕ, ◌<◌, true, false, eqb, leb, List, [], ◌∷◌, ◌++◌, length, take, drop, get_or, refl, sym, ap, ◌∙◌, arith}
 use Rattle.std.specs.List.{All, list_all}
 use Rattle.std.proofs.lemmas.Bool.{and_parts, ne_eqb}
@@ -14,7 +14,7 @@ use Rattle.sabr_plan.specs.Words.{is_blank, is_plain, has_bytes, words_of}
 use Rattle.sabr_plan.specs.PlainWords.{is_graphic, is_graphic_word, is_plain_from_space, IsAhead}
 use Rattle.sabr_plan.proofs.FirstWords.{first_is, words_of-blank, words_of-nil}
 
--- words, each behind one space
+-- words, each after one space
 abbrev pub spaced : List (List ℕ) → List ℕ
 spaced [] = []
 spaced (w ∷ ws) = 32 ∷ (w ++ spaced ws)
@@ -30,7 +30,7 @@ no_blank b h =
 no_blanks : (w : List ℕ) → list_all is_graphic w ≡ true → All (λ b. is_blank b ≡ false) w
 no_blanks w all k d h = no_blank (get_or w k d) (AllPass-from_list_all is_graphic w all k d h)
 
--- and plain
+-- a graphic byte is plain
 plain_byte : (b : ℕ) → is_graphic b ≡ true → is_plain b ≡ true
 plain_byte b h =
     let p = and_parts (leb 33 b) (leb b 126) h in
@@ -63,7 +63,7 @@ starts_blank : (ws : List (List ℕ)) → 0 < length (spaced ws) → is_blank (g
 starts_blank [] h = absurd (omega arith)
 starts_blank (w ∷ ws) h = refl
 
--- a graphic word is the first of a text that goes on with a space
+-- a graphic word is the first of a text that continues with a space
 pub first_of : (w text : List ℕ) → is_graphic_word w ≡ true → (0 < length text → is_blank (get_or text 0 0) ≡ true) → words_of (w ++ text) ≡ w ∷ words_of text
 first_of w text h ends =
     let p = and_parts (has_bytes w) (list_all is_graphic w) h in
@@ -76,7 +76,7 @@ words_of-spaced (w ∷ ws) h =
     let p = and_parts (is_graphic_word w) (list_all is_graphic_word ws) h in
     words_of-blank 32 (w ++ spaced ws) refl ∙ first_of w (spaced ws) p.0 (starts_blank ws) ∙ ap (λ vs. w ∷ vs) (words_of-spaced ws p.1)
 
--- and is plain
+-- and it is plain
 pub plain-spaced : (ws : List (List ℕ)) → list_all is_graphic_word ws ≡ true → list_all is_plain (spaced ws) ≡ true
 plain-spaced [] h = refl
 plain-spaced (w ∷ ws) h =
@@ -84,7 +84,7 @@ plain-spaced (w ∷ ws) h =
     let word = and_parts (has_bytes w) (list_all is_graphic w) p.0 in
     rw (list_all-append is_plain w (spaced ws), plain_word w word.1, plain-spaced ws p.1) refl
 
--- what comes behind a front that was tested
+-- what comes after a front that was tested
 pub behind_prefix : (s p rest : List ℕ) → pointwise nat_eq (take (length p) s) p ≡ true → rest ≡ drop (length p) s → s ≡ p ++ rest
 behind_prefix s p rest same is =
     sym (take-append-drop (length p) s) ∙ ap (λ l. l ++ drop (length p) s) (same_text (take (length p) s) p (sym same)) ∙ ap (λ l. p ++ l) (sym is)
@@ -96,7 +96,7 @@ no_bytes : (s : List ℕ) → length s ≡ 0 → s ≡ []
 no_bytes [] h = refl
 no_bytes (x ∷ s) h = absurd (omega arith)
 
--- five words that stand one behind the other, and nothing behind them
+-- five words, one after another, and nothing after them
 module _ {P₁ P₂ P₃ P₄ P₅ : List ℕ → Type 0} {t t₁ t₂ t₃ t₄ t₅ : List ℕ} (a : IsAhead P₁ t t₁) (b : IsAhead P₂ t₁ t₂) (c : IsAhead P₃ t₂ t₃) (d : IsAhead P₄ t₃ t₄) (e : IsAhead P₅ t₄ t₅) (end : length t₅ ≡ 0) where
   abbrev pub five : List (List ℕ)
   five = a.word ∷ b.word ∷ c.word ∷ d.word ∷ e.word ∷ []
@@ -116,7 +116,7 @@ module _ {P₁ P₂ P₃ P₄ P₅ : List ℕ → Type 0} {t t₁ t₂ t₃ t₄
   pub five_plain : is_plain_from_space t ≡ true
   five_plain = ap is_plain_from_space same ∙ plain-spaced five graphic
 
--- a line that begins so has these words
+-- a line that begins in this way has these words
 pub commanded : (name text : List ℕ) → is_graphic_word name ≡ true → is_plain_from_space text ≡ true → words_of (97 ∷ 32 ∷ (name ++ text)) ≡ (97 ∷ []) ∷ name ∷ words_of text
 commanded name text h behind =
     let space = eqb-true (get_or text 0 0) 32 (and_parts (eqb (get_or text 0 0) 32) (list_all is_plain text) behind).0 in

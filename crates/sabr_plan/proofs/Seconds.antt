@@ -1,4 +1,4 @@
--- Seconds, what calendar and clock show of them, and their text.
+-- Seconds, their calendar and clock fields, and their text.
 use Rattle.std.proofs.Common.{◌≡◌, ℕ, ◌+◌, ◌*◌, ◌/◌, ◌%◌, ◌≤◌, Bool, true, false, ◌&&◌, leb, List, refl, sym, ap, ◌∙◌, subst, arith, pos, unsigned_abs, Option, Some, None, IfSome, cond}
 use Rattle.std.proofs.lemmas.Bool.{and_parts}
 use Rattle.std.proofs.lemmas.Slice.Eq.{bytes_eq-Decides}
@@ -38,7 +38,7 @@ fields_of_width t h =
       second = omega arith;
     }
 
--- what the clock shows n days and some hours, minutes and seconds after 1970/01/01-00:00:00
+-- the fields n days and some hours, minutes and seconds after 1970/01/01-00:00:00
 pub fields_of-clock : (n hour minute second : ℕ) → hour ≤ 23 → minute ≤ 59 → second ≤ 59 → fields_of (n * 86400 + (hour * 3600 + minute * 60 + second)) ≡ record { year = (day_after_epoch n).year; month = (day_after_epoch n).month; day = (day_after_epoch n).day; hour = hour; minute = minute; second = second }
 unfolding fields_of
 fields_of-clock n hour minute second h m s =
@@ -66,14 +66,14 @@ clock_of-fields_of : (t : ℕ) → clock_of (fields_of t) ≡ t % 86400
 unfolding fields_of clock_of
 clock_of-fields_of t = omega arith
 
--- what a clock can show
+-- the bounds of clock fields
 pub fields_clock : (t : ℕ) (f : TimeFields) → fields_of t ≡ f → (f.hour ≤ 23) × (f.minute ≤ 59) × (f.second ≤ 59)
 unfolding fields_of
 fields_clock t f e =
     let P : TimeFields → Type 0 = λ f. (f.hour ≤ 23) × (f.minute ≤ 59) × (f.second ≤ 59) in
     subst P e (omega arith, omega arith, omega arith)
 
--- two seconds that show the same are one
+-- two seconds with the same fields are the same
 pub fields_of_injective : (t u : ℕ) → t ≤ 253402300799 → u ≤ 253402300799 → fields_of t ≡ fields_of u → t ≡ u
 fields_of_injective t u h k e =
     let day : day_after_epoch (t / 86400) ≡ day_after_epoch (u / 86400) = sym (day_of-fields_of t) ∙ ap day_of e ∙ day_of-fields_of u in
@@ -86,7 +86,7 @@ pub text_has_shape : (t : ℕ) → t ≤ 253402300799 → has_shape (time_text_o
 unfolding time_text_of
 text_has_shape t h = spelled_has_shape (fields_of t) (fields_of_width t h)
 
--- and the second's fields
+-- and it has the fields of the second
 pub fields_at-text : (t : ℕ) → fields_at (time_text_of t) ≡ fields_of t
 unfolding time_text_of
 fields_at-text t = fields_at-spelled (fields_of t)
@@ -130,7 +130,7 @@ time_of_tells word t e =
       | false ↦ λ is found. cc
     ]) refl e
 
--- an answer that gives exactly the times of texts is the time of the word
+-- a result that is exactly the time of a text is the time of the word
 pub time_of_is : (word : List ℕ) (r : Option ℕ) → IfSome r (λ t. (word ≡ time_text_of t) × (t ≤ last_time)) → ((t : ℕ) → t ≤ last_time → word ≡ time_text_of t → r ≡ Some t) → r ≡ time_of word
 time_of_is word (Some t) some all = sym (ap time_of some.0 ∙ time_of-text t some.1)
 time_of_is word None some all =

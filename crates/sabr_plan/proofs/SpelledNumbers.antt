@@ -18,14 +18,14 @@ use Rattle.sabr_plan.specs.Digits as own
 use Rattle.sabr_plan.specs.Numbers.{number_within}
 use Rattle.sabr_plan.proofs.Digits.{small_value, small_value_some}
 
--- numbers of the machine are short
+-- numbers below 2^64 have few digits
 pub short64 : (n : ℕ) → n < 18446744073709551616 → n < 10 ^ 64
 short64 n h = let top : 18446744073709551616 < 10 ^ 64 = lit< tt in omega arith
 
 pub short128 : (n : ℕ) → n < 340282366920938463463374607431768211456 → n < 10 ^ 64
 short128 n h = let top : 340282366920938463463374607431768211456 < 10 ^ 64 = lit< tt in omega arith
 
--- the digits of a number's spelling are worth the number
+-- the digits of a number's spelling stand for the number
 pub worth : (text : List ℕ) (n : ℕ) → n < 10 ^ 64 → text ≡ decimal n → digits_value 10 text ≡ n
 worth text n h e = ap (digits_value 10) e ∙ (decimal_is_IsNumeral_wide n h).1
 
@@ -86,7 +86,7 @@ number_within-spelled_without low high text n h e out =
     number_within-spelled low high text n h e
     ∙ cut n (leb low n) (leb n high) (elim out [ inl a ↦ inl (below low n a) | inr b ↦ inr (below n high b) ])
 
--- a number that was found lies within the bounds
+-- a number that was found is within the bounds
 pub number_within-range : (low high : ℕ) (text : List ℕ) (n : ℕ) → number_within low high text ≡ Some n → (low ≤ n) × (n ≤ high)
 unfolding number_within
 number_within-range low high text n e = ranged (bytes_eq text (decimal m)) (leb low m) refl (leb m high) refl e
@@ -121,14 +121,14 @@ small_decimal n h =
     let value : own.digits_value (decimal n) ≡ n = digits_value-decimal numerals n (omega arith) in
     small_value_some (decimal n) (decimal_is_IsNumeral n (omega arith)).0.0 (digits_decimal numerals n (omega arith)) (rw value h) ∙ ap Some value
 
--- without a leading zero
+-- it has no leading zero
 decimal_leads : (n : ℕ) → n < 18446744073709551616 → leads_with_zero (decimal n) ≡ false
 decimal_leads zero h = rw (decimal_digit 0 (omega arith)) refl
 decimal_leads (suc n) h =
     let above : 48 < get_or (decimal (suc n)) 0 0 = first_decimal (suc n) (omega arith) (omega arith) in
     grind (arith, nat_tests)
 
--- digits that make less than 2^64
+-- digits that stand for less than 2^64
 small_parts : (text : List ℕ) (v : ℕ) → small_value text ≡ Some v → (0 < length text) × (list_all is_digit text ≡ true) × (own.digits_value text ≡ v) × (v < 18446744073709551616)
 small_parts text v e = parts (are_digits text) refl (nat_lt (own.digits_value text) 18446744073709551616) refl e
   where
@@ -148,7 +148,7 @@ digits_spell text v e plain =
     let lead : get_or text 0 0 ≡ 48 → length text ≡ 1 = λ first. grind (arith, nat_tests, p.0) in
     sym (decimal-digits_value numerals text p.1 p.0 lead (omega (arith, p.2, p.3))) ∙ ap decimal p.2
 
--- what digits spell within bounds
+-- the number that digits spell within bounds
 module _ (low high : ℕ) (text : List ℕ) (h : high < 18446744073709551616) where
   pub within_none : small_value text ≡ None → number_within low high text ≡ None
   within_none e =

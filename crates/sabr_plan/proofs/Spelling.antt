@@ -8,7 +8,7 @@ use Rattle.sabr_plan.specs.Digits.{is_digit}
 use Rattle.sabr_plan.specs.Times.{pair_at, spelled}
 use Rattle.sabr_plan.specs.TimeShape.{is_pair, has_shape, fields_at, HasWidth}
 
--- what two digits are of the number that they stand for
+-- the bytes of two digits, by the number that they stand for
 pair_bytes : (word : List ℕ) (i : ℕ) → is_pair word i ≡ true → (get_or word i 0 ≡ 48 + pair_at word i / 10) × (get_or word (i + 1) 0 ≡ 48 + pair_at word i % 10) × (pair_at word i < 100)
 pair_bytes word i h =
     let both = and_parts (is_digit (get_or word i 0)) (is_digit (get_or word (i + 1) 0)) h in
@@ -66,7 +66,7 @@ shape_parts word h =
       clock = p12.1;
     }
 
--- and it is their spelling
+-- a text of that shape is the spelling of its fields
 pub fields_at_spelled : (word : List ℕ) → has_shape word ≡ true → word ≡ spelled (fields_at word)
 fields_at_spelled word h =
     let p = shape_parts word h in
@@ -100,7 +100,7 @@ spelled_has_shape f w =
 two_value : (n : ℕ) → (48 + n / 10 - 48) * 10 + (48 + n % 10 - 48) ≡ n
 two_value n = omega arith
 
--- and the fields that it was made of
+-- the fields of a spelling are those that were spelled
 pub fields_at-spelled : (f : TimeFields) → fields_at (spelled f) ≡ f
 fields_at-spelled f =
     let year : f.year / 100 * 100 + f.year % 100 ≡ f.year = omega arith in

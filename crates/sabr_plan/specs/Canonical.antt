@@ -6,7 +6,7 @@ use Rattle.sabr_model.specs.Plan.{ContactPlan}
 use Rattle.sabr_model.specs.declared.contact.Contact.{Contact}
 use Rattle.sabr_model.specs.declared.contact.Range.{Range}
 
--- numbers, each behind a space
+-- numbers, each after a space
 abbrev pub spaced_numbers : List ℕ → List ℕ
 spaced_numbers [] = []
 spaced_numbers (n ∷ ns) = (32 ∷ decimal n) ++ spaced_numbers ns
@@ -23,7 +23,7 @@ contact_line c = record_line 99 (c.number ∷ c.start ∷ c.end ∷ c.from ∷ c
 unfoldable pub range_line : Range → List ℕ
 range_line r = record_line 114 (r.one ∷ r.other ∷ r.start ∷ r.end ∷ r.light ∷ [])
 
--- the standing contacts by number, and the standing ranges by pair of nodes and start
+-- the lines of the standing contacts by number, and of the standing ranges by pair of nodes and start
 unfoldable pub canonical_text : ContactPlan → List ℕ
 canonical_text p = codes "cgr-plan 1\n" ++ flat_map contact_line p.contacts ++ flat_map range_line p.ranges ++ codes "end\n"
 

@@ -1,4 +1,4 @@
--- What a line of a plan text says (ionrc(5): `a contact`, `a range`, `d contact`, `d range`, `@` and comments).
+-- The command in a line of a plan text (ionrc(5): `a contact`, `a range`, `d contact`, `d range`, `@` and comments).
 use Rattle.std.specs.Prelude.{ℕ, ◌<◌, ◌≤◌, not, List, [], ◌∷◌, Result, Ok, Err, codes, if◌then◌else◌}
 use Rattle.std.specs.List.{list_all}
 use Rattle.std.specs.Str.{bytes_eq}
@@ -32,19 +32,19 @@ deletion_of reference target (s ∷ x ∷ y ∷ []) =
     (both_of (node_of x) (node_of y)))
 deletion_of reference target _ = Err WrongOperands
 
--- what the word behind `a` or `d` names
+-- what the word after `a` or `d` names
 abbrev pub target_of : List ℕ → Option Target
 target_of word =
     if bytes_eq word (codes "contact") then Some Contact
     else if bytes_eq word (codes "range") then Some Range
     else None
 
--- a command on what the first word names, with the operands behind it
+-- a command on what the first word names, with the operands after it
 abbrev pub targeted : (Target → List (List ℕ) → Result Command PlanKind) → List (List ℕ) → Result Command PlanKind
 targeted command [] = Err UnknownCommand
 targeted command (word ∷ operands) = elim (target_of word) [ Some target ↦ command target operands | None ↦ Err UnknownCommand ]
 
--- the absolute time behind `@`
+-- the absolute time after `@`
 abbrev pub reference_of : List (List ℕ) → Result Command PlanKind
 reference_of (time ∷ []) = given_as SetReference (absolute_time time)
 reference_of _ = Err WrongOperands
@@ -57,14 +57,14 @@ command_of reference (word ∷ words) =
     else if bytes_eq word (codes "d") then targeted (deletion_of reference) words
     else Err UnknownCommand
 
--- what a line says, or the least of its refusals
+-- the command in a line, or the first reason to refuse it
 unfoldable pub line_command : Option ℕ → List ℕ → Result Command PlanKind
 line_command reference line =
     if is_comment line then Ok Nothing
     else if not (list_all is_plain line) then Err BadByte
     else command_of reference (words_of line)
 
--- the nodes are from 1 on, the times and the value within their limits
+-- the nodes are from 1 on, the times and the value are within their limits
 abbrev pub HasBounds : Command → Type 0
 HasBounds (Add target a) = (0 < a.first) × (0 < a.second) × (a.end ≤ last_time) × (a.value ≤ greatest_value target)
 HasBounds (SetReference t) = t ≤ last_time

@@ -2,11 +2,11 @@
 use Rattle.std.specs.Prelude.{ℕ, ◌+◌, ◌-◌, ◌*◌, ◌==◌, nat_lt, nat_le, ◌&&◌, Bool, List, length, slice_index, fold}
 use Rattle.std.specs.List.{list_all}
 
--- a byte is a digit
+-- whether a byte is a digit
 abbrev pub is_digit : ℕ → Bool
 is_digit b = nat_le 48 b && nat_le b 57
 
--- a word is made of digits
+-- whether a word is made of digits
 abbrev pub are_digits : List ℕ → Bool
 are_digits word = nat_lt 0 (length word) && list_all is_digit word
 
@@ -14,6 +14,6 @@ are_digits word = nat_lt 0 (length word) && list_all is_digit word
 unfoldable pub digits_value : List ℕ → ℕ
 digits_value word = fold (λ n b. n * 10 + (b - 48)) 0 word
 
--- more than one digit, and the first is `0`
+-- whether there is more than one digit, and the first is `0`
 abbrev pub leads_with_zero : List ℕ → Bool
 leads_with_zero word = nat_lt 1 (length word) && (slice_index word 0 == 48)

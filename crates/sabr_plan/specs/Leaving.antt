@@ -1,15 +1,15 @@
--- What a call leaves that may also be refused for want of memory.
+-- What a call leaves that may also run out of memory.
 use Rattle.std.specs.Prelude.{◌≡◌, ◌⊎◌, Result, Ok, Err}
 use Rattle.sabr_plan.specs.declared.fault.PlanFault.{PlanFault}
 use Rattle.sabr_plan.specs.declared.fault.PlanKind.{PlanKind}
 use Rattle.sabr_plan.specs.declared.fault.PlanKind.TheVariants.{NoMemory}
 
--- the new state, or the refusal, or one for want of memory
+-- the new state, or the refusal, or out of memory
 abbrev pub Leaves : {S U : Type 0} → Result S PlanKind → Result U PlanKind → S → Type 0
 Leaves wanted (Ok _) new = wanted ≡ Ok new
 Leaves wanted (Err k) new = (k ≡ NoMemory) ⊎ (wanted ≡ Err k)
 
--- the same, where the refusal names a line
+-- the same, if the refusal names a line
 abbrev pub LeavesAt : {S U : Type 0} → Result S PlanFault → Result U PlanFault → S → Type 0
 LeavesAt wanted (Ok _) new = wanted ≡ Ok new
 LeavesAt wanted (Err f) new = (f.kind ≡ NoMemory) ⊎ (wanted ≡ Err f)

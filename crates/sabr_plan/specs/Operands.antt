@@ -16,7 +16,7 @@ abbrev pub relative_of : List ℕ → Option ℕ
 relative_of [] = None
 relative_of (b ∷ digits) = if (b == 43) && are_digits digits && nat_le (length digits) 12 then Some (digits_value digits) else None
 
--- that many seconds after the reference
+-- the time this many seconds after the reference
 abbrev pub after_reference : Option ℕ → ℕ → Result ℕ PlanKind
 after_reference None seconds = Err NoReference
 after_reference (Some reference) seconds = if nat_le (reference + seconds) last_time then Ok (reference + seconds) else Err BadTime
@@ -32,7 +32,7 @@ time_at reference word = elim (relative_of word) [ Some seconds ↦ after_refere
 abbrev pub node_of : List ℕ → Result ℕ PlanKind
 node_of word = ok_or (number_within 1 18446744073709551615 word) BadNode
 
--- the greatest rate of a contact, in bytes a second, and light time of a range, in seconds
+-- the greatest rate of a contact, in bytes per second, or the greatest light time of a range, in seconds
 abbrev pub greatest_value : Target → ℕ
 greatest_value Contact = 18446744073709551615
 greatest_value Range = most_light
@@ -41,12 +41,12 @@ greatest_value Range = most_light
 abbrev pub value_of : Target → List ℕ → Result ℕ PlanKind
 value_of target word = ok_or (number_within 0 (greatest_value target) word) BadNumber
 
--- of two refusals of times, BadTime comes first
+-- the refusal that comes first: BadTime before any other
 abbrev pub lesser_kind : PlanKind → PlanKind → PlanKind
 lesser_kind BadTime g = BadTime
 lesser_kind f g = g
 
--- both, or the lesser refusal
+-- both values, or the refusal that comes first
 abbrev pub both_of : Result ℕ PlanKind → Result ℕ PlanKind → Result (ℕ × ℕ) PlanKind
 both_of (Ok a) (Ok b) = Ok (a, b)
 both_of (Ok a) (Err g) = Err g

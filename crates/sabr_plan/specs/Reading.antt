@@ -17,7 +17,7 @@ use Rattle.sabr_plan.specs.declared.fault.PlanFault.{PlanFault}
 use Rattle.sabr_plan.specs.declared.fault.PlanKind.{PlanKind}
 use Rattle.sabr_plan.specs.declared.fault.PlanKind.TheVariants as kind
 
--- what the lines so far leave: a plan, and the time that relative times are counted from
+-- what the lines so far leave: a plan, and the time from which relative times count
 pub record Reading : Type 0 where
   pub plan : ContactPlan
   pub reference : Option ℕ
@@ -32,16 +32,16 @@ kind_of add.TooMany = kind.TooMany
 kind_of add.NoMemory = kind.NoMemory
 kind_of add.NothingToDelete = kind.NothingToDelete
 
--- another plan, where it is not refused
+-- another plan, if it is not refused
 abbrev pub changed : Option AddFault → Option ℕ → ContactPlan → Result Reading PlanKind
 changed (Some f) reference p = Err (kind_of f)
 changed None reference p = Ok (record { plan = p; reference = reference })
 
--- a deletion is refused where nothing stands that it names
+-- a deletion is refused if there is nothing of that name to delete
 abbrev pub unless_named : Bool → Option AddFault
 unless_named named = if named then None else Some add.NothingToDelete
 
--- what a line says is done
+-- the state after a command is carried out
 unfoldable pub obeyed : Reading → Command → Result Reading PlanKind
 obeyed r Nothing = Ok r
 obeyed r (SetReference t) = Ok (record { plan = r.plan; reference = Some t })
@@ -58,16 +58,16 @@ obeyed r (Delete Range d) =
     changed (unless_named (list_any (begins d.first d.second d.start) r.plan.ranges)) r.reference
     (without_range r.plan d.first d.second d.start)
 
--- a line is read, and what it says is done
+-- the state after a line is read and its command carried out
 unfoldable pub judged : Reading → List ℕ → Result Reading PlanKind
 judged r line = and_then (line_command r.reference line) (obeyed r)
 
--- a refusal of the line of this number
+-- a refusal of the line with this number
 abbrev pub at_line : {A : Type 0} → ℕ → Result A PlanKind → Result A PlanFault
 at_line n (Ok x) = Ok x
 at_line n (Err k) = Err (record { line = n; kind = k })
 
--- line n is judged, if a text has at most 1000000 lines before and with it, and it at most 255 bytes
+-- line n is read if its number is at most 1000000 and it has at most 255 bytes
 unfoldable pub limited : ℕ → Reading → List ℕ → Result Reading PlanKind
 limited n r line = if nat_lt 1000000 n then Err kind.TooMany else if nat_lt 255 (length line) then Err kind.LineTooLong else judged r line
 
@@ -80,26 +80,26 @@ unfoldable pub read_lines : ℕ → Reading → List (List ℕ) → Result Readi
 read_lines n r [] = Ok r
 read_lines n r (line ∷ lines) = and_then (read_line n r line) (λ r₁. read_lines (n + 1) r₁ lines)
 
--- the text ends behind these bytes of line n, which are a line where there is one
+-- the text ends after these bytes of line n, which are a line if there are any
 abbrev pub ended_line : ℕ → Reading → List ℕ → Result Reading PlanFault
 ended_line n r line = if has_bytes line then read_line n r line else Ok r
 
--- the reader failed behind these bytes of line n: told is what is wrong with any line that begins so
+-- the reader failed after these bytes of line n: reported is what is wrong with every line that begins with them
 abbrev pub broken_line : ℕ → List ℕ → PlanFault
 broken_line n line = record {
   line = n;
   kind = if nat_lt 1000000 n && has_bytes line then kind.TooMany else if nat_lt 255 (length line) then kind.LineTooLong else kind.Read;
 }
 
--- behind the last LF
+-- the text after the last LF
 abbrev pub last_line : Bool → ℕ → List ℕ → Reading → Result ContactPlan PlanFault
 last_line ended n line r = if ended then given_as (λ r₁. r₁.plan) (ended_line n r line) else Err (broken_line n line)
 
--- before the first line
+-- the state before the first line
 abbrev pub nothing_read : Reading
 nothing_read = record { plan = record { contacts = []; ranges = []; greatest = 0 }; reference = None }
 
--- the plan of a text, or its first bad line; `ended` says whether the reader ended behind these bytes, or failed
+-- the plan of a text, or its first bad line; `ended` says whether the reader ended after these bytes, or failed
 unfoldable pub plan_of : List ℕ → Bool → Result ContactPlan PlanFault
 plan_of bytes ended =
     let text = lines_of bytes in

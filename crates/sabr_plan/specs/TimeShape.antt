@@ -4,11 +4,11 @@ use Rattle.sabr_plan.specs.Digits.{is_digit}
 use Rattle.sabr_plan.specs.Times.{pair_at}
 use Rattle.sabr_plan.specs.declared.time.TimeFields.{TimeFields}
 
--- two digits stand from place i on
+-- whether there are two digits from place i on
 abbrev pub is_pair : List ℕ → ℕ → Bool
 is_pair word i = is_digit (slice_index word i) && is_digit (slice_index word (i + 1))
 
--- pairs of digits with `/`, `-` and `:` where a time has them
+-- whether there are pairs of digits with `/`, `-` and `:` where a time has them
 abbrev pub has_shape : List ℕ → Bool
 has_shape word =
     (length word == 19) && is_pair word 0 && is_pair word 2 && (slice_index word 4 == 47) && is_pair word 5

@@ -20,12 +20,12 @@ next_day d =
     else if nat_lt d.month 12 then record { year = d.year; month = d.month + 1; day = 1 }
     else record { year = d.year + 1; month = 1; day = 1 }
 
--- the day that many days after 1970/01/01
+-- the day this many days after 1970/01/01
 unfoldable pub day_after_epoch : ℕ → CalendarDay
 day_after_epoch zero = record { year = 1970; month = 1; day = 1 }
 day_after_epoch (suc n) = next_day (day_after_epoch n)
 
--- what calendar and clock show, t seconds after 1970/01/01-00:00:00; each day has 86400 seconds
+-- the date and time of day, t seconds after 1970/01/01-00:00:00; each day has 86400 seconds
 unfoldable pub fields_of : ℕ → TimeFields
 fields_of t =
     let d = day_after_epoch (t / 86400) in
@@ -56,7 +56,7 @@ second_named word =
     unsigned_abs (days_from_civil (pos (pair_at word 0 * 100 + pair_at word 2)) (pair_at word 5) (pair_at word 8)) * 86400
     + pair_at word 11 * 3600 + pair_at word 14 * 60 + pair_at word 17
 
--- a word is a time where it is the spelling of the second that its digits name
+-- a word is a time if it is the spelling of the second that its digits name
 unfoldable pub time_of : List ℕ → Option ℕ
 time_of word =
     let t = second_named word in

@@ -14,14 +14,14 @@ use std::alloc::Allocator;
 /// The first line of a canonical text.
 const FIRST_LINE: &[u8] = b"cgr-plan 1\n";
 
-/// Its last line.
+/// The last line of a canonical text.
 const LAST_LINE: &[u8] = b"end\n";
 
 /// Writes the canonical text of a plan: a line for each standing contact by number, and one for each standing range by
 /// pair of nodes and start, between a first and a last line.
 ///
-/// Fails with the writer; then a beginning of the text was written. It takes no memory, and doesn't flush. The text is
-/// this project's profile.
+/// If the writer fails, a beginning of the text was written. It takes no memory and doesn't flush. The text is this
+/// project's profile.
 pub fn canonical<W: Write, A: Allocator + Copy>(
     plan: &Plan<A>,
     writer: &mut W,
@@ -54,7 +54,7 @@ fn write_ranges<W: Write>(ranges: &[Range], writer: &mut W) -> Result<(), WriteF
     Ok(())
 }
 
-/// Gives the digest of a plan: SHA-256 of its canonical text, which is fed line by line. It takes no memory.
+/// Returns the digest of a plan: SHA-256 of its canonical text, which is fed line by line. It takes no memory.
 pub fn digest<A: Allocator + Copy>(plan: &Plan<A>) -> [u8; 32]
     ensures { result ≡ digest_of plan.now.plan }
 {
@@ -66,7 +66,7 @@ pub fn digest<A: Allocator + Copy>(plan: &Plan<A>) -> [u8; 32]
     hasher.finalize()
 }
 
-/// Feeds the lines of contacts.
+/// Feeds the lines of contacts to a hasher.
 fn feed_contacts(contacts: &[Contact], hasher: &mut Sha256)
     ensures { (m : List ℕ) → Holds256 hasher.old m → Holds256 hasher.new (m ++ flat_map contact_line contacts.now) }
 {
@@ -75,7 +75,7 @@ fn feed_contacts(contacts: &[Contact], hasher: &mut Sha256)
     }
 }
 
-/// Feeds the lines of ranges.
+/// Feeds the lines of ranges to a hasher.
 fn feed_ranges(ranges: &[Range], hasher: &mut Sha256)
     ensures { (m : List ℕ) → Holds256 hasher.old m → Holds256 hasher.new (m ++ flat_map range_line ranges.now) }
 {

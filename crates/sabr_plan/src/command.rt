@@ -1,4 +1,4 @@
-//! What a line of a plan text says.
+//! The command in a line of a plan text.
 
 ghost use Rattle.std.specs.Prelude.{◌≡◌, ◌<◌, ◌≤◌, Ok, Err, IfOk};
 ghost use Rattle.sabr_plan.specs.Words.{words_of};
@@ -9,7 +9,7 @@ use crate::operand::{absolute_time, both_of, node_of, time_at, value_of};
 use crate::swift_line::swift_addition;
 use crate::words::{five_words, is_comment, is_plain, is_word, next_word, one_word, three_words};
 
-/// What a command adds or takes out.
+/// What a command adds or deletes.
 #[derive(Clone, Copy, Debug, PartialEq, Eq)]
 pub enum Target {
     Contact,
@@ -21,13 +21,13 @@ pub enum Target {
 pub struct Addition {
     /// The first second.
     pub start: u64,
-    /// The second behind the last.
+    /// The second after the last.
     pub end: u64,
-    /// The sender, or the node that a range is written from.
+    /// The sender, or the node that a range names first.
     pub first: u64,
-    /// The receiver, or the node that a range is written to.
+    /// The receiver, or the node that a range names second.
     pub second: u64,
-    /// The rate in bytes a second, or the light time in seconds.
+    /// The rate in bytes per second, or the light time in seconds.
     pub value: u64,
 }
 
@@ -39,7 +39,7 @@ pub struct Deletion {
     pub second: u64,
 }
 
-/// What a line says.
+/// The command in a line.
 #[derive(Clone, Copy, Debug, PartialEq, Eq)]
 pub enum Command {
     Nothing,
@@ -48,7 +48,7 @@ pub enum Command {
     Delete(Target, Deletion),
 }
 
-/// Tells what a line says, or the least of its refusals. Times are relative to the reference.
+/// Returns the command in a line, or the first reason to refuse it. Relative times count from the reference.
 #[tactic(auto, unfolding(crate::specs::Commands::line_command))]
 pub fn line_command(reference: Option<u64>, line: &[u8]) -> Result<Command, PlanKind>
     ensures value { result ≡ line_command reference line.now }
@@ -66,7 +66,7 @@ pub fn line_command(reference: Option<u64>, line: &[u8]) -> Result<Command, Plan
     command_of(reference, line)
 }
 
-/// Tells what the words of a line say.
+/// Returns the command in the words of a line.
 fn command_of(reference: Option<u64>, line: &[u8]) -> Result<Command, PlanKind>
     ensures value { result ≡ command_of reference (words_of line.now) }
     ensures bounds { IfOk result HasBounds }
@@ -85,7 +85,7 @@ fn command_of(reference: Option<u64>, line: &[u8]) -> Result<Command, PlanKind>
     }
 }
 
-/// Gives the absolute time behind `@`.
+/// Reads the absolute time after `@`.
 fn reference_of(text: &[u8]) -> Result<Command, PlanKind>
     ensures value { result ≡ reference_of (words_of text.now) }
     ensures bounds { IfOk result HasBounds }
@@ -99,7 +99,7 @@ fn reference_of(text: &[u8]) -> Result<Command, PlanKind>
     }
 }
 
-/// Tells what the word behind `a` or `d` names.
+/// Returns what the word after `a` or `d` names.
 fn target_of(word: &[u8]) -> Option<Target>
     ensures { result ≡ target_of word.now }
 {
@@ -112,7 +112,7 @@ fn target_of(word: &[u8]) -> Option<Target>
     }
 }
 
-/// Tells what stands behind `a`.
+/// Reads the rest of a line after `a`.
 fn add_command(reference: Option<u64>, text: &[u8]) -> Result<Command, PlanKind>
     ensures value { result ≡ targeted (addition_of reference) (words_of text.now) }
     ensures bounds { IfOk result HasBounds }
@@ -126,7 +126,7 @@ fn add_command(reference: Option<u64>, text: &[u8]) -> Result<Command, PlanKind>
     }
 }
 
-/// Tells what stands behind `d`.
+/// Reads the rest of a line after `d`.
 fn delete_command(reference: Option<u64>, text: &[u8]) -> Result<Command, PlanKind>
     ensures value { result ≡ targeted (deletion_of reference) (words_of text.now) }
     ensures bounds { IfOk result HasBounds }

@@ -2,8 +2,8 @@
 
 use thiserror::Error;
 
-/// What is wrong with a line, or with the reader, in the order in which it is asked. Of one line the first
-/// that holds is told. All but what ionrc(5) says of the commands is this project's profile.
+/// What is wrong with a line, or with the reader, in the order in which it is checked. Of one line the first that holds
+/// is reported. All but what ionrc(5) says of the commands is this project's profile.
 #[derive(Clone, Copy, Debug, PartialEq, Eq, Error)]
 pub enum PlanKind {
     /// The line has more than 255 bytes without its LF.
@@ -21,7 +21,7 @@ pub enum PlanKind {
     /// A time is in neither form, outside the years 1970 to 9998, or relative where it must be absolute.
     #[error("a time is not one")]
     BadTime,
-    /// A time is relative, and no `@` line stands before.
+    /// A time is relative, and there is no `@` line before it.
     #[error("a relative time has no reference")]
     NoReference,
     /// A node is not a number from 1 to 18446744073709551615.
@@ -33,25 +33,26 @@ pub enum PlanKind {
     /// The start isn't before the stop.
     #[error("the window is empty")]
     EmptyWindow,
-    /// The two nodes are one.
+    /// The two nodes are the same.
     #[error("both nodes are the same")]
     SelfPair,
     /// A standing contact has the same start, sender and receiver.
     #[error("such a contact stands")]
     DuplicateContact,
-    /// A standing range of the same ordered pair of nodes shares a second.
+    /// A standing range of the same ordered pair of nodes overlaps it.
     #[error("a range of the same pair overlaps")]
     RangeOverlap,
-    /// It would be contact number 20001, the 20001st standing range, or line 1000001.
+    /// It would be contact number 20001, the 20001st standing range, or line 1000001. A line's number is checked before
+    /// anything else.
     #[error("too many contacts, ranges or lines")]
     TooMany,
     /// The reader failed.
     #[error("reading failed")]
     Read,
-    /// Memory was refused. Which line is named is open.
+    /// Memory was refused. Which line is named is unspecified.
     #[error("out of memory")]
     NoMemory,
-    /// Nothing that stands is named.
+    /// There is no standing contact or range to delete.
     #[error("there is nothing to delete")]
     NothingToDelete,
 }

@@ -1,4 +1,4 @@
-//! Plan texts after ionrc(5): the reader of plans, times, the canonical text of a plan and its digest.
+//! Plan texts as in ionrc(5): reading plans, times, the canonical text of a plan and its digest.
 #![tactic(auto)]
 
 mod canonical_text;

@@ -5,7 +5,7 @@ ghost use Rattle.std.specs.List.{list_all};
 ghost use Rattle.sabr_plan.specs.Digits.{is_digit, are_digits, digits_value, leads_with_zero};
 ghost use Rattle.sabr_plan.specs.Numbers.{number_within};
 
-/// Gives one digit more behind a number, where that is below 2^64.
+/// Appends a digit to a number, if the result is below 2^64.
 fn push_digit(value: u64, byte: u8) -> Option<u64>
     requires { IsTrue (is_digit byte) }
     ensures { SomeIff result (value * 10 + (byte - 48) < 18446744073709551616) (value * 10 + (byte - 48)) }
@@ -13,7 +13,7 @@ fn push_digit(value: u64, byte: u8) -> Option<u64>
     value.checked_mul(10)?.checked_add((byte - b'0') as u64)
 }
 
-/// Gives the number that digits stand for; None for a word that isn't digits, or a number of 2^64 or more.
+/// Returns the number that digits stand for. None for a word that isn't digits, or a number of 2^64 or more.
 pub fn digits_value(word: &[u8]) -> Option<u64>
     ensures { result ≡ (if are_digits word.now && nat_lt (digits_value word.now) 18446744073709551616 then Some (digits_value word.now) else None) }
 {
@@ -30,15 +30,15 @@ pub fn digits_value(word: &[u8]) -> Option<u64>
     Some(value)
 }
 
-/// Tells whether there is more than one digit, and the first is `0`.
+/// Returns true if there is more than one digit, and the first is `0`.
 pub fn leads_with_zero(word: &[u8]) -> bool
     ensures { result ≡ leads_with_zero word.now }
 {
     word.len() > 1 && word[0] == b'0'
 }
 
-/// Gives the number that the text spells, decimal without a sign or leading zero, from `low` to `high` (this project's
-/// profile). Its time grows with the text's length.
+/// Returns the number that the text spells, from `low` to `high`: decimal, without a sign or leading zero (this
+/// project's profile). Its time grows with the text's length.
 pub fn number_within(text: &[u8], low: u64, high: u64) -> Option<u64>
     ensures value { result ≡ number_within low high text.now }
     ensures range { IfSome result (λ n. (low ≤ n) × (n ≤ high)) }
@@ -51,7 +51,8 @@ pub fn number_within(text: &[u8], low: u64, high: u64) -> Option<u64>
     }
 }
 
-/// Gives the digits at the front of a text, at most 19, the number that they stand for, and what comes behind them.
+/// Returns the number that the digits at the front of a text stand for, the digits, and the text after them. The digits
+/// are at most 19.
 pub fn leading_digits(text: &[u8]) -> (u64, &[u8], &[u8])
     ensures parts { text.now ≡ result.1.now ++ result.2.now }
     ensures value { result.0 ≡ digits_value result.1.now }
@@ -69,8 +70,8 @@ pub fn leading_digits(text: &[u8]) -> (u64, &[u8], &[u8])
     (value, digits, rest)
 }
 
-/// Gives the number from `low` to `high` that the digits at the front of a text spell, at most 19 and without a leading
-/// zero, with those digits and what comes behind them. Of a text that begins otherwise nothing is said.
+/// Returns the number from `low` to `high` that the digits at the front of a text spell, those digits, and the text
+/// after them. The digits are at most 19, without a leading zero. None says nothing about the text.
 #[inline(always)]
 pub fn leading_number(text: &[u8], low: u64, high: u64) -> Option<(u64, &[u8], &[u8])>
     ensures parts { IfSome result (λ r. text.now ≡ r.1.now ++ r.2.now) }

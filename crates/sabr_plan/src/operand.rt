@@ -10,7 +10,7 @@ use crate::number::{digits_value, number_within};
 use crate::time::parse_time;
 use sabr_model::{LAST_TIME, MOST_LIGHT};
 
-/// Gives the seconds of a relative time: `+` and one to twelve digits.
+/// Returns the seconds of a relative time: `+` and one to twelve digits.
 fn relative_of(word: &[u8]) -> Option<u64>
     ensures { result ≡ relative_of word.now }
 {
@@ -20,7 +20,7 @@ fn relative_of(word: &[u8]) -> Option<u64>
     digits_value(&word[1..])
 }
 
-/// Gives the second so many seconds after the reference.
+/// Returns the time that is this many seconds after the reference.
 pub fn after_reference(reference: Option<u64>, seconds: u64) -> Result<u64, PlanKind>
     ensures { result ≡ after_reference reference seconds }
 {
@@ -34,7 +34,7 @@ pub fn after_reference(reference: Option<u64>, seconds: u64) -> Result<u64, Plan
     }
 }
 
-/// Gives an absolute time.
+/// Reads an absolute time.
 pub fn absolute_time(word: &[u8]) -> Result<u64, PlanKind>
     ensures value { result ≡ absolute_time word.now }
     ensures bound { IfOk result (λ t. t ≤ last_time) }
@@ -42,7 +42,7 @@ pub fn absolute_time(word: &[u8]) -> Result<u64, PlanKind>
     parse_time(word).ok_or(PlanKind::BadTime)
 }
 
-/// Gives a time, absolute or relative to the reference.
+/// Reads a time, absolute or relative to the reference.
 #[tactic(auto, unfolding(crate::specs::Operands::time_at))]
 pub fn time_at(reference: Option<u64>, word: &[u8]) -> Result<u64, PlanKind>
     ensures value { result ≡ time_at reference word.now }
@@ -54,7 +54,7 @@ pub fn time_at(reference: Option<u64>, word: &[u8]) -> Result<u64, PlanKind>
     }
 }
 
-/// Gives a node.
+/// Reads a node.
 pub fn node_of(word: &[u8]) -> Result<u64, PlanKind>
     ensures value { result ≡ node_of word.now }
     ensures bound { IfOk result (λ n. 0 < n) }
@@ -62,7 +62,7 @@ pub fn node_of(word: &[u8]) -> Result<u64, PlanKind>
     number_within(word, 1, u64::MAX).ok_or(PlanKind::BadNode)
 }
 
-/// Gives the greatest rate of a contact, in bytes a second, and light time of a range, in seconds.
+/// Returns the greatest rate of a contact, in bytes per second, or the greatest light time of a range, in seconds.
 pub fn greatest_value(target: Target) -> u64
     ensures { result ≡ greatest_value target }
 {
@@ -72,7 +72,7 @@ pub fn greatest_value(target: Target) -> u64
     }
 }
 
-/// Gives a rate or a light time.
+/// Reads a rate or a light time.
 pub fn value_of(target: Target, word: &[u8]) -> Result<u64, PlanKind>
     ensures value { result ≡ value_of target word.now }
     ensures bound { IfOk result (λ v. v ≤ greatest_value target) }
@@ -80,7 +80,7 @@ pub fn value_of(target: Target, word: &[u8]) -> Result<u64, PlanKind>
     number_within(word, 0, greatest_value(target)).ok_or(PlanKind::BadNumber)
 }
 
-/// Gives both, or the lesser refusal.
+/// Returns both values, or the refusal that comes first: `BadTime` before any other.
 pub fn both_of(
     first: Result<u64, PlanKind>,
     second: Result<u64, PlanKind>,

@@ -11,11 +11,13 @@ use std::alloc::Allocator;
 
 /// Reads the plan that a text spells, to the text's end or up to its first bad line.
 ///
-/// The text is that of ionrc(5), as far as this project's profile goes. Of the bad lines the first is told, and of
-/// that line the least kind. `Read` comes only where the reader failed, and `NoMemory` only where a growth was
-/// refused; then no plan is given. How many bytes behind a bad line the reader has given up is open.
+/// The text is that of ionrc(5), as far as this project's profile goes. It takes one pass over the text. The plan isn't
+/// made ready for searches ([`Plan::make_ready`]).
 ///
-/// One pass over the text. The plan isn't made ready for searches ([`Plan::make_ready`]).
+/// # Errors
+///
+/// The first bad line, and of that line the first kind that holds. `Read` only if the reader failed, and `NoMemory`
+/// only if an allocation was refused. How many bytes after a bad line were taken from the reader is unspecified.
 pub fn read_plan<R: Read, A: Allocator + Copy>(
     alloc: A,
     reader: &mut R,

@@ -1,4 +1,4 @@
-//! One line of the canonical text of a plan, in a fixed array.
+//! A line of the canonical text of a plan, in a fixed array.
 
 ghost use Rattle.std.specs.Prelude.{◌≡◌, ◌+◌, ◌*◌, ◌≤◌, [], ◌∷◌, ◌++◌, decimal, length};
 
@@ -55,7 +55,7 @@ impl RecordLine {
         line
     }
 
-    /// Gives the line's bytes.
+    /// The line's bytes.
     pub fn as_bytes(&self) -> &[u8]
         ensures { result.now ≡ self.now }
     {
@@ -71,7 +71,7 @@ impl RecordLine {
         RecordLine { bytes }
     }
 
-    /// Puts a space and a number behind the line.
+    /// Appends a space and a number.
     fn put_number(&mut self, number: u64)
         requires { length self.old + 21 ≤ 128 }
         ensures value { self.new ≡ self.old ++ (32 ∷ decimal number) }
@@ -82,7 +82,7 @@ impl RecordLine {
         self.put(digits.format(number).as_bytes());
     }
 
-    /// Puts bytes behind the line.
+    /// Appends bytes.
     fn put(&mut self, piece: &[u8])
         requires { length self.old + length piece.now ≤ 128 }
         ensures value { self.new ≡ self.old ++ piece.now }

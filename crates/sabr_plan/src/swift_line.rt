@@ -1,4 +1,5 @@
-//! Additions that are spelled plainly, with single spaces and relative times, read in one pass. Of all other lines nothing is said.
+//! A fast reader of plainly spelled additions, with single spaces and relative times, in one pass. It says nothing
+//! about other lines.
 
 ghost use Rattle.std.specs.Prelude.{◌≡◌, ◌≤◌, ◌++◌, Ok, Some, IfSome, IsTrue};
 ghost use Rattle.sabr_model.specs.Plan.{last_time};
@@ -13,7 +14,7 @@ use crate::command::{Addition, Command, Target};
 use crate::number::{leading_digits, leading_number};
 use crate::operand::{after_reference, greatest_value};
 
-/// Gives the number behind the space that a text begins with, and what comes behind it.
+/// Reads a space and a number at the front of a text. Returns the number and the text after it.
 #[inline(always)]
 fn number_ahead(low: u64, high: u64, text: &[u8]) -> Option<(u64, &[u8])>
     ensures word { IfSome result (λ r. IsAhead (λ w. number_within low high w ≡ Some r.0) text.now r.1.now) }
@@ -24,7 +25,7 @@ fn number_ahead(low: u64, high: u64, text: &[u8]) -> Option<(u64, &[u8])>
     Some((value, rest))
 }
 
-/// Gives the relative time behind the space that a text begins with, and what comes behind it.
+/// Reads a space and a relative time at the front of a text. Returns the time and the text after it.
 fn time_ahead(reference: Option<u64>, text: &[u8]) -> Option<(u64, &[u8])>
     ensures word { IfSome result (λ r. IsAhead (λ w. time_at reference w ≡ Ok r.0) text.now r.1.now) }
     ensures bound { IfSome result (λ r. r.0 ≤ last_time) }
@@ -40,7 +41,7 @@ fn time_ahead(reference: Option<u64>, text: &[u8]) -> Option<(u64, &[u8])>
     Some((time, rest))
 }
 
-/// Tells what stands behind `a contact` or `a range`.
+/// Reads the operands after `a contact` or `a range`.
 fn operands_ahead(reference: Option<u64>, target: Target, text: &[u8]) -> Option<Addition>
     ensures value { IfSome result (λ a. addition_of reference target (words_of text.now) ≡ Ok (Add target a)) }
     ensures bounds { IfSome result (λ a. HasBounds (Add target a)) }
@@ -63,7 +64,7 @@ fn operands_ahead(reference: Option<u64>, target: Target, text: &[u8]) -> Option
     })
 }
 
-/// Gives the target of an addition that a line begins with, and what comes behind it.
+/// Returns the target of the addition that a line begins with, and the text after it.
 fn target_ahead(line: &[u8]) -> Option<(Target, &[u8])>
     ensures { IfSome result (λ r. line.now ≡ start_of r.0 ++ r.1.now) }
 {
@@ -74,7 +75,7 @@ fn target_ahead(line: &[u8]) -> Option<(Target, &[u8])>
     Some((Target::Range, text))
 }
 
-/// Tells what a line says that is a plainly spelled addition. None for all other lines.
+/// Returns the command of a line that is a plainly spelled addition. None for all other lines.
 pub fn swift_addition(reference: Option<u64>, line: &[u8]) -> Option<Command>
     ensures value { IfSome result (λ c. line_command reference line.now ≡ Ok c) }
     ensures bounds { IfSome result HasBounds }

@@ -8,10 +8,10 @@ ghost use Rattle.sabr_plan.specs.TimeShape.{is_pair, has_shape, fields_at, HasWi
 use jiff::civil::Date;
 use sabr_model::LAST_TIME;
 
-/// How many days before 1970/01/01 the calendar begins.
+/// The number of days from the first day of jiff's calendar to 1970/01/01.
 const DAYS_BEFORE_EPOCH: u32 = 4371587;
 
-/// The year, month and day of the Gregorian calendar, and what the clock shows.
+/// A date of the Gregorian calendar, and the time of day.
 #[derive(Clone, Copy, Debug, PartialEq, Eq)]
 pub struct TimeFields {
     /// The year.
@@ -28,7 +28,7 @@ pub struct TimeFields {
     pub second: u8,
 }
 
-/// Gives the fields of a second.
+/// Returns the calendar and clock fields of a second.
 fn fields_of(second: u64) -> TimeFields
     requires { second ≤ 253402300799 }
     ensures { result ≡ fields_of second }
@@ -46,8 +46,8 @@ fn fields_of(second: u64) -> TimeFields
     }
 }
 
-/// Tells how many days after 1970/01/01 a day of the calendar comes, if the calendar has it and it comes before none of
-/// them.
+/// Returns the number of days from 1970/01/01 to a day of the calendar. None if the calendar doesn't have that day, or
+/// if it is earlier.
 fn day_number(year: u16, month: u8, day: u8) -> Option<u32>
     requires year { year < 10000 }
     requires month { month < 100 }
@@ -62,7 +62,7 @@ fn day_number(year: u16, month: u8, day: u8) -> Option<u32>
     if days < 0 { None } else { Some(days as u32) }
 }
 
-/// Gives the second that calendar and clock show so, if there is one up to the greatest time.
+/// Returns the second with these calendar and clock fields. None if there is no such second up to the greatest time.
 fn second_of(fields: TimeFields) -> Option<u64>
     requires { HasWidth fields }
     ensures some { IfSome result (λ t. (fields_of t ≡ fields) × (t ≤ last_time)) }
@@ -80,7 +80,7 @@ fn second_of(fields: TimeFields) -> Option<u64>
     Some(second)
 }
 
-/// Tells whether two digits stand from a place on.
+/// Returns true if there are two digits from a place on.
 fn is_pair(text: &[u8], at: usize) -> bool
     requires { at + 1 < length text.now }
     ensures { result ≡ is_pair text.now at }
@@ -88,7 +88,7 @@ fn is_pair(text: &[u8], at: usize) -> bool
     text[at].is_ascii_digit() && text[at + 1].is_ascii_digit()
 }
 
-/// Gives the number that two digits stand for.
+/// Returns the number that two digits stand for.
 fn pair_at(text: &[u8], at: usize) -> u8
     requires room { at + 1 < length text.now }
     requires digits { IsTrue (is_pair text.now at) }
@@ -98,7 +98,7 @@ fn pair_at(text: &[u8], at: usize) -> u8
     (text[at] - b'0') * 10 + (text[at + 1] - b'0')
 }
 
-/// Tells whether the text has pairs of digits, and other bytes, where a time has them.
+/// Returns true if the text has pairs of digits, and other bytes, where a time has them.
 fn has_shape(text: &[u8]) -> bool
     ensures { result ≡ has_shape text.now }
 {
@@ -117,7 +117,7 @@ fn has_shape(text: &[u8]) -> bool
         && is_pair(text, 17)
 }
 
-/// Gives the fields of a text of that shape.
+/// Returns the fields of a text of that shape.
 #[tactic(auto, using(crate::proofs::Spelling::shape_parts))]
 fn fields_at(text: &[u8]) -> TimeFields
     requires { IsTrue (has_shape text.now) }
@@ -134,8 +134,8 @@ fn fields_at(text: &[u8]) -> TimeFields
     }
 }
 
-/// Gives the second of a text of exactly 19 bytes `yyyy/mm/dd-hh:mm:ss`, of the years 1970 to 9998, in seconds since
-/// 1970-01-01T00:00:00Z; each day has 86400. None for any other text.
+/// Returns the second of a text of exactly 19 bytes `yyyy/mm/dd-hh:mm:ss`, of the years 1970 to 9998, in seconds since
+/// 1970-01-01T00:00:00Z. Each day has 86400 seconds. None for any other text.
 pub fn parse_time(text: &[u8]) -> Option<u64>
     ensures some { IfSome result (λ t. (text.now ≡ time_text_of t) × (t ≤ last_time)) }
     ensures all { (t : ℕ) → t ≤ last_time → text.now ≡ time_text_of t → result ≡ Some t }
@@ -147,7 +147,7 @@ pub fn parse_time(text: &[u8]) -> Option<u64>
     second_of(fields_at(text))
 }
 
-/// Gives a digit.
+/// Returns the ASCII digit of a value.
 fn digit(value: u8) -> u8
     requires { value < 10 }
     ensures { result ≡ 48 + value }
@@ -155,8 +155,8 @@ fn digit(value: u8) -> u8
     b'0' + value
 }
 
-/// Gives the 19 bytes `yyyy/mm/dd-hh:mm:ss` of a second since 1970-01-01T00:00:00Z, which is at most 253402300799, the
-/// last of the year 9999.
+/// Returns the 19 bytes `yyyy/mm/dd-hh:mm:ss` of a second since 1970-01-01T00:00:00Z. The second is at most
+/// 253402300799, the last of the year 9999.
 #[tactic(auto, using(crate::proofs::Seconds::fields_of_width), unfolding(crate::specs::Times::time_text_of))]
 pub fn time_text(second: u64) -> [u8; 19]
     requires { second ≤ 253402300799 }
@@ -165,7 +165,7 @@ pub fn time_text(second: u64) -> [u8; 19]
     spelled(fields_of(second))
 }
 
-/// Gives the fields in full width.
+/// Spells the fields in full width.
 fn spelled(fields: TimeFields) -> [u8; 19]
     requires { HasWidth fields }
     ensures { result ≡ spelled fields }

@@ -5,15 +5,15 @@ ghost use Rattle.std.specs.List.{list_all};
 ghost use Rattle.std.specs.Str.{bytes_eq};
 ghost use Rattle.sabr_plan.specs.Words.{is_blank, is_plain, is_comment, has_bytes, words_of};
 
-/// Tells whether the line is a comment.
+/// Returns true if the line is a comment.
 pub fn is_comment(line: &[u8]) -> bool
     ensures { result ≡ is_comment line.now }
 {
     !line.is_empty() && line[0] == b'#'
 }
 
-/// Tells whether the line has tabs and the bytes 32 to 126 alone. It looks at many bytes at a time, and so doesn't stop
-/// at one.
+/// Returns true if the line has only tabs and the bytes 32 to 126. It doesn't stop at the first other byte, since it
+/// tests many bytes at a time.
 pub fn is_plain(line: &[u8]) -> bool
     ensures { result ≡ list_all is_plain line.now }
 {
@@ -24,28 +24,28 @@ pub fn is_plain(line: &[u8]) -> bool
     plain
 }
 
-/// Tells whether a byte is a tab or one of the bytes 32 to 126.
+/// Returns true if a byte is a tab or one of the bytes 32 to 126.
 fn is_plain_byte(byte: u8) -> bool
     ensures { result ≡ is_plain byte }
 {
     byte == b'\t' || (32 <= byte && byte <= 126)
 }
 
-/// Tells whether a byte parts words.
+/// Returns true if a byte separates words.
 fn is_blank(byte: u8) -> bool
     ensures { result ≡ is_blank byte }
 {
     byte == b'\t' || byte == b' '
 }
 
-/// Tells whether the word is this text.
+/// Returns true if the word is this text.
 pub fn is_word(word: &[u8], text: &[u8]) -> bool
     ensures { result ≡ bytes_eq word.now text.now }
 {
     word == text
 }
 
-/// Gives the text from its first word on.
+/// Returns the text from its first word on.
 fn skip_blanks(text: &[u8]) -> &[u8]
     ensures words { words_of result.now ≡ words_of text.now }
     ensures start { 0 < length result.now → is_blank (slice_index result.now 0) ≡ false }
@@ -57,7 +57,7 @@ fn skip_blanks(text: &[u8]) -> &[u8]
     &text[at..]
 }
 
-/// Gives the first word, which is empty where there is none, and the text behind it.
+/// Returns the first word, which is empty if there is none, and the text after it.
 fn first_word(text: &[u8]) -> (&[u8], &[u8])
     ensures words { words_of text.now ≡ (if has_bytes result.0.now then result.0.now ∷ words_of result.1.now else []) }
     ensures none { has_bytes result.0.now ≡ false → words_of result.1.now ≡ [] }
@@ -70,7 +70,7 @@ fn first_word(text: &[u8]) -> (&[u8], &[u8])
     text.split_at(end)
 }
 
-/// Gives the first word and the text behind it, if there is a word.
+/// Returns the first word and the text after it, if there is a word.
 pub fn next_word(text: &[u8]) -> Option<(&[u8], &[u8])>
     ensures { MatchOption result (words_of text.now ≡ []) (λ w. words_of text.now ≡ w.0.now ∷ words_of w.1.now) }
 {
@@ -82,7 +82,7 @@ pub fn next_word(text: &[u8]) -> Option<(&[u8], &[u8])>
     }
 }
 
-/// Gives the word, where the text has one word.
+/// Returns the word of a text that has exactly one.
 pub fn one_word(text: &[u8]) -> Option<&[u8]>
     ensures { MatchOption result (length (words_of text.now) ≢ 1) (λ w. words_of text.now ≡ w.now ∷ []) }
 {
@@ -95,7 +95,7 @@ pub fn one_word(text: &[u8]) -> Option<&[u8]>
     }
 }
 
-/// Gives the three words of a text that has three.
+/// Returns the words of a text that has exactly three.
 pub fn three_words(text: &[u8]) -> Option<(&[u8], &[u8], &[u8])>
     ensures { MatchOption result (length (words_of text.now) ≢ 3) (λ w. words_of text.now ≡ w.0.now ∷ w.1.now ∷ w.2.now ∷ []) }
 {
@@ -110,7 +110,7 @@ pub fn three_words(text: &[u8]) -> Option<(&[u8], &[u8], &[u8])>
     }
 }
 
-/// Gives the five words of a text that has five.
+/// Returns the words of a text that has exactly five.
 pub fn five_words(text: &[u8]) -> Option<(&[u8], &[u8], &[u8], &[u8], &[u8])>
     ensures { MatchOption result (length (words_of text.now) ≢ 5) (λ w. words_of text.now ≡ w.0.now ∷ w.1.now ∷ w.2.now ∷ w.3.now ∷ w.4.now ∷ []) }
 {

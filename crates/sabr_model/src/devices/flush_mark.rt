@@ -1,11 +1,11 @@
-//! Whether all that a writer took was flushed.
+//! A mark of whether all bytes that a writer took were flushed.
 
 ghost use Rattle.std.specs.Prelude.{◌≡◌, Bool, true, false};
 ghost use Rattle.std.specs.Borrow.{ftrue};
 
 use std::marker::Model;
 
-/// Whether all that a writer took was flushed, as proofs alone see it. It takes no bytes.
+/// Whether all bytes that a writer took were flushed. Only proofs see it; it takes no bytes.
 #[derive(Drop)]
 pub struct FlushMark {
     pub ghost flushed: { Bool },
@@ -16,14 +16,14 @@ impl Model for FlushMark {
 }
 
 impl FlushMark {
-    /// Notes that something may be held back.
+    /// Returns the mark that something may still be held back.
     pub fn pending() -> FlushMark
         ensures { result.flushed ≡ false }
     {
         FlushMark {}
     }
 
-    /// Notes that all was flushed.
+    /// Returns the mark that everything was flushed.
     pub fn done() -> FlushMark
         ensures { result.flushed ≡ true }
     {

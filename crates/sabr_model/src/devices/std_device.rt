@@ -7,8 +7,8 @@ use crate::devices::traits::{Failed, Read, Write};
 use crate::ghost_count::GhostCount;
 use std::io;
 
-/// A reader or writer of std, with the count of its failures and the mark of its flushes. Every error of std's
-/// becomes `Failed`.
+/// A reader or writer of std, with the count of its failures and the mark of its flushes. Every error of std becomes
+/// `Failed`.
 #[derive(Drop)]
 pub struct Device<T> {
     inner: T,
@@ -17,7 +17,7 @@ pub struct Device<T> {
 }
 
 impl<T> Device<T> {
-    /// Makes the reader or writer as a device, with no failure and no flush so far.
+    /// Wraps a reader or writer, with no failure and no flush so far.
     pub fn new(inner: T) -> Device<T>
         ensures inner { result.inner ≡ inner }
         ensures failures { result.failures.count ≡ 0 }

@@ -1,4 +1,4 @@
-//! The one loop that writes a text.
+//! The loop that writes a text.
 
 ghost use Rattle.sabr_model.specs.Devices.{WritesText};
 
@@ -8,7 +8,7 @@ use crate::devices::traits::Write;
 #[derive(Clone, Copy, Debug, PartialEq, Eq)]
 pub struct WriteFault;
 
-/// Writes the whole text, or fails with the writer at its first failure. It doesn't flush.
+/// Writes the whole text. Fails at the writer's first failure. It doesn't flush.
 pub fn write_text<W: Write>(writer: &mut W, text: &[u8]) -> Result<(), WriteFault>
     ensures { WritesText (W.contents writer.old) (W.failures writer.old) text.now result (W.contents writer.new) (W.failures writer.new) }
 {

@@ -10,15 +10,16 @@ pub struct Failed;
 
 /// A reader of bytes.
 ///
-/// A contract sees the bytes that are left, where the reader tells them, and the count of its failures.
+/// A contract sees the bytes that are left, if the reader knows them, and the count of its failures.
 pub trait Read {
-    /// The bytes that are left, where the reader tells them.
+    /// The bytes that are left, if the reader knows them.
     ghost remaining: { Self → Option (List ℕ) };
 
     /// How often the reader has failed.
     ghost failures: { Self → ℕ };
 
-    /// Reads bytes to the front of the buffer and answers how many; none into a buffer with room only at the end.
+    /// Reads bytes to the front of the buffer and returns their number. It is 0 only at the end, or if the buffer has
+    /// no room.
     ///
     /// `Failed` moves no byte and counts as one failure; nothing else counts.
     fn read(&mut self, buf: &mut [u8]) -> Result<usize, Failed>
@@ -29,28 +30,28 @@ pub trait Read {
 
 /// A writer of bytes.
 ///
-/// A contract sees the bytes that were taken, where the writer tells them, the count of its failures, and
-/// whether all that it took was flushed.
+/// A contract sees the bytes that were taken, if the writer knows them, and the count of its failures. It also sees
+/// whether all bytes that were taken were flushed.
 pub trait Write {
-    /// The bytes that were taken, where the writer tells them.
+    /// The bytes that were taken, if the writer knows them.
     ghost contents: { Self → Option (List ℕ) };
 
     /// How often the writer has failed.
     ghost failures: { Self → ℕ };
 
-    /// Whether all that was taken was flushed: known behind a `flush` that answered `Ok`, until the next call.
+    /// Whether all bytes that were taken were flushed: known after a `flush` that returned `Ok`, until the next call.
     ghost flushed: { Self → Bool };
 
-    /// Takes bytes from the front of the piece and answers how many.
+    /// Takes bytes from the front of the piece and returns their number.
     ///
-    /// `Failed` moves no byte and counts as one failure, and so does taking none of a piece that isn't
-    /// empty; nothing else counts.
+    /// `Failed` moves no byte and counts as one failure. So does taking no byte of a piece that isn't empty; nothing
+    /// else counts.
     fn write(&mut self, buf: &[u8]) -> Result<usize, Failed>
         ensures bound { IfOk result (λ n. n ≤ length buf.now) }
         ensures bytes { WriteAppends (contents self.old) (contents self.new) result buf.now }
         ensures count { failures self.new ≡ failures self.old + write_faults result buf.now };
 
-    /// Hands on what the writer may still hold back. `Failed` counts as one failure.
+    /// Passes on what the writer may still hold back. `Failed` counts as one failure.
     fn flush(&mut self) -> Result<(), Failed>
         ensures bytes { Keeps (contents self.old) (contents self.new) }
         ensures count { failures self.new ≡ failures self.old + call_faults result }

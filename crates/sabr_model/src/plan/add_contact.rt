@@ -1,4 +1,4 @@
-//! Contacts that are added, and those that are refused.
+//! Adding contacts, and refusing them.
 
 ghost use Rattle.std.specs.Prelude.{◌≡◌, ℕ, ◌<◌, ◌≤◌, ◌+◌, [], None, Some, Err, IfOk, OnOk, OnErr, IsOkUnless};
 ghost use Rattle.std.specs.List.{list_any};
@@ -15,7 +15,7 @@ use crate::node_table::note_contact;
 use std::alloc::{AllocError, Allocator};
 
 impl<A: Allocator + Copy> Plan<A> {
-    /// Tells why a contact would be refused, unless memory is short.
+    /// Returns the first reason to refuse a contact, if there is one other than out of memory.
     fn contact_refusal(&self, from: u64, to: u64, start: u64, end: u64) -> Option<AddFault>
         ensures { result ≡ contact_refusal self.now.plan from to start end }
     {
@@ -25,7 +25,7 @@ impl<A: Allocator + Copy> Plan<A> {
         refusal((from, to), (start, end), clashes, clash, given)
     }
 
-    /// Tells whether a contact with this sender, receiver and start stands.
+    /// Returns true if there is a standing contact with this sender, receiver and start.
     fn has_opening(&self, from: u64, to: u64, start: u64) -> bool
         ensures { result ≡ list_any (opens from to start) self.now.plan.contacts }
     {
@@ -69,12 +69,16 @@ impl<A: Allocator + Copy> Plan<A> {
         Ok(number)
     }
 
-    /// Adds a contact, and answers its number: one more than the greatest number ever given.
+    /// Adds a contact, and returns its number: one more than the greatest number ever assigned.
     ///
-    /// Times are seconds since 1970-01-01T00:00:00Z, the rate is in bytes per second. The least of these is told:
-    /// `EmptyWindow` where the contact does not start before its end, `SelfPair` where sender and receiver are one,
-    /// `DuplicateContact` where a standing contact has this sender, receiver and start, `TooMany` where 20000 numbers were
-    /// given, and `NoMemory`. A refusal leaves the plan as it was.
+    /// Times are seconds since 1970-01-01T00:00:00Z; the rate is in bytes per second. A refusal leaves the plan as it
+    /// was.
+    ///
+    /// # Errors
+    ///
+    /// The first that holds: `EmptyWindow` if the contact does not start before its end, `SelfPair` if sender and
+    /// receiver are the same, `DuplicateContact` if a standing contact has this sender, receiver and start, `TooMany`
+    /// if 20000 numbers were assigned, and `NoMemory`.
     pub fn add_contact(
         &mut self,
         from: u64,

@@ -1,4 +1,4 @@
-//! Ranges that are added, and those that are refused.
+//! Adding ranges, and refusing them.
 
 ghost use Rattle.std.specs.Prelude.{◌≡◌, ℕ, ◌<◌, ◌≤◌, None, Some, Err, OnOk, OnErr, IsOkUnless};
 ghost use Rattle.sabr_model.specs.Plan.{last_time, most_light};
@@ -14,7 +14,7 @@ use crate::fault::AddFault;
 use std::alloc::{AllocError, Allocator};
 
 impl<A: Allocator + Copy> Plan<A> {
-    /// Tells why a range would be refused, unless memory is short.
+    /// Returns the first reason to refuse a range, if there is one other than out of memory.
     fn range_refusal(&self, range: &Range) -> Option<AddFault>
         ensures { result ≡ range_refusal self.now.plan range.now }
     {
@@ -43,10 +43,14 @@ impl<A: Allocator + Copy> Plan<A> {
 
     /// Adds a range: the one-way light time, 0 to 1000000 seconds, from `start` on and before `end`.
     ///
-    /// With `one < other` it holds both ways, with `one > other` only from `one` to `other`. The least of these is told:
-    /// `EmptyWindow` where the range does not start before its end, `SelfPair` where both nodes are one, `RangeOverlap`
-    /// where a standing range of this ordered pair holds at some second of it, `TooMany` where 20000 ranges stand, and
-    /// `NoMemory`. A refusal leaves the plan as it was.
+    /// With `one < other` it holds both ways, with `one > other` only from `one` to `other`. A refusal leaves the plan
+    /// as it was.
+    ///
+    /// # Errors
+    ///
+    /// The first that holds: `EmptyWindow` if the range does not start before its end, `SelfPair` if both nodes are the
+    /// same, `RangeOverlap` if a standing range of this ordered pair overlaps it, `TooMany` if there are 20000
+    /// standing ranges, and `NoMemory`.
     pub fn add_range(
         &mut self,
         one: u64,

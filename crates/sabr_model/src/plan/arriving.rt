@@ -9,8 +9,9 @@ use crate::contact::Contact;
 use crate::request::Request;
 use std::alloc::Allocator;
 
-/// Gives the second at which a bundle that is at the contact's sender at `t` arrives at its receiver (CCSDS 734.3-B-1:
-/// earliest transmission time, one-way light time and margin); none where it is too late or no light time is known.
+/// Returns the second at which a bundle that is at the contact's sender at `t` arrives at its receiver (CCSDS
+/// 734.3-B-1: earliest transmission time, one-way light time and margin). None if it is too late or no light time is
+/// known.
 pub fn arrive<A: Allocator + Copy>(
     plan: &Plan<A>,
     request: &Request,

@@ -1,4 +1,4 @@
-//! Contacts and ranges that are deleted.
+//! Deleting contacts and ranges.
 
 ghost use Rattle.std.specs.Prelude.{◌≡◌, ◌==◌, ◌↔◌, IsTrue, OnOk, OnErr, IfErr, IsOk, ok_or, find};
 ghost use Rattle.std.specs.List.{list_any};
@@ -16,9 +16,13 @@ use crate::node_table::forget_contact;
 use std::alloc::Allocator;
 
 impl<A: Allocator + Copy> Plan<A> {
-    /// Deletes the contact with this sender, receiver and start, and answers its number, which is not given again.
+    /// Deletes the contact with this sender, receiver and start, and returns its number, which is never assigned again.
     ///
-    /// `NothingToDelete` where no such contact stands; then the plan stays as it was. It takes no memory.
+    /// It takes no memory.
+    ///
+    /// # Errors
+    ///
+    /// `NothingToDelete` if there is no such standing contact; then the plan stays as it was.
     pub fn delete_contact(&mut self, from: u64, to: u64, start: u64) -> Result<u32, AddFault>
         ensures value { result ≡ ok_or (number_of_opening self.old.plan from to start) NothingToDelete }
         ensures ok { OnOk result (self.new.plan ≡ without_contact self.old.plan from to start) }
@@ -38,7 +42,11 @@ impl<A: Allocator + Copy> Plan<A> {
 
     /// Deletes the range of this ordered pair that begins at this start.
     ///
-    /// `NothingToDelete` where no such range stands; then the plan stays as it was. It takes no memory.
+    /// It takes no memory.
+    ///
+    /// # Errors
+    ///
+    /// `NothingToDelete` if there is no such standing range; then the plan stays as it was.
     pub fn delete_range(&mut self, one: u64, other: u64, start: u64) -> Result<(), AddFault>
         ensures deleted { IsOk result ↔ IsTrue (list_any (begins one other start) self.old.plan.ranges) }
         ensures fault { IfErr result (λ f. f ≡ NothingToDelete) }
@@ -54,7 +62,7 @@ impl<A: Allocator + Copy> Plan<A> {
     }
 }
 
-/// Gives the contact with this sender, receiver and start.
+/// Finds the contact with this sender, receiver and start.
 pub fn contact_of_opening(contacts: &[Contact], from: u64, to: u64, start: u64) -> Option<&Contact>
     ensures { option_copied result ≡ find (opens from to start) contacts.now }
 {

@@ -1,4 +1,4 @@
-//! The ends of contacts, as indexes of the table of nodes.
+//! The ends of contacts, as indexes in the table of nodes.
 
 ghost use Rattle.std.specs.Prelude.{◌≡◌, ◌<◌, ℕ, Some, IsTrue, IfOk, length, slice_get, slice_index_or};
 ghost use Rattle.indexmap.specs.IndexMap.{keys};
@@ -17,7 +17,7 @@ pub struct Ends {
     pub to: usize,
 }
 
-/// Gives the ends of each contact.
+/// Returns the ends of each contact.
 pub fn ends_of_contacts<A: Allocator + Copy>(
     alloc: A,
     contacts: &[Contact],
@@ -35,7 +35,7 @@ pub fn ends_of_contacts<A: Allocator + Copy>(
     Ok(ends)
 }
 
-/// Gives the ends of a contact of the table.
+/// Returns the ends of a contact whose nodes are in the table.
 fn ends_of_contact<A: Allocator + Copy>(contact: &Contact, table: &NodeTable<A>) -> Ends
     requires from { IsTrue (has contact.now.from (keys table.now)) }
     requires to { IsTrue (has contact.now.to (keys table.now)) }
@@ -47,7 +47,7 @@ fn ends_of_contact<A: Allocator + Copy>(contact: &Contact, table: &NodeTable<A>)
     }
 }
 
-/// Gives the index of a node of the table.
+/// Returns the index of a node of the table.
 pub fn index_of<A: Allocator + Copy>(table: &NodeTable<A>, node: u64) -> usize
     requires { IsTrue (has node (keys table.now)) }
     ensures { slice_get (keys table.now) result ≡ Some node }

@@ -14,11 +14,11 @@ use crate::contact::{Contact, Range};
 use std::alloc::Allocator;
 
 impl<A: Allocator + Copy> Plan<A> {
-    /// Gives the one-way light time in seconds, 0 to 1000000, in force at the contact's start; none where no range
-    /// gives one.
+    /// Returns the one-way light time in seconds, 0 to 1000000, in force at the contact's start. None if no range
+    /// states one.
     ///
-    /// A range from the greater node to the lesser holds that way alone, and there it wins over one that holds both ways
-    /// (this project's profile). It takes a halving or two of the ranges.
+    /// A range from the greater node to the lesser holds only that way, and there takes precedence over one that holds
+    /// both ways (this project's profile). It takes one or two binary searches of the ranges.
     pub fn light(&self, contact: &Contact) -> Option<u32>
         ensures value { result ≡ light_of self.now.plan contact.now }
         ensures limit { IfSome result (λ l. l ≤ most_light) }
@@ -26,7 +26,7 @@ impl<A: Allocator + Copy> Plan<A> {
         light_of_contact(&self.ranges, contact)
     }
 
-    /// Gives the standing contact of a number, and its light time. No range is read where the plan is ready.
+    /// Returns the standing contact with this number, and its light time. It reads no range if the plan is ready.
     pub(crate) fn contact_with_light(&self, number: u32) -> Option<(&Contact, Option<u32>)>
         ensures contact { MatchOption result (contact_named self.now.plan number ≡ None) (λ x. contact_named self.now.plan number ≡ Some x.0.now) }
         ensures light { IfSome result (λ x. x.1 ≡ light_of self.now.plan x.0.now) }
@@ -37,7 +37,7 @@ impl<A: Allocator + Copy> Plan<A> {
         Some((contact, self.light_at(place, contact)))
     }
 
-    /// Gives the light time of the contact at a place.
+    /// Returns the light time of the contact at a place.
     fn light_at(&self, place: usize, contact: &Contact) -> Option<u32>
         requires within { place < length self.now.plan.contacts }
         requires there { contact.now ≡ slice_index_or self.now.plan.contacts place contact.now }
@@ -51,7 +51,7 @@ impl<A: Allocator + Copy> Plan<A> {
     }
 }
 
-/// Gives the light time that ranges give a contact.
+/// Returns the light time that these ranges state for a contact.
 pub fn light_of_contact(ranges: &[Range], contact: &Contact) -> Option<u32>
     requires { IsRangeList ranges.now }
     ensures { result ≡ light_of (record { contacts = []; ranges = ranges.now; greatest = 0 }) contact.now }
@@ -65,8 +65,8 @@ pub fn light_of_contact(ranges: &[Range], contact: &Contact) -> Option<u32>
     }
 }
 
-/// Gives the light time that ranges give a contact, where those from its sender and from its receiver stand in these
-/// stretches.
+/// Returns the light time that these ranges state for a contact. The ranges from its sender and from its receiver are
+/// in these stretches.
 pub fn light_in_stretches(
     ranges: &[Range],
     of_sender: Stretch,

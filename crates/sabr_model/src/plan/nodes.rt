@@ -1,4 +1,4 @@
-//! The nodes of a plan, each by its index in the table, and the contacts that one node sends.
+//! The nodes of a plan, each by its index in the table, and the contacts that a node sends.
 
 ghost use Rattle.std.specs.Prelude.{◌≡◌, ◌<◌, ℕ, Some, None, MatchOption, IsFalse, length, slice_get};
 ghost use Rattle.sabr_model.specs.Plan.{contact_named, has};
@@ -13,7 +13,7 @@ use crate::hop::Hop;
 use std::alloc::Allocator;
 
 impl<A: Allocator + Copy> Plan<A> {
-    /// Tells how many nodes send or receive some standing contact.
+    /// The number of nodes that send or receive some standing contact.
     pub fn nodes(&self) -> usize
         ensures value { result ≡ node_count self.now.plan.contacts }
         ensures table { result ≡ length self.now.table }
@@ -22,7 +22,7 @@ impl<A: Allocator + Copy> Plan<A> {
         self.table.len()
     }
 
-    /// Makes the rising numbers of the standing contacts that the node sends; none for a node that sends none.
+    /// The rising numbers of the standing contacts that the node sends; none for a node that sends none.
     pub fn from_node(&self, node: u64) -> &[u32]
         ensures { result.now ≡ sent_by self.now.plan.contacts node }
     {
@@ -32,14 +32,14 @@ impl<A: Allocator + Copy> Plan<A> {
         }
     }
 
-    /// Gives the index of a node that sends or receives some standing contact.
+    /// Returns the index of a node that sends or receives some standing contact.
     pub fn node_index(&self, node: u64) -> Option<usize>
         ensures { MatchOption result (IsFalse (has node self.now.table)) (λ k. slice_get self.now.table k ≡ Some node) }
     {
         self.table.get_index_of(&node)
     }
 
-    /// Gives the node at an index of the table.
+    /// Returns the node at an index of the table.
     pub fn node(&self, index: usize) -> u64
         requires { index < length self.now.table }
         ensures { slice_get self.now.table index ≡ Some result }
@@ -50,7 +50,7 @@ impl<A: Allocator + Copy> Plan<A> {
         }
     }
 
-    /// Gives the index of a standing contact's receiver.
+    /// Returns the index of a standing contact's receiver.
     pub fn receiver(&self, contact: &Contact) -> usize
         requires { contact_named self.now.plan contact.now.number ≡ Some contact.now }
         ensures { slice_get self.now.table result ≡ Some contact.now.to }
@@ -58,7 +58,7 @@ impl<A: Allocator + Copy> Plan<A> {
         self.table.get_index_of(&contact.to).unwrap_or(0)
     }
 
-    /// Makes the rising numbers of the standing contacts that the node at an index of the table sends.
+    /// The rising numbers of the standing contacts that the node at an index of the table sends.
     pub(crate) fn from_index(&self, index: usize) -> &[u32]
         requires { index < length self.now.table }
         ensures { (node : ℕ) → slice_get self.now.table index ≡ Some node → result.now ≡ sent_by self.now.plan.contacts node }
@@ -69,7 +69,8 @@ impl<A: Allocator + Copy> Plan<A> {
         }
     }
 
-    /// Gives the standing contact of a number, as a search reads it. One step where the plan is ready.
+    /// Returns the standing contact with this number, as a search reads it. This is O(1) if no contact was deleted and
+    /// the plan is ready.
     pub fn hop(&self, number: u32) -> Option<Hop>
         ensures { MatchOption result (contact_named self.now.plan number ≡ None) (IsHopNamed self.now number) }
     {

@@ -1,4 +1,4 @@
-//! The place of a contact by its number.
+//! Finding the place of a contact by its number.
 
 ghost use Rattle.std.specs.Prelude.{◌≡◌, ℕ, ◌<◌, ◌≤◌, ◌-◌, ◌==◌, IsTrue, map, find, length, slice_get, slice_index_or, None, MatchOption};
 ghost use Rattle.std.specs.Option.{option_copied};
@@ -7,8 +7,8 @@ ghost use Rattle.sabr_model.specs.Plan.{rises_above};
 
 use crate::contact::Contact;
 
-/// Gives the places between which the contact of a number stands: each number that is not given to a standing contact
-/// takes the place of a contact one further from its number.
+/// Returns the bounds of the places where the contact with this number can stand. Each number without a standing
+/// contact moves the later contacts one place further from their numbers.
 fn window_of_number(contacts: &[Contact], number: u32) -> (usize, usize)
     requires { IsTrue (rises_above 0 (map (λ c. c.number) contacts.now)) }
     ensures within { result.1 ≤ length contacts.now }
@@ -24,7 +24,7 @@ fn window_of_number(contacts: &[Contact], number: u32) -> (usize, usize)
     (number.saturating_sub(missing + 1), number.min(count))
 }
 
-/// Gives the number of the contact at a place.
+/// Returns the number of the contact at a place.
 fn number_at(contacts: &[Contact], place: usize) -> u32
     requires { place < length contacts.now }
     ensures { (d : Contact) → result ≡ (slice_index_or contacts.now place d).number }
@@ -32,7 +32,7 @@ fn number_at(contacts: &[Contact], place: usize) -> u32
     contacts[place].number
 }
 
-/// Gives the place of the contact of a number. Where no contact was deleted this takes one step, else a halving.
+/// Returns the place of the contact with this number. This is O(1) if no contact was deleted, and else a binary search.
 pub fn place_of_number(contacts: &[Contact], number: u32) -> Option<usize>
     requires { IsTrue (rises_above 0 (map (λ c. c.number) contacts.now)) }
     ensures { MatchOption result (find (λ c. c.number == number) contacts.now ≡ None) (λ k. (k < length contacts.now) × (find (λ c. c.number == number) contacts.now ≡ slice_get contacts.now k)) }
@@ -44,7 +44,7 @@ pub fn place_of_number(contacts: &[Contact], number: u32) -> Option<usize>
     }
 }
 
-/// Tells whether the contact of a number stands where it does if no contact before it was deleted.
+/// Returns true if the contact with this number stands where it would if no contact before it was deleted.
 fn is_at_own_place(contacts: &[Contact], number: u32) -> bool
     ensures within { IsTrue result → (0 < number) × (number ≤ length contacts.now) }
     ensures there { IsTrue result → (d : Contact) → (slice_index_or contacts.now (number - 1) d).number ≡ number }
@@ -53,7 +53,7 @@ fn is_at_own_place(contacts: &[Contact], number: u32) -> bool
     0 < count && count <= contacts.len() && number_at(contacts, count - 1) == number
 }
 
-/// Gives the place of the contact of a number, by halving.
+/// Finds the place of the contact with this number by binary search.
 fn halved_place(contacts: &[Contact], number: u32) -> Option<usize>
     requires { IsTrue (rises_above 0 (map (λ c. c.number) contacts.now)) }
     ensures { MatchOption result (find (λ c. c.number == number) contacts.now ≡ None) (λ k. (k < length contacts.now) × (find (λ c. c.number == number) contacts.now ≡ slice_get contacts.now k)) }
@@ -74,7 +74,7 @@ fn halved_place(contacts: &[Contact], number: u32) -> Option<usize>
     None
 }
 
-/// Gives the contact of a number.
+/// Finds the contact with this number.
 pub fn contact_of_number(contacts: &[Contact], number: u32) -> Option<&Contact>
     requires { IsTrue (rises_above 0 (map (λ c. c.number) contacts.now)) }
     ensures { option_copied result ≡ find (λ c. c.number == number) contacts.now }

@@ -1,4 +1,4 @@
-//! Ranges found by halving: those that come by a pair and second, the light time in force, and an overlap.
+//! Finding ranges by binary search: those up to a pair and second, the light time in force, and an overlap.
 
 ghost use Rattle.std.specs.Prelude.{◌≡◌, ◌<◌, ◌≤◌, ◌-◌, ◌↔◌, ◌==◌, ◌&&◌, Some, None, if◌then◌else◌, IsTrue, length, slice_index_or};
 ghost use Rattle.std.specs.List.{list_any};
@@ -10,7 +10,7 @@ ghost use Rattle.sabr_model.specs.RangeOrder.{place_number, number_of_range, IsR
 
 use crate::contact::Range;
 
-/// Tells whether a pair and second come by others, in the order of ranges.
+/// Returns true if one pair and second come no later than another, in the order of ranges.
 fn comes_by(one: u64, other: u64, t: u64, bound_one: u64, bound_other: u64, bound: u64) -> bool
     ensures { IsTrue result ↔ (place_number one other t ≤ place_number bound_one bound_other bound) }
 {
@@ -18,7 +18,7 @@ fn comes_by(one: u64, other: u64, t: u64, bound_one: u64, bound_other: u64, boun
         || (one == bound_one && (other < bound_other || (other == bound_other && t <= bound)))
 }
 
-/// Tells whether the range at a place comes by a pair and second.
+/// Returns true if the range at a place comes no later than a pair and second, in the order of ranges.
 fn range_comes_by(ranges: &[Range], place: usize, one: u64, other: u64, t: u64) -> bool
     requires { place < length ranges.now }
     ensures { (d : Range) → IsTrue result ↔ (number_of_range (slice_index_or ranges.now place d) ≤ place_number one other t) }
@@ -27,7 +27,7 @@ fn range_comes_by(ranges: &[Range], place: usize, one: u64, other: u64, t: u64) 
     comes_by(range.one, range.other, range.start, one, other, t)
 }
 
-/// Tells how many ranges, from the front, come by a pair and second.
+/// Counts the ranges, from the front, that come no later than a pair and second.
 pub fn ranges_until(ranges: &[Range], one: u64, other: u64, t: u64) -> usize
     requires { IsRangeList ranges.now }
     ensures { IsCountUntil ranges.now (place_number one other t) result }
@@ -45,7 +45,7 @@ pub fn ranges_until(ranges: &[Range], one: u64, other: u64, t: u64) -> usize
     low
 }
 
-/// Gives the light time of a range, where it is of this ordered pair and in force at `t`.
+/// Returns the light time of a range, if it is of this ordered pair and in force at `t`.
 fn light_of_range(range: &Range, one: u64, other: u64, t: u64) -> Option<u32>
     ensures { result ≡ (if (range.now.one == one) && (range.now.other == other) && is_within range.now.start range.now.end t then Some range.now.light else None) }
 {
@@ -56,7 +56,7 @@ fn light_of_range(range: &Range, one: u64, other: u64, t: u64) -> Option<u32>
     }
 }
 
-/// Gives the light time of the range of this ordered pair that is in force at `t`.
+/// Returns the light time of the range of this ordered pair that is in force at `t`.
 pub fn light_in_force(ranges: &[Range], one: u64, other: u64, t: u64) -> Option<u32>
     requires { IsRangeList ranges.now }
     ensures { result ≡ light_of_pair ranges.now one other t }
@@ -68,7 +68,7 @@ pub fn light_in_force(ranges: &[Range], one: u64, other: u64, t: u64) -> Option<
     light_of_range(&ranges[count - 1], one, other, t)
 }
 
-/// Tells whether a range of this ordered pair that begins at this start stands.
+/// Returns true if there is a range of this ordered pair that begins at this start.
 pub fn has_range(ranges: &[Range], one: u64, other: u64, start: u64) -> bool
     ensures { result ≡ list_any (begins one other start) ranges.now }
 {
@@ -77,7 +77,7 @@ pub fn has_range(ranges: &[Range], one: u64, other: u64, start: u64) -> bool
         .any(|r| one == r.one && other == r.other && start == r.start)
 }
 
-/// Tells whether two ranges of one ordered pair hold at some second.
+/// Returns true if two ranges are of one ordered pair and overlap.
 pub fn overlap(range: &Range, other: &Range) -> bool
     ensures { result ≡ overlap range.now other.now }
 {
@@ -87,7 +87,7 @@ pub fn overlap(range: &Range, other: &Range) -> bool
         && other.start < range.end
 }
 
-/// Tells whether one of the ranges holds at some second of a range of the same ordered pair.
+/// Returns true if one of the ranges has the same ordered pair as `range` and overlaps it.
 pub fn overlaps_some(ranges: &[Range], range: &Range) -> bool
     requires { IsRangeList ranges.now }
     ensures { result ≡ list_any (overlap range.now) ranges.now }

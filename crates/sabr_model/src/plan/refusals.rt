@@ -7,8 +7,8 @@ ghost use Rattle.sabr_model.specs.declared.fault.AddFault.TheVariants.{EmptyWind
 use crate::fault::AddFault;
 use crate::limits::MOST_RECORDS;
 
-/// Gives the least refusal of a contact or a range between two nodes, over a window, unless memory is short: `clash`
-/// where another clashes with it, `TooMany` where the count is at its limit.
+/// Returns the first reason to refuse a contact or a range between two nodes, over a window, if there is one other than
+/// out of memory. It is `clash` if another clashes with it, and `TooMany` if the count is at its limit.
 pub fn refusal(
     nodes: (u64, u64),
     window: (u64, u64),

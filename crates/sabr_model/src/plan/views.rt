@@ -1,4 +1,4 @@
-//! What stands in a plan: contacts by number, ranges by pair and start.
+//! The contents of a plan: contacts by number, ranges by pair and start.
 
 ghost use Rattle.std.specs.Prelude.{◌≡◌};
 ghost use Rattle.std.specs.Option.{option_copied};
@@ -10,7 +10,7 @@ use crate::contact::{Contact, Range};
 use std::alloc::Allocator;
 
 impl<A: Allocator + Copy> Plan<A> {
-    /// Gives the standing contacts by number.
+    /// The standing contacts by number.
     pub fn contacts(&self) -> &[Contact]
         ensures value { result.now ≡ self.now.plan.contacts }
         ensures rules { IsPlan self.now.plan }
@@ -18,28 +18,29 @@ impl<A: Allocator + Copy> Plan<A> {
         &self.contacts
     }
 
-    /// Tells contracts that a plan obeys the rules of contact plans. It does nothing.
+    /// States that a plan obeys the rules of contact plans, for contracts. It does nothing.
     pub fn tell_rules(&self)
         ensures { IsPlan self.now.plan }
     {
         self.contacts();
     }
 
-    /// Gives the standing ranges by (one, other, start).
+    /// The standing ranges by (one, other, start).
     pub fn ranges(&self) -> &[Range]
         ensures { result.now ≡ self.now.plan.ranges }
     {
         &self.ranges
     }
 
-    /// Gives the greatest number that a contact was ever given, 0 at first.
+    /// The greatest number ever assigned to a contact, 0 at first.
     pub fn greatest(&self) -> u32
         ensures { result ≡ self.now.plan.greatest }
     {
         self.greatest
     }
 
-    /// Gives the standing contact of a number; none for a number that was never given, or whose contact was deleted.
+    /// Returns the standing contact with this number. None if the number was never assigned, or its contact was
+    /// deleted.
     pub fn contact(&self, number: u32) -> Option<&Contact>
         ensures { option_copied result ≡ contact_named self.now.plan number }
     {

@@ -1,4 +1,4 @@
--- Digits are read one after the other.
+-- Digits are read one after another.
 use Rattle.std.proofs.Common.{◌≡◌, ◌≤◌, ◌+◌, ◌*◌, ◌-◌, refl, sym, ap, ◌∙◌, take, get_or, arith, rules, Some}
 use Rattle.std.proofs.lemmas.List.{take_all}
 use Rattle.std.proofs.lemmas.Bool.Decides.{nat_tests}

@@ -1,4 +1,4 @@
--- Digits are read one after the other, and nineteen of them always fit.
+-- Digits are read one after another, and nineteen of them always fit.
 use Rattle.std.proofs.Common.{◌≡◌, ℕ, ◌+◌, ◌*◌, ◌-◌, ◌<◌, List, length, take, get_or, true, refl, sym, ap, ◌∙◌, arith, rules, length-take}
 use Rattle.std.specs.List.{list_all}
 use Rattle.sabr_plan.specs.Digits.{is_digit, digits_value}

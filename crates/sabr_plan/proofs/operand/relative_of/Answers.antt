@@ -1,4 +1,4 @@
--- Behind `+` stand at most twelve digits.
+-- At most twelve digits come after `+`.
 use Rattle.std.proofs.Common.{◌≡◌, ℕ, ◌-◌, ◌<◌, ◌≤◌, List, [], ◌∷◌, length, get_or, take, drop, true, false, refl, sym, ap, ◌∙◌, arith, ◌&&◌, Some, None, cond, ltb}
 use Rattle.std.specs.List.{list_all}
 use Rattle.std.proofs.lemmas.List.{take_all}
@@ -11,7 +11,7 @@ use Rattle.sabr_plan.specs.Operands.{relative_of}
 use Rattle.sabr_plan.proofs.Digits.{small_value, few_digits}
 use Rattle.sabr_plan.proofs.operand.relative_of.Goals as goal
 
--- of few digits the value is small
+-- the value of at most twelve digits is small
 small : (digits : List ℕ) → length digits ≤ 12 → small_value digits ≡ cond (are_digits digits) (Some (digits_value digits)) None
 small digits short =
     (elim (are_digits digits) as (λ b. are_digits digits ≡ b → cond (b && ltb (digits_value digits) 18446744073709551616) (Some (digits_value digits)) None ≡ cond b (Some (digits_value digits)) None) [

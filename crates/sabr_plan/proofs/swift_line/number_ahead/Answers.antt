@@ -1,4 +1,4 @@
--- A number stands behind the space.
+-- A number comes after the space.
 use Rattle.std.proofs.Common.{◌∷◌, [], ap, ◌∙◌}
 use Rattle.sabr_plan.proofs.PlainWords.{behind_prefix, graphic_number}
 use Rattle.sabr_plan.proofs.swift_line.number_ahead.Goals as goal

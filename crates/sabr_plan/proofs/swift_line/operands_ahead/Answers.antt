@@ -1,4 +1,4 @@
--- Five operands stand one behind the other.
+-- Five operands come one after another.
 use Rattle.std.proofs.Common.{◌≡◌, ℕ, List, [], ◌∷◌, Option, Ok, length, ap, refl, arith, ok_or}
 use Rattle.std.proofs.lemmas.Bool.Decides.{nat_tests}
 use Rattle.sabr_plan.specs.Operands.{time_at, node_of, value_of}

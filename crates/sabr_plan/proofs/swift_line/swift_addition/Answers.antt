@@ -1,4 +1,4 @@
--- An addition that is spelled plainly is what the words of its line say.
+-- An addition that is spelled plainly is the command in the words of its line.
 use Rattle.std.proofs.Common.{◌≡◌, ℕ, List, Option, Ok, true, ◌++◌, refl, ap, ◌∙◌}
 use Rattle.std.specs.Prelude.{codes}
 use Rattle.std.specs.List.{list_all}

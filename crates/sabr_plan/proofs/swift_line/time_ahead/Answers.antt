@@ -1,4 +1,4 @@
--- A relative time stands behind the space.
+-- A relative time comes after the space.
 use Rattle.std.proofs.Common.{Option, Some, None, true, ℕ, List, [], ◌≡◌, ◌<◌, ◌≤◌, length, ◌∷◌, refl, sym, ap, ◌∙◌, arith}
 use Rattle.std.specs.List.{list_all}
 use Rattle.std.proofs.lemmas.Bool.Decides.{nat_tests}

@@ -1,4 +1,4 @@
--- The calendar has a day where jiff has its date, and the date's number is the day's.
+-- The calendar has a day if jiff has its date, and the date's number is the day's.
 use Rattle.std.proofs.Common.{ap, ◌∙◌, sym}
 use Rattle.std.proofs.lemmas.Bool.{false≢true}
 use Rattle.jiff_core.specs.Date.{epoch_day}

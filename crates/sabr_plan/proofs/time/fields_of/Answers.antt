@@ -8,11 +8,11 @@ use Rattle.sabr_plan.proofs.Days.{day_after_epoch_is, same_day}
 use Rattle.sabr_plan.proofs.Dates.{cast_year}
 use Rattle.sabr_plan.proofs.time.fields_of.Goals as goal
 
--- the date that many days after the calendar's first
+-- the date this many days after the calendar's first
 found : (n : ℕ) (date : Date) → n ≤ 2932896 → (epoch_day date +ℤ pos 4371587) ≡ pos (n + 4371587) → (date.year ≡ pos (day_after_epoch n).year) × (date.month ≡ (day_after_epoch n).month) × (date.day ≡ (day_after_epoch n).day)
 found n date h e = same_day n date h (omega (arith, signed_arith))
 
--- its year fits, as it is cast
+-- its year keeps its value when cast
 year_of : (n : ℕ) (date : Date) → n ≤ 2932896 → (epoch_day date +ℤ pos 4371587) ≡ pos (n + 4371587) → to_z w16 (of_z w16 date.year) ≡ pos (day_after_epoch n).year
 year_of n date h e =
     cast_year date.year (day_after_epoch n).year (found n date h e).0 (let is = day_after_epoch_is n h in omega (arith, signed_arith, is.civil.0))

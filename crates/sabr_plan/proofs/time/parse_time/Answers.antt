@@ -1,4 +1,4 @@
--- A text is a time where its fields are those of a second.
+-- A text is a time if its fields are those of a second.
 use Rattle.std.proofs.Common.{◌≡◌, ◌≢◌, ℕ, ◌≤◌, List, Option, Some, None, IfSome, IsNone, true, false, sym, ap, ◌∙◌, refl, arith}
 use Rattle.std.proofs.lemmas.Bool.{false≢true}
 use Rattle.sabr_model.specs.Plan.{last_time}

@@ -1,4 +1,4 @@
--- A second is a day's number and what the clock shows.
+-- A second is a day's number and the time of day.
 use Rattle.std.proofs.Common.{◌≡◌, ℕ, ◌+◌, ◌*◌, ◌/◌, ◌≤◌, refl, sym, ap, ◌∙◌, arith}
 use Rattle.sabr_plan.specs.declared.time.TimeFields.{TimeFields}
 use Rattle.sabr_plan.specs.Times.{day_after_epoch, fields_of}
@@ -14,7 +14,7 @@ returns-then-fields-gt23-clause-none c i t k e =
     let clock = fields_clock t c.args.fields e in
     omega (arith, clock, c.then-fields-gt23.either)
 
--- the second of a day's number and a clock shows that day and clock
+-- the second of a day's number and a time of day has that day and time as its fields
 shown : (n : ℕ) (f : TimeFields) → day_after_epoch n ≡ day_of f → f.hour ≤ 23 → f.minute ≤ 59 → f.second ≤ 59 → fields_of (n * 86400 + (f.hour * 3600 + f.minute * 60 + f.second)) ≡ f
 shown n f e h m s = rw e at (fields_of-clock n f.hour f.minute f.second h m s)
 

@@ -1,4 +1,4 @@
--- What stands before a blank, or the end of the text, is its first word.
+-- The bytes before a blank, or before the end of the text, are its first word.
 use Rattle.std.proofs.Common.{◌≡◌, ℕ, ◌<◌, ◌≤◌, true, false, cond, List, [], ◌∷◌, length, take, drop, get_or, inl, inr, refl, sym, ap, ◌∙◌, arith, length-take, length-drop, get_or-drop, add-zero}
 use Rattle.std.specs.List.{All}
 use Rattle.std.proofs.lemmas.Bool.{cases_lt, false≢true}
@@ -14,7 +14,7 @@ nil_is [] e = refl
 nil_is (x ∷ xs) e = absurd (omega arith)
 
 module _ (text : List ℕ) (end : ℕ) (range : end ≤ length text) (word : All (λ b. is_blank b ≡ false) (take end text)) (ends : end < length text → is_blank (get_or text end 0) ≡ true) (starts : 0 < length text → is_blank (get_or text 0 0) ≡ false) where
-  -- no word, no text
+  -- if there is no word, the text is empty
   empty : end ≡ 0 → text ≡ []
   empty e =
       nil_is text (elim (cases_lt 0 (length text)) [
