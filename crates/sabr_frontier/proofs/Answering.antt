@@ -1,4 +1,5 @@
--- What is held stays in order and answered where a part comes behind the others, and is paid exactly where the parts are closed.
+-- What is held stays in order and answered when a part is added after the others. It is paid if and only if the parts
+-- are closed.
 use Rattle.std.proofs.Common.{◌≡◌, ℕ, zero, suc, ◌+◌, ◌-◌, ◌<◌, Bool, true, false, not, ◌&&◌, nat_lt, List, [], ◌∷◌, ◌++◌, map, flat_map, reverse, if◌then◌else◌, ◌≤◌, length, take, drop, refl, sym, ap, subst, ◌∙◌, ◌⊎◌, inl, inr, arith, true≢false, Option, Some, None, length-append, length-take-le, take-append-drop}
 use Rattle.std.specs.Prelude.{◌==◌, slice_get}
 use Rattle.std.specs.Option.{option_map, option_map_or}
@@ -158,7 +159,7 @@ same_itself q = ap is_eq (Rattle.std.proofs.lemmas.Cmp.tied_itself nat_list_cmp_
 
 -- ---- what is due
 
--- a due prefix is the least that is owed, and what is owed behind it lies under it
+-- a due prefix is the least that is owed, and what is owed after it is smaller
 due_first : {A : Type 0} (h : Holding A) (q : List ℕ) → length h.prefixes ≡ length h.nodes → (parts_in h ≡ [] → owed_in h ≡ []) → is_least h q ≡ true → owing (parts_in h) (owed_in h) ≡ q ∷ reverse (front (owed_in h))
 due_first h q paired first due = elim (zero_or_more (length h.nodes)) [
   | inl e ↦
@@ -282,7 +283,7 @@ module _ {A : Type 0} (p : ContactPlan) (r : RouteRequest) (h : Holding A) (q : 
   step_is : (o : Owed) → o.length ≡ length q → prefix_owed q o ≡ step_of q o
   step_is o e = ap (λ z. z ++ o.number ∷ []) (ap (λ n. take n q) e ∙ take_whole q)
 
-  -- and behind them come the steps from it
+  -- and after them come the steps from it
   owed_more : (steps : List Owed) → AreSteps p r q steps → AreOwed p r q (front h.owed ++ reverse steps)
   owed_more steps new = record {
     leads = λ o m. elim (Member-append_cases o (front h.owed) (reverse steps) m) [

@@ -1,4 +1,4 @@
--- The state that the tree stands for once its least route is given is the one that the step names.
+-- The state of the tree after its least route is given is the one that the step names.
 use Rattle.std.proofs.Common.{◌≡◌, ℕ, suc, ◌+◌, ◌<◌, Bool, true, false, List, [], ◌∷◌, ◌++◌, map, length, take, drop, refl, sym, ap, subst, ◌∙◌, inl, inr, arith, true≢false, Option, Some, None, append_assoc, length-append}
 use Rattle.std.specs.Prelude.{slice_get}
 use Rattle.std.specs.Option.{option_map}

@@ -38,7 +38,7 @@ get_there (y ∷ xs) (suc i) x l e = get_there xs i x (omega arith) e
 pub vec_front : {X A : Type 0} (v : Vec X A) → take (vec_len v - 1) v.items ≡ front v.items
 vec_front v = let e : vec_len v ≡ length v.items = omega arith in ap (λ n. take (n - 1) v.items) e
 
--- one write behind another at one place
+-- one write after another at one place
 pub modify_twice : {X : Type 0} (f g : X → X) (xs : List X) (i : ℕ) → modify g (modify f xs i) i ≡ modify (λ x. g (f x)) xs i
 modify_twice f g [] i = refl
 modify_twice f g (x ∷ xs) zero = refl
@@ -56,7 +56,7 @@ modify_same f h [] i x e same = refl
 modify_same f h (y ∷ xs) zero x e same = let there : y ≡ x = cc in ap (λ z. z ∷ xs) (ap f there ∙ same ∙ ap h (sym there))
 modify_same f h (y ∷ xs) (suc i) x e same = ap (λ t. y ∷ t) (modify_same f h xs i x e same)
 
--- what stands at a place within
+-- what is at a place within the list
 pub there : {X : Type 0} (xs : List X) (i : ℕ) → i < length xs → (x : X) × (slice_get xs i ≡ Some x)
 there [] i l = absurd (omega arith)
 there (x ∷ xs) zero l = (x, refl)

@@ -1,4 +1,4 @@
--- A step from a well-formed state gives a route that is no leaf, and leaves a well-formed state with that leaf more.
+-- A step from a well-formed state gives a route that is no leaf, and leaves a well-formed state with that leaf added.
 use Rattle.std.proofs.Common.{◌≡◌, ℕ, ◌+◌, Bool, true, false, cond, List, [], ◌∷◌, ◌++◌, map, length, sym, ap, subst, refl, ◌∙◌, true≢false, ◌⊎◌, inl, inr, Option, Some}
 use Rattle.std.proofs.lemmas.Cmp.{nat_list_cmp_total}
 use Rattle.std.specs.Ordering.{nat_cmp}
@@ -24,7 +24,7 @@ tree_in_order S = record {
   numbers = λ p X m. subst (Rises nat_cmp) (sym (tree_has p X S m).1) (Rises-numbers_after p S);
 }
 
--- what carry gives is what stood or the least
+-- what carry returns is what was carried before, or the least
 carried_cases : (parts : List PartState) (e : List ℕ × List ℕ) (d : Option (List ℕ)) → (carried_in parts e d ≡ d) ⊎ ((t : PartState) × Member t parts × (pair_of t ≡ e) × (carried_in parts e d ≡ t.carried))
 carried_cases [] e d = inl refl
 carried_cases (t ∷ ts) e d = elim (true_or_false (same_pair (pair_of t) e)) [

@@ -1,4 +1,4 @@
--- Fronts of a list and the number behind them.
+-- Fronts of a list and the number after them.
 use Rattle.std.proofs.Common.{◌≡◌, ℕ, zero, suc, ◌+◌, ◌<◌, ◌≤◌, List, [], ◌∷◌, ◌++◌, length, take, drop, get_or, refl, sym, ap, ◌∙◌, arith, Option, Some, append_assoc}
 use Rattle.sabr_model.specs.Parts.{number_after}
 use Rattle.sabr_model.specs.Record.{RouteRecord}

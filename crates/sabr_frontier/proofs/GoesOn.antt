@@ -1,4 +1,4 @@
--- How a list goes on behind a prefix, read off its front and the rest.
+-- How a list goes on after a prefix, read from its front and the rest.
 use Rattle.std.proofs.Common.{◌≡◌, ℕ, false, not, List, [], ◌∷◌, ◌++◌, length, take, drop, refl, sym, ap, ◌∙◌, Some, None}
 use Rattle.std.specs.Prelude.{slice_get}
 use Rattle.std.specs.Option.{option_map_or}
@@ -16,7 +16,7 @@ nil_right (x ∷ xs) = ap (λ z. x ∷ z) (nil_right xs)
 whole : (p s rest : List ℕ) → take (length p) s ≡ p → rest ≡ drop (length p) s → s ≡ p ++ rest
 whole p s rest e d = sym (take-append-drop (length p) s) ∙ (λ i. e i ++ sym d i)
 
--- nothing behind the prefix
+-- nothing after the prefix
 pub ends_there : (p X s rest : List ℕ) → take (length p) s ≡ p → rest ≡ drop (length p) s → slice_get rest 0 ≡ None → goes_on p X s ≡ false
 ends_there p X s [] e d n = elim (number_after p s) as (λ o. number_after p s ≡ o → option_map_or (λ n. not (has n X)) o false ≡ false) [
   | None ↦ λ _. refl
@@ -24,7 +24,7 @@ ends_there p X s [] e d n = elim (number_after p s) as (λ o. number_after p s �
 ] refl
 ends_there p X s (y ∷ rest) e d n = absurd cc
 
--- a number behind it
+-- a number after it
 pub goes_there : (p X s rest : List ℕ) (x : ℕ) → take (length p) s ≡ p → rest ≡ drop (length p) s → Some x ≡ slice_get rest 0 → not (has x X) ≡ goes_on p X s
 goes_there p X s [] x e d n = absurd cc
 goes_there p X s (y ∷ rest) x e d n =

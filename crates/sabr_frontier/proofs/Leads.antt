@@ -1,4 +1,4 @@
--- A list that goes on behind a prefix begins with it.
+-- A list that goes on after a prefix begins with it.
 use Rattle.std.proofs.Common.{◌≡◌, ℕ, ◌<◌, true, List, ◌∷◌, ◌++◌, length, take, refl, ap, ◌∙◌, arith, length-append}
 use Rattle.std.proofs.lemmas.List.{take_at}
 use Rattle.sabr_model.specs.Parts.{goes_on}

@@ -31,7 +31,7 @@ within_deepest e [] h = absurd h
 within_deepest e (f ∷ T) (inl h) = omega (arith, ap (λ (z : List ℕ × List ℕ). length z.0) h)
 within_deepest e (f ∷ T) (inr h) = omega (arith, within_deepest e T h)
 
--- a prefix stands once
+-- a prefix is listed once
 pub one_pair : (p X Y : List ℕ) (T : Pairs) → Rises by_numbers (map (λ e. e.0) T) → Member (p, X) T → Member (p, Y) T → X ≡ Y
 one_pair p X Y [] r a b = absurd a
 one_pair p X Y (e ∷ T) r (inl a) (inl b) = ap (λ (z : List ℕ × List ℕ). z.1) (a ∙ sym b)
@@ -44,7 +44,7 @@ not_empty [] x e = cc
 not_empty (y ∷ p) x e = cc
 
 module _ (route chain fits : List ℕ → Bool) (T : Pairs) (order : InOrder T) (closed : IsClosed route chain fits T) where
-  -- a leaf lies behind each excluded number
+  -- there is a leaf after each excluded number
   beyond : (n : ℕ) (p X : List ℕ) (x : ℕ) → deepest T < length p + n → Member (p, X) T → has nat_cmp x X ≡ true → (s : List ℕ) × In s (leaves route T) × (number_after p s ≡ Some x)
   beyond zero p X x d m h = absurd (omega (arith, within_deepest (p, X) T m))
   beyond (suc n) p X x d m h = elim (closed.below p X x m h).1 [

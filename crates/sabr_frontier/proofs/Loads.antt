@@ -1,4 +1,4 @@
--- The tree of closed parts is sound, and stands for the state that they make.
+-- The tree of closed parts is sound, and represents the state that they make.
 use Rattle.std.proofs.Common.{◌≡◌, ℕ, suc, ◌+◌, ◌<◌, ◌≤◌, Bool, true, false, cond, not, List, [], ◌∷◌, ◌++◌, map, flat_map, take, length, refl, sym, ap, subst, ◌∙◌, ◌⊎◌, inl, inr, arith, true≢false, Option, Some, None, append_assoc, length-append}
 use Rattle.std.specs.Prelude.{slice_get, is_some}
 use Rattle.std.specs.Option.{option_map}
@@ -48,7 +48,7 @@ module _ (route path : List ℕ → Bool) where
   leaf_is : (s : List ℕ) (e : List ℕ × List ℕ) → Member s (leaves_of route e) → (x : ℕ) × (s ≡ e.0 ++ x ∷ []) × Member x e.1
   leaf_is s e m = Member-map_cases (λ x. e.0 ++ x ∷ []) s e.1 (Member-filter_cases route s (map (λ x. e.0 ++ x ∷ []) e.1) m).1
 
-  -- where no number makes a leaf, the first number asks for more
+  -- if no number makes a leaf, the first number asks for more
   first_onward : (e : List ℕ × List ℕ) (x : ℕ) → has nat_cmp x e.1 ≡ true → leaves_of route e ≡ [] → (y : ℕ) × (more : Owing) × (onward route path e ≡ (e.0 ++ y ∷ []) ∷ more)
   first_onward e x h none = at e.1 h none
     where
@@ -59,7 +59,7 @@ module _ (route path : List ℕ → Bool) where
         | false ↦ λ k. (y, onward route path (e.0, X), refl)
       ] none
 
-  -- the first leaf of a pair, where it has one
+  -- the first leaf of a pair, if it has one
   leaf_or_none : (e : List ℕ × List ℕ) (rest : List (List ℕ)) → ((s : List ℕ) × (more : List (List ℕ)) × (n : ℕ) × (leaves_of route e ++ rest ≡ s ∷ more) × (number_after e.0 s ≡ Some n)) ⊎ (leaves_of route e ≡ [])
   leaf_or_none e rest = elim (leaves_of route e) as (λ l. leaves_of route e ≡ l → ((s : List ℕ) × (more : List (List ℕ)) × (n : ℕ) × (l ++ rest ≡ s ∷ more) × (number_after e.0 s ≡ Some n)) ⊎ (l ≡ [])) [
     | s ∷ l ↦ λ k.
@@ -68,7 +68,7 @@ module _ (route path : List ℕ → Bool) where
     | [] ↦ λ k. inr refl
   ] refl
 
-  -- the first leaf of a pair and those behind it goes on behind the pair's prefix
+  -- the first leaf of a pair and those after it goes on after the pair's prefix
   first_leaf : (e : List ℕ × List ℕ) (T : Pairs) (os : Owing) → Owes route path os (e ∷ T) [] → (x : ℕ) → has nat_cmp x e.1 ≡ true → (s : List ℕ) × (more : List (List ℕ)) × (n : ℕ) × (flat_map (leaves_of route) (e ∷ T) ≡ s ∷ more) × (number_after e.0 s ≡ Some n)
   first_leaf e [] os w x h = elim (leaf_or_none e (flat_map (leaves_of route) [])) [
     | inl v ↦ v

@@ -1,4 +1,4 @@
--- Steps from any well-formed state give routes that are new.
+-- Steps from any well-formed state give new routes.
 use Rattle.std.proofs.Common.{◌≡◌, ℕ, zero, suc, true, false, cond, List, [], ◌∷◌, length, refl, sym, ap, subst, ◌∙◌, ◌⊎◌, inl, inr, arith, true≢false, Some, None}
 use Rattle.std.specs.Ordering.{is_lt}
 use Rattle.sabr_model.specs.Order.{put_in, by_numbers}
@@ -36,7 +36,7 @@ carrier cmp (u ∷ parts) x e = elim u.carried as (λ o. u.carried ≡ o → bet
 ] refl e
 
 module _ (p : ContactPlan) (r : RouteRequest) (good : IsPlan p) where
-  -- one step from a well-formed state, where its least route is x
+  -- one step from a well-formed state whose least route is x
   record IsNewStep (s : State) (x : List ℕ) : Type 0 where
     stepped : one_step p r s ≡ Some (x, (given (is_route p r) (least_in p r) s x).1)
     formed : IsState p r (given (is_route p r) (least_in p r) s x).1

@@ -1,4 +1,5 @@
--- Pairs that come in order are closed exactly where each answers the least prefix that is owed, and none is owed at the end.
+-- Pairs that come in order are closed if and only if each answers the least prefix that is owed, and none is owed at
+-- the end.
 use Rattle.std.proofs.Common.{◌≡◌, ℕ, Bool, true, false, cond, not, List, [], ◌∷◌, ◌++◌, map, filter, sym, ap, subst, refl, ◌∙◌, true≢false, ◌⊎◌, inl, inr, Some, append_assoc}
 use Rattle.std.proofs.lemmas.Cmp.{nat_list_cmp_total, nat_cmp_total, tied_itself}
 use Rattle.std.specs.Ordering.{nat_cmp, ordering_then}

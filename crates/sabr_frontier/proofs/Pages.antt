@@ -113,7 +113,7 @@ at_last p r s all first before k t given e h = record {
     nil_right [] = refl
     nil_right (x ∷ xs) = ap (λ z. x ∷ z) (nil_right xs)
 
--- where no part carries a route, the steps end
+-- if no part carries a route, the steps end
 pub at_end : {A : Type 0} (p : ContactPlan) (r : RouteRequest) (good : IsPlan p) (s : State) (all : ℕ) (first : Shape A) (before : List RouteRecord) (k : ℕ) (t : Shape A) (given : List RouteRecord)
     → length t.queue ≡ 0 → IsOnTheWay p r s all first before k t given → IsAllGiven p r s all first before t given
 at_end p r good s all first before k t given e h = at_last p r s all first before k t given (steps_stop p r (shown t) k (nothing_given p r good t (sound_tree p r (length t.journal) t h.sound) e)) h

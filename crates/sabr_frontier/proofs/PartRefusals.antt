@@ -42,7 +42,7 @@ module _ (p : ContactPlan) (r : RouteRequest) (parts : List PartState) (t : Part
   pub not_refused : (rise_strictly t.excluded && comes_behind parts t.prefix) ≡ true → may_carry p r t ≡ true → part_refusal p r parts t ≡ None
   not_refused h k = (λ i. cond (not (h i)) (Some BadOrder) (cond (not (k i)) (Some BadRoute) None))
 
-  -- what is told is the refusal
+  -- what is reported is the refusal
   pub told : {X : Type 0} (a f : LoadFault) → part_refusal p r parts t ≡ Some a → part_refusal p r parts t ≡ Some f → ◌≡◌ {A = Result X LoadFault} (Err a) (Err f)
   told a f h k = let same : Some a ≡ Some f = sym h ∙ k in let e : a ≡ f = cc in ap Err e
 

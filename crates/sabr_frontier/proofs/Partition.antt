@@ -37,7 +37,7 @@ module _ {X : Type 0} (test : X → Bool) where
     | false ↦ omega arith
   ]
 
-  -- each of those in front passes
+  -- each element before the split passes
   pub front_passes : (e : X) (xs : List X) → Member e (take (passing test xs) xs) → test e ≡ true
   front_passes e [] m = absurd m
   front_passes e (x ∷ xs) m = elim (test x) as (λ b. test x ≡ b → Member e (take (cond b (suc (passing test xs)) 0) (x ∷ xs)) → test e ≡ true) [
@@ -46,7 +46,7 @@ module _ {X : Type 0} (test : X → Bool) where
   ] refl m
 
   module _ (Q : X → X → Type 0) (falls : (a b : X) → Q a b → test b ≡ true → test a ≡ true) where
-    -- where a pass carries over to what is earlier, those that pass come first
+    -- if a pass carries over to what is earlier, those that pass come first
     pub partitioned : (xs : List X) → InPairs Q xs → IsPartitionedBy test xs
     partitioned [] h i j d le lt t = absurd (omega arith)
     partitioned (x ∷ xs) h zero zero d le lt t = t
@@ -98,7 +98,7 @@ greater_number x y e = grind (arith, nat_tests)
 pub earlier_number : (x a b : ℕ) → nat_cmp a b ≡ Less → ltb b x ≡ true → ltb a x ≡ true
 earlier_number x a b e t = grind (arith, nat_tests)
 
--- a number that isn't there is put behind the lesser ones
+-- a number that isn't there is inserted after the lesser ones
 pub put_in_number : (x : ℕ) (xs : List ℕ) → has nat_cmp x xs ≡ false → put_in nat_cmp x xs ≡ put_behind (λ y. ltb y x) x xs
 put_in_number x [] h = refl
 put_in_number x (y ∷ ys) h = elim (nat_cmp x y) as (λ r. nat_cmp x y ≡ r → elim r [ Less ↦ x ∷ y ∷ ys | Equal ↦ y ∷ ys | Greater ↦ y ∷ put_in nat_cmp x ys ] ≡ cond (ltb y x) (y ∷ put_behind (λ y. ltb y x) x ys) (x ∷ y ∷ ys)) [

@@ -29,7 +29,7 @@ module _ (p : ContactPlan) (r : RouteRequest) where
       let w = number_after_some q s x e in
       beginning_goes_on p r q x w.0 (subst (λ z. is_route p r z ≡ true) w.1 is)
 
-  -- and a prefix where the route goes on
+  -- and a prefix if the route goes on
   pub route_fits : (q s : List ℕ) (x : ℕ) → is_route p r s ≡ true → number_after q s ≡ Some x → is_prefix p r q ≡ true
   route_fits q s x is e =
       let w = number_after_some q s x e in

@@ -1,4 +1,4 @@
--- A route cut behind a prefix.
+-- A route cut after a prefix.
 use Rattle.std.proofs.Common.{◌≡◌, ℕ, suc, ◌+◌, ◌<◌, List, [], ◌∷◌, ◌++◌, length, take, drop, get_or, refl, sym, ap, ◌∙◌, inl, inr, arith, Option, Some, None, length-append}
 use Rattle.std.specs.Prelude.{slice_get}
 use Rattle.sabr_model.specs.Record.{RouteRecord}
@@ -8,7 +8,7 @@ use Rattle.sabr_frontier.specs.Sound.{IsLent}
 use Rattle.sabr_frontier.proofs.Fronts.{length-front}
 use Rattle.sabr_frontier.proofs.Nodes.{get_front, get_within}
 
--- what a list is around the number behind its front
+-- what a list is around the number after its front
 pub record IsCut (s q : List ℕ) (y : ℕ) (rest : List ℕ) (d : ℕ) : Type 0 where
   pub front : take d s ≡ q
   pub number : get_or s d 0 ≡ y

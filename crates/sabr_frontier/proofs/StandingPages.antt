@@ -1,4 +1,4 @@
--- The pages that stand since a well-formed state gave routes that are new.
+-- The pages that weren't taken back since a well-formed state gave new routes.
 use Rattle.std.proofs.Common.{◌≡◌, ℕ, zero, suc, List, [], ◌∷◌, flat_map, refl, sym, ap, subst, ◌∙◌, ◌⊎◌, inl, inr, true, Option, Some, None}
 use Rattle.sabr_model.specs.Plan.{ContactPlan, IsPlan}
 use Rattle.sabr_model.specs.Arrival.{RouteRequest}
@@ -13,8 +13,8 @@ use Rattle.sabr_frontier.proofs.NewRoutes.{new_routes}
 use Rattle.sabr_frontier.proofs.Pages.{steps_stop, steps_go, steps_none}
 
 module _ (p : ContactPlan) (r : RouteRequest) (good : IsPlan p) (s : State) (start : IsState p r s) where
-  -- each page that stands gave what steps from the state before it give, and led to the state behind it; the first of
-  -- them began with s
+  -- each page that wasn't taken back gave what steps from the state before it give, and led to the state after it; the
+  -- first of them began with s
   abbrev Stands : State → List PageGiven → Type 0
   Stands t [] = t ≡ s
   Stands t (page ∷ pages) = ((k : ℕ) × (steps p r k page.start ≡ (page.routes, t))) × Stands page.start pages

@@ -47,7 +47,7 @@ put_number-has None x xs (inr h) = h
 put_number-has (Some y) x xs (inl e) = let same : y ≡ x = cc in has-put_in nat_cmp_total x y xs ∙ or_left (is_eq (nat_cmp x y)) (has nat_cmp x xs) (ap is_eq (ap (nat_cmp x) same ∙ tied_itself nat_cmp_total x))
 put_number-has (Some y) x xs (inr h) = has-put_in nat_cmp_total x y xs ∙ or_right (is_eq (nat_cmp x y)) (has nat_cmp x xs) h
 
--- a number is among the numbers_after exactly where some member takes it
+-- a number is among the numbers_after if and only if some member takes it
 pub numbers_after_has : (x : ℕ) (p : List ℕ) (S : List (List ℕ)) → has nat_cmp x (numbers_after p S) ≡ true → (s : List ℕ) × (In s S) × (number_after p s ≡ Some x)
 numbers_after_has x p [] h = absurd (true≢false (sym h))
 numbers_after_has x p (s ∷ S) h = elim (has-put_number (number_after p s) x (numbers_after p S) h) [
@@ -62,7 +62,7 @@ has_numbers_after x p s (t ∷ S) h e = elim (In-cases s t S h) [
   | inr more ↦ put_number-has (number_after p t) x (numbers_after p S) (inr (has_numbers_after x p s S more e))
 ]
 
--- a list is among those with one number in front where it has that number in front
+-- a list is among those with one number prepended if it begins with that number
 map_cons_has : (q : List ℕ) (x : ℕ) (bs : List (List ℕ)) → has by_numbers q (map (λ b. x ∷ b) bs) ≡ true → (r : List ℕ) × (q ≡ x ∷ r) × (In r bs)
 map_cons_has q x [] h = absurd (true≢false (sym h))
 map_cons_has q x (b ∷ bs) h = elim (In-cases q (x ∷ b) (map (λ b. x ∷ b) bs) h) [

@@ -6,7 +6,7 @@ use Rattle.sabr_model.specs.Arrival.{RouteRequest}
 use Rattle.sabr_model.specs.Parts.{least_in}
 use Rattle.sabr_model.specs.Record.{RouteRecord, record_of}
 
--- the record of the least route of a part, or none where the part has no route
+-- the record of the least route of a part, or none if the part has no route
 unfoldable pub best_of : ContactPlan → RouteRequest → List ℕ → List ℕ → Option RouteRecord
 best_of p r prefix excluded = option_map (record_of p r) (least_in p r prefix excluded)
 

@@ -11,9 +11,9 @@ abbrev pub Within : List ℕ → List ℕ → List ℕ → Type 0
 Within p X r = (x : ℕ) × (number_after p r ≡ Some x) × (has nat_cmp x X ≡ false)
 
 module _ (route path fits : List ℕ → Bool) where
-  -- the pairs of a closed state: the empty prefix is listed; routes may begin with each prefix; each prefix
-  -- with an excluded number is a path, and a route or listed; each prefix but the empty one is a listed
-  -- prefix with an excluded number of it; and each but the empty one excludes a number
+  -- the pairs of a closed state. The empty prefix is listed, and routes may begin with each prefix. Each prefix with an
+  -- excluded number is a path, and a route or listed. Each prefix but the empty one is a listed prefix with an excluded
+  -- number of it, and excludes a number itself.
   pub record IsClosed (T : List (List ℕ × List ℕ)) : Type 0 where
     pub root : (X : List ℕ) × Member ([], X) T
     pub fit : (p X : List ℕ) → Member (p, X) T → fits p ≡ true
@@ -26,8 +26,8 @@ pub record InOrder (T : List (List ℕ × List ℕ)) : Type 0 where
   pub by_prefix : Rises by_numbers (map (λ e. e.0) T)
   pub numbers : (p X : List ℕ) → Member (p, X) T → Rises nat_cmp X
 
--- the pairs are in order and closed, the leaves are counted, the last is one of them (empty where there is
--- none), and each carried route is a route in its part
+-- the pairs are in order and closed, the leaves are counted, the last is one of them (empty if there is none), and each
+-- carried route is a route in its part
 pub record IsWellFormed (route path fits : List ℕ → Bool) (s : State) : Type 0 where
   pub order : InOrder (map pair_of s.parts)
   pub closed : IsClosed route path fits (map pair_of s.parts)

@@ -1,4 +1,4 @@
--- What any steps from a well-formed state give: routes that are new.
+-- What any steps from a well-formed state give: new routes.
 use Rattle.std.specs.Prelude.{◌≡◌, ℕ, ◌<◌, ◌⊎◌, List, ◌∷◌, length, Some, None, IsTrue}
 use Rattle.sabr_model.specs.Plan.{ContactPlan}
 use Rattle.sabr_model.specs.Arrival.{RouteRequest}
@@ -7,8 +7,8 @@ use Rattle.sabr_frontier.specs.State.{State, Member}
 use Rattle.sabr_frontier.specs.Listing.{IsState, leaves_in, next_route, steps}
 use Rattle.sabr_frontier.specs.Queue.{InPairs}
 
--- k steps from s give routes, none of them a leaf of s and none twice; all of them, and the leaves of s, are leaves
--- then; the first is the least that a part carries; and there are k of them, or no part carries one then
+-- k steps from s give routes, none of them a leaf of s and none twice. After them, all of these and the leaves of s are
+-- leaves. The first is the least that a part carries. There are k of them, or no part carries one then.
 pub record GivesNewRoutes (p : ContactPlan) (r : RouteRequest) (k : ℕ) (s : State) : Type 0 where
   pub formed : IsState p r (steps p r k s).1
   pub routes : (x : List ℕ) → Member x (steps p r k s).0 → IsTrue (is_route p r x)

@@ -22,7 +22,7 @@ use Rattle.sabr_frontier.specs.Taking.{enqueued_all, ids_from}
 use Rattle.sabr_frontier.specs.Leading.{AreOwed, AreSteps, prefix_owed, step_of}
 use Rattle.sabr_frontier.specs.Loading.{Loaded}
 
--- what is held, without its capacities; the least owed prefix is the last
+-- what is held, without its capacities; the least of the owed prefixes is the last
 pub record Holding (A : Type 0) : Type 0 where
   pub prefixes : List (List ℕ)
   pub last : List ℕ
@@ -62,16 +62,16 @@ owed_in h = map (prefix_owed h.last) h.owed
 abbrev pub last_prefix : {A : Type 0} → Holding A → Option (List ℕ)
 last_prefix h = if length h.nodes == 0 then None else Some h.last
 
--- what is owed behind so many parts, the least first: the empty prefix before any
+-- what is owed after these parts, the least first: the empty prefix before any
 abbrev pub owing : List PartState → List (List ℕ) → Owing
 owing [] owed = [] ∷ []
 owing (t ∷ ts) owed = reverse owed
 
--- whether the prefix is the least that is owed: the empty one before any part
+-- whether the prefix is the least that is owed: the empty one, before any part
 abbrev pub is_least : {A : Type 0} → Holding A → List ℕ → Bool
 is_least h q = option_map_or (same_numbers q) (last_item (owed_in h)) (length h.nodes == 0 && length q == 0)
 
--- whether it is, behind parts that all were
+-- whether it is the least that is owed, after parts that all were
 abbrev pub is_due : {A : Type 0} → Holding A → List ℕ → Bool
 is_due h q = h.sound && is_least h q
 
@@ -85,56 +85,57 @@ is_paid h = h.sound && (not (length h.nodes == 0) && (length h.owed == 0))
 abbrev pub AllGoOn : ContactPlan → RouteRequest → List ℕ × List ℕ → Type 0
 AllGoOn p r e = (x : ℕ) → has nat_cmp x e.1 ≡ true → is_path p r (e.0 ++ x ∷ []) ≡ true
 
--- the list alone where it is a route, and where it is none
+-- the list alone if it is a route, and nothing if it is none
 abbrev pub routes_of : ContactPlan → RouteRequest → List ℕ → List (List ℕ)
 routes_of p r s = filter (is_route p r) (s ∷ [])
 
 abbrev pub onward_of : ContactPlan → RouteRequest → List ℕ → List (List ℕ)
 onward_of p r s = filter (λ q. not (is_route p r q)) (s ∷ [])
 
--- what a pair's excluded numbers lead to: the leaves and the prefixes that go on
+-- where a pair's excluded numbers lead: the leaves and the prefixes that go on
 pub record IsJudged {A : Type 0} (p : ContactPlan) (r : RouteRequest) (e : List ℕ × List ℕ) (j : Judged A) : Type 0 where
   pub leaves_are : j.leaves.items ≡ map (record_of p r) (leaves_of (is_route p r) e)
   pub onward_are : map (step_of e.0) j.onward.items ≡ onward (is_route p r) (is_path p r) e
   pub steps : AreSteps p r e.0 j.onward.items
 
--- the pair answers what is owed and is good, and this is what it leads to; or it doesn't or isn't
+-- the pair answers what is owed and is good, and this is where it leads; or there is no verdict, since it doesn't or
+-- isn't
 abbrev pub IsVerdict : {A : Type 0} → ContactPlan → RouteRequest → Holding A → List ℕ × List ℕ → Option (Judged A) → Type 0
 IsVerdict p r h e (Some j) = (is_due h e.0 ≡ true) × IsGood (is_route p r) (is_path p r) e × IsJudged p r e j
 IsVerdict p r h e None = is_due h e.0 ≡ true → IsGood (is_route p r) (is_path p r) e → ⊥
 
--- the node of a part: its leaf is the next that comes
+-- the node of a part: its leaf is the next one to come
 abbrev pub node_for : {A : Type 0} → Holding A → List ℕ → List ℕ → Option RouteRecord → Node A
 node_for h q X route = record { leaf = length h.leaves; length = length q; excluded = X; route = route }
 
--- with a prefix and its node more
+-- what is held, with one more prefix and its node
 abbrev pub with_node : {A : Type 0} → Holding A → List ℕ → List ℕ → Option RouteRecord → Holding A
 with_node h q X route = record h { prefixes = h.prefixes ++ q ∷ []; last = q; nodes = h.nodes ++ node_for h q X route ∷ [] }
 
--- with what the part leads to in place of the least that was owed
+-- what is held, with what the part leads to in place of the least that was owed
 abbrev pub answered_by : {A : Type 0} → Holding A → Option (Judged A) → Holding A
 answered_by h None = record h { sound = false }
 answered_by h (Some j) = record h { leaves = h.leaves ++ j.leaves.items; owed = front h.owed ++ reverse j.onward.items }
 
--- with a part more
+-- what is held, with one more part
 abbrev pub held_then : {A : Type 0} → Holding A → List ℕ → List ℕ → Option RouteRecord → Option (Judged A) → Holding A
 held_then h q X route j = answered_by (with_node h q X route) j
 
--- there are places for a part whose prefix has so many numbers, so many leaves and so many that are owed
+-- there is room for a part whose prefix has this number of numbers, with these numbers of leaves and of owed prefixes
 pub record HasPlaces {A : Type 0} (h : Held A) (numbers leaves onward : ℕ) : Type 0 where
   pub for_numbers : numbers ≤ vec_capacity h.last
   pub one_node : vec_len h.nodes < vec_capacity h.nodes
   pub for_leaves : vec_len h.leaves + leaves ≤ vec_capacity h.leaves
   pub for_owed : vec_len h.owed + onward ≤ vec_capacity h.owed
 
--- with a part more, for the verdict on it
+-- what is held with one more part, for the verdict on it
 abbrev pub IsTakenIn : {A : Type 0} → ContactPlan → RouteRequest → Holding A → List ℕ → List ℕ → Option RouteRecord → Holding A → Type 0
 IsTakenIn {A} p r h q X route new = (j : Option (Judged A)) × IsVerdict p r h (q, X) j × (new ≡ held_then h q X route j)
 
 -- ---- what holds of it
 
--- each node has the length of its prefix, and its leaf is the first of its own leaves and those behind them, the first
--- of all being number c
+-- each node has the length of its prefix. Its leaf is the first of its own leaves and those of the nodes after it; the
+-- very first leaf is number c
 abbrev pub AreLent : {A : Type 0} → (List ℕ → Bool) → ℕ → List (List ℕ) → List (Node A) → Type 0
 AreLent route c [] [] = Unit {0}
 AreLent route c [] (n ∷ ns) = ⊥
@@ -175,7 +176,7 @@ loaded_tree h last = record {
 abbrev pub IsGiven : List RouteRecord → List ℕ → Type 0
 IsGiven leaves last = ((last ≡ []) × (leaves ≡ [])) ⊎ ((x : RouteRecord) × Member x leaves × (x.contacts ≡ last))
 
--- the leaves are counted, and the last is at this place of them
+-- the leaves are counted, and the last route is at this place of them
 pub record IsLastPlace (leaves : List RouteRecord) (emitted : ℕ) (last : List ℕ) (place : Option ℕ) : Type 0 where
   pub count : emitted ≡ length leaves
   pub is : given_at leaves place ≡ last

@@ -30,8 +30,8 @@ pub record LeavesComeFirst (p : ContactPlan) (r : RouteRequest) (s : State) : Ty
   pub to_last : (l : List ℕ) → Member l (leaves_in p r s) → IsFalse (before p r s.last l)
   pub to_carried : (l : List ℕ) (t : PartState) (c : List ℕ) → Member l (leaves_in p r s) → Member t s.parts → t.carried ≡ Some c → IsTrue (before p r l c)
 
--- A well-formed state has the pairs of the tree of its leaves. Where each part carries its least route and the
--- leaves come first, the state is the one of the place that it counts.
+-- A well-formed state has the pairs of the tree of its leaves. If each part carries its least route and the leaves come
+-- first, the state is the one of the place that it counts.
 pub record IsTold (p : ContactPlan) (r : RouteRequest) (s : State) : Type 0 where
   pub pairs : map pair_of s.parts ≡ tree (leaves_in p r s)
   pub placed : IsPlan p → CarriesLeast p r s → LeavesComeFirst p r s → s ≡ state_at p r s.emitted

@@ -12,7 +12,7 @@ use Rattle.sabr_frontier.specs.State.{PartState, State, pair_of, leaves}
 use Rattle.sabr_frontier.specs.Formed.{IsWellFormed}
 use Rattle.sabr_frontier.specs.Step.{least_carried, state_of, step}
 
--- the state of the place i in the list of all routes: the first i were given
+-- the state of place i in the list of all routes: the first i were given
 unfoldable pub state_at : ContactPlan → RouteRequest → ℕ → State
 state_at p r i = state_of (least_in p r) (take i (routes p r))
 
@@ -28,8 +28,8 @@ IsState p r s = IsWellFormed (is_route p r) (is_path p r) (is_prefix p r) s
 abbrev pub next_route : ContactPlan → RouteRequest → State → Option (List ℕ)
 next_route p r s = least_carried (by_key p r) s.parts
 
--- that route is given: the leaves are one more, the pairs are their tree, what stood keeps what it carried,
--- and every other part carries its least
+-- the state after that route is given: the leaves are one more, the pairs are their tree, the earlier parts keep what
+-- they carried, and every other part carries its least
 abbrev pub one_step : ContactPlan → RouteRequest → State → Option (List ℕ × State)
 one_step p r s = step (is_route p r) (least_in p r) (by_key p r) s
 
@@ -37,7 +37,7 @@ one_step p r s = step (is_route p r) (least_in p r) (by_key p r) s
 abbrev pub given_first : List ℕ → List (List ℕ) × State → List (List ℕ) × State
 given_first s rest = (s ∷ rest.0, rest.1)
 
--- at most k steps in a row: the routes given and the state that is left; fewer where no part carries a route
+-- at most k steps in a row: the routes given and the state that is left; fewer if no part carries a route
 unfoldable pub steps : ContactPlan → RouteRequest → ℕ → State → List (List ℕ) × State
 steps p r zero s = ([], s)
 steps p r (suc k) s = elim (one_step p r s) [ None ↦ ([], s) | Some w ↦ given_first w.0 (steps p r k w.1) ]
@@ -46,17 +46,17 @@ steps p r (suc k) s = elim (one_step p r s) [ None ↦ ([], s) | Some w ↦ give
 abbrev pub carries_it : List ℕ → PartState → Bool
 carries_it s u = option_map_or (same_numbers s) u.carried false
 
--- the hops of a route behind a part's prefix
+-- the hops of a route after a part's prefix
 abbrev pub hops_past : List ℕ → Option PartState → ℕ
 hops_past s None = 0
 hops_past s (Some u) = length s - length u.prefix
 
--- how many searches it takes to give a route that a state carries: one for each hop behind the prefix of the part
--- that carries it
+-- the number of searches that it takes to give a route that a state carries: one for each hop after the prefix of the
+-- part that carries it
 unfoldable pub searches_for : State → List ℕ → ℕ
 searches_for state s = hops_past s (find (carries_it s) state.parts)
 
--- how many searches at most k steps take
+-- the number of searches that at most k steps take
 unfoldable pub searches_in : ContactPlan → RouteRequest → ℕ → State → ℕ
 searches_in p r zero s = 0
 searches_in p r (suc k) s = elim (one_step p r s) [ None ↦ 0 | Some w ↦ searches_for s w.0 + searches_in p r k w.1 ]

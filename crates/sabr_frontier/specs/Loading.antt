@@ -24,12 +24,12 @@ pub record Loaded : Type 0 where
 
 -- ---- a part more
 
--- each number is above the one before it
+-- each number is greater than the one before it
 abbrev pub rise_strictly : List ℕ → Bool
 rise_strictly [] = true
 rise_strictly (x ∷ xs) = rises_above x xs
 
--- the prefix comes behind that of the last part
+-- the prefix comes after that of the last part
 abbrev pub comes_behind : List PartState → List ℕ → Bool
 comes_behind parts q = option_map_or (λ t. numbers_before t.prefix q) (last_item parts) true
 
@@ -37,14 +37,14 @@ comes_behind parts q = option_map_or (λ t. numbers_before t.prefix q) (last_ite
 abbrev pub may_carry : ContactPlan → RouteRequest → PartState → Bool
 may_carry p r t = option_map_or (in_part p r t.prefix t.excluded) t.carried true
 
--- why a part is refused behind others, the least reason
+-- the reason why a part is refused after others, the first that holds
 abbrev pub part_refusal : ContactPlan → RouteRequest → List PartState → PartState → Option LoadFault
 part_refusal p r parts t =
     if not (rise_strictly t.excluded && comes_behind parts t.prefix) then Some BadOrder
     else if not (may_carry p r t) then Some BadRoute
     else None
 
--- with the part behind the others
+-- the loader with the part after the others
 abbrev pub with_part : Loaded → PartState → Loaded
 with_part l t = record l { parts = l.parts ++ t ∷ [] }
 
@@ -58,13 +58,13 @@ state_with parts emitted last = record { emitted = emitted; last = last; parts =
 abbrev pub IsClosedState : ContactPlan → RouteRequest → State → Type 0
 IsClosedState p r s = IsClosed (is_route p r) (is_path p r) (is_prefix p r) (map pair_of s.parts)
 
--- it counts its leaves, and its last is one of them, or empty where there is none
+-- it counts its leaves, and its last is one of them, or empty if there is none
 pub record IsCounted (p : ContactPlan) (r : RouteRequest) (s : State) : Type 0 where
   pub count : s.emitted ≡ length (leaves_in p r s)
   pub right : ((s.last ≡ []) × (leaves_in p r s ≡ [])) ⊎ (has by_numbers s.last (leaves_in p r s) ≡ true)
 
--- what holds of a state that is refused so: NotClosed where it isn't closed, BadCount where it is closed and the
--- count or the last is wrong, NoMemory where it is well formed, and never another fault
+-- what holds of a state that is refused. NotClosed: it isn't closed. BadCount: it is closed, but the count or the last
+-- is wrong. NoMemory: it is well formed. There is no other fault.
 abbrev pub IsRefusedBy : ContactPlan → RouteRequest → State → LoadFault → Type 0
 IsRefusedBy p r s BadOrder = ⊥
 IsRefusedBy p r s BadRoute = ⊥
@@ -72,7 +72,7 @@ IsRefusedBy p r s NotClosed = IsClosedState p r s → ⊥
 IsRefusedBy p r s BadCount = IsClosedState p r s × (IsCounted p r s → ⊥)
 IsRefusedBy p r s NoMemory = IsState p r s
 
--- how what a part is to carry is refused: BadRoute where it may not, NoMemory where it may
+-- how a carried route is refused: BadRoute if the part may not carry it, NoMemory if it may
 abbrev pub IsCarryFault : Bool → LoadFault → Type 0
 IsCarryFault may BadOrder = ⊥
 IsCarryFault may BadRoute = may ≡ false

@@ -1,9 +1,9 @@
--- Pairs that come in order answer, one after another, the prefixes that are owed.
+-- Pairs in order that answer, one after another, the prefixes that are owed.
 use Rattle.std.specs.Prelude.{◌≡◌, ℕ, Bool, true, not, ◌⊎◌, List, [], ◌∷◌, ◌++◌, map, filter}
 use Rattle.std.specs.Ordering.{nat_cmp}
 use Rattle.sabr_frontier.specs.Rising.{has}
 
--- prefixes that are to be listed, the least first
+-- prefixes still to be listed, the least first
 abbrev pub Owing : Type 0
 Owing = List (List ℕ)
 
@@ -17,7 +17,8 @@ module _ (route path : List ℕ → Bool) where
     pub busy : (e.0 ≡ []) ⊎ ((x : ℕ) × (has nat_cmp x e.1 ≡ true))
     pub chains : (x : ℕ) → has nat_cmp x e.1 ≡ true → path (e.0 ++ x ∷ []) ≡ true
 
-  -- from these owed the pairs lead to those owed: each good pair answers the least and asks for what goes on from it
+  -- the pairs lead from the first owed prefixes to the second: each is good, answers the least and asks for what goes
+  -- on from it
   abbrev pub Owes : Owing → List (List ℕ × List ℕ) → Owing → Type 0
   Owes os [] end = os ≡ end
   Owes os (e ∷ T) end = (rest : Owing) × (os ≡ e.0 ∷ rest) × IsGood e × Owes (onward e ++ rest) T end

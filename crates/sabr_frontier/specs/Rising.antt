@@ -5,7 +5,7 @@ use Rattle.std.specs.declared.cmp.Ordering.{Ordering}
 use Rattle.std.specs.declared.cmp.Ordering.TheVariants.{Less, Equal}
 
 module _ {K : Type 0} (R : K → K → Ordering) where
-  -- whether it is one of these
+  -- whether the key is one of these
   abbrev pub has : K → List K → Bool
   has q [] = false
   has q (x ∷ xs) = is_eq (R q x) || has q xs
@@ -15,7 +15,7 @@ module _ {K : Type 0} (R : K → K → Ordering) where
   Below x [] = Unit {0}
   Below x (y ∷ ys) = (R x y ≡ Less) × Below x ys
 
-  -- each is below all that follow
+  -- each is below all that come after it
   abbrev pub Rises : List K → Type 0
   Rises [] = Unit {0}
   Rises (x ∷ xs) = Below x xs × Rises xs

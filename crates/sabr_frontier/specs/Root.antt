@@ -8,7 +8,7 @@ use Rattle.sabr_frontier.specs.Shape.{Shape}
 abbrev pub first_id : NodeId
 first_id = record { 0 = 0 }
 
--- one node with the empty prefix, where nothing is excluded, and the best route of all
+-- one node with the empty prefix, with nothing excluded, and the best route of all
 abbrev pub root : {A : Type 0} → Option RouteRecord → Shape A
 root found = record {
   nodes = record { leaf = 0; length = 0; excluded = []; route = found } ∷ [];

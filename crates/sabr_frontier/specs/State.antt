@@ -1,15 +1,16 @@
--- What a session shows of a listing: how many routes were given, the last of them, and the parts that are left.
+-- What a session shows of a listing: the number of routes that were given, the last of them, and the parts that are
+-- left.
 use Rattle.std.specs.Prelude.{◌≡◌, ℕ, Bool, ◌⊎◌, List, [], ◌∷◌, ◌++◌, map, filter, flat_map, Option}
 use Rattle.sabr_frontier.specs.Tree.{set_of}
 
--- a part: the routes that begin with the prefix, are longer, and take none of the excluded numbers next;
--- and the route that it carries, its least, or none where it has no route
+-- a part: the routes that begin with the prefix, are longer, and take none of the excluded numbers next. It carries a
+-- route, its least, or none if it has no route.
 pub record PartState : Type 0 where
   pub prefix : List ℕ
   pub excluded : List ℕ
   pub carried : Option (List ℕ)
 
--- how many routes were given, the last of them, empty where none was, and the parts, rising by prefix
+-- the number of routes that were given, the last of them (empty if there is none), and the parts, rising by prefix
 pub record State : Type 0 where
   pub emitted : ℕ
   pub last : List ℕ
@@ -33,12 +34,12 @@ module _ (route : List ℕ → Bool) where
   abbrev pub leaves : List (List ℕ × List ℕ) → List (List ℕ)
   leaves T = set_of (flat_map leaves_of T)
 
--- the last member behind s
+-- the last member, or s if there is none
 abbrev pub last_from : List ℕ → List (List ℕ) → List ℕ
 last_from s [] = s
 last_from s (t ∷ S) = last_from t S
 
--- the last member, and the empty list where there is none
+-- the last member, or the empty list if there is none
 abbrev pub last_of : List (List ℕ) → List ℕ
 last_of [] = []
 last_of (s ∷ S) = last_from s S

@@ -10,12 +10,12 @@ use Rattle.sabr_frontier.specs.State.{PartState, State, pair_of, leaves, last_of
 abbrev pub same_pair : List ℕ × List ℕ → List ℕ × List ℕ → Bool
 same_pair e f = is_eq (by_numbers e.0 f.0) && is_eq (by_numbers e.1 f.1)
 
--- what the part with this pair carries, and d where the pair doesn't stand
+-- what the part with this pair carries, or d if there is no such part
 abbrev pub carried_in : List PartState → List ℕ × List ℕ → Option (List ℕ) → Option (List ℕ)
 carried_in [] e d = d
 carried_in (t ∷ ts) e d = if same_pair (pair_of t) e then t.carried else carried_in ts e d
 
--- the lesser of two, the first where they tie
+-- the lesser of two, or the first if they tie
 abbrev pub better : (List ℕ → List ℕ → Ordering) → Option (List ℕ) → Option (List ℕ) → Option (List ℕ)
 better cmp None b = b
 better cmp (Some r) None = Some r
@@ -31,16 +31,16 @@ module _ (least : List ℕ → List ℕ → Option (List ℕ)) where
   abbrev pub full : List ℕ × List ℕ → PartState
   full e = record { prefix = e.0; excluded = e.1; carried = least e.0 e.1 }
 
-  -- the state once the routes of A are given, in this order
+  -- the state after the routes of A are given, in this order
   abbrev pub state_of : List (List ℕ) → State
   state_of A = record { emitted = length A; last = last_of A; parts = map full (tree A) }
 
 module _ (route : List ℕ → Bool) (least : List ℕ → List ℕ → Option (List ℕ)) where
-  -- a part of the new tree: what stood keeps what it carried, every other part carries the least of its pair
+  -- a part of the new tree: an earlier part keeps what it carried, every other one carries the least of its pair
   abbrev pub carry : List PartState → List ℕ × List ℕ → PartState
   carry parts e = record { prefix = e.0; excluded = e.1; carried = carried_in parts e (least e.0 e.1) }
 
-  -- the parts once r is given, too
+  -- the parts after r is given, too
   abbrev pub parts_after : List PartState → List ℕ → List PartState
   parts_after parts r = map (carry parts) (tree (put_in by_numbers r (leaves route (map pair_of parts))))
 
@@ -52,7 +52,7 @@ module _ (route : List ℕ → Bool) (least : List ℕ → List ℕ → Option (
   step_of s None = None
   step_of s (Some r) = Some (given s r)
 
-  -- the least route that a part carries is given, where there is one
+  -- the least route that a part carries is given, if there is one
   abbrev pub step : (List ℕ → List ℕ → Ordering) → State → Option (List ℕ × State)
   step cmp s = step_of s (least_carried cmp s.parts)
 

@@ -1,4 +1,4 @@
-//! The route that a part is to carry.
+//! The route that a part has to carry.
 
 ghost use Rattle.std.specs.Prelude.{◌≡◌, ◌<◌, true, Some, IfOk, IfErr, IfSome, IsTrue, OnOk, length, take};
 ghost use Rattle.std.specs.Option.{option_copied, option_map};
@@ -16,14 +16,14 @@ use crate::load_fault::LoadFault;
 use sabr_model::{HopFault, Plan, Request, Route, Told, follow, follow_behind};
 use std::alloc::Allocator;
 
-/// Tells whether the number is one of these.
+/// Returns true if the number is one of these.
 fn holds(numbers: &[u32], number: u32) -> bool
     ensures { result ≡ has number numbers.now }
 {
     numbers.iter().any(|other| number == *other)
 }
 
-/// Tells whether a list begins with the prefix, is longer, and takes none of the excluded numbers next.
+/// Returns true if a list begins with the prefix, is longer, and takes none of the excluded numbers next.
 fn goes_on(prefix: &[u32], excluded: &[u32], numbers: &[u32]) -> bool
     ensures { result ≡ goes_on prefix.now excluded.now numbers.now }
 {
@@ -36,7 +36,8 @@ fn goes_on(prefix: &[u32], excluded: &[u32], numbers: &[u32]) -> bool
     !holds(excluded, *next)
 }
 
-/// Tells when a route delivers, followed from where its first numbers lead, or from the source where that isn't known.
+/// Returns when a route delivers. It is followed from where its first numbers lead, or from the source if that isn't
+/// known.
 fn delivery<A: Allocator + Copy>(
     plan: &Plan<A>,
     request: &Request,
@@ -57,12 +58,12 @@ fn delivery<A: Allocator + Copy>(
     }
 }
 
-/// Gives the record of what a part is to carry. Where its prefix is known to lead to `lead`, the route is followed from
-/// there on.
+/// Returns the record of the route that a part has to carry. If its prefix is known to lead to `lead`, the route is
+/// followed from there on.
 ///
 /// # Errors
 ///
-/// [`LoadFault::BadRoute`] where it is no route of the part, else [`LoadFault::NoMemory`] where a growth was refused.
+/// [`LoadFault::BadRoute`] if it is no route of the part, else [`LoadFault::NoMemory`] if a growth was refused.
 pub fn carried<A: Allocator + Copy>(
     alloc: A,
     plan: &Plan<A>,

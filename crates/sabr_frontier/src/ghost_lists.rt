@@ -16,14 +16,14 @@ impl Model for GhostLists {
 }
 
 impl GhostLists {
-    /// Begins with none.
+    /// Starts empty.
     pub fn new() -> GhostLists
         ensures { result.items ≡ [] }
     {
         GhostLists {}
     }
 
-    /// Puts one behind the others.
+    /// Appends a list.
     pub fn push(&mut self, numbers: &[u32])
         ensures { self.new.items ≡ self.old.items ++ numbers.now ∷ [] }
     {}

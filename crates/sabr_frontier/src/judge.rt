@@ -1,4 +1,4 @@
-//! What the numbers that a part excludes lead to: leaves, and prefixes that go on.
+//! Where the numbers that a part excludes lead: to leaves, and to prefixes that go on.
 
 ghost use Rattle.std.specs.Prelude.{◌≡◌, true, ◌∷◌, ◌++◌, [], map, IfOk, IfSome, IfNone};
 ghost use Rattle.sabr_model.specs.Route.{is_path};
@@ -17,7 +17,7 @@ pub struct Judged<A: Allocator + Copy = Global> {
     pub onward: Vec<Owed, A>,
 }
 
-/// Gives a prefix with one number more.
+/// Returns a prefix with one more number.
 fn longer<A: Allocator + Copy>(
     alloc: A,
     prefix: &[u32],
@@ -35,7 +35,7 @@ fn longer<A: Allocator + Copy>(
 }
 
 impl<A: Allocator + Copy> Judged<A> {
-    /// Begins with nothing. It takes no memory.
+    /// Makes an empty value. It takes no memory.
     pub fn none(alloc: A) -> Judged<A>
         ensures leaves { result.leaves.items ≡ [] }
         ensures onward { result.onward.items ≡ [] }
@@ -46,7 +46,7 @@ impl<A: Allocator + Copy> Judged<A> {
         }
     }
 
-    /// Puts the path of a prefix and one number more behind the others of its kind; false where they make none.
+    /// Appends the path of a prefix and one more number to the others of its kind; false if they make none.
     fn put(
         &mut self,
         alloc: A,
@@ -85,7 +85,7 @@ impl<A: Allocator + Copy> Judged<A> {
     }
 }
 
-/// Tells what the excluded numbers of a prefix lead to, or none where one of them makes no path. It is gathered in
+/// Returns where the excluded numbers of a prefix lead, or none if one of them makes no path. The result is gathered in
 /// `judged`, in place of what that held. The prefix leads to `lead`.
 pub fn judge<A: Allocator + Copy>(
     alloc: A,

@@ -3,24 +3,24 @@
 ghost use Rattle.sabr_frontier.specs.Laws.{PartsDivide, StatesAreTold, StepsFollow};
 ghost use Rattle.sabr_frontier.specs.Standing.{PagesGiveNewRoutes};
 
-/// Tells that every route was given or is in exactly one part of the tree of those given, never both.
+/// States that every route was given or is in exactly one part of the tree of those given, never both.
 pub fn law4()
     ensures { PartsDivide }
 {}
 
-/// Tells that a well-formed state has the parts of its leaves; where each part carries its least route, and the leaves
+/// States that a well-formed state has the parts of its leaves. If each part carries its least route, and the leaves
 /// come before all that is carried, it is the state of the place that it counts.
 pub fn law5()
     ensures { StatesAreTold }
 {}
 
-/// Tells that from each place of the list steps give the next routes and lead to the place behind them.
+/// States that, from each place of the list, steps give the next routes and lead to the place after them.
 pub fn law6()
     ensures { StepsFollow }
 {}
 
-/// Tells that from every well-formed state, be it that of a place of the list or not, pages give routes, none of them
-/// one that the state counts as given, and none twice among the pages that weren't taken back.
+/// States that, from every well-formed state, pages give only new routes, even if the state is of no place of the list.
+/// None is one that the state counts as given, and none comes twice among the pages that weren't taken back.
 pub fn pages_give_new_routes()
     ensures { PagesGiveNewRoutes }
 {}

@@ -1,4 +1,4 @@
-//! Where prefixes lead.
+//! Where the prefixes of parts lead.
 
 ghost use Rattle.std.specs.Prelude.{◌≡◌, ◌≤◌, ◌∷◌, ◌++◌, [], length, IfSome, IfNone, IsTrue, IsFalse};
 ghost use Rattle.sabr_model.specs.Route.{is_path};
@@ -7,26 +7,26 @@ ghost use Rattle.sabr_frontier.specs.Leading.{IsLead, prefix_owed};
 use sabr_model::{Plan, Reached, Request, Told, follow_hop};
 use std::alloc::Allocator;
 
-/// Where a path leads, and what its record tells beside its numbers and its delivery.
+/// Where a path leads, and what its record says besides its numbers and its delivery.
 #[derive(Clone, Copy, Debug, PartialEq, Eq)]
 pub struct Lead {
     pub here: Reached,
     pub told: Told,
 }
 
-/// A prefix that is to be a part: it begins as the last part's prefix.
+/// A prefix that has to come as a part: it begins as the last part's prefix.
 #[derive(Clone, Copy, Debug, PartialEq, Eq)]
 pub struct Owed {
-    /// How many numbers of the last part's prefix it begins with.
+    /// The number of contacts at the front that it shares with the last part's prefix.
     pub length: usize,
-    /// The one number behind them.
+    /// The one number after them.
     pub number: u32,
     /// Where it leads.
     pub lead: Lead,
 }
 
 impl Owed {
-    /// Tells whether it is this prefix, behind a part of the last prefix.
+    /// Returns true if this is the prefix: a part of the last prefix, then the one number.
     pub fn is(&self, last: &[u32], prefix: &[u32]) -> bool
         requires { self.now.length ≤ length last.now }
         ensures same { IsTrue result → prefix.now ≡ prefix_owed last.now self.now }
@@ -40,7 +40,7 @@ impl Owed {
 }
 
 impl Lead {
-    /// Begins at the source, with no number.
+    /// Starts at the source, with no number.
     pub fn start<A: Allocator + Copy>(plan: &Plan<A>, request: &Request) -> Lead
         ensures { IsLead plan.now.plan request.now [] result }
     {
@@ -53,7 +53,7 @@ impl Lead {
         }
     }
 
-    /// Tells where the path and one number more lead, or none where they make no path.
+    /// Returns where the path leads with one more number, or none if they make no path.
     pub fn extended<A: Allocator + Copy>(
         self,
         plan: &Plan<A>,

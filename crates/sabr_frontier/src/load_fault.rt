@@ -1,9 +1,9 @@
-//! Why a state is not loaded.
+//! The reasons why a state is not loaded.
 
 use sabr_model::NoMemory;
 use thiserror::Error;
 
-/// Why a part was not added, or no session was made; the first that holds, in this order.
+/// The reason why a part was not added, or no session was made; the first that holds, in this order.
 #[derive(Clone, Copy, Debug, PartialEq, Eq, Error)]
 pub enum LoadFault {
     /// The excluded numbers don't rise strictly, or the prefix isn't greater than that of the part before.
@@ -12,10 +12,10 @@ pub enum LoadFault {
     /// What the part is to carry is no route of the part.
     #[error("the carried list is no route of its part")]
     BadRoute,
-    /// The parts aren't closed: they aren't those that are left once some routes were given.
+    /// The parts aren't closed: they aren't those that are left after some routes were given.
     #[error("the parts are not closed")]
     NotClosed,
-    /// The parts are closed, and the count isn't that of their leaves, or the last route isn't one of them.
+    /// The parts are closed, but the count isn't that of their leaves, or the last route isn't one of them.
     #[error("the count or the last route is wrong")]
     BadCount,
     /// Memory was refused.

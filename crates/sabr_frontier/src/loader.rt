@@ -1,4 +1,4 @@
-//! Loading a state, part by part, into a session.
+//! Loads a state, part by part, into a session.
 
 ghost use Rattle.std.specs.Prelude.{◌≡◌, [], Some, None, Err, IfOk, IfErr, OnOk, OnErr, IsOkUnless};
 ghost use Rattle.std.specs.Option.{option_copied};
@@ -16,16 +16,16 @@ use sabr_search::BestOf;
 use std::alloc::{Allocator, Global};
 use std::marker::Model;
 
-/// The parts of a state that is to become a session. No search is run: what a part carries is judged as a route of the
-/// part, and not as its least. Contracts see the plan, the request, the parts so far, and how often the
-/// finder was called.
+/// The parts of a state that will become a session. It runs no search: a carried route is checked to be a route of its
+/// part, but not to be its least. Contracts see the plan, the request, the parts so far, and how often the finder was
+/// called.
 #[derive(Drop)]
 pub struct Loader<'p, B: BestOf<A>, A: Allocator + Copy = Global> {
-    /// Where the session takes its memory.
+    /// The allocator of the session.
     alloc: A,
     /// The plan whose routes are listed.
     plan: &'p Plan<A>,
-    /// What is asked.
+    /// The request.
     request: Request,
     /// The finder that the session will ask.
     finder: B,
@@ -60,16 +60,16 @@ impl<'p, B: BestOf<A>, A: Allocator + Copy> Loader<'p, B, A> {
         }
     }
 
-    /// Adds a part behind the others: its prefix, the numbers that it excludes, and the route that it carries, if any.
+    /// Adds a part after the others: its prefix, the numbers that it excludes, and the route that it carries, if any.
     ///
-    /// Where the prefix leads is known from the part that made it, and from there each excluded number is followed and
-    /// the carried route: the time grows with the square of their hops.
+    /// Where the prefix leads is known from the part that made it. Each excluded number and the carried route are
+    /// followed from there. The time grows with the square of their hops.
     ///
     /// # Errors
     ///
-    /// [`LoadFault::BadOrder`] where the excluded numbers don't rise strictly or the prefix isn't greater than the one
-    /// before, by its numbers from the front; else [`LoadFault::BadRoute`] where the carried list is no route that begins
-    /// with the prefix, is longer, and takes none of the excluded numbers next; else [`LoadFault::NoMemory`] where a
+    /// [`LoadFault::BadOrder`] if the excluded numbers don't rise strictly, or the prefix isn't greater than the one
+    /// before, by its numbers from the front. Else [`LoadFault::BadRoute`] if the carried list is no route that begins
+    /// with the prefix, is longer, and takes none of the excluded numbers next. Else [`LoadFault::NoMemory`] if a
     /// growth was refused. The loader is then as it was.
     pub fn add_part(
         &mut self,
@@ -113,14 +113,14 @@ impl<'p, B: BestOf<A>, A: Allocator + Copy> Loader<'p, B, A> {
         Ok(())
     }
 
-    /// Gives the session of the parts, of which `emitted` routes were given, `last` the last of them, empty where none
-    /// was. No page can be taken back, and no search was counted.
+    /// Returns the session of the parts after `emitted` routes were given. `last` is the last of them, empty if there
+    /// is none. No page can be taken back, and no search was counted.
     ///
     /// # Errors
     ///
-    /// [`LoadFault::NotClosed`] where the parts aren't closed; else [`LoadFault::BadCount`] where `emitted` isn't the
-    /// number of their leaves, or `last` isn't one of them, or isn't empty where there is none; else
-    /// [`LoadFault::NoMemory`] where a growth was refused. The loader is dropped with its finder.
+    /// [`LoadFault::NotClosed`] if the parts aren't closed. Else [`LoadFault::BadCount`] if `emitted` isn't the number
+    /// of their leaves, or `last` isn't one of them, or isn't empty if there is none. Else [`LoadFault::NoMemory`] if a
+    /// growth was refused. The loader is dropped with its finder.
     pub fn finish(self, emitted: u128, last: &[u32]) -> Result<Session<'p, B, A>, LoadFault>
         ensures ok { IfOk result (λ s. s ≡ record { plan = self.entry.plan; request = self.entry.request; state = state_with self.entry.parts emitted last.now; former = []; searches = 0; calls = self.entry.calls }) }
         ensures formed { OnOk result (IsState self.entry.plan.plan self.entry.request (state_with self.entry.parts emitted last.now)) }

@@ -5,7 +5,7 @@ ghost use Rattle.sabr_model.specs.Rows.{plan_a, plan_c, from_1_to_3};
 ghost use Rattle.sabr_frontier.specs.Listing.{state_at, steps};
 ghost use Rattle.sabr_frontier.specs.Rows.{start_of_a, a_after_1, a_after_2, a_after_3, c_after_3, c_after_5};
 
-/// Tells the states of plan A before any route and after one, two and three.
+/// States what the states of plan A are before any route and after one, two and three.
 pub fn states_of_plan_a()
     ensures start { state_at plan_a from_1_to_3 0 ≡ start_of_a }
     ensures one { state_at plan_a from_1_to_3 1 ≡ a_after_1 }
@@ -13,13 +13,13 @@ pub fn states_of_plan_a()
     ensures three { state_at plan_a from_1_to_3 3 ≡ a_after_3 }
 {}
 
-/// Tells the states of plan C after three routes and after all five.
+/// States what the states of plan C are after three routes and after all five.
 pub fn states_of_plan_c()
     ensures three { state_at plan_c from_1_to_3 3 ≡ c_after_3 }
     ensures five { state_at plan_c from_1_to_3 5 ≡ c_after_5 }
 {}
 
-/// Steps over plan A: the first two, and five from there, of which one is left.
+/// States the steps over plan A: the first two, and five from there, of which one is left.
 pub fn steps_of_plan_a()
     ensures two { steps plan_a from_1_to_3 2 start_of_a ≡ ((1 ∷ 4 ∷ []) ∷ (1 ∷ 2 ∷ []) ∷ [], a_after_2) }
     ensures rest { steps plan_a from_1_to_3 5 a_after_2 ≡ ((3 ∷ []) ∷ [], a_after_3) }

@@ -8,8 +8,8 @@ use crate::tree::{Node, NodeId};
 use sabr_model::Route;
 use std::alloc::{Allocator, Global};
 
-/// A part: the routes that begin with the prefix, are longer, and whose next number is not excluded; and its
-/// least route, or none where it has no route.
+/// A part: the routes that begin with the prefix, are longer, and whose next number is not excluded. It comes with its
+/// least route, or none if it has no route.
 #[derive(Drop)]
 pub struct PartView<'a, A: Allocator + Copy = Global> {
     /// The contact numbers that each route of the part begins with.
@@ -28,7 +28,7 @@ pub struct Parts<'a, A: Allocator + Copy = Global> {
     pub leaves: &'a [Route<A>],
 }
 
-/// Gives the part of a node.
+/// Returns the part of a node.
 fn part_view<'a, A: Allocator + Copy>(
     leaves: &'a [Route<A>],
     nodes: &'a [Node<A>],

@@ -77,7 +77,7 @@ module _ (task : SearchTask) (whole : IsWhole task) where
         let at = are r.0 v r.1 r.2 (in_layers r.0 v r.1 r.2 r.4) r.4 in
         (at.0, due, slice_get-get_or dues at.0 due at.1 ∙ ap Some at.2, refl, r.3, r.5))
 
--- where layers end rises
+-- the ends of the layers rise
 ends_to : (ends : List ℕ) (m : ℕ) → ((j : ℕ) → j ≤ m → slice_index ends j ≤ slice_index ends (j + 1)) → (k h : ℕ) → h + k ≡ m + 1 → slice_index ends h ≤ slice_index ends (m + 1)
 ends_to ends m rise zero h sum = omega (arith, ap (slice_index ends) {x = h} {y = m + 1} (omega (arith, sum)))
 ends_to ends m rise (suc k) h sum = omega (arith, rise h (omega (arith, sum)), ends_to ends m rise k (h + 1) (omega (arith, sum)))

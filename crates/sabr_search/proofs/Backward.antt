@@ -20,7 +20,7 @@ use Rattle.sabr_search.proofs.Between.{between_at, between_more, sent_more}
 use Rattle.sabr_search.proofs.HopLayers.{exact_more}
 use Rattle.sabr_search.proofs.Queues.{set_many, set_here}
 
--- the node where a way of some hops ends is open
+-- the node at which a way of some hops ends is open
 pub way_open : (task : SearchTask) (ns : List ℕ) (u t v e : ℕ) → Leads (Takes task) u t ns v e → 0 < length ns → slice_index_or task.shut v false ≡ false
 way_open task [] u t v e way some = absurd (omega arith)
 way_open task (n ∷ []) u t v e way some = rw (← way.3.0) way.2.unshut
@@ -133,7 +133,7 @@ module _ (task : SearchTask) (is : IsTask task) (best : Best) (hop : ℕ) (bound
         ap (λ (y : Reached). y.node) (get_or_from_slice_get reached (slice_index place k) t.0 d t.1) ∙ t.2 d ∙ timed.placed.own k d inside some);
   }
 
-  -- the layers behind stay timed
+  -- the layers after this one stay timed
   pub timed_kept : AreTimed task best (hop + 1) bounds place reached
   timed_kept = record {
     flags = timed.flags;
@@ -312,7 +312,7 @@ timed_place task best from bounds place0 place reached timed many placed = recor
 
 -- ---- setting the deadlines of a layer
 
--- no entry behind the first layer is the start's
+-- no entry after the first layer is the start's
 pub entry_open : (task : SearchTask) (best : Best) (from hop : ℕ) (bounds place : List ℕ) (reached : List Reached) → AreTimed task best from bounds place reached → 0 < hop → (p : ℕ) (e : Reached) → slice_index bounds hop ≤ p → p < slice_index bounds (hop + 1) → slice_get reached p ≡ Some e → slice_index_or task.shut e.node false ≡ false
 entry_open task best from hop bounds place reached timed some p e above below at = timed.unshut hop p e some above below at
 

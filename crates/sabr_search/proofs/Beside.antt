@@ -27,7 +27,7 @@ followed_sizes task is prefix behind facts most s route contacts short least =
 pub followed_longer : (task : SearchTask) (prefix : List ℕ) (most : ℕ) (s : List ℕ) (route : RouteRecord) → route.contacts ≡ prefix ++ s → IsLeastWay task most (route.delivery + 1) s route.delivery → length prefix < length route.contacts
 followed_longer task prefix most s route contacts least = omega (arith, ap length contacts, length-append prefix s, least.some)
 
--- what is told of a part: a route that is found, or that there is none
+-- what a finder reports of a part: a route that is found, or that there is none
 pub told_sizes : (task : SearchTask) → IsTask task → (prefix : List ℕ) → IsBehind task prefix → IsPrefix task.plan task.request prefix → (most : ℕ) → most ≡ task.request.max_hops → (o : Option RouteRecord) → IfSome o (IsFound task prefix most) →
     (hops_told o ≤ length task.plan.contacts) × (hops_told o - length prefix ≤ length task.table)
 told_sizes task is prefix behind facts most most_is None told = (omega arith, omega arith)
@@ -43,14 +43,14 @@ told_is_least task is prefix behind facts most most_is None none told = none_is_
 told_is_least task is prefix behind facts most most_is (Some route) none told =
     followed_is_least task is prefix behind facts told.0 route told.1 (omega (arith, told.2, most_is)) (subst (λ m. IsLeastWay task m (route.delivery + 1) told.0 route.delivery) most_is told.3) told.4
 
--- so many passes are within the bound of a finder, and within the bound for an answer
+-- this number of passes is within the bound of a finder, and within the bound for an answer
 pub passes_within : (n c looks : ℕ) → 1 ≤ n → looks ≤ 4 * c → looks ≤ (3 * n + 1) * c
 passes_within n c looks some le =
     let product : 1 * c ≤ n * c = mul-le-mul_right c some in
     omega (arith, product)
 
--- so is one pass with the picks over as many layers as there are nodes, answered or refused, and for an answer as many as
--- it has hops
+-- so is one pass with the picks, answered or refused; the picks go over as many layers as there are nodes, or as an
+-- answer has hops
 pub picks_within : (n c x told looks : ℕ) → 1 ≤ n → x ≤ n → told ≤ c → looks ≤ c + x * c + told → looks ≤ (3 * n + 1) * c
 picks_within n c x told looks some few short le =
     let product : x * c ≤ n * c = mul-le-mul_right c few in
@@ -65,7 +65,7 @@ passes_more x c looks some le =
     let product : 1 * c ≤ x * c = mul-le-mul_right c (omega (arith, some)) in
     omega (arith, product)
 
--- what tables take behind an answer keeps within its bound
+-- what tables take after an answer keeps within its bound
 pub learned_cut : (p c old new : ℕ) (o : Option RouteRecord) → IfSome o (λ route. p < length route.contacts) → IfNone o (new ≡ old) → (new ≡ old) ⊎ (new ≤ 4 * c) →
     old ≤ (3 * (hops_told o - p) + 3) * c → new ≤ (3 * (hops_told o - p) + 3) * c
 learned_cut p c old new None longer same either le = omega (arith, same, le)

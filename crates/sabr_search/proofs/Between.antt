@@ -83,6 +83,6 @@ pub sent_next : (task : SearchTask) (reached : List Reached) (first begin place 
 sent_next task reached first begin place e sources le less at =
     sym (ap (sent_by_all task) (between_more reached first place e le at) ∙ sent_more task (nodes_between reached first place) e.node (fresh_node task reached first begin place e sources le less at))
 
--- what a `Vec` gives at an index, at the usual default
+-- what a `Vec` has at an index, at the usual default
 pub read_at : (xs : List ℕ) (i x : ℕ) → i < length xs → x ≡ slice_index_or xs i x → x ≡ slice_index xs i
 read_at xs i x h e = at_read xs (λ y. x ≡ y) i x h e refl 0

@@ -1,4 +1,4 @@
--- Routes behind a prefix are the ways of a search, and the ways of the least key are routes.
+-- Routes after a prefix are the ways of a search, and the ways of the least key are routes.
 use Rattle.std.proofs.Common.{◌≡◌, ℕ, true, false, eqb, List, [], ◌∷◌, slice_get, slice_index_or, refl, sym, ap, subst, ◌∙◌, ⊎_elim}
 use Rattle.std.proofs.lemmas.Bool.{or_cases, or_right, or_left, eq-eqb, eqb-true, both_ways}
 use Rattle.std.specs.declared.option.Option.TheVariants.{Some}

@@ -48,7 +48,7 @@ module _ (task : SearchTask) (is : IsTask task) (prefix : List ℕ) (behind : Is
   told_short None told = omega arith
   told_short (Some route) told = omega (arith, ap length told.1, length-append prefix told.0, way_few task prefix behind facts told.0 route.delivery told.2.way told.2.fewest)
 
-  -- where the limit on hops is the greatest, some route is found
+  -- if the limit on hops is the greatest, some route is found
   nothing_wide : task.request.max_hops ≡ 20000 → IsNothing → ⊥
   nothing_wide most late = elim are.either [
     | inl wide ↦ (let way = found.some some in omega (arith, late way.0 first.delivery (omega (arith, way.1, wide.hops)) way.2, wide.ceiling))
@@ -62,7 +62,7 @@ module _ (task : SearchTask) (is : IsTask task) (prefix : List ℕ) (behind : Is
     | inr narrow ↦ absurd (narrow.other most)
   ]
 
-  -- so the looks are those of as many layers as it has hops
+  -- so the looks are bounded by the layers, one for each hop of the answer
   pub cut_told : {E : Type 0} (old new : ℕ) (result : Result (Option RouteRecord) E) → IfOk result (λ o. IfNone o IsNothing) → IfOk result (λ o. IfSome o IsRouteFound) →
       IfOk result (λ o. IfSome o (λ route. route.delivery ≤ limits.lower → new ≤ old + 3 * ((length route.contacts - length prefix) * length task.plan.contacts) + length route.contacts)) → old ≤ 2 * length task.plan.contacts →
       IfOk result (λ o. task.request.max_hops ≡ 20000 → new ≤ (3 * (hops_told o - length prefix) + 3) * length task.plan.contacts)

@@ -14,7 +14,7 @@ use Rattle.sabr_search.proofs.MadeLayers.{index_past}
 
 module _ (task : SearchTask) (is : IsTask task) (since : List ℕ) (d left : ℕ) (ends late place : List ℕ) (reached : List Reached)
     (made : AreLateLayers task since d left ends late place reached) (last : slice_index ends left ≡ slice_index ends (left + 1)) where
-  -- no entry is in the last layer or behind it
+  -- no entry is in the last layer or after it
   pub inside : (j v a x : ℕ) → Entry ends reached j v a x → j < left
   inside j v a x e = elim (cases_lt j left) [
     | inl less ↦ less
@@ -28,7 +28,7 @@ module _ (task : SearchTask) (is : IsTask task) (since : List ℕ) (d left : ℕ
   goal_entry = (0, omega (arith, made.first_end), omega (arith, made.second_end), made.goal_first.1)
 
   module _ (On : ℕ → ℕ → Type 0) (onward : (n v t w b : ℕ) → On v t → Takes task n v t w b → On w b) (soon : (v t : ℕ) → On v t → soonest since d v ≤ t) where
-    -- each way on by d has an entry, of no more hops, where none comes to a node before its soonest second
+    -- each way on by d has an entry, of no more hops, if none comes to a node before its soonest second
     pub late_way : (ns : List ℕ) (v t e : ℕ) → On v t → slice_index_or task.shut v false ≡ false → Leads (Takes task) v t ns task.goal e → e ≤ d →
         (j : ℕ) × (a : ℕ) × (x : ℕ) × (j ≤ length ns) × Entry ends reached j v a x × (t < x)
     late_way [] v t e on unshut way le = (0, made.goal_first.0, d + 1, omega arith, rw (way.0) goal_entry, omega (arith, way.1))

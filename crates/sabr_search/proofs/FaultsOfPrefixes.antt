@@ -1,4 +1,5 @@
--- A prefix by the fault of its list: it fits where it is empty, or where only its end is wrong and it passes the destination by.
+-- The test of a prefix by the fault of its list. It fits if it is empty, or if only its end is wrong and it doesn't
+-- come to the destination.
 use Rattle.std.proofs.Common.{◌≡◌, ℕ, ◌+◌, Bool, true, false, cond, not, ◌&&◌, eqb, leb, List, [], ◌∷◌, ◌++◌, length, refl, sym, ap, ◌∙◌, arith, ◌<◌}
 use Rattle.std.specs.Prelude.{IsTrue, is_none}
 use Rattle.std.proofs.lemmas.Bool.{false_from_ne_true}
@@ -61,7 +62,7 @@ wrong_end_is_path p r (n ∷ s) h =
       | Some f ↦ λ e g. absurd (faults_are_no_end p r [] (n ∷ s) (e ∙ g))
     ] refl h
 
--- such numbers are a prefix where they pass the destination by
+-- such numbers are a prefix if they don't come to the destination
 pub wrong_end_tells : (p : ContactPlan) (r : RouteRequest) (s : List ℕ) (f : HopFault) (node : ℕ) (entered : Bool) → fault_of p r s ≡ Some f → f ≡ WrongEnd → node ≡ r.destination → entered ≡ has node (receivers p s) → not entered ≡ is_prefix p r s
 unfolding is_prefix
 wrong_end_tells p r s f node entered h wrong same tells =

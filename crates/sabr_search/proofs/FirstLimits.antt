@@ -35,7 +35,7 @@ module _ (task : SearchTask) (is : IsTask task) (prefix : List ℕ) (behind : Is
   answers_are_least left all (Err e) told = tt
 
   module _ (first : Best) (found : IsFirstWay task first) (some : 0 < first.hops) (limits : Limits) (are : AreLimits task.request.max_hops (length prefix) first limits) (left : ℕ) (all : length prefix + left ≡ task.request.max_hops) where
-    -- where no way within the limits comes before the ceiling, no way with the hops that are left leads to the goal
+    -- if no way within the limits comes before the ceiling, no way with the hops that are left leads to the goal
     none_left : ((ns : List ℕ) (e : ℕ) → length ns ≤ limits.hops → Leads (Takes task) task.start task.at ns task.goal e → limits.ceiling ≤ e) → HasNoWayWithin task left
     none_left late ns e within way = elim are.either [
       | inl wide ↦

@@ -1,4 +1,4 @@
--- The search by arrival from its start to its stop: what stands between two events, and what it has found then.
+-- The search by arrival from its start to its stop: what holds between two events, and what it has found at the end.
 use Rattle.std.proofs.Common.{◌≡◌, ◌≢◌, ◌⊎◌, inl, inr, ℕ, zero, suc, ◌+◌, ◌<◌, ◌≤◌, List, [], ◌∷◌, length, replicate, Bool, true, false, slice_index, slice_index_or, slice_set, All, Contains, refl, ap, sym, ◌∙◌, arith}
 use Rattle.std.specs.List.Sorted.{IsPermutation}
 use Rattle.std.proofs.lemmas.Bool.{cases_eq, both_ways, cases_Bool}
@@ -64,7 +64,7 @@ sent_most task settled = omega (arith, count_by-le-length (λ k. slice_index_or 
 pub sent_grows : (task : SearchTask) (settled : List Bool) (u : ℕ) → u < length settled → slice_index_or settled u false ≡ false → sent_by_settled task (slice_set settled u true) ≡ sent_by_settled task settled + degree task u
 sent_grows task settled u within unsettled = settled_more settled u (senders task) within unsettled
 
--- the search stops where no event comes before the delivery
+-- the search stops when no event comes before the delivery
 module _ (task : SearchTask) (is : IsTask task) (settled : List Bool) (arrival : List ℕ) (queue : List Event) (best : Best) (was : AreSettled task settled arrival queue best) where
   goal_unsettled : (a : ℕ) → (slice_index_or settled task.goal false ≡ true) × (slice_index arrival task.goal ≡ a) → ⊥
   goal_unsettled a s = both_ways (slice_index_or settled task.goal false) was.goal_unsettled s.0
@@ -153,7 +153,7 @@ settled_stale task settled arrival queue queue' best was rest = record {
 all_many : (n : ℕ) → length (replicate n false) ≡ n
 all_many n = grind (arith, common_steps)
 
--- what stands once the start is settled
+-- what holds after the start is settled
 module _ (task : SearchTask) (is : IsTask task) (off settled : List Bool) (u : ℕ) (off_is : off ≡ replicate (length task.shut) false) (u_is : u ≡ task.start) (settled_is : settled ≡ slice_set off u true) where
   off_within : u < length off
   off_within = omega (arith, u_is, is.start_in, is.as_many, ap length off_is, all_many (length task.shut))
@@ -173,7 +173,7 @@ module _ (task : SearchTask) (is : IsTask task) (off settled : List Bool) (u : �
       let other : task.goal ≢ u = λ same. goal_other task is (same ∙ u_is) in
       rw settled_is (settled_next task off u t arrival0 best0 arrival queue best state fallen taken many other on opened.start (off_at task.goal))
 
--- what stands once the node of the earliest event is settled
+-- what holds after the node of the earliest event is settled
 module _ (task : SearchTask) (is : IsTask task) (settled : List Bool) (arrival0 : List ℕ) (queue0 queue : List Event) (best0 : Best) (e : Event) (was : AreSettled task settled arrival0 queue0 best0)
     (moved : IsPermutation queue0 (e ∷ queue)) (first : All (λ (f : Event). e.at ≤ f.at) queue) (unsettled : slice_index_or settled e.node false ≡ false) where
   pub next_within : e.node < length settled
@@ -199,6 +199,6 @@ module _ (task : SearchTask) (is : IsTask task) (settled : List Bool) (arrival0 
       rw settled_is (settled_next task settled e.node e.at arrival0 best0 arrival queue' best state fallen taken was.many other
       (flag_stays settled e.node task.start next_within was.start_settled) was.start_reached was.goal_unsettled)
 
--- what a `Vec` of flags gives at an index, at the usual default
+-- what a `Vec` of flags has at an index, at the usual default
 pub read_flag : (xs : List Bool) (i : ℕ) (x : Bool) → i < length xs → x ≡ slice_index_or xs i x → x ≡ slice_index_or xs i false
 read_flag xs i x h e = at_read xs (λ y. x ≡ y) i x h e refl false

@@ -24,7 +24,7 @@ lowered_none shut goal at begin Given arrival place reached best lists = record 
   found = inl refl;
 }
 
--- more steps after some steps, where the first give what the second give
+-- more steps after some steps, if what the first are given is also given to the second
 pub lowered_more : (shut : List Bool) (goal at begin : ℕ) (Given Given' : Arrivals) (arrival0 : List ℕ) (reached0 : List Reached) (best0 : ℕ) (arrival1 place1 : List ℕ) (reached1 : List Reached) (best1 : ℕ) (arrival2 place2 : List ℕ) (reached2 : List Reached) (best2 : ℕ) →
     ((w x : ℕ) → Given' w x → Given w x) →
     IsLowered shut goal at begin Given arrival0 reached0 best0 arrival1 place1 reached1 best1 → IsLowered shut goal at begin Given' arrival1 reached1 best1 arrival2 place2 reached2 best2 →

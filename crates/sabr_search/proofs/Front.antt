@@ -28,7 +28,7 @@ pub record GoesOn (task : SearchTask) (best : Best) (u t hops : ℕ) : Type 0 wh
   pub by : e ≤ best.delivery
   pub way : Leads (Takes task) u t rest task.goal e
 
--- what is picked with so many hops, at node u at t
+-- what is picked up to this number of hops, at node u at t
 pub record IsFront (task : SearchTask) (best : Best) (hop : ℕ) (chosen : List ℕ) (u t : ℕ) : Type 0 where
   pub many : length chosen ≡ hop
   pub way : Leads (Takes task) task.start task.at chosen u t
@@ -55,7 +55,7 @@ module _ (task : SearchTask) (is : IsTask task) (best : Best) (bounds place : Li
             (rw front.many at (first_admitted (Takes task) (takes_timely task is.nodes) (Entry bounds reached) task.start task.at task.goal best.hops best.delivery timed.exact (λ h above below. timed.tables h above below) chosen u t n zs on.e front.way way on.by (omega (arith, front.many))))
       ] on.many on.way
 
-  -- the step of least number goes on in front
+  -- the step of least number extends the front
   pub front_more : (s : Step) → IsLeastStep task best bounds reached (hop + 1) u t s → IsFront task best (hop + 1) (chosen ++ s.number ∷ []) s.node s.at
   front_more s least =
       let timely = takes_timely task is.nodes in

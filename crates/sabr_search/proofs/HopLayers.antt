@@ -84,7 +84,7 @@ module _ (T : StepRelation) (timely : IsTimely T) (E : Entries) (start at goal f
         | inr found ↦ absurd (never found.0 found.1 found.2 found.5)
       ]
 
-  -- what holds where layer m reaches the goal sooner than `best`, which all layers below it could not
+  -- what holds if layer m reaches the goal sooner than `best`, which all layers below it could not
   pub layered_at : (m best d : ℕ) → IsTaken T E m best → d < best →
       ((h v a x : ℕ) → E h v a x → (ns : List ℕ) × (length ns ≡ h) × Leads T start at ns v a) →
       ((v a x : ℕ) → E (m + 1) v a x → x ≡ 0) →

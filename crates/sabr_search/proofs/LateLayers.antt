@@ -32,7 +32,7 @@ module _ (task : SearchTask) (is : IsTask task) (since : List ℕ) (d left : ℕ
       (s.0 ∷ on.0, on.1, omega (arith, on.2), on.3, (s.1, s.2, s.5, on.4))
 
   module _ (arrivals : AreArrivals task since d) where
-    -- where a way leads on to the goal by d, its node has an entry in time, of no more hops
+    -- if a way leads on to the goal by d, its node has an entry in time, of no more hops
     pub whole : (ys xs : List ℕ) (v t e : ℕ) → 0 < length xs → Leads (Takes task) task.start task.at xs v t → Leads (Takes task) v t ys task.goal e → e ≤ d → length ys ≤ left →
         (j : ℕ) × (a : ℕ) × (x : ℕ) × (j ≤ length ys) × Entry ends reached j v a x × (t < x)
     whole [] xs v t e some there on late_is le = (0, made.goal_first.0, d + 1, omega arith, rw (on.0) goal_entry, omega (arith, on.1))
@@ -57,7 +57,7 @@ module _ (task : SearchTask) (is : IsTask task) (since : List ℕ) (d left : ℕ
           absurd ((made.taken r.0 way.0 r.1 r.2 n task.start task.at way.1 (omega (arith, r.3)) r.4 r.5 way.2).0 refl (omega arith)))
     ]
 
-    -- a node on a way of just so many hops has an entry of just that layer
+    -- a node on a way of exactly this number of hops has an entry of exactly that layer
     pub placed_at : (xs ys : List ℕ) (v t e : ℕ) → 0 < length xs → Leads (Takes task) task.start task.at xs v t → Leads (Takes task) v t ys task.goal e → e ≤ d → length xs + length ys ≡ left + 1 →
         (a : ℕ) × (x : ℕ) × Entry ends reached (length ys) v a x × (t < x)
     placed_at xs ys v t e some there on late_is sum =
@@ -69,7 +69,7 @@ module _ (task : SearchTask) (is : IsTask task) (since : List ℕ) (d left : ℕ
           | inr same ↦ (r.1, r.2, rw same at r.4, r.5)
         ]
 
-  -- where the start is in time for the last layer, some way of one hop more comes by d
+  -- if the start is in time for the last layer, some way of one hop more comes by d
   pub way_of : IsMet task left ends reached → ((ns : List ℕ) (e : ℕ) → Leads (Takes task) task.start task.at ns task.goal e → d ≤ e) → (ns : List ℕ) × (length ns ≡ left + 1) × Leads (Takes task) task.start task.at ns task.goal d
   way_of met least =
       let r = rest left met.w met.a met.x met.b (omega arith) met.entry met.in_time in

@@ -214,7 +214,7 @@ module _ (task : SearchTask) (since : List ℕ) (d first begin : ℕ) (late plac
   late_noted place' reached' (inl here) = rw (here.1, here.2) (changed_late here.0, take_set begin reached (slice_index place u) f here.0)
   late_noted place' reached' (inr new) = rw (new.1, new.2) (pushed_late new.0, take_push begin reached f was.begins)
 
--- where a link can be left later than before, each second sooner than that has a step in time
+-- if a link can be left later than before, each second sooner than that has a step in time
 pub sound_back : (task : SearchTask) → IsTask task → (u to latest last before first begin : ℕ) (reached : List Reached) →
     ((t : ℕ) → latest ≤ t → t < last → (b : ℕ) × (b < before) × (slice_index_or task.shut to false ≡ false → (n : ℕ) × Takes task n u t to b)) → latest < last → slice_index_or task.shut to false ≡ false →
     ((b : ℕ) → b < before → InTimeFor reached first begin to b) → (t : ℕ) → t < last → (n : ℕ) × (w : ℕ) × (b : ℕ) × Takes task n u t w b × InTimeFor reached first begin w b
@@ -224,10 +224,10 @@ sound_back task is u to latest last before first begin reached leaves later unsh
     let sooner = (takes_timely task is.nodes).earlier step.0 u (last - 1) to s.0 t step.1 (omega arith) in
     (step.0, to, sooner.0, sooner.2, given sooner.0 (omega (arith, sooner.1, s.1)))
 
--- what stands before the layer is still there
+-- what came before the layer is still there
 pub in_time_kept : (first begin : ℕ) (reached reached0 : List Reached) → take begin reached ≡ take begin reached0 → (w b : ℕ) → InTimeFor reached0 first begin w b → InTimeFor reached first begin w b
 in_time_kept first begin reached reached0 kept w b t = (t.0, t.1, t.2, t.3, same_below begin reached0 reached (sym kept) t.0 t.1 t.3 t.4, t.5, t.6)
 
--- what is told stays told
+-- what the layers say of a step stays true
 pub told_rises : (task : SearchTask) (since : List ℕ) (d : ℕ) (late late1 : List ℕ) (u t : ℕ) → ((k : ℕ) → slice_index late k ≤ slice_index late1 k) → IsToldLate task since d late u t → IsToldLate task since d late1 u t
 told_rises task since d late late1 u t rises told = (told.0, λ unshut other soon. omega (arith, told.1 unshut other soon, rises u))

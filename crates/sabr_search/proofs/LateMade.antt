@@ -20,7 +20,7 @@ open_entry task is since d first begin late place reached was goal_first zero e 
     (omega (arith, is.goal_in), ap (λ k. slice_index_or task.shut k false) same ∙ is.goal_open)
 open_entry task is since d first begin late place reached was goal_first (suc p) e at = let one = was.each (suc p) e (omega arith) at in (one.inside, one.unshut)
 
--- no list is behind the end
+-- there is nothing after the end of a list
 pub nothing_past : (task : SearchTask) (since : List ℕ) (d first begin first' begin' : ℕ) (late place : List ℕ) (reached : List Reached) → AreLate task since d first begin late place reached → begin' ≡ length reached → AreLate task since d first' begin' late place reached
 nothing_past task since d first begin first' begin' late place reached was all = record {
   flags = was.flags;
@@ -161,7 +161,7 @@ module _ (task : SearchTask) (is : IsTask task) (since : List ℕ) (d left : ℕ
     taken = taken';
   }
 
--- where the start is in time for an entry of the last layer
+-- if the start is in time for an entry of the last layer
 pub met_at : (task : SearchTask) (left : ℕ) (ends : List ℕ) (reached : List Reached) (n w b : ℕ) → Takes task n task.start task.at w b → InTimeFor reached (slice_index ends left) (slice_index ends (left + 1)) w b → IsMet task left ends reached
 met_at task left ends reached n w b step t =
     let e : Reached = t.1 in

@@ -127,12 +127,12 @@ found_is_least task is prefix behind facts hops ceiling s route contacts least t
     let one : route ≡ f route.contacts route.delivery = ap (λ u. g u route.entry) told.until_is ∙ ap (g (until_of p route.contacts)) told.entry_is in
     ap Some (one ∙ ap (λ c. f c route.delivery) contacts ∙ ap (f (prefix ++ s)) (sym found.1)) ∙ sym (ap (option_map (record_of p r)) found.0)
 
--- where the part has no way, it has no route
+-- if the part has no way, it has no route
 pub none_is_least : (task : SearchTask) → IsTask task → (prefix : List ℕ) → IsBehind task prefix →
     ((ns : List ℕ) (e : ℕ) → IsTrue (is_route task.plan task.request (prefix ++ ns)) → Leads (Takes task) task.start task.at ns task.goal e → ⊥) → IsLeast task.plan task.request prefix task.excluded None
 none_is_least task is prefix behind none = sym (ap (option_map (record_of task.plan task.request)) (none_in_part task prefix behind is.plan none))
 
--- what a route of the part has behind the prefix
+-- what a route of the part has after the prefix
 pub behind_sizes : (task : SearchTask) → IsTask task → (prefix ns : List ℕ) → IsTrue (is_route task.plan task.request (prefix ++ ns)) → (length prefix + length ns ≤ task.request.max_hops) × (length prefix + length ns + 1 ≤ length task.table) × (length prefix + length ns ≤ length task.plan.contacts)
 behind_sizes task is prefix ns route =
     let facts = route_facts task.plan task.request (prefix ++ ns) route in

@@ -40,7 +40,7 @@ not_before (x ∷ xs) (y ∷ ys) (inl less) e =
 not_before (x ∷ xs) (y ∷ ys) (inr same) e =
     not_before xs ys same.1 (sym (ap (λ o. ordering_then o (by_numbers ys xs)) (same_cmp x y same.0)) ∙ e)
 
--- the order stays behind a common beginning
+-- the order stays the same after a common beginning
 pub not_after_behind : (prefix xs ys : List ℕ) → IsNotAfter xs ys → IsNotAfter (prefix ++ xs) (prefix ++ ys)
 not_after_behind [] xs ys h = h
 not_after_behind (q ∷ prefix) xs ys h = inr (refl, not_after_behind prefix xs ys h)

@@ -1,4 +1,4 @@
--- The links that a plan gives for a node are those of a search, and what bounds their passes.
+-- The links that a plan has for a node are those of a search, and what bounds their passes.
 use Rattle.std.proofs.Common.{◌≡◌, ℕ, ◌+◌, ◌-◌, ◌*◌, ◌≤◌, true, false, cond, eqb, List, [], ◌∷◌, length, map, slice_get, refl, sym, ap, ◌∙◌, arith}
 use Rattle.std.specs.List.{count_by, filter}
 use Rattle.std.specs.declared.option.Option.TheVariants.{Some}

@@ -202,7 +202,7 @@ module _ (task : SearchTask) (is : IsTask task) (ceiling hop : ℕ) (bounds arri
     other = lowered.lists.other;
   }
 
-  -- where the delivery falls, the new layer is the first that reaches the goal by then
+  -- if the delivery falls, the new layer is the first that reaches the goal by then
   pub layers_better : delivery < best.delivery → best.delivery ≤ ceiling → AreLayers task ceiling (hop + 1) bounds' arrival' place' reached' (record { delivery = delivery; hops = hop + 1 })
   layers_better sooner below = record {
     lists = lists';
@@ -226,7 +226,7 @@ module _ (task : SearchTask) (is : IsTask task) (ceiling hop : ℕ) (bounds arri
     ];
   }
 
-  -- where it doesn't, what was found stays
+  -- if it doesn't, what was found stays
   pub layers_same : best.delivery ≤ delivery → AreLayers task ceiling (hop + 1) bounds' arrival' place' reached' best
   layers_same late = record {
     lists = lists';
@@ -268,11 +268,11 @@ module _ (task : SearchTask) (is : IsTask task) (ceiling hop : ℕ) (bounds arri
       let read : slice_index_or reached e.0 d ≡ d = get_or_from_slice_get reached e.0 d d e.3 in
       made.lists.other e.0 d (slice_get_within reached e.0 d e.3) (ap (λ (y : Reached). y.node) read)
 
-  -- no way of so many hops comes before the best
+  -- no way of at most this number of hops comes before the best
   pub least_within : (ns : List ℕ) (e : ℕ) → length ns ≤ hop → Leads (Takes task) task.start task.at ns task.goal e → best.delivery ≤ e
   least_within = none_sooner (Takes task) (takes_timely task is.nodes) (Entry bounds reached) task.start task.at task.goal 0 start_entry goal_never hop best.delivery made.taken
 
-  -- where the last layer is empty, none of any hops does
+  -- if the last layer is empty, no way of any number of hops does
   pub least_of_all : slice_index bounds hop ≡ slice_index bounds (hop + 1) → (ns : List ℕ) (e : ℕ) → Leads (Takes task) task.start task.at ns task.goal e → best.delivery ≤ e
   least_of_all none ns e way =
       none_sooner (Takes task) (takes_timely task is.nodes) (Entry bounds reached) task.start task.at task.goal 0 start_entry goal_never (length ns) best.delivery all ns e (omega arith) way

@@ -32,7 +32,7 @@ use Rattle.sabr_search.proofs.Forward.{hop_takes}
 use Rattle.sabr_search.proofs.Linking.{cost_rises}
 use Rattle.sabr_search.proofs.Bridge.{same_some}
 
--- what stands where a list of passes has no more
+-- the default after the end of a list of passes
 abbrev pub no_pass : Pass
 no_pass = record { number = 0; receiver = 0; light = 0; start = 0; end = 0; latest_end = 0; least_light_before = 0; least_light_behind = 0; least_number_behind = 0; in_row_behind = 0 }
 
@@ -79,7 +79,7 @@ pub pass_takes : (task : SearchTask) → IsTask task → (u to t : ℕ) (x : Pas
 pass_takes task is u to t x b h p same hop open' allowed arrives =
     rw same at (hop_takes task is x.number h hop u t b (p.contact, p.named, p.sender) (ap (λ k. slice_index_or task.shut k false) same ∙ open') allowed arrives)
 
--- a step over a pass, whichever way its place is told
+-- a step over a pass, however its place is given
 pub step_at : (task : SearchTask) (passes : List Pass) (u t i k : ℕ) (x y : Pass) (w b : ℕ) → slice_get passes i ≡ Some x → slice_get passes k ≡ Some y → k ≡ i → Takes task y.number u t w b → Takes task x.number u t w b
 step_at task passes u t i k x y w b at_i at_k same s =
     let is : x ≡ y = same_some (sym at_i ∙ ap (slice_get passes) (sym same) ∙ at_k) in
@@ -121,7 +121,7 @@ module _ (task : SearchTask) (is : IsTask task) (u to : ℕ) (passes : List Pass
       let here = out (k - i) (omega (arith, less, le)) in
       both_ways (has y.number task.excluded) (s.allowed here.0) (ap (λ n. has n task.excluded) number ∙ here.1)
 
-  -- where a pass and the lightest contact behind it arrive late, all behind it do
+  -- if a pass and the lightest contact after it arrive late, all after it do
   pub late_over : (t before i : ℕ) (x : Pass) → slice_get passes i ≡ Some x → before ≤ max t x.start + cost task.request.margin x.least_light_behind →
       (k : ℕ) (y : Pass) (w b : ℕ) → i ≤ k → slice_get passes k ≡ Some y → Takes task y.number u t w b → before ≤ b
   late_over t before i x at_i late k y w b le at_k s =
@@ -138,7 +138,7 @@ module _ (task : SearchTask) (is : IsTask task) (u to : ℕ) (passes : List Pass
   pub starts_late : (t k : ℕ) (x : Pass) (w b : ℕ) → slice_get passes k ≡ Some x → Takes task x.number u t w b → (x.start ≤ b) × (t ≤ b)
   starts_late t k x w b at s = let o = over_pass task is u to t x w b (link.each k x at) s in (omega (arith, o.sum), omega (arith, o.sum))
 
-  -- where a pass ends early, or arrives late with the lightest contact in front of it, none in front of it leaves later
+  -- if a pass ends early, or arrives late with the lightest contact before it, none before it leaves later
   pub none_later : (latest since before i : ℕ) (x : Pass) → slice_get passes i ≡ Some x → (x.latest_end ≤ max latest since) ⊎ (before ≤ latest + cost task.request.margin x.least_light_before) →
       (k : ℕ) (y : Pass) (t w b : ℕ) → k ≤ i → slice_get passes k ≡ Some y → since ≤ t → Takes task y.number u t w b → b < before → t < latest
   none_later latest since before i x at_i early k y t w b le at_k after s less =
@@ -149,7 +149,7 @@ module _ (task : SearchTask) (is : IsTask task) (u to : ℕ) (passes : List Pass
         | inr near ↦ omega (arith, o.sum, near, less, cost_rises task.request.margin x.least_light_before y.light kept.light_before)
       ]
 
-  -- where the bounds of the link rule it out, nothing arrives over it before a second
+  -- if the bounds of the link rule it out, nothing arrives over it before a second
   pub ruled_out : (b : LinkBounds) → AreWithin b passes → (at before : ℕ) → (b.latest_end ≤ at) ⊎ ((before ≤ b.soonest) ⊎ (before ≤ at + b.least_light)) →
       (n t w x : ℕ) → HasNumber passes n → at ≤ t → Takes task n u t w x → before ≤ x
   ruled_out b within at before why n t w x has after s =

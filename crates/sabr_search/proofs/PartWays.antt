@@ -75,7 +75,7 @@ module _ (task : SearchTask) (prefix : List ℕ) (behind : IsBehind task prefix)
       (n ∷ rest.0, rest.1, rest.2, ap (λ (l : List ℕ). n ∷ l) rest.3, omega arith, (way.0, way.1, way.2, rest.5), rest.6))
       (or_cases (eqb x step.contact.to) (has x (receivers task.plan z)) (sym (ap (has x) (receivers-cons task.plan n z step.contact step.named)) ∙ h))
 
-  -- where fewer hops come later, the receivers of a way by then are different
+  -- if fewer hops come later, the receivers of a way by then are different
   pub way_differs : (r d : ℕ) → ((ns : List ℕ) (e : ℕ) → length ns < r → Leads (Takes task) task.start task.at ns task.goal e → d < e)
       → (xs s : List ℕ) (u t e : ℕ) → Leads (Takes task) task.start task.at xs u t → Leads (Takes task) u t s task.goal e → e ≤ d → length xs + length s ≡ r
       → are_different (receivers task.plan s) ≡ true

@@ -39,7 +39,7 @@ module _ (T : StepRelation) (timely : IsTimely T) (E : Entries) (start at goal r
       let sum : (length chosen + 1) + length zs ≡ r = omega (arith, ap length same, length-append chosen (y ∷ zs), len) in
       least y on.0 on.1 on.2 (first_admitted chosen u t y zs e there on late sum))
 
--- a way with which the goal is reached by d, where fewer hops come later, comes to no node twice
+-- if fewer hops come later, a way with which the goal is reached by d comes to no node twice
 pub no_return : (T : StepRelation) → IsTimely T → (start at goal r d : ℕ) → ((ns : List ℕ) (e : ℕ) → length ns < r → Leads T start at ns goal e → d < e) →
     (xs ys zs : List ℕ) (v t s e : ℕ) → Leads T start at xs v t → Leads T v t ys v s → Leads T v s zs goal e → e ≤ d → length xs + length ys + length zs ≡ r → 0 < length ys → ⊥
 no_return T timely start at goal r d fewest xs ys zs v t s e to round on late sum pos =

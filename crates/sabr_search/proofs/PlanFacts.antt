@@ -108,12 +108,12 @@ has_nodes p tabled = record {
   receivers = λ n c h. place_of p.table c.to (in_from_has c.to p.table (tabled.nodes c.to ∙ end_in p.plan n c h c.to (inr (inl refl))));
 }
 
--- a test that is true just where a number is in a list is that of the list
+-- a test that is true if and only if a number is in a list is that of the list
 pub has_from_iff : (b : Bool) (xs : List ℕ) (n : ℕ) → (b ≡ true) ↔ Contains xs n → b ≡ has n xs
 has_from_iff true xs n h = sym (has_from_in n xs (in_from_Contains xs n (h.0 refl)))
 has_from_iff false xs n h = sym (false_from_ne_true (has n xs) (λ e. let no : false ≡ true = h.1 (Contains-from_in xs n (in_from_has n xs e)) in cc))
 
--- where a hop arrives
+-- when a hop arrives
 pub record HopArrives (margin t b : ℕ) (h : Hop) : Type 0 where
   pub light : ℕ
   pub in_force : h.light ≡ Some light

@@ -1,4 +1,4 @@
--- Prefixes: what the test of one says, and the lists that go on behind one.
+-- Prefixes: what the test of one says, and the lists that go on after one.
 use Rattle.std.proofs.Common.{◌≡◌, ℕ, true, false, cond, not, ◌&&◌, eqb, leb, List, [], ◌∷◌, ◌++◌, length, ◌≤◌, refl, sym, ap, ◌∙◌}
 use Rattle.std.specs.Prelude.{is_some, IsTrue}
 use Rattle.std.proofs.lemmas.Bool.{and_parts, not-true, not_from_false, leb-true, eq-eqb, eqb-true}
@@ -42,7 +42,7 @@ prefix_facts p r s h =
       goes_on = not-true (has r.destination (receivers p s)) a.1;
     }
 
--- the number behind a prefix
+-- the number after a prefix
 pub number_after-append : (prefix : List ℕ) (n : ℕ) (s : List ℕ) → number_after prefix (prefix ++ n ∷ s) ≡ Some n
 number_after-append [] n s = refl
 number_after-append (q ∷ prefix) n s =
@@ -62,7 +62,7 @@ pub goes_on-append : (prefix excluded : List ℕ) (n : ℕ) (s : List ℕ) → h
 goes_on-append prefix excluded n s h =
     ap (λ o. option_map_or (λ k. not (has k excluded)) o false) (number_after-append prefix n s) ∙ not_from_false (has n excluded) h
 
--- what goes on behind a prefix with a number that isn't excluded
+-- what goes on after a prefix with a number that isn't excluded
 pub goes_on_parts : (prefix excluded s : List ℕ) → goes_on prefix excluded s ≡ true → (n : ℕ) × (z : List ℕ) × (s ≡ prefix ++ n ∷ z) × (has n excluded ≡ false)
 goes_on_parts prefix excluded s h =
     elim (number_after prefix s) as (λ o. number_after prefix s ≡ o → option_map_or (λ k. not (has k excluded)) o false ≡ true → (n : ℕ) × (z : List ℕ) × (s ≡ prefix ++ n ∷ z) × (has n excluded ≡ false)) [

@@ -58,7 +58,7 @@ way_more task is n u h t w x way step = (
   Leads-append (Takes task) (takes_timely task is.nodes) way.0 (n ∷ []) task.start task.at u t w x way.2 (w, x, step, (refl, refl)),
 )
 
--- the delivery is better by a way of as many hops as nodes are settled, or fewer
+-- the delivery is better, by a way of no more hops than there are settled nodes
 pub found_better : (task : SearchTask) (settled : List Bool) (t : ℕ) (arrival : List ℕ) (queue : List Event) (best : Best) (delivery hops : ℕ) → AreSettling task settled t arrival queue best →
     hops < settled_count settled → IsWayTo task task.goal (hops + 1) delivery → AreSettling task settled t arrival queue (record { delivery = delivery; hops = hops + 1 })
 found_better task settled t arrival queue best delivery hops so_far few way = record {

@@ -5,7 +5,7 @@ use Rattle.std.proofs.lemmas.Grind.{get_or_default_zero}
 use Rattle.sabr_model.specs.Plan.{has}
 use Rattle.sabr_model.proofs.Has.{has_at}
 
--- so many places further stands a number that is greater by as much at least
+-- the number m places further is greater by at least m
 further : (xs : List ℕ) → IsStrictlyIncreasing xs → (i m : ℕ) → i + m < length xs → get_or xs i 0 + m ≤ get_or xs (i + m) 0
 further xs rising i zero lt = let here : get_or xs (i + 0) 0 ≡ get_or xs i 0 = ap (λ k. get_or xs k 0) (omega arith) in omega (arith, here)
 further xs rising i (suc m) lt =
@@ -22,7 +22,7 @@ never_falls xs rising i j d le lt =
     let there : get_or xs (i + (j - i)) 0 ≡ get_or xs j 0 = ap (λ k. get_or xs k 0) apart in
     omega (arith, up, there, get_or_default_zero xs i d (omega (arith, le, lt)), get_or_default_zero xs j d lt)
 
--- where the first and the last of a row stand as far apart as their places, all between them stand there
+-- if the first and the last number of a row differ by as much as their places, all numbers between them are in the row
 pub row_has : (xs : List ℕ) → IsStrictlyIncreasing xs → (p more n j : ℕ) → p + more ≤ length xs → get_or xs p 0 ≡ n + 1 → get_or xs (p + more - 1) 0 ≡ n + more → j < more → has (n + 1 + j) xs ≡ true
 row_has xs rising p more n j within first last less =
     let rest : ℕ = more - 1 - j in

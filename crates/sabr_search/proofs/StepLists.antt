@@ -11,7 +11,7 @@ use Rattle.sabr_search.specs.Steps.{place_in, senders}
 use Rattle.sabr_model.proofs.Listed.{distinct_from_different}
 use Rattle.sabr_model.proofs.Tabled.{has_place}
 
--- the place of an element of a list, where no two places have it
+-- the place of an element of a list in which no element comes twice
 place_found : (xs : List ℕ) (x : ℕ) → has x xs ≡ true → slice_get xs (place_in xs x) ≡ Some x
 place_found [] x h = absurd cc
 place_found (y ∷ ys) x h =

@@ -1,4 +1,4 @@
--- A short try backward, by a table that leads to a dead end: when the first of all ways may be where, and the least way.
+-- A short try backward, after a table led to a dead end: the earliest second at each node, and the least way.
 use Rattle.std.proofs.Common.{◌≡◌, ℕ, zero, suc, ◌<◌, ◌≤◌, List, [], ◌∷◌, length, replicate, Some, slice_get, slice_index, ◌∙◌, arith}
 use Rattle.std.proofs.lemmas.Grind.{common_steps}
 use Rattle.sabr_search.specs.declared.pick.Standing.{Standing}
@@ -29,7 +29,7 @@ arrivals_from task is first steps x before d = record { flags = replicate_many (
         let on = steps n way.0 way.1 way.2 in
         omega (arith, same_everywhere (length task.shut) x v, before on.0 on.1 on.2, on.4, Leads-later (Takes task) (takes_timely task is.nodes) ns way.0 way.1 v t way.3)
 
--- the least way within some limits is that within others, where they allow it and nothing is sooner
+-- the least way within some limits is that within others, if they allow it and nothing is sooner
 pub least_widened : (task : SearchTask) (hops ceiling more above : ℕ) (s : List ℕ) (d : ℕ) → IsLeastWay task hops ceiling s d → length s ≤ more → d < above →
     ((ns : List ℕ) (e : ℕ) → Leads (Takes task) task.start task.at ns task.goal e → d ≤ e) → IsLeastWay task more above s d
 least_widened task hops ceiling more above s d least within below soonest_is = record {

@@ -130,7 +130,7 @@ module _ (task : SearchTask) (is : IsTask task) (since : List ℕ) (d left : ℕ
       let two : left + 1 + 1 ≡ left + 2 = omega arith in
       omega (arith, e.1, e.2, last_low, behind_last, ap (slice_index bounds) two)
 
-  -- an entry of a layer behind the goal's
+  -- an entry of a layer after the goal's
   late_entry : (k v a x : ℕ) → 0 < k → k ≤ left → Entry ends reached k v a x → IsLateEntry task since d late (record { node = v; arrival = a; deadline = x })
   late_entry k v a x pos le e = made.lists.each e.0 (record { node = v; arrival = a; deadline = x }) (omega (arith, e.1, made.second_end, rise 1 k (omega arith) (omega arith))) e.3
 
@@ -257,7 +257,7 @@ module _ (task : SearchTask) (is : IsTask task) (since : List ℕ) (d left : ℕ
       early = early;
     }
 
--- no layer ends behind the entries
+-- no layer ends after the entries
 pub ends_below : (task : SearchTask) (since : List ℕ) (d left : ℕ) (ends late place : List ℕ) (reached : List Reached) → AreLateLayers task since d left ends late place reached → (j : ℕ) → slice_index ends j ≤ length reached
 ends_below task since d left ends late place reached made j = elim (cases_lt (left + 1) j) [
   | inl past ↦ omega (arith, index_past ends j (omega (arith, made.many)))

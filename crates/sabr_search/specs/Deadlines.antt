@@ -1,4 +1,4 @@
--- Deadlines of the entries of hop layers: the first second at which it is too late for the rest of a way.
+-- Deadlines of the entries of hop layers: the first second that is too late for the rest of a way.
 use Rattle.std.specs.Prelude.{◌≡◌, ◌≢◌, ℕ, ◌+◌, ◌≤◌, ◌<◌, List, length, false, slice_get, slice_index, slice_index_or}
 use Rattle.std.specs.declared.option.Option.TheVariants.{Some}
 use Rattle.sabr_search.specs.declared.layers.Reached.{Reached}

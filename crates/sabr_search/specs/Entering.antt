@@ -1,4 +1,4 @@
--- Which nodes are shut, and what stands once a prefix is passed.
+-- Which nodes are shut, and what holds after a prefix is passed.
 use Rattle.std.specs.Prelude.{◌≡◌, ℕ, Bool, false, List, length, slice_get, slice_index_or}
 use Rattle.std.specs.declared.option.Option.TheVariants.{Some}
 use Rattle.sabr_model.specs.Plan.{TabledPlan}
@@ -11,7 +11,7 @@ pub record AreShut (table : List ℕ) (shut : List Bool) (test : ℕ → Bool) :
   pub many : length shut ≡ length table
   pub flag : (k x : ℕ) → slice_get table k ≡ Some x → slice_index_or shut k false ≡ test x
 
--- the prefix ends at the node, then, and the nodes that no route goes on to are shut
+-- the prefix ends at the node at that second, and the nodes that no route goes on to are shut
 pub record IsPassed (p : TabledPlan) (r : RouteRequest) (prefix : List ℕ) (shut : List Bool) (node at : ℕ) : Type 0 where
   pub last_node : ℕ
   pub chained : chain_end p.plan r.source prefix ≡ Some last_node

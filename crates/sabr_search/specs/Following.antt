@@ -1,4 +1,4 @@
--- Reading a least way off a table.
+-- How a least way is read from a table.
 use Rattle.std.specs.Prelude.{◌≡◌, ℕ, ◌+◌, ◌≤◌, ◌<◌, List, ◌++◌, length, slice_get}
 use Rattle.std.specs.declared.option.Option.TheVariants.{Some}
 use Rattle.sabr_model.specs.Plan.{TabledPlan}
@@ -32,7 +32,7 @@ HasNoWay task = (ns : List ℕ) (e : ℕ) → Leads (Takes task) task.start task
 abbrev pub IsNoneBefore : SearchTask → ℕ → Type 0
 IsNoneBefore task d = (ns : List ℕ) (e : ℕ) → Leads (Takes task) task.start task.at ns task.goal e → d ≤ e
 
--- the dues let a way on through that is at node w at b, with so many hops left
+-- the dues let a way on through that is at node w at b, with this number of hops left
 abbrev pub LetsThrough : List Due → ℕ → ℕ → ℕ → Type 0
 LetsThrough dues rest w b = (k : ℕ) × (d : Due) × (slice_get dues k ≡ Some d) × (d.node ≡ w) × (d.hops ≤ rest) × (b < d.late)
 
@@ -41,7 +41,7 @@ pub record IsLeastDue (task : SearchTask) (dues : List Due) (rest u t : ℕ) (s 
   pub step : Takes task s.number u t s.node s.at
   pub least : (n w b : ℕ) → Takes task n u t w b → LetsThrough dues rest w b → s.number ≤ n
 
--- the numbers lead to the goal by the deadline, and none of as many come before them
+-- the numbers lead to the goal by the deadline, and no others of the same length that do come before them
 pub record IsWalked (task : SearchTask) (deadline hops : ℕ) (s : List ℕ) : Type 0 where
   pub many : length s ≡ hops
   pub e : ℕ
@@ -49,6 +49,6 @@ pub record IsWalked (task : SearchTask) (deadline hops : ℕ) (s : List ℕ) : T
   pub way : Leads (Takes task) task.start task.at s task.goal e
   pub front : (ns : List ℕ) (x : ℕ) → length ns ≡ hops → Leads (Takes task) task.start task.at ns task.goal x → x ≤ deadline → IsNotAfter s ns
 
--- the route has the numbers of the least way behind the prefix, of as many hops in all as are allowed
+-- the route has the numbers of the least way after the prefix, and no more hops in all than are allowed
 abbrev pub IsFound : SearchTask → List ℕ → ℕ → RouteRecord → Type 0
 IsFound task prefix max_hops route = (s : List ℕ) × (route.contacts ≡ prefix ++ s) × (length prefix + length s ≤ max_hops) × IsLeastWay task max_hops (route.delivery + 1) s route.delivery × IsTold task.plan route

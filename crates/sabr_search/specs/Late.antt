@@ -1,5 +1,5 @@
--- Layers made backward from the goal: by node from when on it is too late so far, and the entries, layer by layer, the
--- goal's first.
+-- Layers made backward from the goal: for each node, the first second that is too late so far; and the entries, layer
+-- by layer, the goal's first.
 use Rattle.std.specs.Prelude.{◌≡◌, ◌≢◌, ◌⊎◌, ℕ, ◌+◌, ◌≤◌, ◌<◌, min, List, [], ◌∷◌, ◌++◌, length, false, slice_get, slice_set, slice_index, slice_index_or}
 use Rattle.std.specs.declared.option.Option.TheVariants.{Some}
 use Rattle.sabr_search.specs.declared.layers.Reached.{Reached}
@@ -8,7 +8,7 @@ use Rattle.sabr_search.specs.Layers.{Entries}
 use Rattle.sabr_search.specs.Task.{SearchTask, Takes}
 use Rattle.sabr_search.specs.Made.{Entry}
 
--- when the first of all ways may be at a node: at the least arrival that was found, or when the search stopped
+-- the earliest second at which any way can be at a node: the least arrival that was found, or when the search stopped
 abbrev pub soonest : List ℕ → ℕ → ℕ → ℕ
 soonest since d u = min (slice_index since u) d
 
@@ -21,7 +21,7 @@ pub record AreArrivals (task : SearchTask) (since : List ℕ) (d : ℕ) : Type 0
 abbrev pub InTimeFor : List Reached → ℕ → ℕ → ℕ → ℕ → Type 0
 InTimeFor reached first begin w b = (p : ℕ) × (e : Reached) × (first ≤ p) × (p < begin) × (slice_get reached p ≡ Some e) × (e.node ≡ w) × (b < e.deadline)
 
--- an entry behind the goal's: of another open node, from its soonest second on, too late no later than the node is
+-- an entry after the goal's: of another open node, from its soonest second on, too late no later than the node is
 pub record IsLateEntry (task : SearchTask) (since : List ℕ) (d : ℕ) (late : List ℕ) (e : Reached) : Type 0 where
   pub inside : e.node < length task.table
   pub unshut : slice_index_or task.shut e.node false ≡ false
@@ -49,15 +49,16 @@ IsNotedLate place reached begin u a x place' reached' =
     ((begin ≤ slice_index place u) × (place' ≡ place) × (reached' ≡ slice_set reached (slice_index place u) (record { node = u; arrival = a; deadline = x })))
     ⊎ ((slice_index place u < begin) × (place' ≡ slice_set place u (length reached)) × (reached' ≡ reached ++ record { node = u; arrival = a; deadline = x } ∷ []))
 
--- what a step from node u at t to where there still is time leaves: it is not from the start in time, and else u is not too late
+-- what a step from node u at t leaves, if it leads to where there still is time: it is not from the start in time, and
+-- any other u is not too late
 abbrev pub IsToldLate : SearchTask → List ℕ → ℕ → List ℕ → ℕ → ℕ → Type 0
 IsToldLate task since d late u t = (u ≡ task.start → task.at ≤ t → ⊥) × (slice_index_or task.shut u false ≡ false → u ≢ task.goal → soonest since d u ≤ t → t < slice_index late u)
 
--- so for each step to an entry at the places from `first` to before `begin`
+-- that holds for each step to an entry at the places from `first` to before `begin`
 abbrev pub AreTold : SearchTask → List ℕ → ℕ → List Reached → ℕ → ℕ → List ℕ → Type 0
 AreTold task since d reached first begin late = (p : ℕ) (e : Reached) (n u t b : ℕ) → first ≤ p → p < begin → slice_get reached p ≡ Some e → Takes task n u t e.node b → b < e.deadline → IsToldLate task since d late u t
 
--- the same by the layers up to the one behind j
+-- the same by the layers up to the one after j
 abbrev pub IsToldBy : SearchTask → List ℕ → ℕ → Entries → ℕ → ℕ → ℕ → Type 0
 IsToldBy task since d E j u t = (u ≡ task.start → task.at ≤ t → ⊥) × (slice_index_or task.shut u false ≡ false → u ≢ task.goal → soonest since d u ≤ t → (i : ℕ) × (a : ℕ) × (x : ℕ) × (i ≤ j + 1) × E i u a x × (t < x))
 

@@ -6,11 +6,12 @@ use Rattle.sabr_search.specs.Ways.{StepRelation, Leads}
 abbrev pub Entries : Type 1
 Entries = ℕ → ℕ → ℕ → ℕ → Type 0
 
--- what stands at node v by second t after at most h hops
+-- an entry for node v by second t after at most h hops
 abbrev pub ReachedBy : Entries → ℕ → ℕ → ℕ → Type 0
 ReachedBy E h v t = (j : ℕ) × (a : ℕ) × (x : ℕ) × (j ≤ h) × (a ≤ t) × E j v a x
 
--- every step from an entry of a layer below h was taken: it ends at or after `best`, or at an entry of the next layer or an earlier one
+-- every step from an entry of a layer below h was taken: it ends at or after `best`, or at an entry of the next layer
+-- or an earlier one
 abbrev pub IsTaken : StepRelation → Entries → ℕ → ℕ → Type 0
 IsTaken T E h best = (j v a x n w b : ℕ) → j < h → E j v a x → T n v a w b → (best ≤ b) ⊎ ReachedBy E (j + 1) w b
 
@@ -23,7 +24,7 @@ pub record IsTable (T : StepRelation) (E : Entries) (goal r d h : ℕ) : Type 0 
   pub sound : (v a x t : ℕ) → E h v a x → t < x → (n : ℕ) × (w : ℕ) × (b : ℕ) × T n v t w b × Admits E goal r d (h + 1) w b
   pub full : (v a x t n w b : ℕ) → E h v a x → a ≤ t → T n v t w b → Admits E goal r d (h + 1) w b → t < x
 
--- what the layers leave where they find delivery d with r hops
+-- what the layers leave if they find delivery d with r hops
 pub record IsLayered (T : StepRelation) (E : Entries) (start at goal r d : ℕ) : Type 0 where
   -- there is such a way
   pub way : (ns : List ℕ) × (length ns ≡ r) × Leads T start at ns goal d
@@ -36,7 +37,7 @@ pub record IsLayered (T : StepRelation) (E : Entries) (start at goal r d : ℕ) 
   -- the last layer has no deadlines yet
   pub last : (v a x : ℕ) → E r v a x → x ≡ 0
 
--- what deadlines stand on where delivery d is found with r hops
+-- the basis of deadlines if delivery d is found with r hops
 pub record AreExact (T : StepRelation) (E : Entries) (start at goal r d : ℕ) : Type 0 where
   -- there is such a way
   pub way : (ns : List ℕ) × (length ns ≡ r) × Leads T start at ns goal d

@@ -1,4 +1,4 @@
--- Making a table: what is asked, and the layers that it is made from.
+-- How a table is made: the question, and the layers that it is made from.
 use Rattle.std.specs.Prelude.{◌≡◌, ℕ, ◌+◌, ◌<◌, List, [], false, Contains, slice_get, slice_index, slice_index_or}
 use Rattle.std.specs.declared.option.Option.TheVariants.{Some}
 use Rattle.sabr_search.specs.declared.layers.Reached.{Reached}
@@ -7,7 +7,7 @@ use Rattle.sabr_search.specs.Task.{SearchTask, IsTask, is_closed}
 use Rattle.sabr_search.specs.Late.{AreLateLayers}
 use Rattle.sabr_search.specs.Made.{Entry}
 
--- the whole graph: none is shut but the source and those to avoid, and nothing is excluded
+-- the whole graph: no node is shut but the source and those to avoid, and no number is excluded
 pub record IsWhole (task : SearchTask) : Type 0 where
   pub is : IsTask task
   pub goal_is : slice_get task.table task.goal ≡ Some task.request.destination

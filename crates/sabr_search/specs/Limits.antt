@@ -5,7 +5,7 @@ use Rattle.sabr_search.specs.declared.layers.Best.{Best}
 use Rattle.sabr_search.specs.declared.layers.Limits.{Limits}
 use Rattle.sabr_search.specs.Task.{never}
 
--- as many hops as the first way has are allowed behind `used` others: no more are needed, and nothing later is
+-- as many hops as the first way has are allowed after `used` others: no more are needed, and nothing later is
 pub record AreWide (max_hops used : ℕ) (first : Best) (limits : Limits) : Type 0 where
   pub hops : limits.hops ≡ first.hops
   pub ceiling : limits.ceiling ≡ first.delivery + 1
@@ -18,7 +18,7 @@ pub record AreNarrow (max_hops used : ℕ) (first : Best) (limits : Limits) : Ty
   pub hops : used + limits.hops ≡ max_hops
   pub ceiling : limits.ceiling ≡ never
 
--- what the first way of a search, behind a prefix of `used` contacts, leaves for hop layers
+-- what the first way of a search, after a prefix of `used` contacts, leaves for hop layers
 pub record AreLimits (max_hops used : ℕ) (first : Best) (limits : Limits) : Type 0 where
   pub lower : limits.lower ≡ first.delivery
   pub either : AreWide max_hops used first limits ⊎ AreNarrow max_hops used first limits

@@ -21,17 +21,17 @@ pub record IsPassAt (task : SearchTask) (u w : ℕ) (x : Pass) : Type 0 where
   pub end : x.end ≡ contact.end
   pub light : light_of task.plan contact ≡ Some x.light
 
--- passes by start, each within the bounds that stand beside the others
+-- passes sorted by start, each within the bounds that are kept beside the others
 abbrev pub AreInOrder : List Pass → Type 0
 AreInOrder passes = (i k : ℕ) (x y : Pass) → i ≤ k → slice_get passes i ≡ Some x → slice_get passes k ≡ Some y → IsBefore x y
 
--- passes from the node at place u to the node at place w, in order, with as many numbers behind each as stand beside it
+-- passes from the node at place u to the node at place w, in order; each keeps how many consecutive numbers follow it
 pub record IsLinkAt (task : SearchTask) (u w : ℕ) (passes : List Pass) : Type 0 where
   pub each : (k : ℕ) (x : Pass) → slice_get passes k ≡ Some x → IsPassAt task u w x
   pub kept : AreInOrder passes
   pub in_rows : (i j : ℕ) (x y : Pass) → slice_get passes i ≡ Some x → slice_get passes (i + j) ≡ Some y → IsInRow x j y
 
--- so, and within the bounds of the link
+-- the same, and within the bounds of the link
 abbrev pub IsLinkWithin : SearchTask → ℕ → ℕ → List Pass → LinkBounds → Type 0
 IsLinkWithin task u w passes bounds = IsLinkAt task u w passes × AreWithin bounds passes
 
@@ -43,8 +43,8 @@ HasNumber passes n = (k : ℕ) × (x : Pass) × (slice_get passes k ≡ Some x) 
 abbrev pub passes_of : List Pass → Link → List Pass
 passes_of passes l = take (l.end - l.first) (drop l.first passes)
 
--- the links of the node at place u lie one behind the other, each within its bounds, every step from there is over a pass of one of them, and
--- there are no more passes than the node has contacts
+-- the links of the node at place u, one after another, each within its bounds: every step from there is over a pass of
+-- one of them, and there are no more passes than the node has contacts
 pub record AreLinksAt (task : SearchTask) (u : ℕ) (links : List Link) (passes : List Pass) : Type 0 where
   pub receivers : (j : ℕ) (l : Link) → slice_get links j ≡ Some l → l.receiver < length task.table
   pub ordered : (j : ℕ) (l : Link) → slice_get links j ≡ Some l → l.first ≤ l.end
@@ -55,7 +55,8 @@ pub record AreLinksAt (task : SearchTask) (u : ℕ) (links : List Link) (passes 
   pub whole : (n t w b : ℕ) → Takes task n u t w b → (j : ℕ) × (l : Link) × (slice_get links j ≡ Some l) × HasNumber (passes_of passes l) n
   pub few : length passes ≤ degree task u
 
--- the links to the node at place w: each goes from its sender to there, and every step to there is over a pass of one of them
+-- the links to the node at place w: each goes from its sender to there, and every step to there is over a pass of one
+-- of them
 pub record AreSendersAt (task : SearchTask) (w : ℕ) (links : List SentLink) : Type 0 where
   pub senders : (j : ℕ) (s : SentLink) → slice_get links j ≡ Some s → s.sender < length task.table
   pub each : (j : ℕ) (s : SentLink) → slice_get links j ≡ Some s → IsLinkAt task s.sender w s.passes

@@ -1,4 +1,4 @@
--- The lists that hop layers are kept in: by node the least arrival so far and the place of an entry, and the entries.
+-- The lists that keep hop layers: for each node the least arrival so far and the place of an entry, and the entries.
 use Rattle.std.specs.Prelude.{◌≡◌, ◌≢◌, ℕ, ◌≤◌, ◌<◌, ◌⊎◌, List, length, map, take, drop, Bool, true, false, slice_get, slice_index, slice_index_or}
 use Rattle.sabr_search.specs.declared.layers.Reached.{Reached}
 use Rattle.std.specs.declared.option.Option.TheVariants.{Some}
@@ -33,7 +33,7 @@ AreFresh xs = (p : ℕ) (d : Reached) → p < length xs → (slice_index_or xs p
 abbrev pub AreClosed : List Bool → List ℕ → ℕ → Type 0
 AreClosed shut arrival t = (k : ℕ) → slice_index_or shut k false ≡ true → slice_index arrival k ≤ t
 
--- which node is brought to by which second
+-- a relation that says which node is brought to by which second
 abbrev pub Arrivals : Type 1
 Arrivals = ℕ → ℕ → Type 0
 
@@ -53,7 +53,7 @@ pub record AreLists (shut : List Bool) (goal at begin : ℕ) (arrival place : Li
   pub inside : (p : ℕ) (d : Reached) → p < length reached → (slice_index_or reached p d).node < length shut
   pub other : (p : ℕ) (d : Reached) → p < length reached → (slice_index_or reached p d).node ≢ goal
 
--- what stands once more steps were taken: arrivals and the best delivery only fall, by what is given, and what stood
+-- what holds after more steps were taken: arrivals and the best delivery only fall, by what is given, and what came
 -- before the layer stays
 pub record IsLowered (shut : List Bool) (goal at begin : ℕ) (Given : Arrivals) (arrival0 : List ℕ) (reached0 : List Reached) (best0 : ℕ) (arrival place : List ℕ) (reached : List Reached) (best : ℕ) : Type 0 where
   pub lists : AreLists shut goal at begin arrival place reached

@@ -1,4 +1,4 @@
--- Hop layers as they are made: the layers as entries, and what stands once some are made.
+-- Hop layers while they are made: the layers as entries, and what holds once some are made.
 use Rattle.std.specs.Prelude.{◌≡◌, ◌⊎◌, ℕ, ◌+◌, ◌≤◌, ◌<◌, List, length, false, slice_get, slice_index, slice_index_or}
 use Rattle.std.specs.declared.option.Option.TheVariants.{Some}
 use Rattle.sabr_search.specs.declared.layers.Reached.{Reached}
@@ -8,7 +8,7 @@ use Rattle.sabr_search.specs.Layers.{Entries, IsTaken, IsLayered}
 use Rattle.sabr_search.specs.Task.{SearchTask, Takes, never}
 use Rattle.sabr_search.specs.Lists.{AreLists, AreClosed}
 
--- layer h is the entries from its bound to before the next
+-- layer h is made of the entries from its bound to before the next
 abbrev pub Entry : List ℕ → List Reached → Entries
 Entry bounds reached h v a x = (p : ℕ) × (slice_index bounds h ≤ p) × (p < slice_index bounds (h + 1)) × (slice_get reached p ≡ Some (record { node = v; arrival = a; deadline = x }))
 

@@ -7,6 +7,6 @@ use Rattle.sabr_model.specs.Arrival.{RouteRequest}
 use Rattle.sabr_model.specs.Parts.{least_in}
 use Rattle.sabr_model.specs.Record.{RouteRecord, record_of}
 
--- the answer is the least route of the part, and none where the part has no route
+-- the answer is the least route of the part, or none if the part has no route
 abbrev pub IsLeast : ContactPlan → RouteRequest → List ℕ → List ℕ → Option RouteRecord → Type 0
 IsLeast p r prefix excluded answer = answer ≡ option_map (record_of p r) (least_in p r prefix excluded)

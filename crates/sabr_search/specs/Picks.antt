@@ -21,7 +21,7 @@ pub record IsLeastStep (task : SearchTask) (best : Best) (bounds : List ℕ) (re
   pub in_time : IsInTime task best bounds reached hop s.node s.at
   pub least : (n w b : ℕ) → Takes task n u t w b → IsInTime task best bounds reached hop w b → s.number ≤ n
 
--- the numbers lead to the goal with the best delivery and hops, and none such come before them
+-- the numbers lead to the goal with the best delivery and hops, and no others that do come before them
 pub record IsPicked (task : SearchTask) (best : Best) (s : List ℕ) : Type 0 where
   pub hops : length s ≡ best.hops
   pub way : Leads (Takes task) task.start task.at s task.goal best.delivery

@@ -1,4 +1,4 @@
--- What a search by arrival keeps: the nodes that are settled, the events that wait, and the first delivery so far.
+-- What a search by arrival keeps: the settled nodes, the waiting events, and the first delivery so far.
 use Rattle.std.specs.Prelude.{◌≡◌, ◌≢◌, ◌⊎◌, ℕ, ◌≤◌, ◌<◌, List, length, Bool, true, false, All, Contains, slice_index, slice_index_or}
 use Rattle.std.specs.List.{count_by}
 use Rattle.sabr_search.specs.declared.queue.Event.{Event}
@@ -12,11 +12,11 @@ use Rattle.sabr_search.specs.Lists.{AreClosed, IsKnown}
 abbrev pub AreSettledBy : List Bool → List ℕ → ℕ → Type 0
 AreSettledBy settled arrival t = (k : ℕ) → slice_index_or settled k false ≡ true → slice_index arrival k ≤ t
 
--- how many nodes are settled
+-- the number of settled nodes
 abbrev pub settled_count : List Bool → ℕ
 settled_count settled = count_by (λ b. b) settled
 
--- how many contacts the settled nodes send
+-- the number of contacts that the settled nodes send
 abbrev pub sent_by_settled : SearchTask → List Bool → ℕ
 sent_by_settled task settled = count_by (λ k. slice_index_or settled k false) (senders task)
 
@@ -48,7 +48,7 @@ IsFirst task settled best =
     ((best.hops ≡ 0) × (best.delivery ≡ never))
     ⊎ ((0 < best.hops) × (best.hops ≤ settled_count settled) × IsWayTo task task.goal best.hops best.delivery)
 
--- what stands while the contacts of a node that is reached at t are taken
+-- what holds while the contacts of a node that is reached at t are taken
 pub record AreSettling (task : SearchTask) (settled : List Bool) (t : ℕ) (arrival : List ℕ) (queue : List Event) (best : Best) : Type 0 where
   pub flags : length arrival ≡ length task.shut
   pub closed : AreClosed task.shut arrival t
@@ -56,7 +56,7 @@ pub record AreSettling (task : SearchTask) (settled : List Bool) (t : ℕ) (arri
   pub queue_is : IsQueue task settled arrival queue
   pub found : IsFirst task settled best
 
--- what does not change or only falls, once more contacts are taken
+-- what doesn't change or only falls when more contacts are taken
 pub record IsFallen (settled : List Bool) (arrival0 : List ℕ) (best0 : Best) (arrival : List ℕ) (best : Best) : Type 0 where
   pub lower : best.delivery ≤ best0.delivery
   pub lowered : (k : ℕ) → slice_index arrival k ≤ slice_index arrival0 k
@@ -67,7 +67,7 @@ abbrev pub AreSettledTaken : SearchTask → List Bool → List ℕ → ℕ → T
 AreSettledTaken task settled arrival best =
     (v n w b : ℕ) → slice_index_or settled v false ≡ true → Takes task n v (slice_index arrival v) w b → IsKnown task.goal arrival best w b
 
--- what stands between two events
+-- what holds between two events
 pub record AreSettled (task : SearchTask) (settled : List Bool) (arrival : List ℕ) (queue : List Event) (best : Best) : Type 0 where
   pub flags : length arrival ≡ length task.shut
   pub many : length settled ≡ length task.shut
@@ -78,8 +78,8 @@ pub record AreSettled (task : SearchTask) (settled : List Bool) (arrival : List 
   pub found : IsFirst task settled best
   pub taken : AreSettledTaken task settled arrival best.delivery
 
--- the first search's answer: no way to the goal comes before the delivery, and some way comes then with as many hops,
--- fewer than there are nodes; or no way leads there
+-- the first search's answer: no way to the goal comes before the delivery, and some way comes then with that number of
+-- hops, fewer than there are nodes; or no way leads there
 pub record IsFirstWay (task : SearchTask) (best : Best) : Type 0 where
   pub least : (ns : List ℕ) (e : ℕ) → Leads (Takes task) task.start task.at ns task.goal e → best.delivery ≤ e
   pub none : best.hops ≡ 0 → (ns : List ℕ) (e : ℕ) → Leads (Takes task) task.start task.at ns task.goal e → ⊥

@@ -1,4 +1,4 @@
--- How many contacts a node sends, and the hop of a contact.
+-- The number of contacts that a node sends, and the hop of a contact.
 use Rattle.std.specs.Prelude.{◌≡◌, ℕ, ◌+◌, ◌==◌, List, [], ◌∷◌, map, if◌then◌else◌}
 use Rattle.std.specs.List.{count_by}
 use Rattle.std.specs.declared.option.Option.TheVariants.{Some}
@@ -13,15 +13,15 @@ abbrev pub place_in : List ℕ → ℕ → ℕ
 place_in [] x = 0
 place_in (y ∷ ys) x = if x == y then 0 else place_in ys x + 1
 
--- by the contacts of the plan, the place of each sender in the table
+-- for each contact of the plan, the place of its sender in the table
 abbrev pub senders : SearchTask → List ℕ
 senders task = map (λ c. place_in task.table c.from) task.plan.contacts
 
--- how many standing contacts the node at place u sends
+-- the number of standing contacts that the node at place u sends
 abbrev pub degree : SearchTask → ℕ → ℕ
 degree task u = count_by (λ k. k == u) (senders task)
 
--- how many standing contacts the nodes of a list send
+-- the number of standing contacts that the nodes of a list send
 abbrev pub sent_by_all : SearchTask → List ℕ → ℕ
 sent_by_all task nodes = count_by (λ k. has k nodes) (senders task)
 

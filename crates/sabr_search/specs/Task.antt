@@ -1,4 +1,4 @@
--- What a search is asked, and the steps that it may take.
+-- The question of a search, and the steps that it may take.
 use Rattle.std.specs.Prelude.{◌≡◌, ℕ, ◌-◌, ◌^◌, ◌≤◌, ◌<◌, Bool, true, false, ◌||◌, List, ◌∷◌, length, slice_get, slice_index_or}
 use Rattle.std.specs.declared.option.Option.TheVariants.{Some}
 use Rattle.sabr_model.specs.declared.contact.Contact.{Contact}
@@ -6,8 +6,8 @@ use Rattle.sabr_model.specs.Plan.{ContactPlan, IsPlan, contact_named, has}
 use Rattle.sabr_model.specs.Arrival.{RouteRequest, arrival, arrival_after}
 use Rattle.sabr_model.specs.Route.{chain_end, receivers}
 
--- the plan, the request, the nodes of the plan in their table, by their places there which of them are shut,
--- the numbers excluded at the start, where the search starts and when, and where it is to go
+-- the plan, the request, the nodes of the plan in their table, which of them are shut by their places there, the
+-- numbers excluded at the start, where and when the search starts, and its goal
 pub record SearchTask : Type 0 where
   pub plan : ContactPlan
   pub request : RouteRequest
@@ -32,7 +32,7 @@ never = 2 ^ 64 - 1
 abbrev pub latest_arrival : ℕ
 latest_arrival = 253372764799
 
--- what every search is asked: the plan and the request obey their rules, each node has a flag, the start is shut, and
+-- what holds for every search: the plan and the request obey their rules, each node has a flag, the start is shut, and
 -- the goal is open
 pub record IsTask (task : SearchTask) : Type 0 where
   pub plan : IsPlan task.plan
@@ -55,7 +55,7 @@ pub record Takes (task : SearchTask) (n u t w b : ℕ) : Type 0 where
   pub allowed : u ≡ task.start → has n task.excluded ≡ false
   pub arrives : arrival task.plan task.request t contact ≡ Some b
 
--- no route goes on behind the prefix to the node: it is the source, a receiver of the prefix, or avoided
+-- no route goes on to the node after the prefix: it is the source, a receiver of the prefix, or avoided
 abbrev pub is_closed : ContactPlan → RouteRequest → List ℕ → ℕ → Bool
 is_closed p r prefix x = has x (r.source ∷ receivers p prefix) || has x r.avoided
 

@@ -1,4 +1,4 @@
--- What is told of a route that is found.
+-- What a finder reports of a route that is found.
 use Rattle.std.specs.Prelude.{◌≡◌, ℕ, length}
 use Rattle.std.specs.declared.option.Option.{Option}
 use Rattle.std.specs.declared.option.Option.TheVariants.{Some, None}
@@ -6,7 +6,7 @@ use Rattle.sabr_model.specs.Plan.{ContactPlan}
 use Rattle.sabr_model.specs.Route.{until_of, entry_of}
 use Rattle.sabr_model.specs.Record.{RouteRecord}
 
--- how many hops an answer has, 0 where there is no route
+-- the number of hops of an answer, 0 if there is no route
 abbrev pub hops_told : Option RouteRecord → ℕ
 hops_told None = 0
 hops_told (Some route) = length route.contacts

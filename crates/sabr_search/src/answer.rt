@@ -1,4 +1,4 @@
-//! The least route behind a prefix, from layers, deadlines and picks, with its record.
+//! The least route after a prefix, from layers, deadlines and picks, with its record.
 
 ghost use Rattle.std.specs.Prelude.{◌≡◌, ◌++◌, ℕ, List, ◌+◌, ◌*◌, ◌-◌, ◌^◌, ◌≤◌, ◌<◌, Some, IfOk, IfSome, IfNone, OnErr, length};
 ghost use Rattle.sabr_search.specs.Ways.{Leads};
@@ -16,7 +16,7 @@ use sabr_model::{NoMemory, Route};
 use std::alloc::Allocator;
 
 impl<A: Allocator + Copy> Layers<A> {
-    /// Gives the least route behind the prefix within the limits.
+    /// Returns the least route after the prefix within the limits.
     pub fn answer(
         &mut self,
         alloc: A,
@@ -47,7 +47,7 @@ impl<A: Allocator + Copy> Layers<A> {
         Ok(Some(route))
     }
 
-    /// Gives the least route behind the prefix with the best delivery and hops, for which deadlines are set.
+    /// Returns the least route after the prefix with the best delivery and hops. The deadlines for these are set.
     fn finish(
         &mut self,
         alloc: A,
@@ -73,8 +73,8 @@ impl<A: Allocator + Copy> Layers<A> {
         Ok(task.record(looks, contacts, best.delivery))
     }
 
-    /// Gives the least route behind the prefix, where no way delivers before `first` and layers made backward from the
-    /// goal show one that does then, with no more hops. None as `from_goal` does.
+    /// Returns the least route after the prefix, if layers made backward from the goal show one that delivers at
+    /// `first` with no more hops. No way delivers before `first`. None as in `from_goal`.
     pub fn answer_back(
         &mut self,
         alloc: A,
@@ -106,8 +106,8 @@ impl<A: Allocator + Copy> Layers<A> {
         Ok(Some(route))
     }
 
-    /// Gives the least route behind the prefix within the limits that a first way leaves: by layers made backward from
-    /// the goal where its hops are allowed, and else, or where that takes too many looks, by layers made forward.
+    /// Returns the least route after the prefix within the limits that a first way leaves. Uses layers made backward
+    /// from the goal if its hops are allowed. Otherwise, or if that takes too many looks, uses layers made forward.
     pub fn answer_by(
         &mut self,
         alloc: A,

@@ -1,4 +1,4 @@
-//! Deadlines, backward: by layer and node the first second at which it is too late for the rest.
+//! Deadlines, set backward: for each layer and node, the first second that is too late for the rest.
 
 ghost use Rattle.std.specs.Prelude.{◌≡◌, ◌≢◌, ◌↔◌, ℕ, ◌+◌, ◌-◌, ◌*◌, ◌^◌, ◌≤◌, ◌<◌, IfOk, OnOk, length};
 ghost use Rattle.sabr_search.specs.declared.layers.Best.{Best};
@@ -14,7 +14,7 @@ use sabr_model::NoMemory;
 use std::alloc::Allocator;
 
 impl<A: Allocator + Copy> Layers<A> {
-    /// Makes `place` name the entries of layer `hop`.
+    /// Points `place` at the entries of layer `hop`.
     pub fn point_at(&mut self, hop: usize)
         requires timed { (task : SearchTask) × (best : Best) × (from : ℕ) × (hop ≤ best.hops) × AreTimed task best from self.old.bounds.items self.old.place.items self.old.reached.items }
         requires later { 0 < hop }
@@ -32,7 +32,7 @@ impl<A: Allocator + Copy> Layers<A> {
         }
     }
 
-    /// Gives the first second at which it is too late at a node, after `hop` hops; 0 where it always is.
+    /// Returns the first second that is too late at a node after `hop` hops; 0 if every second is.
     pub fn deadline(&self, task: &Task<'_, A>, best: Best, hop: usize, node: usize) -> u64
         requires pointed { ArePointed task.now hop self.now.bounds.items self.now.place.items self.now.reached.items }
         requires node { node < length task.now.table }
@@ -54,7 +54,7 @@ impl<A: Allocator + Copy> Layers<A> {
         }
     }
 
-    /// Gives the deadline of an entry by those of layer `hop`.
+    /// Returns the deadline of an entry, computed from those of layer `hop`.
     fn latest(
         &self,
         task: &Task<'_, A>,
@@ -95,7 +95,7 @@ impl<A: Allocator + Copy> Layers<A> {
         Ok(latest)
     }
 
-    /// Sets the deadlines of layer `hop` by those of the next.
+    /// Sets the deadlines of layer `hop` from those of the next layer.
     fn set_layer(
         &mut self,
         task: &Task<'_, A>,

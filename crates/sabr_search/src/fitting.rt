@@ -1,4 +1,4 @@
-//! Which parts a search can be asked for.
+//! Which parts a search accepts.
 
 ghost use Rattle.std.specs.Prelude.{◌≡◌};
 ghost use Rattle.sabr_model.specs.Plan.{has};
@@ -8,7 +8,7 @@ use crate::part::Part;
 use sabr_model::{HopFault, Plan, Request, follow};
 use std::alloc::Allocator;
 
-/// Tells whether one of these contacts is received by the node.
+/// Returns true if one of these contacts is received by the node.
 fn enters<A: Allocator + Copy>(plan: &Plan<A>, numbers: &[u32], node: u64) -> bool
     ensures { result ≡ has node (receivers plan.now.plan numbers.now) }
 {
@@ -22,11 +22,11 @@ fn enters<A: Allocator + Copy>(plan: &Plan<A>, numbers: &[u32], node: u64) -> bo
     false
 }
 
-/// Tells whether routes may begin with the part's prefix and go on.
+/// Returns true if routes may begin with the part's prefix and go on.
 ///
-/// It is a chain of contacts from the source that can be followed in time, comes to no node twice and to no avoided node,
-/// is within the limit on hops, and doesn't come to the destination. The empty prefix fits. Which numbers are excluded
-/// doesn't matter. (No node twice, and the limits, are this project's profile.)
+/// The prefix has to be a chain of contacts from the source that can be followed in time. It comes to no node twice, to
+/// no avoided node and not to the destination, and is within the limit on hops. The empty prefix fits. The excluded
+/// numbers don't matter. (No node twice, and the limits, are this project's profile.)
 ///
 /// It takes no memory. Its time grows with the square of the number of contacts in the prefix.
 pub fn fits<A: Allocator + Copy>(plan: &Plan<A>, request: &Request, part: Part<'_>) -> bool

@@ -1,5 +1,5 @@
-//! Hop layers made backward from the goal, once the first delivery is known: by number of hops the nodes from which so
-//! many lead to the goal by then, where fewer don't from as late on.
+//! Hop layers made backward from the goal, once the first delivery is known. For each number of hops they hold the
+//! nodes from which that many hops lead to the goal by then, starting later than fewer hops can.
 
 ghost use Rattle.std.specs.Prelude.{◌≡◌, ℕ, ◌+◌, ◌^◌, ◌≤◌, ◌<◌, min, take, length, true, false, IsTrue, slice_get, slice_index, slice_index_or, slice_set, Some, None, OnOk, IfOk, IfSome, IfNone, List, [], ◌∷◌, ◌++◌, ◌-◌, replicate, reverse};
 ghost use Rattle.sabr_search.specs.Task.{IsTask, Takes, never};
@@ -15,8 +15,8 @@ use crate::task::Task;
 use sabr_model::{NoMemory, Sender};
 use std::alloc::Allocator;
 
-/// Tells when the first of all ways may be at a node: at its least arrival, or at the first delivery, where the search
-/// stopped.
+/// Returns the earliest second at which any way can be at a node. This is its least arrival, or the first delivery, at
+/// which the search stopped.
 fn soonest_at(arrival: &[u64], delivery: u64, node: usize) -> u64
     requires { node < length arrival.now }
     ensures { result ≡ soonest arrival.now delivery node }
@@ -25,8 +25,8 @@ fn soonest_at(arrival: &[u64], delivery: u64, node: usize) -> u64
 }
 
 impl<'a, A: Allocator + Copy> Task<'a, A> {
-    /// Tells whether what is at the start arrives over a link from there before `before`. It stands apart, since layers
-    /// come to a link from the start once at most for each entry, and to others far more often.
+    /// Returns true if what is at the start arrives over a link from there before `before`. This stands apart, since
+    /// layers come to a link from the start at most once for each entry, and to other links far more often.
     #[inline(never)]
     fn starts_in_time(&self, looks: &mut Looks, from: Sender<'_>, to: usize, before: u64) -> bool
         requires task { IsTask self.now }
@@ -52,7 +52,7 @@ impl<'a, A: Allocator + Copy> Task<'a, A> {
 }
 
 impl<A: Allocator + Copy> Layers<A> {
-    /// Notes from when on it is too late at a node, in the layer that begins at `begin`, once for each node.
+    /// Notes the first second that is too late at a node, in the layer that begins at `begin`, once for each node.
     fn note_late(&mut self, entry: Reached, begin: usize) -> Result<(), NoMemory>
         requires place { entry.node < length self.old.place.items }
         requires late { entry.node < length self.old.late.items }
@@ -73,7 +73,7 @@ impl<A: Allocator + Copy> Layers<A> {
         Ok(())
     }
 
-    /// Takes one link to a node that is left in time before `before`, for the layer in front of `left`; tells whether the
+    /// Takes one link to a node that is left in time before `before`, for the layer before `left`. Returns whether the
     /// start is in time for it.
     fn take_sender(
         &mut self,
@@ -138,8 +138,8 @@ impl<A: Allocator + Copy> Layers<A> {
         Ok(false)
     }
 
-    /// Takes every link to the node of an entry of layer `left`; tells whether the start is in time for it, or nothing
-    /// where the plan isn't ready, or more than `most` looks might be needed.
+    /// Takes every link to the node of an entry of layer `left`. Returns whether the start is in time for it; none if
+    /// the plan isn't ready, or if more than `most` looks might be needed.
     fn take_senders(
         &mut self,
         task: &Task<'_, A>,
@@ -192,8 +192,8 @@ impl<A: Allocator + Copy> Layers<A> {
         Ok(Some(false))
     }
 
-    /// Makes the layer in front of layer `left`; tells whether the start is in time for an entry of `left`, or nothing
-    /// as `take_senders` does.
+    /// Makes the layer before layer `left`. Returns whether the start is in time for an entry of `left`; none as in
+    /// `take_senders`.
     fn next_back(
         &mut self,
         task: &Task<'_, A>,
@@ -257,9 +257,9 @@ impl<A: Allocator + Copy> Layers<A> {
         Ok(())
     }
 
-    /// Makes layers backward from the goal, until the start is in time for one: answers how many hops that one is from
-    /// the goal. None where the plan isn't ready, where a layer is empty, or where more than `most` looks might be
-    /// needed.
+    /// Makes layers backward from the goal until the start is in time for one. Returns how many hops that layer is from
+    /// the goal. None if the start is in time for none of `first.hops` layers, if a layer is empty, if the plan isn't
+    /// ready, or if more than `most` looks might be needed.
     pub fn make_back(
         &mut self,
         task: &Task<'_, A>,
@@ -300,7 +300,7 @@ impl<A: Allocator + Copy> Layers<A> {
         Ok(None)
     }
 
-    /// Tells whether the layers that were made backward end with an empty one.
+    /// Returns true if the layers that were made backward end with an empty one.
     pub fn have_ended(&self) -> bool
         ensures { IsTrue result → IsEnded self.now.ends.items }
     {
@@ -311,7 +311,8 @@ impl<A: Allocator + Copy> Layers<A> {
         self.ends[count - 2] == self.ends[count - 1]
     }
 
-    /// Turns the entries that were made backward round; the start takes the goal's place and stands in front as well.
+    /// Reverses the order of the entries that were made backward. The start takes the goal's place and also stands
+    /// first.
     fn turn_entries(&mut self, task: &Task<'_, A>) -> Result<(), NoMemory>
         requires some { 0 < length self.old.reached.items }
         ensures ends { self.new.ends ≡ self.old.ends }
@@ -331,7 +332,7 @@ impl<A: Allocator + Copy> Layers<A> {
         Ok(())
     }
 
-    /// Sets where the layers begin once their entries are turned round.
+    /// Sets where the layers begin once their entries are in reverse order.
     fn turn_bounds(&mut self, left: usize) -> Result<(), NoMemory>
         requires many { length self.old.ends.items ≡ left + 2 }
         requires below { (j : ℕ) → slice_index self.old.ends.items j ≤ length self.old.reached.items }
@@ -354,9 +355,9 @@ impl<A: Allocator + Copy> Layers<A> {
         Ok(())
     }
 
-    /// Makes layers with deadlines for the first delivery, made backward from the goal: answers the delivery and the
-    /// hops. None where no way of so many hops delivers then, where the plan isn't ready, or where more than `most`
-    /// looks might be needed.
+    /// Makes layers with deadlines for the first delivery, backward from the goal. Returns the delivery and the hops.
+    /// None if no way of at most `first.hops` hops delivers then, if the plan isn't ready, or if more than `most` looks
+    /// might be needed.
     pub fn from_goal(
         &mut self,
         task: &Task<'_, A>,

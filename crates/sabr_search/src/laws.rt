@@ -1,10 +1,10 @@
-//! The law of kept answers, the contract of a function that does nothing.
+//! The law of kept answers, as the contract of a function that does nothing.
 
 ghost use Rattle.sabr_search.specs.Answers.{AnswersStay};
 
-/// States that the answer to a question is the answer to each later one that shuts more nodes, starts no earlier and leaves
-/// no more hops, as long as it may still be taken and delivers at the same second; and that where there was none, there is
-/// none.
+/// States when the answer to one question is also the answer to a later one. The later one shuts more nodes, starts no
+/// earlier and leaves no more hops; the answer may still be taken and delivers at the same second. If the first
+/// question has no answer, neither has the later one.
 pub fn answers_stay()
     ensures { AnswersStay }
 {}

@@ -1,4 +1,4 @@
-//! Hop layers, forward: by number of hops the nodes that they bring an earlier arrival, with it.
+//! Hop layers, made forward: for each number of hops, the nodes that it reaches earlier, and when.
 
 ghost use Rattle.std.specs.Prelude.{◌≡◌, ◌≢◌, min, ℕ, Bool, List, [], ◌∷◌, ◌+◌, ◌*◌, ◌^◌, ◌≤◌, ◌<◌, length, take, slice_set, slice_index, OnOk, IfOk};
 ghost use Rattle.sabr_search.specs.Task.{IsTask, Takes};
@@ -14,7 +14,7 @@ use crate::task::Task;
 use sabr_model::{Link, NoMemory, Pass};
 use std::alloc::Allocator;
 
-/// A node that a layer reaches, when, and the first second at which it is too late for the rest.
+/// A node that a layer reaches, when, and the first second that is too late there for the rest.
 #[derive(Clone, Copy)]
 pub struct Reached {
     pub node: usize,
@@ -22,7 +22,7 @@ pub struct Reached {
     pub deadline: u64,
 }
 
-/// A delivery, and the number of hops with which it is reached; no hops where none is.
+/// A delivery, and the number of hops with which it is reached; no hops if there is none.
 #[derive(Clone, Copy)]
 pub struct Best {
     pub delivery: u64,
@@ -40,7 +40,7 @@ pub struct Limits {
 /// Later than every arrival.
 pub const NEVER: u64 = u64::MAX;
 
-/// Makes every open node unreached, and lets nothing improve a shut one.
+/// Marks every open node as unreached, and lets nothing improve a shut one.
 pub fn open_nodes<A: Allocator + Copy>(
     arrival: &mut Vec<u64, A>,
     task: &Task<'_, A>,
@@ -56,7 +56,7 @@ pub fn open_nodes<A: Allocator + Copy>(
     Ok(())
 }
 
-/// Tells before which second an arrival at a node is news.
+/// Returns the second before which an arrival at a node is news.
 pub fn news_before<A: Allocator + Copy>(
     arrival: &[u64],
     task: &Task<'_, A>,
@@ -76,27 +76,27 @@ pub fn news_before<A: Allocator + Copy>(
     }
 }
 
-/// By node the least arrival so far and the place of an entry, or 0; the entries, layer by layer, the first being the
-/// start; and where each layer begins. Layers that are made backward keep by node from when on it is too late so far,
-/// and where each of them begins.
+/// The layers and what is known of each node. Forward layers use the arrivals, the places, the entries and their
+/// bounds. Layers made backward keep for each node the first second that is too late so far, and where each of them
+/// begins.
 #[derive(Drop)]
 pub struct Layers<A: Allocator + Copy> {
-    /// By node the least arrival so far.
+    /// For each node, the least arrival so far.
     pub arrival: Vec<u64, A>,
-    /// By node the place of an entry, or 0.
+    /// For each node, the place of an entry, or 0.
     pub place: Vec<usize, A>,
-    /// The entries, layer by layer, the first being the start.
+    /// The entries, layer by layer; the first is the start.
     pub reached: Vec<Reached, A>,
     /// Where each layer begins.
     pub bounds: Vec<usize, A>,
-    /// By node, of layers made backward, from when on it is too late so far.
+    /// For each node, the first second that is too late so far, in layers made backward.
     pub late: Vec<u64, A>,
-    /// Where each of these begins.
+    /// Where each of the layers made backward begins.
     pub ends: Vec<usize, A>,
 }
 
 impl<A: Allocator + Copy> Layers<A> {
-    /// Begins with no layers, and no memory taken.
+    /// Starts without layers. It takes no memory.
     pub fn new(alloc: A) -> Layers<A> {
         Layers {
             arrival: Vec::new(alloc),
@@ -141,7 +141,7 @@ impl<A: Allocator + Copy> Layers<A> {
         Ok(())
     }
 
-    /// Takes one link of a node that is reached; answers the least delivery so far.
+    /// Takes one link of a node that is reached. Returns the least delivery so far.
     fn take_link(
         &mut self,
         task: &Task<'_, A>,
@@ -178,7 +178,7 @@ impl<A: Allocator + Copy> Layers<A> {
         Ok(best)
     }
 
-    /// Takes every contact of a node that is reached; answers the least delivery so far.
+    /// Takes every contact of a node that is reached. Returns the least delivery so far.
     fn take_all(
         &mut self,
         task: &Task<'_, A>,
@@ -208,7 +208,7 @@ impl<A: Allocator + Copy> Layers<A> {
         Ok(least)
     }
 
-    /// Takes every contact of every node of layer `hop`; answers the least delivery so far.
+    /// Takes every contact of every node of layer `hop`. Returns the least delivery so far.
     fn next_layer(
         &mut self,
         task: &Task<'_, A>,

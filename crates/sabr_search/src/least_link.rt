@@ -14,8 +14,8 @@ use sabr_model::{Link, Pass};
 use std::alloc::Allocator;
 
 impl<'a, A: Allocator + Copy> Task<'a, A> {
-    /// Gives the step of least number over a link for what is at its sender at `at`, that arrives before `before` and
-    /// whose number is less than that of `least`; where there is none, `least`.
+    /// Returns the step of least number over a link, for what is at its sender at `at`. It arrives before `before`, and
+    /// its number is less than that of `least`. If there is no such step, returns `least`.
     #[inline(always)]
     pub fn least_over(
         &self,

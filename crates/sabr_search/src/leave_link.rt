@@ -13,8 +13,8 @@ use crate::task::Task;
 use sabr_model::{LinkBounds, Pass};
 use std::alloc::Allocator;
 
-/// Tells how many passes of a link start before `before`: they are those in front. The only one may start later. A
-/// halving: it compares the starts as the keys by which a link's passes are in order.
+/// Returns the number of passes of a link that start before `before`; these come first. A link's only pass is counted
+/// even if it starts later. A binary search: it compares the starts, by which a link's passes are sorted.
 fn begun(passes: &[Pass], before: u64) -> usize
     requires { AreInOrder passes.now }
     ensures within { result ≤ length passes.now }
@@ -27,8 +27,8 @@ fn begun(passes: &[Pass], before: u64) -> usize
 }
 
 impl<'a, A: Allocator + Copy> Task<'a, A> {
-    /// Tells whether no one who is at the sender at `since` or later, and at `latest` or later, arrives before `before`
-    /// over this pass or one in front of it.
+    /// Returns true if nothing that is at the sender at `since` or later, and at `latest` or later, arrives before
+    /// `before` over this pass or an earlier one.
     fn leaves_no_later(&self, pass: &Pass, since: u64, before: u64, latest: u64) -> bool
         requires light { pass.now.least_light_before ≤ most_light }
         ensures { IsTrue result → (pass.now.latest_end ≤ max latest since) ⊎ (before ≤ latest + cost self.now.request.margin pass.now.least_light_before) }
@@ -39,9 +39,9 @@ impl<'a, A: Allocator + Copy> Task<'a, A> {
         before - latest <= self.cost(pass.least_light_before)
     }
 
-    /// Gives the first second from which on nothing leaves over a link and arrives before `before`, where that is later
-    /// than `latest`, and else `latest`; of what is at the sender before `since` nothing is said. It takes a halving
-    /// and as many looks as passes come in question.
+    /// Returns the first second from which on nothing leaves over a link and arrives before `before`, if that is later
+    /// than `latest`; otherwise `latest`. Nothing is said of what is at the sender before `since`. It takes a binary
+    /// search and one look for each pass in question.
     pub fn leave_over(
         &self,
         looks: &mut Looks,

@@ -7,9 +7,9 @@ ghost use Rattle.sabr_search.specs.Limits.{AreLimits};
 use crate::layers::{Best, Limits, NEVER};
 use sabr_model::MOST_HOPS;
 
-/// Limits the layers: the first way does reach its delivery, so no more of them than it has hops are needed. Where so
-/// many hops are allowed behind the `used` contacts of a prefix, nothing later is needed; where they are not, its
-/// delivery is a lower bound.
+/// Limits the layers. The first way does reach its delivery, so no more layers than it has hops are needed. If that
+/// number of hops is allowed after the `used` contacts of a prefix, nothing later is needed. Otherwise its delivery is
+/// a lower bound.
 pub fn limits_of(max_hops: u32, used: usize, first: Best) -> Limits
     requires fits { used ≤ max_hops }
     requires early { first.delivery < never }

@@ -1,4 +1,4 @@
-//! The one way of a search to the record of a contact, which counts each look.
+//! The only way from a search to the record of a contact; it counts each look.
 
 ghost use Rattle.std.specs.Prelude.{◌≡◌, ◌+◌, ◌<◌, ◌≤◌, ◌^◌, None, MatchOption, IfSome, length};
 ghost use Rattle.sabr_model.specs.Plan.{IsPlan, contact_named};
@@ -8,25 +8,25 @@ ghost use Rattle.sabr_model.specs.Hops.{IsSmall};
 use sabr_model::{Hop, Plan};
 use std::alloc::Allocator;
 
-/// How often a contact's record was used.
+/// The number of times a contact's record was used.
 #[derive(Clone, Copy)]
 pub struct Looks {
     pub count: u64,
 }
 
 impl Looks {
-    /// Begins with no look.
+    /// Starts with no looks.
     pub fn new() -> Looks
         ensures { result.count ≡ 0 }
     {
         Looks { count: 0 }
     }
 
-    /// Counts a look and hands on what leads to the record: the contact's number, or its pass.
+    /// Counts a look and passes on what leads to the record: the contact's number, or its pass.
     ///
-    /// Searches read no record but behind this call, one for each use. The halvings of a link compare keys and bounds
-    /// that the index keeps, and read no record. A plan that isn't ready makes the index of a node when it is asked for
-    /// it: that isn't counted, as it isn't where a plan is ready.
+    /// Searches read records only after this call, once for each use. The binary searches of a link compare keys and
+    /// bounds that the index keeps, and read no record. A plan that isn't ready makes the index of a node on demand.
+    /// That isn't counted, just as it isn't for a plan that is ready.
     pub fn look<T>(&mut self, contact: T) -> T
         requires few { self.old.count < 2 ^ 62 }
         ensures counted { self.new.count ≡ self.old.count + 1 }
@@ -36,7 +36,7 @@ impl Looks {
         contact
     }
 
-    /// Counts a look for each of these contacts and hands on their numbers.
+    /// Counts a look for each of these contacts and passes on their numbers.
     pub fn look_all<'a>(&mut self, contacts: &'a [u32]) -> &'a [u32]
         requires few { self.old.count + length contacts.now ≤ 2 ^ 62 }
         ensures counted { self.new.count ≡ self.old.count + length contacts.now }
@@ -48,7 +48,7 @@ impl Looks {
         contacts
     }
 
-    /// Gives the record of a standing contact: one look.
+    /// Returns the record of a standing contact: one look.
     pub fn hop<A: Allocator + Copy>(&mut self, plan: &Plan<A>, number: u32) -> Option<Hop>
         requires plan { IsPlan plan.now.plan }
         requires few { self.old.count < 2 ^ 62 }

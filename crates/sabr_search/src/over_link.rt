@@ -1,4 +1,4 @@
-//! The arrival over a whole link: halving and a few looks in place of one look for each of its contacts.
+//! The arrival over a whole link: a binary search and a few looks instead of one look for each of its contacts.
 
 ghost use Rattle.std.specs.Prelude.{◌≡◌, ◌⊎◌, ℕ, ◌+◌, ◌^◌, ◌≤◌, ◌<◌, max, IsTrue, false, Some, length, slice_get, slice_index_or};
 ghost use Rattle.sabr_model.specs.declared.link.Pass.{Pass};
@@ -15,7 +15,7 @@ use crate::task::Task;
 use sabr_model::{Hop, Link, LinkBounds, Links, Pass};
 use std::alloc::Allocator;
 
-/// Gives the passes of a link.
+/// The passes of a link.
 pub fn link_passes<'a>(links: Links<'a>, link: &Link) -> &'a [Pass]
     requires ordered { link.now.first ≤ link.now.end }
     requires within { link.now.end ≤ length links.passes.now }
@@ -24,8 +24,8 @@ pub fn link_passes<'a>(links: Links<'a>, link: &Link) -> &'a [Pass]
     &links.passes[link.first..link.end]
 }
 
-/// Tells whether nothing that is at the sender of a link at `at` or later arrives over it before `before`, by the
-/// bounds of the whole link.
+/// Returns true if, by the bounds of the whole link, nothing that is at its sender at `at` or later arrives before
+/// `before`.
 pub fn rules_out(bounds: LinkBounds, at: u64, before: u64) -> bool
     ensures late { IsTrue result → (bounds.latest_end ≤ at) ⊎ ((before ≤ bounds.soonest) ⊎ (before ≤ at + bounds.least_light)) }
     ensures early { result ≡ false → at < before }
@@ -36,8 +36,8 @@ pub fn rules_out(bounds: LinkBounds, at: u64, before: u64) -> bool
     before.saturating_sub(at) <= bounds.least_light as u64
 }
 
-/// Tells how many passes from the front of a link have ended by `at`; those behind, or the only one, may have ended as
-/// well. A halving: it compares the bounds that stand beside the passes.
+/// Returns the number of passes at the front of a link that have ended by `at`. Those after them, or the only one, may
+/// have ended as well. A binary search: it compares the bounds that stand beside the passes.
 pub fn first_open(passes: &[Pass], at: u64) -> usize
     requires { AreInOrder passes.now }
     ensures within { result ≤ length passes.now }
@@ -50,7 +50,7 @@ pub fn first_open(passes: &[Pass], at: u64) -> usize
 }
 
 impl<'a, A: Allocator + Copy> Task<'a, A> {
-    /// Gives the record of a pass that was looked at.
+    /// Returns the record of a pass that was looked at.
     pub fn hop_over(&self, to: usize, pass: &Pass) -> Hop
         requires pass { (node : ℕ) × IsPassAt self.now node to pass.now }
         requires task { IsTask self.now }
@@ -66,7 +66,8 @@ impl<'a, A: Allocator + Copy> Task<'a, A> {
         }
     }
 
-    /// Tells whether what is at the sender at `at` arrives at `before` or later over this pass and over each behind it.
+    /// Returns true if what is at the sender at `at` arrives at `before` or later over this pass and over each one
+    /// after it.
     pub fn comes_late(&self, pass: &Pass, at: u64, before: u64) -> bool
         requires light { pass.now.least_light_behind ≤ most_light }
         ensures { IsTrue result → before ≤ max at pass.now.start + cost self.now.request.margin pass.now.least_light_behind }
@@ -75,9 +76,9 @@ impl<'a, A: Allocator + Copy> Task<'a, A> {
         sent >= before || self.cost(pass.least_light_behind) >= before - sent
     }
 
-    /// Gives the least arrival over a link of what is at its sender at `at`, where it is before `before`, and else
-    /// `before`. It takes a halving and as many looks as passes come in question, mostly two; excluded
-    /// ones whose numbers stand in a row take one look.
+    /// Returns the least arrival over a link of what is at its sender at `at`, if it is before `before`; otherwise
+    /// `before`. It takes a binary search and one look for each pass in question, mostly two. Excluded passes with
+    /// consecutive numbers take one look.
     #[inline(always)]
     pub fn arrive_over(
         &self,

@@ -29,7 +29,7 @@ pub struct Step {
     pub at: u64,
 }
 
-/// Tells whether there is a step whose number is at most this.
+/// Returns true if there is a step and its number is at most this.
 pub fn is_at_most(least: Option<Step>, number: u32) -> bool
     ensures at_most { IsTrue result → IsAtMost least number }
     ensures above { result ≡ false → (n : ℕ) → IsAtMost least n → number ≤ n }
@@ -41,7 +41,7 @@ pub fn is_at_most(least: Option<Step>, number: u32) -> bool
 }
 
 impl<A: Allocator + Copy> Layers<A> {
-    /// Gives the step of least number from a node after which the goal is still reached in time.
+    /// Returns the step of least number from a node after which the goal is still reached in time.
     fn least_step(
         &self,
         task: &Task<'_, A>,
@@ -72,7 +72,7 @@ impl<A: Allocator + Copy> Layers<A> {
         Ok(least)
     }
 
-    /// Gives the least numbers that lead from the start to the goal with the best delivery and hops, behind the prefix.
+    /// Returns the least numbers after the prefix that lead from the start to the goal with the best delivery and hops.
     pub fn pick(
         &mut self,
         alloc: A,

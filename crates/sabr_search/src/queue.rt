@@ -1,4 +1,4 @@
-//! Events that wait, the earliest first.
+//! Waiting events, the earliest first.
 
 ghost use Rattle.std.specs.Prelude.{◌≡◌, ◌≤◌, ◌∷◌, [], List, map, All, IfSome, IfNone, OnOk, OnErr};
 ghost use Rattle.std.specs.BinaryHeap.{heap_items, IsHeap};
@@ -10,7 +10,7 @@ use std::cmp::Reverse;
 use std::collections::BinaryHeap;
 use std::marker::Model;
 
-/// An arrival at a node. The earlier comes first, and of two at one second the one with fewer hops.
+/// An arrival at a node. The earlier one comes first; of two at the same second, the one with fewer hops.
 #[derive(Clone, Copy, PartialEq, Eq, PartialOrd, Ord)]
 pub struct Event {
     pub at: u64,
@@ -18,7 +18,7 @@ pub struct Event {
     pub node: usize,
 }
 
-/// Takes the earliest event out.
+/// Removes and returns the earliest event.
 fn earliest<A: Allocator + Copy>(events: &mut BinaryHeap<Reverse<Event>, A>) -> Option<Event>
     requires { IsHeap ⟦<Reverse<Event> as Ord>⟧.cmp (heap_items events.old) }
     ensures ordered { IsHeap ⟦<Reverse<Event> as Ord>⟧.cmp (heap_items events.new) }
@@ -30,7 +30,7 @@ fn earliest<A: Allocator + Copy>(events: &mut BinaryHeap<Reverse<Event>, A>) -> 
     Some(event)
 }
 
-/// Events that wait, seen as a list of them in some order.
+/// Waiting events, seen as a list of them in some order.
 #[derive(Drop)]
 pub struct Queue<A: Allocator + Copy> {
     events: BinaryHeap<Reverse<Event>, A>,
@@ -49,7 +49,7 @@ impl<A: Allocator + Copy> Model for Queue<A> {
 }
 
 impl<A: Allocator + Copy> Queue<A> {
-    /// Begins with no events. Takes no memory.
+    /// Makes an empty queue. It takes no memory.
     pub fn new(alloc: A) -> Queue<A>
         ensures { result ≡ [] }
     {
@@ -58,14 +58,14 @@ impl<A: Allocator + Copy> Queue<A> {
         }
     }
 
-    /// Lets all events go, and keeps their memory.
+    /// Removes all events and keeps their memory.
     pub fn clear(&mut self)
         ensures { self.new ≡ [] }
     {
         self.events.clear();
     }
 
-    /// Gives one event more; refused where the queue has to grow and memory is refused.
+    /// Adds an event; refused if the queue has to grow and memory is refused.
     pub fn push(&mut self, event: Event) -> Result<(), NoMemory>
         ensures ok { OnOk result (IsPermutation (event ∷ self.old) self.new) }
         ensures err { OnErr result (self.new ≡ self.old) }
@@ -74,7 +74,7 @@ impl<A: Allocator + Copy> Queue<A> {
         Ok(())
     }
 
-    /// Takes the earliest event out.
+    /// Removes and returns the earliest event.
     pub fn pop(&mut self) -> Option<Event>
         ensures none { IfNone result (self.old ≡ []) }
         ensures moved { IfSome result (λ x. IsPermutation self.old (x ∷ self.new)) }

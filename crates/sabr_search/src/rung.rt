@@ -1,4 +1,4 @@
-//! What is kept for one deadline: by node how late a way on to the destination can begin.
+//! The table of one deadline: for each node, how late a way on to the destination can begin.
 
 ghost use Rattle.std.specs.Prelude.{◌≡◌, ℕ, ◌≤◌, ◌<◌, IsTrue, Some, length, slice_get, slice_index};
 ghost use Rattle.sabr_search.specs.Kept.{AreSpans};
@@ -6,7 +6,7 @@ ghost use Rattle.sabr_search.specs.Kept.{AreSpans};
 use crate::pick::Standing;
 use std::alloc::Allocator;
 
-/// The first second too late at a node for a way on of at most so many hops.
+/// The first second too late at a node for a way on of at most this number of hops.
 #[derive(Clone, Copy)]
 pub struct Due {
     pub node: usize,
@@ -14,35 +14,35 @@ pub struct Due {
     pub late: u64,
 }
 
-/// The places of a node's dues, and what bounds these, so that a walk can leave out most nodes.
+/// The places of a node's dues and their bounds, so that a walk can leave out most nodes.
 #[derive(Clone, Copy)]
 pub struct Span {
-    /// The place of the first.
+    /// The place of the first due.
     pub first: usize,
-    /// The place behind the last.
+    /// The place after the last due.
     pub end: usize,
-    /// A number of hops that none of them is below.
+    /// A lower bound on the hops of the dues.
     pub fewest: usize,
-    /// A second behind which none of them is.
+    /// An upper bound on the seconds of the dues.
     pub latest: u64,
 }
 
-/// What is kept for one deadline: by node the first second too late for a delivery before it, and the dues for a delivery
-/// by then, each node's within its span.
+/// The table of one deadline. For each node it holds the first second too late for a delivery before the deadline, and
+/// the dues for a delivery by the deadline, within the node's span.
 #[derive(Drop)]
 pub struct Rung<A: Allocator + Copy> {
     /// The second by which a delivery is asked for.
     pub deadline: u64,
-    /// By node the first second too late for a delivery before it.
+    /// For each node, the first second too late for a delivery before the deadline.
     pub before: Vec<u64, A>,
-    /// The dues for a delivery by then.
+    /// The dues for a delivery by the deadline.
     pub dues: Vec<Due, A>,
-    /// By node between which places its dues are.
+    /// For each node, the places between which its dues are.
     pub spans: Vec<Span, A>,
 }
 
 impl<A: Allocator + Copy> Rung<A> {
-    /// Gives the first second too late at a node for a way on of at most so many hops.
+    /// Returns the first second too late at a node for a way on of at most this number of hops.
     pub fn within(&self, node: usize, rest: usize) -> u64
         requires node { node < length self.now.spans.items }
         requires spans { AreSpans self.now.dues.items self.now.spans.items }
@@ -62,7 +62,7 @@ impl<A: Allocator + Copy> Rung<A> {
         latest
     }
 
-    /// Gives no more hops than a way on has from a node at a second.
+    /// Returns a lower bound on the hops of a way on from a node at a second.
     pub fn hops_from(&self, from: Standing) -> usize
         requires node { from.node < length self.now.spans.items }
         requires spans { AreSpans self.now.dues.items self.now.spans.items }
@@ -82,7 +82,7 @@ impl<A: Allocator + Copy> Rung<A> {
         least
     }
 
-    /// Gives no more hops than a way on has from any of these.
+    /// Returns a lower bound on the hops of a way on from any of these.
     pub fn least_hops(&self, first: &[Standing]) -> usize
         requires inside { (k : ℕ) (s : Standing) → slice_get first.now k ≡ Some s → s.node < length self.now.spans.items }
         requires spans { AreSpans self.now.dues.items self.now.spans.items }
@@ -98,7 +98,7 @@ impl<A: Allocator + Copy> Rung<A> {
         least
     }
 
-    /// Tells whether none of these is in time for a delivery before the deadline.
+    /// Returns true if none of these is in time for a delivery before the deadline.
     pub fn comes_no_sooner(&self, first: &[Standing]) -> bool
         requires inside { (k : ℕ) (s : Standing) → slice_get first.now k ≡ Some s → s.node < length self.now.before.items }
         ensures { IsTrue result → (k : ℕ) (s : Standing) → slice_get first.now k ≡ Some s → slice_index self.now.before.items s.node ≤ s.at }

@@ -17,7 +17,7 @@ use crate::task::Task;
 use sabr_model::{Link, NoMemory, Pass};
 use std::alloc::Allocator;
 
-/// By node the least arrival so far and whether it is settled; and the arrivals that wait.
+/// For each node, its least arrival so far and whether it is settled; and the waiting arrivals.
 #[derive(Drop)]
 pub struct Settling<A: Allocator + Copy> {
     pub arrival: Vec<u64, A>,
@@ -26,7 +26,7 @@ pub struct Settling<A: Allocator + Copy> {
 }
 
 impl<A: Allocator + Copy> Settling<A> {
-    /// Takes no memory.
+    /// Makes an empty value. It takes no memory.
     pub fn new(alloc: A) -> Settling<A> {
         Settling {
             arrival: Vec::new(alloc),
@@ -35,7 +35,7 @@ impl<A: Allocator + Copy> Settling<A> {
         }
     }
 
-    /// Begins with no node settled, no event waiting, and nothing reached but the start.
+    /// Starts with no node settled, no event waiting, and nothing reached but the start.
     fn first_events(&mut self, task: &Task<'_, A>) -> Result<(), NoMemory>
         requires { IsTask task.now }
         ensures arrivals { OnOk result (AreOpened task.now self.new.arrival.items) }
@@ -49,7 +49,7 @@ impl<A: Allocator + Copy> Settling<A> {
         Ok(())
     }
 
-    /// Notes an arrival that is news; answers the first delivery so far.
+    /// Notes an arrival that is news. Returns the first delivery so far.
     fn reach(
         &mut self,
         task: &Task<'_, A>,
@@ -82,7 +82,7 @@ impl<A: Allocator + Copy> Settling<A> {
         Ok(best)
     }
 
-    /// Takes one link of a node that is settled; answers the first delivery so far.
+    /// Takes one link of a settled node. Returns the first delivery so far.
     fn take_link(
         &mut self,
         task: &Task<'_, A>,
@@ -116,7 +116,7 @@ impl<A: Allocator + Copy> Settling<A> {
         Ok(least)
     }
 
-    /// Settles a node that is reached at the event, and takes every contact of it; answers the first delivery so far.
+    /// Settles a node that is reached at the event, and takes every contact of it. Returns the first delivery so far.
     fn settle(
         &mut self,
         task: &Task<'_, A>,
@@ -152,9 +152,9 @@ impl<A: Allocator + Copy> Settling<A> {
         Ok(least)
     }
 
-    /// Settles nodes in order of their arrival, until no event comes before the first delivery at the goal; answers that
-    /// delivery and the hops of a way with it, or no hops where no way leads to the goal. Each contact is looked at once
-    /// at most.
+    /// Settles nodes in order of their arrival, until no event comes before the first delivery at the goal. Returns
+    /// that delivery and the hops of a way with it; no hops if no way leads to the goal. Looks at each contact at most
+    /// once.
     pub fn run(&mut self, task: &Task<'_, A>, looks: &mut Looks) -> Result<Best, NoMemory>
         requires task { IsTask task.now }
         requires few { looks.old.count + length task.now.plan.contacts ≤ 2 ^ 62 }
