@@ -26,6 +26,8 @@ pub mod Stretches
 pub mod Different
 pub mod LinkLemmas
 pub mod Chains
+pub mod Grouping
+pub mod ContactOrders
 pub mod SenderLemmas
 pub mod PlanLemmas
 pub mod Rises

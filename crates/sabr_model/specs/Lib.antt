@@ -6,6 +6,7 @@ pub mod Links
 pub mod Linking
 pub mod Outgoing
 pub mod Incoming
+pub mod Grouping
 pub mod Ready
 pub mod Stretches
 pub mod Adding

@@ -14,6 +14,7 @@ ghost use Rattle.sabr_model.specs.Links.{AreLinksOf, AreLinksTo};
 use super::Plan;
 use crate::link::{Link, Links, Pass};
 pub use building::link_nodes;
+pub use chains::narrow;
 pub use incoming::{IncomingLinks, incoming_links};
 pub use outgoing::Outgoing;
 pub use senders::Senders;

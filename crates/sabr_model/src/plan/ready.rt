@@ -3,11 +3,12 @@
 ghost use Rattle.std.specs.Prelude.{◌≡◌, ◌<◌, ℕ, [], IsTrue, IfOk, OnOk, length, nat_eq, slice_index_or};
 ghost use Rattle.indexmap.specs.IndexMap.{IsUnique, keys};
 ghost use Rattle.sabr_model.specs.declared.contact.Contact.{Contact};
-ghost use Rattle.sabr_model.specs.Plan.{IsPlan, has};
+ghost use Rattle.sabr_model.specs.Plan.{has};
 ghost use Rattle.sabr_model.specs.RangeOrder.{IsRangeList};
 ghost use Rattle.sabr_model.specs.Tabled.{IsHopOf};
 ghost use Rattle.sabr_model.specs.Ready.{AreHops, BeginEnds};
 ghost use Rattle.sabr_model.specs.Linking.{AreLinked};
+ghost use Rattle.sabr_model.specs.Grouping.{AreByNode};
 ghost use Rattle.sabr_model.specs.Incoming.{AreSenders};
 ghost use Rattle.sabr_model.specs.Stretches.{AreEnds};
 
@@ -15,6 +16,7 @@ use super::Plan;
 use super::ends::{Ends, ends_of_contacts, index_of};
 use super::light::{light_in_stretches, light_of_contact};
 use super::linked::{IncomingLinks, NodeLinks, incoming_links, link_nodes};
+use super::order::{ContactOrder, order_of_contacts};
 use super::stretches::stretches_of;
 use crate::contact::{Contact, Range};
 use crate::fault::NoMemory;
@@ -27,36 +29,40 @@ impl<A: Allocator + Copy> Plan<A> {
     /// Makes the plan ready for searches: from then on, until the plan changes, they find what they read of a contact in one
     /// step. The plan stays as it is; where memory is short searches answer the same, but take longer.
     ///
-    /// It takes a halving or two of one node's ranges for each contact, and sorts the contacts of each node.
+    /// It takes a halving or two of one node's ranges for each contact, and some steps for each contact and node; it
+    /// sorts the contacts of a node only where those of one link weren't added in order of their starts.
     pub fn make_ready(&mut self) -> Result<(), NoMemory>
         ensures { self.new ≡ self.old }
     {
-        self.put_hops()?;
-        let linked = link_nodes(self.alloc, self)?;
+        let order = self.put_hops()?;
+        let linked = link_nodes(self.alloc, self, &order)?;
         let incoming = incoming_links(self.alloc, &linked)?;
         self.keep_links(linked, incoming);
         Ok(())
     }
 
-    /// Forgets the links that were kept, and puts the hop of each contact beside it.
-    fn put_hops(&mut self) -> Result<(), AllocError>
+    /// Forgets the links that were kept, puts the hop of each contact beside it, and answers in which order links are made.
+    fn put_hops(&mut self) -> Result<ContactOrder<A>, AllocError>
         ensures same { self.new ≡ self.old }
-        ensures rules { IsPlan self.new.plan }
+        ensures as_many { IfOk result (λ o. length o.numbers.items ≡ length o.senders) }
+        ensures by_node { IfOk result (λ o. AreByNode self.new.plan self.new.table o.numbers.items o.senders) }
     {
         self.ready = false;
         self.linked.clear();
         self.incoming.forget();
         let known = mem::replace(&mut self.ends, Vec::new(self.alloc));
+        let ends = all_ends(self.alloc, known, &self.contacts, &self.table)?;
+        let order = order_of_contacts(self.alloc, &self.contacts, &ends, &self.table)?;
         fill(
             self.alloc,
             &mut self.hops,
-            known,
+            &ends,
             &self.contacts,
             &self.ranges,
             &self.table,
         )?;
         self.ready = true;
-        Ok(())
+        Ok(order)
     }
 
     /// Keeps these links of each node.
@@ -92,19 +98,16 @@ pub fn hop_of_contact<A: Allocator + Copy>(
 fn fill<A: Allocator + Copy>(
     alloc: A,
     hops: &mut Vec<Hop, A>,
-    known: Vec<Ends, A>,
+    ends: &[Ends],
     contacts: &[Contact],
     ranges: &[Range],
     table: &NodeTable<A>,
 ) -> Result<(), AllocError>
     requires ranges { IsRangeList ranges.now }
     requires unique { IsUnique nat_eq table.now }
-    requires known { BeginEnds (keys table.now) contacts.now known.items }
-    requires from { (k : ℕ) (d : Contact) → k < length contacts.now → IsTrue (has (slice_index_or contacts.now k d).from (keys table.now)) }
-    requires to { (k : ℕ) (d : Contact) → k < length contacts.now → IsTrue (has (slice_index_or contacts.now k d).to (keys table.now)) }
+    requires ends { AreEnds (keys table.now) contacts.now ends.now }
     ensures { OnOk result (AreHops (record { plan = record { contacts = []; ranges = ranges.now; greatest = 0 }; table = keys table.now }) contacts.now hops.new.items) }
 {
-    let ends = all_ends(alloc, known, contacts, table)?;
     let stretches = stretches_of(alloc, ranges, table)?;
     hops.clear();
     hops.reserve(contacts.len())?;

@@ -1,47 +1,53 @@
 //! How the links of each node are built.
 
-ghost use Rattle.std.specs.Prelude.{◌≡◌, ◌<◌, ℕ, Some, IfOk, MatchOption, length, slice_get};
-ghost use Rattle.sabr_model.specs.Plan.{IsPlan};
+ghost use Rattle.std.specs.Prelude.{◌≡◌, ℕ, IfOk, MatchOption, length};
+ghost use Rattle.sabr_model.specs.Grouping.{AreByNode};
 ghost use Rattle.sabr_model.specs.Links.{AreLinksOf};
-ghost use Rattle.sabr_model.specs.Linking.{HasNoLight, IsContactPass, IsBounded, AreBounded, ArePassesOf, AreLinked};
+ghost use Rattle.sabr_model.specs.Linking.{AreSent, HasNoLight, IsContactPass, IsBounded, AreBounded, ArePassesOf, AreLinked};
 
 use super::NodeLinks;
 use super::bounds::order_passes;
 use super::rows::links_over;
 use crate::link::Pass;
 use crate::plan::Plan;
+use crate::plan::order::ContactOrder;
 use std::alloc::{AllocError, Allocator};
 
 /// Gives the links of each node of the table.
 pub fn link_nodes<A: Allocator + Copy>(
     alloc: A,
     plan: &Plan<A>,
+    order: &ContactOrder<A>,
 ) -> Result<Vec<NodeLinks<A>, A>, AllocError>
-    requires { IsPlan plan.now.plan }
+    requires as_many { length order.now.numbers.items ≡ length order.now.senders }
+    requires by_node { AreByNode plan.now.plan plan.now.table order.now.numbers.items order.now.senders }
     ensures linked { IfOk result (λ v. AreLinked plan.now v.items) }
     ensures as_many { IfOk result (λ v. length v.items ≡ length plan.now.table) }
 {
     let mut linked = Vec::new(alloc);
+    let mut numbers = Vec::new(alloc);
     let count = plan.nodes();
     linked.reserve(count)?;
     for index in 0..count {
-        let node = links_of_node(alloc, plan, index)?;
+        numbers.clear();
+        order
+            .senders
+            .push_values(index, &order.numbers, &mut numbers)?;
+        let node = links_of_numbers(alloc, plan, &numbers)?;
         linked.push(node)?;
     }
     Ok(linked)
 }
 
-/// Gives the links of the node at an index of the table.
-pub fn links_of_node<A: Allocator + Copy>(
+/// The links over the contacts of these numbers.
+pub fn links_of_numbers<A: Allocator + Copy>(
     alloc: A,
     plan: &Plan<A>,
-    index: usize,
+    numbers: &[u32],
 ) -> Result<NodeLinks<A>, AllocError>
-    requires rules { IsPlan plan.now.plan }
-    requires index { index < length plan.now.table }
-    ensures { IfOk result (λ s. (node : ℕ) → slice_get plan.now.table index ≡ Some node → AreLinksOf plan.now node s.links.items s.passes.items) }
+    ensures { IfOk result (λ s. (node : ℕ) → AreSent plan.now.plan node numbers.now → AreLinksOf plan.now node s.links.items s.passes.items) }
 {
-    let mut passes = passes_of(alloc, plan, plan.from_index(index))?;
+    let mut passes = passes_of(alloc, plan, numbers)?;
     order_passes(&mut passes);
     let links = links_over(alloc, &passes)?;
     Ok(NodeLinks { links, passes })

@@ -5,7 +5,7 @@ ghost use Rattle.sabr_model.specs.Links.{AreLinksOf};
 ghost use Rattle.sabr_model.specs.Outgoing.{links_in, passes_in};
 
 use super::NodeLinks;
-use super::building::links_of_node;
+use super::building::links_of_numbers;
 use crate::fault::NoMemory;
 use crate::link::Links;
 use crate::plan::Plan;
@@ -44,7 +44,7 @@ impl<A: Allocator + Copy> Plan<A> {
         if let Some(links) = self.links(index) {
             return Ok(Outgoing::Kept(links));
         }
-        let made = links_of_node(self.alloc, self, index)?;
+        let made = links_of_numbers(self.alloc, self, self.from_index(index))?;
         Ok(Outgoing::Made(made))
     }
 }

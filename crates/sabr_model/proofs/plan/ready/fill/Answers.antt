@@ -2,26 +2,29 @@ use Rattle.std.proofs.Common.{[], ◌∷◌, get_or, length, refl, arith, length
 use Rattle.indexmap.specs.IndexMap.{keys}
 use Rattle.sabr_model.specs.declared.contact.Contact.{Contact}
 use Rattle.sabr_model.specs.declared.hop.Hop.{Hop}
+use Rattle.sabr_model.specs.declared.plan.ends.Ends.{Ends}
 use Rattle.sabr_model.specs.Plan.{TabledPlan}
 use Rattle.sabr_model.specs.Tabled.{IsHopOf}
-use Rattle.sabr_model.proofs.ReadyLemmas.{beside_more, ends_at, stretch_within, stretch_at}
+use Rattle.sabr_model.proofs.ReadyLemmas.{beside_more, stretch_within, stretch_at}
 use Rattle.sabr_model.proofs.plan.ready.fill.Goals as goal
 
-pub index-requires-in-loop-place : goal.index-requires-in-loop-place
-index-requires-in-loop-place g c =
-    omega (arith, c.in_ok-stretches.stretches.ok, stretch_within _ _ _ _ _ _ c.in_ok-stretches.ensures (ends_at _ _ _ _ (record { number = 0; from = 0; to = 0; start = 0; end = 0; rate = 0 }) _ c.in_ok-ends.ensures c.loop-place-test.true c.index.ensures).from)
+abbrev none : Contact
+none = record { number = 0; from = 0; to = 0; start = 0; end = 0; rate = 0 }
 
-pub index-requires-in-loop-place-2 : goal.index-requires-in-loop-place-2
-index-requires-in-loop-place-2 g c =
-    omega (arith, c.in_ok-stretches.stretches.ok, stretch_within _ _ _ _ _ _ c.in_ok-stretches.ensures (ends_at _ _ _ _ (record { number = 0; from = 0; to = 0; start = 0; end = 0; rate = 0 }) _ c.in_ok-ends.ensures c.loop-place-test.true c.index.ensures).to)
+abbrev no_ends : Ends
+no_ends = record { from = 0; to = 0 }
+
+pub index-requires : goal.index-requires
+index-requires g c = omega (arith, c.in_ok-stretches.stretches.ok, stretch_within _ _ _ _ _ _ c.in_ok-stretches.ensures (c.requires.ends.each c.loop-place.place none no_ends c.loop-place-test.true).from)
+
+pub index-requires-in-loop-place : goal.index-requires-in-loop-place
+index-requires-in-loop-place g c = omega (arith, c.in_ok-stretches.stretches.ok, stretch_within _ _ _ _ _ _ c.in_ok-stretches.ensures (c.requires.ends.each c.loop-place.place none no_ends c.loop-place-test.true).to)
 
 pub light_in_stretches-light-requires-clause-sender : goal.light_in_stretches-light-requires-clause-sender
-light_in_stretches-light-requires-clause-sender g c =
-    stretch_at _ _ _ _ _ _ _ c.in_ok-stretches.ensures (ends_at _ _ _ _ (record { number = 0; from = 0; to = 0; start = 0; end = 0; rate = 0 }) _ c.in_ok-ends.ensures c.loop-place-test.true c.index.ensures).from c.index-in-loop-place.ensures
+light_in_stretches-light-requires-clause-sender g c = stretch_at _ _ _ _ _ _ _ c.in_ok-stretches.ensures (c.requires.ends.each c.loop-place.place none no_ends c.loop-place-test.true).from c.index.ensures
 
 pub light_in_stretches-light-requires-clause-receiver : goal.light_in_stretches-light-requires-clause-receiver
-light_in_stretches-light-requires-clause-receiver g c =
-    stretch_at _ _ _ _ _ _ _ c.in_ok-stretches.ensures (ends_at _ _ _ _ (record { number = 0; from = 0; to = 0; start = 0; end = 0; rate = 0 }) _ c.in_ok-ends.ensures c.loop-place-test.true c.index.ensures).to c.index-in-loop-place-2.ensures
+light_in_stretches-light-requires-clause-receiver g c = stretch_at _ _ _ _ _ _ _ c.in_ok-stretches.ensures (c.requires.ends.each c.loop-place.place none no_ends c.loop-place-test.true).to c.index-in-loop-place.ensures
 
 pub loop-place-preserved : goal.loop-place-preserved
 loop-place-preserved g c =
@@ -29,13 +32,12 @@ loop-place-preserved g c =
     let hops = c.loop-place.hops.items in
     let many = c.loop-place.invariant.as_many in
     let p : TabledPlan = record { plan = record { contacts = []; ranges = c.args.ranges.now; greatest = 0 }; table = keys c.args.table.now } in
-    let none : Contact = record { number = 0; from = 0; to = 0; start = 0; end = 0; rate = 0 } in
-    let hop : Hop = record { start = (get_or cs (length hops) none).start; end = (get_or cs (length hops) none).end; receiver = c.index.result.now.to; light = c.light_in_stretches-light.result } in
+    let hop : Hop = record { start = (get_or cs (length hops) none).start; end = (get_or cs (length hops) none).end; receiver = (get_or c.args.ends.now (length hops) no_ends).to; light = c.light_in_stretches-light.result } in
     let here : IsHopOf p (get_or cs (length hops) none) hop =
     record {
       start = refl;
       end = refl;
-      receiver = rw many (ends_at _ _ _ _ none _ c.in_ok-ends.ensures c.loop-place-test.true c.index.ensures).to;
+      receiver = rw many (c.requires.ends.each c.loop-place.place none no_ends c.loop-place-test.true).to;
       light = rw many c.light_in_stretches-light.ensures;
     } in
     record {

@@ -2,13 +2,12 @@ use Rattle.std.proofs.Common.{◌≡◌, List, length, take, drop, ◌++◌, sym
 use Rattle.std.proofs.lemmas.List.{take_at}
 use Rattle.sabr_model.specs.declared.link.Pass.{Pass}
 use Rattle.sabr_model.specs.Links.{AreLinksOf}
-use Rattle.sabr_model.specs.Linking.{AreSent, AreOrdered, AreRows}
+use Rattle.sabr_model.specs.Linking.{AreOrdered, AreRows}
 use Rattle.sabr_model.proofs.LinkLemmas.{are_links}
-use Rattle.sabr_model.proofs.Tabled.{are_sent}
-use Rattle.sabr_model.proofs.plan.linked.building.links_of_node.Goals as goal
+use Rattle.sabr_model.proofs.plan.linked.building.links_of_numbers.Goals as goal
 
 pub returns : goal.returns
-returns g c = λ node e.
+returns g c = λ node sent.
     let p = c.args.plan.now in
     let made = c.in_ok-passes.passes.items in
     let ready = c.order_passes.new.passes in
@@ -19,5 +18,4 @@ returns g c = λ node e.
     let back : take c.in_ok-passes.passes.len (ready ++ drop (length ready) made) ≡ ready = take_at ready (drop (length ready) made) c.in_ok-passes.passes.len many in
     let rows : AreRows ready links (length ready) = subst (λ (xs : List Pass). AreRows xs links (length xs)) (c.deref.ensures.value ∙ back) c.in_ok-links.ensures in
     subst (λ (xs : List Pass). AreLinksOf p node links xs) (sym back)
-    (are_links p node c.from_index.result.now made ready links
-    (subst (AreSent p.plan node) (sym (c.from_index.ensures node e)) (are_sent p.plan node c.requires.rules)) c.in_ok-passes.ensures.are ordered c.order_passes.ensures.in_rows rows)
+    (are_links p node c.args.numbers.now made ready links sent c.in_ok-passes.ensures.are ordered c.order_passes.ensures.in_rows rows)
