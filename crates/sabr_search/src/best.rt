@@ -1,6 +1,7 @@
 //! The law of finders: the least route of a part.
 
 ghost use Rattle.std.specs.Prelude.{◌≡◌, ℕ, ◌+◌, ◌*◌, ◌≤◌, IfOk, IsTrue, length};
+ghost use Rattle.std.specs.List.Sorted.{IsStrictlyIncreasing};
 ghost use Rattle.sabr_search.specs.Part.{IsLeast};
 ghost use Rattle.sabr_search.specs.Kept.{IsKept};
 ghost use Rattle.sabr_model.specs.Route.{is_prefix};
@@ -64,6 +65,30 @@ pub trait BestOf<A: Allocator + Copy>: Drop {
     {
         let _kept = kept;
         self.best(plan, request, part)
+    }
+
+    /// Does the same for a part whose excluded numbers rise, so that nobody has to go over them to know it.
+    ///
+    /// # Errors
+    ///
+    /// [`NoMemory`] where a growth was refused. The finder and what is kept can be used again.
+    fn best_rising(
+        &mut self,
+        kept: &mut Kept<A>,
+        plan: &Plan<A>,
+        request: &Request,
+        part: Part<'_>,
+    ) -> Result<Option<Route<A>>, NoMemory>
+        requires fits { IsTrue (is_prefix plan.now.plan request.now part.prefix.now) }
+        requires rising { IsStrictlyIncreasing part.excluded.now }
+        requires kept { IsKept plan.now request.now kept.old }
+        ensures least { IfOk result (IsLeast plan.now.plan request.now part.entry.prefix.now part.entry.excluded.now) }
+        ensures bound { looks_of self.new ≤ (3 * node_count plan.now.plan.contacts + 1) * length plan.now.plan.contacts }
+        ensures counted { IfOk result (λ answer. hops_told answer ≤ looks_of self.new) }
+        ensures called { calls_of self.new ≡ calls_of self.old + 1 }
+        ensures kept { IsKept plan.now request.now kept.new }
+    {
+        self.best_beside(kept, plan, request, part)
     }
 
     /// Tells how many times the last call of `best` read a contact's record, 0 before the first.

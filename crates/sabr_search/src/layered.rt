@@ -4,6 +4,7 @@ ghost use Rattle.std.specs.Prelude.{◌≡◌};
 
 use crate::best::BestOf;
 use crate::enter::enter;
+use crate::finger::rises;
 use crate::layers::{Layers, Limits, NEVER};
 use crate::looks::Looks;
 use crate::part::Part;
@@ -68,7 +69,16 @@ impl<A: Allocator + Copy> BestOf<A> for Layered<A> {
         else {
             return Ok(None);
         };
-        let task = Task::new(plan, request, &self.shut, part.excluded, standing, goal);
+        let in_order = rises(part.excluded);
+        let task = Task::new(
+            plan,
+            request,
+            &self.shut,
+            part.excluded,
+            in_order,
+            standing,
+            goal,
+        );
         let left = request.max_hops() as usize - part.prefix.len();
         let limits = Limits {
             hops: left.min(plan.nodes() - 1),

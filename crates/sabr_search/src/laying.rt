@@ -241,6 +241,6 @@ pub fn rung_for<A: Allocator + Copy>(
         node: standing.node,
         at: LATEST,
     };
-    let task = Task::new(plan, request, &shut, &[], source, goal);
+    let task = Task::new(plan, request, &shut, &[], false, source, goal);
     layers.lay(alloc, &task, looks, deadline, most)
 }

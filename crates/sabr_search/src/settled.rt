@@ -1,6 +1,7 @@
 //! The finder that settles nodes first, and then makes only the layers that the least route needs.
 
 ghost use Rattle.std.specs.Prelude.{◌≡◌, ◌⊎◌, ◌≤◌, ◌<◌, ◌+◌, ◌-◌, ◌*◌, IfOk, IfSome, IfNone, IsTrue, length};
+ghost use Rattle.std.specs.List.Sorted.{IsStrictlyIncreasing};
 ghost use Rattle.sabr_model.specs.Route.{is_prefix};
 ghost use Rattle.sabr_model.specs.Table.{node_count};
 ghost use Rattle.sabr_model.specs.Asking.{most_hops};
@@ -13,6 +14,7 @@ ghost use Rattle.sabr_search.specs.Following.{tabled_of};
 
 use crate::best::BestOf;
 use crate::enter::enter;
+use crate::finger::rises;
 use crate::kept::Kept;
 use crate::layers::Layers;
 use crate::limits::limits_of;
@@ -153,15 +155,18 @@ impl<A: Allocator + Copy> Settled<A> {
         }
     }
 
-    /// Finds the least route of a part: told by what is kept, or else by a search.
+    /// Finds the least route of a part: told by what is kept, or else by a search. `in_order` says that the excluded
+    /// numbers are known to rise.
     fn find(
         &mut self,
         kept: &mut Kept<A>,
         plan: &Plan<A>,
         request: &Request,
         part: Part<'_>,
+        in_order: bool,
     ) -> Result<Option<Route<A>>, NoMemory>
         requires fits { IsTrue (is_prefix plan.now.plan request.now part.prefix.now) }
+        requires rising { IsTrue in_order → IsStrictlyIncreasing part.excluded.now }
         requires kept { IsKept plan.now request.now kept.old }
         ensures least { IfOk result (IsLeast plan.now.plan request.now part.entry.prefix.now part.entry.excluded.now) }
         ensures bound { self.new.looks.count ≤ (3 * node_count plan.now.plan.contacts + 1) * length plan.now.plan.contacts }
@@ -183,7 +188,15 @@ impl<A: Allocator + Copy> Settled<A> {
         else {
             return Ok(None);
         };
-        let task = Task::new(plan, request, &self.shut, part.excluded, standing, goal);
+        let task = Task::new(
+            plan,
+            request,
+            &self.shut,
+            part.excluded,
+            in_order,
+            standing,
+            goal,
+        );
         least_beside(
             self.alloc,
             &mut self.settling,
@@ -194,6 +207,37 @@ impl<A: Allocator + Copy> Settled<A> {
             request.max_hops(),
             part.prefix,
         )
+    }
+
+    /// Finds the least route of a part, and keeps what makes later searches shorter.
+    fn find_beside(
+        &mut self,
+        kept: &mut Kept<A>,
+        plan: &Plan<A>,
+        request: &Request,
+        part: Part<'_>,
+        in_order: bool,
+    ) -> Result<Option<Route<A>>, NoMemory>
+        requires fits { IsTrue (is_prefix plan.now.plan request.now part.prefix.now) }
+        requires rising { IsTrue in_order → IsStrictlyIncreasing part.excluded.now }
+        requires kept { IsKept plan.now request.now kept.old }
+        ensures least { IfOk result (IsLeast plan.now.plan request.now part.entry.prefix.now part.entry.excluded.now) }
+        ensures bound { self.new.looks.count ≤ (3 * node_count plan.now.plan.contacts + 1) * length plan.now.plan.contacts }
+        ensures counted { IfOk result (λ answer. hops_told answer ≤ self.new.looks.count) }
+        ensures called { self.new.calls.count ≡ self.old.calls.count + 1 }
+        ensures kept { IsKept plan.now request.now kept.new }
+        ensures cut { IfOk result (λ answer. request.now.max_hops ≡ most_hops → self.new.looks.count ≤ (3 * (hops_told answer - length part.entry.prefix.now) + 3) * length plan.now.plan.contacts) }
+    {
+        let answer = self.find(kept, plan, request, part, in_order)?;
+        learn(
+            &mut self.layers,
+            kept,
+            &mut self.looks,
+            plan,
+            request,
+            &answer,
+        );
+        Ok(answer)
     }
 }
 
@@ -216,7 +260,7 @@ impl<A: Allocator + Copy> BestOf<A> for Settled<A> {
         ensures cut { IfOk result (λ answer. request.now.max_hops ≡ most_hops → self.new.looks.count ≤ (3 * (hops_told answer - length part.entry.prefix.now) + 3) * length plan.now.plan.contacts) }
     {
         let mut kept = Kept::new(self.alloc);
-        self.find(&mut kept, plan, request, part)
+        self.find(&mut kept, plan, request, part, rises(part.excluded))
     }
 
     fn best_beside(
@@ -235,16 +279,27 @@ impl<A: Allocator + Copy> BestOf<A> for Settled<A> {
         ensures kept { IsKept plan.now request.now kept.new }
         ensures cut { IfOk result (λ answer. request.now.max_hops ≡ most_hops → self.new.looks.count ≤ (3 * (hops_told answer - length part.entry.prefix.now) + 3) * length plan.now.plan.contacts) }
     {
-        let answer = self.find(kept, plan, request, part)?;
-        learn(
-            &mut self.layers,
-            kept,
-            &mut self.looks,
-            plan,
-            request,
-            &answer,
-        );
-        Ok(answer)
+        self.find_beside(kept, plan, request, part, rises(part.excluded))
+    }
+
+    fn best_rising(
+        &mut self,
+        kept: &mut Kept<A>,
+        plan: &Plan<A>,
+        request: &Request,
+        part: Part<'_>,
+    ) -> Result<Option<Route<A>>, NoMemory>
+        requires fits { IsTrue (is_prefix plan.now.plan request.now part.prefix.now) }
+        requires rising { IsStrictlyIncreasing part.excluded.now }
+        requires kept { IsKept plan.now request.now kept.old }
+        ensures least { IfOk result (IsLeast plan.now.plan request.now part.entry.prefix.now part.entry.excluded.now) }
+        ensures bound { self.new.looks.count ≤ (3 * node_count plan.now.plan.contacts + 1) * length plan.now.plan.contacts }
+        ensures counted { IfOk result (λ answer. hops_told answer ≤ self.new.looks.count) }
+        ensures called { self.new.calls.count ≡ self.old.calls.count + 1 }
+        ensures kept { IsKept plan.now request.now kept.new }
+        ensures cut { IfOk result (λ answer. request.now.max_hops ≡ most_hops → self.new.looks.count ≤ (3 * (hops_told answer - length part.entry.prefix.now) + 3) * length plan.now.plan.contacts) }
+    {
+        self.find_beside(kept, plan, request, part, true)
     }
 
     fn looks(&self) -> u64 {

@@ -1,6 +1,7 @@
 //! What does not change during a search, and the arrival over one contact.
 
-ghost use Rattle.std.specs.Prelude.{◌≡◌, ℕ, ◌≤◌, ◌<◌, ◌+◌, ◌*◌, ◌^◌, Some, IfOk, IfSome, IfNone, false, true, length};
+ghost use Rattle.std.specs.Prelude.{◌≡◌, ℕ, ◌≤◌, ◌<◌, ◌+◌, ◌*◌, ◌^◌, Some, IfOk, IfSome, IfNone, IsTrue, false, true, length};
+ghost use Rattle.std.specs.List.Sorted.{IsStrictlyIncreasing};
 ghost use Rattle.sabr_model.specs.Arrival.{cost};
 ghost use Rattle.sabr_model.specs.Plan.{has, most_light};
 ghost use Rattle.sabr_model.specs.Route.{until_of, entry_of};
@@ -9,7 +10,7 @@ ghost use Rattle.sabr_model.specs.Hops.{hop_arrival, IsSmall};
 ghost use Rattle.sabr_search.specs.Task.{IsTask};
 ghost use Rattle.sabr_search.specs.Linked.{AreLinksAt, AreSendersAt};
 
-use crate::finger::{Finger, rises};
+use crate::finger::Finger;
 use crate::looks::Looks;
 use crate::pick::Standing;
 use sabr_model::{Hop, NoMemory, Outgoing, Pass, Plan, Request, Route, Senders, Told};
@@ -50,15 +51,17 @@ impl<'a, A: Allocator + Copy> Model for Task<'a, A> {
 }
 
 impl<'a, A: Allocator + Copy> Task<'a, A> {
-    /// Makes a task from where the search stands.
+    /// Makes a task from where the search stands. `in_order` says that the excluded numbers are known to rise.
     pub fn new(
         plan: &'a Plan<A>,
         request: &'a Request,
         shut: &'a [bool],
         excluded: &'a [u32],
+        in_order: bool,
         standing: Standing,
         goal: usize,
     ) -> Task<'a, A>
+        requires { IsTrue in_order → IsStrictlyIncreasing excluded.now }
         ensures { result ≡ record { plan = plan.now.plan; request = request.now; table = plan.now.table; shut = shut.now; excluded = excluded.now; start = standing.node; goal = goal; at = standing.at } }
     {
         Task {
@@ -66,7 +69,7 @@ impl<'a, A: Allocator + Copy> Task<'a, A> {
             request,
             shut,
             excluded,
-            in_order: rises(excluded),
+            in_order,
             start: standing.node,
             goal,
             at: standing.at,

@@ -1,6 +1,6 @@
 use Rattle.sabr_search.proofs.Beside.{learned_within, learned_cut}
 use Rattle.std.specs.Prelude.{length}
-use Rattle.sabr_search.proofs.settled.SettledBestOf.best_beside.Goals as goal
+use Rattle.sabr_search.proofs.settled.Settled.find_beside.Goals as goal
 
 pub returns-clause-bound : goal.returns-clause-bound
 returns-clause-bound g c = learned_within c.args.plan.now.plan.contacts c.find.new.self.looks.count c.learn.new.looks.count c.learn.ensures.looks c.find.ensures.bound
