@@ -9,12 +9,11 @@ use Rattle.sabr_model.specs.Table.{ends_of, node_count}
 use Rattle.sabr_search.specs.Task.{SearchTask, IsTask, IsBehind}
 use Rattle.sabr_search.specs.Picks.{IsLeastWay}
 use Rattle.sabr_search.specs.Told.{hops_told}
-use Rattle.sabr_search.specs.Part.{IsLeast}
-use Rattle.sabr_search.specs.Following.{HasNoWay, IsFound}
+use Rattle.sabr_search.specs.Answers.{IsAnswered}
+use Rattle.sabr_search.specs.Following.{IsFound}
 use Rattle.sabr_search.proofs.Prefixes.{IsPrefix}
 use Rattle.sabr_search.proofs.PartWays.{way_is_route}
-use Rattle.sabr_search.proofs.Law.{behind_sizes, none_is_least}
-use Rattle.sabr_search.proofs.Tables.{followed_is_least}
+use Rattle.sabr_search.proofs.Law.{behind_sizes}
 
 pub followed_sizes : (task : SearchTask) → IsTask task → (prefix : List ℕ) → IsBehind task prefix → IsPrefix task.plan task.request prefix → (most : ℕ) (s : List ℕ) (route : RouteRecord) → route.contacts ≡ prefix ++ s → length prefix + length s ≤ task.request.max_hops →
     IsLeastWay task most (route.delivery + 1) s route.delivery → (length route.contacts ≤ length task.plan.contacts) × (length route.contacts - length prefix ≤ length task.table)
@@ -37,11 +36,15 @@ pub told_longer : (task : SearchTask) (prefix : List ℕ) (most : ℕ) (o : Opti
 told_longer task prefix most None told = tt
 told_longer task prefix most (Some route) told = followed_longer task prefix most told.0 route told.1 told.3
 
-pub told_is_least : (task : SearchTask) → IsTask task → (prefix : List ℕ) → IsBehind task prefix → IsPrefix task.plan task.request prefix → (most : ℕ) → most ≡ task.request.max_hops → (o : Option RouteRecord) → IfNone o (HasNoWay task) → IfSome o (IsFound task prefix most) →
-    IsLeast task.plan task.request prefix task.excluded o
-told_is_least task is prefix behind facts most most_is None none told = none_is_least task is prefix behind (λ ns e route way. none ns e way)
-told_is_least task is prefix behind facts most most_is (Some route) none told =
-    followed_is_least task is prefix behind facts told.0 route told.1 (omega (arith, told.2, most_is)) (subst (λ m. IsLeastWay task m (route.delivery + 1) told.0 route.delivery) most_is told.3) told.4
+-- so an answer with the hops that are left
+pub answered_sizes : (task : SearchTask) → IsTask task → (prefix : List ℕ) → IsBehind task prefix → IsPrefix task.plan task.request prefix → (left : ℕ) → length prefix + left ≡ task.request.max_hops → (o : Option RouteRecord) → IsAnswered task prefix left o → hops_told o ≤ length task.plan.contacts
+answered_sizes task is prefix behind facts left all None answered = omega arith
+answered_sizes task is prefix behind facts left all (Some route) answered =
+    (followed_sizes task is prefix behind facts left answered.0 route answered.1 (omega (arith, answered.2.within, all)) answered.2).0
+
+pub answered_longer : (task : SearchTask) (prefix : List ℕ) (left : ℕ) (o : Option RouteRecord) → IsAnswered task prefix left o → IfSome o (λ route. length prefix < length route.contacts)
+answered_longer task prefix left None answered = tt
+answered_longer task prefix left (Some route) answered = followed_longer task prefix left answered.0 route answered.1 answered.2
 
 -- this number of passes is within the bound of a finder, and within the bound for an answer
 pub passes_within : (n c looks : ℕ) → 1 ≤ n → looks ≤ 4 * c → looks ≤ (3 * n + 1) * c

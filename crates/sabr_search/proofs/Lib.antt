@@ -36,4 +36,5 @@ pub mod Beside
 pub mod Tries
 pub mod Ended
 pub mod Rising
-pub mod Answers
+pub mod Staying
+pub mod KeptAnswers

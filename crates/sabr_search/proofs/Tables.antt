@@ -8,7 +8,7 @@ use Rattle.sabr_model.specs.Plan.{TabledPlan, has}
 use Rattle.sabr_model.specs.Arrival.{RouteRequest}
 use Rattle.sabr_model.specs.Record.{RouteRecord}
 use Rattle.sabr_model.specs.Route.{receivers}
-use Rattle.sabr_search.specs.declared.kept.Kept.{Kept}
+use Rattle.sabr_search.specs.declared.rungs.Rungs.{Rungs}
 use Rattle.sabr_search.specs.declared.rung.Due.{Due}
 use Rattle.sabr_search.specs.declared.rung.Rung.{Rung}
 use Rattle.sabr_search.specs.declared.pick.Standing.{Standing}
@@ -19,7 +19,7 @@ use Rattle.sabr_search.specs.Part.{IsLeast}
 use Rattle.sabr_search.specs.Task.{SearchTask, Takes, IsTask, IsBehind, is_closed}
 use Rattle.sabr_search.specs.Picks.{IsAtMost, IsLeastWay}
 use Rattle.sabr_search.specs.Told.{IsTold}
-use Rattle.sabr_search.specs.Kept.{Goes, IsWayOn, IsFloor, AreDues, IsRung, IsKept, HasPlaces, ShowsNone}
+use Rattle.sabr_search.specs.Kept.{Goes, IsWayOn, IsFloor, AreDues, IsRung, AreRungs, HasPlaces, ShowsNone}
 use Rattle.sabr_search.specs.Following.{tabled_of, AreFirstSteps, HasNoWay, LetsThrough, IsLeastDue, IsWalked}
 use Rattle.sabr_search.proofs.Ways.{Leads-append, Leads-split, Leads-one}
 use Rattle.sabr_search.proofs.Bridge.{takes_timely}
@@ -81,7 +81,7 @@ module _ (task : SearchTask) (is : IsTask task) (prefix : List ℕ) (behind : Is
   ]
 
   -- so none delivers at all where a table says so
-  pub none_shown : {A : Type 0} (kept : Kept A) → IsKept (tabled_of task) task.request kept → AreFirstSteps task kept.first.items → ShowsNone kept → HasNoWay task
+  pub none_shown : {A : Type 0} (kept : Rungs A) → AreRungs (tabled_of task) task.request kept → AreFirstSteps task kept.first.items → ShowsNone kept → HasNoWay task
   none_shown kept whole steps shown ns e way =
       let same = get_or_from_slice_get kept.rungs.items shown.place shown.rung shown.rung shown.here in
       let rung = subst (IsRung (tabled_of task) task.request) same (All-get_or (IsRung (tabled_of task) task.request) kept.rungs.items shown.place shown.rung (slice_get_within kept.rungs.items shown.place shown.rung shown.here) whole) in

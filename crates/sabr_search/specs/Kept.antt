@@ -9,9 +9,11 @@ use Rattle.sabr_search.specs.declared.pick.Standing.{Standing}
 use Rattle.sabr_search.specs.declared.rung.Due.{Due}
 use Rattle.sabr_search.specs.declared.rung.Span.{Span}
 use Rattle.sabr_search.specs.declared.rung.Rung.{Rung}
+use Rattle.sabr_search.specs.declared.rungs.Rungs.{Rungs}
 use Rattle.sabr_search.specs.declared.kept.Kept.{Kept}
 use Rattle.sabr_search.specs.Ways.{Leads}
 use Rattle.sabr_search.specs.Task.{is_closed, latest_arrival}
+use Rattle.sabr_search.specs.KeptAnswers.{IsAnswer}
 
 -- contact n takes what is there at second t from the node at place u to the node at place w at second b, which is neither
 -- the source nor avoided
@@ -63,9 +65,13 @@ pub record IsRung {A : Type 0} (p : TabledPlan) (r : RouteRequest) (rung : Rung 
   pub dues : rung.deadline ≤ latest_arrival → AreDues p r rung.deadline rung.dues.items
   pub spans : AreSpans rung.dues.items rung.spans.items
 
+-- the tables are true of the plan and the request
+abbrev pub AreRungs : {A : Type 0} → TabledPlan → RouteRequest → Rungs A → Type 0
+AreRungs p r kept = All (IsRung p r) kept.rungs.items
+
 -- what is kept is true of the plan and the request
 abbrev pub IsKept : {A : Type 0} → TabledPlan → RouteRequest → Kept A → Type 0
-IsKept p r kept = All (IsRung p r) kept.rungs.items
+IsKept p r kept = AreRungs p r kept.rungs × All (IsAnswer p r) kept.answers.slots.items
 
 -- the table has a place for the node of each of these steps, and its dues stand within their spans
 pub record HasPlaces {A : Type 0} (first : List Standing) (rung : Rung A) : Type 0 where
@@ -74,11 +80,11 @@ pub record HasPlaces {A : Type 0} (first : List Standing) (rung : Rung A) : Type
   pub spans : AreSpans rung.dues.items rung.spans.items
 
 -- so each table that is kept, of the first steps
-abbrev pub HavePlaces : {A : Type 0} → Kept A → Type 0
+abbrev pub HavePlaces : {A : Type 0} → Rungs A → Type 0
 HavePlaces kept = All (HasPlaces kept.first.items) kept.rungs.items
 
 -- a table of a deadline behind every arrival, for which none of the first steps is in time
-pub record ShowsNone {A : Type 0} (kept : Kept A) : Type 0 where
+pub record ShowsNone {A : Type 0} (kept : Rungs A) : Type 0 where
   pub place : ℕ
   pub rung : Rung A
   pub here : slice_get kept.rungs.items place ≡ Some rung

@@ -14,6 +14,7 @@ pub mod Picks
 pub mod Told
 pub mod Entering
 pub mod Part
+pub mod KeptAnswers
 pub mod Kept
 pub mod Following
 pub mod Laying

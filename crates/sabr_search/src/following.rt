@@ -3,16 +3,16 @@
 ghost use Rattle.std.specs.Prelude.{◌≡◌, ◌⊎◌, ◌++◌, ℕ, List, ◌+◌, ◌-◌, ◌*◌, ◌^◌, ◌≤◌, ◌<◌, Some, IfOk, IfSome, IfNone, OnOk, OnErr, IsTrue, length, slice_get};
 ghost use Rattle.sabr_search.specs.Task.{IsTask, IsBehind, Takes, never, latest_arrival};
 ghost use Rattle.sabr_search.specs.Told.{hops_told};
-ghost use Rattle.sabr_search.specs.Kept.{AreSpans, IsRung, IsKept, HavePlaces};
+ghost use Rattle.sabr_search.specs.Kept.{AreSpans, IsRung, AreRungs, HavePlaces};
 ghost use Rattle.sabr_search.specs.Following.{tabled_of, ComesTo, AreFirstSteps, HasNoWay, IsNoneBefore, IsFound, IsLeastDue, IsWalked};
 
-use crate::kept::Kept;
 use crate::layers::{Layers, NEVER};
 use crate::laying::LATEST;
 use crate::looks::Looks;
 use crate::over_link::link_passes;
 use crate::pick::{Standing, Step};
 use crate::rung::Rung;
+use crate::rungs::Rungs;
 use crate::task::Task;
 use sabr_model::{NoMemory, Route};
 use std::alloc::Allocator;
@@ -239,7 +239,7 @@ fn meets<A: Allocator + Copy>(rung: &Rung<A>, first: &[Standing]) -> bool
     false
 }
 
-impl<A: Allocator + Copy> Kept<A> {
+impl<A: Allocator + Copy> Rungs<A> {
     /// Gives the table of the soonest deadline from the floor on, of those for a delivery, for which a first step is in
     /// time: what is in time for one is in time for those behind it, and the table for none is the last, so they are
     /// halved.
@@ -283,7 +283,7 @@ impl<A: Allocator + Copy> Kept<A> {
         requires few { looks.old.count ≤ most }
         requires most { most ≤ 2 ^ 60 }
         requires short { length prefix.now < max_hops }
-        requires kept { IsKept (tabled_of task.now) task.now.request self.old }
+        requires kept { AreRungs (tabled_of task.now) task.now.request self.old }
         requires place { place < length self.old.rungs.items }
         requires inside { (k : ℕ) (s : Standing) → slice_get self.old.first.items k ≡ Some s → s.node < length task.now.table }
         requires first { AreFirstSteps task.now self.old.first.items }
@@ -325,7 +325,7 @@ impl<A: Allocator + Copy> Kept<A> {
         requires few { looks.old.count ≤ most }
         requires most { most ≤ 2 ^ 60 }
         requires short { length prefix.now < max_hops }
-        requires kept { IsKept (tabled_of task.now) task.now.request self.old }
+        requires kept { AreRungs (tabled_of task.now) task.now.request self.old }
         requires inside { (k : ℕ) (s : Standing) → slice_get self.old.first.items k ≡ Some s → s.node < length task.now.table }
         requires first { AreFirstSteps task.now self.old.first.items }
         requires floor { IsNoneBefore task.now self.old.floor }
@@ -367,7 +367,7 @@ impl<A: Allocator + Copy> Kept<A> {
         requires behind { IsBehind task.now prefix.now }
         requires few { looks.old.count ≤ most }
         requires most { most ≤ 2 ^ 60 }
-        requires kept { IsKept (tabled_of task.now) task.now.request self.old }
+        requires kept { AreRungs (tabled_of task.now) task.now.request self.old }
         ensures kept { self.new.rungs ≡ self.old.rungs }
         ensures refused { OnErr result (looks.new.count ≤ most + length task.now.table * length task.now.plan.contacts) }
         ensures untold { IfOk result (λ o. IfNone o (looks.new.count ≤ most)) }

@@ -2,6 +2,7 @@
 #![tactic(auto)]
 
 mod answer;
+mod answers;
 mod best;
 mod deadlines;
 mod enter;
@@ -24,6 +25,7 @@ mod part;
 mod pick;
 mod queue;
 mod rung;
+mod rungs;
 mod settled;
 mod settling;
 mod task;

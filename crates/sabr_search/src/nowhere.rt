@@ -3,11 +3,11 @@
 ghost use Rattle.std.specs.Prelude.{IsTrue};
 ghost use Rattle.sabr_search.specs.Kept.{HavePlaces, ShowsNone};
 
-use crate::kept::Kept;
 use crate::laying::LATEST;
+use crate::rungs::Rungs;
 use std::alloc::Allocator;
 
-impl<A: Allocator + Copy> Kept<A> {
+impl<A: Allocator + Copy> Rungs<A> {
     /// Tells whether the last table shows that no way leads to the goal: none of the first steps is in time for any
     /// delivery.
     pub(crate) fn shows_none(&self) -> bool

@@ -8,7 +8,7 @@ ghost use Rattle.sabr_model.specs.Asking.{most_hops};
 ghost use Rattle.sabr_search.specs.Part.{IsLeast};
 ghost use Rattle.sabr_search.specs.Task.{IsTask, IsBehind};
 ghost use Rattle.sabr_search.specs.Told.{hops_told};
-ghost use Rattle.sabr_search.specs.Kept.{IsKept};
+ghost use Rattle.sabr_search.specs.Kept.{IsKept, AreRungs};
 ghost use Rattle.sabr_search.specs.Answers.{IsAnswered};
 ghost use Rattle.sabr_search.specs.Following.{tabled_of};
 
@@ -20,6 +20,7 @@ use crate::layers::Layers;
 use crate::limits::limits_of;
 use crate::looks::Looks;
 use crate::part::Part;
+use crate::rungs::Rungs;
 use crate::settling::Settling;
 use crate::task::Task;
 use sabr_model::{GhostCount, NoMemory, Plan, Request, Route};
@@ -56,6 +57,39 @@ fn least_route<A: Allocator + Copy>(
 }
 
 /// Gives the least route behind the prefix: told by the tables that are kept, or else by a search.
+fn least_searched<A: Allocator + Copy>(
+    alloc: A,
+    settling: &mut Settling<A>,
+    layers: &mut Layers<A>,
+    rungs: &mut Rungs<A>,
+    task: &Task<'_, A>,
+    looks: &mut Looks,
+    max_hops: u32,
+    prefix: &[u32],
+) -> Result<Option<Route<A>>, NoMemory>
+    requires task { IsTask task.now }
+    requires behind { IsBehind task.now prefix.now }
+    requires fits { IsTrue (is_prefix task.now.plan task.now.request prefix.now) }
+    requires hops { max_hops ≡ task.now.request.max_hops }
+    requires nodes { length task.now.table ≤ 40000 }
+    requires few { looks.old.count ≤ length task.now.plan.contacts }
+    requires kept { AreRungs (tabled_of task.now) task.now.request rungs.old }
+    ensures kept { rungs.new.rungs ≡ rungs.old.rungs }
+    ensures answered { IfOk result (IsAnswered task.now prefix.now (max_hops - length prefix.now)) }
+    ensures bound { looks.new.count ≤ (3 * length task.now.table + 1) * length task.now.plan.contacts }
+    ensures counted { IfOk result (λ answer. hops_told answer ≤ looks.new.count) }
+    ensures cut { IfOk result (λ answer. max_hops ≡ most_hops → looks.new.count ≤ (3 * (hops_told answer - length prefix.now) + 3) * length task.now.plan.contacts) }
+    ensures longer { IfOk result (λ answer. IfSome answer (λ route. length prefix.now < length route.contacts)) }
+{
+    let most = task.one_pass();
+    let followed = rungs.follow(layers, task, looks, most, prefix, max_hops)?;
+    if let Some(answer) = followed {
+        return Ok(answer);
+    }
+    least_route(alloc, settling, layers, task, looks, max_hops, prefix)
+}
+
+/// Gives the least route behind the prefix: told by an answer that is kept, or else by a search, whose answer is kept.
 fn least_beside<A: Allocator + Copy>(
     alloc: A,
     settling: &mut Settling<A>,
@@ -73,7 +107,7 @@ fn least_beside<A: Allocator + Copy>(
     requires nodes { length task.now.table ≤ 40000 }
     requires few { looks.old.count ≤ length prefix.now }
     requires kept { IsKept (tabled_of task.now) task.now.request kept.old }
-    ensures kept { kept.new.rungs ≡ kept.old.rungs }
+    ensures kept { IsKept (tabled_of task.now) task.now.request kept.new }
     ensures least { IfOk result (IsLeast task.now.plan task.now.request prefix.now task.now.excluded) }
     ensures bound { looks.new.count ≤ (3 * length task.now.table + 1) * length task.now.plan.contacts }
     ensures counted { IfOk result (λ answer. hops_told answer ≤ looks.new.count) }
@@ -81,31 +115,43 @@ fn least_beside<A: Allocator + Copy>(
     ensures longer { IfOk result (λ answer. IfSome answer (λ route. length prefix.now < length route.contacts)) }
 {
     let most = task.one_pass();
-    let followed = kept.follow(layers, task, looks, most, prefix, max_hops)?;
-    if let Some(answer) = followed {
+    let left = max_hops as usize - prefix.len();
+    let told = kept.answers.tell(alloc, task, looks, most, prefix, left)?;
+    if let Some(answer) = told {
         return Ok(answer);
     }
-    least_route(alloc, settling, layers, task, looks, max_hops, prefix)
+    let answer = least_searched(
+        alloc,
+        settling,
+        layers,
+        &mut kept.rungs,
+        task,
+        looks,
+        max_hops,
+        prefix,
+    )?;
+    kept.answers.keep(task, prefix, left, &answer);
+    Ok(answer)
 }
 
 /// Keeps what makes later searches with this answer shorter. Where there is one, no more looks than two passes over all
 /// contacts take; and none where the search took more.
 fn learn<A: Allocator + Copy>(
     layers: &mut Layers<A>,
-    kept: &mut Kept<A>,
+    rungs: &mut Rungs<A>,
     looks: &mut Looks,
     plan: &Plan<A>,
     request: &Request,
     answer: &Option<Route<A>>,
 )
-    requires kept { IsKept plan.now request.now kept.old }
-    ensures kept { IsKept plan.now request.now kept.new }
+    requires kept { AreRungs plan.now request.now rungs.old }
+    ensures kept { AreRungs plan.now request.now rungs.new }
     ensures looked { looks.old.count ≤ looks.new.count }
     ensures none { IfNone answer.now (looks.new.count ≡ looks.old.count) }
     ensures looks { (looks.new.count ≡ looks.old.count) ⊎ (looks.new.count ≤ 4 * length plan.now.plan.contacts) }
 {
     let Some(route) = answer else {
-        kept.count_none();
+        rungs.count_none();
         return;
     };
     let most = 2 * plan.contacts().len() as u64;
@@ -113,8 +159,8 @@ fn learn<A: Allocator + Copy>(
         return;
     }
     let mut making = Looks::new();
-    kept.learn(layers, &mut making, plan, request, route.delivery, most);
-    kept.learn_none(layers, &mut making, plan, request, most);
+    rungs.learn(layers, &mut making, plan, request, route.delivery, most);
+    rungs.learn_none(layers, &mut making, plan, request, most);
     looks.count += making.count;
 }
 
@@ -172,7 +218,7 @@ impl<A: Allocator + Copy> Settled<A> {
         ensures bound { self.new.looks.count ≤ (3 * node_count plan.now.plan.contacts + 1) * length plan.now.plan.contacts }
         ensures counted { IfOk result (λ answer. hops_told answer ≤ self.new.looks.count) }
         ensures called { self.new.calls.count ≡ self.old.calls.count + 1 }
-        ensures kept { kept.new.rungs ≡ kept.old.rungs }
+        ensures kept { IsKept plan.now request.now kept.new }
         ensures cut { IfOk result (λ answer. request.now.max_hops ≡ most_hops → self.new.looks.count ≤ (3 * (hops_told answer - length part.entry.prefix.now) + 3) * length plan.now.plan.contacts) }
         ensures longer { IfOk result (λ answer. IfSome answer (λ route. length part.entry.prefix.now < length route.contacts)) }
     {
@@ -231,7 +277,7 @@ impl<A: Allocator + Copy> Settled<A> {
         let answer = self.find(kept, plan, request, part, in_order)?;
         learn(
             &mut self.layers,
-            kept,
+            &mut kept.rungs,
             &mut self.looks,
             plan,
             request,

@@ -8,6 +8,7 @@ ghost use Rattle.sabr_model.specs.Route.{until_of, entry_of};
 ghost use Rattle.sabr_model.specs.Outgoing.{links_in, passes_in};
 ghost use Rattle.sabr_model.specs.Hops.{hop_arrival, IsSmall};
 ghost use Rattle.sabr_search.specs.Task.{IsTask};
+ghost use Rattle.sabr_search.specs.KeptAnswers.{Arrives};
 ghost use Rattle.sabr_search.specs.Linked.{AreLinksAt, AreSendersAt};
 
 use crate::finger::Finger;
@@ -129,6 +130,31 @@ impl<'a, A: Allocator + Copy> Task<'a, A> {
         ensures { result.now ≡ self.now.shut }
     {
         self.shut
+    }
+
+    /// The numbers that no way takes first.
+    pub fn excluded(&self) -> &[u32]
+        ensures { result.now ≡ self.now.excluded }
+    {
+        self.excluded
+    }
+
+    /// Where a contact leads that is taken at this second, and when, if it leads to an open node in time: one look.
+    pub fn arrive_by(&self, looks: &mut Looks, number: u32, at: u64) -> Option<Standing>
+        requires task { IsTask self.now }
+        requires few { looks.old.count < 2 ^ 62 }
+        ensures looks { looks.new.count ≡ looks.old.count + 1 }
+        ensures some { IfSome result (Arrives self.now number at) }
+    {
+        let hop = looks.hop(self.plan, number)?;
+        if self.shut[hop.receiver] {
+            return None;
+        }
+        let at = hop.arrive(self.request, at)?;
+        Some(Standing {
+            node: hop.receiver,
+            at,
+        })
     }
 
     /// Gives as many looks as one pass over all contacts takes.

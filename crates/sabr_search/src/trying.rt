@@ -3,14 +3,14 @@
 ghost use Rattle.std.specs.Prelude.{◌≡◌, ℕ, List, ◌+◌, ◌-◌, ◌*◌, ◌^◌, ◌≤◌, ◌<◌, Some, IfOk, IfSome, OnOk, OnErr, length, slice_get};
 ghost use Rattle.sabr_search.specs.Task.{IsTask, IsBehind};
 ghost use Rattle.sabr_search.specs.Late.{AreArrivals};
-ghost use Rattle.sabr_search.specs.Kept.{IsKept};
+ghost use Rattle.sabr_search.specs.Kept.{AreRungs};
 ghost use Rattle.sabr_search.specs.Told.{hops_told};
 ghost use Rattle.sabr_search.specs.Following.{tabled_of, AreFirstSteps, IsNoneBefore, IsFound};
 
-use crate::kept::Kept;
 use crate::layers::{Best, Layers, NEVER};
 use crate::looks::Looks;
 use crate::pick::Standing;
+use crate::rungs::Rungs;
 use crate::task::Task;
 use sabr_model::{NoMemory, Route};
 use std::alloc::Allocator;
@@ -30,7 +30,7 @@ fn soonest_of(first: &[Standing]) -> u64
     soonest
 }
 
-impl<A: Allocator + Copy> Kept<A> {
+impl<A: Allocator + Copy> Rungs<A> {
     /// Makes ready for layers backward: no way comes to a node before the soonest of the first steps.
     fn begin_back(&mut self, task: &Task<'_, A>) -> Result<(), NoMemory>
         requires task { IsTask task.now }
@@ -60,7 +60,7 @@ impl<A: Allocator + Copy> Kept<A> {
         requires behind { (prefix : List ℕ) × IsBehind task.now prefix }
         requires few { looks.old.count ≤ most }
         requires most { most ≤ 2 ^ 60 }
-        requires kept { IsKept (tabled_of task.now) task.now.request self.old }
+        requires kept { AreRungs (tabled_of task.now) task.now.request self.old }
         requires place { place < length self.old.rungs.items }
         requires inside { (k : ℕ) (s : Standing) → slice_get self.old.first.items k ≡ Some s → s.node < length task.now.table }
         requires first { AreFirstSteps task.now self.old.first.items }

@@ -53,3 +53,6 @@ least_beside-requires-clause-nodes g c = rw c.new-task.ensures (nodes_few c.args
 
 pub least_beside-requires-clause-kept : goal.least_beside-requires-clause-kept
 least_beside-requires-clause-kept g c = rw c.new-task.ensures c.requires.kept
+
+pub returns-clause-kept : goal.returns-clause-kept
+returns-clause-kept g c = rw c.new-task.ensures at c.least_beside.ensures.kept

@@ -1,0 +1,11 @@
+use Rattle.std.proofs.Common.{◌≡◌, refl}
+use Rattle.sabr_search.specs.KeptAnswers.{AreListed}
+use Rattle.sabr_search.proofs.KeptAnswers.{kept_is}
+use Rattle.sabr_search.proofs.answers.Answer.of.Goals as goal
+
+pub returns : goal.returns
+returns g c =
+    let task = c.args.task.now in
+    let excluded : c.extend_from_slice.new.self.items ≡ task.excluded = rw (c.in_ok-extend_from_slice.ensures.items, c.new-excluded.ensures.items, c.excluded.ensures) refl in
+    let listed : AreListed task.shut c.in_ok-shut.shut.items = rw c.shut.ensures at c.in_ok-shut.ensures in
+    kept_is task _ c.args.prefix.now c.args.answer.now c.requires.goal c.requires.answered c.start.ensures c.at.ensures excluded listed c.in_ok-way.ensures.none c.in_ok-way.ensures.some c.delivery_of.ensures

@@ -1,0 +1,377 @@
+//! Answers that are kept for later questions of the same plan and request.
+//!
+//! The answer for a node, a second, excluded numbers, shut nodes and hops left is the answer to every later question that
+//! shuts more, starts no earlier and leaves no more hops, as long as its way may be taken and delivers at the same second.
+//! Where there was none, there is none.
+
+ghost use Rattle.std.specs.Prelude.{◌≡◌, ◌+◌, ◌^◌, ◌≤◌, ◌<◌, [], Some, All, IfOk, IfSome, IfNone, IsTrue, OnErr, length, slice_get, drop};
+ghost use Rattle.sabr_search.specs.Ways.{Leads};
+ghost use Rattle.sabr_search.specs.Task.{IsTask, Takes};
+ghost use Rattle.sabr_search.specs.Told.{hops_told};
+ghost use Rattle.sabr_search.specs.Following.{tabled_of};
+ghost use Rattle.sabr_search.specs.Answers.{IsAnswered};
+ghost use Rattle.sabr_search.specs.KeptAnswers.{AllShut, AreListed, Covers, IsAnswerTo, AnswersAt, IsAnswer, IsPut};
+
+use crate::looks::Looks;
+use crate::pick::Standing;
+use crate::task::Task;
+use sabr_model::{NoMemory, Route};
+use std::alloc::{Allocator, Global};
+
+/// So many answers are kept; the oldest goes. Other numbers weren't tried.
+const SLOTS: usize = 4096;
+
+/// So many answers are compared for a question. Without a limit a native program took 65 million instructions in place of
+/// 24 for 1000 routes over a grid of 64 nodes; other limits weren't tried.
+const COMPARED: usize = 16;
+
+/// Questions that exclude more numbers aren't kept: each list is copied. Without a limit the ten thousandth route of a line
+/// of 20000 contacts took 4.25 times the instructions of a native program, in place of 1.2.
+const MOST_EXCLUDED: usize = 64;
+
+/// The place of no answer.
+const NONE: usize = usize::MAX;
+
+/// What was asked, and the answer.
+#[derive(Drop)]
+pub struct Answer<A: Allocator + Copy = Global> {
+    /// Where the search started, and when.
+    pub from: Standing,
+    /// How many hops were left.
+    pub left: usize,
+    /// The numbers that no way takes first.
+    pub excluded: Vec<u32, A>,
+    /// The indices of the nodes that were shut.
+    pub shut: Vec<usize, A>,
+    /// The contact numbers of the least way; none where there is no way.
+    pub way: Vec<u32, A>,
+    /// When the way delivers.
+    pub delivery: u64,
+    /// The place of the answer that was put into the same bucket before.
+    pub next: usize,
+}
+
+/// Answers in slots, the oldest of which is the next to go, and by bucket the place of the latest.
+///
+/// Where a bucket leads is only where to look: each answer says itself what it answers.
+#[derive(Drop)]
+pub struct Answers<A: Allocator + Copy = Global> {
+    /// Where answers take their memory.
+    alloc: A,
+    /// The answers.
+    pub slots: Vec<Answer<A>, A>,
+    /// The slot that is filled next.
+    next: usize,
+    /// By bucket the place of the latest answer.
+    heads: Vec<usize, A>,
+}
+
+/// Returns whether each of these nodes is shut.
+fn are_shut(flags: &[bool], nodes: &[usize]) -> bool
+    ensures { IsTrue result → AllShut flags.now nodes.now }
+{
+    for place in 0..nodes.len() {
+        let node = nodes[place];
+        if node >= flags.len() || !flags[node] {
+            return false;
+        }
+    }
+    true
+}
+
+/// The indices of the nodes that are shut.
+fn shut_nodes<A: Allocator + Copy>(alloc: A, flags: &[bool]) -> Result<Vec<usize, A>, NoMemory>
+    ensures { IfOk result (λ nodes. AreListed flags.now nodes.items) }
+{
+    let mut nodes = Vec::new(alloc);
+    for node in 0..flags.len() {
+        if flags[node] {
+            nodes.push(node)?;
+        }
+    }
+    Ok(nodes)
+}
+
+/// The numbers of a route after so many; none where there is no route.
+fn way_of<A: Allocator + Copy>(
+    alloc: A,
+    answer: &Option<Route<A>>,
+    prefix: usize,
+) -> Result<Vec<u32, A>, NoMemory>
+    requires { IfSome answer.now (λ route. prefix ≤ length route.contacts) }
+    ensures none { IfOk result (λ way. IfNone answer.now (way.items ≡ [])) }
+    ensures some { IfOk result (λ way. IfSome answer.now (λ route. way.items ≡ drop prefix route.contacts)) }
+{
+    let mut way = Vec::new(alloc);
+    if let Some(route) = answer {
+        let contacts = route.contacts.as_slice();
+        way.extend_from_slice(&contacts[prefix..])?;
+    }
+    Ok(way)
+}
+
+/// When a route delivers; 0 where there is none.
+fn delivery_of<A: Allocator + Copy>(answer: &Option<Route<A>>) -> u64
+    ensures { IfSome answer.now (λ route. result ≡ route.delivery) }
+{
+    match answer {
+        Some(route) => route.delivery,
+        None => 0,
+    }
+}
+
+impl<A: Allocator + Copy> Answer<A> {
+    /// Makes the answer to a question from its route after the prefix.
+    fn of(
+        alloc: A,
+        task: &Task<'_, A>,
+        prefix: &[u32],
+        left: usize,
+        next: usize,
+        answer: &Option<Route<A>>,
+    ) -> Result<Answer<A>, NoMemory>
+        requires goal { slice_get task.now.table task.now.goal ≡ Some task.now.request.destination }
+        requires answered { IsAnswered task.now prefix.now left answer.now }
+        ensures { IfOk result (IsAnswer (tabled_of task.now) task.now.request) }
+    {
+        let mut excluded = Vec::new(alloc);
+        excluded.extend_from_slice(task.excluded())?;
+        let shut = shut_nodes(alloc, task.shut())?;
+        let way = way_of(alloc, answer, prefix.len())?;
+        let from = Standing {
+            node: task.start(),
+            at: task.at(),
+        };
+        Ok(Answer {
+            from,
+            left,
+            excluded,
+            shut,
+            way,
+            delivery: delivery_of(answer),
+            next,
+        })
+    }
+
+    /// Returns whether a question starts at the same node and no earlier, excludes the same numbers, shuts these nodes,
+    /// too, and leaves no more hops.
+    fn covers(&self, task: &Task<'_, A>, left: usize) -> bool
+        ensures { IsTrue result → Covers self.now task.now left }
+    {
+        if self.from.node != task.start() || self.from.at > task.at() || left > self.left {
+            return false;
+        }
+        if self.excluded.as_slice() != task.excluded() {
+            return false;
+        }
+        are_shut(task.shut(), &self.shut)
+    }
+
+    /// Goes along its way from where a question stands, a look for each contact; returns whether it delivers at the same
+    /// second, within `most` looks.
+    fn leads(&self, task: &Task<'_, A>, looks: &mut Looks, most: u64) -> bool
+        requires task { IsTask task.now }
+        requires goal { slice_get task.now.table task.now.goal ≡ Some task.now.request.destination }
+        requires answer { IsAnswer (tabled_of task.now) task.now.request self.now }
+        requires node { self.now.from.node ≡ task.now.start }
+        requires same { self.now.excluded.items ≡ task.now.excluded }
+        requires some { 0 < length self.now.way.items }
+        requires few { looks.old.count ≤ most }
+        requires most { most ≤ 2 ^ 60 }
+        ensures looks { looks.new.count ≤ most }
+        ensures way { IsTrue result → Leads (Takes task.now) task.now.start task.now.at self.now.way.items task.now.goal self.now.delivery }
+    {
+        let mut from = Standing {
+            node: task.start(),
+            at: task.at(),
+        };
+        for place in 0..self.way.len() {
+            if looks.count >= most {
+                return false;
+            }
+            let Some(next) = task.arrive_by(looks, self.way[place], from.at) else {
+                return false;
+            };
+            from = next;
+        }
+        from.node == task.goal() && from.at == self.delivery
+    }
+
+    /// Returns whether it is the answer to a question, too, as far as `most` looks show it.
+    fn answers(&self, task: &Task<'_, A>, looks: &mut Looks, most: u64, left: usize) -> bool
+        requires task { IsTask task.now }
+        requires goal { slice_get task.now.table task.now.goal ≡ Some task.now.request.destination }
+        requires answer { IsAnswer (tabled_of task.now) task.now.request self.now }
+        requires few { looks.old.count ≤ most }
+        requires most { most ≤ 2 ^ 60 }
+        ensures looks { looks.new.count ≤ most }
+        ensures answers { IsTrue result → IsAnswerTo self.now task.now left }
+    {
+        if !self.covers(task, left) {
+            return false;
+        }
+        if self.way.is_empty() {
+            return true;
+        }
+        if self.way.len() > left {
+            return false;
+        }
+        self.leads(task, looks, most)
+    }
+}
+
+/// The bucket of a node and of the numbers that are excluded there.
+fn bucket_of(node: usize, excluded: &[u32]) -> usize {
+    let mut sum = node.wrapping_mul(7919);
+    for number in excluded {
+        sum = sum.wrapping_add(*number as usize);
+    }
+    sum % SLOTS
+}
+
+impl<A: Allocator + Copy> Answers<A> {
+    /// Begins with no answer. It has taken no memory.
+    pub fn new(alloc: A) -> Answers<A>
+        ensures { result.slots.items ≡ [] }
+    {
+        Answers {
+            alloc,
+            slots: Vec::new(alloc),
+            next: 0,
+            heads: Vec::new(alloc),
+        }
+    }
+
+    /// The place of the latest answer in a bucket.
+    fn head(&self, bucket: usize) -> usize {
+        match self.heads.get(bucket) {
+            Some(head) => *head,
+            None => NONE,
+        }
+    }
+
+    /// The place of an answer that is the answer to this question, too.
+    fn find(&self, task: &Task<'_, A>, looks: &mut Looks, most: u64, left: usize) -> Option<usize>
+        requires task { IsTask task.now }
+        requires goal { slice_get task.now.table task.now.goal ≡ Some task.now.request.destination }
+        requires kept { All (IsAnswer (tabled_of task.now) task.now.request) self.now.slots.items }
+        requires few { looks.old.count ≤ most }
+        requires most { most ≤ 2 ^ 60 }
+        ensures looks { looks.new.count ≤ most }
+        ensures some { IfSome result (λ place. AnswersAt self.now.slots.items place task.now left) }
+    {
+        let mut place = self.head(bucket_of(task.start(), task.excluded()));
+        for _ in 0..COMPARED {
+            let Some(answer) = self.slots.get(place) else {
+                return None;
+            };
+            if answer.answers(task, looks, most, left) {
+                return Some(place);
+            }
+            place = answer.next;
+        }
+        None
+    }
+
+    /// The answer to a question after the prefix, with so many hops left, if one that is kept shows it within `most` looks.
+    pub fn tell(
+        &self,
+        alloc: A,
+        task: &Task<'_, A>,
+        looks: &mut Looks,
+        most: u64,
+        prefix: &[u32],
+        left: usize,
+    ) -> Result<Option<Option<Route<A>>>, NoMemory>
+        requires task { IsTask task.now }
+        requires goal { slice_get task.now.table task.now.goal ≡ Some task.now.request.destination }
+        requires kept { All (IsAnswer (tabled_of task.now) task.now.request) self.now.slots.items }
+        requires few { looks.old.count ≤ most }
+        requires most { most ≤ 2 ^ 60 }
+        requires many { length prefix.now + left < 2 ^ 32 }
+        ensures refused { OnErr result (looks.new.count ≤ most) }
+        ensures untold { IfOk result (λ o. IfNone o (looks.new.count ≤ most)) }
+        ensures told { IfOk result (λ o. IfSome o (IsAnswered task.now prefix.now left)) }
+        ensures looks { IfOk result (λ o. IfSome o (λ answer. looks.new.count ≤ most + hops_told answer)) }
+        ensures counted { IfOk result (λ o. IfSome o (λ answer. hops_told answer ≤ looks.new.count)) }
+    {
+        if prefix.is_empty() || task.excluded().len() > MOST_EXCLUDED {
+            return Ok(None);
+        }
+        let Some(place) = self.find(task, looks, most, left) else {
+            return Ok(None);
+        };
+        let answer = &self.slots[place];
+        if answer.way.is_empty() {
+            return Ok(Some(None));
+        }
+        let mut contacts = Vec::with_capacity(alloc, prefix.len() + answer.way.len())?;
+        contacts.extend_from_slice(prefix)?;
+        contacts.extend_from_slice(&answer.way)?;
+        let route = task.record(looks, contacts, answer.delivery);
+        Ok(Some(Some(route)))
+    }
+
+    /// Makes the buckets, if there are none; returns whether there are some.
+    fn open(&mut self) -> bool
+        ensures { self.new.slots ≡ self.old.slots }
+    {
+        if self.heads.is_empty() {
+            return self.heads.resize(SLOTS, NONE).is_ok();
+        }
+        true
+    }
+
+    /// Puts an answer into the slot that is next, and returns its place; or leaves it out, where a growth is refused.
+    fn put(&mut self, answer: Answer<A>) -> Option<usize>
+        ensures { IsPut self.old.slots.items self.new.slots.items answer }
+    {
+        let place = self.next;
+        if place < self.slots.len() {
+            self.slots[place] = answer;
+        } else {
+            self.slots.push(answer).ok()?;
+        }
+        self.next = place.saturating_add(1) % SLOTS;
+        Some(place)
+    }
+
+    /// Puts an answer at the head of its bucket.
+    fn put_head(&mut self, bucket: usize, place: usize)
+        ensures { self.new.slots ≡ self.old.slots }
+    {
+        if bucket < self.heads.len() {
+            self.heads[bucket] = place;
+        }
+    }
+
+    /// Keeps the answer to a question after the prefix; or not, where a growth is refused, or too many numbers are
+    /// excluded, or the prefix is empty: no other prefix ends at the source.
+    pub fn keep(
+        &mut self,
+        task: &Task<'_, A>,
+        prefix: &[u32],
+        left: usize,
+        answer: &Option<Route<A>>,
+    )
+        requires goal { slice_get task.now.table task.now.goal ≡ Some task.now.request.destination }
+        requires kept { All (IsAnswer (tabled_of task.now) task.now.request) self.old.slots.items }
+        requires answered { IsAnswered task.now prefix.now left answer.now }
+        ensures { All (IsAnswer (tabled_of task.now) task.now.request) self.new.slots.items }
+    {
+        if prefix.is_empty() || task.excluded().len() > MOST_EXCLUDED {
+            return;
+        }
+        if !self.open() {
+            return;
+        }
+        let bucket = bucket_of(task.start(), task.excluded());
+        let next = self.head(bucket);
+        let Ok(made) = Answer::of(self.alloc, task, prefix, left, next, answer) else {
+            return;
+        };
+        if let Some(place) = self.put(made) {
+            self.put_head(bucket, place);
+        }
+    }
+}
