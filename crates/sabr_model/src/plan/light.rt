@@ -65,24 +65,37 @@ pub fn light_of_contact(ranges: &[Range], contact: &Contact) -> Option<u32>
     }
 }
 
-/// Returns the light time that these ranges state for a contact. The ranges from its sender and from its receiver are
-/// in these stretches.
+/// Guesses where the ranges stand that are in force for the next contact of a link: those written from its sender, and
+/// those written from its receiver.
+#[derive(Clone, Copy)]
+pub struct LightGuess {
+    pub ahead: usize,
+    pub back: usize,
+}
+
+/// Returns the light time that these ranges state for a contact, and guesses for the next contact of its link, made with
+/// those from the one before. The ranges from its sender and from its receiver are in these stretches.
 pub fn light_in_stretches(
     ranges: &[Range],
     of_sender: Stretch,
     of_receiver: Stretch,
     contact: &Contact,
-) -> Option<u32>
+    guess: LightGuess,
+) -> (Option<u32>, LightGuess)
     requires ranges { IsRangeList ranges.now }
     requires sender { IsStretchAmong ranges.now (length ranges.now) contact.now.from of_sender }
     requires receiver { IsStretchAmong ranges.now (length ranges.now) contact.now.to of_receiver }
-    ensures { result ≡ light_of (record { contacts = []; ranges = ranges.now; greatest = 0 }) contact.now }
+    ensures { result.0 ≡ light_of (record { contacts = []; ranges = ranges.now; greatest = 0 }) contact.now }
 {
-    match light_in_stretch(ranges, of_sender, contact.from, contact.to, contact.start) {
-        Some(light) => Some(light),
-        None if contact.from > contact.to => {
-            light_in_stretch(ranges, of_receiver, contact.to, contact.from, contact.start)
+    let (from, to, start) = (contact.from, contact.to, contact.start);
+    let (light, ahead) = light_in_stretch(ranges, of_sender, from, to, start, guess.ahead);
+    let back = guess.back;
+    match light {
+        Some(light) => (Some(light), LightGuess { ahead, back }),
+        None if from > to => {
+            let (light, back) = light_in_stretch(ranges, of_receiver, to, from, start, back);
+            (light, LightGuess { ahead, back })
         }
-        None => None,
+        None => (None, LightGuess { ahead, back }),
     }
 }

@@ -14,7 +14,7 @@ ghost use Rattle.sabr_model.specs.Stretches.{AreEnds};
 
 use super::Plan;
 use super::ends::{Ends, ends_of_contacts, index_of};
-use super::light::{light_in_stretches, light_of_contact};
+use super::light::{LightGuess, light_in_stretches, light_of_contact};
 use super::linked::{IncomingLinks, NodeLinks, incoming_links, link_nodes};
 use super::order::{ContactOrder, order_of_contacts};
 use super::stretches::stretches_of;
@@ -29,8 +29,8 @@ impl<A: Allocator + Copy> Plan<A> {
     /// Makes the plan ready for searches: from then on, until the plan changes, they find what they read of a contact in one
     /// step. The plan stays as it is; where memory is short searches answer the same, but take longer.
     ///
-    /// It takes a halving or two of one node's ranges for each contact, and some steps for each contact and node; it
-    /// sorts the contacts of a node only where those of one link weren't added in order of their starts.
+    /// It takes some steps for each contact and node, and a halving or two of one node's ranges for each link, or for a
+    /// contact where those of a link weren't added in order of their starts; only there it sorts the contacts of a node.
     pub fn make_ready(&mut self) -> Result<(), NoMemory>
         ensures { self.new ≡ self.old }
     {
@@ -111,10 +111,21 @@ fn fill<A: Allocator + Copy>(
     let stretches = stretches_of(alloc, ranges, table)?;
     hops.clear();
     hops.reserve(contacts.len())?;
+    let mut guesses = Vec::new(alloc);
+    guesses.resize(contacts.len(), LightGuess { ahead: 0, back: 0 })?;
     for place in 0..contacts.len() {
         let contact = &contacts[place];
         let Ends { from, to } = ends[place];
-        let light = light_in_stretches(ranges, stretches[from], stretches[to], contact);
+        let slot = slot_of_link(from, to, table.len(), contacts.len());
+        let guess = guesses[slot];
+        let (light, guess) = light_in_stretches(
+            ranges,
+            stretches[from],
+            stretches[to],
+            contact,
+            guess,
+        );
+        guesses[slot] = guess;
         hops.push(Hop {
             start: contact.start,
             end: contact.end,
@@ -123,6 +134,15 @@ fn fill<A: Allocator + Copy>(
         })?;
     }
     Ok(())
+}
+
+/// Where the guesses of the link between two of so many nodes stand among `slots`. Two links may share a slot, which
+/// only makes their guesses worse.
+fn slot_of_link(from: usize, to: usize, nodes: usize, slots: usize) -> usize
+    requires { 0 < slots }
+    ensures { result < slots }
+{
+    from.wrapping_mul(nodes).wrapping_add(to) % slots
 }
 
 /// Gives the ends of each contact: those that are known, or else all looked up.

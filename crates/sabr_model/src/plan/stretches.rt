@@ -7,7 +7,7 @@ ghost use Rattle.sabr_model.specs.RangeOrder.{IsRangeList};
 ghost use Rattle.sabr_model.specs.Light.{light_of_pair};
 ghost use Rattle.sabr_model.specs.Stretches.{IsStretchAmong, AreStretches};
 
-use super::ranges::light_in_force;
+use super::ranges::light_near;
 use crate::contact::Range;
 use crate::node_table::NodeTable;
 use std::alloc::{AllocError, Allocator};
@@ -70,18 +70,19 @@ fn with_run(stretch: Stretch, first: usize, end: usize) -> Stretch
     }
 }
 
-/// Gives the light time of the range of this ordered pair that is in force at `t`, where the ranges from `one` stand in
-/// the stretch.
+/// The light time of the range of this ordered pair that is in force at `t`, where the ranges from `one` stand in the
+/// stretch, and a guess where those in force soon after `t` stand, made with such a guess.
 pub fn light_in_stretch(
     ranges: &[Range],
     stretch: Stretch,
     one: u64,
     other: u64,
     t: u64,
-) -> Option<u32>
+    guess: usize,
+) -> (Option<u32>, usize)
     requires list { IsRangeList ranges.now }
     requires stretch { IsStretchAmong ranges.now (length ranges.now) one stretch }
-    ensures { result ≡ light_of_pair ranges.now one other t }
+    ensures { result.0 ≡ light_of_pair ranges.now one other t }
 {
-    light_in_force(&ranges[stretch.first..stretch.end], one, other, t)
+    light_near(&ranges[stretch.first..stretch.end], one, other, t, guess)
 }

@@ -32,7 +32,7 @@ loop-place-preserved g c =
     let hops = c.loop-place.hops.items in
     let many = c.loop-place.invariant.as_many in
     let p : TabledPlan = record { plan = record { contacts = []; ranges = c.args.ranges.now; greatest = 0 }; table = keys c.args.table.now } in
-    let hop : Hop = record { start = (get_or cs (length hops) none).start; end = (get_or cs (length hops) none).end; receiver = (get_or c.args.ends.now (length hops) no_ends).to; light = c.light_in_stretches-light.result } in
+    let hop : Hop = record { start = (get_or cs (length hops) none).start; end = (get_or cs (length hops) none).end; receiver = (get_or c.args.ends.now (length hops) no_ends).to; light = c.light_in_stretches-light.result.0 } in
     let here : IsHopOf p (get_or cs (length hops) none) hop =
     record {
       start = refl;
