@@ -34,6 +34,7 @@ pub mod Excluding
 pub mod Splits
 pub mod Found
 pub mod Refined
+pub mod Indexed
 pub mod Divided
 pub mod Sounds
 pub mod Merged
@@ -50,3 +51,4 @@ pub mod StandingPages
 pub mod PlacesFormed
 pub mod Placed
 pub mod Verdicts
+pub mod Settled

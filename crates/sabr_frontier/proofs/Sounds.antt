@@ -18,7 +18,7 @@ use Rattle.sabr_frontier.specs.declared.tree.Node.{Node}
 use Rattle.sabr_frontier.specs.State.{Member}
 use Rattle.sabr_frontier.specs.Listing.{IsState, leaves_in}
 use Rattle.sabr_frontier.specs.Shape.{Shape, shown, route_at}
-use Rattle.sabr_frontier.specs.Undo.{modify, front, last_item, undone, without, CanUndo}
+use Rattle.sabr_frontier.specs.Undo.{modify, front, last_item, undone, without, CanUndo, IsIndexed}
 use Rattle.sabr_frontier.specs.Best.{best_of}
 use Rattle.sabr_frontier.specs.Queue.{IsNotBetter, IsAtOrBehind, InPairs}
 use Rattle.sabr_frontier.specs.Taking.{put_behind, beats, enqueued, enqueued_by, enqueued_all, passing, stands_before, widened, wide_of, fresh_nodes, ids_from, divided}
@@ -36,6 +36,7 @@ use Rattle.sabr_frontier.proofs.Takes.{Passes, filter_all, take_front, undone-af
 use Rattle.sabr_frontier.proofs.Nodes.{pair_across, get_within, get_Member, get_at_end, get_same, modify_cases, member_cut, member_taken, member_dropped, pairs_front, same_node, ids_cases, ids_has}
 use Rattle.sabr_frontier.proofs.Splits.{lent_stable}
 use Rattle.sabr_frontier.proofs.Refined.{route_there, queue_is, node_within, rest_other, rest_queued, rest_within, kept_route, rest_order, here, here_in, cut, can_exclude, carried_there, record_is}
+use Rattle.sabr_frontier.proofs.Indexed.{tree_indexed}
 use Rattle.sabr_frontier.proofs.Divided.{shown_divided}
 
 -- ---- who is in a queue
@@ -137,7 +138,7 @@ fresh_lent {A} p r leaves leaf x is q (y ∷ rest) n e (inl h) =
     inr (x, ap (slice_get leaves) l ∙ is, omega (arith, d, ap length e, length-append q (y ∷ rest)))
 fresh_lent p r leaves leaf x is q (y ∷ rest) n e (inr m) = fresh_lent p r leaves leaf x is (q ++ y ∷ []) rest n (e ∙ sym (append_assoc q (y ∷ []) rest)) m
 
-passes_from : {X : Type 0} (test : X → Bool) (xs : List X) → ((x : X) → Member x xs → test x ≡ true) → Passes test xs
+pub passes_from : {X : Type 0} (test : X → Bool) (xs : List X) → ((x : X) → Member x xs → test x ≡ true) → Passes test xs
 passes_from test [] f = tt
 passes_from test (x ∷ xs) f = (f x (inl refl), passes_from test xs (λ y m. f y (inr m)))
 
@@ -336,5 +337,6 @@ module _ {A : Type 0} (p : ContactPlan) (r : RouteRequest) (good : IsPlan p) (t 
         let h = pair_across (IsAtOrBehind t.nodes) (front t.queue) (node ∷ []) id node (subst (InPairs (IsAtOrBehind t.nodes)) (queue_is p r t is node last) is.falls) k (inl refl) in
         let P : Option RouteRecord × Option RouteRecord → Type 0 = λ w. IsNotBetter w.0 w.1 in
         subst P (λ i. (sym (kept_route p r t is node last wide found new id (rest_within p r t is node last id k) (rest_other p r t is node last id k)) i, route_there t.nodes node n x stands carries i)) h;
+    indexed = subst IsIndexed (sym undone_divided) (tree_indexed p r t is);
     places = let e = ap (length {A = NodeId}) (keep_others ∙ filter_all (λ (id : NodeId). nat_lt id.0 N && not (nat_eq id.0 node.0)) (front t.queue) older) in omega (arith, e, few, is.short);
   }

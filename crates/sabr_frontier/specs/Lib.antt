@@ -10,6 +10,7 @@ pub mod Waiting
 pub mod Shape
 pub mod Undo
 pub mod Queue
+pub mod Index
 pub mod Ranking
 pub mod Best
 pub mod Taking

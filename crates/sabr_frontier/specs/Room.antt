@@ -30,7 +30,8 @@ pub record HasPlaces {A : Type 0} (q : Queue A) (m : ℕ) : Type 0 where
 -- for one route given and m new nodes
 pub record HasRoom {A : Type 0} (t : Tree A) (m : ℕ) : Type 0 where
   pub nodes : vec_len t.nodes + m ≤ vec_capacity t.nodes
-  pub index : vec_len t.index + m ≤ vec_capacity t.index
+  pub index : vec_len t.nodes + m ≤ vec_capacity t.index
+  pub added : vec_len t.nodes + m ≤ vec_len t.index + vec_capacity t.late
   pub queue : vec_len t.nodes + m ≤ vec_capacity t.queue.placed
   pub late : 256 ≤ vec_capacity t.queue.late
   pub leaves : vec_len t.leaves < vec_capacity t.leaves

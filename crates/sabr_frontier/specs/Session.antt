@@ -55,6 +55,7 @@ pub record IsSession {A : Type 0} (plan : TabledPlan) (request : RouteRequest) (
   pub limits : IsRequest request
   pub sound : IsSound plan.plan request (shape_of tree)
   pub starts : AreStarts (reverse pages) (length tree.journal.items)
+  pub index : tree.index.items ≡ (shape_of tree).index
   pub room : IsRoomy tree
   pub tables : IsKept plan request kept
 

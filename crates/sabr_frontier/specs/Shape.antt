@@ -1,6 +1,9 @@
 -- What a tree is made of, and the state that it stands for.
-use Rattle.std.specs.Prelude.{ℕ, List, [], map, length, take, Option, Some, None, slice_get}
+use Rattle.std.specs.Prelude.{ℕ, zero, suc, Bool, List, [], ◌∷◌, map, length, take, Option, Some, None, slice_get}
 use Rattle.std.specs.Option.{option_map}
+use Rattle.std.specs.Ordering.{is_lt}
+use Rattle.std.specs.declared.cmp.Ordering.{Ordering}
+use Rattle.sabr_model.specs.Order.{by_numbers, in_order}
 use Rattle.sabr_model.specs.Record.{RouteRecord}
 use Rattle.sabr_frontier.specs.declared.tree.NodeId.{NodeId}
 use Rattle.sabr_frontier.specs.declared.tree.Node.{Node}
@@ -18,9 +21,6 @@ pub record Shape (A : Type 0) : Type 0 where
   pub leaves : List RouteRecord
   pub last : Option ℕ
   pub journal : List Entry
-
-abbrev pub shape_of : {A : Type 0} → Tree A → Shape A
-shape_of t = record { nodes = t.nodes.items; index = t.index.items; queue = waiting t.nodes.items t.queue; leaves = t.leaves.items; last = t.last; journal = t.journal.items }
 
 -- the first n numbers of a route
 abbrev pub front_of : Option RouteRecord → ℕ → List ℕ
@@ -47,6 +47,27 @@ part_of leaves None = record { prefix = []; excluded = []; carried = None }
 
 abbrev pub part_at : {A : Type 0} → List RouteRecord → List (Node A) → NodeId → PartState
 part_at leaves nodes id = part_of leaves (slice_get nodes id.0)
+
+-- count nodes, from first on
+abbrev pub ids_from : ℕ → ℕ → List NodeId
+ids_from first zero = []
+ids_from first (suc n) = record { 0 = first } ∷ ids_from (suc first) n
+
+-- the node's prefix is below the list
+abbrev pub stands_before : {A : Type 0} → List RouteRecord → List (Node A) → List ℕ → NodeId → Bool
+stands_before leaves nodes q id = is_lt (by_numbers (part_at leaves nodes id).prefix q)
+
+-- the order of two nodes' prefixes
+abbrev pub by_prefix : {A : Type 0} → List RouteRecord → List (Node A) → NodeId → NodeId → Ordering
+by_prefix leaves nodes a b = by_numbers (part_at leaves nodes a).prefix (part_at leaves nodes b).prefix
+
+-- all nodes in order of prefix
+unfoldable pub order_of : {A : Type 0} → List RouteRecord → List (Node A) → List NodeId
+order_of leaves nodes = in_order (by_prefix leaves nodes) (ids_from 0 (length nodes))
+
+-- its index is that of all nodes, at each time
+abbrev pub shape_of : {A : Type 0} → Tree A → Shape A
+shape_of t = record { nodes = t.nodes.items; index = order_of t.leaves.items t.nodes.items; queue = waiting t.nodes.items t.queue; leaves = t.leaves.items; last = t.last; journal = t.journal.items }
 
 -- the route of the leaf with this number
 abbrev pub given_at : List RouteRecord → Option ℕ → List ℕ

@@ -1,24 +1,20 @@
 -- What a tree is once its least carried route is given.
-use Rattle.std.specs.Prelude.{ℕ, ◌+◌, ◌-◌, zero, suc, Bool, List, [], ◌∷◌, ◌++◌, length, take, drop, Option, Some, None, slice_index, slice_get, if◌then◌else◌}
-use Rattle.std.specs.Ordering.{nat_cmp, is_lt}
+use Rattle.std.specs.Prelude.{ℕ, ◌+◌, ◌-◌, suc, Bool, List, [], ◌∷◌, ◌++◌, length, take, drop, Option, Some, None, slice_index, slice_get, if◌then◌else◌}
+use Rattle.std.specs.Ordering.{nat_cmp}
 use Rattle.std.specs.Option.{option_and_then}
-use Rattle.sabr_model.specs.Order.{put_in, by_numbers}
+use Rattle.sabr_model.specs.Order.{put_in}
 use Rattle.sabr_model.specs.Plan.{ContactPlan}
 use Rattle.sabr_model.specs.Arrival.{RouteRequest}
 use Rattle.sabr_model.specs.Record.{RouteRecord}
 use Rattle.sabr_frontier.specs.declared.tree.NodeId.{NodeId}
 use Rattle.sabr_frontier.specs.declared.tree.Node.{Node}
-use Rattle.sabr_frontier.specs.Shape.{Shape, part_at, route_at}
+use Rattle.sabr_frontier.specs.Shape.{Shape, route_at}
+pub use Rattle.sabr_frontier.specs.Shape.{ids_from, stands_before}
 pub use Rattle.sabr_frontier.specs.Waiting.{put_behind, beats, enqueued_by, enqueued}
 use Rattle.sabr_frontier.specs.Undo.{modify, last_item, front}
 use Rattle.sabr_frontier.specs.Best.{best_of}
 
 -- ---- places in lists
-
--- count nodes, from first on
-abbrev pub ids_from : ℕ → ℕ → List NodeId
-ids_from first zero = []
-ids_from first (suc n) = record { 0 = first } ∷ ids_from (suc first) n
 
 -- how many in front pass the test
 abbrev pub passing : {X : Type 0} → (X → Bool) → List X → ℕ
@@ -29,11 +25,7 @@ passing test (x ∷ xs) = if test x then suc (passing test xs) else 0
 abbrev pub with_block : {X : Type 0} → ℕ → List X → List X → List X
 with_block place block xs = take place xs ++ block ++ drop place xs
 
--- ---- the index and the queue
-
--- the node's prefix is below the list
-abbrev pub stands_before : {A : Type 0} → List RouteRecord → List (Node A) → List ℕ → NodeId → Bool
-stands_before leaves nodes q id = is_lt (by_numbers (part_at leaves nodes id).prefix q)
+-- ---- the queue
 
 -- each of these, one after another
 abbrev pub enqueued_all : {A : Type 0} → List (Node A) → List NodeId → List NodeId → List NodeId
@@ -55,22 +47,22 @@ widened wide found n = record n { excluded = wide; route = found }
 abbrev pub nodes_then : {A : Type 0} → List (Node A) → NodeId → List ℕ → Option RouteRecord → List (Node A) → List (Node A)
 nodes_then nodes node wide found fresh = modify (widened wide found) nodes node.0 ++ fresh
 
--- the tree once the node's route x is given, with these nodes, of which so many new ones stand at a place of the index
-abbrev pub changed_by : {A : Type 0} → Shape A → NodeId → RouteRecord → ℕ → List (Node A) → ℕ → Shape A
-changed_by t node x place nodes count =
+-- the tree once the node's route x is given, with this index and these nodes, of which so many are new
+abbrev pub changed_by : {A : Type 0} → Shape A → NodeId → RouteRecord → List NodeId → List (Node A) → ℕ → Shape A
+changed_by t node x index nodes count =
     let block = ids_from (length t.nodes) count in
     record {
       nodes = nodes;
-      index = with_block place block t.index;
+      index = index;
       queue = enqueued_all nodes (node ∷ block) (front t.queue);
       leaves = t.leaves ++ x ∷ [];
       last = Some (length t.leaves);
       journal = t.journal ++ record { node = node; nodes = length t.nodes; last = t.last } ∷ [];
     }
 
--- that for what the searches found
+-- that for what the searches found: the new nodes stand at a place of the index
 abbrev pub divided_by : {A : Type 0} → Shape A → NodeId → RouteRecord → ℕ → List ℕ → Option RouteRecord → List (Node A) → Shape A
-divided_by t node x place wide found fresh = changed_by t node x place (nodes_then t.nodes node wide found fresh) (length fresh)
+divided_by t node x place wide found fresh = changed_by t node x (with_block place (ids_from (length t.nodes) (length fresh)) t.index) (nodes_then t.nodes node wide found fresh) (length fresh)
 
 -- the numbers that the node excludes then, the front of the route that its new parts begin with, and the rest
 abbrev pub wide_of : {A : Type 0} → Node A → List ℕ → List ℕ

@@ -1,17 +1,19 @@
 -- What the undo of a route leaves, and when it can be undone.
-use Rattle.std.specs.Prelude.{◌≡◌, ℕ, ◌-◌, ◌<◌, ◌≤◌, ◌&&◌, zero, suc, not, nat_lt, nat_eq, List, [], ◌∷◌, ◌++◌, length, take, Option, Some, None, slice_index, slice_index_or, slice_get, vec_capacity}
+use Rattle.std.specs.Prelude.{◌≡◌, ℕ, ◌-◌, ◌+◌, ◌<◌, ◌≤◌, ◌&&◌, zero, suc, not, nat_lt, nat_eq, List, [], ◌∷◌, ◌++◌, length, take, Option, Some, None, slice_index, slice_index_or, slice_get, vec_len, vec_capacity}
 use Rattle.std.specs.List.{filter}
 use Rattle.sabr_model.specs.Record.{RouteRecord}
 use Rattle.sabr_frontier.specs.declared.tree.NodeId.{NodeId}
 use Rattle.sabr_frontier.specs.declared.tree.Node.{Node}
 use Rattle.sabr_frontier.specs.declared.tree.Entry.{Entry}
 use Rattle.sabr_frontier.specs.declared.tree.Tree.{Tree}
-use Rattle.sabr_frontier.specs.Shape.{Shape, route_at}
+use Rattle.sabr_frontier.specs.Shape.{Shape, order_of, route_at}
 use Rattle.sabr_frontier.specs.State.{Member}
 use Rattle.sabr_frontier.specs.Queue.{IsQueue, IsNotBetter}
 
--- the queue is one of its nodes, and has places for every node
+-- the queue is one of its nodes, and has places for every node, as the index has, and the room for those that it lacks
 pub record IsRoomy {A : Type 0} (t : Tree A) : Type 0 where
+  pub index : length t.nodes.items ≤ vec_capacity t.index
+  pub added : length t.nodes.items ≤ vec_len t.index + vec_capacity t.late
   pub places : length t.nodes.items ≤ vec_capacity t.queue.placed
   pub queue : IsQueue t.nodes.items t.queue
 
@@ -65,7 +67,17 @@ undone_times (suc n) t = undone_times n (undone t)
 abbrev pub IsLonger : {A : Type 0} → List (Node A) → ℕ → RouteRecord → Type 0
 IsLonger {A} nodes i r = (n : Node A) → (slice_index_or nodes i n).length < length r.contacts
 
--- what the undo reads is there, the queue becomes no longer than the nodes, and none of it is better than the route
+-- the index is that of all nodes
+abbrev pub IsIndexed : {A : Type 0} → Shape A → Type 0
+IsIndexed t = t.index ≡ order_of t.leaves t.nodes
+
+-- the tree's index is what these ids leave of its nodes, and none of them is left out
+pub record IsIndexBack {A : Type 0} (t : Shape A) (ids : List NodeId) : Type 0 where
+  pub index : t.index ≡ filter (λ (id : NodeId). nat_lt id.0 (length t.nodes)) ids
+  pub whole : length t.nodes ≤ length t.index
+
+-- what the undo reads is there, the queue becomes no longer than the nodes, and none of it is better than the route;
+-- the index then is that of all nodes
 pub record CanUndo {A : Type 0} (t : Shape A) : Type 0 where
   pub entry : Entry
   pub route : RouteRecord
@@ -75,6 +87,7 @@ pub record CanUndo {A : Type 0} (t : Shape A) : Type 0 where
   pub counted : entry.nodes ≤ length t.nodes
   pub longer : IsLonger (take entry.nodes t.nodes) entry.node.0 route
   pub places : length (others entry t.queue) < entry.nodes
+  pub indexed : IsIndexed (undone t)
   pub behind : (id : NodeId) → Member id (others entry t.queue) → IsNotBetter (route_at t.nodes id) (Some route)
 
 abbrev pub CanUndoTimes : {A : Type 0} → ℕ → Shape A → Type 0

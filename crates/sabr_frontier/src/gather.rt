@@ -42,6 +42,7 @@ impl<A: Allocator + Copy> Tree<A> {
         ensures sound { IsSound plan.now.plan request.now (shape_of self.new) }
         ensures longer { length self.old.journal.items ≤ length self.new.journal.items }
         ensures back { tree_before (length self.old.journal.items) (shape_of self.new) ≡ shape_of self.old }
+        ensures index { self.new.index.items ≡ self.old.index.items }
         ensures room { IsRoomy self.new }
         ensures kept { IsKept plan.now request.now kept.new }
     {

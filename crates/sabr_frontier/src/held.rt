@@ -4,16 +4,16 @@ ghost use Rattle.std.specs.Prelude.{◌≡◌, [], true, ◌&&◌, ◌<◌, ◌�
 ghost use Rattle.std.specs.Option.{option_map_or};
 ghost use Rattle.sabr_model.specs.Order.{numbers_before};
 ghost use Rattle.sabr_frontier.specs.Shape.{shape_of};
-ghost use Rattle.sabr_frontier.specs.Undo.{IsRoomy, front, last_item};
+ghost use Rattle.sabr_frontier.specs.Undo.{IsIndexed, IsRoomy, front, last_item};
 ghost use Rattle.sabr_frontier.specs.Loading.{comes_behind, rise_strictly};
 ghost use Rattle.sabr_frontier.specs.Leading.{AreOwed, IsLead};
 ghost use Rattle.sabr_frontier.specs.Holding.{HasPlaces, IsLastPlace, IsTakenIn, IsVerdict, IsWrongLast, held_then, holding_of, is_due, is_paid, last_prefix, loaded_tree, nothing_held, parts_in, with_node};
 
 use crate::excluded::{Excluded, rise};
 use crate::ghost_lists::GhostLists;
+use crate::index::push_block;
 use crate::judge::{Judged, judge};
 use crate::leading::{Lead, Owed};
-use crate::places::insert_block;
 use crate::queue::Queue;
 use crate::ranking::enqueue_each;
 use crate::tree::{Node, Tree};
@@ -262,7 +262,9 @@ impl<A: Allocator + Copy> Held<A> {
 
     /// Gives the tree of the parts.
     pub fn into_tree(self, alloc: A, last: Option<usize>) -> Result<Tree<A>, NoMemory>
+        requires { IsIndexed (loaded_tree (holding_of self) last) }
         ensures shape { IfOk result (λ t. shape_of t ≡ loaded_tree (holding_of self) last) }
+        ensures index { IfOk result (λ t. t.index.items ≡ (shape_of t).index) }
         ensures room { IfOk result IsRoomy }
     {
         let count = self.nodes.len();
@@ -273,11 +275,12 @@ impl<A: Allocator + Copy> Held<A> {
         let Ok(()) = queue.placed.reserve(count) else {
             return Err(NoMemory);
         };
-        insert_block(&mut index, 0, 0, count);
+        push_block(&mut index, 0, count);
         enqueue_each(alloc, self.nodes.as_slice(), &mut queue.placed)?;
         Ok(Tree {
             nodes: self.nodes,
             index,
+            late: Vec::new(alloc),
             queue,
             leaves: self.leaves,
             last,

@@ -10,6 +10,7 @@ mod finder;
 mod gather;
 mod ghost_lists;
 mod held;
+mod index;
 mod judge;
 mod laws;
 mod leading;

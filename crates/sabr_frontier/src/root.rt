@@ -15,6 +15,7 @@ impl<A: Allocator + Copy> Tree<A> {
     /// Gives one part with all routes, which carries the best of them.
     pub fn root(alloc: A, found: Option<Route<A>>) -> Result<Tree<A>, NoMemory>
         ensures shape { IfOk result (λ t. shape_of t ≡ root found) }
+        ensures index { IfOk result (λ t. t.index.items ≡ (shape_of t).index) }
         ensures room { IfOk result IsRoomy }
     {
         let mut nodes = Vec::new(alloc);
@@ -42,6 +43,7 @@ impl<A: Allocator + Copy> Tree<A> {
         Ok(Tree {
             nodes,
             index,
+            late: Vec::new(alloc),
             queue,
             leaves: Vec::new(alloc),
             last: None,

@@ -96,6 +96,7 @@ impl<'p, B: BestOf<A>, A: Allocator + Copy> Session<'p, B, A> {
         requires limits { IsRequest request }
         requires sound { IsTree plan.now.plan request (shape_of tree) }
         requires fresh { tree.journal.items ≡ [] }
+        requires index { tree.index.items ≡ (shape_of tree).index }
         requires room { IsRoomy tree }
         ensures { result ≡ record { plan = plan.now; request = request; state = shown (shape_of tree); former = []; searches = 0; calls = B.calls_of finder } }
     {
@@ -153,6 +154,7 @@ impl<'p, B: BestOf<A>, A: Allocator + Copy> Session<'p, B, A> {
             &mut given,
         ) {
             Ok(searches) => {
+                self.tree.settle(self.alloc);
                 self.pages.push_reserved(start);
                 self.searches = searches;
                 Ok(given)

@@ -6,24 +6,20 @@ ghost use Rattle.sabr_model.specs.Record.{RouteRecord};
 ghost use Rattle.sabr_search.specs.Kept.{IsKept};
 ghost use Rattle.sabr_frontier.specs.Shape.{shape_of, route_at};
 ghost use Rattle.sabr_frontier.specs.Undo.{IsRoomy};
-ghost use Rattle.sabr_frontier.specs.Queue.{InPairs, IsBefore};
 ghost use Rattle.sabr_frontier.specs.Taking.{least_route, taken, new_count};
 ghost use Rattle.sabr_frontier.specs.Sound.{IsTree};
 ghost use Rattle.sabr_frontier.specs.Prepared.{IsReady};
 
 use crate::divide::{copied, divide, numbers};
-use crate::places::index_place;
 use crate::tree::{Node, NodeId, Tree};
 use sabr_model::{NoMemory, Plan, Request, Route};
 use sabr_search::{BestOf, Kept};
 use std::alloc::{Allocator, Global};
 
-/// What is known before the tree changes: a copy of the route, the place of the new nodes in the index, and how many
-/// there will be.
+/// What is known before the tree changes: a copy of the route, and how many new nodes there will be.
 #[derive(Debug, Drop)]
 pub struct Prepared<A: Allocator + Copy = Global> {
     pub route: Route<A>,
-    pub place: usize,
     pub count: usize,
 }
 
@@ -32,7 +28,6 @@ impl<A: Allocator + Copy> Tree<A> {
     fn prepare(&self, alloc: A, node: NodeId) -> Result<Prepared<A>, NoMemory>
         requires in_range { node.0 < vec_len self.now.nodes }
         requires carries { IsSome (route_at self.now.nodes.items node) }
-        requires order { InPairs (IsBefore self.now.leaves.items self.now.nodes.items) self.now.index.items }
         requires longer { (n : Node A) (x : RouteRecord) → slice_get self.now.nodes.items node.0 ≡ Some n → n.route ≡ Some x → n.length < length x.contacts }
         ensures ready { IfOk result (IsReady (shape_of self.now) node) }
     {
@@ -40,21 +35,9 @@ impl<A: Allocator + Copy> Tree<A> {
         let Some(route) = &part.route else {
             unreachable!()
         };
-        let contacts = numbers(route);
-        let first = part.length + 1;
-        let place = index_place(
-            self.leaves.as_slice(),
-            self.nodes.as_slice(),
-            self.index.as_slice(),
-            &contacts[..first],
-        );
-        let count = contacts.len() - first;
+        let count = numbers(route).len() - (part.length + 1);
         let copy = copied(alloc, route)?;
-        Ok(Prepared {
-            route: copy,
-            place,
-            count,
-        })
+        Ok(Prepared { route: copy, count })
     }
 
     /// Gives the least route that a node carries, and answers how many searches that took. Room for all comes first;
@@ -78,6 +61,7 @@ impl<A: Allocator + Copy> Tree<A> {
         ensures count { IfOk result (λ n. n ≡ new_count (shape_of self.old)) }
         ensures called { IfOk result (λ n. B.calls_of finder.new ≡ B.calls_of finder.old + n) }
         ensures err { OnErr result (shape_of self.new ≡ shape_of self.old) }
+        ensures index { self.new.index.items ≡ self.old.index.items }
         ensures kept { IsKept plan.now request.now kept.new }
         ensures room { IsRoomy self.new }
     {
@@ -102,7 +86,7 @@ impl<A: Allocator + Copy> Tree<A> {
         )?;
         let count = prepared.count as u64 + 1;
         given.push_reserved(prepared.route);
-        self.change(node, prepared.place, division);
+        self.change(node, division);
         Ok(count)
     }
 }

@@ -31,14 +31,16 @@ pub struct Entry {
     pub last: Option<usize>,
 }
 
-/// The nodes; their numbers in order of prefix; those that carry a route, in order; the routes
-/// given; the last of them; and an entry for each route that can be taken back.
+/// The nodes; their numbers in order of prefix, without those of the page that is made; those that carry a route, in
+/// order; the routes given; the last of them; and an entry for each route that can be taken back.
 #[derive(Debug, Drop)]
 pub struct Tree<A: Allocator + Copy = Global> {
     /// The parts, in the order in which they were made.
     pub nodes: Vec<Node<A>, A>,
-    /// Their numbers in order of prefix.
+    /// Their numbers in order of prefix. While a page is made, its nodes are left out.
     pub index: Vec<NodeId, A>,
+    /// Room for the numbers of a page's nodes, until they are put among the others. Else empty.
+    pub late: Vec<NodeId, A>,
     /// Those that carry a route, in order.
     pub queue: Queue<A>,
     /// The routes given, in the order of the parts that they made.

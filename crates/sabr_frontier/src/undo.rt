@@ -3,7 +3,7 @@
 ghost use Rattle.std.specs.Prelude.{◌≡◌, ℕ, ◌-◌, ◌<◌, ◌≤◌, ◌&&◌, not, nat_lt, nat_eq, List, [], ◌∷◌, ◌++◌, length, vec_len, vec_capacity};
 ghost use Rattle.std.specs.List.{filter};
 ghost use Rattle.sabr_frontier.specs.Shape.{shape_of};
-ghost use Rattle.sabr_frontier.specs.Undo.{CanUndo, CanUndoTimes, IsLonger, IsRoomy, undone, undone_times, given_back, modify};
+ghost use Rattle.sabr_frontier.specs.Undo.{CanUndo, CanUndoTimes, IsIndexBack, IsLonger, IsRoomy, undone, undone_times, given_back, modify};
 
 use crate::tree::{Node, NodeId, Tree};
 use sabr_model::Route;
@@ -44,6 +44,7 @@ impl<A: Allocator + Copy> Tree<A> {
         requires possible { CanUndo (shape_of self.old) }
         requires room { IsRoomy self.old }
         ensures former { shape_of self.new ≡ undone (shape_of self.old) }
+        ensures index { self.new.index.items ≡ self.old.index.items }
         ensures room { IsRoomy self.new }
     {
         let Some(entry) = self.journal.pop() else {
@@ -54,21 +55,35 @@ impl<A: Allocator + Copy> Tree<A> {
         };
         self.nodes.truncate(entry.nodes);
         give_back(&mut self.nodes, entry.node, route);
-        keep_below(&mut self.index, entry.nodes);
         self.queue.keep_others(entry.nodes, entry.node);
         put_back(&mut self.queue.placed, entry.node);
         self.last = entry.last;
     }
 
-    /// Takes routes back until the journal has as many entries as it had then. It needs no memory.
-    pub fn undo_to(&mut self, start: usize)
+    /// Takes routes back until the journal has as many entries as it had then. It needs no memory, and leaves the index
+    /// as it was.
+    fn undo_each(&mut self, start: usize)
         requires possible { CanUndoTimes (length self.old.journal.items - start) (shape_of self.old) }
         requires room { IsRoomy self.old }
         ensures former { shape_of self.new ≡ undone_times (length self.old.journal.items - start) (shape_of self.old) }
+        ensures index { self.new.index.items ≡ self.old.index.items }
         ensures room { IsRoomy self.new }
     {
         while self.journal.len() > start {
             self.undo();
         }
+    }
+
+    /// Takes routes back until the journal has as many entries as it had then. It needs no memory.
+    pub fn undo_to(&mut self, start: usize)
+        requires possible { CanUndoTimes (length self.old.journal.items - start) (shape_of self.old) }
+        requires index { IsIndexBack (undone_times (length self.old.journal.items - start) (shape_of self.old)) self.old.index.items }
+        requires room { IsRoomy self.old }
+        ensures former { shape_of self.new ≡ undone_times (length self.old.journal.items - start) (shape_of self.old) }
+        ensures index { self.new.index.items ≡ (shape_of self.new).index }
+        ensures room { IsRoomy self.new }
+    {
+        self.undo_each(start);
+        keep_below(&mut self.index, self.nodes.len());
     }
 }

@@ -3,9 +3,10 @@ use Rattle.sabr_frontier.specs.Listing.{IsState}
 use Rattle.sabr_frontier.specs.Loading.{IsClosedState, IsCounted, Loaded, state_with}
 use Rattle.sabr_frontier.specs.Shape.{shown}
 use Rattle.sabr_frontier.specs.Sound.{IsTree}
-use Rattle.sabr_frontier.specs.Holding.{IsLastPlace, IsWrongLast, holding_of}
+use Rattle.sabr_frontier.specs.Holding.{IsLastPlace, IsWrongLast, holding_of, loaded_tree}
 use Rattle.sabr_frontier.proofs.Answering.{paid_closed, unpaid_open}
 use Rattle.sabr_frontier.proofs.Loads.{formed_then, loaded_is_tree, shown_then, wrong_count}
+use Rattle.sabr_frontier.proofs.Indexed.{tree_indexed}
 use Rattle.sabr_frontier.proofs.loader.Loader.finish.Goals as goal
 
 pub returns-then-not-is_paid-clause-err : goal.returns-then-not-is_paid-clause-err
@@ -39,6 +40,18 @@ returns-in_default-into_tree-clause-err g c =
     let at = subst (λ xs. IsLastPlace xs emitted last c.in-Some.last) c.as_slice.ensures.value c.in-Some.ensures.some in
     subst (λ (v : Loaded). IsState v.plan.plan v.request (state_with v.parts emitted last)) c.self.view_is
     (formed_then p r h c.self.invariant.held paid emitted last c.in-Some.last at)
+
+pub into_tree-requires : goal.into_tree-requires
+into_tree-requires g c =
+    let s = c.self.inside in
+    let p = s.plan.now.plan in
+    let r = s.request in
+    let h = holding_of s.held in
+    let emitted = c.args.emitted in
+    let last = c.args.last.now in
+    let paid = sym c.is_paid.ensures ∙ c.if-not-is_paid.false in
+    let at = subst (λ xs. IsLastPlace xs emitted last c.in-Some.last) c.as_slice.ensures.value c.in-Some.ensures.some in
+    tree_indexed p r (loaded_tree h c.in-Some.last) (loaded_is_tree p r h c.self.invariant.held paid emitted last c.in-Some.last at)
 
 pub of_tree-requires-clause-sound : goal.of_tree-requires-clause-sound
 of_tree-requires-clause-sound g c =

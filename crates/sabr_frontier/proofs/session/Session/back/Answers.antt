@@ -2,12 +2,21 @@ use Rattle.std.proofs.Common.{◌-◌, ◌<◌, length, reverse, arith, ap, sym,
 use Rattle.sabr_frontier.specs.Shape.{Shape, shape_of}
 use Rattle.sabr_frontier.specs.Session.{AreStarts, IsSound}
 use Rattle.sabr_frontier.proofs.Pages.{sound_undos, sound_back, last_first}
+use Rattle.sabr_frontier.specs.Undo.{IsIndexBack, undone_times}
+use Rattle.sabr_frontier.proofs.Settled.{index_back}
 use Rattle.sabr_frontier.proofs.session.Session.back.Goals as goal
 
 pub undo_to-requires-clause-possible : goal.undo_to-requires-clause-possible
 undo_to-requires-clause-possible g c =
     let s = c.self.inside in
     sound_undos s.plan.now.plan s.request (length s.tree.journal.items - c.in-Some.start) (length s.tree.journal.items) (shape_of s.tree) (omega arith) c.self.invariant.sound
+
+pub undo_to-requires-clause-index : goal.undo_to-requires-clause-index
+undo_to-requires-clause-index g c =
+    let s = c.self.inside in
+    let t = shape_of s.tree in
+    let m = length t.journal - c.in-Some.start in
+    subst (IsIndexBack (undone_times m t)) (sym c.self.invariant.index) (index_back s.plan.now.plan s.request t m (omega arith) c.self.invariant.sound)
 
 pub invariant_of-self-2 : goal.invariant_of-self-2
 invariant_of-self-2 g c =
@@ -23,6 +32,7 @@ invariant_of-self-2 g c =
       limits = c.self.invariant.limits;
       sound = subst (IsSound s.plan.now.plan s.request) (sym same) before.0;
       starts = subst (AreStarts (reverse c.pop.new.self.items)) (sym (ap (λ (z : Shape g.row.A.Denot). length z.journal) same ∙ before.1)) starts.1;
+      index = c.undo_to.ensures.index;
       room = c.undo_to.ensures.room;
       tables = c.self.invariant.tables;
     }

@@ -13,6 +13,7 @@ invariant_of-result g c =
       limits = c.requires.limits;
       sound = subst (λ n. IsSoundFor p r n (shape_of c.args.tree)) (sym none) c.requires.sound;
       starts = subst (λ z. AreStarts (reverse z) (length c.args.tree.journal.items)) (sym c.new.ensures.items) none;
+      index = c.requires.index;
       room = c.requires.room;
       tables = λ k d less. absurd (omega (arith, less, ap length c.new-kept.ensures));
     }

@@ -5,6 +5,8 @@ use Rattle.sabr_frontier.specs.Listing.{next_route, searches_in, steps}
 use Rattle.sabr_frontier.specs.Shape.{Shape, shape_of, shown}
 use Rattle.sabr_frontier.specs.Session.{Seen, AreStarts, IsSound, former_of, former_then, tree_before}
 use Rattle.sabr_frontier.proofs.Pages.{sound_tree, counts_idle, sound_undos, last_first, idle, busy, carried_or_not, none_there, some_there}
+use Rattle.sabr_frontier.specs.Undo.{IsIndexBack}
+use Rattle.sabr_frontier.proofs.Settled.{back_before, part_before}
 use Rattle.sabr_frontier.specs.Fresh.{GivesNewRoutes}
 use Rattle.sabr_frontier.proofs.NewRoutes.{new_routes}
 use Rattle.sabr_frontier.proofs.session.Session.page.Goals as goal
@@ -56,6 +58,22 @@ returns-in_default-clause-free g c h =
     absurd (carried_or_not s.plan.now.plan s.request c.self.invariant.rules t c.self.invariant.sound c.args.count (omega arith) (omega (arith, some))
     (subst (λ (v : Seen). (c.args.count ≡ 0) ⊎ (next_route v.plan.plan v.request v.state ≡ None)) (sym c.self.view_is) h))
 
+pub settle-requires-clause-all : goal.settle-requires-clause-all
+settle-requires-clause-all g c =
+    let s = c.self.inside in
+    let t = shape_of c.gather.new.self in
+    (sound_tree s.plan.now.plan s.request (length t.journal) t c.in-Ok-gather.ensures.sound).listed
+
+pub settle-requires-clause-part : goal.settle-requires-clause-part
+settle-requires-clause-part g c =
+    let s = c.self.inside in
+    let p = s.plan.now.plan in
+    let r = s.request in
+    let t = shape_of c.gather.new.self in
+    let first = shape_of s.tree in
+    part_before p r t first (length t.journal - length first.journal) c.gather.new.self.index.items (omega arith) c.in-Ok-gather.ensures.sound c.in-Ok-gather.ensures.back (sound_tree p r (length first.journal) first c.self.invariant.sound)
+    (c.in-Ok-gather.ensures.index ∙ c.self.invariant.index)
+
 pub invariant_of-self-in-Ok-gather : goal.invariant_of-self-in-Ok-gather
 invariant_of-self-in-Ok-gather g c =
     let s = c.self.inside in
@@ -65,12 +83,14 @@ invariant_of-self-in-Ok-gather g c =
     let start : c.len-start.result ≡ length t.journal = omega (arith, c.len-start.ensures) in
     let more : c.len-start.result < length c.gather.new.self.journal.items = omega (arith, start, c.in-Ok-gather.ensures.entries, ap (length {A = List ℕ}) given.2) in
     let pages : reverse c.push_reserved.new.self.items ≡ c.len-start.result ∷ reverse s.pages.items = ap reverse (c.push_reserved.ensures.items ∙ ap (λ z. z ++ c.len-start.result ∷ []) c.reserve.ensures.items) ∙ last_first s.pages.items c.len-start.result in
+    let journal = ap (λ (z : Shape g.row.A.Denot). length z.journal) c.settle.ensures.same in
     record {
       rules = c.self.invariant.rules;
       limits = c.self.invariant.limits;
-      sound = c.in-Ok-gather.ensures.sound;
-      starts = subst (λ z. AreStarts z (length c.gather.new.self.journal.items)) (sym pages) (more, subst (AreStarts (reverse s.pages.items)) (sym start) c.self.invariant.starts);
-      room = c.in-Ok-gather.ensures.room;
+      sound = subst (IsSound s.plan.now.plan s.request) (sym c.settle.ensures.same) c.in-Ok-gather.ensures.sound;
+      starts = subst (λ z. AreStarts z (length c.settle.new.self.journal.items)) (sym pages) (omega (arith, more, journal), subst (AreStarts (reverse s.pages.items)) (sym start) c.self.invariant.starts);
+      index = c.settle.ensures.index ∙ sym (ap (λ (z : Shape g.row.A.Denot). z.index) c.settle.ensures.same);
+      room = c.settle.ensures.room;
       tables = c.gather.ensures.kept;
     }
 
@@ -79,6 +99,16 @@ undo_to-requires-clause-possible g c =
     let s = c.self.inside in
     let n : ℕ = length c.gather.new.self.journal.items in
     sound_undos s.plan.now.plan s.request (n - c.len-start.result) n (shape_of c.gather.new.self) (omega arith) c.in-Err.ensures.sound
+
+pub undo_to-requires-clause-index : goal.undo_to-requires-clause-index
+undo_to-requires-clause-index g c =
+    let s = c.self.inside in
+    let p = s.plan.now.plan in
+    let r = s.request in
+    let first = shape_of s.tree in
+    let start : c.len-start.result ≡ length first.journal = omega (arith, c.len-start.ensures) in
+    let same = ap (λ n. tree_before n (shape_of c.gather.new.self)) start ∙ c.in-Err.ensures.back in
+    subst (λ (z : Shape g.row.A.Denot). IsIndexBack z c.gather.new.self.index.items) (sym same) (back_before p r first c.gather.new.self.index.items (sound_tree p r (length first.journal) first c.self.invariant.sound) (c.in-Err.ensures.index ∙ c.self.invariant.index))
 
 pub invariant_of-self-in-Err-gather : goal.invariant_of-self-in-Err-gather
 invariant_of-self-in-Err-gather g c =
@@ -91,6 +121,7 @@ invariant_of-self-in-Err-gather g c =
       limits = c.self.invariant.limits;
       sound = subst (IsSound s.plan.now.plan s.request) (sym same) c.self.invariant.sound;
       starts = subst (λ z. AreStarts (reverse z) (length c.undo_to.new.self.journal.items)) (sym c.reserve.ensures.items) (subst (AreStarts (reverse s.pages.items)) (sym (ap (λ (z : Shape g.row.A.Denot). length z.journal) same)) c.self.invariant.starts);
+      index = c.undo_to.ensures.index;
       room = c.undo_to.ensures.room;
       tables = c.gather.ensures.kept;
     }
@@ -103,9 +134,9 @@ returns-in-Ok-gather-clause-former g c =
     let given = busy s.plan.now.plan s.request c.self.invariant.rules t c.self.invariant.sound c.args.count (omega arith) (omega (arith, some)) in
     let start : c.len-start.result ≡ length t.journal = omega (arith, c.len-start.ensures) in
     let pages : reverse c.push_reserved.new.self.items ≡ c.len-start.result ∷ reverse s.pages.items = ap reverse (c.push_reserved.ensures.items ∙ ap (λ z. z ++ c.len-start.result ∷ []) c.reserve.ensures.items) ∙ last_first s.pages.items c.len-start.result in
-    let before : tree_before c.len-start.result (shape_of c.gather.new.self) ≡ t = ap (λ n. tree_before n (shape_of c.gather.new.self)) start ∙ c.in-Ok-gather.ensures.back in
+    let before : tree_before c.len-start.result (shape_of c.settle.new.self) ≡ t = ap (tree_before c.len-start.result) c.settle.ensures.same ∙ ap (λ n. tree_before n (shape_of c.gather.new.self)) start ∙ c.in-Ok-gather.ensures.back in
     let former = former_of (reverse s.pages.items) t in
-    ap (λ z. former_of z (shape_of c.gather.new.self)) pages
+    ap (λ z. former_of z (shape_of c.settle.new.self)) pages
     ∙ ap (λ (z : Shape g.row.A.Denot). shown z ∷ former_of (reverse s.pages.items) z) before
     ∙ sym (ap (λ z. former_then z (shown t) former) given.2)
     ∙ ap (λ (v : Seen). former_then (steps v.plan.plan v.request c.args.count v.state).0 v.state v.former) c.self.view_is

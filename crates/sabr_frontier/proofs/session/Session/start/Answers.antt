@@ -23,6 +23,7 @@ invariant_of-result g c =
       limits = c.tell_limits.ensures;
       sound = subst (IsSound p r) (sym same) (root_is_tree g.row.A.Denot p r c.tell_rules.ensures);
       starts = subst (λ z. AreStarts (reverse z) (length c.in_ok-tree.tree.journal.items)) (sym c.new.ensures.items) (ap (λ (z : Shape g.row.A.Denot). length z.journal) same);
+      index = c.in_ok-tree.ensures.index;
       room = c.in_ok-tree.ensures.room;
       tables = c.ask.ensures.kept;
     }

@@ -5,7 +5,8 @@ use Rattle.sabr_frontier.specs.State.{Member}
 use Rattle.sabr_frontier.specs.Undo.{front}
 use Rattle.sabr_frontier.specs.Queue.{IsQueue}
 use Rattle.sabr_frontier.specs.Waiting.{enqueued, waiting}
-use Rattle.sabr_frontier.specs.Taking.{enqueued_all, ids_from, with_block}
+use Rattle.sabr_frontier.specs.Taking.{enqueued_all, ids_from}
+use Rattle.sabr_frontier.specs.Shape.{order_of}
 use Rattle.sabr_frontier.specs.Prepared.{nodes_with}
 use Rattle.sabr_frontier.proofs.Merged.{length_merged}
 use Rattle.sabr_frontier.proofs.Merging.{queue_same, waiting_same}
@@ -67,9 +68,7 @@ returns-clause-shape g c x e =
     let is = subst (λ z. IsQueue z q) c.as_slice.ensures.value c.pop.ensures.queue in
     let rest : waiting c.as_slice-2.result.now q ≡ front (waiting t.nodes.items t.queue) = ap (λ z. waiting z q) two ∙ waiting_same t.nodes.items N q is (λ z m. c.requires.kept z (subst (Member z) popped m)) ∙ popped in
     let first : c.len-first.result ≡ length t.nodes.items = omega (arith, c.len-first.ensures) in
-    let count : c.len-count.result ≡ length d.fresh.items = omega (arith, c.len-count.ensures) in
     let new : length c.as_slice-3.result.now - c.len-first.result ≡ length d.fresh.items = omega (arith, c.as_slice-3.ensures.len, c.in-Ok.ensures.len, c.in-Some.ensures.len, first) in
-    let index = c.insert_block.ensures ∙ (λ i. with_block c.args.place (ids_from (first i) (count i)) t.index.items) in
     let put : waiting c.as_slice-3.result.now c.put.new.self ≡ enqueued N c.args.node (front (waiting t.nodes.items t.queue)) = ap (λ z. waiting z c.put.new.self) (c.as_slice-3.ensures.value ∙ sym c.as_slice-2.ensures.value) ∙ c.put.ensures.items ∙ (λ i. enqueued (two i) c.args.node (rest i)) in
     let queue = ap (λ z. waiting z c.put_from.new.self) (sym c.as_slice-3.ensures.value) ∙ c.put_from.ensures.items
     ∙ ap (λ n. enqueued_all c.as_slice-3.result.now (ids_from c.len-first.result n) (waiting c.as_slice-3.result.now c.put.new.self)) new
@@ -78,10 +77,12 @@ returns-clause-shape g c x e =
     let leaves = c.push_reserved-2.ensures.items ∙ ap (λ (z : RouteRecord). t.leaves.items ++ z ∷ []) route in
     let last : c.len.result ≡ length t.leaves.items = omega (arith, c.len.ensures) in
     let journal = c.push_reserved.ensures.items ∙ ap (λ n. t.journal.items ++ record { node = c.args.node; nodes = n; last = t.last } ∷ []) first in
-    λ i. record { nodes = nodes i; index = index i; queue = queue i; leaves = leaves i; last = Some (last i); journal = journal i }
+    λ i. record { nodes = nodes i; index = order_of (leaves i) (nodes i); queue = queue i; leaves = leaves i; last = Some (last i); journal = journal i }
 
 pub returns-clause-room : goal.returns-clause-room
 returns-clause-room g c = record {
+  index = omega (arith, c.requires.room.index, c.in-Ok.ensures.len, c.in-Some.ensures.len);
+  added = omega (arith, c.requires.room.added, c.in-Ok.ensures.len, c.in-Some.ensures.len);
   places = omega (arith, c.put_from.ensures.placed, c.put.ensures.placed, c.pop.ensures.placed, c.requires.room.queue, c.in-Ok.ensures.len, c.in-Some.ensures.len);
   queue = subst (λ z. IsQueue z c.put_from.new.self) c.as_slice-3.ensures.value c.put_from.ensures.queue;
 }

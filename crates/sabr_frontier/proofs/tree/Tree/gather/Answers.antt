@@ -1,4 +1,4 @@
-use Rattle.std.proofs.Common.{◌≡◌, ◌-◌, ◌+◌, ◌<◌, ◌++◌, ◌∷◌, [], suc, length, arith, ap, sym, subst, ◌∙◌, inr, Option, zero-add}
+use Rattle.std.proofs.Common.{◌≡◌, refl, ◌-◌, ◌+◌, ◌<◌, ◌++◌, ◌∷◌, [], suc, length, arith, ap, sym, subst, ◌∙◌, inr, Option, zero-add}
 use Rattle.std.specs.Prelude.{IfSome}
 use Rattle.sabr_model.specs.Record.{RouteRecord}
 use Rattle.sabr_frontier.specs.Shape.{Shape, shape_of, shown}
@@ -10,6 +10,7 @@ use Rattle.sabr_frontier.proofs.tree.Tree.gather.Goals as goal
 pub loop-init : goal.loop-init
 loop-init g c = record {
   way = at_first c.args.plan.now.plan c.args.request.now c.args.count (c.args.count - 0) (shape_of c.args.self.now) c.args.given.now.items (omega arith) c.requires.sound;
+  index = refl;
   room = c.requires.room;
   sum = (let e : c.args.count - 0 ≡ c.args.count = omega arith in ap (λ n. 0 + searches_in c.args.plan.now.plan c.args.request.now n (shown (shape_of c.args.self.now))) e ∙ zero-add _);
   called = omega arith;
@@ -64,6 +65,7 @@ loop-preserved g c =
     record {
       way = subst (λ (z : Shape g.row.A.Denot). IsOnTheWay p r (shown first) c.args.count first before (c.args.count - (c.loop.counter + 1)) z c.take.new.given.items) (sym c.in_ok-searches.ensures.ok)
           (one_on p r (shown first) c.args.count first before (c.args.count - (c.loop.counter + 1)) t c.loop.given.items c.take.new.given.items step given way);
+      index = c.take.ensures.index ∙ c.loop.invariant.index;
       room = c.in_ok-searches.ensures.room;
       sum = subst (λ (z : Shape g.row.A.Denot). (c.loop.searches + c.in_ok-searches.field-0) + searches_in p r (c.args.count - (c.loop.counter + 1)) (shown z) ≡ searches_in p r c.args.count (shown first)) (sym c.in_ok-searches.ensures.ok)
           (counts_on p r t step (c.args.count - (c.loop.counter + 1)) c.loop.searches c.in_ok-searches.field-0 (searches_in p r c.args.count (shown first)) c.in_ok-searches.ensures.count

@@ -9,6 +9,7 @@ use Rattle.sabr_frontier.proofs.tree.Tree.gather.Given as goal
 abbrev pub invariant-loop : goal.invariant-loop
 invariant-loop g l = record {
   way : IsOnTheWay l.plan.plan l.request (shown (shape_of l.fn.self)) l.count (shape_of l.fn.self) l.fn.given.items (l.count - l.counter) (shape_of l.self) l.given.items;
+  index : l.self.index.items ≡ l.fn.self.index.items;
   room : IsRoomy l.self;
   sum : l.searches + searches_in l.plan.plan l.request (l.count - l.counter) (shown (shape_of l.self)) ≡ searches_in l.plan.plan l.request l.count (shown (shape_of l.fn.self));
   called : g.B.BestOf.calls_of l.finder ≡ g.B.BestOf.calls_of l.fn.finder + l.searches;

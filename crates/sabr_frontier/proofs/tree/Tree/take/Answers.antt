@@ -5,7 +5,7 @@ use Rattle.sabr_model.specs.Route.{is_route}
 use Rattle.sabr_model.specs.Record.{RouteRecord}
 use Rattle.sabr_frontier.specs.declared.tree.Node.{Node}
 use Rattle.sabr_frontier.specs.declared.tree.NodeId.{NodeId}
-use Rattle.sabr_frontier.specs.Shape.{Shape, shape_of, route_at, numbers_of}
+use Rattle.sabr_frontier.specs.Shape.{Shape, order_of, shape_of, route_at, numbers_of}
 use Rattle.sabr_frontier.specs.Best.{best_of}
 use Rattle.sabr_frontier.specs.Undo.{last_item, front, modify}
 use Rattle.sabr_frontier.specs.declared.queue.Queue.{Queue}
@@ -13,15 +13,16 @@ use Rattle.sabr_frontier.specs.Queue.{IsQueue}
 use Rattle.sabr_frontier.specs.State.{Member}
 use Rattle.sabr_frontier.specs.Waiting.{route_of, waiting}
 use Rattle.sabr_frontier.specs.Sound.{CanExclude}
-use Rattle.sabr_frontier.specs.Taking.{changed_by, divided_by, enqueued_all, fresh_nodes, ids_from, nodes_then, passing, stands_before, wide_of, with_block}
+use Rattle.sabr_frontier.specs.Taking.{changed_by, divided, enqueued_all, fresh_nodes, ids_from, nodes_then, wide_of}
 use Rattle.sabr_frontier.specs.Prepared.{excluding}
 use Rattle.sabr_frontier.proofs.Ends.{length-modify}
 use Rattle.sabr_frontier.proofs.Merging.{queue_same, waiting_same}
 use Rattle.sabr_frontier.proofs.Nodes.{get_same}
 use Rattle.sabr_frontier.proofs.Excluding.{carried_then}
-use Rattle.sabr_frontier.proofs.Refined.{index_order, node_within, standing, inside, can_exclude, kept_route, rest_other, rest_within, route_there}
+use Rattle.sabr_frontier.proofs.Refined.{node_within, standing, inside, can_exclude, kept_route, rest_other, rest_within, route_there}
 use Rattle.sabr_frontier.proofs.Giving.{taken_is, least_is, count_is, new_nodes}
-use Rattle.sabr_frontier.proofs.Partition.{passing-le}
+use Rattle.sabr_frontier.proofs.Indexed.{tree_indexed}
+use Rattle.sabr_frontier.proofs.Sounds.{tree_divided}
 use Rattle.sabr_frontier.proofs.tree.Tree.take.Goals as goal
 
 -- a number more excluded changes no route
@@ -55,9 +56,6 @@ prepare-requires-clause-carries g c =
     let last = sym (c.in-Some.ensures ∙ ap (λ z. last_item (waiting z c.args.self.now.queue)) c.as_slice.ensures.value) in
     let w = standing c.args.plan.now.plan c.args.request.now t c.requires.tree c.in-Some.node last in
     subst IsSome (sym (route_there t.nodes c.in-Some.node w.0 w.1 w.2 w.3)) refl
-
-pub prepare-requires-clause-order : goal.prepare-requires-clause-order
-prepare-requires-clause-order g c = index_order c.args.plan.now.plan c.args.request.now (shape_of c.args.self.now) c.requires.tree
 
 pub prepare-requires-clause-longer : goal.prepare-requires-clause-longer
 prepare-requires-clause-longer g c n x a b =
@@ -117,7 +115,8 @@ change-requires-clause-room g c =
     let room = c.in_ok-reserve.ensures.ok in
     record {
       nodes = omega (arith, room.nodes, c.in_ok-division.ensures.len, c.in_ok-division.ensures.capacity, count, ready.count, can.longer);
-      index = omega (arith, room.index, count, ready.count, can.longer);
+      index = omega (arith, room.index, c.in_ok-division.ensures.len, count, ready.count, can.longer);
+      added = omega (arith, room.added, c.in_ok-division.ensures.len, count, ready.count, can.longer);
       queue = omega (arith, room.queue, c.in_ok-division.ensures.len, count, ready.count, can.longer);
       late = room.late;
       leaves = room.leaves;
@@ -130,15 +129,6 @@ change-requires-clause-in_range g c =
     let last = sym (c.in-Some.ensures ∙ ap (λ z. last_item (waiting z c.args.self.now.queue)) c.as_slice.ensures.value) in
     let l = node_within c.args.plan.now.plan c.args.request.now t c.requires.tree c.in-Some.node last in
     omega (arith, l, ap (λ (z : Shape _). length z.nodes) c.reserve-2.ensures.same)
-
-pub change-requires-clause-within : goal.change-requires-clause-within
-change-requires-clause-within g c =
-    let t = shape_of c.args.self.now in
-    let last = sym (c.in-Some.ensures ∙ ap (λ z. last_item (waiting z c.args.self.now.queue)) c.as_slice.ensures.value) in
-    let w = standing c.args.plan.now.plan c.args.request.now t c.requires.tree c.in-Some.node last in
-    let ready = c.in_ok-prepared.ensures.ready w.0 w.1 w.2 w.3 in
-    let l = passing-le (stands_before t.leaves t.nodes (take (w.0.length + 1) w.1.contacts)) t.index in
-    omega (arith, ready.place, l, ap (λ (z : Shape _). length z.index) c.reserve-2.ensures.same)
 
 pub change-requires-clause-carries : goal.change-requires-clause-carries
 change-requires-clause-carries g c =
@@ -183,6 +173,8 @@ pub change-requires-clause-queue : goal.change-requires-clause-queue
 change-requires-clause-queue g c =
     let room = c.in_ok-reserve.ensures.room in
     record {
+      index = omega (arith, room.index, c.in_ok-division.ensures.len);
+      added = omega (arith, room.added, c.in_ok-division.ensures.len);
       places = omega (arith, room.places, c.in_ok-division.ensures.len);
       queue = queue_then _ _ _ _ _ room.queue c.in_ok-division.ensures.ok;
     }
@@ -216,21 +208,23 @@ returns-clause-ok g c =
     let wide = wide_of w.0 w.1.contacts in
     let carried = carried_then t.nodes c.divide.new.nodes.items node.0 w.1.contacts w.0 w.2 changed d.found in
     let queue = waiting_then _ _ _ _ _ c.in_ok-reserve.ensures.room.queue c.in_ok-division.ensures.ok ∙ ap (λ (z : Shape _). z.queue) c.reserve-2.ensures.same in
-    let mid : shape_of {A = g.row.A.Denot} (record c.reserve-2.new.self { nodes = c.divide.new.nodes }) ≡ record t { nodes = modify (excluding w.1.contacts) t.nodes node.0 } = λ i. record (c.reserve-2.ensures.same i) { nodes = changed i; queue = queue i } in
+    let mid : shape_of {A = g.row.A.Denot} (record c.reserve-2.new.self { nodes = c.divide.new.nodes }) ≡ record t { nodes = modify (excluding w.1.contacts) t.nodes node.0; index = order_of t.leaves (modify (excluding w.1.contacts) t.nodes node.0) } = λ i. record (c.reserve-2.ensures.same i) { nodes = changed i; index = order_of (c.reserve-2.ensures.same i).leaves (changed i); queue = queue i } in
     let found : d.found ≡ best_of p r (take w.0.length w.1.contacts) wide = c.in_ok-division.ensures.found w.0 stands ∙ (λ i. best_of p r (take w.0.length (numbers i)) (wide_of w.0 (numbers i))) in
     let fresh : d.fresh.items ≡ fresh_nodes (best_of p r) (length t.leaves) (take (w.0.length + 1) w.1.contacts) (drop (w.0.length + 1) w.1.contacts) = c.in_ok-division.ensures.fresh w.0 stands ∙ (λ i. fresh_nodes (best_of p r) (leaf i) (take (w.0.length + 1) (numbers i)) (drop (w.0.length + 1) (numbers i))) in
     let carries = ap (λ z. route_at z node) changed ∙ route_there (modify (excluding w.1.contacts) t.nodes node.0) node (excluding w.1.contacts w.0) w.1 (get_same (excluding w.1.contacts) t.nodes node.0 w.0 w.2) w.3 in
     let long : length (modify (excluding w.1.contacts) t.nodes node.0) ≡ length t.nodes = length-modify (excluding w.1.contacts) t.nodes node.0 in
     let block = λ (n : ℕ). ids_from n (length d.fresh.items) in
     let N = nodes_then t.nodes node wide d.found d.fresh.items in
+    let index = λ (nodes : List (Node g.row.A.Denot)). order_of (t.leaves ++ w.1 ∷ []) nodes in
+    let D = divided p r t node w.0 w.1 in
     c.change.ensures.shape w.1 carries
-    ∙ (λ i. changed_by (mid i) node w.1 (ready.place i) (carried i ++ d.fresh.items) (length d.fresh.items))
-    ∙ (λ i. record (changed_by t node w.1 (passing (stands_before t.leaves t.nodes (take (w.0.length + 1) w.1.contacts)) t.index) N (length d.fresh.items)) {
-      index = with_block (passing (stands_before t.leaves t.nodes (take (w.0.length + 1) w.1.contacts)) t.index) (block (long i)) t.index;
+    ∙ (λ i. changed_by (mid i) node w.1 (order_of ((mid i).leaves ++ w.1 ∷ []) (carried i ++ d.fresh.items)) (carried i ++ d.fresh.items) (length d.fresh.items))
+    ∙ (λ i. record (changed_by t node w.1 (index N) N (length d.fresh.items)) {
       queue = enqueued_all N (node ∷ block (long i)) (front t.queue);
       journal = t.journal ++ record { node = node; nodes = long i; last = t.last } ∷ [];
     })
-    ∙ (λ i. divided_by t node w.1 (passing (stands_before t.leaves t.nodes (take (w.0.length + 1) w.1.contacts)) t.index) wide (found i) (fresh i))
+    ∙ (λ i. changed_by t node w.1 (index (nodes_then t.nodes node wide (found i) (fresh i))) (nodes_then t.nodes node wide (found i) (fresh i)) (length (fresh i)))
+    ∙ (λ i. record D { index = sym (tree_indexed p r D (tree_divided p r c.requires.plan t c.requires.tree node last w.0 w.1 w.2 w.3)) i })
     ∙ sym (taken_is p r t node w.0 w.1 last w.2 w.3)
 
 pub returns-clause-given : goal.returns-clause-given

@@ -1,9 +1,10 @@
-use Rattle.std.proofs.Common.{arith, List, length, ◌<◌, ◌≤◌, ◌≡◌, ◌++◌, ◌∷◌, [], ap, ◌∙◌, sym, subst, Some, take}
+use Rattle.std.proofs.Common.{arith, List, length, ◌<◌, ◌≤◌, ◌≡◌, ◌++◌, ◌∷◌, [], ap, ◌∙◌, sym, subst, Some, take, length-take-le}
 use Rattle.sabr_frontier.specs.declared.tree.Entry.{Entry}
+use Rattle.sabr_frontier.specs.declared.tree.Node.{Node}
 use Rattle.sabr_frontier.specs.declared.tree.NodeId.{NodeId}
 use Rattle.sabr_model.specs.Record.{RouteRecord}
-use Rattle.sabr_frontier.specs.Shape.{shape_of}
-use Rattle.sabr_frontier.specs.Undo.{undone, undone_by, others, modify, given_back, IsLonger}
+use Rattle.sabr_frontier.specs.Shape.{order_of, shape_of}
+use Rattle.sabr_frontier.specs.Undo.{IsIndexed, undone, undone_by, others, modify, given_back, IsLonger}
 use Rattle.sabr_frontier.proofs.Ends.{last_item_push, front_push, length-modify}
 use Rattle.std.specs.Prelude.{nat_lt, nat_eq, not, ◌&&◌}
 use Rattle.sabr_frontier.specs.State.{Member}
@@ -60,7 +61,10 @@ returns-clause-former g c =
     let queue = waiting_back t.nodes c.give_back.new.nodes.items s.queue c.requires.room.queue (λ id. nat_lt id.0 e.nodes && not (nat_eq id.0 e.node.0)) e.node r q'
     (λ z k. ap (λ w. route_at w z) nodes ∙ kept_below t.nodes e.nodes e.node r z k) (ap (λ w. route_at w e.node) nodes ∙ carried_back t.nodes e.nodes e.node r range counted) behind
     (c.put_back.ensures.items ∙ ap (λ (z : List NodeId). z ++ e.node ∷ []) c.keep_others.ensures.placed) c.keep_others.ensures.late in
-    (λ i. record { nodes = nodes i; index = c.keep_below.ensures.items i; queue = queue i; leaves = sym (front_push _ _ _ l) i; last = e.last; journal = sym (front_push _ _ _ j) i }) ∙ sym base
+    let after = undone_by t (Some e) (Some r) in
+    let indexed : after.index ≡ order_of after.leaves after.nodes = subst IsIndexed base possible.indexed in
+    (λ i. record { nodes = nodes i; index = order_of (sym (front_push _ _ _ l) i) (nodes i); queue = queue i; leaves = sym (front_push _ _ _ l) i; last = e.last; journal = sym (front_push _ _ _ j) i })
+    ∙ (λ i. record after { index = sym indexed i }) ∙ sym base
 
 pub returns-clause-room : goal.returns-clause-room
 returns-clause-room g c =
@@ -80,6 +84,8 @@ returns-clause-room g c =
     let q' = record c.keep_others.new.self { placed = c.put_back.new.ids } in
     let n : length c.give_back.new.nodes.items ≡ length c.truncate.new.self.items = ap length c.give_back.ensures ∙ length-modify (given_back r) c.truncate.new.self.items e.node.0 in
     record {
+      index = omega (arith, c.requires.room.index, c.truncate.ensures.len, ap (length {A = Node _}) nodes, length-modify (given_back r) (take e.nodes t.nodes) e.node.0, length-take-le e.nodes t.nodes counted, counted);
+      added = omega (arith, c.requires.room.added, c.truncate.ensures.len, ap (length {A = Node _}) nodes, length-modify (given_back r) (take e.nodes t.nodes) e.node.0, length-take-le e.nodes t.nodes counted, counted);
       places = omega (arith, n, c.requires.room.places, c.truncate.ensures.len, c.keep_others.ensures.capacity, c.put_back.ensures.capacity);
       queue = queue_back t.nodes c.give_back.new.nodes.items s.queue c.requires.room.queue (λ id. nat_lt id.0 e.nodes && not (nat_eq id.0 e.node.0)) e.node r q'
           (λ z k. ap (λ w. route_at w z) nodes ∙ kept_below t.nodes e.nodes e.node r z k) (ap (λ w. route_at w e.node) nodes ∙ carried_back t.nodes e.nodes e.node r range counted) behind
