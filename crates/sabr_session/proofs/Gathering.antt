@@ -1,69 +1,100 @@
--- Texts that are gathered in turn, and handed to the writer at the end.
-use Rattle.std.proofs.Common.{◌≡◌, ℕ, List, [], ◌++◌, Result, Ok, Err, ap, ◌∙◌, sym, append_assoc, append-nil, Option}
+-- Texts that are put into a buffer in turn, and handed to its writer at the end.
+use Rattle.std.proofs.Common.{◌≡◌, ℕ, List, [], ◌++◌, Result, Ok, Err, ap, ◌∙◌, sym, append_assoc, append-nil, Option, refl}
+use Rattle.std.specs.Borrow.{MutBor}
 use Rattle.std.specs.Result.{IsErrAnd}
-use Rattle.sabr_model.specs.Devices.{Written, WrittenInPart, WritesText}
-use Rattle.sabr_model.proofs.WrittenTexts.{AppendsBeginning-more, Written-nil, Written-append, WritesText-after}
-use Rattle.sabr_session.specs.Gathering.{Gathered, Gathers}
-use Rattle.sabr_plan.proofs.CanonicalLines.{in_part_after}
+use Rattle.sabr_model.specs.Devices.{WritesText}
+use Rattle.sabr_model.proofs.WrittenTexts.{Written-nil, Written-append}
+use Rattle.sabr_session.specs.declared.writing.text_buffer.TextBuffer.{TextBuffer}
+use Rattle.sabr_session.specs.Gathering.{IsEmptyBefore, HasPut, StopsIn, Puts, Sends}
+use Rattle.sabr_plan.proofs.CanonicalLines.{in_part_after, in_part_more}
 
--- the bytes held, and two texts: parted behind the first text's part that was written
+-- the bytes held, and two texts: parted after the first text's part that was written
 split_at : (h i sent xs ys : List ℕ) → h ++ xs ≡ sent ++ i → h ++ (xs ++ ys) ≡ sent ++ (i ++ ys)
 split_at h i sent xs ys e = sym (append_assoc h xs ys) ∙ ap (λ zs. zs ++ ys) e ∙ append_assoc sent i ys
 
--- no text changes nothing
-pub Gathered-nil : (a : Option (List ℕ)) (k : ℕ) (h : List ℕ) → Gathered a k h [] a k h
-Gathered-nil a k h = ([], append-nil h, Written-nil a k)
+module _ {W : Type 0} {contents : W → Option (List ℕ)} {failures : W → ℕ} where
+  -- no text changes nothing
+  pub HasPut-nil : (a : TextBuffer W) → HasPut contents failures a [] a
+  HasPut-nil a = record { same_writer = refl; sent = []; left = append-nil a.held.items; written = Written-nil (contents a.writer.now) (failures a.writer.now) }
 
--- two texts gathered in turn are the joined text gathered
-pub Gathered-append : (a b c : Option (List ℕ)) (k m n : ℕ) (h i j xs ys : List ℕ)
-    → Gathered a k h xs b m i → Gathered b m i ys c n j → Gathered a k h (xs ++ ys) c n j
-Gathered-append a b c k m n h i j xs ys (sent, e, p) (rest, f, q) =
-    (sent ++ rest, split_at h i sent xs ys e ∙ ap (λ zs. sent ++ zs) f ∙ sym (append_assoc sent rest j), Written-append a b c k m n sent rest p q)
+  -- two texts put in turn are the joined text put
+  pub HasPut-append : {a b c : TextBuffer W} (xs ys : List ℕ) → HasPut contents failures a xs b → HasPut contents failures b ys c → HasPut contents failures a (xs ++ ys) c
+  HasPut-append {a} {b} {c} xs ys p q =
+      record {
+      same_writer = q.same_writer ∙ p.same_writer;
+      sent = p.sent ++ q.sent;
+      left = split_at a.held.items b.held.items p.sent xs ys p.left ∙ ap (λ zs. p.sent ++ zs) q.left ∙ sym (append_assoc p.sent q.sent c.held.items);
+      written = Written-append _ _ _ _ _ _ p.sent q.sent p.written q.written
+      }
 
--- the first text is gathered, and then the second is, or the writer fails
-pub Gathers-after : {A E : Type 0} (a b c : Option (List ℕ)) (k m n : ℕ) (h i j xs ys : List ℕ) (r : Result A E)
-    → Gathered a k h xs b m i → Gathers b m i ys r c n j → Gathers a k h (xs ++ ys) r c n j
-Gathers-after a b c k m n h i j xs ys (Ok _) p q = Gathered-append a b c k m n h i j xs ys p q
-Gathers-after a b c k m n h i j xs ys (Err _) (sent, e, p) q =
-    rw (split_at h i sent xs ys e) (in_part_after a b c k m n sent (i ++ ys) p q)
+  -- the writer failed, after a text was put
+  pub StopsIn-after : {a b c : TextBuffer W} (xs ys : List ℕ)
+      → HasPut contents failures a xs b → StopsIn contents failures b (b.held.items ++ ys) c → StopsIn contents failures a (a.held.items ++ (xs ++ ys)) c
+  StopsIn-after {a} {b} {c} xs ys p q =
+      record {
+      same_writer = q.same_writer ∙ p.same_writer;
+      stopped = rw (split_at a.held.items b.held.items p.sent xs ys p.left) (in_part_after _ _ _ _ _ _ p.sent (b.held.items ++ ys) p.written q.stopped)
+      }
 
--- the writer failed in the first text, so it did in the joined text
-pub Gathers-stopped : {A E : Type 0} (P : E → Type 0) (a c : Option (List ℕ)) (k n : ℕ) (h j xs ys : List ℕ) (r : Result A E)
-    → IsErrAnd r P → WrittenInPart a k (h ++ xs) c n → Gathers a k h (xs ++ ys) r c n j
-Gathers-stopped P a c k n h j xs ys (Ok _) bad p = absurd bad
-Gathers-stopped P a c k n h j xs ys (Err _) is p = rw (← append_assoc h xs ys) (AppendsBeginning-more a c (h ++ xs) ys p.0, p.1)
+  -- the writer failed, with more to come
+  StopsIn-more : {a c : TextBuffer W} (bytes more : List ℕ) → StopsIn contents failures a bytes c → StopsIn contents failures a (bytes ++ more) c
+  StopsIn-more {a} {c} bytes more p = record { same_writer = p.same_writer; stopped = in_part_more _ _ _ _ bytes more p.stopped }
 
--- the writer failed in the bytes held before
-pub Gathers-unheld : {A E : Type 0} (P : E → Type 0) (a c : Option (List ℕ)) (k n : ℕ) (h j xs : List ℕ) (r : Result A E)
-    → IsErrAnd r P → WrittenInPart a k h c n → Gathers a k h xs r c n j
-Gathers-unheld P a c k n h j xs (Ok _) bad p = absurd bad
-Gathers-unheld P a c k n h j xs (Err _) is p = (AppendsBeginning-more a c h xs p.0, p.1)
+  -- the writer failed, with another text to come
+  pub StopsIn-before : {a c : TextBuffer W} (xs ys : List ℕ) → StopsIn contents failures a (a.held.items ++ xs) c → StopsIn contents failures a (a.held.items ++ (xs ++ ys)) c
+  StopsIn-before {a} xs ys p = rw (← append_assoc a.held.items xs ys) (StopsIn-more (a.held.items ++ xs) ys p)
 
--- the bytes held are written, and then the text goes straight to the writer
-pub Gathers-through : {A E : Type 0} (a b c : Option (List ℕ)) (k m n : ℕ) (h xs : List ℕ) (r : Result A E)
-    → Written a k h b m → WritesText b m xs r c n → Gathers a k h xs r c n []
-Gathers-through a b c k m n h xs (Ok _) p q = (h ++ xs, sym (append-nil (h ++ xs)), Written-append a b c k m n h xs p q)
-Gathers-through a b c k m n h xs (Err _) p q = in_part_after a b c k m n h xs p q
+  -- the first text was put, and then the second is, or the writer fails
+  pub Puts-after : {A E : Type 0} {a b : TextBuffer W} (c : TextBuffer W) (xs ys : List ℕ) (r : Result A E)
+      → HasPut contents failures a xs b → Puts contents failures b ys r c → Puts contents failures a (xs ++ ys) r c
+  Puts-after c xs ys (Ok _) p q = HasPut-append xs ys p q
+  Puts-after c xs ys (Err _) p q = StopsIn-after xs ys p q
 
--- the writer failed in the second text
-pub Gathers-stopped_after : {A E : Type 0} (P : E → Type 0) (a b c : Option (List ℕ)) (k m n : ℕ) (h i j xs ys : List ℕ) (r : Result A E)
-    → Gathered a k h xs b m i → IsErrAnd r P → WrittenInPart b m (i ++ ys) c n → Gathers a k h (xs ++ ys) r c n j
-Gathers-stopped_after P a b c k m n h i j xs ys (Ok _) p bad q = absurd bad
-Gathers-stopped_after {A = A} P a b c k m n h i j xs ys (Err e) p is q = Gathers-after {A = A} a b c k m n h i j xs ys (Err e) p q
+  -- the writer failed in the first text
+  pub Puts-stopped : {A E : Type 0} (P : E → Type 0) {a c : TextBuffer W} (xs ys : List ℕ) (r : Result A E)
+      → IsErrAnd r P → StopsIn contents failures a (a.held.items ++ xs) c → Puts contents failures a (xs ++ ys) r c
+  Puts-stopped P xs ys (Ok _) bad p = absurd bad
+  Puts-stopped P xs ys (Err _) is p = StopsIn-before xs ys p
 
--- the writer failed in a text that was gathered from nothing on
-pub WritesText-stopped_gathering : {A E : Type 0} (P : E → Type 0) (a c : Option (List ℕ)) (k n : ℕ) (j xs : List ℕ) (r : Result A E)
-    → IsErrAnd r P → Gathers a k [] xs r c n j → WritesText a k xs r c n
-WritesText-stopped_gathering P a c k n j xs (Ok _) bad p = absurd bad
-WritesText-stopped_gathering P a c k n j xs (Err _) is p = p
+  -- the writer failed in the second text
+  pub Puts-stopped_after : {A E : Type 0} (P : E → Type 0) {a b c : TextBuffer W} (xs ys : List ℕ) (r : Result A E)
+      → HasPut contents failures a xs b → IsErrAnd r P → StopsIn contents failures b (b.held.items ++ ys) c → Puts contents failures a (xs ++ ys) r c
+  Puts-stopped_after P xs ys (Ok _) p bad q = absurd bad
+  Puts-stopped_after P xs ys (Err _) p is q = StopsIn-after xs ys p q
 
--- what was gathered from nothing on is handed over
-pub Gathered-sent : {A E : Type 0} (a b c : Option (List ℕ)) (k m n : ℕ) (i xs : List ℕ) (r : Result A E)
-    → Gathered a k [] xs b m i → WritesText b m i r c n → WritesText a k xs r c n
-Gathered-sent a b c k m n i xs r (sent, e, p) q = rw e (WritesText-after a b c k m n sent i r p q)
+  -- the writer failed in the bytes held before
+  pub Puts-unheld : {A E : Type 0} (P : E → Type 0) {a c : TextBuffer W} (xs : List ℕ) (r : Result A E)
+      → IsErrAnd r P → StopsIn contents failures a a.held.items c → Puts contents failures a xs r c
+  Puts-unheld P xs (Ok _) bad p = absurd bad
+  Puts-unheld P {a} xs (Err _) is p = StopsIn-more a.held.items xs p
 
--- the writer failed in a text
-pub WritesText-stopped : {A E : Type 0} (P : E → Type 0) (a c : Option (List ℕ)) (k n : ℕ) (xs : List ℕ) (r : Result A E)
-    → IsErrAnd r P → WrittenInPart a k xs c n → WritesText a k xs r c n
-WritesText-stopped P a c k n xs (Ok _) bad p = absurd bad
-WritesText-stopped P a c k n xs (Err _) is p = p
+  -- the bytes held are written, and then the text goes straight to the writer
+  pub Puts-through : {A E : Type 0} {a b : TextBuffer W} (c : TextBuffer W) (xs : List ℕ) (r : Result A E)
+      → HasPut contents failures a [] b → b.held.items ≡ [] → c.writer.ghost_name ≡ b.writer.ghost_name → c.held.items ≡ []
+      → WritesText (contents b.writer.now) (failures b.writer.now) xs r (contents c.writer.now) (failures c.writer.now)
+      → Puts contents failures a xs r c
+  Puts-through {b = b} c xs (Ok _) p empty same still q =
+      HasPut-append {b = b} {c = c} [] xs p (record { same_writer = same; sent = xs; left = ap (λ zs. zs ++ xs) empty ∙ sym (append-nil xs) ∙ ap (λ zs. xs ++ zs) (sym still); written = q })
+  Puts-through {b = b} c xs (Err _) p empty same still q = StopsIn-after {b = b} {c = c} [] xs p (record { same_writer = same; stopped = rw empty q })
+
+  -- a text is put into an empty buffer, and the writer failed in it; x is what the writer ends as
+  pub WritesText-stopped : {A E : Type 0} (P : E → Type 0) {w : MutBor W} {a c : TextBuffer W} (x : W) (xs : List ℕ) (r : Result A E)
+      → IsEmptyBefore w a → (w.ghost_name ≡ c.writer.ghost_name → x ≡ c.writer.now)
+      → IsErrAnd r P → StopsIn contents failures a (a.held.items ++ xs) c
+      → WritesText (contents w.now) (failures w.now) xs r (contents x) (failures x)
+  WritesText-stopped P x xs (Ok _) new ends bad p = absurd bad
+  WritesText-stopped P x xs (Err _) new ends is p =
+      rw (ends (sym (p.same_writer ∙ new.same_writer))) (rw (new.empty, new.unchanged) at p.stopped)
+
+  -- a text was put into an empty buffer, and is handed over
+  pub WritesText-sent : {A E : Type 0} {w : MutBor W} {a b : TextBuffer W} (c : TextBuffer W) (x : W) (xs : List ℕ) (r : Result A E)
+      → IsEmptyBefore w a → (w.ghost_name ≡ c.writer.ghost_name → x ≡ c.writer.now)
+      → HasPut contents failures a xs b → Sends contents failures b r c
+      → WritesText (contents w.now) (failures w.now) xs r (contents x) (failures x)
+  WritesText-sent {a = a} c x xs (Ok _) new ends p q =
+      let t = HasPut-append {c = c} xs [] p q.0 in
+      let all : t.sent ≡ xs = sym (append-nil t.sent) ∙ ap (λ zs. t.sent ++ zs) (sym q.1) ∙ sym t.left ∙ ap (λ zs. zs ++ (xs ++ [])) new.empty ∙ append-nil xs in
+      rw (ends (sym (t.same_writer ∙ new.same_writer))) (rw (all, new.unchanged) at t.written)
+  WritesText-sent {b = b} c x xs (Err _) new ends p q =
+      let t = StopsIn-after {b = b} {c = c} xs [] p (rw (append-nil b.held.items) q) in
+      rw (ends (sym (t.same_writer ∙ new.same_writer))) (rw (new.empty, append-nil xs, new.unchanged) at t.stopped)

@@ -3,10 +3,10 @@ use Rattle.std.proofs.Common.{◌≡◌, ℕ, ◌+◌, ◌<◌, List, [], ◌∷
 use Rattle.std.specs.List.{concat, flat_map}
 use Rattle.std.proofs.lemmas.List.{take_more, take-append-drop}
 use Rattle.std.specs.Result.{IsErrAnd}
-use Rattle.sabr_model.specs.Devices.{WrittenInPart}
 use Rattle.sabr_plan.proofs.CanonicalLines.{flat_map-parted}
-use Rattle.sabr_session.specs.Gathering.{Gathered, Gathers}
-use Rattle.sabr_session.proofs.Gathering.{Gathered-append, Gathers-stopped, Gathers-after}
+use Rattle.sabr_session.specs.Gathering.{HasPut, StopsIn, Puts}
+use Rattle.sabr_session.specs.declared.writing.text_buffer.TextBuffer.{TextBuffer}
+use Rattle.sabr_session.proofs.Gathering.{HasPut-append, Puts-stopped, Puts-after}
 
 -- all of them, joined
 abbrev pub joined : List (Bor (List ℕ)) → List ℕ
@@ -39,15 +39,16 @@ lines-at line all ys n x e h =
     ∙ ap (λ zs. flat_map line zs ++ (line (get_or all n x) ++ rest)) (sym e)
     ∙ ap (λ y. flat_map line ys ++ (line y ++ rest)) (sym h.1)
 
--- one more piece is gathered
-pub Gathered-piece : (a b c : Option (List ℕ)) (k m n : ℕ) (h i j : List ℕ) (xs : List (Bor (List ℕ))) (place : ℕ) (d : Bor (List ℕ)) → place < length xs
-    → Gathered a k h (joined (take place xs)) b m i → Gathered b m i (get_or xs place d).now c n j → Gathered a k h (joined (take (place + 1) xs)) c n j
-Gathered-piece a b c k m n h i j xs place d l p q = rw (joined-more xs place d l) (Gathered-append a b c k m n h i j (joined (take place xs)) (get_or xs place d).now p q)
+module _ {W : Type 0} {contents : W → Option (List ℕ)} {failures : W → ℕ} where
+  -- one more piece is put
+  pub HasPut-piece : {a b c : TextBuffer W} (xs : List (Bor (List ℕ))) (place : ℕ) (d : Bor (List ℕ)) → place < length xs
+      → HasPut contents failures a (joined (take place xs)) b → HasPut contents failures b (get_or xs place d).now c → HasPut contents failures a (joined (take (place + 1) xs)) c
+  HasPut-piece xs place d l p q = rw (joined-more xs place d l) (HasPut-append (joined (take place xs)) (get_or xs place d).now p q)
 
--- the writer failed in one of the pieces
-pub Gathers-in_piece : {A E : Type 0} (P : E → Type 0) (a b c : Option (List ℕ)) (k m n : ℕ) (h i j : List ℕ) (xs : List (Bor (List ℕ))) (place : ℕ) (d : Bor (List ℕ)) (r : Result A E) → place < length xs
-    → IsErrAnd r P → Gathered a k h (joined (take place xs)) b m i → WrittenInPart b m (i ++ (get_or xs place d).now) c n → Gathers a k h (joined xs) r c n j
-Gathers-in_piece P a b c k m n h i j xs place d r l is p q =
-    rw (joined-at xs place d l)
-    (Gathers-after a b c k m n h i j (joined (take place xs)) ((get_or xs place d).now ++ joined (drop (place + 1) xs)) r p
-    (Gathers-stopped P b c m n i j (get_or xs place d).now (joined (drop (place + 1) xs)) r is q))
+  -- the writer failed in one of the pieces
+  pub Puts-in_piece : {A E : Type 0} (P : E → Type 0) {a b c : TextBuffer W} (xs : List (Bor (List ℕ))) (place : ℕ) (d : Bor (List ℕ)) (r : Result A E) → place < length xs
+      → IsErrAnd r P → HasPut contents failures a (joined (take place xs)) b → StopsIn contents failures b (b.held.items ++ (get_or xs place d).now) c → Puts contents failures a (joined xs) r c
+  Puts-in_piece P {c = c} xs place d r l is p q =
+      rw (joined-at xs place d l)
+      (Puts-after c (joined (take place xs)) ((get_or xs place d).now ++ joined (drop (place + 1) xs)) r p
+      (Puts-stopped P (get_or xs place d).now (joined (drop (place + 1) xs)) r is q))

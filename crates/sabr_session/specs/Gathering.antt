@@ -1,12 +1,35 @@
--- What a call leaves that gathers a text in front of its writer.
-use Rattle.std.specs.Prelude.{◌≡◌, ℕ, List, ◌++◌, Result, Ok, Err, Option}
+-- What a call leaves that puts a text into a buffer in front of its writer.
+use Rattle.std.specs.Prelude.{◌≡◌, ℕ, List, [], ◌++◌, Result, Ok, Err, Option}
+use Rattle.std.specs.Borrow.{MutBor}
 use Rattle.sabr_model.specs.Devices.{Written, WrittenInPart}
+use Rattle.sabr_session.specs.declared.writing.text_buffer.TextBuffer.{TextBuffer}
 
--- the bytes held and the text were written, but for what is left
-abbrev pub Gathered : Option (List ℕ) → ℕ → List ℕ → List ℕ → Option (List ℕ) → ℕ → List ℕ → Type 0
-Gathered old before held text new after left = (sent : List ℕ) × (held ++ text ≡ sent ++ left) × Written old before sent new after
+-- a buffer in front of this writer that holds no bytes
+pub record IsEmptyBefore {W : Type 0} (writer : MutBor W) (text : TextBuffer W) : Type 0 where
+  pub same_writer : text.writer.ghost_name ≡ writer.ghost_name
+  pub unchanged : text.writer.now ≡ writer.now
+  pub empty : text.held.items ≡ []
 
--- the text stands behind the bytes held, or the writer failed behind a beginning of both
-abbrev pub Gathers : {A E : Type 0} → Option (List ℕ) → ℕ → List ℕ → List ℕ → Result A E → Option (List ℕ) → ℕ → List ℕ → Type 0
-Gathers old before held text (Ok _) new after left = Gathered old before held text new after left
-Gathers old before held text (Err _) new after left = WrittenInPart old before (held ++ text) new after
+-- by what writers of the type `W` show: their bytes, where they tell them, and how often they failed
+module _ {W : Type 0} (contents : W → Option (List ℕ)) (failures : W → ℕ) where
+  -- the buffer keeps its writer, and the bytes held and the text were written, but for what is held now
+  pub record HasPut (old : TextBuffer W) (text : List ℕ) (new : TextBuffer W) : Type 0 where
+    pub same_writer : new.writer.ghost_name ≡ old.writer.ghost_name
+    pub sent : List ℕ
+    pub left : old.held.items ++ text ≡ sent ++ new.held.items
+    pub written : Written (contents old.writer.now) (failures old.writer.now) sent (contents new.writer.now) (failures new.writer.now)
+
+  -- the buffer keeps its writer, which failed after a beginning of these bytes
+  pub record StopsIn (old : TextBuffer W) (bytes : List ℕ) (new : TextBuffer W) : Type 0 where
+    pub same_writer : new.writer.ghost_name ≡ old.writer.ghost_name
+    pub stopped : WrittenInPart (contents old.writer.now) (failures old.writer.now) bytes (contents new.writer.now) (failures new.writer.now)
+
+  -- the text stands after the bytes held, or the writer failed in both
+  abbrev pub Puts : {A E : Type 0} → TextBuffer W → List ℕ → Result A E → TextBuffer W → Type 0
+  Puts old text (Ok _) new = HasPut old text new
+  Puts old text (Err _) new = StopsIn old (old.held.items ++ text) new
+
+  -- the bytes held were written and none is held, or the writer failed in them
+  abbrev pub Sends : {A E : Type 0} → TextBuffer W → Result A E → TextBuffer W → Type 0
+  Sends old (Ok _) new = HasPut old [] new × (new.held.items ≡ [])
+  Sends old (Err _) new = StopsIn old old.held.items new

@@ -1,8 +1,7 @@
-//! The texts of a session: its own text and the report of a page, the lines of a session text, and what texts are
-//! gathered in.
+//! The texts of a session: its own text, read and written, and the report of a page.
 #![tactic(auto)]
 
-mod digest_text;
+mod hex_digest;
 mod reading;
 mod rows;
 mod session_fault;
@@ -10,6 +9,7 @@ mod text_laws;
 mod verifying;
 mod writing;
 
+pub use hex_digest::digest_text;
 pub use reading::{SessionFeed, read_session};
 pub use rows::texts_of_plan_a;
 pub use session_fault::SessionFault;

@@ -5,10 +5,10 @@ use thiserror::Error;
 /// The first fault of a session text. Lines are counted from 1.
 #[derive(Clone, Copy, Debug, PartialEq, Eq, Error)]
 pub enum SessionFault {
-    /// The first line isn't that of a session text, or is missing or unfinished.
+    /// The first line isn't that of a session text, is missing, or is unfinished.
     #[error("the first line is not that of a session text")]
     BadHeader,
-    /// Another line isn't spelled as it has to be, or is missing or unfinished, or stands behind the last.
+    /// Another line is misspelled, missing or unfinished, or stands after the last.
     #[error("line {0} is not spelled as it has to be")]
     BadLine(u128),
     /// The text was written over another plan.
@@ -17,7 +17,7 @@ pub enum SessionFault {
     /// The values of line 3 make no request.
     #[error("the request is refused")]
     BadRequest,
-    /// The parts aren't closed: they aren't those that are left once some routes were given.
+    /// The parts aren't closed: they aren't those that are left after some routes were given.
     #[error("the parts are not closed")]
     NotClosed,
     /// A part carries a list that is no route of it.

@@ -3,19 +3,19 @@
 ghost use Rattle.sabr_session.specs.FedInTurn.{PiecesAreOneText};
 ghost use Rattle.sabr_session.specs.TextLaws.{HasOneAnswer, TextsTellSessions};
 
-/// Tells that the text of an accepted request and a well-formed state is read to exactly these, in both versions, and
-/// different requests or states have different texts.
+/// States that the text of an accepted request and a well-formed state is read back to exactly these, in both versions.
+/// Different requests or states have different texts.
 pub fn law7()
     ensures { TextsTellSessions }
 {}
 
-/// Tells that bytes come to one answer: the request and the state that they spell, or one fault.
+/// States that bytes have one answer: the request and the state that they spell, or one fault.
 pub fn one_answer()
     ensures { HasOneAnswer }
 {}
 
-/// Tells that pieces that a [`SessionFeed`](crate::SessionFeed) is fed one after the other are one text: each is
-/// answered as all bytes so far are where the reader fails behind them, and the end as all bytes are.
+/// States that the pieces fed to a [`SessionFeed`](crate::SessionFeed) are one text. Each piece is answered as all
+/// bytes so far are if a reader fails after them, and the end as all bytes are.
 pub fn pieces_are_one_text()
     ensures { PiecesAreOneText }
 {}

@@ -10,18 +10,17 @@ use sabr_model::{Plan, Read};
 use sabr_search::BestOf;
 use std::alloc::Allocator;
 
-/// Tells whether the bytes are the text of a place in the list of all routes: whether
-/// [`write_session`](crate::write_session) would have written precisely them over this plan, for some request and once
-/// some number of its first routes was given, or they are the same in version 1. Nobody who wrote or kept the text is
-/// trusted.
+/// Verifies that the bytes are the text of a place in the list of all routes: that
+/// [`write_session`](crate::write_session) would have written precisely them over this plan, for some request and after
+/// some number of its first routes, or the same in version 1. The text's author isn't trusted.
 ///
-/// The digest is that of the plan. No comes as soon as the bytes read begin no such text, and how many bytes behind
-/// them the reader has given up is open. It takes a search for each part, and a pass over the routes given.
+/// The digest is that of the plan. The answer is no as soon as the bytes read begin no such text, and then more of the
+/// reader's bytes may have been read. It takes a search for each part, and a pass over the routes given.
 ///
 /// # Errors
 ///
-/// [`SessionFault::Read`] where the reader failed behind bytes that may begin such a text, and
-/// [`SessionFault::NoMemory`] where a growth was refused; no other. The finder is dropped.
+/// [`SessionFault::Read`] if the reader failed after bytes that may begin such a text. [`SessionFault::NoMemory`] if a
+/// growth was refused. No other error occurs. The finder is dropped.
 pub fn verify<R: Read, B: BestOf<A>, A: Allocator + Copy>(
     alloc: A,
     reader: &mut R,

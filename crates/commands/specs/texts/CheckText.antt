@@ -26,13 +26,9 @@ counts_text p =
     ∷ codes "\nnodes " ∷ decimal (node_count p.contacts)
     ∷ codes "\nwithout light " ∷ decimal (length (without_light p)) ∷ codes "\n" ∷ [])
 
--- the digest of the plan's canonical text, as hex digits in lower case
-abbrev pub digest_digits : ContactPlan → List ℕ
-digest_digits p = encode_lower (digest_of p)
-
--- the lines of the counts, and that of the digest
+-- the lines of the counts, and the digest of the plan's canonical text as hex digits in lower case
 unfoldable pub check_text : ContactPlan → List ℕ
-check_text p = counts_text p ++ codes "digest " ++ digest_digits p ++ codes "\n"
+check_text p = counts_text p ++ codes "digest " ++ encode_lower (digest_of p) ++ codes "\n"
 
 -- what a check writes over what reading gave: over a plan its text, whole and flushed, or a beginning of it where the
 -- writer failed, and no memory is wanted; nothing where the plan was refused

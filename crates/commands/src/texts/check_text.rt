@@ -2,13 +2,13 @@
 
 ghost use Rattle.std.specs.Prelude.{◌≡◌, length};
 ghost use Rattle.sabr_model.specs.Devices.{WritesText};
-ghost use Rattle.commands.specs.texts.CheckText.{without_light, counts_text, digest_digits, check_text};
+ghost use Rattle.commands.specs.texts.CheckText.{without_light, counts_text, check_text};
 
 use crate::texts::messages::write_texts;
-use hex::encode_to_slice;
 use itoa::Buffer;
 use sabr_model::{Plan, Write, WriteFault, write_text};
 use sabr_plan::digest;
+use sabr_session::digest_text;
 use std::alloc::Allocator;
 
 /// Counts the standing contacts that have no light time at their start.
@@ -19,15 +19,6 @@ fn without_light<A: Allocator + Copy>(plan: &Plan<A>) -> usize
         .iter()
         .filter(|contact| plan.light(contact).is_none())
         .count()
-}
-
-/// Spells the plan's digest as 64 hex digits in lower case.
-fn digest_digits<A: Allocator + Copy>(plan: &Plan<A>) -> [u8; 64]
-    ensures { result ≡ digest_digits plan.now.plan }
-{
-    let mut digits = [0; 64];
-    let _ = encode_to_slice(digest(plan), &mut digits);
-    digits
 }
 
 /// Writes the lines of the counts.
@@ -71,7 +62,7 @@ pub fn write_check_text<W: Write, A: Allocator + Copy>(
 ) -> Result<(), WriteFault>
     ensures { WritesText (W.contents writer.old) (W.failures writer.old) (check_text plan.now.plan) result (W.contents writer.new) (W.failures writer.new) }
 {
-    let digits = digest_digits(plan);
+    let digits = digest_text(&digest(plan));
     write_counts(plan, writer)?;
     write_text(writer, b"digest ")?;
     write_text(writer, &digits)?;

@@ -2,7 +2,7 @@
 
 ghost use Rattle.sabr_model.specs.Plan.{IsPlan};
 ghost use Rattle.sabr_model.specs.Asking.{IsRequest};
-ghost use Rattle.sabr_session.specs.Gathering.{Gathers};
+ghost use Rattle.sabr_session.specs.Gathering.{Puts};
 ghost use Rattle.commands.specs.texts.Explanation.{refused_at, fault_line, ending_line};
 ghost use Rattle.commands.specs.texts.Followed.{Follows};
 
@@ -13,12 +13,11 @@ use std::alloc::Allocator;
 
 /// Puts the line of a fault at a place.
 fn put_refusal<W: Write>(
-    text: &mut TextBuffer,
-    writer: &mut W,
+    text: &mut TextBuffer<'_, W>,
     place: usize,
     kind: &[u8],
 ) -> Result<(), WriteFault>
-    ensures { Gathers (W.contents writer.old) (W.failures writer.old) text.old (refused_at place kind.now) result (W.contents writer.new) (W.failures writer.new) text.new }
+    ensures { Puts W.contents W.failures text.old (refused_at place kind.now) result text.new }
 {
     let mut digits = Buffer::new();
     let pieces: [&[u8]; 5] = [
@@ -28,27 +27,26 @@ fn put_refusal<W: Write>(
         kind,
         b"\n",
     ];
-    put_pieces(text, writer, &pieces)
+    put_pieces(text, &pieces)
 }
 
 /// Puts the line of a fault.
 fn put_fault<W: Write>(
-    text: &mut TextBuffer,
-    writer: &mut W,
+    text: &mut TextBuffer<'_, W>,
     fault: HopFault,
 ) -> Result<(), WriteFault>
-    ensures { Gathers (W.contents writer.old) (W.failures writer.old) text.old (fault_line fault) result (W.contents writer.new) (W.failures writer.new) text.new }
+    ensures { Puts W.contents W.failures text.old (fault_line fault) result text.new }
 {
     match fault {
-        HopFault::Empty => text.put(writer, b"refused: Empty\n"),
-        HopFault::NoSuchContact(place) => put_refusal(text, writer, place, b"NoSuchContact"),
-        HopFault::NotChained(place) => put_refusal(text, writer, place, b"NotChained"),
-        HopFault::NodeAgain(place) => put_refusal(text, writer, place, b"NodeAgain"),
-        HopFault::NoLight(place) => put_refusal(text, writer, place, b"NoLight"),
-        HopFault::TooLate(place) => put_refusal(text, writer, place, b"TooLate"),
-        HopFault::WrongEnd => text.put(writer, b"refused: WrongEnd\n"),
-        HopFault::AvoidedNode(place) => put_refusal(text, writer, place, b"AvoidedNode"),
-        HopFault::TooManyHops(place) => put_refusal(text, writer, place, b"TooManyHops"),
+        HopFault::Empty => text.put(b"refused: Empty\n"),
+        HopFault::NoSuchContact(place) => put_refusal(text, place, b"NoSuchContact"),
+        HopFault::NotChained(place) => put_refusal(text, place, b"NotChained"),
+        HopFault::NodeAgain(place) => put_refusal(text, place, b"NodeAgain"),
+        HopFault::NoLight(place) => put_refusal(text, place, b"NoLight"),
+        HopFault::TooLate(place) => put_refusal(text, place, b"TooLate"),
+        HopFault::WrongEnd => text.put(b"refused: WrongEnd\n"),
+        HopFault::AvoidedNode(place) => put_refusal(text, place, b"AvoidedNode"),
+        HopFault::TooManyHops(place) => put_refusal(text, place, b"TooManyHops"),
     }
 }
 
@@ -59,8 +57,7 @@ fn put_fault<W: Write>(
 ///
 /// [`WriteFault`] where the writer failed. Then a beginning of the texts put so far was written.
 pub fn put_ending<W: Write, A: Allocator + Copy>(
-    text: &mut TextBuffer,
-    writer: &mut W,
+    text: &mut TextBuffer<'_, W>,
     plan: &Plan<A>,
     request: &Request,
     contacts: &[u32],
@@ -69,13 +66,13 @@ pub fn put_ending<W: Write, A: Allocator + Copy>(
     requires rules { IsPlan plan.now.plan }
     requires limits { IsRequest request.now }
     requires outcome { Follows plan.now.plan request.now contacts.now outcome }
-    ensures { Gathers (W.contents writer.old) (W.failures writer.old) text.old (ending_line plan.now.plan request.now contacts.now) result (W.contents writer.new) (W.failures writer.new) text.new }
+    ensures { Puts W.contents W.failures text.old (ending_line plan.now.plan request.now contacts.now) result text.new }
 {
     match outcome {
         Ok(delivery) => {
             let told = Told::of(plan, contacts);
-            put_route_line(text, writer, contacts, delivery, told.until, told.entry)
+            put_route_line(text, contacts, delivery, told.until, told.entry)
         }
-        Err(fault) => put_fault(text, writer, fault),
+        Err(fault) => put_fault(text, fault),
     }
 }

@@ -66,9 +66,9 @@ pub fn write_explanation<W: Write, A: Allocator + Copy>(
     plan.tell_rules();
     request.tell_limits();
     let (hops, outcome) = followed(plan, request, contacts);
-    let mut text = TextBuffer::new();
-    put_hops(&mut text, writer, plan, request, hops)?;
-    put_ending(&mut text, writer, plan, request, contacts, outcome)?;
-    text.send(writer)?;
+    let mut text = TextBuffer::new(writer);
+    put_hops(&mut text, plan, request, hops)?;
+    put_ending(&mut text, plan, request, contacts, outcome)?;
+    text.send()?;
     Ok(outcome.is_ok())
 }

@@ -5,7 +5,7 @@ ghost use Rattle.sabr_model.specs.Plan.{IsPlan};
 ghost use Rattle.sabr_model.specs.Asking.{IsRequest};
 ghost use Rattle.sabr_model.specs.Arrival.{arrival_after};
 ghost use Rattle.sabr_model.specs.Route.{is_path};
-ghost use Rattle.sabr_session.specs.Gathering.{Gathers};
+ghost use Rattle.sabr_session.specs.Gathering.{Puts};
 ghost use Rattle.commands.specs.texts.Explanation.{hop_line, line_behind, hop_lines};
 
 use itoa::Buffer;
@@ -16,15 +16,14 @@ use std::alloc::Allocator;
 
 /// Puts the line of a hop. Times are seconds from the beginning of 1970.
 fn put_hop_line<W: Write>(
-    text: &mut TextBuffer,
-    writer: &mut W,
+    text: &mut TextBuffer<'_, W>,
     place: usize,
     contact: &Contact,
     sent: u64,
     arrived: u64,
 ) -> Result<(), WriteFault>
     requires { (sent ≤ 253402300799) × (arrived ≤ 253402300799) }
-    ensures { Gathers (W.contents writer.old) (W.failures writer.old) text.old (hop_line place contact.now sent arrived) result (W.contents writer.new) (W.failures writer.new) text.new }
+    ensures { Puts W.contents W.failures text.old (hop_line place contact.now sent arrived) result text.new }
 {
     let mut hop = Buffer::new();
     let mut number = Buffer::new();
@@ -47,13 +46,12 @@ fn put_hop_line<W: Write>(
         &arrived,
         b"\n",
     ];
-    put_pieces(text, writer, &pieces)
+    put_pieces(text, &pieces)
 }
 
 /// Puts the line of the number that follows `front`, where a bundle arrives at `at`. Answers when it arrives next.
 fn put_hop<W: Write, A: Allocator + Copy>(
-    text: &mut TextBuffer,
-    writer: &mut W,
+    text: &mut TextBuffer<'_, W>,
     plan: &Plan<A>,
     request: &Request,
     front: &[u32],
@@ -65,7 +63,7 @@ fn put_hop<W: Write, A: Allocator + Copy>(
     requires place { length front.now + 1 < 2 ^ 64 }
     requires path { IsTrue (is_path plan.now.plan request.now (front.now ++ number ∷ [])) }
     requires at { arrival_after plan.now.plan request.now request.now.at front.now ≡ Some at }
-    ensures line { Gathers (W.contents writer.old) (W.failures writer.old) text.old (line_behind plan.now.plan request.now front.now number) result (W.contents writer.new) (W.failures writer.new) text.new }
+    ensures line { Puts W.contents W.failures text.old (line_behind plan.now.plan request.now front.now number) result text.new }
     ensures arrived { IfOk result (λ t. arrival_after plan.now.plan request.now request.now.at (front.now ++ number ∷ []) ≡ Some t) }
 {
     let Some(contact) = plan.contact(number) else {
@@ -76,7 +74,6 @@ fn put_hop<W: Write, A: Allocator + Copy>(
     };
     put_hop_line(
         text,
-        writer,
         front.len() + 1,
         contact,
         at.max(contact.start),
@@ -91,8 +88,7 @@ fn put_hop<W: Write, A: Allocator + Copy>(
 ///
 /// [`WriteFault`] where the writer failed. Then a beginning of the texts put so far was written.
 pub fn put_hops<W: Write, A: Allocator + Copy>(
-    text: &mut TextBuffer,
-    writer: &mut W,
+    text: &mut TextBuffer<'_, W>,
     plan: &Plan<A>,
     request: &Request,
     hops: &[u32],
@@ -100,11 +96,11 @@ pub fn put_hops<W: Write, A: Allocator + Copy>(
     requires rules { IsPlan plan.now.plan }
     requires limits { IsRequest request.now }
     requires path { IsTrue (is_path plan.now.plan request.now hops.now) }
-    ensures { Gathers (W.contents writer.old) (W.failures writer.old) text.old (hop_lines plan.now.plan request.now [] hops.now) result (W.contents writer.new) (W.failures writer.new) text.new }
+    ensures { Puts W.contents W.failures text.old (hop_lines plan.now.plan request.now [] hops.now) result text.new }
 {
     let mut at = request.at();
     for (i, number) in hops.iter().enumerate() {
-        at = put_hop(text, writer, plan, request, &hops[..i], at, *number)?;
+        at = put_hop(text, plan, request, &hops[..i], at, *number)?;
     }
     Ok(())
 }

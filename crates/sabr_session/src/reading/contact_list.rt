@@ -11,14 +11,14 @@ use crate::reading::words::{first_number, first_word, is_word};
 use sabr_model::{MOST_RECORDS, NoMemory};
 use std::alloc::Allocator;
 
-/// What ends a list: whether it is `/`, and the words behind that.
+/// How a list ends: whether at `/`, and the words after that.
 #[derive(Clone, Copy)]
 pub(crate) struct ListEnd<'a> {
     pub(crate) stopped: bool,
     pub(crate) rest: Option<&'a [u8]>,
 }
 
-/// Tells whether the list is `-`: then its end.
+/// Reads the list `-`, and returns its end. `None` for any other list.
 fn dash_to_slash(text: &[u8]) -> Option<ListEnd<'_>>
     ensures { MatchOption result (is_dash (before_slash (words_of text.now)) ≡ false) (λ e. (is_dash (before_slash (words_of text.now)) ≡ true) × (e.stopped ≡ list_any is_slash (words_of text.now)) × (words_behind (option_copied e.rest) ≡ after_slash (words_of text.now))) }
 {
@@ -43,7 +43,8 @@ fn dash_to_slash(text: &[u8]) -> Option<ListEnd<'_>>
     }
 }
 
-/// Puts the numbers up to `/` or to the end in place of what the vector holds, if there are not too many.
+/// Reads the numbers up to `/` or to the end into the vector, in place of what it holds. `None` if a word is no number,
+/// or if there are too many.
 fn numbers_to_slash<'a, A: Allocator + Copy>(
     numbers: &mut Vec<u32, A>,
     text: &'a [u8],
@@ -75,8 +76,12 @@ fn numbers_to_slash<'a, A: Allocator + Copy>(
     }))
 }
 
-/// Puts the list up to `/` or to the end in place of what the vector holds: `-` for the empty one, or 1 to 20000
-/// numbers from 1 to 4294967295. Where there is no list, or no memory, what the vector holds is open.
+/// Reads the list up to `/` or to the end into the vector, in place of what it holds: `-` for the empty list, or 1 to
+/// 20000 numbers from 1 to 4294967295. `None` if that is no list.
+///
+/// # Errors
+///
+/// [`NoMemory`] if a growth was refused. Then, and at `None`, what the vector holds is open.
 pub(crate) fn list_to_slash<'a, A: Allocator + Copy>(
     numbers: &mut Vec<u32, A>,
     text: &'a [u8],
@@ -93,7 +98,7 @@ pub(crate) fn list_to_slash<'a, A: Allocator + Copy>(
     Ok(Some(end))
 }
 
-/// Puts the list of all the words in place of what the vector holds, and tells whether they are one.
+/// Reads all the words as one list into the vector, in place of what it holds. Returns whether they are a list.
 pub(crate) fn list_to_end<A: Allocator + Copy>(
     numbers: &mut Vec<u32, A>,
     text: &[u8],

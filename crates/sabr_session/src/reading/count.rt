@@ -1,11 +1,11 @@
-//! A count that a session text spells exactly.
+//! Counts of 128 bits in a session text.
 
 ghost use Rattle.std.specs.Prelude.{◌≡◌, ℕ, ◌<◌, ◌≤◌, ◌^◌, decimal, IfSome, IfNone};
 ghost use Rattle.sabr_plan.specs.Numbers.{number_within};
 
 use itoa::Buffer;
 
-/// Gives the number that the text spells, decimal without a sign or leading zero, up to the greatest count.
+/// Reads a number of 128 bits, decimal without a sign or leading zero.
 fn spelled_count(text: &[u8]) -> Option<u128>
     ensures value { IfSome result (λ n. text.now ≡ decimal n) }
     ensures finds { IfNone result ((n : ℕ) → n < 2 ^ 128 → text.now ≡ decimal n → ⊥) }
@@ -24,8 +24,7 @@ fn spelled_count(text: &[u8]) -> Option<u128>
     }
 }
 
-/// Gives the number that the text spells, decimal without a sign or leading zero, up to
-/// 340282366920938463463374607431768211455.
+/// Reads a number up to 340282366920938463463374607431768211455, decimal without a sign or leading zero.
 pub(crate) fn count_within(text: &[u8]) -> Option<u128>
     ensures { result ≡ number_within 0 340282366920938463463374607431768211455 text.now }
 {

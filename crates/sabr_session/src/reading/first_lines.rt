@@ -11,19 +11,19 @@ use sabr_model::{NoMemory, Numbers};
 use sabr_plan::number_within;
 use std::alloc::Allocator;
 
-/// How many digits a digest has.
+/// The number of digits of a digest.
 const DIGEST_DIGITS: usize = 64;
 
 /// The version of a session text.
 #[derive(Clone, Copy, Debug, PartialEq, Eq)]
 pub(crate) enum Version {
-    /// That of a request without limits.
+    /// Version 1, for requests without limits.
     One,
-    /// That of any request.
+    /// Version 2, for any request.
     Two,
 }
 
-/// Tells what stands behind the label, where the text begins with it.
+/// Returns what stands after the label, if the text begins with it.
 pub(crate) fn behind_label<'a>(label: &[u8], text: &'a [u8]) -> Option<&'a [u8]>
     ensures { option_copied result ≡ behind_label label.now text.now }
 {
@@ -34,7 +34,7 @@ pub(crate) fn behind_label<'a>(label: &[u8], text: &'a [u8]) -> Option<&'a [u8]>
     if front == label { Some(back) } else { None }
 }
 
-/// Gives the version that `cgr-session 1` or `cgr-session 2` names.
+/// Reads `cgr-session 1` or `cgr-session 2`.
 pub(crate) fn header_of(line: &[u8]) -> Option<Version>
     ensures { result ≡ header_of line.now }
 {
@@ -47,21 +47,21 @@ pub(crate) fn header_of(line: &[u8]) -> Option<Version>
     None
 }
 
-/// Tells whether a byte is `0` to `9` or `a` to `f`.
+/// Returns whether a byte is `0` to `9` or `a` to `f`.
 fn is_digest_digit(byte: u8) -> bool
     ensures { result ≡ is_digest_digit byte }
 {
     (48 <= byte && byte <= 57) || (97 <= byte && byte <= 102)
 }
 
-/// Tells whether all bytes are `0` to `9` or `a` to `f`.
+/// Returns whether all bytes are `0` to `9` or `a` to `f`.
 fn are_digest_digits(text: &[u8]) -> bool
     ensures { result ≡ list_all is_digest_digit text.now }
 {
     text.iter().all(|byte| is_digest_digit(*byte))
 }
 
-/// Gives the digits that `plan H` names.
+/// Reads `plan H`, and returns the digits.
 #[tactic(auto, unfolding(crate::specs::SessionLines::digest_named))]
 pub(crate) fn digest_named(line: &[u8]) -> Option<&[u8]>
     ensures { option_copied result ≡ digest_named line.now }
@@ -74,7 +74,7 @@ pub(crate) fn digest_named(line: &[u8]) -> Option<&[u8]>
     }
 }
 
-/// Gives the number of `emitted N`.
+/// Reads `emitted N`.
 #[tactic(auto, unfolding(crate::specs::SessionLines::emitted_of))]
 pub(crate) fn emitted_of(line: &[u8]) -> Option<u128>
     ensures { result ≡ emitted_of line.now }
@@ -83,7 +83,7 @@ pub(crate) fn emitted_of(line: &[u8]) -> Option<u128>
     count_within(text)
 }
 
-/// Gives the list of `last LIST`.
+/// Reads `last LIST`.
 #[tactic(auto, unfolding(crate::specs::SessionLines::last_listed))]
 pub(crate) fn last_listed<A: Allocator + Copy>(
     alloc: A,
@@ -102,7 +102,7 @@ pub(crate) fn last_listed<A: Allocator + Copy>(
     }
 }
 
-/// Gives the number of `parts M`.
+/// Reads `parts M`.
 #[tactic(auto, unfolding(crate::specs::SessionLines::count_of))]
 pub(crate) fn count_of(line: &[u8]) -> Option<u64>
     ensures { result ≡ count_of line.now }
@@ -111,7 +111,7 @@ pub(crate) fn count_of(line: &[u8]) -> Option<u64>
     number_within(text, 0, u64::MAX)
 }
 
-/// Tells whether the line is `end`.
+/// Returns whether the line is `end`.
 pub(crate) fn is_end(line: &[u8]) -> bool
     ensures { result ≡ is_end line.now }
 {

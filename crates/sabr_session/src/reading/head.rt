@@ -6,7 +6,7 @@ ghost use Rattle.hex.specs.Hex.{encode_lower};
 ghost use Rattle.sabr_session.specs.SessionRead.{nothing_said, asked, header_said, digest_said, request_said, emitted_said, last_said, count_said};
 ghost use Rattle.sabr_session.specs.SessionLeaving.{Leaves};
 
-use crate::digest_text::digest_text;
+use crate::hex_digest::digest_text;
 use crate::reading::first_lines::{
     Version, count_of, digest_named, emitted_of, header_of, last_listed,
 };
@@ -16,18 +16,18 @@ use sabr_model::{Numbers, Request, RequestValues};
 use std::alloc::Allocator;
 use std::marker::Model;
 
-/// What the first six lines say but for the request. What none of them has said is 0 or empty.
+/// What the first six lines say, except for the request. What no line has said yet is 0 or empty.
 #[derive(Drop)]
 pub(crate) struct Head<A: Allocator + Copy> {
-    /// Where the last route takes its memory.
+    /// The allocator of the last route.
     alloc: A,
     /// The version that line 1 names.
     version: Version,
-    /// How many routes were given.
+    /// The number of routes given.
     emitted: u128,
-    /// The last of them.
+    /// The last of these routes.
     last: Numbers<A>,
-    /// How many parts there are to be.
+    /// The number of parts to come.
     count: u64,
 }
 
@@ -41,14 +41,14 @@ impl<A: Allocator + Copy> Model for Head<A> {
     ghost view = { λ h. record { version = h.version; request = unlimited 0 0 0 0; emitted = h.emitted; last_route = h.last; count = h.count; parts = [] } };
 }
 
-/// Tells whether the digits are those of the digest.
+/// Returns whether the digits are those of the digest.
 fn is_digest_of(digits: &[u8], digest: &[u8; 32]) -> bool
     ensures { result ≡ bytes_eq digits.now (encode_lower digest.now) }
 {
     digits == digest_text(digest).as_slice()
 }
 
-/// Gives the request of these values.
+/// Makes the request of these values.
 fn asked(values: &RequestValues) -> Result<Request, SessionFault>
     ensures { MatchResult result (λ r. asked values.now ≡ Ok r) (λ f. asked values.now ≡ Err f) }
 {
@@ -62,7 +62,7 @@ fn asked(values: &RequestValues) -> Result<Request, SessionFault>
 }
 
 impl<A: Allocator + Copy> Head<A> {
-    /// Begins before the first line.
+    /// Makes a head of which no line was read.
     pub(crate) fn new(alloc: A) -> Head<A>
         ensures { result ≡ nothing_said }
     {
@@ -75,7 +75,7 @@ impl<A: Allocator + Copy> Head<A> {
         }
     }
 
-    /// Takes in line 1.
+    /// Reads line 1.
     pub(crate) fn read_header(&mut self, line: &[u8]) -> Result<(), SessionFault>
         ensures value { Leaves (header_said self.old line.now) result self.new }
         ensures refused { OnErr result (self.new ≡ self.old) }
@@ -87,7 +87,7 @@ impl<A: Allocator + Copy> Head<A> {
         Ok(())
     }
 
-    /// Takes in line 2, over a plan of this digest.
+    /// Reads line 2, for a plan of this digest.
     pub(crate) fn read_digest(&mut self, digest: &[u8; 32], line: &[u8]) -> Result<(), SessionFault>
         ensures value { Leaves (digest_said digest.now self.old line.now) result self.new }
         ensures refused { OnErr result (self.new ≡ self.old) }
@@ -101,7 +101,7 @@ impl<A: Allocator + Copy> Head<A> {
         Ok(())
     }
 
-    /// Gives the request of line 3.
+    /// Reads line 3, and returns its request.
     pub(crate) fn read_request(&self, line: &[u8]) -> Result<Request, SessionFault>
         ensures { MatchResult result (λ r. request_said self.now line.now ≡ Ok (record self.now { request = r })) (λ f. request_said self.now line.now ≡ Err f) }
     {
@@ -111,7 +111,7 @@ impl<A: Allocator + Copy> Head<A> {
         asked(&values)
     }
 
-    /// Takes in line 4.
+    /// Reads line 4.
     pub(crate) fn read_emitted(&mut self, line: &[u8]) -> Result<(), SessionFault>
         ensures value { Leaves (emitted_said self.old line.now) result self.new }
         ensures refused { OnErr result (self.new ≡ self.old) }
@@ -123,7 +123,7 @@ impl<A: Allocator + Copy> Head<A> {
         Ok(())
     }
 
-    /// Takes in line 5.
+    /// Reads line 5.
     pub(crate) fn read_last(&mut self, line: &[u8]) -> Result<(), SessionFault>
         ensures value { Leaves (last_said self.old line.now) result self.new }
         ensures refused { OnErr result (self.new ≡ self.old) }
@@ -138,7 +138,7 @@ impl<A: Allocator + Copy> Head<A> {
         Ok(())
     }
 
-    /// Takes in line 6.
+    /// Reads line 6.
     pub(crate) fn read_count(&mut self, line: &[u8]) -> Result<(), SessionFault>
         ensures value { Leaves (count_said self.old line.now) result self.new }
         ensures refused { OnErr result (self.new ≡ self.old) }
@@ -150,21 +150,21 @@ impl<A: Allocator + Copy> Head<A> {
         Ok(())
     }
 
-    /// Tells how many routes were given.
+    /// The number of routes given.
     pub(crate) fn emitted(&self) -> u128
         ensures { result ≡ self.now.emitted }
     {
         self.emitted
     }
 
-    /// Gives the last route given.
+    /// The last route given.
     pub(crate) fn last(&self) -> &[u32]
         ensures { result.now ≡ self.now.last_route }
     {
         self.last.as_slice()
     }
 
-    /// Tells how many parts there are to be.
+    /// The number of parts to come.
     pub(crate) fn count(&self) -> u64
         ensures { result ≡ self.now.count }
     {

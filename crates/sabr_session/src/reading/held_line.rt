@@ -28,7 +28,7 @@ impl<A: Allocator + Copy> Model for HeldLine<A> {
 }
 
 impl<A: Allocator + Copy> HeldLine<A> {
-    /// Begins without a byte. It takes no memory.
+    /// Makes an empty line. It takes no memory.
     pub(crate) fn new(alloc: A) -> HeldLine<A>
         ensures { result ≡ [] }
     {
@@ -37,7 +37,7 @@ impl<A: Allocator + Copy> HeldLine<A> {
         }
     }
 
-    /// Gives the bytes.
+    /// The bytes.
     pub(crate) fn as_slice(&self) -> &[u8]
         ensures value { result.now ≡ self.now }
         ensures limit { length self.now ≤ 660008 }
@@ -45,7 +45,7 @@ impl<A: Allocator + Copy> HeldLine<A> {
         self.bytes.as_slice()
     }
 
-    /// Tells how many bytes there are.
+    /// The number of bytes.
     pub(crate) fn len(&self) -> usize
         ensures value { result ≡ length self.now }
         ensures limit { result ≤ 660008 }
@@ -53,7 +53,7 @@ impl<A: Allocator + Copy> HeldLine<A> {
         self.bytes.len()
     }
 
-    /// Puts more bytes behind these.
+    /// Appends more bytes. If that fails, the line stays as it was.
     pub(crate) fn append(&mut self, more: &[u8]) -> Result<(), NoMemory>
         requires room { length self.old + length more.now ≤ 660008 }
         requires line { IsTrue (is_one_line more.now) }
@@ -65,7 +65,7 @@ impl<A: Allocator + Copy> HeldLine<A> {
         Ok(())
     }
 
-    /// Forgets the bytes, and keeps their room.
+    /// Removes the bytes, and keeps their memory.
     pub(crate) fn clear(&mut self)
         ensures { self.new ≡ [] }
     {

@@ -17,20 +17,19 @@ use sabr_search::BestOf;
 use std::alloc::Allocator;
 use std::marker::Model;
 
-/// How many lines stand before and behind those of the parts.
+/// The number of lines before and after those of the parts.
 const OTHER_LINES: u128 = 7;
 
-/// How many lines there are, what they say, and room for the lists of a part. Contracts see a text of which no byte is
-/// held.
+/// The complete lines of a text. Contracts see a text of which no byte is held.
 #[derive(Drop)]
 pub(crate) struct LinesRead<'p, B: BestOf<A>, A: Allocator + Copy> {
-    /// How many lines there are.
+    /// The number of lines.
     lines: u128,
-    /// What the first six say but for the request.
+    /// What the first six lines say, except for the request.
     head: Head<A>,
-    /// The finder, and from line 3 on the loader.
+    /// The finder, or from line 3 on the loader.
     stage: Stage<'p, B, A>,
-    /// Room for the lists of a part.
+    /// Memory for the lists of a part, used for each part.
     part: PartLine<A>,
 }
 
@@ -46,7 +45,7 @@ impl<'p, B: BestOf<A>, A: Allocator + Copy> Model for LinesRead<'p, B, A> {
     ghost invariant = { λ l. (l.stage.has_request ≡ nat_lt 2 l.lines) × (l.lines ≤ 18446744073709551622) };
 }
 
-/// Takes in a line of this number over a plan of this digest.
+/// Reads the line of this number, for a plan of this digest.
 fn read_said<'p, B: BestOf<A>, A: Allocator + Copy>(
     head: &mut Head<A>,
     stage: &mut Stage<'p, B, A>,
@@ -84,7 +83,7 @@ fn read_said<'p, B: BestOf<A>, A: Allocator + Copy>(
     }
 }
 
-/// Takes in a line of this number behind the first six.
+/// Reads the line of this number, after the first six.
 fn read_other<'p, B: BestOf<A>, A: Allocator + Copy>(
     head: &Head<A>,
     stage: &mut Stage<'p, B, A>,
@@ -113,7 +112,7 @@ fn read_other<'p, B: BestOf<A>, A: Allocator + Copy>(
 }
 
 impl<'p, B: BestOf<A>, A: Allocator + Copy> LinesRead<'p, B, A> {
-    /// Begins before the first line.
+    /// Makes a text of which no line was read.
     pub(crate) fn new(alloc: A, plan: &'p Plan<A>, finder: B) -> LinesRead<'p, B, A>
         ensures { result ≡ opened_over plan.now (B.calls_of finder) }
     {
@@ -125,7 +124,7 @@ impl<'p, B: BestOf<A>, A: Allocator + Copy> LinesRead<'p, B, A> {
         }
     }
 
-    /// Gives the number of the next line.
+    /// The number of the next line.
     pub(crate) fn next_number(&self) -> u128
         ensures value { result ≡ self.now.fed.lines + 1 }
         ensures limit { result ≤ 18446744073709551623 }
@@ -133,14 +132,14 @@ impl<'p, B: BestOf<A>, A: Allocator + Copy> LinesRead<'p, B, A> {
         self.lines + 1
     }
 
-    /// Tells whether `end` was read.
+    /// Returns whether `end` was read.
     pub(crate) fn has_end(&self) -> bool
         ensures { result ≡ is_behind (self.now.fed.lines + 1) self.now.fed.said }
     {
         self.lines + 1 > OTHER_LINES + u128::from(self.head.count())
     }
 
-    /// Takes in the next line, over a plan of this digest.
+    /// Reads the next line, for a plan of this digest.
     pub(crate) fn read_line(&mut self, digest: &[u8; 32], line: &[u8]) -> Result<(), SessionFault>
         ensures value { Leaves (line_said self.old.plan.plan digest.now (self.old.fed.lines + 1) self.old.fed.said line.now) result self.new.fed.said }
         ensures plan { self.new.plan ≡ self.old.plan }
@@ -160,7 +159,7 @@ impl<'p, B: BestOf<A>, A: Allocator + Copy> LinesRead<'p, B, A> {
         Ok(())
     }
 
-    /// Gives the session of all lines, behind `end`.
+    /// Makes the session of all lines, after `end`.
     pub(crate) fn into_session(self) -> Result<Session<'p, B, A>, SessionFault>
         requires { is_behind (self.fed.lines + 1) self.fed.said ≡ true }
         ensures from { IsSessionFrom self.entry.plan (Ok self.entry.fed.said) result }

@@ -8,7 +8,7 @@ use crate::reading::words::{first_word, is_word};
 use sabr_model::NodeList;
 use sabr_plan::number_within;
 
-/// Gives the nodes that the words spell, if there are not too many.
+/// Reads words as nodes. `None` if there are more than 16, or if a word is no node.
 fn numbers_listed(text: &[u8]) -> Option<NodeList>
     ensures { MatchOption result (counted 16 (all_of (map (number_within 0 18446744073709551615) (words_of text.now))) ≡ None) (λ nodes. counted 16 (all_of (map (number_within 0 18446744073709551615) (words_of text.now))) ≡ Some nodes) }
 {
@@ -22,7 +22,7 @@ fn numbers_listed(text: &[u8]) -> Option<NodeList>
     Some(nodes)
 }
 
-/// Tells whether the text is the one word `-`.
+/// Returns whether the text is the one word `-`.
 fn is_dash(text: &[u8]) -> bool
     ensures { result ≡ is_dash (words_of text.now) }
 {
@@ -33,7 +33,7 @@ fn is_dash(text: &[u8]) -> bool
     }
 }
 
-/// Gives the nodes of a list: `-` for none, or 1 to 16 numbers up to 18446744073709551615.
+/// Reads a list of nodes: `-` for none, or 1 to 16 numbers up to 18446744073709551615.
 #[tactic(auto, unfolding(crate::specs::SessionWords::list_within))]
 pub(crate) fn nodes_of(text: &[u8]) -> Option<NodeList>
     ensures { MatchOption result (nodes_of (words_of text.now) ≡ None) (λ nodes. nodes_of (words_of text.now) ≡ Some nodes) }

@@ -11,7 +11,7 @@ use sabr_model::NoMemory;
 use std::alloc::Allocator;
 use std::marker::Model;
 
-/// The three lists of a part, in room that is kept for those of the next; the third is empty where no route is carried.
+/// The three lists of a part, in memory that is used for each part. The third is empty if the part carries no route.
 /// Contracts see the part.
 #[derive(Drop)]
 pub(crate) struct PartLine<A: Allocator + Copy> {
@@ -30,7 +30,7 @@ impl<A: Allocator + Copy> Model for PartLine<A> {
 }
 
 impl<A: Allocator + Copy> PartLine<A> {
-    /// Begins with three empty lists. It takes no memory.
+    /// Makes three empty lists. It takes no memory.
     pub(crate) fn new(alloc: A) -> PartLine<A>
         ensures { result ≡ record { prefix = []; excluded = []; carried = None } }
     {
@@ -41,8 +41,11 @@ impl<A: Allocator + Copy> PartLine<A> {
         }
     }
 
-    /// Takes the lists of `part LIST / LIST / LIST` in place of those before, and tells whether the line is that. Where
-    /// it isn't, or a growth was refused, what the lists hold is open.
+    /// Reads `part LIST / LIST / LIST` into the lists, in place of what they hold. Returns whether the line is that.
+    ///
+    /// # Errors
+    ///
+    /// [`NoMemory`] if a growth was refused. Then, and if the line isn't a part's, what the lists hold is open.
     #[tactic(auto, unfolding(crate::specs::SessionLines::part_of))]
     pub(crate) fn read(&mut self, line: &[u8]) -> Result<bool, NoMemory>
         ensures { IfOk result (λ found. part_of line.now ≡ (if found then Some self.new else None)) }
@@ -53,7 +56,7 @@ impl<A: Allocator + Copy> PartLine<A> {
         self.read_lists(text)
     }
 
-    /// Takes the lists of `LIST / LIST / LIST`, and tells whether the text is that.
+    /// Reads `LIST / LIST / LIST`, and returns whether the text is that.
     fn read_lists(&mut self, text: &[u8]) -> Result<bool, NoMemory>
         ensures { IfOk result (λ found. lists_of (words_of text.now) ≡ (if found then Some self.new else None)) }
     {
@@ -72,21 +75,21 @@ impl<A: Allocator + Copy> PartLine<A> {
         list_to_end(&mut self.route, behind)
     }
 
-    /// Gives the numbers that the part's routes begin with.
+    /// The numbers that each route of the part begins with.
     pub(crate) fn prefix(&self) -> &[u32]
         ensures { result.now ≡ self.now.prefix }
     {
         self.prefix.as_slice()
     }
 
-    /// Gives the numbers that the part leaves out behind the prefix.
+    /// The numbers that no route of the part takes right after the prefix.
     pub(crate) fn excluded(&self) -> &[u32]
         ensures { result.now ≡ self.now.excluded }
     {
         self.excluded.as_slice()
     }
 
-    /// Gives the numbers of the route that the part carries, if it carries one.
+    /// The numbers of the route that the part carries, if it carries one.
     pub(crate) fn carried(&self) -> Option<&[u32]>
         ensures { option_copied result ≡ self.now.carried }
     {

@@ -14,7 +14,7 @@ use sabr_plan::{number_within, parse_time};
 /// The greatest margin or limit on hops that a line can name.
 const MOST_VALUE: u64 = 4294967295;
 
-/// Gives the first four words, and what stands behind them.
+/// Splits off the first four words, and returns what stands after them, too. `None` if there are fewer.
 fn four_words(text: &[u8]) -> Option<(&[u8], &[u8], &[u8], &[u8], Option<&[u8]>)>
     ensures { MatchOption result (length (words_of text.now) < 4) (λ w. words_of text.now ≡ w.0.now ∷ w.1.now ∷ w.2.now ∷ w.3.now ∷ words_behind (option_copied w.4)) }
 {
@@ -25,7 +25,7 @@ fn four_words(text: &[u8]) -> Option<(&[u8], &[u8], &[u8], &[u8], Option<&[u8]>)
     Some((one, two, three, four, rest))
 }
 
-/// Gives the values of these words.
+/// Reads these words as the values of a request.
 fn four_of(
     from: &[u8],
     to: &[u8],
@@ -50,7 +50,7 @@ fn four_of(
     })
 }
 
-/// Gives the values of `FROM TO AT PPM`.
+/// Reads `FROM TO AT PPM`.
 fn unlimited_of(text: &[u8]) -> Option<RequestValues>
     ensures { result ≡ unlimited_of (words_of text.now) }
 {
@@ -61,7 +61,7 @@ fn unlimited_of(text: &[u8]) -> Option<RequestValues>
     four_of(from, to, time, margin, MOST_HOPS, NodeList::new())
 }
 
-/// Gives the values of `FROM TO AT PPM HOPS / NODES`.
+/// Reads `FROM TO AT PPM HOPS / NODES`.
 fn limited_of(text: &[u8]) -> Option<RequestValues>
     ensures { result ≡ limited_of (words_of text.now) }
 {
@@ -79,7 +79,7 @@ fn limited_of(text: &[u8]) -> Option<RequestValues>
     four_of(from, to, time, margin, max_hops, avoid)
 }
 
-/// Gives the values of `request` and these words.
+/// Reads the line of a request, in this version.
 #[tactic(auto, unfolding(crate::specs::SessionLines::request_of))]
 pub(crate) fn request_of(version: Version, line: &[u8]) -> Option<RequestValues>
     ensures { result ≡ request_of version line.now }

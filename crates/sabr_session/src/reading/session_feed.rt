@@ -13,9 +13,9 @@ use sabr_search::BestOf;
 use std::alloc::{Allocator, Global};
 use std::marker::Model;
 
-/// A session text over a plan that is read in pieces of any length. One line at a time is held.
+/// A session text over a plan that is read in pieces of any length. It holds one line at a time.
 ///
-/// Contracts see what was fed, or the refusal that came of it.
+/// Contracts see what was fed, or the fault that refused it.
 #[derive(Drop)]
 pub struct SessionFeed<'p, B: BestOf<A>, A: Allocator + Copy = Global> {
     text: Result<TextSoFar<'p, B, A>, SessionFault>,
@@ -32,7 +32,7 @@ impl<'p, B: BestOf<A>, A: Allocator + Copy> Model for SessionFeed<'p, B, A> {
 }
 
 impl<'p, B: BestOf<A>, A: Allocator + Copy> SessionFeed<'p, B, A> {
-    /// Begins before the first piece. The digest is that of the plan. It takes no memory.
+    /// Makes a feed to which no piece was given. The digest is that of the plan. It takes no memory.
     pub fn new(alloc: A, plan: &'p Plan<A>, digest: &[u8; 32], finder: B) -> SessionFeed<'p, B, A>
         requires { digest.now ≡ digest_of plan.now.plan }
         ensures { result ≡ Ok (opened_over plan.now (B.calls_of finder)) }
@@ -49,11 +49,11 @@ impl<'p, B: BestOf<A>, A: Allocator + Copy> SessionFeed<'p, B, A> {
     ///
     /// # Errors
     ///
-    /// The first fault in the lines so far, each line being judged once LF ends it: [`SessionFault::BadHeader`],
-    /// [`BadLine`](SessionFault::BadLine), [`OtherPlan`](SessionFault::OtherPlan),
-    /// [`BadRequest`](SessionFault::BadRequest) or [`BadRoute`](SessionFault::BadRoute); a line is also judged at its
-    /// byte 660009, and at its first byte where it stands behind `end`. [`NoMemory`](SessionFault::NoMemory) where a
-    /// growth was refused. Each later call answers the same; the finder is dropped, and so is what was read.
+    /// The first fault in the lines so far: [`SessionFault::BadHeader`], [`BadLine`](SessionFault::BadLine),
+    /// [`OtherPlan`](SessionFault::OtherPlan), [`BadRequest`](SessionFault::BadRequest) or
+    /// [`BadRoute`](SessionFault::BadRoute). A line is judged once LF ends it, at its byte 660009, and after `end` at
+    /// its first byte. [`NoMemory`](SessionFault::NoMemory) if a growth was refused. Each later call returns the same
+    /// error. The finder and what was read are dropped.
     pub fn feed(&mut self, piece: &[u8]) -> Result<(), SessionFault>
         ensures fed { IsFed self.old piece.now result self.new }
         ensures grows { OnOk result (weight_of self.old + length piece.now ≤ weight_of self.new) }
@@ -70,14 +70,15 @@ impl<'p, B: BestOf<A>, A: Allocator + Copy> SessionFeed<'p, B, A> {
         Err(fault)
     }
 
-    /// Gives the session of the text, which has ended. It runs no search, and no page of the session can be taken back.
+    /// Ends the text, and makes its session. It runs no search, and no page of the session can be taken back.
     ///
     /// # Errors
     ///
-    /// What refused a piece before; else [`SessionFault::BadHeader`] or [`BadLine`](SessionFault::BadLine) where a line
-    /// is missing or unfinished; else [`NotClosed`](SessionFault::NotClosed) where the parts aren't closed; else
-    /// [`BadCount`](SessionFault::BadCount) where the count or the last route is wrong; else
-    /// [`NoMemory`](SessionFault::NoMemory) where a growth was refused. The finder is dropped.
+    /// The error of an earlier [`feed`](SessionFeed::feed), if there was one. Else [`SessionFault::BadHeader`] or
+    /// [`BadLine`](SessionFault::BadLine) if a line is missing or unfinished, else
+    /// [`NotClosed`](SessionFault::NotClosed) if the parts aren't closed, else [`BadCount`](SessionFault::BadCount) if
+    /// the count or the last route is wrong. [`NoMemory`](SessionFault::NoMemory) if a growth was refused. The finder
+    /// is dropped.
     pub fn finish(self) -> Result<Session<'p, B, A>, SessionFault>
         ensures finished { IsFinished self.entry result }
         ensures calls { IfOk self.entry (λ t. IfOk result (λ s. s.calls ≡ t.calls)) }
@@ -89,7 +90,7 @@ impl<'p, B: BestOf<A>, A: Allocator + Copy> SessionFeed<'p, B, A> {
         }
     }
 
-    /// Tells how many bytes are held of the line that isn't complete.
+    /// The number of bytes held of the incomplete line.
     pub fn held(&self) -> usize
         ensures value { MatchResult self.now (λ t. result ≡ length t.fed.held) (λ _. result ≡ 0) }
         ensures limit { result ≤ 660008 }

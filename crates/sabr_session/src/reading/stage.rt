@@ -15,16 +15,16 @@ use sabr_search::BestOf;
 use std::alloc::Allocator;
 use std::marker::Model;
 
-/// The finder until there is a request, and then the loader, which has both.
+/// The finder until there is a request, and then the loader, which owns both.
 #[derive(Drop)]
 pub(crate) struct Stage<'p, B: BestOf<A>, A: Allocator + Copy> {
-    /// Where the session takes its memory.
+    /// The allocator of the session.
     alloc: A,
     /// The plan that the text was written for.
     plan: &'p Plan<A>,
     /// The finder, until there is a request.
     finder: Option<B>,
-    /// The loader, from then on.
+    /// The loader, once there is a request.
     loader: Option<Loader<'p, B, A>>,
 }
 
@@ -40,7 +40,7 @@ impl<'p, B: BestOf<A>, A: Allocator + Copy> Model for Stage<'p, B, A> {
 }
 
 impl<'p, B: BestOf<A>, A: Allocator + Copy> Stage<'p, B, A> {
-    /// Begins before the request.
+    /// Makes a stage without a request.
     pub(crate) fn new(alloc: A, plan: &'p Plan<A>, finder: B) -> Stage<'p, B, A>
         ensures { result ≡ staged plan.now (Some (B.calls_of finder)) None }
     {
@@ -52,7 +52,7 @@ impl<'p, B: BestOf<A>, A: Allocator + Copy> Stage<'p, B, A> {
         }
     }
 
-    /// Takes in the request.
+    /// Sets the request, and makes its loader.
     pub(crate) fn begin(&mut self, request: Request)
         requires { self.old.has_request ≡ false }
         ensures { self.new ≡ record self.old { has_request = true; request = request } }
@@ -62,7 +62,7 @@ impl<'p, B: BestOf<A>, A: Allocator + Copy> Stage<'p, B, A> {
         }
     }
 
-    /// Takes in the line of a part, which has this number, by the room for its lists.
+    /// Reads the line of this number into `part`, and adds that part.
     pub(crate) fn read_part(
         &mut self,
         part: &mut PartLine<A>,
@@ -103,7 +103,7 @@ impl<'p, B: BestOf<A>, A: Allocator + Copy> Stage<'p, B, A> {
         }
     }
 
-    /// Gives the session of the parts.
+    /// Makes the session of the parts.
     pub(crate) fn into_session(
         self,
         emitted: u128,

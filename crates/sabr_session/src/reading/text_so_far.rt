@@ -1,4 +1,4 @@
-//! A session text that wasn't refused so far.
+//! A session text that hasn't been refused yet.
 
 ghost use Rattle.std.specs.Prelude.{◌≡◌, ◌+◌, ◌*◌, ◌<◌, ◌≤◌, [], ◌++◌, length, true, false, ◌⊎◌, IsTrue, IfOk, IfErr, OnOk, OnErr};
 ghost use Rattle.sabr_plan.specs.Canonical.{digest_of};
@@ -18,7 +18,7 @@ use sabr_search::BestOf;
 use std::alloc::Allocator;
 use std::marker::Model;
 
-/// The lines that LF has ended, and the line behind them.
+/// The lines that LF has ended, and the line after them.
 #[derive(Drop)]
 pub(crate) struct TextSoFar<'p, B: BestOf<A>, A: Allocator + Copy> {
     digest: [u8; 32],
@@ -40,7 +40,7 @@ impl<'p, B: BestOf<A>, A: Allocator + Copy> Model for TextSoFar<'p, B, A> {
     ghost invariant = { λ t. (t.digest ≡ digest_of t.lines.plan.plan) × ((is_behind (t.lines.fed.lines + 1) t.lines.fed.said && has_bytes t.held) ≡ false) × IsTrue (is_one_line t.held) };
 }
 
-/// Gives the fault of a line of this number that isn't spelled as it has to be.
+/// Returns the fault of a misspelled line of this number.
 fn misspelled(number: u128) -> SessionFault
     ensures { result ≡ misspelled number }
 {
@@ -52,7 +52,7 @@ fn misspelled(number: u128) -> SessionFault
 }
 
 impl<'p, B: BestOf<A>, A: Allocator + Copy> TextSoFar<'p, B, A> {
-    /// Begins before the first piece. It takes no memory.
+    /// Makes an empty text. It takes no memory.
     pub(crate) fn new(
         alloc: A,
         plan: &'p Plan<A>,
@@ -69,7 +69,7 @@ impl<'p, B: BestOf<A>, A: Allocator + Copy> TextSoFar<'p, B, A> {
         }
     }
 
-    /// Tells how many bytes of the line behind the last LF are held.
+    /// The number of bytes after the last LF.
     pub(crate) fn held(&self) -> usize
         ensures value { result ≡ length self.now.fed.held }
         ensures limit { result ≤ 660008 }
@@ -77,7 +77,7 @@ impl<'p, B: BestOf<A>, A: Allocator + Copy> TextSoFar<'p, B, A> {
         self.held.len()
     }
 
-    /// Takes the next piece of the text.
+    /// Reads the next piece of the text.
     pub(crate) fn take_in(&mut self, piece: &[u8]) -> Result<(), SessionFault>
         ensures ok { OnOk result (GoesOn self.old piece.now self.new) }
         ensures err { IfErr result (IsRefusedPiece self.old piece.now) }
@@ -93,7 +93,7 @@ impl<'p, B: BestOf<A>, A: Allocator + Copy> TextSoFar<'p, B, A> {
         self.hold(rest)
     }
 
-    /// Ends by LF the line behind these bytes of it.
+    /// Reads the line that ends in these bytes.
     fn end_line(&mut self, back: &[u8]) -> Result<(), SessionFault>
         requires { IsTrue (is_one_line back.now) }
         ensures value { Leaves (read_line self.old.plan.plan (digest_of self.old.plan.plan) (self.old.fed.lines + 1) self.old.fed.said (self.old.fed.held ++ back.now)) result self.new.fed.said }
@@ -118,7 +118,7 @@ impl<'p, B: BestOf<A>, A: Allocator + Copy> TextSoFar<'p, B, A> {
         answer
     }
 
-    /// Holds what comes behind the last LF of a piece.
+    /// Holds the bytes after the last LF of a piece.
     fn hold(&mut self, bytes: &[u8]) -> Result<(), SessionFault>
         requires { IsTrue (is_one_line bytes.now) }
         ensures ok { OnOk result (self.new ≡ record self.old { fed = record self.old.fed { held = self.old.fed.held ++ bytes.now } }) }
@@ -141,7 +141,7 @@ impl<'p, B: BestOf<A>, A: Allocator + Copy> TextSoFar<'p, B, A> {
         Ok(())
     }
 
-    /// Gives the session of the text, which has ended.
+    /// Ends the text, and makes its session.
     pub(crate) fn finish(self) -> Result<Session<'p, B, A>, SessionFault>
         ensures from { IsSessionFrom self.entry.plan (outcome_of self.entry [] true) result }
         ensures calls { IfOk result (λ s. s.calls ≡ self.entry.calls) }

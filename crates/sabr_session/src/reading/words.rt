@@ -1,4 +1,4 @@
-//! The words of a session text, parted by single spaces, and the numbers among them.
+//! The words of a session text, separated by single spaces, and the numbers among them.
 
 ghost use Rattle.std.specs.Prelude.{◌≡◌, ◌==◌, ◌≤◌, ◌∷◌, ◌<◌, [], length, Some, IfSome};
 ghost use Rattle.std.specs.List.{position};
@@ -12,14 +12,14 @@ use sabr_plan::{leading_number, number_within};
 /// The greatest number of a contact.
 const MOST_NUMBER: u64 = 4294967295;
 
-/// Tells where the first space stands.
+/// Finds the first space.
 fn first_space(text: &[u8]) -> Option<usize>
     ensures { result ≡ position is_space text.now }
 {
     text.iter().position(|b| *b == b' ')
 }
 
-/// Gives the first word, and what stands behind its space, if it has one.
+/// Splits off the first word. With it comes what stands after its space, if there is one.
 pub(crate) fn first_word(text: &[u8]) -> (&[u8], Option<&[u8]>)
     ensures words { words_of text.now ≡ result.0.now ∷ words_behind (option_copied result.1) }
     ensures shorter { IfSome result.1 (λ rest. length rest.now < length text.now) }
@@ -30,15 +30,15 @@ pub(crate) fn first_word(text: &[u8]) -> (&[u8], Option<&[u8]>)
     }
 }
 
-/// Tells whether the word is this text.
+/// Returns whether the word is this text.
 pub(crate) fn is_word(word: &[u8], text: &[u8]) -> bool
     ensures { result ≡ bytes_eq word.now text.now }
 {
     word == text
 }
 
-/// Gives the first word where it is digits without a leading zero, the number from 1 to 4294967295 that it spells, and
-/// what stands behind its space. Of all other words nothing is said.
+/// Reads the first word in one pass, if it is a plainly spelled number from 1 to 4294967295: returns the word, the
+/// number, and what stands after its space. `None` says nothing about the word.
 #[inline(always)]
 fn plain_number(text: &[u8]) -> Option<(&[u8], u64, Option<&[u8]>)>
     ensures words { IfSome result (λ r. words_of text.now ≡ r.0.now ∷ words_behind (option_copied r.2)) }
@@ -53,8 +53,8 @@ fn plain_number(text: &[u8]) -> Option<(&[u8], u64, Option<&[u8]>)>
     Some((word, value, Some(rest)))
 }
 
-/// Gives the first word, the number from 1 to 4294967295 that it spells, and what stands behind its space, if it has
-/// one. A plainly spelled number is read in one pass.
+/// Splits off the first word, with the number from 1 to 4294967295 that it spells, and what stands after its space, if
+/// there is one. A plainly spelled number is read in one pass.
 #[inline(always)]
 pub(crate) fn first_number(text: &[u8]) -> (&[u8], Option<u64>, Option<&[u8]>)
     ensures words { words_of text.now ≡ result.0.now ∷ words_behind (option_copied result.2) }

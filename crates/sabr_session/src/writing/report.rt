@@ -3,7 +3,7 @@
 ghost use Rattle.std.specs.Prelude.{◌≡◌, ℕ, ◌+◌, ◌^◌, ◌<◌, ◌≤◌, All, length};
 ghost use Rattle.std.specs.List.{concat};
 ghost use Rattle.sabr_model.specs.Devices.{WritesText};
-ghost use Rattle.sabr_session.specs.Gathering.{Gathers};
+ghost use Rattle.sabr_session.specs.Gathering.{Puts};
 ghost use Rattle.sabr_session.specs.ReportText.{HasSpelledTimes, told_pieces, route_line, report_line, report_lines, last_line, report_text};
 
 use crate::writing::put_lists::put_pieces;
@@ -16,7 +16,11 @@ use std::alloc::Allocator;
 
 /// Writes a line for each route, with ranks counting up from the first one, and then `more` or `end`.
 ///
-/// It takes no memory and doesn't flush. Where the writer fails, a beginning of the report was written.
+/// It takes no memory and doesn't flush.
+///
+/// # Errors
+///
+/// [`WriteFault`] if the writer failed. Then a beginning of the report was written.
 pub fn write_report<W: Write, A: Allocator + Copy>(
     routes: &[Route<A>],
     first_rank: u128,
@@ -27,15 +31,19 @@ pub fn write_report<W: Write, A: Allocator + Copy>(
     requires times { All HasSpelledTimes routes.now }
     ensures { WritesText (W.contents writer.old) (W.failures writer.old) (report_text routes.now first_rank more) result (W.contents writer.new) (W.failures writer.new) }
 {
-    let mut text = TextBuffer::new();
-    put_lines(&mut text, writer, routes, first_rank)?;
-    put_last_line(&mut text, writer, more)?;
-    text.send(writer)
+    let mut text = TextBuffer::new(writer);
+    put_lines(&mut text, routes, first_rank)?;
+    put_last_line(&mut text, more)?;
+    text.send()
 }
 
 /// Writes the line of one route, without a rank.
 ///
-/// It takes no memory and doesn't flush. Where the writer fails, a beginning of the line was written.
+/// It takes no memory and doesn't flush.
+///
+/// # Errors
+///
+/// [`WriteFault`] if the writer failed. Then a beginning of the line was written.
 pub fn write_route<W: Write, A: Allocator + Copy>(
     route: &Route<A>,
     writer: &mut W,
@@ -43,25 +51,24 @@ pub fn write_route<W: Write, A: Allocator + Copy>(
     requires { HasSpelledTimes route.now }
     ensures { WritesText (W.contents writer.old) (W.failures writer.old) (route_line route.now) result (W.contents writer.new) (W.failures writer.new) }
 {
-    let mut text = TextBuffer::new();
-    put_route(&mut text, writer, route)?;
-    text.send(writer)
+    let mut text = TextBuffer::new(writer);
+    put_route(&mut text, route)?;
+    text.send()
 }
 
 /// Puts a line for each route.
 fn put_lines<W: Write, A: Allocator + Copy>(
-    text: &mut TextBuffer,
-    writer: &mut W,
+    text: &mut TextBuffer<'_, W>,
     routes: &[Route<A>],
     first_rank: u128,
 ) -> Result<(), WriteFault>
     requires ranks { first_rank + length routes.now < 2 ^ 128 }
     requires times { All HasSpelledTimes routes.now }
-    ensures { Gathers (W.contents writer.old) (W.failures writer.old) text.old (report_lines first_rank routes.now) result (W.contents writer.new) (W.failures writer.new) text.new }
+    ensures { Puts W.contents W.failures text.old (report_lines first_rank routes.now) result text.new }
 {
     let mut rank = first_rank;
     for route in routes {
-        put_line(text, writer, rank, route)?;
+        put_line(text, rank, route)?;
         rank += 1;
     }
     Ok(())
@@ -69,32 +76,29 @@ fn put_lines<W: Write, A: Allocator + Copy>(
 
 /// Puts the rank and the line of the route.
 fn put_line<W: Write, A: Allocator + Copy>(
-    text: &mut TextBuffer,
-    writer: &mut W,
+    text: &mut TextBuffer<'_, W>,
     rank: u128,
     route: &Route<A>,
 ) -> Result<(), WriteFault>
     requires { HasSpelledTimes route.now }
-    ensures { Gathers (W.contents writer.old) (W.failures writer.old) text.old (report_line rank route.now) result (W.contents writer.new) (W.failures writer.new) text.new }
+    ensures { Puts W.contents W.failures text.old (report_line rank route.now) result text.new }
 {
-    put_count(text, writer, rank)?;
-    text.put(writer, b" ")?;
-    put_route(text, writer, route)
+    put_count(text, rank)?;
+    text.put(b" ")?;
+    put_route(text, route)
 }
 
 /// Puts the line of the route.
 fn put_route<W: Write, A: Allocator + Copy>(
-    text: &mut TextBuffer,
-    writer: &mut W,
+    text: &mut TextBuffer<'_, W>,
     route: &Route<A>,
 ) -> Result<(), WriteFault>
     requires { HasSpelledTimes route.now }
-    ensures { Gathers (W.contents writer.old) (W.failures writer.old) text.old (route_line route.now) result (W.contents writer.new) (W.failures writer.new) text.new }
+    ensures { Puts W.contents W.failures text.old (route_line route.now) result text.new }
 {
     let contacts = route.contacts.as_slice();
     put_route_line(
         text,
-        writer,
         contacts,
         route.delivery,
         route.until,
@@ -102,40 +106,37 @@ fn put_route<W: Write, A: Allocator + Copy>(
     )
 }
 
-/// Puts the line of a route, given by the numbers of its contacts, its best-case delivery time, its
-/// termination time and its entry node. Both times are seconds since 1970-01-01T00:00:00Z, up to the end of
-/// the year 9999.
+/// Puts the line of a route, given by the numbers of its contacts, its best-case delivery time, its termination time
+/// and its entry node. Both times are seconds since 1970-01-01T00:00:00Z, up to the end of the year 9999.
 ///
 /// # Errors
 ///
-/// [`WriteFault`] where the writer failed. Then a beginning of the bytes held and the line was written.
+/// [`WriteFault`] if the writer failed. Then a beginning of the bytes held and the line was written.
 pub fn put_route_line<W: Write>(
-    text: &mut TextBuffer,
-    writer: &mut W,
+    text: &mut TextBuffer<'_, W>,
     contacts: &[u32],
     delivery: u64,
     until: u64,
     entry: u64,
 ) -> Result<(), WriteFault>
     requires { (delivery ≤ 253402300799) × (until ≤ 253402300799) }
-    ensures { Gathers (W.contents writer.old) (W.failures writer.old) text.old (route_line (record { contacts = contacts.now; delivery = delivery; until = until; entry = entry })) result (W.contents writer.new) (W.failures writer.new) text.new }
+    ensures { Puts W.contents W.failures text.old (route_line (record { contacts = contacts.now; delivery = delivery; until = until; entry = entry })) result text.new }
 {
-    put_told(text, writer, contacts, delivery, until, entry)?;
-    put_numbers(text, writer, contacts)?;
-    text.put(writer, b"\n")
+    put_told(text, contacts, delivery, until, entry)?;
+    put_numbers(text, contacts)?;
+    text.put(b"\n")
 }
 
-/// Puts the line up to the numbers of the contacts.
+/// Puts the line of a route up to the numbers of its contacts.
 fn put_told<W: Write>(
-    text: &mut TextBuffer,
-    writer: &mut W,
+    text: &mut TextBuffer<'_, W>,
     contacts: &[u32],
     delivery: u64,
     until: u64,
     entry: u64,
 ) -> Result<(), WriteFault>
     requires { (delivery ≤ 253402300799) × (until ≤ 253402300799) }
-    ensures { Gathers (W.contents writer.old) (W.failures writer.old) text.old (concat (told_pieces (record { contacts = contacts.now; delivery = delivery; until = until; entry = entry }))) result (W.contents writer.new) (W.failures writer.new) text.new }
+    ensures { Puts W.contents W.failures text.old (concat (told_pieces (record { contacts = contacts.now; delivery = delivery; until = until; entry = entry }))) result text.new }
 {
     let mut hops = Buffer::new();
     let mut node = Buffer::new();
@@ -152,20 +153,19 @@ fn put_told<W: Write>(
         &until,
         b" contacts",
     ];
-    put_pieces(text, writer, &pieces)
+    put_pieces(text, &pieces)
 }
 
-/// Puts whether the list goes on.
+/// Puts `more` if the listing goes on, and else `end`.
 fn put_last_line<W: Write>(
-    text: &mut TextBuffer,
-    writer: &mut W,
+    text: &mut TextBuffer<'_, W>,
     more: bool,
 ) -> Result<(), WriteFault>
-    ensures { Gathers (W.contents writer.old) (W.failures writer.old) text.old (last_line more) result (W.contents writer.new) (W.failures writer.new) text.new }
+    ensures { Puts W.contents W.failures text.old (last_line more) result text.new }
 {
     if more {
-        text.put(writer, b"more\n")
+        text.put(b"more\n")
     } else {
-        text.put(writer, b"end\n")
+        text.put(b"end\n")
     }
 }

@@ -1,12 +1,12 @@
 use Rattle.std.proofs.Common.{◌≡◌, [], take}
 use Rattle.std.specs.declared.option.Option.TheVariants.{Some}
 use Rattle.sabr_model.specs.Arrival.{arrival_after}
-use Rattle.sabr_session.specs.Gathering.{Gathered}
+use Rattle.sabr_session.specs.Gathering.{HasPut}
 use Rattle.commands.specs.texts.Explanation.{hop_lines}
 use Rattle.commands.proofs.texts.hop_lines.put_hops.Given as goal
 
 abbrev pub invariant-loop-i : goal.invariant-loop-i
 invariant-loop-i g l = record {
   arrived : arrival_after l.plan.plan l.request l.request.at (take l.i l.hops) ≡ Some l.at;
-  gathered : Gathered (g.W.Write.contents l.fn.writer) (g.W.Write.failures l.fn.writer) l.fn.text (hop_lines l.plan.plan l.request [] (take l.i l.hops)) (g.W.Write.contents l.writer) (g.W.Write.failures l.writer) l.text;
+  gathered : HasPut g.W.Write.contents g.W.Write.failures l.fn.text (hop_lines l.plan.plan l.request [] (take l.i l.hops)) l.text;
 }

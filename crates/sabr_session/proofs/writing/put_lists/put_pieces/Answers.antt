@@ -1,15 +1,15 @@
-use Rattle.sabr_session.proofs.Gathering.{Gathered-nil}
-use Rattle.sabr_session.proofs.Pieces.{Gathered-piece, Gathers-in_piece}
+use Rattle.sabr_session.proofs.Gathering.{HasPut-nil}
+use Rattle.sabr_session.proofs.Pieces.{HasPut-piece, Puts-in_piece}
 use Rattle.sabr_session.proofs.writing.put_lists.put_pieces.Goals as goal
 
 pub loop-piece-init : goal.loop-piece-init
-loop-piece-init g c = Gathered-nil _ _ c.args.text.now
+loop-piece-init g c = HasPut-nil c.args.text.now
 
 pub returns-in_err-put : goal.returns-in_err-put
 returns-in_err-put g c =
-    Gathers-in_piece _ _ _ _ _ _ _ _ _ _ c.args.pieces.now c.loop-piece.piece-index _ c.from_residual.result c.loop-piece-test.true c.from_residual.ensures.1
+    Puts-in_piece _ c.args.pieces.now c.loop-piece.piece-index _ c.from_residual.result c.loop-piece-test.true c.from_residual.ensures.1
     c.loop-piece.invariant (c.in_err-put.ensures {u = tt})
 
 pub loop-piece-preserved : goal.loop-piece-preserved
 loop-piece-preserved g c =
-    Gathered-piece _ _ _ _ _ _ _ _ _ c.args.pieces.now c.loop-piece.piece-index _ c.loop-piece-test.true c.loop-piece.invariant (c.in_ok-put.ensures {u = tt})
+    HasPut-piece c.args.pieces.now c.loop-piece.piece-index _ c.loop-piece-test.true c.loop-piece.invariant (c.in_ok-put.ensures {u = tt})

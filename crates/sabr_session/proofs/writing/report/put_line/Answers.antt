@@ -1,18 +1,18 @@
 use Rattle.std.proofs.Common.{[], ◌∷◌, decimal}
 use Rattle.sabr_session.specs.ReportText.{route_line}
-use Rattle.sabr_session.proofs.Gathering.{Gathers-stopped, Gathers-after}
+use Rattle.sabr_session.proofs.Gathering.{Puts-stopped, Puts-after}
 use Rattle.sabr_session.proofs.writing.report.put_line.Goals as goal
 
 pub returns-in_err-put_count : goal.returns-in_err-put_count
 returns-in_err-put_count g c =
-    Gathers-stopped _ _ _ _ _ _ _ (decimal c.args.rank) (32 ∷ route_line c.args.route.now) c.from_residual.result c.from_residual.ensures.1 c.in_err-put_count.ensures
+    Puts-stopped _ (decimal c.args.rank) (32 ∷ route_line c.args.route.now) c.from_residual.result c.from_residual.ensures.1 c.in_err-put_count.ensures
 
 pub returns-in_err-put : goal.returns-in_err-put
 returns-in_err-put g c =
-    Gathers-after _ _ _ _ _ _ _ _ _ (decimal c.args.rank) (32 ∷ route_line c.args.route.now) _ c.in_ok-put_count.ensures
-    (Gathers-stopped _ _ _ _ _ _ _ (32 ∷ []) (route_line c.args.route.now) c.from_residual-in_err-put.result c.from_residual-in_err-put.ensures.1 c.in_err-put.ensures)
+    Puts-after _ (decimal c.args.rank) (32 ∷ route_line c.args.route.now) _ c.in_ok-put_count.ensures
+    (Puts-stopped _ (32 ∷ []) (route_line c.args.route.now) c.from_residual-in_err-put.result c.from_residual-in_err-put.ensures.1 c.in_err-put.ensures)
 
 pub returns : goal.returns
 returns g c =
-    Gathers-after _ _ _ _ _ _ _ _ _ (decimal c.args.rank) (32 ∷ route_line c.args.route.now) _ c.in_ok-put_count.ensures
-    (Gathers-after _ _ _ _ _ _ _ _ _ (32 ∷ []) (route_line c.args.route.now) _ c.in_ok-put.ensures c.put_route.ensures)
+    Puts-after _ (decimal c.args.rank) (32 ∷ route_line c.args.route.now) _ c.in_ok-put_count.ensures
+    (Puts-after _ (32 ∷ []) (route_line c.args.route.now) _ c.in_ok-put.ensures c.put_route.ensures)

@@ -1,7 +1,7 @@
 use Rattle.std.proofs.Common.{ℕ, ◌+◌, List, drop, suc, add-one, arith}
 use Rattle.sabr_model.specs.Record.{RouteRecord}
 use Rattle.sabr_session.specs.ReportText.{report_line, report_lines}
-use Rattle.sabr_session.proofs.Gathering.{Gathered-append, Gathers-stopped, Gathers-after}
+use Rattle.sabr_session.proofs.Gathering.{HasPut-append, Puts-stopped, Puts-after}
 use Rattle.sabr_session.proofs.ReportLines.{report_lines-at, report_lines-take}
 use Rattle.sabr_session.proofs.writing.report.put_lines.Goals as goal
 
@@ -13,8 +13,8 @@ returns-in_err-put_line g c =
     let x : RouteRecord = c.route-item.result in
     let h = c.in_err-put_line.ensures {u = tt} in
     rw (report_lines-at first xs i x c.loop-route-test.true, ← c.route-item.is)
-    (Gathers-after _ _ _ _ _ _ _ _ _ _ _ _ c.loop-route.invariant.gathered
-    (Gathers-stopped _ _ _ _ _ _ _ (report_line (first + i) x) (report_lines (first + i + 1) (drop (suc i) xs)) c.from_residual.result c.from_residual.ensures.1 (rw c.loop-route.invariant.counted at h)))
+    (Puts-after _ _ _ _ c.loop-route.invariant.gathered
+    (Puts-stopped _ (report_line (first + i) x) (report_lines (first + i + 1) (drop (suc i) xs)) c.from_residual.result c.from_residual.ensures.1 (rw c.loop-route.invariant.counted at h)))
 
 pub loop-route-preserved : goal.loop-route-preserved
 loop-route-preserved g c =
@@ -26,5 +26,5 @@ loop-route-preserved g c =
       counted = omega (arith, c.loop-route.invariant.counted);
       gathered =
           rw (add-one, report_lines-take c.args.first_rank xs i x c.loop-route-test.true, ← c.route-item.is)
-          (Gathered-append _ _ _ _ _ _ _ _ _ _ _ c.loop-route.invariant.gathered (rw c.loop-route.invariant.counted at h));
+          (HasPut-append _ _ c.loop-route.invariant.gathered (rw c.loop-route.invariant.counted at h));
     }

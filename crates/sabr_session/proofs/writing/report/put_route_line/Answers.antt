@@ -5,7 +5,7 @@ use Rattle.std.proofs.lemmas.List.Folds.{concat-append}
 use Rattle.sabr_model.specs.Record.{RouteRecord}
 use Rattle.sabr_session.specs.ReportText.{route_line, told_pieces}
 use Rattle.sabr_session.specs.SpacedNumbers.{spaced_behind}
-use Rattle.sabr_session.proofs.Gathering.{Gathers-stopped, Gathers-after}
+use Rattle.sabr_session.proofs.Gathering.{Puts-stopped, Puts-after}
 use Rattle.sabr_session.proofs.writing.report.put_route_line.Goals as goal
 
 in_pieces : (r : RouteRecord) → route_line r ≡ concat (told_pieces r) ++ (spaced_behind r.contacts ++ codes "\n")
@@ -16,20 +16,20 @@ returns-in_err-put_told g c =
     let a = c.args in
     let r : RouteRecord = record { contacts = a.contacts.now; delivery = a.delivery; until = a.until; entry = a.entry } in
     rw (in_pieces r)
-    (Gathers-stopped _ _ _ _ _ _ _ (concat (told_pieces r)) (spaced_behind r.contacts ++ codes "\n") c.from_residual.result c.from_residual.ensures.1 c.in_err-put_told.ensures)
+    (Puts-stopped _ (concat (told_pieces r)) (spaced_behind r.contacts ++ codes "\n") c.from_residual.result c.from_residual.ensures.1 c.in_err-put_told.ensures)
 
 pub returns-in_err-put_numbers : goal.returns-in_err-put_numbers
 returns-in_err-put_numbers g c =
     let a = c.args in
     let r : RouteRecord = record { contacts = a.contacts.now; delivery = a.delivery; until = a.until; entry = a.entry } in
     rw (in_pieces r)
-    (Gathers-after _ _ _ _ _ _ _ _ _ (concat (told_pieces r)) (spaced_behind r.contacts ++ codes "\n") _ c.in_ok-put_told.ensures
-    (Gathers-stopped _ _ _ _ _ _ _ (spaced_behind r.contacts) (codes "\n") c.from_residual-in_err-put_numbers.result c.from_residual-in_err-put_numbers.ensures.1 c.in_err-put_numbers.ensures))
+    (Puts-after _ (concat (told_pieces r)) (spaced_behind r.contacts ++ codes "\n") _ c.in_ok-put_told.ensures
+    (Puts-stopped _ (spaced_behind r.contacts) (codes "\n") c.from_residual-in_err-put_numbers.result c.from_residual-in_err-put_numbers.ensures.1 c.in_err-put_numbers.ensures))
 
 pub returns : goal.returns
 returns g c =
     let a = c.args in
     let r : RouteRecord = record { contacts = a.contacts.now; delivery = a.delivery; until = a.until; entry = a.entry } in
     rw (in_pieces r)
-    (Gathers-after _ _ _ _ _ _ _ _ _ (concat (told_pieces r)) (spaced_behind r.contacts ++ codes "\n") _ c.in_ok-put_told.ensures
-    (Gathers-after _ _ _ _ _ _ _ _ _ (spaced_behind r.contacts) (codes "\n") _ c.in_ok-put_numbers.ensures c.put.ensures))
+    (Puts-after _ (concat (told_pieces r)) (spaced_behind r.contacts ++ codes "\n") _ c.in_ok-put_told.ensures
+    (Puts-after _ (spaced_behind r.contacts) (codes "\n") _ c.in_ok-put_numbers.ensures c.put.ensures))

@@ -1,7 +1,7 @@
 use Rattle.std.proofs.Common.{ℕ, List, ◌++◌, codes, decimal, length}
 use Rattle.sabr_frontier.specs.State.{State}
 use Rattle.sabr_session.specs.SpacedNumbers.{list_text}
-use Rattle.sabr_session.proofs.Gathering.{Gathers-stopped, Gathers-after}
+use Rattle.sabr_session.proofs.Gathering.{Puts-stopped, Puts-after}
 use Rattle.sabr_session.proofs.writing.session_text.put_counts.Goals as goal
 
 pub returns-in_err-put : goal.returns-in_err-put
@@ -12,7 +12,7 @@ returns-in_err-put g c =
     let latest : List ℕ = codes "\nlast " ++ list_text s.last in
     let parts : List ℕ = codes "\nparts " ++ decimal (length s.parts) in
     let newline : List ℕ = codes "\n" in
-    (Gathers-stopped _ _ _ _ _ _ _ label (given ++ (latest ++ (parts ++ newline))) c.from_residual.result c.from_residual.ensures.1 c.in_err-put.ensures)
+    (Puts-stopped _ label (given ++ (latest ++ (parts ++ newline))) c.from_residual.result c.from_residual.ensures.1 c.in_err-put.ensures)
 
 pub returns-in_err-put_count : goal.returns-in_err-put_count
 returns-in_err-put_count g c =
@@ -22,8 +22,8 @@ returns-in_err-put_count g c =
     let latest : List ℕ = codes "\nlast " ++ list_text s.last in
     let parts : List ℕ = codes "\nparts " ++ decimal (length s.parts) in
     let newline : List ℕ = codes "\n" in
-    (Gathers-after _ _ _ _ _ _ _ _ _ label (given ++ (latest ++ (parts ++ newline))) _ c.in_ok-put.ensures
-    (Gathers-stopped _ _ _ _ _ _ _ given (latest ++ (parts ++ newline)) c.from_residual-in_err-put_count.result c.from_residual-in_err-put_count.ensures.1 (rw c.emitted.ensures.count at c.in_err-put_count.ensures)))
+    (Puts-after _ label (given ++ (latest ++ (parts ++ newline))) _ c.in_ok-put.ensures
+    (Puts-stopped _ given (latest ++ (parts ++ newline)) c.from_residual-in_err-put_count.result c.from_residual-in_err-put_count.ensures.1 (rw c.emitted.ensures.count at c.in_err-put_count.ensures)))
 
 pub returns-in_err-put_list : goal.returns-in_err-put_list
 returns-in_err-put_list g c =
@@ -33,9 +33,9 @@ returns-in_err-put_list g c =
     let latest : List ℕ = codes "\nlast " ++ list_text s.last in
     let parts : List ℕ = codes "\nparts " ++ decimal (length s.parts) in
     let newline : List ℕ = codes "\n" in
-    (Gathers-after _ _ _ _ _ _ _ _ _ label (given ++ (latest ++ (parts ++ newline))) _ c.in_ok-put.ensures
-    (Gathers-after _ _ _ _ _ _ _ _ _ given (latest ++ (parts ++ newline)) _ (rw c.emitted.ensures.count at c.in_ok-put_count.ensures)
-    (Gathers-stopped _ _ _ _ _ _ _ latest (parts ++ newline) c.from_residual-in_err-put_list.result c.from_residual-in_err-put_list.ensures.1 (rw c.last.ensures at c.in_err-put_list.ensures))))
+    (Puts-after _ label (given ++ (latest ++ (parts ++ newline))) _ c.in_ok-put.ensures
+    (Puts-after _ given (latest ++ (parts ++ newline)) _ (rw c.emitted.ensures.count at c.in_ok-put_count.ensures)
+    (Puts-stopped _ latest (parts ++ newline) c.from_residual-in_err-put_list.result c.from_residual-in_err-put_list.ensures.1 (rw c.last.ensures at c.in_err-put_list.ensures))))
 
 pub returns-in_err-put_number : goal.returns-in_err-put_number
 returns-in_err-put_number g c =
@@ -45,10 +45,10 @@ returns-in_err-put_number g c =
     let latest : List ℕ = codes "\nlast " ++ list_text s.last in
     let parts : List ℕ = codes "\nparts " ++ decimal (length s.parts) in
     let newline : List ℕ = codes "\n" in
-    (Gathers-after _ _ _ _ _ _ _ _ _ label (given ++ (latest ++ (parts ++ newline))) _ c.in_ok-put.ensures
-    (Gathers-after _ _ _ _ _ _ _ _ _ given (latest ++ (parts ++ newline)) _ (rw c.emitted.ensures.count at c.in_ok-put_count.ensures)
-    (Gathers-after _ _ _ _ _ _ _ _ _ latest (parts ++ newline) _ (rw c.last.ensures at c.in_ok-put_list.ensures)
-    (Gathers-stopped _ _ _ _ _ _ _ parts newline c.from_residual-in_err-put_number.result c.from_residual-in_err-put_number.ensures.1 (rw c.part_count.ensures at c.in_err-put_number.ensures)))))
+    (Puts-after _ label (given ++ (latest ++ (parts ++ newline))) _ c.in_ok-put.ensures
+    (Puts-after _ given (latest ++ (parts ++ newline)) _ (rw c.emitted.ensures.count at c.in_ok-put_count.ensures)
+    (Puts-after _ latest (parts ++ newline) _ (rw c.last.ensures at c.in_ok-put_list.ensures)
+    (Puts-stopped _ parts newline c.from_residual-in_err-put_number.result c.from_residual-in_err-put_number.ensures.1 (rw c.part_count.ensures at c.in_err-put_number.ensures)))))
 
 pub returns : goal.returns
 returns g c =
@@ -58,8 +58,8 @@ returns g c =
     let latest : List ℕ = codes "\nlast " ++ list_text s.last in
     let parts : List ℕ = codes "\nparts " ++ decimal (length s.parts) in
     let newline : List ℕ = codes "\n" in
-    (Gathers-after _ _ _ _ _ _ _ _ _ label (given ++ (latest ++ (parts ++ newline))) _ c.in_ok-put.ensures
-    (Gathers-after _ _ _ _ _ _ _ _ _ given (latest ++ (parts ++ newline)) _ (rw c.emitted.ensures.count at c.in_ok-put_count.ensures)
-    (Gathers-after _ _ _ _ _ _ _ _ _ latest (parts ++ newline) _ (rw c.last.ensures at c.in_ok-put_list.ensures)
-    (Gathers-after _ _ _ _ _ _ _ _ _ parts newline _ (rw c.part_count.ensures at c.in_ok-put_number.ensures)
+    (Puts-after _ label (given ++ (latest ++ (parts ++ newline))) _ c.in_ok-put.ensures
+    (Puts-after _ given (latest ++ (parts ++ newline)) _ (rw c.emitted.ensures.count at c.in_ok-put_count.ensures)
+    (Puts-after _ latest (parts ++ newline) _ (rw c.last.ensures at c.in_ok-put_list.ensures)
+    (Puts-after _ parts newline _ (rw c.part_count.ensures at c.in_ok-put_number.ensures)
     c.put-2.ensures))))

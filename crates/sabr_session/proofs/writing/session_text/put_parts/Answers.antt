@@ -4,7 +4,7 @@ use Rattle.std.proofs.lemmas.Iterator.Consumers.{YieldsList-from_first, YieldsLi
 use Rattle.sabr_frontier.specs.Session.{PartTold}
 use Rattle.sabr_frontier.specs.Views.{told_of, told_left}
 use Rattle.sabr_session.specs.SessionPieces.{told_line}
-use Rattle.sabr_session.proofs.Gathering.{Gathered-append, Gathers-stopped, Gathers-after}
+use Rattle.sabr_session.proofs.Gathering.{HasPut-append, Puts-stopped, Puts-after}
 use Rattle.sabr_session.proofs.Pieces.{lines-at}
 use Rattle.sabr_session.proofs.SessionPieces.{lines-more}
 use Rattle.sabr_session.proofs.writing.session_text.put_parts.Goals as goal
@@ -17,13 +17,13 @@ returns-in_err-put_part g c =
     let before = YieldsList-so_far road ys c.loop-part.part-iterator c.loop-part.yielded_by in
     let turn = YieldsList-turn road ys c.loop-part.part-iterator c.loop-part.yielded_by _ c.next.new.self c.in-Some.part c.in-Some.is c.next.ensures.steps in
     rw (lines-at told_line all (map told_of ys) (length ys) (told_of c.in-Some.part) before turn)
-    (Gathers-after _ _ _ _ _ _ _ _ _ _ _ _ c.loop-part.invariant
-    (Gathers-stopped _ _ _ _ _ _ _ (told_line (told_of c.in-Some.part)) (flat_map told_line (drop (length ys + 1) all)) c.from_residual.result c.from_residual.ensures.1 (c.in_err-put_part.ensures {u = tt})))
+    (Puts-after _ _ _ _ c.loop-part.invariant
+    (Puts-stopped _ (told_line (told_of c.in-Some.part)) (flat_map told_line (drop (length ys + 1) all)) c.from_residual.result c.from_residual.ensures.1 (c.in_err-put_part.ensures {u = tt})))
 
 pub loop-part-preserved : goal.loop-part-preserved
 loop-part-preserved g c =
     rw (lines-more told_of c.loop-part.yielded c.in-Some.part)
-    (Gathered-append _ _ _ _ _ _ _ _ _ _ _ c.loop-part.invariant (c.in_ok-put_part.ensures {u = tt}))
+    (HasPut-append _ _ c.loop-part.invariant (c.in_ok-put_part.ensures {u = tt}))
 
 pub returns : goal.returns
 returns g c =

@@ -3,7 +3,7 @@ use Rattle.std.specs.List.{concat}
 use Rattle.sabr_model.specs.Arrival.{RouteRequest}
 use Rattle.sabr_session.specs.SpacedNumbers.{list_text}
 use Rattle.sabr_session.specs.SessionPieces.{asked_pieces}
-use Rattle.sabr_session.proofs.Gathering.{Gathers-stopped, Gathers-after}
+use Rattle.sabr_session.proofs.Gathering.{Puts-stopped, Puts-after}
 use Rattle.sabr_session.proofs.SessionPieces.{request_in_pieces}
 use Rattle.sabr_session.proofs.writing.session_text.put_request.Goals as goal
 
@@ -14,7 +14,7 @@ returns-in_err-put_asked g c =
     let nodes : List ℕ = codes " / " ++ list_text r.avoided in
     let newline : List ℕ = codes "\n" in
     rw (request_in_pieces r)
-    (Gathers-stopped _ _ _ _ _ _ _ front (nodes ++ newline) c.from_residual.result c.from_residual.ensures.1 c.in_err-put_asked.ensures)
+    (Puts-stopped _ front (nodes ++ newline) c.from_residual.result c.from_residual.ensures.1 c.in_err-put_asked.ensures)
 
 pub returns-in_err-put_nodes : goal.returns-in_err-put_nodes
 returns-in_err-put_nodes g c =
@@ -23,8 +23,8 @@ returns-in_err-put_nodes g c =
     let nodes : List ℕ = codes " / " ++ list_text r.avoided in
     let newline : List ℕ = codes "\n" in
     rw (request_in_pieces r)
-    (Gathers-after _ _ _ _ _ _ _ _ _ front (nodes ++ newline) _ c.in_ok-put_asked.ensures
-    (Gathers-stopped _ _ _ _ _ _ _ nodes newline c.from_residual-in_err-put_nodes.result c.from_residual-in_err-put_nodes.ensures.1 (rw c.avoided.ensures.value at c.in_err-put_nodes.ensures)))
+    (Puts-after _ front (nodes ++ newline) _ c.in_ok-put_asked.ensures
+    (Puts-stopped _ nodes newline c.from_residual-in_err-put_nodes.result c.from_residual-in_err-put_nodes.ensures.1 (rw c.avoided.ensures.value at c.in_err-put_nodes.ensures)))
 
 pub returns : goal.returns
 returns g c =
@@ -33,6 +33,6 @@ returns g c =
     let nodes : List ℕ = codes " / " ++ list_text r.avoided in
     let newline : List ℕ = codes "\n" in
     rw (request_in_pieces r)
-    (Gathers-after _ _ _ _ _ _ _ _ _ front (nodes ++ newline) _ c.in_ok-put_asked.ensures
-    (Gathers-after _ _ _ _ _ _ _ _ _ nodes newline _ (rw c.avoided.ensures.value at c.in_ok-put_nodes.ensures)
+    (Puts-after _ front (nodes ++ newline) _ c.in_ok-put_asked.ensures
+    (Puts-after _ nodes newline _ (rw c.avoided.ensures.value at c.in_ok-put_nodes.ensures)
     c.put.ensures))

@@ -3,7 +3,7 @@ use Rattle.std.specs.List.{concat, flat_map}
 use Rattle.sabr_frontier.specs.State.{State}
 use Rattle.sabr_session.specs.SessionText.{part_line}
 use Rattle.sabr_session.specs.SessionPieces.{counts_pieces}
-use Rattle.sabr_session.proofs.Gathering.{Gathers-stopped, Gathers-after}
+use Rattle.sabr_session.proofs.Gathering.{Puts-stopped, Puts-after}
 use Rattle.sabr_session.proofs.SessionPieces.{state_in_pieces, lines_of_told}
 use Rattle.sabr_session.proofs.writing.session_text.put_state.Goals as goal
 
@@ -14,7 +14,7 @@ returns-in_err-put_counts g c =
     let lines : List ℕ = flat_map part_line s.parts in
     let ending : List ℕ = codes "end\n" in
     rw (state_in_pieces s)
-    (Gathers-stopped _ _ _ _ _ _ _ counts (lines ++ ending) c.from_residual.result c.from_residual.ensures.1 c.in_err-put_counts.ensures)
+    (Puts-stopped _ counts (lines ++ ending) c.from_residual.result c.from_residual.ensures.1 c.in_err-put_counts.ensures)
 
 pub returns-in_err-put_parts : goal.returns-in_err-put_parts
 returns-in_err-put_parts g c =
@@ -23,8 +23,8 @@ returns-in_err-put_parts g c =
     let lines : List ℕ = flat_map part_line s.parts in
     let ending : List ℕ = codes "end\n" in
     rw (state_in_pieces s)
-    (Gathers-after _ _ _ _ _ _ _ _ _ counts (lines ++ ending) _ c.in_ok-put_counts.ensures
-    (Gathers-stopped _ _ _ _ _ _ _ lines ending c.from_residual-in_err-put_parts.result c.from_residual-in_err-put_parts.ensures.1 (rw (lines_of_told c.args.session.now.plan.plan c.args.session.now.request _ s.parts c.parts.ensures) at c.in_err-put_parts.ensures)))
+    (Puts-after _ counts (lines ++ ending) _ c.in_ok-put_counts.ensures
+    (Puts-stopped _ lines ending c.from_residual-in_err-put_parts.result c.from_residual-in_err-put_parts.ensures.1 (rw (lines_of_told c.args.session.now.plan.plan c.args.session.now.request _ s.parts c.parts.ensures) at c.in_err-put_parts.ensures)))
 
 pub returns : goal.returns
 returns g c =
@@ -33,6 +33,6 @@ returns g c =
     let lines : List ℕ = flat_map part_line s.parts in
     let ending : List ℕ = codes "end\n" in
     rw (state_in_pieces s)
-    (Gathers-after _ _ _ _ _ _ _ _ _ counts (lines ++ ending) _ c.in_ok-put_counts.ensures
-    (Gathers-after _ _ _ _ _ _ _ _ _ lines ending _ (rw (lines_of_told c.args.session.now.plan.plan c.args.session.now.request _ s.parts c.parts.ensures) at c.in_ok-put_parts.ensures)
+    (Puts-after _ counts (lines ++ ending) _ c.in_ok-put_counts.ensures
+    (Puts-after _ lines ending _ (rw (lines_of_told c.args.session.now.plan.plan c.args.session.now.request _ s.parts c.parts.ensures) at c.in_ok-put_parts.ensures)
     c.put.ensures))

@@ -1,11 +1,11 @@
-//! The text of a digest.
+//! A digest as text.
 
 ghost use Rattle.std.specs.Prelude.{◌≡◌};
 ghost use Rattle.hex.specs.Hex.{encode_lower};
 
 use hex::encode_to_slice;
 
-/// Gives the digits of a digest, two for each byte, the letters in lower case.
+/// Spells a digest as hex digits, two for each byte, the letters in lower case.
 pub fn digest_text(digest: &[u8; 32]) -> [u8; 64]
     ensures { result ≡ encode_lower digest.now }
 {
