@@ -1,6 +1,8 @@
 //! What a session keeps for its searches, all of one plan and request.
 
-ghost use Rattle.std.specs.Prelude.{◌≡◌, []};
+ghost use Rattle.sabr_model.specs.Plan.{TabledPlan};
+ghost use Rattle.sabr_model.specs.Arrival.{RouteRequest};
+ghost use Rattle.sabr_search.specs.Kept.{IsKept};
 
 use crate::answers::Answers;
 use crate::rungs::Rungs;
@@ -20,8 +22,7 @@ pub struct Kept<A: Allocator + Copy = Global> {
 impl<A: Allocator + Copy> Kept<A> {
     /// Begins with nothing so far. It has taken no memory.
     pub fn new(alloc: A) -> Kept<A>
-        ensures rungs { result.rungs.rungs.items ≡ [] }
-        ensures answers { result.answers.slots.items ≡ [] }
+        ensures { (p : TabledPlan) (r : RouteRequest) → IsKept p r result }
     {
         Kept {
             rungs: Rungs::new(alloc),
