@@ -1,4 +1,4 @@
-use Rattle.std.proofs.Common.{◌≡◌, arith, length, reverse, ap, sym, subst}
+use Rattle.std.proofs.Common.{◌≡◌, length, reverse, ap, sym, subst}
 use Rattle.sabr_frontier.specs.Shape.{shape_of}
 use Rattle.sabr_frontier.specs.Session.{AreStarts, IsSoundFor}
 use Rattle.sabr_frontier.proofs.session.Session.of_tree.Goals as goal
@@ -15,5 +15,5 @@ invariant_of-result g c =
       starts = subst (λ z. AreStarts (reverse z) (length c.args.tree.journal.items)) (sym c.new.ensures.items) none;
       index = c.requires.index;
       room = c.requires.room;
-      tables = λ k d less. absurd (omega (arith, less, ap length c.new-kept.ensures));
+      tables = c.new-kept.ensures c.args.plan.now r;
     }

@@ -1,4 +1,4 @@
-use Rattle.std.proofs.Common.{◌≡◌, [], arith, length, reverse, ap, sym, subst, ◌∙◌}
+use Rattle.std.proofs.Common.{◌≡◌, [], length, reverse, ap, sym, subst, ◌∙◌}
 use Rattle.sabr_model.proofs.Prefixes.{empty_is_prefix}
 use Rattle.sabr_frontier.specs.Shape.{Shape, shape_of, shown}
 use Rattle.sabr_frontier.specs.Session.{AreStarts, IsSound, former_of}
@@ -11,7 +11,7 @@ pub ask-requires-clause-fits : goal.ask-requires-clause-fits
 ask-requires-clause-fits g c = empty_is_prefix c.args.plan.now.plan c.args.request
 
 pub ask-requires-clause-kept : goal.ask-requires-clause-kept
-ask-requires-clause-kept g c = λ k d less. absurd (omega (arith, less, ap length c.new-kept.ensures))
+ask-requires-clause-kept g c = c.new-kept.ensures c.args.plan.now c.args.request
 
 pub invariant_of-result : goal.invariant_of-result
 invariant_of-result g c =
