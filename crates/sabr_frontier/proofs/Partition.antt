@@ -1,7 +1,7 @@
 -- Where a test of a list in order changes its answer, and what is put there.
-use Rattle.std.proofs.Common.{◌≡◌, ℕ, zero, suc, ◌<◌, ◌≤◌, Bool, true, false, cond, ltb, List, [], ◌∷◌, length, take, drop, get_or, insert, refl, sym, ap, ◌∙◌, inl, inr, arith, true≢false}
+use Rattle.std.proofs.Common.{◌≡◌, ℕ, zero, suc, ◌+◌, slice_index, subst, ◌<◌, ◌≤◌, Bool, true, false, cond, ltb, List, [], ◌∷◌, length, take, drop, get_or, insert, refl, sym, ap, ◌∙◌, inl, inr, arith, true≢false}
 use Rattle.std.specs.List.{AllWithin}
-use Rattle.std.specs.List.Sorted.{IsPartitionPoint, IsPartitionedBy}
+use Rattle.std.specs.List.Sorted.{IsPartitionPoint, IsPartitionedBy, IsStrictlyIncreasing}
 use Rattle.std.specs.Ordering.{nat_cmp, is_eq}
 use Rattle.std.specs.declared.cmp.Ordering.{Ordering}
 use Rattle.std.specs.declared.cmp.Ordering.TheVariants.{Less, Equal, Greater}
@@ -106,3 +106,10 @@ put_in_number x (y ∷ ys) h = elim (nat_cmp x y) as (λ r. nat_cmp x y ≡ r �
   | Equal ↦ λ e. absurd (true≢false (sym (ap is_eq e) ∙ (or_parts (is_eq (nat_cmp x y)) (has nat_cmp x ys) h).0))
   | Greater ↦ λ e. ap (λ z. y ∷ z) (put_in_number x ys (or_parts (is_eq (nat_cmp x y)) (has nat_cmp x ys) h).1) ∙ ap (λ b. cond b (y ∷ put_behind (λ y. ltb y x) x ys) (x ∷ y ∷ ys)) (sym (greater_number x y e))
 ] refl
+
+-- numbers of which each is below all that follow rise
+pub increasing : (xs : List ℕ) → Rises nat_cmp xs → IsStrictlyIncreasing xs
+increasing [] h k l = absurd (omega arith)
+increasing (x ∷ []) h k l = absurd (omega arith)
+increasing (x ∷ y ∷ xs) h zero l = let e : nat_cmp x y ≡ Less = h.0.0 in grind (arith, nat_tests)
+increasing (x ∷ y ∷ xs) h (suc k) l = let one : suc (k + 1) ≡ suc k + 1 = omega arith in subst (λ m. slice_index (y ∷ xs) k < slice_index (x ∷ y ∷ xs) m) one (increasing (y ∷ xs) h.1 k (omega (arith, l)))

@@ -1,9 +1,11 @@
 //! Dividing a part by the route that it carries: the number that it excludes from then on, and all searches.
 
 ghost use Rattle.std.specs.Prelude.{◌≡◌, ℕ, ◌+◌, ◌≤◌, ◌<◌, take, drop, slice_index, slice_get, length, vec_len, vec_capacity, Some, [], ◌∷◌, IfOk, OnOk, OnErr, IsTrue};
+ghost use Rattle.std.specs.Ordering.{nat_cmp};
 ghost use Rattle.sabr_model.specs.Route.{is_route};
 ghost use Rattle.sabr_search.specs.Kept.{IsKept};
 ghost use Rattle.sabr_frontier.specs.Best.{best_of};
+ghost use Rattle.sabr_frontier.specs.Rising.{Rises};
 ghost use Rattle.sabr_frontier.specs.Undo.{modify};
 ghost use Rattle.sabr_frontier.specs.Taking.{fresh_nodes, wide_of};
 ghost use Rattle.sabr_frontier.specs.Sound.{CanExclude};
@@ -123,6 +125,7 @@ fn search<B: BestOf<A>, A: Allocator + Copy>(
     requires route { IsTrue (is_route plan.now.plan request.now route.now) }
     requires kept { IsKept plan.now request.now kept.old }
     requires longer { node.now.length < length route.now }
+    requires rising { Rises nat_cmp node.now.excluded }
     ensures found { IfOk result (λ w. w.found ≡ best_of plan.now.plan request.now (take node.now.length route.now) node.now.excluded) }
     ensures fresh { IfOk result (λ w. w.fresh.items ≡ fresh_nodes (best_of plan.now.plan request.now) leaf (take (node.now.length + 1) route.now) (drop (node.now.length + 1) route.now)) }
     ensures called { IfOk result (λ w. B.calls_of finder.new ≡ B.calls_of finder.old + (length w.fresh.items + 1)) }

@@ -1,8 +1,12 @@
-use Rattle.std.proofs.Common.{◌<◌, ◌+◌, length, take, drop, arith, sym, ap, subst, ◌∙◌}
+use Rattle.std.proofs.Common.{◌<◌, ◌+◌, slice_index, length, take, drop, arith, sym, ap, subst, ◌∙◌}
+use Rattle.std.specs.Cmp.{nat_cmp_total}
+use Rattle.std.specs.Ordering.{nat_cmp}
 use Rattle.sabr_frontier.specs.declared.tree.Node.{Node}
+use Rattle.sabr_frontier.specs.Rising.{Rises}
 use Rattle.sabr_frontier.specs.Best.{best_of}
 use Rattle.sabr_frontier.specs.Taking.{fresh_nodes}
 use Rattle.sabr_frontier.proofs.Ends.{get_there, there}
+use Rattle.sabr_frontier.proofs.Rising.{Rises-put_in}
 use Rattle.sabr_frontier.proofs.Excluding.{excluded_there, included}
 use Rattle.sabr_frontier.proofs.divide.divide.Goals as goal
 
@@ -14,6 +18,15 @@ search-requires-clause-longer g c =
     let m = c.index.result.now in
     let node = excluded_there nodes c.exclude_next.new.nodes.items c.args.node.0 s w.0 w.1 c.in_ok-exclude_next.ensures.ok m (get_there c.exclude_next.new.nodes.items c.args.node.0 m (omega arith) c.index.ensures) in
     subst (λ (k : Node g.row.A.Denot). k.length < length s) (sym node) (c.requires.next w.0 w.1).longer
+
+pub search-requires-clause-rising : goal.search-requires-clause-rising
+search-requires-clause-rising g c =
+    let nodes = c.args.nodes.now.items in
+    let s = c.args.route.now in
+    let w = there nodes c.args.node.0 (omega arith) in
+    let m = c.index.result.now in
+    let node = excluded_there nodes c.exclude_next.new.nodes.items c.args.node.0 s w.0 w.1 c.in_ok-exclude_next.ensures.ok m (get_there c.exclude_next.new.nodes.items c.args.node.0 m (omega arith) c.index.ensures) in
+    subst (λ (k : Node g.row.A.Denot). Rises nat_cmp k.excluded) (sym node) (Rises-put_in nat_cmp_total (slice_index s w.0.length) w.0.excluded (c.requires.next w.0 w.1).rises)
 
 pub include_next-requires-clause-longer : goal.include_next-requires-clause-longer
 include_next-requires-clause-longer g c k stands =

@@ -1,5 +1,6 @@
 use Rattle.std.proofs.Common.{◌≡◌, inl, inr, List, refl, sym, ap, subst, ◌∙◌, true≢false, arith, length, Some}
 use Rattle.std.specs.Prelude.{slice_get}
+use Rattle.std.specs.List.Sorted.{IsStrictlyIncreasing}
 use Rattle.std.proofs.lemmas.Bool.{cases_lt}
 use Rattle.sabr_model.specs.Route.{is_prefix}
 use Rattle.sabr_frontier.specs.declared.tree.Node.{Node}
@@ -7,7 +8,8 @@ use Rattle.sabr_frontier.specs.Best.{best_of}
 use Rattle.sabr_frontier.specs.Shape.{shape_of, prefix_of}
 use Rattle.sabr_frontier.proofs.Ends.{get_there}
 use Rattle.sabr_frontier.proofs.Nodes.{get_within}
-use Rattle.sabr_frontier.proofs.Verdicts.{front_is, least_best, best_least}
+use Rattle.sabr_frontier.proofs.Partition.{increasing}
+use Rattle.sabr_frontier.proofs.Verdicts.{excluded_rise, front_is, least_best, best_least}
 use Rattle.sabr_frontier.proofs.tree.Tree.carries_least.Goals as goal
 
 pub ask-requires-clause-fits : goal.ask-requires-clause-fits
@@ -18,6 +20,13 @@ ask-requires-clause-fits g c =
     let n = c.node-item.result in
     let here = subst (λ (xs : List (Node g.row.A.Denot)). slice_get xs c.loop-node.node-index ≡ Some n) c.deref-node-items.ensures.value (get_there c.deref-node-items.result.now c.loop-node.node-index n c.loop-node-test.true c.node-item.is) in
     ap (is_prefix p r) (c.prefix-front.ensures ∙ ap (λ l. prefix_of l n) c.as_slice.ensures.value) ∙ front_is p r t c.requires.tree c.loop-node.node-index n here
+
+pub ask-requires-clause-rising : goal.ask-requires-clause-rising
+ask-requires-clause-rising g c =
+    let t = shape_of c.args.self.now in
+    let n = c.node-item.result in
+    let here = subst (λ (xs : List (Node g.row.A.Denot)). slice_get xs c.loop-node.node-index ≡ Some n) c.deref-node-items.ensures.value (get_there c.deref-node-items.result.now c.loop-node.node-index n c.loop-node-test.true c.node-item.is) in
+    subst IsStrictlyIncreasing (sym c.as_slice-in-loop-node.ensures) (increasing n.excluded (excluded_rise c.args.plan.now.plan c.args.request.now t c.requires.tree c.loop-node.node-index n here))
 
 pub returns-then-not-is_same-clause-least : goal.returns-then-not-is_same-clause-least
 returns-then-not-is_same-clause-least g c =
