@@ -22,11 +22,11 @@ use std::rt::Files;
 enum Beginning<F> {
     /// The listing's first route, for this request.
     Request(Request),
-    /// The routes behind this session.
+    /// The routes after this session.
     Session(Device<F>),
 }
 
-/// Begins with the request, or else with the old session, which it opens.
+/// Begins with the request, if there is one, and else with the old session, which it opens.
 fn begin<R: Files>(
     rt: &R,
     words: &ArgMatches<'_>,
@@ -61,8 +61,8 @@ fn list_over<F: io::Read + Drop, O: Write, S: Write, E: Write>(
     }
 }
 
-/// Lists a page: the first one of a request, or the one behind an old session. Keeps the session behind it where the
-/// words say so.
+/// Lists a page: the first one of a request, or the one after an old session. Keeps the session after it if the words
+/// say so.
 pub fn list<R: Files + AllocGlobal, O: Write, E: Write>(
     rt: &R,
     command: CommandName,
@@ -106,7 +106,7 @@ pub fn list<R: Files + AllocGlobal, O: Write, E: Write>(
     Ok(status)
 }
 
-/// Tells whether a session is one of a plan's.
+/// Verifies a session over a plan.
 pub fn verify<R: Files + AllocGlobal, O: Write, E: Write>(
     rt: &R,
     words: &ArgMatches<'_>,
@@ -118,7 +118,7 @@ pub fn verify<R: Files + AllocGlobal, O: Write, E: Write>(
     Ok(run_verify(rt.alloc(), &mut plan, &mut old, out, err))
 }
 
-/// Tells what a plan holds.
+/// Reports what a plan holds.
 pub fn check<R: Files + AllocGlobal, O: Write, E: Write>(
     rt: &R,
     words: &ArgMatches<'_>,

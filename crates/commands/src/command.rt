@@ -1,4 +1,4 @@
-//! The commands, each declared in one place: its name, what help tells of it, its words, and its run.
+//! The commands, each declared in one place: its name, its help, its words, and its run.
 
 ghost use Rattle.std.specs.Prelude.{◌≡◌, Some};
 ghost use Rattle.commands.specs.words.Values.{command_named, has_request, has_count, has_contacts};
@@ -17,9 +17,9 @@ pub enum CommandName {
     First,
     /// Lists the routes that follow an old session.
     Next,
-    /// Tells whether a session is one of a plan's.
+    /// Verifies a session over a plan.
     Verify,
-    /// Tells what a plan holds.
+    /// Reports what a plan holds.
     Check,
     /// Explains contacts over a plan.
     Explain,
@@ -34,7 +34,7 @@ pub const COMMANDS: [CommandName; 5] = [
     CommandName::Explain,
 ];
 
-/// What is declared of a command. Each has a plan; its other words come in this order.
+/// The declaration of a command. Each command has a plan; its other words come in this order.
 #[derive(Clone, Copy)]
 pub struct Declared<'a> {
     /// Its name on the command line.
@@ -43,18 +43,18 @@ pub struct Declared<'a> {
     pub about: &'a str,
     /// Calls of it, for its help.
     pub examples: &'a str,
-    /// It has words that say what is asked for.
+    /// Whether it has words for a request.
     pub has_request: bool,
-    /// It has the word for an old session.
+    /// Whether it has the word for an old session.
     pub has_session: bool,
-    /// It has words that say how many routes a page has, and where its session is kept.
+    /// Whether it has words for the number of routes of a page, and for the file that keeps its session.
     pub has_count: bool,
-    /// It has the word for contacts.
+    /// Whether it has the word for contacts.
     pub has_contacts: bool,
 }
 
 impl CommandName {
-    /// Tells what is declared of the command.
+    /// The declaration of the command.
     pub fn declared<'a>(self) -> Declared<'a>
         ensures name { command_named result.name.now ≡ Some self }
         ensures request { result.has_request ≡ has_request self }
@@ -120,7 +120,7 @@ impl CommandName {
         }
     }
 
-    /// Runs the command over the words that were given to it. The report goes to `out`, and messages go to `err`.
+    /// Runs the command over its words. The report goes to `out`, and messages go to `err`.
     ///
     /// # Errors
     ///
@@ -141,7 +141,7 @@ impl CommandName {
     }
 }
 
-/// Finds the command of a name.
+/// Finds the command of this name.
 pub fn command_named(name: &str) -> Option<CommandName>
     ensures { result ≡ command_named name.now }
 {

@@ -13,7 +13,7 @@ use sabr_session::SessionFault;
 /// Why a run ended early. Each has a message and a status.
 #[derive(Clone, Copy, Debug, PartialEq, Eq)]
 pub enum Failure {
-    /// A value of the command line is missing or not spelled as it must be, or out of its range.
+    /// A value of the command line is missing, misspelled, or out of its range.
     BadValue(ValueName),
     /// The source is the destination.
     SameNode,
@@ -40,7 +40,7 @@ pub enum Failure {
 }
 
 impl Failure {
-    /// Tells the status that a run ends with.
+    /// The status with which a run ends.
     pub fn status(self) -> Status
         ensures { result ≡ status_of self }
     {
@@ -75,7 +75,7 @@ impl From<ValueFault> for Failure {
 impl From<PlanFault> for Failure {
     ghost from_gives = { λ fault e. e ≡ failure_of_plan fault };
 
-    /// Tells a failed reader and refused memory from a bad line.
+    /// Separates a failed reader and refused memory from a bad line.
     fn from(fault: PlanFault) -> Failure {
         match fault.kind {
             PlanKind::Read => Failure::PlanRead,
@@ -89,7 +89,7 @@ impl From<PlanFault> for Failure {
 impl From<SessionFault> for Failure {
     ghost from_gives = { λ fault e. e ≡ failure_of_session fault };
 
-    /// Tells a failed reader and refused memory from a bad text.
+    /// Separates a failed reader and refused memory from a bad text.
     fn from(fault: SessionFault) -> Failure {
         match fault {
             SessionFault::Read => Failure::SessionRead,

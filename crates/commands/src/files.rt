@@ -17,7 +17,7 @@ pub const SESSION: &str = "session";
 /// The word for the new session's file.
 pub const SESSION_OUT: &str = "session-out";
 
-/// Opens the file that a word names, which has to be there.
+/// Opens the file that a word names.
 fn open<R: Files>(
     rt: &R,
     words: &ArgMatches<'_>,
@@ -34,7 +34,7 @@ fn open<R: Files>(
 ///
 /// # Errors
 ///
-/// [`Failure::CannotOpenPlan`] where it can't be opened.
+/// [`Failure::CannotOpenPlan`] if it can't be opened.
 pub fn open_plan<R: Files>(rt: &R, words: &ArgMatches<'_>) -> Result<Device<R::File>, Failure> {
     open(rt, words, PLAN, Failure::CannotOpenPlan)
 }
@@ -43,21 +43,21 @@ pub fn open_plan<R: Files>(rt: &R, words: &ArgMatches<'_>) -> Result<Device<R::F
 ///
 /// # Errors
 ///
-/// [`Failure::CannotOpenSession`] where it can't be opened.
+/// [`Failure::CannotOpenSession`] if it can't be opened.
 pub fn open_session<R: Files>(rt: &R, words: &ArgMatches<'_>) -> Result<Device<R::File>, Failure> {
     open(rt, words, SESSION, Failure::CannotOpenSession)
 }
 
-/// Tells which file the new session goes to. None where it isn't kept.
+/// The path of the file for the new session. `None` if it isn't kept.
 pub fn session_out<'a>(words: &ArgMatches<'a>) -> Option<&'a str> {
     words.get_str(SESSION_OUT)
 }
 
-/// Makes the file of a new session. A file that is there stays as it is.
+/// Makes the file of a new session. A file that exists stays as it is.
 ///
 /// # Errors
 ///
-/// [`Failure::CannotMakeSession`] where it can't be made.
+/// [`Failure::CannotMakeSession`] if it can't be made.
 pub fn make_session<R: Files>(rt: &R, path: &str) -> Result<Device<R::File>, Failure> {
     match File::create_new(rt, path) {
         Ok(file) => Ok(Device::new(file)),
@@ -65,8 +65,7 @@ pub fn make_session<R: Files>(rt: &R, path: &str) -> Result<Device<R::File>, Fai
     }
 }
 
-/// Removes the file that was made for a session, unless the run that wrote it did what it was asked. A failure here
-/// changes nothing.
+/// Removes the file of a new session, unless the run that wrote it is done. A failure to remove it changes nothing.
 pub fn remove_unless_done<R: Files>(rt: &R, path: &str, status: Status) {
     if status != Status::Done {
         let _ = fs::remove_file(rt, path);

@@ -1,13 +1,14 @@
-//! The headline and what it says of single runs and calls, as theorems: the contracts of functions that do nothing.
+//! The headline, and what it says of single runs and calls. Each is a theorem: the contract of a function that does
+//! nothing.
 
 ghost use Rattle.commands.specs.runs.EveryRun.{EveryRunFollows};
 ghost use Rattle.commands.specs.runs.NextPage.{NextGoesOn};
 ghost use Rattle.commands.specs.runs.PagesLeft.{PagesStand};
 
-/// Shows that every run of a session follows the list of all routes. Whatever sizes its pages have, and wherever it went through
-/// its text on the way, its pages one behind the other are the next routes of the list, best first, none left out and
-/// none twice; how many routes it gave decides its text; and a page for which memory was refused gave nothing and left
-/// all as it was. A run begins with a session just started, or goes on from the place of a text that verifying accepts.
+/// Shows that every run of a session follows the list of all routes. Whatever sizes its pages have, and wherever it
+/// went through its text, its pages in turn are the next routes of the list, best first, none left out and none twice.
+/// Its text depends only on the number of routes given. A page that runs out of memory gives nothing and leaves all as
+/// it was. A run begins with a session just started, or goes on from the place of a text that verifying accepts.
 ///
 /// Every list of events has a run, as long as the sessions that it writes have texts, which all in memory have. Each
 /// beginning of a list is a list of events, too, so this holds at every place of a run. Pages may have any size here;
@@ -16,16 +17,16 @@ pub fn every_run()
     ensures { EveryRunFollows }
 {}
 
-/// Shows that a run `next` over the session text of a place of the list writes the report of the page from there on, ranked
-/// from the place's next rank, and leaves the session text of the place after it. Where one of its writers failed that
-/// writer holds a beginning, and where memory was refused or the session's reader failed nothing was written.
+/// Shows that a run `next` over the session text of a place of the list writes the report of the next page, with ranks
+/// that go on from that place, and then the session text of the place after it. If one of its writers fails, that
+/// writer holds a beginning. If memory is refused or the session's reader fails, nothing is written.
 pub fn next_goes_on()
     ensures { NextGoesOn }
 {}
 
 /// Shows that after any pages, refusals and steps back a session is that of the pages that weren't taken back, in the
-/// order in which they were given and nothing else; and so are the states that it can go back to. From a place of the
-/// list it stands at the place after their routes.
+/// order in which they were given. So are the states that it can go back to. If it began at a place of the list, it
+/// stands at the place after their routes.
 pub fn pages_stand()
     ensures { PagesStand }
 {}

@@ -12,10 +12,9 @@ use std::alloc::Global;
 use std::rt::{Env, Files};
 use std::{env, io};
 
-/// Runs the program over the words that it was started with, as [`run_words`] over those behind its name.
+/// Runs the program over the words that it was started with, as [`run_words`] over those after its name.
 ///
-/// The status is [`Status::Usage`] where a word isn't UTF-8, and [`Status::Memory`] where memory for the words was
-/// refused.
+/// The status is [`Status::Usage`] if a word isn't UTF-8, and [`Status::Memory`] if memory for the words was refused.
 pub fn run_arguments<R: Env + Files + AllocGlobal, O: Write, E: Write>(
     rt: &R,
     out: &mut O,
@@ -37,7 +36,7 @@ pub fn run_arguments<R: Env + Files + AllocGlobal, O: Write, E: Write>(
     run_words(rt, words.as_slice(), out, err)
 }
 
-/// Tells that the words of the command line couldn't be read.
+/// Reports that the words of the command line couldn't be read.
 fn tell_unread<E: Write>(error: &io::Error, err: &mut E) -> Status {
     if error.kind() == io::ErrorKind::OutOfMemory {
         return tell(err, Failure::NoMemory);
@@ -46,13 +45,12 @@ fn tell_unread<E: Write>(error: &io::Error, err: &mut E) -> Status {
     Status::Usage
 }
 
-/// Runs the program over the words behind its name: reads their values, opens the files that they name, and runs the
-/// command over these. What the command tells goes to `out`, and messages and help go to `err`.
+/// Runs the program over the words after its name: reads their values, opens the files that they name, and runs the
+/// command over these. The report goes to `out`, and messages and help go to `err`.
 ///
-/// Before the command's run the status is [`Status::Usage`] where the words are refused or ask for help, [`Status::Io`]
-/// where a file can't be opened or made, and [`Status::Memory`] where memory was refused; then `out` is left as it was.
-/// Behind it the status is the run's, and where that isn't [`Status::Done`] the file that was made for a session is
-/// removed.
+/// The status is [`Status::Usage`] if the words are refused or ask for help, [`Status::Io`] if a file can't be opened
+/// or made, and [`Status::Memory`] if memory was refused before the run. Then nothing is written to `out`. Else the
+/// status is the run's; if that isn't [`Status::Done`], the file that was made for a session is removed.
 pub fn run_words<R: Files + AllocGlobal, O: Write, E: Write>(
     rt: &R,
     words: &[&str],
@@ -65,7 +63,7 @@ pub fn run_words<R: Files + AllocGlobal, O: Write, E: Write>(
     }
 }
 
-/// Tells why the words were refused, or the help that they ask for.
+/// Reports why the words were refused, or writes the help that they ask for.
 fn tell_usage<E: Write>(alloc: Global, refusal: &Error, err: &mut E) -> Status {
     if refusal.kind() == ErrorKind::OutOfMemory {
         return tell(err, Failure::NoMemory);
@@ -77,7 +75,7 @@ fn tell_usage<E: Write>(alloc: Global, refusal: &Error, err: &mut E) -> Status {
     Status::Usage
 }
 
-/// Runs the command that the words name, or tells why it couldn't begin.
+/// Runs the command that the words name, or reports why it couldn't begin.
 fn run_command<R: Files + AllocGlobal, O: Write, E: Write>(
     rt: &R,
     matches: &ArgMatches<'_>,

@@ -1,11 +1,11 @@
-//! Worked explanations as theorems: what is told of small lists is a computation by the definitions.
+//! Worked explanations as theorems: the explanations of small lists, computed by the definitions.
 
 ghost use Rattle.std.specs.Prelude.{◌≡◌, [], ◌∷◌, ◌++◌, codes};
 ghost use Rattle.sabr_model.specs.Rows.{plan_a, plan_a_darker, plan_ending, from_1_to_3, within_hops, avoiding};
 ghost use Rattle.commands.specs.texts.Explanation.{refused_at, explanation_text};
 ghost use Rattle.commands.specs.texts.ExplanationRows.{first_hop, second_hop, route_of_both};
 
-/// Shows what is told of a route over plan A, and of lists with a fault each.
+/// Shows the explanation of a route over plan A, and of lists with one fault each.
 pub fn explanations_of_plan_a()
     ensures route { explanation_text plan_a from_1_to_3 (1 ∷ 2 ∷ []) ≡ first_hop ++ (second_hop ++ route_of_both) }
     ensures empty { explanation_text plan_a from_1_to_3 [] ≡ codes "refused: Empty\n" }

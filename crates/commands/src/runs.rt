@@ -1,4 +1,4 @@
-//! The runs: each reads from readers, writes to writers, and tells how it ended.
+//! The runs: each reads from readers, writes to writers, and returns how it ended.
 
 mod answer;
 mod check;

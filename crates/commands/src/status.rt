@@ -6,9 +6,9 @@ ghost use Rattle.commands.specs.texts.Messages.{number_of};
 /// How a run of the program ended.
 #[derive(Clone, Copy, Debug, PartialEq, Eq)]
 pub enum Status {
-    /// The run did what it was asked.
+    /// The run did what was asked of it.
     Done,
-    /// The answer is no: a refused explanation, or a session that is none of the plan's.
+    /// The answer is no: contacts that are no route, or a session that isn't one of the plan's.
     No,
     /// The words of the command line were refused.
     Usage,
@@ -23,7 +23,7 @@ pub enum Status {
 }
 
 impl Status {
-    /// Tells the program's exit status, from 0 to 6.
+    /// The program's exit status, from 0 to 6.
     pub fn number(self) -> u8
         ensures { result ≡ number_of self }
     {

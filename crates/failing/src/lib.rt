@@ -1,4 +1,4 @@
-//! An allocator, a reader and a writer for tests that fail where they are told to.
+//! An allocator, a reader and a writer that fail where a test wants it.
 //!
 //! A [`Ration`] hands each request for memory on, counts it, and can refuse one of them. A collection of any crate
 //! takes a `&Ration` where it would take `Global`. A test lets a call run once with nothing refused, asks how many
@@ -17,11 +17,12 @@
 //! Each `allocate` is a request, and so is each `grow` or `shrink` of a block that is there. Giving a block back is
 //! none, and is never refused. Only the chosen request is refused; those after it are handed on again.
 //!
-//! A [`PieceReader`] gives its bytes in pieces of a chosen size and then ends or fails. A [`LimitedWriter`] takes bytes
-//! in pieces up to a limit and fails beyond it.
+//! A [`PieceReader`] returns its bytes in pieces of a chosen size and then ends or fails. A [`LimitedWriter`] takes
+//! bytes in pieces up to a limit and fails beyond it.
 //!
-//! The contracts say that a `Ration` is an allocator, whose blocks are the inner allocator's, and which bytes the reader
-//! and the writer give and take. What a `Ration` counts stands in a cell, of which no contract can speak: tests show it.
+//! The contracts say that a `Ration` is an allocator, whose blocks are the inner allocator's, and which bytes the
+//! reader and the writer give and take. What a `Ration` counts stands in a cell, of which no contract can speak: tests
+//! show it.
 #![tactic(auto)]
 
 mod ration;

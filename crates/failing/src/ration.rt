@@ -4,7 +4,7 @@ use crate::tally::{Tally, is_refused};
 use std::alloc::{AllocError, Allocator, Global};
 use std::cell::Cell;
 
-/// Hands requests for memory on to an inner allocator, counts them, and refuses the one that it is told to.
+/// An allocator that hands requests on to an inner one, counts them, and can refuse one of them.
 ///
 /// Collections take a `&Ration`, which is `Copy` and an allocator as well. A `Ration` stays in one thread.
 pub struct Ration<B: Allocator = Global> {
@@ -13,7 +13,7 @@ pub struct Ration<B: Allocator = Global> {
 }
 
 impl<B: Allocator> Ration<B> {
-    /// Makes an allocator that refuses its request of this number, counted from 1, and none for 0.
+    /// Makes an allocator that refuses its request of this number, counted from 1. It refuses none for 0.
     pub fn new(inner: B, refused: u64) -> Ration<B> {
         Ration {
             inner,
@@ -21,12 +21,12 @@ impl<B: Allocator> Ration<B> {
         }
     }
 
-    /// Counts from 0 again, and refuses the request of this number, counted from 1 from now on; none for 0.
+    /// Begins to count again, and refuses the request of this number, counted from 1. It refuses none for 0.
     pub fn refuse(&self, refused: u64) {
         self.tally.set(Tally { made: 0, refused });
     }
 
-    /// The requests made since the count began, the refused one among them.
+    /// The number of requests since the count began, the refused one among them.
     pub fn requests(&self) -> u64 {
         self.tally.get().made
     }

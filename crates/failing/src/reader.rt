@@ -1,10 +1,10 @@
-//! A reader that gives its bytes in pieces.
+//! A reader that returns its bytes in pieces.
 
 ghost use Rattle.std.specs.Prelude.{◌≡◌, ◌<◌, ◌≤◌, Some, take, length};
 
 use sabr_model::{Failed, GhostCount, Read};
 
-/// What a reader returns once it has given all its bytes.
+/// What a reader returns after all its bytes.
 #[derive(Clone, Copy, Debug, PartialEq, Eq)]
 pub enum End {
     /// The end of the text.
@@ -13,10 +13,10 @@ pub enum End {
     Fails,
 }
 
-/// Gives its bytes in pieces of a chosen size at most, and then ends or fails.
+/// A reader that returns its bytes in pieces of at most a chosen size, and then ends or fails.
 #[derive(Drop)]
 pub struct PieceReader<'a> {
-    /// What it has not given yet.
+    /// The bytes that weren't read yet.
     bytes: &'a [u8],
     /// The most bytes of a piece.
     piece: usize,
@@ -42,7 +42,7 @@ impl<'a> PieceReader<'a> {
         }
     }
 
-    /// Makes a reader that gives the first `limit` bytes and then fails.
+    /// Makes a reader that returns the first `limit` bytes and then fails.
     pub fn failing_after(bytes: &'a [u8], limit: usize, piece: usize) -> PieceReader<'a>
         requires limit { limit ≤ length bytes.now }
         requires piece { 0 < piece }

@@ -2,7 +2,7 @@
 
 use std::cell::Cell;
 
-/// How many requests were made, and the number of the one to refuse, 0 for none.
+/// The number of requests, and the number of the one to refuse, 0 for none.
 #[derive(Clone, Copy)]
 pub(crate) struct Tally {
     pub made: u64,

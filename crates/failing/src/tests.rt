@@ -1,4 +1,4 @@
-//! The allocator, the readers and the writers fail where they are told to, and std's readers and writers are devices.
+//! The allocator, the readers and the writers fail where a test wants it, and std's readers and writers are devices.
 
 use crate::{End, LimitedWriter, PieceReader, Ration};
 use sabr_model::{Device, Failed, Read, Write, write_text};
@@ -67,7 +67,7 @@ fn pieces_end_where_they_are_told_to(rt: HostRuntime) -> Result<(), Fail> {
     Ok(())
 }
 
-/// A writer of std that tells how many bytes it took, and fails at a flush where it is told to.
+/// A writer of std that reports how many bytes it took, and whose flush can fail.
 #[derive(Drop)]
 struct Taking<'a> {
     taken: &'a Cell<usize>,

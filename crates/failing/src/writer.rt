@@ -5,7 +5,8 @@ ghost use Rattle.std.specs.Prelude.{◌≡◌, Some, []};
 use sabr_model::{Failed, GhostCount, Write};
 use std::alloc::{Allocator, Global};
 
-/// Takes bytes in pieces of a chosen size at most, up to a limit, and fails beyond it. It keeps what it took.
+/// A writer that takes bytes in pieces of at most a chosen size, up to a limit, and fails beyond it. It keeps what it
+/// took.
 ///
 /// It fails, too, if no memory is left for the bytes.
 #[derive(Drop)]

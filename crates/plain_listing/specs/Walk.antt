@@ -20,7 +20,7 @@ first_before p r limit place = take limit (map (record_of p r) (routes_before p 
 abbrev pub is_past : ℕ → List RouteRecord → ℕ → Bool
 is_past limit kept time = (length kept == limit) && option_map_or (λ last. nat_lt last.delivery time) (slice_get kept (length kept - 1)) false
 
--- the walk stands behind these hops, tries numbers from `low` on, and has kept the first of the routes before
+-- the walk stands after these hops, tries numbers from `low` on, and has kept the first of the routes before
 pub record IsWalk (p : ContactPlan) (r : RouteRequest) (limit : ℕ) (hops : List Hop) (low : ℕ) (kept : List RouteRecord) : Type 0 where
   pub way : IsWay p r hops
   pub least : low ≤ p.greatest + 1

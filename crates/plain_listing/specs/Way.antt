@@ -13,11 +13,11 @@ use Rattle.plain_listing.specs.declared.hop.Hop.{Hop}
 abbrev pub stop_of : ContactPlan → RouteRequest → List ℕ → Reached
 stop_of p r s = record { node = unwrap_or (chain_end p r.source s) 0; at = delivery_of p r s }
 
--- the hop over contact n behind the contacts of `front`
+-- the hop over contact n after the contacts of `front`
 abbrev pub hop_of : ContactPlan → RouteRequest → List ℕ → ℕ → Hop
 hop_of p r front n = record { number = n; stop = stop_of p r (front ++ n ∷ []) }
 
--- the hops over the contacts of s behind those of `front`
+-- the hops over the contacts of s after those of `front`
 abbrev pub hops_behind : ContactPlan → RouteRequest → List ℕ → List ℕ → List Hop
 hops_behind p r front [] = []
 hops_behind p r front (n ∷ s) = hop_of p r front n ∷ hops_behind p r (front ++ n ∷ []) s

@@ -9,19 +9,19 @@ ghost use Rattle.plain_listing.specs.Walk.{is_past};
 use sabr_model::{NoMemory, Route};
 use std::alloc::Allocator;
 
-/// The best routes found so far, in order of their keys, and how many are kept.
+/// The best routes found so far, in order of their keys, and the most that are kept.
 #[derive(Drop)]
 pub struct Kept<A: Allocator + Copy> {
-    /// Where routes are put.
+    /// The allocator of the routes.
     pub alloc: A,
-    /// How many routes are kept at most.
+    /// The most routes that are kept.
     pub limit: usize,
     /// The routes.
     pub routes: Vec<Route<A>, A>,
 }
 
 impl<A: Allocator + Copy> Kept<A> {
-    /// Begins with no route yet.
+    /// Makes a list without routes.
     pub fn new(alloc: A, limit: usize) -> Kept<A>
         ensures limit { result.limit ≡ limit }
         ensures routes { result.routes.items ≡ [] }
@@ -33,7 +33,7 @@ impl<A: Allocator + Copy> Kept<A> {
         }
     }
 
-    /// Tells whether every route that is delivered from this time on would be let go.
+    /// Returns whether no route that is delivered from this time on would be kept.
     pub fn is_past(&self, time: u64) -> bool
         ensures { result ≡ is_past self.now.limit self.now.routes.items time }
     {
@@ -44,7 +44,7 @@ impl<A: Allocator + Copy> Kept<A> {
             }
     }
 
-    /// Puts a route in its place, and lets go what then stands behind the last place.
+    /// Inserts a route at its place, and drops the route that is then one too many.
     pub fn keep(&mut self, route: Route<A>) -> Result<(), NoMemory>
         requires rising { IsStrictlySortedBy by_record self.old.routes.items }
         requires within { length self.old.routes.items ≤ self.old.limit }

@@ -15,7 +15,7 @@ use std::alloc::{Allocator, Global};
 pub struct Page<A: Allocator + Copy = Global> {
     /// The routes, best first.
     pub routes: Vec<Route<A>, A>,
-    /// Whether the listing goes on behind them.
+    /// Whether the listing goes on after them.
     pub more: bool,
 }
 
@@ -38,10 +38,10 @@ fn gather<A: Allocator + Copy>(
     Ok(kept)
 }
 
-/// Gives the first `count` routes of the listing, or all if they are fewer, and whether it goes on.
+/// Returns the first `count` routes of the listing, or all if they are fewer, and whether it goes on.
 ///
-/// It walks through every way that a route can begin with, which for a dense plan may be very many, and
-/// keeps the best `count + 1` routes on the way.
+/// It walks through every way that a route can begin with, which may be very many for a dense plan, and keeps the best
+/// `count + 1` routes.
 ///
 /// # Errors
 ///

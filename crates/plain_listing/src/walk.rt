@@ -15,8 +15,8 @@ use crate::way::{end_of, hop_over, route_over};
 use sabr_model::{NoMemory, Plan, Request};
 use std::alloc::Allocator;
 
-/// Takes a hop: goes on behind it or, at the destination, keeps the route that it ends. Answers the least
-/// number to try next.
+/// Takes a hop: goes on after it, or keeps the route that it ends at the destination. Returns the least number to try
+/// next.
 fn take_hop<A: Allocator + Copy>(
     plan: &Plan<A>,
     request: &Request,
@@ -41,7 +41,7 @@ fn take_hop<A: Allocator + Copy>(
     Ok(hop.number + 1)
 }
 
-/// Makes one move. Answers the least number to try next, or none where all ways have been passed.
+/// Makes one move. Returns the least number to try next, or `None` after the last way.
 pub fn step<A: Allocator + Copy>(
     plan: &Plan<A>,
     request: &Request,

@@ -9,7 +9,7 @@ use crate::hop::Hop;
 use sabr_model::{NoMemory, Plan, Reached, Request, Route, Told, arrive};
 use std::alloc::Allocator;
 
-/// Tells where the way ends: at the source, or behind the last hop.
+/// Returns where the way ends: at the source, or after the last hop.
 pub fn end_of(request: &Request, hops: &[Hop]) -> Reached
     ensures { result ≡ last_stop request.now hops.now }
 {
@@ -22,21 +22,21 @@ pub fn end_of(request: &Request, hops: &[Hop]) -> Reached
     }
 }
 
-/// Tells whether the node is one of these.
+/// Returns whether the node is one of these.
 fn is_among(nodes: &[u64], node: u64) -> bool
     ensures { result ≡ has node nodes.now }
 {
     nodes.iter().any(|n| node == *n)
 }
 
-/// Tells whether a hop arrives at the node.
+/// Returns whether a hop arrives at the node.
 fn is_passed(hops: &[Hop], node: u64) -> bool
     ensures { result ≡ is_passed hops.now node }
 {
     hops.iter().any(|hop| node == hop.stop.node)
 }
 
-/// Tells whether the way may go on to the node within the limits, and without meeting a node twice.
+/// Returns whether the way may go on to the node, within the limits and to no node twice.
 fn may_visit(request: &Request, hops: &[Hop], node: u64) -> bool
     ensures { result ≡ may_visit request.now hops.now node }
 {
@@ -45,7 +45,7 @@ fn may_visit(request: &Request, hops: &[Hop], node: u64) -> bool
         && !is_among(request.avoided(), node)
 }
 
-/// Gives the hop over a contact, where a route may begin with the way and this contact.
+/// Makes the hop over a contact. `None` if no route may begin with the way and then this contact.
 pub fn hop_over<A: Allocator + Copy>(
     plan: &Plan<A>,
     request: &Request,
@@ -71,7 +71,7 @@ pub fn hop_over<A: Allocator + Copy>(
     })
 }
 
-/// Gives the route over the hops.
+/// Makes the route over the hops.
 pub fn route_over<A: Allocator + Copy>(
     alloc: A,
     plan: &Plan<A>,

@@ -8,7 +8,7 @@ use Rattle.sabr_session.specs.SessionGiven.{said_over}
 use Rattle.sabr_session.specs.declared.session_fault.SessionFault.{SessionFault}
 use Rattle.sabr_session.specs.declared.session_fault.SessionFault.TheVariants.{Read, NoMemory}
 
--- pieces and their answers: each was fed behind the one before it
+-- pieces and their answers, fed in turn
 abbrev pub AreFed : Result OpenText SessionFault → List (List ℕ × Result (Unit {0}) SessionFault) → Result OpenText SessionFault → Type 0
 AreFed old [] new = new ≡ old
 AreFed old (fed ∷ more) new = (mid : Result OpenText SessionFault) × IsFed old fed.0 fed.1 mid × AreFed mid more new
@@ -17,8 +17,8 @@ AreFed old (fed ∷ more) new = (mid : Result OpenText SessionFault) × IsFed ol
 abbrev pub bytes_of : List (List ℕ × Result (Unit {0}) SessionFault) → List ℕ
 bytes_of fed = flat_map (λ f. f.0) fed
 
--- how a piece is answered where these are the bytes so far: Ok where Read would be told if the reader failed behind them,
--- else the fault that would be, or want of memory
+-- how a piece is answered where these are the bytes so far: Ok where a failure of the reader after them would be
+-- reported as Read, else the fault that would be reported, or out of memory
 abbrev pub IsAnswerSoFar : TabledPlan → List ℕ → Result (Unit {0}) SessionFault → Type 0
 IsAnswerSoFar plan bytes (Ok u) = said_over plan bytes false ≡ Err Read
 IsAnswerSoFar plan bytes (Err f) = (f ≡ NoMemory) ⊎ ((f ≢ Read) × (said_over plan bytes false ≡ Err f))

@@ -17,7 +17,7 @@ told_pieces r =
     ∷ codes " entry " ∷ decimal r.entry
     ∷ codes " until " ∷ time_text_of r.until ∷ codes " contacts" ∷ []
 
--- a route with what is told of it, as a line
+-- the line of a route
 abbrev pub route_line : RouteRecord → List ℕ
 route_line r = concat (
     codes "delivery " ∷ time_text_of r.delivery
@@ -27,7 +27,7 @@ route_line r = concat (
     ∷ codes " contacts" ∷ spaced_behind r.contacts ∷ codes "\n" ∷ []
     )
 
--- the same behind its rank
+-- the same after its rank
 abbrev pub report_line : ℕ → RouteRecord → List ℕ
 report_line rank r = decimal rank ++ 32 ∷ route_line r
 
@@ -36,7 +36,7 @@ abbrev pub report_lines : ℕ → List RouteRecord → List ℕ
 report_lines rank [] = []
 report_lines rank (r ∷ rs) = report_line rank r ++ report_lines (rank + 1) rs
 
--- whether the list goes on behind the routes
+-- whether the list goes on after the routes
 abbrev pub last_line : Bool → List ℕ
 last_line more = if more then codes "more\n" else codes "end\n"
 

@@ -9,7 +9,7 @@ use Rattle.sabr_session.specs.SessionRead.{Said, nothing_said, read_lines, is_be
 use Rattle.sabr_session.specs.declared.session_fault.SessionFault.{SessionFault}
 use Rattle.sabr_session.specs.declared.session_fault.SessionFault.TheVariants.{Read, NoMemory}
 
--- how many lines LF has ended, what they say, and the bytes of the line behind them
+-- the number of lines that LF has ended, what they say, and the bytes of the line after them
 pub record SessionFed : Type 0 where
   pub lines : ℕ
   pub said : Said
@@ -19,13 +19,13 @@ pub record SessionFed : Type 0 where
 abbrev pub nothing_fed : SessionFed
 nothing_fed = record { lines = 0; said = nothing_said; held = [] }
 
--- what all lines come to say, with these bytes behind what was fed
+-- what all lines come to say, with these bytes after what was fed
 unfoldable pub outcome : ContactPlan → List ℕ → SessionFed → List ℕ → Bool → Result Said SessionFault
 outcome p h s bytes ended =
     let text = lines_of (s.held ++ bytes) in
     and_then (read_lines p h (s.lines + 1) s.said text.ended) (last_line ended (s.lines + 1 + length text.ended) text.open_line)
 
--- the beginning of line n that is refused whatever comes behind it: it has more than 660008 bytes, or a byte behind `end`
+-- the beginning of line n that is refused whatever follows it: it has more than 660008 bytes, or a byte after `end`
 abbrev pub is_bad_front : ℕ → Said → List ℕ → Bool
 is_bad_front n s front = (is_behind n s && has_bytes front) || nat_lt 660008 (length front)
 
@@ -39,7 +39,7 @@ pub record OpenText : Type 0 where
 abbrev pub opened_over : TabledPlan → ℕ → OpenText
 opened_over plan calls = record { plan = plan; calls = calls; fed = nothing_fed }
 
--- what all lines come to say, with these bytes behind the text, over its plan
+-- what all lines come to say, with these bytes after the text, over its plan
 abbrev pub outcome_of : OpenText → List ℕ → Bool → Result Said SessionFault
 outcome_of t bytes ended = outcome t.plan.plan (digest_of t.plan.plan) t.fed bytes ended
 
@@ -52,11 +52,11 @@ pub record GoesOn (old : OpenText) (piece : List ℕ) (new : OpenText) : Type 0 
   pub same : (more : List ℕ) (ended : Bool) → outcome_of old (piece ++ more) ended ≡ outcome_of new more ended
   pub fine : outcome_of new [] false ≡ Err Read
 
--- a piece is refused: for want of memory, or for this fault, whatever comes behind it
+-- a piece is refused: out of memory, or for this fault, whatever follows it
 abbrev pub IsRefusedPiece : OpenText → List ℕ → SessionFault → Type 0
 IsRefusedPiece t piece f = (f ≡ NoMemory) ⊎ ((f ≢ Read) × ((more : List ℕ) (ended : Bool) → outcome_of t (piece ++ more) ended ≡ Err f))
 
--- a piece was fed to a text, or to what refused one: the text goes on, or is refused, and what refused it is told again
+-- a piece was fed to a text: the text goes on, or is refused; a text that was refused before is refused again
 abbrev pub IsFed : {U : Type 0} → Result OpenText SessionFault → List ℕ → Result U SessionFault → Result OpenText SessionFault → Type 0
 IsFed (Ok t) piece (Ok _) (Ok new) = GoesOn t piece new
 IsFed (Ok t) piece (Ok _) (Err g) = ⊥
@@ -72,13 +72,13 @@ abbrev pub weight_of : Result OpenText SessionFault → ℕ
 weight_of (Ok t) = weight t
 weight_of (Err f) = 0
 
--- the session of what a text says, without former states or a search; or the text's fault, or want of memory
+-- the session of what a text says, without former states or a search; or the text's fault, or out of memory
 abbrev pub IsSessionFrom : TabledPlan → Result Said SessionFault → Result Seen SessionFault → Type 0
 IsSessionFrom plan said (Ok s) =
     (s ≡ record { plan = plan; request = s.request; state = s.state; former = []; searches = 0; calls = s.calls }) × ComesTo plan.plan said (Ok (s.request, s.state))
 IsSessionFrom plan said (Err f) = (f ≡ NoMemory) ⊎ ComesTo plan.plan said (Err f)
 
--- the text has ended behind what was fed, or what refused it is told again
+-- the text has ended after what was fed; a text that was refused before is refused again
 abbrev pub IsFinished : Result OpenText SessionFault → Result Seen SessionFault → Type 0
 IsFinished (Ok t) answer = IsSessionFrom t.plan (outcome_of t [] true) answer
 IsFinished (Err f) answer = answer ≡ Err f

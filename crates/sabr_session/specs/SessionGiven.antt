@@ -13,16 +13,16 @@ use Rattle.sabr_session.specs.declared.session_fault.SessionFault.TheVariants.{R
 abbrev pub said_over : TabledPlan → List ℕ → Bool → Result Said SessionFault
 said_over plan bytes ended = said_of plan.plan (digest_of plan.plan) bytes ended
 
--- the reader ended behind these bytes, and they are the text
+-- the reader ended after these bytes, and they are the text
 abbrev pub EndsText : TabledPlan → List ℕ → ℕ → Result Seen SessionFault → Option (List ℕ) → ℕ → Type 0
 EndsText plan given before answer new after = IsAtEnd new × (after ≡ before) × IsSessionFrom plan (said_over plan given true) answer
 
--- the reader failed behind these bytes, which have no fault
+-- the reader failed after these bytes, which have no fault
 abbrev pub BreaksText : TabledPlan → List ℕ → ℕ → Result Seen SessionFault → ℕ → Type 0
 BreaksText plan given before (Ok s) after = ⊥
 BreaksText plan given before (Err f) after = (after ≡ before + 1) × (f ≡ Read) × (said_over plan given false ≡ Err f)
 
--- these bytes are refused whatever comes behind them, or memory was
+-- these bytes are refused whatever follows them, or memory was
 abbrev pub RefusesText : TabledPlan → List ℕ → ℕ → Result Seen SessionFault → ℕ → Type 0
 RefusesText plan given before (Ok s) after = ⊥
 RefusesText plan given before (Err f) after =

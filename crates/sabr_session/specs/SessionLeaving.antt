@@ -1,9 +1,9 @@
--- What a call leaves that takes in a line of a session text, and may also be refused for want of memory.
+-- What a call leaves that reads a line of a session text, and may also run out of memory.
 use Rattle.std.specs.Prelude.{◌≡◌, ◌⊎◌, Result, Ok, Err}
 use Rattle.sabr_session.specs.declared.session_fault.SessionFault.{SessionFault}
 use Rattle.sabr_session.specs.declared.session_fault.SessionFault.TheVariants.{NoMemory}
 
--- the new state, or the fault, or one for want of memory
+-- the new state, or the fault, or out of memory
 abbrev pub Leaves : {S U : Type 0} → Result S SessionFault → Result U SessionFault → S → Type 0
 Leaves wanted (Ok _) new = wanted ≡ Ok new
 Leaves wanted (Err f) new = (f ≡ NoMemory) ⊎ (wanted ≡ Err f)

@@ -19,7 +19,7 @@ asked_pieces r =
 abbrev pub counts_pieces : State → List (List ℕ)
 counts_pieces s = codes "emitted " ∷ decimal s.emitted ∷ codes "\nlast " ∷ list_text s.last ∷ codes "\nparts " ∷ decimal (length s.parts) ∷ codes "\n" ∷ []
 
--- the part of a state that a session tells
+-- the part of a state that a session shows
 abbrev pub part_shown : PartTold → PartState
 part_shown t = record { prefix = t.prefix; excluded = t.excluded; carried = option_map numbers_of t.route }
 

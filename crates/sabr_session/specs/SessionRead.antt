@@ -62,7 +62,7 @@ abbrev pub rise_strictly : List ℕ → Bool
 rise_strictly [] = true
 rise_strictly (x ∷ xs) = rises_above x xs
 
--- the prefix comes behind that of the last part
+-- the prefix comes after that of the last part
 abbrev pub comes_behind : List PartState → List ℕ → Bool
 comes_behind parts q = option_map_or (λ t. numbers_before t.prefix q) (last_item parts) true
 
@@ -70,7 +70,7 @@ comes_behind parts q = option_map_or (λ t. numbers_before t.prefix q) (last_ite
 abbrev pub may_carry : ContactPlan → RouteRequest → PartState → Bool
 may_carry p r t = option_map_or (in_part p r t.prefix t.excluded) t.carried true
 
--- a part, on line n, behind the others: its excluded numbers rise, its prefix is above the one before, and what it
+-- a part, on line n, after the others: its excluded numbers rise, its prefix is above the one before, and what it
 -- carries is a route of it
 abbrev pub placed : ContactPlan → ℕ → Said → PartState → Result Said SessionFault
 placed p n s t =
@@ -101,7 +101,7 @@ count_said s line = given_as (λ n. record s { count = n }) (spelled_at 6 (count
 abbrev pub part_said : ContactPlan → ℕ → Said → List ℕ → Result Said SessionFault
 part_said p n s line = and_then (spelled_at n (part_of line)) (placed p n s)
 
--- line n behind the parts: the first of these is `end`, and there is no other
+-- line n after the parts: the first of these is `end`, and there is no other
 abbrev pub end_said : ℕ → Said → List ℕ → Result Said SessionFault
 end_said n s line = if n == 7 + s.count && is_end line then Ok s else Err (BadLine n)
 
@@ -126,11 +126,11 @@ unfoldable pub read_lines : ContactPlan → List ℕ → ℕ → Said → List (
 read_lines p h n s [] = Ok s
 read_lines p h n s (line ∷ lines) = and_then (read_line p h n s line) (λ s₁. read_lines p h (n + 1) s₁ lines)
 
--- line n is behind `end`
+-- line n is after `end`
 abbrev pub is_behind : ℕ → Said → Bool
 is_behind n s = nat_lt (7 + s.count) n
 
--- behind the last LF these bytes of line n stand: the text may end, or its reader fail, behind the LF of `end` alone;
+-- after the last LF these bytes of line n stand: the text may end, or its reader fail, after the LF of `end` alone;
 -- any byte there is a fault, and so is an unfinished line where the text ends or the line is too long
 abbrev pub last_line : Bool → ℕ → List ℕ → Said → Result Said SessionFault
 last_line ended n line s =
@@ -138,7 +138,7 @@ last_line ended n line s =
     else if ended || is_behind n s || nat_lt 660008 (length line) then Err (misspelled n)
     else Err Read
 
--- what all lines say, or the first fault in them; `ended` says whether the reader ended behind these bytes, or failed
+-- what all lines say, or the first fault in them; `ended` says whether the reader ended after these bytes, or failed
 unfoldable pub said_of : ContactPlan → List ℕ → List ℕ → Bool → Result Said SessionFault
 said_of p h bytes ended =
     let text = lines_of bytes in

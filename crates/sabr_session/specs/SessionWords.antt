@@ -15,7 +15,7 @@ is_space b = b == 32
 unfoldable pub words_of : List ℕ → List (List ℕ)
 words_of text = slice_split is_space text
 
--- the words behind a space, if there is one
+-- the words after a space, if there is one
 abbrev pub words_behind : Option (List ℕ) → List (List ℕ)
 words_behind None = []
 words_behind (Some text) = words_of text
@@ -57,7 +57,7 @@ abbrev pub before_slash : List (List ℕ) → List (List ℕ)
 before_slash [] = []
 before_slash (w ∷ ws) = if is_slash w then [] else w ∷ before_slash ws
 
--- the words behind the first `/`, if there is one
+-- the words after the first `/`, if there is one
 abbrev pub after_slash : List (List ℕ) → List (List ℕ)
 after_slash [] = []
 after_slash (w ∷ ws) = if is_slash w then ws else after_slash ws

@@ -19,7 +19,7 @@ pub data Event : Type 0 where
   reread : Event
   unread : Event
 
--- where an event leads from a request and a state: the routes that it gives, and the request and the state behind it
+-- where an event leads from a request and a state: the routes that it gives, and the request and the state after it
 abbrev pub LeadsTo : ContactPlan → Event → RouteRequest × State → List (List ℕ) → RouteRequest × State → Type 0
 LeadsTo p (answered k) x given y = (given ≡ (steps p x.0 k x.1).0) × (y ≡ (x.0, (steps p x.0 k x.1).1))
 LeadsTo p refused x given y = (given ≡ []) × (y ≡ x)
@@ -66,7 +66,7 @@ HaveTexts p r i (reread ∷ es) = HasText (state_at p r i) × HaveTexts p r i es
 HaveTexts p r i (_ ∷ es) = HaveTexts p r i es
 
 -- what a run from place i gives: the pages joined are the next routes of the listing, as many as they were asked for or
--- all that are left; it stands at the place behind them, so its text is the one of that place; and a route is left
+-- all that are left; it stands at the place after them, so its text is the one of that place; and a route is left
 -- exactly where the listing goes on
 pub record FollowsListing (p : ContactPlan) (r : RouteRequest) (i : ℕ) (events : List Event) (given : List (List ℕ)) (y : RouteRequest × State) : Type 0 where
   pub pages : given ≡ page_of p r i (asked_for events)

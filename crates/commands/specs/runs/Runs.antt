@@ -10,7 +10,7 @@ use Rattle.commands.specs.declared.status.Status.TheVariants as status
 use Rattle.commands.specs.declared.failure.Failure.{Failure}
 use Rattle.commands.specs.texts.Messages.{message_text, status_of, TellsText}
 
--- the report of the first page, from rank 1, and whether the listing goes on behind it
+-- the report of the first page, from rank 1, and whether the listing goes on after it
 abbrev pub first_report : ContactPlan → RouteRequest → ℕ → List ℕ
 first_report p r count = report_text (map (record_of p r) (page_of p r 0 count)) 1 (nat_lt count (length (routes p r)))
 
@@ -28,7 +28,7 @@ abbrev pub status_of_answer : Result Bool Failure → Status
 status_of_answer (Ok answer) = if answer then status.Done else status.No
 status_of_answer (Err f) = status_of f
 
--- nothing is told of a run that did what it was asked, and else its failure's message
+-- no message for a run that did what was asked of it, and else that of its failure
 abbrev pub TellsEnd : {A : Type 0} → Result A Failure → Option (List ℕ) → ℕ → Option (List ℕ) → ℕ → Type 0
 TellsEnd (Ok _) old before new after = Untouched old before new after
 TellsEnd (Err f) old before new after = TellsText old before (message_text f) new after

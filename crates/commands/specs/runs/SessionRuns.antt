@@ -20,7 +20,7 @@ use Rattle.commands.specs.declared.failure.Failure.TheVariants as failure
 use Rattle.commands.specs.texts.Messages.{failure_of_plan, failure_of_session}
 use Rattle.commands.specs.runs.Runs.{Untouched, first_report}
 
--- the report of a page that begins behind so many routes, and whether a route is left behind it
+-- the report of a page that begins after so many routes, and whether a route is left after it
 abbrev pub report_behind : ContactPlan → RouteRequest → ℕ → List (List ℕ) × State → List ℕ
 report_behind p r given page = report_text (map (record_of p r) page.0) (given + 1) (is_some (next_route p r page.1))
 
@@ -83,7 +83,7 @@ WritesNextPage (Ok p) (Ok s) keep count end old before new after flushed old₁ 
 abbrev pub answer_line : Bool → List ℕ
 answer_line answer = if answer then codes "yes\n" else codes "no\n"
 
--- what is told of a session that was verified: the answer as a line, whole and flushed, or a beginning of it where the
+-- what is written of a session that was verified: the answer as a line, whole and flushed, or a beginning of it where the
 -- writer failed; nothing where the session's reader failed or memory was refused
 abbrev pub WritesVerified : Result Bool SessionFault → Result Bool Failure → Option (List ℕ) → ℕ → Option (List ℕ) → ℕ → Bool → Type 0
 WritesVerified (Err fault) end old before new after flushed = (end ≡ Err (failure_of_session fault)) × Untouched old before new after

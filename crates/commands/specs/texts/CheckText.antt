@@ -1,4 +1,4 @@
--- The text that tells what a plan holds, and its digest.
+-- The text of a check: what a plan holds, and its digest.
 use Rattle.std.specs.Prelude.{◌≡◌, ℕ, Bool, List, [], ◌∷◌, ◌++◌, codes, decimal, length, Result, Ok, Err, Option, is_none}
 use Rattle.std.specs.List.{concat, filter}
 use Rattle.hex.specs.Hex.{encode_lower}
@@ -31,7 +31,7 @@ unfoldable pub check_text : ContactPlan → List ℕ
 check_text p = counts_text p ++ codes "digest " ++ encode_lower (digest_of p) ++ codes "\n"
 
 -- what a check writes over what reading gave: over a plan its text, whole and flushed, or a beginning of it where the
--- writer failed, and no memory is wanted; nothing where the plan was refused
+-- writer failed, and it takes no memory; nothing where the plan was refused
 abbrev pub WritesCheck : Result TabledPlan PlanFault → Result (Unit {0}) Failure
     → Option (List ℕ) → ℕ → Option (List ℕ) → ℕ → Bool → Type 0
 WritesCheck (Err fault) end old before new after flushed = (end ≡ Err (failure_of_plan fault)) × Untouched old before new after

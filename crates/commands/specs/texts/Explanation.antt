@@ -1,4 +1,4 @@
--- What is told of a list of contacts: its hops up to the first fault, and how it ends.
+-- The explanation of a list of contacts: its hops up to the first fault, and how it ends.
 use Rattle.std.specs.Prelude.{◌≡◌, ℕ, ◌+◌, max, Bool, is_none, List, [], ◌∷◌, ◌++◌, length, decimal, codes, Result, Ok, Err, if◌then◌else◌}
 use Rattle.std.specs.List.{concat}
 use Rattle.std.specs.Option.{option_map_or}
@@ -37,7 +37,7 @@ line_behind p r front n =
     option_map_or (λ c. hop_line (length front + 1) c (max (delivery_of p r front) c.start) (delivery_of p r (front ++ n ∷ [])))
     (contact_named p n) []
 
--- the lines of the numbers behind `front`, up to the first fault
+-- the lines of the numbers after `front`, up to the first fault
 abbrev pub hop_lines : ContactPlan → RouteRequest → List ℕ → List ℕ → List ℕ
 hop_lines p r front [] = []
 hop_lines p r front (n ∷ s) =
@@ -68,7 +68,7 @@ unfoldable pub explanation_text : ContactPlan → RouteRequest → List ℕ → 
 explanation_text p r s = hop_lines p r [] s ++ ending_line p r s
 
 -- what an explanation writes over what reading gave: over a plan its text, whole and flushed, and the answer is
--- whether the list is a route; or a beginning of it where the writer failed, and no memory is wanted; nothing where
+-- whether the list is a route; or a beginning of it where the writer failed, and it takes no memory; nothing where
 -- the plan was refused
 abbrev pub WritesExplanation : Result TabledPlan PlanFault → RouteRequest → List ℕ → Result Bool Failure
     → Option (List ℕ) → ℕ → Option (List ℕ) → ℕ → Bool → Type 0

@@ -1,4 +1,4 @@
--- What is told on standard error where a run ends early, the status that it ends with, and the numbers of statuses.
+-- The messages on standard error of runs that end early, the statuses that they end with, and the numbers of these.
 use Rattle.std.specs.Prelude.{ℕ, ◌⊎◌, List, [], ◌∷◌, Option, Some, None, decimal, codes}
 use Rattle.std.specs.List.{concat}
 use Rattle.std.specs.Option.{option_map_or}
@@ -82,7 +82,7 @@ session_message fault =
     (session_line fault)
     (concat (codes "cgrlist: session: " ∷ session_kind_text fault ∷ codes "\n" ∷ []))
 
--- the line that tells a failure
+-- the line of a failure
 abbrev pub message_text : Failure → List ℕ
 message_text (failure.BadValue name) = concat (codes "cgrlist: bad --" ∷ name_text name ∷ codes "\n" ∷ [])
 message_text failure.SameNode = codes "cgrlist: request: SameNode\n"

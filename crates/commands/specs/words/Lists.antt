@@ -15,7 +15,7 @@ abbrev pub pieces_of : List ℕ → List (List ℕ)
 pieces_of [] = [] ∷ []
 pieces_of (b ∷ text) = if b == 44 then [] ∷ pieces_of text else with_byte b (pieces_of text)
 
--- the pieces of what stands behind a comma, if there is one
+-- the pieces of what stands after a comma, if there is one
 abbrev pub pieces_behind : Option (List ℕ) → List (List ℕ)
 pieces_behind None = []
 pieces_behind (Some text) = pieces_of text

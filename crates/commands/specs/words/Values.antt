@@ -1,4 +1,4 @@
--- The strict reading of a command's texts. The order in which bad ones are told is this project's profile.
+-- The strict reading of a command's texts. The order in which bad ones are reported is this project's own.
 use Rattle.std.specs.Prelude.{ℕ, ◌<◌, ◌≤◌, Bool, true, false, not, ◌==◌, List, [], Result, Ok, Err, codes, if◌then◌else◌}
 use Rattle.std.specs.Str.{bytes_eq}
 use Rattle.std.specs.declared.option.Option.{Option}
@@ -66,14 +66,14 @@ value_or otherwise reads found name = or_bad name (given_or otherwise reads (tex
 abbrev pub node_of : List ℕ → Option ℕ
 node_of text = number_within 1 18446744073709551615 text
 
--- the limits and avoided nodes, behind the values of a request without limits
+-- the limits and avoided nodes, after the values of a request without limits
 unfoldable pub limits_of : ℕ → ℕ → ℕ → ℕ → Found → Result RequestValues ValueFault
 limits_of from to at margin found =
     and_then (value_or most_hops (number_within 1 most_hops) found MaxHops) (λ hops.
     and_then (value_or [] nodes_listed found Avoid) (λ avoid.
     Ok (record { from = from; to = to; at = at; margin_ppm = margin; max_hops = hops; avoid = avoid })))
 
--- what is asked for, word by word; the first bad word in this order is told
+-- what is asked for, word by word; the first bad word in this order is reported
 unfoldable pub request_words : Found → Result RequestValues ValueFault
 request_words found =
     and_then (value_of node_of found From) (λ from.

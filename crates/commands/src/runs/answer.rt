@@ -1,4 +1,4 @@
-//! The line that tells whether a session was verified.
+//! The answer of a run that verifies a session.
 
 ghost use Rattle.std.specs.Prelude.{IfOk, IsTrue};
 ghost use Rattle.sabr_model.specs.Devices.{WritesText};
@@ -24,12 +24,11 @@ fn write_answer<O: Write>(answer: bool, out: &mut O) -> Result<(), WriteFault>
     Ok(())
 }
 
-/// Writes and flushes `yes` or `no` as a line, and answers which; where verifying failed it writes nothing.
+/// Writes and flushes `yes` or `no` as a line, and returns which. If verifying failed, it writes nothing.
 ///
 /// # Errors
 ///
-/// The failure that `verified` is, or [`Failure::Write`] where `out` failed. Then a beginning of the line was
-/// written.
+/// The failure of `verified`, or [`Failure::Write`] if `out` failed. Then a beginning of the line was written.
 pub fn write_verified<O: Write>(
     verified: Result<bool, SessionFault>,
     out: &mut O,

@@ -1,4 +1,4 @@
-//! The run that tells what a plan holds.
+//! The run that reports what a plan holds.
 
 ghost use Rattle.std.specs.Prelude.{◌≡◌, Result, IfOk, IsTrue};
 ghost use Rattle.sabr_model.specs.Plan.{TabledPlan};
@@ -32,7 +32,7 @@ fn write_and_flush<O: Write, A: Allocator + Copy>(
     Ok(())
 }
 
-/// Tells what a plan holds.
+/// Writes and flushes the text of a check, as part of a run.
 fn write_check<O: Write, A: Allocator + Copy>(plan: &Plan<A>, out: &mut O) -> Result<(), Failure>
     ensures { WritesCheck (Ok plan.now) result (O.contents out.old) (O.failures out.old) (O.contents out.new) (O.failures out.new) (O.flushed out.new) }
 {
@@ -40,7 +40,7 @@ fn write_check<O: Write, A: Allocator + Copy>(plan: &Plan<A>, out: &mut O) -> Re
     Ok(())
 }
 
-/// Reads the plan and tells what it holds.
+/// Reads the plan, and reports what it holds.
 fn read_and_write_check<P: Read, O: Write, A: Allocator + Copy>(
     alloc: A,
     plan: &mut P,
@@ -54,14 +54,13 @@ fn read_and_write_check<P: Read, O: Write, A: Allocator + Copy>(
     write_check(&plan, out)
 }
 
-/// Tells what the plan that `plan` gives holds: reads it whole, and writes and flushes to `out` how many
-/// contacts and ranges stand, how many nodes send or receive a contact, how many contacts have no light time
-/// at their start, and the plan's digest.
+/// Reports what a plan holds: reads it whole from `plan`, and writes and flushes to `out` the numbers of contacts and
+/// of ranges that weren't deleted, of nodes that send or receive a contact, and of contacts without light time at their
+/// start, and then the plan's digest.
 ///
-/// A failure's message goes to `err`; a failure of `err` changes nothing else. The status is
-/// [`Status::Plan`] where the plan is refused, [`Status::Io`] where its reader or `out` failed, and
-/// [`Status::Memory`] where a growth was refused while the plan was read. Only where `out` failed does it
-/// hold a beginning of the text, and else all of it or nothing.
+/// A failure's message goes to `err`; a failure of `err` changes nothing else. The status is [`Status::Plan`] if the
+/// plan is refused, [`Status::Io`] if its reader or `out` failed, and [`Status::Memory`] if a growth was refused while
+/// the plan was read. If `out` failed, it holds a beginning of the text, and else all of it or nothing.
 pub fn run_check<P: Read, O: Write, E: Write, A: Allocator + Copy>(
     alloc: A,
     plan: &mut P,

@@ -8,7 +8,7 @@ use crate::status::Status;
 use crate::texts::tell;
 use sabr_model::Write;
 
-/// Answers the status of a run that ended so. A failure's message goes to `err`; a failure of `err` changes nothing
+/// Returns the status of a run that ended so. A failure's message goes to `err`; a failure of `err` changes nothing
 /// else.
 pub fn tell_end<E: Write>(end: Result<(), Failure>, err: &mut E) -> Status
     ensures told { TellsEnd end (E.contents err.old) (E.failures err.old) (E.contents err.new) (E.failures err.new) }
@@ -20,7 +20,7 @@ pub fn tell_end<E: Write>(end: Result<(), Failure>, err: &mut E) -> Status
     }
 }
 
-/// Answers the status of a run that ended with yes or no, or failed. A failure's message goes to `err`; a failure of
+/// Returns the status of a run that ended with yes or no, or failed. A failure's message goes to `err`; a failure of
 /// `err` changes nothing else.
 pub fn tell_answer<E: Write>(end: Result<bool, Failure>, err: &mut E) -> Status
     ensures told { TellsEnd end (E.contents err.old) (E.failures err.old) (E.contents err.new) (E.failures err.new) }

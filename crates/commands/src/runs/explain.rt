@@ -1,4 +1,4 @@
-//! The run that tells what a list of contacts does.
+//! The run that explains a list of contacts.
 
 ghost use Rattle.std.specs.Prelude.{◌≡◌, Bool, Result, IfOk, IsTrue};
 ghost use Rattle.sabr_model.specs.Plan.{TabledPlan};
@@ -18,7 +18,7 @@ use sabr_model::{Plan, Read, Request, Write, WriteFault};
 use sabr_plan::read_plan;
 use std::alloc::Allocator;
 
-/// Writes and flushes the explanation, and answers whether the contacts make a route.
+/// Writes and flushes the explanation, and returns whether the contacts make a route.
 fn write_and_flush<O: Write, A: Allocator + Copy>(
     plan: &Plan<A>,
     request: &Request,
@@ -36,7 +36,7 @@ fn write_and_flush<O: Write, A: Allocator + Copy>(
     Ok(is_route)
 }
 
-/// Explains the contacts over the plan.
+/// Writes and flushes the explanation, as part of a run.
 fn explain<O: Write, A: Allocator + Copy>(
     plan: &Plan<A>,
     request: &Request,
@@ -49,7 +49,7 @@ fn explain<O: Write, A: Allocator + Copy>(
     Ok(is_route)
 }
 
-/// Reads the plan and explains the contacts over it.
+/// Reads the plan, and explains the contacts over it.
 fn read_and_explain<P: Read, O: Write, A: Allocator + Copy>(
     alloc: A,
     plan: &mut P,
@@ -65,15 +65,14 @@ fn read_and_explain<P: Read, O: Write, A: Allocator + Copy>(
     explain(&plan, request, contacts, out)
 }
 
-/// Explains the contacts of these numbers over the plan that `plan` gives: reads it whole, and writes and
-/// flushes to `out` a line for each hop before the first fault, with its contact and the times of sending and
-/// of arrival, and then the line of the route that they make, or that of the fault.
+/// Explains the contacts of these numbers over a plan: reads it whole from `plan`, and writes and flushes to `out` a
+/// line for each hop before the first fault, with its contact and the times of sending and of arrival. Then comes the
+/// line of the route that they make, or that of the fault.
 ///
-/// A failure's message goes to `err`; a failure of `err` changes nothing else. The status is
-/// [`Status::Done`] for a route and [`Status::No`] for another list, [`Status::Plan`] where the plan is
-/// refused, [`Status::Io`] where its reader or `out` failed, and [`Status::Memory`] where a growth was
-/// refused while the plan was read. Only where `out` failed does it hold a beginning of the text, and else all
-/// of it or nothing.
+/// A failure's message goes to `err`; a failure of `err` changes nothing else. The status is [`Status::Done`] for a
+/// route and [`Status::No`] for another list, [`Status::Plan`] if the plan is refused, [`Status::Io`] if its reader or
+/// `out` failed, and [`Status::Memory`] if a growth was refused while the plan was read. If `out` failed, it holds a
+/// beginning of the text, and else all of it or nothing.
 pub fn run_explain<P: Read, O: Write, E: Write, A: Allocator + Copy>(
     alloc: A,
     plan: &mut P,

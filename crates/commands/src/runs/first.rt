@@ -19,7 +19,7 @@ use sabr_plan::digest;
 use sabr_search::Settled;
 use std::alloc::Allocator;
 
-/// Writes the first page of the listing over a plan.
+/// Writes the first page of a request's listing.
 fn write_first<O: Write, S: Write, A: Allocator + Copy>(
     alloc: A,
     plan: &Plan<A>,
@@ -40,7 +40,7 @@ fn write_first<O: Write, S: Write, A: Allocator + Copy>(
     write_page(listing, count, out, digest, session)
 }
 
-/// Reads the plan and writes the first page of its listing.
+/// Reads the plan, and writes the first page of the listing over it.
 fn read_and_write_first<P: Read, O: Write, S: Write, A: Allocator + Copy>(
     alloc: A,
     plan: &mut P,
@@ -61,15 +61,15 @@ fn read_and_write_first<P: Read, O: Write, S: Write, A: Allocator + Copy>(
     write_first(alloc, &plan, request, count, out, keep, session)
 }
 
-/// Lists the first `count` routes, from 1 to 10000, of the plan that `plan` gives, best first, and whether
-/// the listing goes on: reads the plan whole, gathers the routes, and writes and flushes the report to `out`.
-/// Where `keep` says so, it then writes and flushes to `session` the text of the session behind them, from which a
-/// later run goes on; else nothing is written there.
+/// Lists the first `count` routes, from 1 to 10000, over a plan, best first, and whether the listing goes on: reads the
+/// plan whole from `plan`, finds the routes, and writes and flushes the report to `out`. If `keep`, it then writes and
+/// flushes to `session` the text of the session after them, from which a later run goes on; else it writes nothing
+/// there.
 ///
-/// A failure's message goes to `err`; a failure of `err` changes nothing else. The status is
-/// [`Status::Plan`] where the plan is refused, [`Status::Io`] where its reader or a writer failed, and
-/// [`Status::Memory`] where a growth was refused. Only where `out` or `session` failed does it hold a beginning
-/// of its text, `session` none unless the report was written whole and flushed; else each holds all of it or nothing.
+/// A failure's message goes to `err`; a failure of `err` changes nothing else. The status is [`Status::Plan`] if the
+/// plan is refused, [`Status::Io`] if its reader or a writer failed, and [`Status::Memory`] if a growth was refused. If
+/// `out` or `session` failed, it holds a beginning of its text, and else all of it or nothing. Nothing is written to
+/// `session` before the report was written whole and flushed.
 pub fn run_first<P: Read, O: Write, S: Write, E: Write, A: Allocator + Copy>(
     alloc: A,
     plan: &mut P,

@@ -1,4 +1,4 @@
-//! The run that lists the page behind an old session, over readers and writers.
+//! The run that lists the page after an old session, over readers and writers.
 
 ghost use Rattle.std.specs.Prelude.{◌≡◌, ◌≤◌, Result};
 ghost use Rattle.sabr_model.specs.Plan.{TabledPlan};
@@ -21,7 +21,7 @@ use sabr_search::Settled;
 use sabr_session::read_session;
 use std::alloc::Allocator;
 
-/// Reads an old session over a plan, and writes the next page of it.
+/// Reads an old session over a plan, and writes its next page.
 fn write_next<I: Read, O: Write, S: Write, A: Allocator + Copy>(
     alloc: A,
     plan: &Plan<A>,
@@ -44,7 +44,7 @@ fn write_next<I: Read, O: Write, S: Write, A: Allocator + Copy>(
     write_page(listing, count, out, keep, session)
 }
 
-/// Reads the plan, and then the old session over it, and writes the next page of that.
+/// Reads the plan, and then the old session over it, and writes the session's next page.
 fn read_and_write_next<P: Read, I: Read, O: Write, S: Write, A: Allocator + Copy>(
     alloc: A,
     plan: &mut P,
@@ -66,16 +66,16 @@ fn read_and_write_next<P: Read, I: Read, O: Write, S: Write, A: Allocator + Copy
     write_next(alloc, &plan, old, count, out, keep, session)
 }
 
-/// Lists the `count` routes, from 1 to 10000, that follow the old session that `old` gives, over the plan that `plan`
-/// gives, and whether the listing goes on: reads the plan whole and then the session, gathers the routes, and writes
-/// and flushes the report to `out`, ranked on from the routes that the session counts as given. Where `keep` says
-/// so, it then writes and flushes to `session` the text of the session behind them; else nothing is written there.
+/// Lists the `count` routes, from 1 to 10000, that follow an old session, and whether the listing goes on: reads the
+/// plan whole from `plan` and then the session from `old`, finds the routes, and writes and flushes the report to
+/// `out`. Its ranks go on from the routes that the session counts as given. If `keep`, it then writes and flushes to
+/// `session` the text of the session after them; else it writes nothing there.
 ///
-/// A failure's message goes to `err`; a failure of `err` changes nothing else. The status is [`Status::Plan`] where
-/// the plan is refused, and then `old` isn't read; [`Status::Session`] where the session is refused; [`Status::Io`]
-/// where a reader or a writer failed; and [`Status::Memory`] where a growth was refused. Only where `out` or `session`
-/// failed does it hold a beginning of its text, `session` none unless the report was written whole and flushed; else
-/// each holds all of it or nothing.
+/// A failure's message goes to `err`; a failure of `err` changes nothing else. The status is [`Status::Plan`] if the
+/// plan is refused, and then `old` isn't read; [`Status::Session`] if the session is refused; [`Status::Io`] if a
+/// reader or a writer failed; and [`Status::Memory`] if a growth was refused. If `out` or `session` failed, it holds a
+/// beginning of its text, and else all of it or nothing. Nothing is written to `session` before the report was written
+/// whole and flushed.
 pub fn run_next<P: Read, I: Read, O: Write, S: Write, E: Write, A: Allocator + Copy>(
     alloc: A,
     plan: &mut P,

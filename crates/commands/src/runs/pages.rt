@@ -1,4 +1,4 @@
-//! Writing a page: its report, and behind it the session that it leaves, where that is kept.
+//! Writing a page: its report, and then the session after it, if that is kept.
 
 ghost use Rattle.std.specs.Prelude.{◌≡◌, ℕ, ◌+◌, ◌^◌, ◌<◌, ◌≤◌, All, IfOk, IfSome, IsTrue, is_some, length};
 ghost use Rattle.sabr_model.specs.Devices.{WritesText};
@@ -51,14 +51,15 @@ fn send_session<S: Write, B: BestOf<A>, A: Allocator + Copy>(
     Ok(())
 }
 
-/// Writes the next `count` routes of a listing, ranked on from those given before, and whether it goes on, to `out`;
-/// and then, where `keep` is the digest of its plan, the session behind them to `session`. All routes are found first,
-/// and each writer is flushed behind its text, `out` before anything is written to `session`.
+/// Writes the next `count` routes of a listing to `out`, with ranks that go on from the routes given before, and
+/// whether the listing goes on. Then, if `keep` is the digest of its plan, it writes the session after them to
+/// `session`. All routes are found first. Each writer is flushed after its text, `out` before anything is written to
+/// `session`.
 ///
 /// # Errors
 ///
-/// [`Failure::NoMemory`] where a growth was refused; then nothing was written. [`Failure::Write`] where a writer
-/// failed: `out`, with a beginning of the report, or else `session`, with a beginning of the session.
+/// [`Failure::NoMemory`] if a growth was refused; then nothing was written. [`Failure::Write`] if a writer failed:
+/// `out`, with a beginning of the report, or else `session`, with a beginning of the session.
 pub fn write_page<O: Write, S: Write, B: BestOf<A>, A: Allocator + Copy>(
     mut listing: Session<'_, B, A>,
     count: u32,

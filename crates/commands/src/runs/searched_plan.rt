@@ -1,4 +1,4 @@
-//! The plan of a run that searches.
+//! Reading the plan of a run that searches.
 
 ghost use Rattle.sabr_plan.specs.PlanRead.{ReadsPlan};
 
@@ -6,11 +6,12 @@ use sabr_model::{Plan, Read};
 use sabr_plan::{PlanFault, read_plan};
 use std::alloc::Allocator;
 
-/// Reads the plan that a text spells, and makes it ready for searches; where memory is short for that, they take longer.
+/// Reads the plan that a text spells, and makes it ready for searches. If memory is refused for the latter, searches
+/// take longer.
 ///
 /// # Errors
 ///
-/// The fault of the plan's text or reader, or want of memory for the plan.
+/// The fault of the plan's text, a failure of its reader, or out of memory for the plan.
 pub fn read_searched_plan<P: Read, A: Allocator + Copy>(
     alloc: A,
     reader: &mut P,

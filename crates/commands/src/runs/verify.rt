@@ -1,4 +1,4 @@
-//! The run that tells whether a session is that of a plan.
+//! The run that verifies a session over a plan.
 
 ghost use Rattle.std.specs.Prelude.{◌≡◌, Bool, Result};
 ghost use Rattle.sabr_model.specs.Plan.{TabledPlan};
@@ -20,7 +20,7 @@ use sabr_search::Settled;
 use sabr_session::verify;
 use std::alloc::Allocator;
 
-/// Reads the plan, verifies the old session over it, and tells the answer.
+/// Reads the plan, verifies the old session over it, and writes the answer.
 fn read_and_verify<P: Read, I: Read, O: Write, A: Allocator + Copy>(
     alloc: A,
     plan: &mut P,
@@ -37,14 +37,14 @@ fn read_and_verify<P: Read, I: Read, O: Write, A: Allocator + Copy>(
     write_verified(verified, out)
 }
 
-/// Tells whether the old session that `old` gives is that of some request and some place in its listing, over the plan
-/// that `plan` gives: reads the plan whole and then the session, compares it with the listing, and writes and flushes
-/// `yes` or `no` to `out` as a line. Who wrote the session isn't trusted; a text that isn't one is told as `no`.
+/// Verifies that an old session is that of some request and some place in its listing: reads the plan whole from `plan`
+/// and then the session from `old`, compares it with the listing, and writes and flushes `yes` or `no` to `out` as a
+/// line. The session's author isn't trusted; a text that is no session gets `no`.
 ///
 /// A failure's message goes to `err`; a failure of `err` changes nothing else. The status is [`Status::Done`] for yes
-/// and [`Status::No`] for no; [`Status::Plan`] where the plan is refused, and then `old` isn't read; [`Status::Io`]
-/// where a reader or `out` failed; and [`Status::Memory`] where a growth was refused. Only where `out` failed does it
-/// hold a beginning of the line, and else all of it or nothing.
+/// and [`Status::No`] for no; [`Status::Plan`] if the plan is refused, and then `old` isn't read; [`Status::Io`] if a
+/// reader or `out` failed; and [`Status::Memory`] if a growth was refused. If `out` failed, it holds a beginning of the
+/// line, and else all of it or nothing.
 pub fn run_verify<P: Read, I: Read, O: Write, E: Write, A: Allocator + Copy>(
     alloc: A,
     plan: &mut P,

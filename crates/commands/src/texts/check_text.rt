@@ -1,4 +1,4 @@
-//! The text that tells what a plan holds, and its digest.
+//! The text of a check: what a plan holds, and its digest.
 
 ghost use Rattle.std.specs.Prelude.{◌≡◌, length};
 ghost use Rattle.sabr_model.specs.Devices.{WritesText};
@@ -11,7 +11,7 @@ use sabr_plan::digest;
 use sabr_session::digest_text;
 use std::alloc::Allocator;
 
-/// Counts the standing contacts that have no light time at their start.
+/// Counts the contacts that weren't deleted and have no light time at their start.
 fn without_light<A: Allocator + Copy>(plan: &Plan<A>) -> usize
     ensures { result ≡ length (without_light plan.now.plan) }
 {
@@ -48,14 +48,14 @@ fn write_counts<W: Write, A: Allocator + Copy>(
     )
 }
 
-/// Writes what the plan holds in five lines: how many contacts and ranges stand, how many nodes send or
-/// receive a contact, how many contacts have no light time at their start, and the plan's digest.
+/// Writes what the plan holds in five lines: the numbers of contacts and of ranges that weren't deleted, of nodes that
+/// send or receive a contact, and of contacts without light time at their start, and then the plan's digest.
 ///
 /// It takes no memory and doesn't flush.
 ///
 /// # Errors
 ///
-/// [`WriteFault`] where the writer failed. Then a beginning of the text was written.
+/// [`WriteFault`] if the writer failed. Then a beginning of the text was written.
 pub fn write_check_text<W: Write, A: Allocator + Copy>(
     plan: &Plan<A>,
     writer: &mut W,

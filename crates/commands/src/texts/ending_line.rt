@@ -1,4 +1,4 @@
-//! The line that tells how a list of contacts ends.
+//! The last line of an explanation: the route that the contacts make, or their fault.
 
 ghost use Rattle.sabr_model.specs.Plan.{IsPlan};
 ghost use Rattle.sabr_model.specs.Asking.{IsRequest};
@@ -50,12 +50,12 @@ fn put_fault<W: Write>(
     }
 }
 
-/// Puts how a list of contacts ends that was followed: as a route with this delivery, in seconds from the beginning of
-/// 1970, or in this fault.
+/// Puts how the contacts end, after they were followed: as a route with this delivery, in seconds since
+/// 1970-01-01T00:00:00Z, or in this fault.
 ///
 /// # Errors
 ///
-/// [`WriteFault`] where the writer failed. Then a beginning of the texts put so far was written.
+/// [`WriteFault`] if the writer failed. Then a beginning of the texts put so far was written.
 pub fn put_ending<W: Write, A: Allocator + Copy>(
     text: &mut TextBuffer<'_, W>,
     plan: &Plan<A>,

@@ -1,4 +1,4 @@
-//! The text that tells what a list of contacts does.
+//! The text of an explanation: what a list of contacts does.
 
 ghost use Rattle.std.specs.Prelude.{◌≡◌, ◌≤◌, [], IfOk, IsTrue, length};
 ghost use Rattle.sabr_model.specs.Route.{is_path, is_route};
@@ -12,7 +12,7 @@ use sabr_model::{HopFault, Plan, Request, Write, WriteFault, follow};
 use sabr_session::TextBuffer;
 use std::alloc::Allocator;
 
-/// Counts how many of so many hops come before a fault. Places count from 1.
+/// Counts the hops before a fault, of so many. Places count from 1.
 fn hops_before(fault: HopFault, hops: usize) -> usize
     ensures { result ≡ hops_before fault hops }
 {
@@ -28,7 +28,7 @@ fn hops_before(fault: HopFault, hops: usize) -> usize
     }
 }
 
-/// Follows the whole list, and tells the hops before the first fault.
+/// Follows the whole list. Returns the hops before the first fault, and how following ended.
 fn followed<'a, A: Allocator + Copy>(
     plan: &Plan<A>,
     request: &Request,
@@ -44,16 +44,15 @@ fn followed<'a, A: Allocator + Copy>(
     }
 }
 
-/// Writes what the contacts of these numbers do, one after the other: a line for each hop before the first
-/// fault, with its contact and the times of sending and of arrival, and then the line of the route that they
-/// make, or that of the fault. Answers whether they make a route.
+/// Writes what the contacts of these numbers do in turn. Each hop before the first fault has a line, with its contact
+/// and the times of sending and of arrival. Then comes the line of the route that they make, or that of the fault.
+/// Returns whether they make a route.
 ///
-/// It takes no memory and doesn't flush. The time grows with the square of the number of hops, as that of
-/// [`follow`].
+/// It takes no memory and doesn't flush. Its time grows with the square of the number of hops, as that of [`follow`].
 ///
 /// # Errors
 ///
-/// [`WriteFault`] where the writer failed. Then a beginning of the text was written.
+/// [`WriteFault`] if the writer failed. Then a beginning of the text was written.
 pub fn write_explanation<W: Write, A: Allocator + Copy>(
     plan: &Plan<A>,
     request: &Request,

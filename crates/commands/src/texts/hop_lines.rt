@@ -14,7 +14,7 @@ use sabr_plan::time_text;
 use sabr_session::{TextBuffer, put_pieces};
 use std::alloc::Allocator;
 
-/// Puts the line of a hop. Times are seconds from the beginning of 1970.
+/// Puts the line of a hop. Times are seconds since 1970-01-01T00:00:00Z.
 fn put_hop_line<W: Write>(
     text: &mut TextBuffer<'_, W>,
     place: usize,
@@ -49,7 +49,7 @@ fn put_hop_line<W: Write>(
     put_pieces(text, &pieces)
 }
 
-/// Puts the line of the number that follows `front`, where a bundle arrives at `at`. Answers when it arrives next.
+/// Puts the line of the contact that follows `front`, by which the bundle arrives at `at`. Returns the next arrival.
 fn put_hop<W: Write, A: Allocator + Copy>(
     text: &mut TextBuffer<'_, W>,
     plan: &Plan<A>,
@@ -86,7 +86,7 @@ fn put_hop<W: Write, A: Allocator + Copy>(
 ///
 /// # Errors
 ///
-/// [`WriteFault`] where the writer failed. Then a beginning of the texts put so far was written.
+/// [`WriteFault`] if the writer failed. Then a beginning of the texts put so far was written.
 pub fn put_hops<W: Write, A: Allocator + Copy>(
     text: &mut TextBuffer<'_, W>,
     plan: &Plan<A>,

@@ -36,11 +36,11 @@ fn kind_text(kind: PlanKind) -> &'static str
     }
 }
 
-/// Writes the texts one behind the other.
+/// Writes the texts in turn.
 ///
 /// # Errors
 ///
-/// [`WriteFault`] at the writer's first failure. Then a beginning of the texts was written.
+/// [`WriteFault`] if the writer failed. Then a beginning of the texts was written.
 pub fn write_texts<W: Write>(writer: &mut W, texts: &[&str]) -> Result<(), WriteFault>
     ensures { WritesText (W.contents writer.old) (W.failures writer.old) (concat (map (λ t. t.now) texts.now)) result (W.contents writer.new) (W.failures writer.new) }
 {
@@ -77,7 +77,7 @@ fn session_kind_text(fault: SessionFault) -> &'static str
     }
 }
 
-/// Tells the line that a fault of a session names, counted from 1.
+/// The line that a fault of a session names, counted from 1.
 fn session_line(fault: SessionFault) -> Option<u128>
     ensures { result ≡ session_line fault }
 {
@@ -122,8 +122,8 @@ fn write_message<W: Write>(writer: &mut W, failure: Failure) -> Result<(), Write
     }
 }
 
-/// Writes the failure's message and answers its status. Where the writer fails, a beginning of the message
-/// was written, and the status is the same.
+/// Writes the failure's message, and returns its status. If the writer fails, a beginning of the message was written,
+/// and the status is the same.
 pub fn tell<W: Write>(writer: &mut W, failure: Failure) -> Status
     ensures status { result ≡ status_of failure }
     ensures message { TellsText (W.contents writer.old) (W.failures writer.old) (message_text failure) (W.contents writer.new) (W.failures writer.new) }

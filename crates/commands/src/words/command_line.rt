@@ -5,7 +5,7 @@ use crate::files::{PLAN, SESSION, SESSION_OUT};
 use clap::{Arg, ArgAction, ArgMatches, Command, Error};
 use std::alloc::{AllocError, Global};
 
-/// The version of the program, which `--version` tells.
+/// The version of the program, as `--version` shows it.
 const VERSION: &str = "0.1.0";
 
 /// Makes a word with a value: what its value looks like, and what it is.
@@ -17,7 +17,7 @@ fn option<'a>(alloc: Global, name: &'a str, form: &'a str, help: &'a str) -> Arg
         .help(help)
 }
 
-/// Makes a word that has to be there.
+/// Makes a word that is required.
 fn required<'a>(alloc: Global, name: &'a str, form: &'a str, help: &'a str) -> Arg<'a> {
     option(alloc, name, form, help).required(true)
 }
@@ -88,7 +88,7 @@ fn contacts<'a>(alloc: Global) -> Arg<'a> {
     required(alloc, "contacts", "NUMBER,NUMBER..", help)
 }
 
-/// Adds the words that say what is asked for.
+/// Adds the words for a request.
 fn with_request<'a>(alloc: Global, command: Command<'a>) -> Result<Command<'a>, AllocError> {
     command
         .arg(from(alloc))?
@@ -99,7 +99,7 @@ fn with_request<'a>(alloc: Global, command: Command<'a>) -> Result<Command<'a>, 
         .arg(avoid(alloc))
 }
 
-/// Adds the words that say how many routes a page has, and where its session is kept.
+/// Adds the words for the number of routes of a page, and for the file that keeps its session.
 fn with_page<'a>(alloc: Global, command: Command<'a>) -> Result<Command<'a>, AllocError> {
     command.arg(count(alloc))?.arg(session_out(alloc))
 }
@@ -144,12 +144,12 @@ is refused, 5 a file can't be opened, read, made or written, 6 no memory. docs/c
     Ok(program)
 }
 
-/// Parses the words behind the program's name. A call for help or for the version is a refusal, too, with the answer as
+/// Parses the words after the program's name. A call for help or for the version is a refusal, too, with the answer as
 /// its text.
 ///
 /// # Errors
 ///
-/// clap's, with the text that tells why; of the kind `OutOfMemory` where memory was refused.
+/// The error of clap, with the reason as its text; of the kind `OutOfMemory` if memory was refused.
 pub fn parsed<'a>(alloc: Global, words: &'a [&'a str]) -> Result<ArgMatches<'a>, Error> {
     program(alloc)?.try_get_matches_from(words)
 }

@@ -12,7 +12,7 @@ fn comma(text: &[u8]) -> Option<usize>
     text.iter().position(|b| *b == b',')
 }
 
-/// Splits off the first piece; with it comes what stands behind its comma, if it has one.
+/// Splits off the first piece. With it comes what stands after its comma, if there is one.
 pub fn first_piece(text: &[u8]) -> (&[u8], Option<&[u8]>)
     ensures pieces { pieces_of text.now ≡ result.0.now ∷ pieces_behind (option_copied result.1) }
     ensures shorter { IfSome result.1 (λ rest. length rest.now < length text.now) }

@@ -1,4 +1,4 @@
-//! Lists of numbers on the command line, parted by single commas.
+//! Lists of numbers on the command line, separated by single commas.
 
 ghost use Rattle.std.specs.Prelude.{◌≡◌, None, Some, MatchOption, IfOk};
 ghost use Rattle.commands.specs.words.Lists.{nodes_listed, numbers_within};
@@ -8,7 +8,7 @@ use sabr_model::{NoMemory, NodeList, Numbers};
 use sabr_plan::number_within;
 use std::alloc::Allocator;
 
-/// Reads the nodes that the text lists, at most 16. None where it lists none or more.
+/// Reads the text as 1 to 16 nodes. `None` if it isn't that.
 pub fn nodes_listed(text: &[u8]) -> Option<NodeList>
     ensures { MatchOption result (nodes_listed text.now ≡ None) (λ nodes. nodes_listed text.now ≡ Some nodes) }
 {
@@ -23,11 +23,11 @@ pub fn nodes_listed(text: &[u8]) -> Option<NodeList>
     Some(nodes)
 }
 
-/// Reads the contact numbers that the text lists. None where it lists none.
+/// Reads the text as contact numbers. `None` if it isn't a list of them.
 ///
 /// # Errors
 ///
-/// [`NoMemory`] where a growth was refused.
+/// [`NoMemory`] if a growth was refused.
 pub fn contacts_listed<A: Allocator + Copy>(
     alloc: A,
     text: &[u8],

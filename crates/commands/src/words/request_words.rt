@@ -1,4 +1,4 @@
-//! The words that say what is asked for.
+//! The words of a request.
 
 ghost use Rattle.std.specs.Prelude.{◌≡◌, ℕ, ◌≤◌, [], List, Option, option_map, IfOk, IsErrOf};
 ghost use Rattle.clap.specs.Matches.{found_of};
@@ -26,11 +26,11 @@ pub fn text_under<'a>(matches: &ArgMatches<'a>, name: ValueName) -> Option<&'a [
     }
 }
 
-/// Reads a number from `low` to `high` that has to be there.
+/// Reads a required number from `low` to `high`.
 ///
 /// # Errors
 ///
-/// [`ValueFault::Bad`] where it isn't there, or isn't spelled as it must be.
+/// [`ValueFault::Bad`] if it is missing, misspelled, or out of its range.
 pub fn number_given(
     matches: &ArgMatches<'_>,
     name: ValueName,
@@ -44,7 +44,7 @@ pub fn number_given(
     number_within(text, low, high).ok_or(ValueFault::Bad(name))
 }
 
-/// Reads a number from `low` to `high` that may be left out.
+/// Reads an optional number from `low` to `high`.
 fn number_or(
     matches: &ArgMatches<'_>,
     name: ValueName,
@@ -62,7 +62,7 @@ fn number_or(
     number_within(text, low, high).ok_or(ValueFault::Bad(name))
 }
 
-/// Reads when the bundle is at the source.
+/// Reads the time at which the bundle is at the source.
 fn time_given(matches: &ArgMatches<'_>) -> Result<u64, ValueFault>
     ensures value { result ≡ value_of time_of (found_of matches.now) ValueName.At }
     ensures range { IfOk result (λ t. t ≤ last_time) }
@@ -82,7 +82,7 @@ fn avoided(matches: &ArgMatches<'_>) -> Result<NodeList, ValueFault>
     nodes_listed(text).ok_or(ValueFault::Bad(ValueName::Avoid))
 }
 
-/// Reads the limits, behind the values of a request without limits.
+/// Reads the limits, and adds them to the values of a request without limits.
 #[tactic(auto, unfolding(crate::specs::words::Values::limits_of))]
 fn with_limit_words(
     from: u64,
@@ -109,7 +109,7 @@ fn with_limit_words(
     })
 }
 
-/// Reads what is asked for, word by word.
+/// Reads the words of a request in turn.
 ///
 /// # Errors
 ///
@@ -131,8 +131,8 @@ pub fn request_words(matches: &ArgMatches<'_>) -> Result<RequestValues, ValueFau
 ///
 /// # Errors
 ///
-/// [`ValueFault::SameNode`] where source and destination are one node; and else [`ValueFault::BadAvoid`] where the avoided
-/// nodes don't rise strictly, or hold the source or the destination.
+/// [`ValueFault::SameNode`] if source and destination are one node. Else [`ValueFault::BadAvoid`] if the avoided nodes
+/// don't rise strictly, or hold the source or the destination.
 #[tactic(auto, unfolding(crate::specs::words::Values::request_of))]
 pub fn request_of(words: &RequestValues) -> Result<Request, ValueFault>
     requires { IsInRange words.now }

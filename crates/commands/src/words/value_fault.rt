@@ -10,7 +10,7 @@ use thiserror::Error;
 /// Why the values of a command are refused.
 #[derive(Clone, Copy, Debug, PartialEq, Eq, Error)]
 pub enum ValueFault {
-    /// A value is missing or not spelled as it must be, or out of its range.
+    /// A value is missing, misspelled, or out of its range.
     #[error("--{} is missing or not spelled as it must be", .0.text())]
     Bad(ValueName),
     /// The source is the destination.

@@ -3,14 +3,14 @@
 ghost use Rattle.std.specs.Prelude.{◌≡◌};
 ghost use Rattle.commands.specs.words.Values.{name_text};
 
-/// A value of the command line, by its word. Bad ones are told in this order.
+/// A value of the command line, by its word. The first bad one in this order is reported.
 #[derive(Clone, Copy, Debug, PartialEq, Eq)]
 pub enum ValueName {
     /// The source.
     From,
     /// The destination.
     To,
-    /// When the bundle is at the source.
+    /// The time at which the bundle is at the source.
     At,
     /// The margin on light times, in parts in a million.
     MarginPpm,
@@ -18,14 +18,14 @@ pub enum ValueName {
     MaxHops,
     /// The nodes to avoid.
     Avoid,
-    /// How many routes are asked for.
+    /// The number of routes asked for.
     Count,
     /// The contacts to explain.
     Contacts,
 }
 
 impl ValueName {
-    /// Tells the word, without its two dashes.
+    /// The word, without its two dashes.
     pub fn text(self) -> &'static str
         ensures { result.now ≡ name_text self }
     {

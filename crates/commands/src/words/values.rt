@@ -14,18 +14,18 @@ use clap::ArgMatches;
 use sabr_model::{Numbers, Request, RequestValues};
 use std::alloc::{Allocator, Global};
 
-/// The values of a command. What the command hasn't is none or empty.
+/// The values of a command. What the command doesn't have is `None` or empty.
 #[derive(Drop)]
 pub struct Values<A: Allocator + Copy = Global> {
-    /// What is asked for.
+    /// The request.
     pub request: Option<Request>,
-    /// How many routes, 1 to 10000.
+    /// The number of routes asked for, 1 to 10000.
     pub count: Option<u32>,
     /// The contacts to explain.
     pub contacts: Numbers<A>,
 }
 
-/// Reads the words of a request, where the command has them.
+/// Reads the words of a request, if the command has them.
 #[tactic(auto, unfolding(crate::specs::words::Values::words_where_asked))]
 fn words_where_asked(
     command: CommandName,
@@ -43,7 +43,7 @@ fn words_where_asked(
     Ok(Some(words))
 }
 
-/// Reads the count of routes, where the command has one.
+/// Reads the count of routes, if the command has one.
 #[tactic(auto, unfolding(crate::specs::words::Values::count_where_asked))]
 fn count_where_asked(
     command: CommandName,
@@ -60,7 +60,7 @@ fn count_where_asked(
     Ok(Some(count as u32))
 }
 
-/// Reads the contacts, where the command has them.
+/// Reads the contacts, if the command has them.
 #[tactic(auto, unfolding(crate::specs::words::Values::contacts_where_asked))]
 fn contacts_where_asked<A: Allocator + Copy>(
     alloc: A,
@@ -79,7 +79,7 @@ fn contacts_where_asked<A: Allocator + Copy>(
     contacts_listed(alloc, text)?.ok_or(bad)
 }
 
-/// Makes the request of words that are there.
+/// Makes the request of the words, if there are any.
 #[tactic(auto, unfolding(crate::specs::words::Values::request_where_asked))]
 fn request_where_asked(words: &Option<RequestValues>) -> Result<Option<Request>, ValueFault>
     requires { IfSome words.now IsInRange }
@@ -119,18 +119,18 @@ fn values_of<A: Allocator + Copy>(
     })
 }
 
-/// Reads the values of the command of this name strictly: `matches` holds the texts that were given under the names of its
-/// words. The name is that of one of the five commands.
+/// Reads the values of the command of this name strictly. `matches` holds the texts given under the names of its words.
+/// The name is that of one of the five commands.
 ///
-/// Nodes, numbers and counts are decimal without a sign or leading zero and within their limits, a time
-/// is `yyyy/mm/dd-hh:mm:ss`, and lists are joined by single commas. The margin is 0 and the limit on hops
-/// 20000 where they aren't given, and then no node is avoided.
+/// Nodes, numbers and counts are decimal without a sign or leading zero and within their limits, a time is
+/// `yyyy/mm/dd-hh:mm:ss`, and lists are joined by single commas. A margin that isn't given is 0, a limit on hops that
+/// isn't given is 20000, and without nodes to avoid none is avoided.
 ///
 /// # Errors
 ///
 /// The first that holds: [`ValueFault::Bad`] with the first bad word in the order of [`ValueName`],
-/// [`ValueFault::SameNode`], [`ValueFault::BadAvoid`]. [`ValueFault::NoMemory`] comes only where memory
-/// for contacts was refused.
+/// [`ValueFault::SameNode`], [`ValueFault::BadAvoid`]. [`ValueFault::NoMemory`] only if memory for contacts was
+/// refused.
 pub fn read_values<A: Allocator + Copy>(
     alloc: A,
     command: &str,
