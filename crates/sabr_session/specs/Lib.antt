@@ -4,6 +4,7 @@ pub mod ReportText
 pub mod SessionText
 pub mod SessionRows
 pub mod SessionWords
+pub mod SessionLists
 pub mod SessionLines
 pub mod SessionRead
 pub mod SessionFed

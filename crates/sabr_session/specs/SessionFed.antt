@@ -5,7 +5,7 @@ use Rattle.sabr_plan.specs.Canonical.{digest_of}
 use Rattle.sabr_plan.specs.Steps.{and_then}
 use Rattle.sabr_plan.specs.Words.{has_bytes, lines_of}
 use Rattle.sabr_frontier.specs.Session.{Seen}
-use Rattle.sabr_session.specs.SessionRead.{Said, nothing_said, read_lines, is_behind, last_line, ComesTo}
+use Rattle.sabr_session.specs.SessionRead.{Said, nothing_said, read_lines, is_behind, last_line, most_bytes, misspelled, ComesTo}
 use Rattle.sabr_session.specs.declared.session_fault.SessionFault.{SessionFault}
 use Rattle.sabr_session.specs.declared.session_fault.SessionFault.TheVariants.{Read, NoMemory}
 
@@ -25,9 +25,9 @@ outcome p h s bytes ended =
     let text = lines_of (s.held ++ bytes) in
     and_then (read_lines p h (s.lines + 1) s.said text.ended) (last_line ended (s.lines + 1 + length text.ended) text.open_line)
 
--- the beginning of line n that is refused whatever follows it: it has more than 660008 bytes, or a byte after `end`
+-- the beginning of line n that is refused whatever follows it: it has too many bytes, or a byte after `end`
 abbrev pub is_bad_front : ℕ → Said → List ℕ → Bool
-is_bad_front n s front = (is_behind n s && has_bytes front) || nat_lt 660008 (length front)
+is_bad_front n s front = (is_behind n s && has_bytes front) || nat_lt most_bytes (length front)
 
 -- over a plan, what was fed of a text that wasn't refused, and how often the finder was called that its session is to have
 pub record OpenText : Type 0 where
@@ -55,6 +55,11 @@ pub record GoesOn (old : OpenText) (piece : List ℕ) (new : OpenText) : Type 0 
 -- a piece is refused: out of memory, or for this fault, whatever follows it
 abbrev pub IsRefusedPiece : OpenText → List ℕ → SessionFault → Type 0
 IsRefusedPiece t piece f = (f ≡ NoMemory) ⊎ ((f ≢ Read) × ((more : List ℕ) (ended : Bool) → outcome_of t (piece ++ more) ended ≡ Err f))
+
+-- more bytes aren't held: out of memory, or since no line begins with them and those held
+abbrev pub IsRefusedFront : OpenText → List ℕ → SessionFault → Type 0
+IsRefusedFront t bytes f =
+    (f ≡ NoMemory) ⊎ ((f ≡ misspelled (t.fed.lines + 1)) × (is_bad_front (t.fed.lines + 1) t.fed.said (t.fed.held ++ bytes) ≡ true))
 
 -- a piece was fed to a text: the text goes on, or is refused; a text that was refused before is refused again
 abbrev pub IsFed : {U : Type 0} → Result OpenText SessionFault → List ℕ → Result U SessionFault → Result OpenText SessionFault → Type 0

@@ -105,6 +105,10 @@ part_said p n s line = and_then (spelled_at n (part_of line)) (placed p n s)
 abbrev pub end_said : ℕ → Said → List ℕ → Result Said SessionFault
 end_said n s line = if n == 7 + s.count && is_end line then Ok s else Err (BadLine n)
 
+-- line n after the first six
+abbrev pub other_said : ContactPlan → ℕ → Said → List ℕ → Result Said SessionFault
+other_said p n s line = if nat_lt n (7 + s.count) then part_said p n s line else end_said n s line
+
 -- line n, over a plan p of digest h
 unfoldable pub line_said : ContactPlan → List ℕ → ℕ → Said → List ℕ → Result Said SessionFault
 line_said p h n s line =
@@ -114,12 +118,15 @@ line_said p h n s line =
     else if n == 4 then emitted_said s line
     else if n == 5 then last_said s line
     else if n == 6 then count_said s line
-    else if nat_lt n (7 + s.count) then part_said p n s line
-    else end_said n s line
+    else other_said p n s line
 
--- line n, which has at most 660008 bytes
+-- the most bytes of a line without its LF
+abbrev pub most_bytes : ℕ
+most_bytes = 660008
+
+-- line n, which has at most so many bytes
 abbrev pub read_line : ContactPlan → List ℕ → ℕ → Said → List ℕ → Result Said SessionFault
-read_line p h n s line = if nat_lt 660008 (length line) then Err (misspelled n) else line_said p h n s line
+read_line p h n s line = if nat_lt most_bytes (length line) then Err (misspelled n) else line_said p h n s line
 
 -- the lines from number n on
 unfoldable pub read_lines : ContactPlan → List ℕ → ℕ → Said → List (List ℕ) → Result Said SessionFault
@@ -135,7 +142,7 @@ is_behind n s = nat_lt (7 + s.count) n
 abbrev pub last_line : Bool → ℕ → List ℕ → Said → Result Said SessionFault
 last_line ended n line s =
     if is_behind n s && not (has_bytes line) then (if ended then Ok s else Err Read)
-    else if ended || is_behind n s || nat_lt 660008 (length line) then Err (misspelled n)
+    else if ended || is_behind n s || nat_lt most_bytes (length line) then Err (misspelled n)
     else Err Read
 
 -- what all lines say, or the first fault in them; `ended` says whether the reader ended after these bytes, or failed

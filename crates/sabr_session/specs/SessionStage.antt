@@ -4,7 +4,8 @@ use Rattle.sabr_model.specs.Plan.{TabledPlan}
 use Rattle.sabr_model.specs.Arrival.{RouteRequest}
 use Rattle.sabr_model.specs.Asking.{unlimited}
 use Rattle.sabr_frontier.specs.State.{PartState}
-use Rattle.sabr_frontier.specs.Loading.{Loaded}
+use Rattle.sabr_frontier.specs.Session.{Seen}
+use Rattle.sabr_frontier.specs.Loading.{Loaded, state_with}
 use Rattle.sabr_session.specs.SessionRead.{Said}
 
 -- the plan; how often the finder was called; whether there is a request; the request, and the parts so far
@@ -30,3 +31,7 @@ IsStage plan (Some finder) (Some l) = ⊥
 -- what the first six lines say but for the request, and what the stage has of the others
 abbrev pub said_with : Said → Staged → Said
 said_with s t = record s { request = t.request; parts = t.parts }
+
+-- the session of the parts, with this count of routes and this last one
+abbrev pub session_of : Staged → ℕ → List ℕ → Seen
+session_of t emitted last = record { plan = t.plan; request = t.request; state = state_with t.parts emitted last; former = []; searches = 0; calls = t.calls }

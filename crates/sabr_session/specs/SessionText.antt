@@ -8,6 +8,7 @@ use Rattle.sabr_model.specs.Asking.{unlimited}
 use Rattle.sabr_plan.specs.Times.{time_text_of}
 use Rattle.sabr_plan.specs.Canonical.{digest_of}
 use Rattle.sabr_frontier.specs.State.{PartState, State}
+use Rattle.sabr_frontier.specs.Session.{Seen}
 use Rattle.sabr_frontier.specs.Listing.{state_at}
 use Rattle.sabr_session.specs.SpacedNumbers.{list_text}
 
@@ -59,6 +60,10 @@ text_of h r s = codes "cgr-session 2\n" ++ (plan_line h ++ (request_line r ++ st
 -- the same in version 1, for a request without limits
 unfoldable pub old_text_of : List ℕ → RouteRequest → State → List ℕ
 old_text_of h r s = codes "cgr-session 1\n" ++ (plan_line h ++ (old_request_line r ++ state_lines s))
+
+-- the text of a session, over its plan
+abbrev pub text_of_session : Seen → List ℕ
+text_of_session s = text_of (digest_of s.plan.plan) s.request s.state
 
 -- a state has a text where its number of parts is at most the greatest that can stand there
 abbrev pub HasText : State → Type 0

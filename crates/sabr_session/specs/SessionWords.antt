@@ -40,6 +40,14 @@ is_dash (w ∷ v ∷ ws) = false
 unfoldable pub list_within : ℕ → ℕ → ℕ → List (List ℕ) → Option (List ℕ)
 list_within most low high words = if is_dash words then Some [] else counted most (all_of (map (number_within low high) words))
 
+-- the contact numbers that all the words are
+abbrev pub contact_numbers : List (List ℕ) → Option (List ℕ)
+contact_numbers words = all_of (map (number_within 1 4294967295) words)
+
+-- the nodes that all the words are, one to 16 of them
+abbrev pub node_numbers : List (List ℕ) → Option (List ℕ)
+node_numbers words = counted 16 (all_of (map (number_within 0 18446744073709551615) words))
+
 -- a list of contact numbers
 abbrev pub contacts_of : List (List ℕ) → Option (List ℕ)
 contacts_of words = list_within most_records 1 4294967295 words

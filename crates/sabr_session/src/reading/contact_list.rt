@@ -1,11 +1,8 @@
 //! Lists of contact numbers in a session text.
 
-ghost use Rattle.std.specs.Prelude.{◌≡◌, ◌≤◌, None, Some, true, false, if◌then◌else◌, map, length, IfOk, MatchOption};
-ghost use Rattle.std.specs.List.{list_any};
-ghost use Rattle.std.specs.Option.{option_copied};
-ghost use Rattle.sabr_model.specs.Plan.{most_records};
-ghost use Rattle.sabr_session.specs.SessionWords.{words_of, words_behind, all_of, counted, is_dash, contacts_of, is_slash, before_slash, after_slash};
-ghost use Rattle.sabr_plan.specs.Numbers.{number_within};
+ghost use Rattle.std.specs.Prelude.{◌≡◌, None, Some, if◌then◌else◌, IfOk};
+ghost use Rattle.sabr_session.specs.SessionWords.{words_of, contacts_of};
+ghost use Rattle.sabr_session.specs.SessionLists.{FindsDash, FindsList, FindsNumbers};
 
 use crate::reading::words::{first_number, first_word, is_word};
 use sabr_model::{MOST_RECORDS, NoMemory};
@@ -20,7 +17,7 @@ pub(crate) struct ListEnd<'a> {
 
 /// Reads the list `-`, and returns its end. `None` for any other list.
 fn dash_to_slash(text: &[u8]) -> Option<ListEnd<'_>>
-    ensures { MatchOption result (is_dash (before_slash (words_of text.now)) ≡ false) (λ e. (is_dash (before_slash (words_of text.now)) ≡ true) × (e.stopped ≡ list_any is_slash (words_of text.now)) × (words_behind (option_copied e.rest) ≡ after_slash (words_of text.now))) }
+    ensures { FindsDash (words_of text.now) result }
 {
     let (word, others) = first_word(text);
     if !is_word(word, b"-") {
@@ -49,7 +46,7 @@ fn numbers_to_slash<'a, A: Allocator + Copy>(
     numbers: &mut Vec<u32, A>,
     text: &'a [u8],
 ) -> Result<Option<ListEnd<'a>>, NoMemory>
-    ensures { IfOk result (λ found. MatchOption found (counted most_records (all_of (map (number_within 1 4294967295) (before_slash (words_of text.now)))) ≡ None) (λ e. (all_of (map (number_within 1 4294967295) (before_slash (words_of text.now))) ≡ Some numbers.new.items) × (length numbers.new.items ≤ most_records) × (e.stopped ≡ list_any is_slash (words_of text.now)) × (words_behind (option_copied e.rest) ≡ after_slash (words_of text.now)))) }
+    ensures { IfOk result (λ found. FindsNumbers (words_of text.now) numbers.new.items found) }
 {
     numbers.clear();
     let mut left = Some(text);
@@ -86,7 +83,7 @@ pub(crate) fn list_to_slash<'a, A: Allocator + Copy>(
     numbers: &mut Vec<u32, A>,
     text: &'a [u8],
 ) -> Result<Option<ListEnd<'a>>, NoMemory>
-    ensures { IfOk result (λ found. MatchOption found (contacts_of (before_slash (words_of text.now)) ≡ None) (λ e. (contacts_of (before_slash (words_of text.now)) ≡ Some numbers.new.items) × (e.stopped ≡ list_any is_slash (words_of text.now)) × (words_behind (option_copied e.rest) ≡ after_slash (words_of text.now)))) }
+    ensures { IfOk result (λ found. FindsList (words_of text.now) numbers.new.items found) }
 {
     let Some(end) = numbers_to_slash(numbers, text)? else {
         numbers.clear();

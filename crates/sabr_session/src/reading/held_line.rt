@@ -2,6 +2,7 @@
 
 ghost use Rattle.std.specs.Prelude.{◌≡◌, ◌≤◌, ◌+◌, ◌++◌, [], length, IsTrue, OnOk, OnErr};
 ghost use Rattle.sabr_plan.specs.Words.{is_one_line};
+ghost use Rattle.sabr_session.specs.SessionRead.{most_bytes};
 
 use sabr_model::NoMemory;
 use std::alloc::Allocator;
@@ -10,7 +11,7 @@ use std::marker::Model;
 /// The most bytes of a line without its LF.
 pub(crate) const MOST_BYTES: usize = 660008;
 
-/// At most 660008 bytes without LF. Contracts see the bytes.
+/// At most [`MOST_BYTES`] bytes without LF. Contracts see the bytes.
 #[derive(Drop)]
 pub(crate) struct HeldLine<A: Allocator + Copy> {
     bytes: Vec<u8, A>,
@@ -19,12 +20,13 @@ pub(crate) struct HeldLine<A: Allocator + Copy> {
 impl<A: Allocator + Copy> Model for HeldLine<A> {
     ghost use Rattle.std.specs.Prelude.{List, ℕ, ◌≤◌, length, IsTrue};
     ghost use Rattle.sabr_plan.specs.Words.{is_one_line};
+    ghost use Rattle.sabr_session.specs.SessionRead.{most_bytes};
 
     ghost Value = { List ℕ };
 
     ghost view = { λ h. h.bytes.items };
 
-    ghost invariant = { λ h. (length h.bytes.items ≤ 660008) × IsTrue (is_one_line h.bytes.items) };
+    ghost invariant = { λ h. (length h.bytes.items ≤ most_bytes) × IsTrue (is_one_line h.bytes.items) };
 }
 
 impl<A: Allocator + Copy> HeldLine<A> {
@@ -40,7 +42,7 @@ impl<A: Allocator + Copy> HeldLine<A> {
     /// The bytes.
     pub(crate) fn as_slice(&self) -> &[u8]
         ensures value { result.now ≡ self.now }
-        ensures limit { length self.now ≤ 660008 }
+        ensures limit { length self.now ≤ most_bytes }
     {
         self.bytes.as_slice()
     }
@@ -48,14 +50,14 @@ impl<A: Allocator + Copy> HeldLine<A> {
     /// The number of bytes.
     pub(crate) fn len(&self) -> usize
         ensures value { result ≡ length self.now }
-        ensures limit { result ≤ 660008 }
+        ensures limit { result ≤ most_bytes }
     {
         self.bytes.len()
     }
 
     /// Appends more bytes. If that fails, the line stays as it was.
     pub(crate) fn append(&mut self, more: &[u8]) -> Result<(), NoMemory>
-        requires room { length self.old + length more.now ≤ 660008 }
+        requires room { length self.old + length more.now ≤ most_bytes }
         requires line { IsTrue (is_one_line more.now) }
         ensures ok { OnOk result (self.new ≡ self.old ++ more.now) }
         ensures err { OnErr result (self.new ≡ self.old) }

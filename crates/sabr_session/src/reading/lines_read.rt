@@ -1,7 +1,7 @@
 //! The lines of a session text that LF has ended.
 
-ghost use Rattle.std.specs.Prelude.{◌≡◌, ◌+◌, ◌≤◌, nat_lt, true, if◌then◌else◌, Ok, IfOk, OnOk, OnErr};
-ghost use Rattle.sabr_session.specs.SessionRead.{end_said, is_behind, line_said, part_said};
+ghost use Rattle.std.specs.Prelude.{◌≡◌, ◌+◌, ◌≤◌, nat_lt, true, Ok, IfOk, OnOk, OnErr};
+ghost use Rattle.sabr_session.specs.SessionRead.{is_behind, line_said, other_said};
 ghost use Rattle.sabr_session.specs.SessionFed.{opened_over, IsSessionFrom};
 ghost use Rattle.sabr_session.specs.SessionLeaving.{Leaves};
 ghost use Rattle.sabr_session.specs.SessionStage.{said_with};
@@ -93,7 +93,7 @@ fn read_other<'p, B: BestOf<A>, A: Allocator + Copy>(
 ) -> Result<(), SessionFault>
     requires request { stage.old.has_request ≡ true }
     requires number { 7 ≤ number }
-    ensures value { Leaves (if nat_lt number (7 + head.now.count) then part_said stage.old.plan.plan number (said_with head.now stage.old) line.now else end_said number (said_with head.now stage.old) line.now) result (said_with head.now stage.new) }
+    ensures value { Leaves (other_said stage.old.plan.plan number (said_with head.now stage.old) line.now) result (said_with head.now stage.new) }
     ensures plan { stage.new.plan ≡ stage.old.plan }
     ensures calls { stage.new.calls ≡ stage.old.calls }
     ensures request { stage.new.has_request ≡ true }

@@ -1,8 +1,7 @@
 //! Lists of nodes in a session text.
 
-ghost use Rattle.std.specs.Prelude.{◌≡◌, None, Some, map, MatchOption};
-ghost use Rattle.sabr_session.specs.SessionWords.{words_of, all_of, counted, is_dash, nodes_of};
-ghost use Rattle.sabr_plan.specs.Numbers.{number_within};
+ghost use Rattle.std.specs.Prelude.{◌≡◌, None, Some, MatchOption};
+ghost use Rattle.sabr_session.specs.SessionWords.{words_of, is_dash, node_numbers, nodes_of};
 
 use crate::reading::words::{first_word, is_word};
 use sabr_model::NodeList;
@@ -10,7 +9,7 @@ use sabr_plan::number_within;
 
 /// Reads words as nodes. `None` if there are more than 16, or if a word is no node.
 fn numbers_listed(text: &[u8]) -> Option<NodeList>
-    ensures { MatchOption result (counted 16 (all_of (map (number_within 0 18446744073709551615) (words_of text.now))) ≡ None) (λ nodes. counted 16 (all_of (map (number_within 0 18446744073709551615) (words_of text.now))) ≡ Some nodes) }
+    ensures { MatchOption result (node_numbers (words_of text.now) ≡ None) (λ nodes. node_numbers (words_of text.now) ≡ Some nodes) }
 {
     let mut nodes = NodeList::new();
     let mut left = Some(text);

@@ -3,6 +3,7 @@
 ghost use Rattle.std.specs.Prelude.{◌≡◌, ◌+◌, ◌*◌, ◌<◌, ◌≤◌, length, Ok, MatchResult, IfOk, OnOk};
 ghost use Rattle.sabr_plan.specs.Canonical.{digest_of};
 ghost use Rattle.sabr_frontier.specs.Listing.{IsState};
+ghost use Rattle.sabr_session.specs.SessionRead.{most_bytes};
 ghost use Rattle.sabr_session.specs.SessionFed.{IsFed, IsFinished, opened_over, weight_of};
 
 use crate::reading::text_so_far::TextSoFar;
@@ -93,7 +94,7 @@ impl<'p, B: BestOf<A>, A: Allocator + Copy> SessionFeed<'p, B, A> {
     /// The number of bytes held of the incomplete line.
     pub fn held(&self) -> usize
         ensures value { MatchResult self.now (λ t. result ≡ length t.fed.held) (λ _. result ≡ 0) }
-        ensures limit { result ≤ 660008 }
+        ensures limit { result ≤ most_bytes }
     {
         match &self.text {
             Ok(text) => text.held(),

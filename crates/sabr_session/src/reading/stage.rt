@@ -5,7 +5,7 @@ ghost use Rattle.sabr_frontier.specs.Listing.{IsState};
 ghost use Rattle.sabr_frontier.specs.Loading.{IsRefusedBy, state_with};
 ghost use Rattle.sabr_session.specs.SessionRead.{nothing_said, placed, part_said};
 ghost use Rattle.sabr_session.specs.SessionLeaving.{Leaves};
-ghost use Rattle.sabr_session.specs.SessionStage.{said_with, staged};
+ghost use Rattle.sabr_session.specs.SessionStage.{said_with, session_of, staged};
 
 use crate::reading::part_line::PartLine;
 use crate::session_fault::SessionFault;
@@ -110,7 +110,7 @@ impl<'p, B: BestOf<A>, A: Allocator + Copy> Stage<'p, B, A> {
         last: &[u32],
     ) -> Result<Session<'p, B, A>, LoadFault>
         requires { self.has_request ≡ true }
-        ensures ok { IfOk result (λ s. s ≡ record { plan = self.entry.plan; request = self.entry.request; state = state_with self.entry.parts emitted last.now; former = []; searches = 0; calls = self.entry.calls }) }
+        ensures ok { IfOk result (λ s. s ≡ session_of self.entry emitted last.now) }
         ensures formed { OnOk result (IsState self.entry.plan.plan self.entry.request (state_with self.entry.parts emitted last.now)) }
         ensures err { IfErr result (IsRefusedBy self.entry.plan.plan self.entry.request (state_with self.entry.parts emitted last.now)) }
     {

@@ -1,12 +1,11 @@
 //! A session text that hasn't been refused yet.
 
-ghost use Rattle.std.specs.Prelude.{◌≡◌, ◌+◌, ◌*◌, ◌<◌, ◌≤◌, [], ◌++◌, length, true, false, ◌⊎◌, IsTrue, IfOk, IfErr, OnOk, OnErr};
+ghost use Rattle.std.specs.Prelude.{◌≡◌, ◌+◌, ◌*◌, ◌<◌, ◌≤◌, [], ◌++◌, length, true, false, IsTrue, IfOk, IfErr, OnOk, OnErr};
 ghost use Rattle.sabr_plan.specs.Canonical.{digest_of};
 ghost use Rattle.sabr_plan.specs.Words.{is_one_line};
-ghost use Rattle.sabr_session.specs.SessionRead.{misspelled, read_line};
-ghost use Rattle.sabr_session.specs.SessionFed.{GoesOn, IsRefusedPiece, IsSessionFrom, is_bad_front, opened_over, outcome_of, weight};
+ghost use Rattle.sabr_session.specs.SessionRead.{misspelled, most_bytes, read_line};
+ghost use Rattle.sabr_session.specs.SessionFed.{GoesOn, IsRefusedFront, IsRefusedPiece, IsSessionFrom, is_bad_front, opened_over, outcome_of, weight};
 ghost use Rattle.sabr_session.specs.SessionLeaving.{Leaves};
-ghost use Rattle.sabr_session.specs.declared.session_fault.SessionFault.TheVariants as fault;
 
 use crate::reading::held_line::{HeldLine, MOST_BYTES};
 use crate::reading::lines_read::LinesRead;
@@ -72,7 +71,7 @@ impl<'p, B: BestOf<A>, A: Allocator + Copy> TextSoFar<'p, B, A> {
     /// The number of bytes after the last LF.
     pub(crate) fn held(&self) -> usize
         ensures value { result ≡ length self.now.fed.held }
-        ensures limit { result ≤ 660008 }
+        ensures limit { result ≤ most_bytes }
     {
         self.held.len()
     }
@@ -100,7 +99,7 @@ impl<'p, B: BestOf<A>, A: Allocator + Copy> TextSoFar<'p, B, A> {
         ensures plan { self.new.plan ≡ self.old.plan }
         ensures calls { self.new.calls ≡ self.old.calls }
         ensures rest { OnOk result ((self.new.fed.lines ≡ self.old.fed.lines + 1) × (self.new.fed.held ≡ [])) }
-        ensures fits { OnOk result (length self.old.fed.held + length back.now ≤ 660008) }
+        ensures fits { OnOk result (length self.old.fed.held + length back.now ≤ most_bytes) }
         ensures held { IsTrue (is_one_line self.old.fed.held) }
     {
         let number = self.lines.next_number();
@@ -125,7 +124,7 @@ impl<'p, B: BestOf<A>, A: Allocator + Copy> TextSoFar<'p, B, A> {
         ensures bound { OnOk result (weight self.new < 660009 * 18446744073709551623) }
         ensures held { IsTrue (is_one_line self.old.fed.held) }
         ensures fine { OnOk result (is_bad_front (self.old.fed.lines + 1) self.old.fed.said (self.old.fed.held ++ bytes.now) ≡ false) }
-        ensures err { IfErr result (λ f. (f ≡ fault.NoMemory) ⊎ ((f ≡ misspelled (self.old.fed.lines + 1)) × (is_bad_front (self.old.fed.lines + 1) self.old.fed.said (self.old.fed.held ++ bytes.now) ≡ true))) }
+        ensures err { IfErr result (IsRefusedFront self.old bytes.now) }
     {
         let number = self.lines.next_number();
         let room = MOST_BYTES - self.held.len();

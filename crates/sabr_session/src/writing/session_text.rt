@@ -8,7 +8,7 @@ ghost use Rattle.sabr_plan.specs.Canonical.{digest_of};
 ghost use Rattle.sabr_frontier.specs.Shape.{numbers_of};
 ghost use Rattle.sabr_frontier.specs.Views.{told_of, told_left};
 ghost use Rattle.sabr_session.specs.Gathering.{Puts};
-ghost use Rattle.sabr_session.specs.SessionText.{plan_line, request_line, state_lines, text_of, HasText};
+ghost use Rattle.sabr_session.specs.SessionText.{plan_line, request_line, state_lines, text_of, text_of_session, HasText};
 ghost use Rattle.sabr_session.specs.SessionPieces.{asked_pieces, counts_pieces, told_line};
 
 use crate::hex_digest::digest_text;
@@ -37,7 +37,7 @@ pub fn write_session<W: Write, B: BestOf<A>, A: Allocator + Copy>(
 ) -> Result<(), WriteFault>
     requires { digest.now ≡ digest_of session.now.plan.plan }
     ensures there { HasText session.now.state }
-    ensures text { WritesText (W.contents writer.old) (W.failures writer.old) (text_of (digest_of session.now.plan.plan) session.now.request session.now.state) result (W.contents writer.new) (W.failures writer.new) }
+    ensures text { WritesText (W.contents writer.old) (W.failures writer.old) (text_of_session session.now) result (W.contents writer.new) (W.failures writer.new) }
 {
     tell_count(session);
     let mut text = TextBuffer::new(writer);

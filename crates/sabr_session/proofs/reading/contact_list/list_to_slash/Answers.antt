@@ -9,15 +9,15 @@ use Rattle.sabr_session.proofs.SlashLists.{dashed, numbered, numbers-undashed}
 use Rattle.sabr_session.proofs.reading.contact_list.list_to_slash.Goals as goal
 
 -- without numbers the list is `-` or none
-dash_or_none : {X : Type 0} (ws : List (List ℕ)) (ns : List ℕ) (r : Option X) (P Q : X → Type 0) → counted 20000 (all_of (map (number_within 1 4294967295) ws)) ≡ None → ns ≡ []
-    → MatchOption r (is_dash ws ≡ false) (λ e. (is_dash ws ≡ true) × P e × Q e)
-    → MatchOption r (contacts_of ws ≡ None) (λ e. (contacts_of ws ≡ Some ns) × P e × Q e)
-dash_or_none ws ns None P Q none empty h = numbered ws None h none
-dash_or_none ws ns (Some e) P Q none empty h = (dashed ws h.0 ∙ ap Some (sym empty), h.1, h.2)
+dash_or_none : {X : Type 0} (ws : List (List ℕ)) (ns : List ℕ) (r : Option X) (P : X → Type 0) → counted 20000 (all_of (map (number_within 1 4294967295) ws)) ≡ None → ns ≡ []
+    → MatchOption r (is_dash ws ≡ false) (λ e. (is_dash ws ≡ true) × P e)
+    → MatchOption r (contacts_of ws ≡ None) (λ e. (contacts_of ws ≡ Some ns) × P e)
+dash_or_none ws ns None P none empty h = numbered ws None h none
+dash_or_none ws ns (Some e) P none empty h = (dashed ws h.0 ∙ ap Some (sym empty), h.1)
 
 pub returns-in_default : goal.returns-in_default
 returns-in_default g c =
-    dash_or_none (before_slash (words_of c.args.text.now)) _ c.dash_to_slash.result _ _ (rw c.in_default.is at (c.in_ok-end.ensures {u = tt})) c.clear.ensures.items c.dash_to_slash.ensures
+    dash_or_none (before_slash (words_of c.args.text.now)) _ c.dash_to_slash.result _ (rw c.in_default.is at (c.in_ok-end.ensures {u = tt})) c.clear.ensures.items c.dash_to_slash.ensures
 
 pub returns-then-is_empty : goal.returns-then-is_empty
 returns-then-is_empty g c =
@@ -29,4 +29,4 @@ pub returns : goal.returns
 returns g c =
     let h = rw c.in-Some.is at (c.in_ok-end.ensures {u = tt}) in
     let some : 0 < length c.numbers_to_slash.new.numbers.items = grind (arith, nat_tests) in
-    (numbered (before_slash (words_of c.args.text.now)) (Some c.numbers_to_slash.new.numbers.items) (numbers-undashed _ _ h.0) (counted-some 20000 _ _ h.0 some h.1), h.2, h.3)
+    (numbered (before_slash (words_of c.args.text.now)) (Some c.numbers_to_slash.new.numbers.items) (numbers-undashed _ _ h.0) (counted-some 20000 _ _ h.0 some h.1), h.2)
