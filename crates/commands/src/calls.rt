@@ -2,8 +2,8 @@
 //!
 //! A call fails where its values are bad, or a file can't be opened or made, before its run.
 
-ghost use Rattle.std.specs.Prelude.{◌≤◌, IsTrue};
-ghost use Rattle.commands.specs.words.Values.{has_count};
+ghost use Rattle.std.specs.Prelude.{IsTrue};
+ghost use Rattle.commands.specs.words.Values.{has_count, IsCount};
 
 use crate::command::CommandName;
 use crate::failure::Failure;
@@ -49,7 +49,7 @@ fn list_over<F: io::Read + Drop, O: Write, S: Write, E: Write>(
     session: &mut S,
     err: &mut E,
 ) -> Status
-    requires { (1 ≤ count) × (count ≤ 10000) }
+    requires { IsCount count }
 {
     match beginning {
         Beginning::Request(request) => {

@@ -138,9 +138,17 @@ where_asked asked value = if asked then and_then value (λ a. Ok (Some a)) else 
 abbrev pub words_where_asked : CommandName → Found → Result (Option RequestValues) ValueFault
 words_where_asked name found = where_asked (has_request name) (request_words found)
 
+-- the most routes of a page
+abbrev pub most_routes : ℕ
+most_routes = 10000
+
+-- a number of routes that a page may have
+abbrev pub IsCount : ℕ → Type 0
+IsCount n = (1 ≤ n) × (n ≤ most_routes)
+
 -- the count of routes, where the command has one
 abbrev pub count_where_asked : CommandName → Found → Result (Option ℕ) ValueFault
-count_where_asked name found = where_asked (has_count name) (value_of (number_within 1 10000) found Count)
+count_where_asked name found = where_asked (has_count name) (value_of (number_within 1 most_routes) found Count)
 
 -- the contacts, where the command has them
 abbrev pub contacts_where_asked : CommandName → Found → Result (List ℕ) ValueFault

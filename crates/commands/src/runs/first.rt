@@ -6,6 +6,7 @@ ghost use Rattle.sabr_plan.specs.PlanRead.{ReadsPlan};
 ghost use Rattle.sabr_plan.specs.declared.fault.PlanFault.{PlanFault};
 ghost use Rattle.commands.specs.declared.failure.Failure.{Failure};
 ghost use Rattle.commands.specs.runs.Runs.{TellsEnd, status_at};
+ghost use Rattle.commands.specs.words.Values.{IsCount, most_routes};
 ghost use Rattle.commands.specs.runs.SessionRuns.{WritesFirstPage};
 
 use crate::failure::Failure;
@@ -29,7 +30,7 @@ fn write_first<O: Write, S: Write, A: Allocator + Copy>(
     keep: bool,
     session: &mut S,
 ) -> Result<(), Failure>
-    requires { count ≤ 10000 }
+    requires { count ≤ most_routes }
     ensures { WritesFirstPage (Ok plan.now) request keep count result
         (O.contents out.old) (O.failures out.old) (O.contents out.new) (O.failures out.new) (O.flushed out.new)
         (S.contents session.old) (S.failures session.old) (S.contents session.new) (S.failures session.new) (S.flushed session.new) }
@@ -50,7 +51,7 @@ fn read_and_write_first<P: Read, O: Write, S: Write, A: Allocator + Copy>(
     keep: bool,
     session: &mut S,
 ) -> Result<(), Failure>
-    requires { count ≤ 10000 }
+    requires { count ≤ most_routes }
     ensures { (planned : Result TabledPlan PlanFault)
         × ReadsPlan (P.remaining plan.old) (P.failures plan.old) planned (P.remaining plan.new) (P.failures plan.new)
         × WritesFirstPage planned request keep count result
@@ -80,7 +81,7 @@ pub fn run_first<P: Read, O: Write, S: Write, E: Write, A: Allocator + Copy>(
     session: &mut S,
     err: &mut E,
 ) -> Status
-    requires { (1 ≤ count) × (count ≤ 10000) }
+    requires { IsCount count }
     ensures { (planned : Result TabledPlan PlanFault) × ((end : Result (Unit {0}) Failure)
         × ReadsPlan (P.remaining plan.old) (P.failures plan.old) planned (P.remaining plan.new) (P.failures plan.new)
         × WritesFirstPage planned request keep count end

@@ -8,6 +8,7 @@ ghost use Rattle.sabr_frontier.specs.Session.{Seen};
 ghost use Rattle.sabr_session.specs.declared.session_fault.SessionFault.{SessionFault};
 ghost use Rattle.commands.specs.declared.failure.Failure.{Failure};
 ghost use Rattle.commands.specs.runs.Runs.{TellsEnd, status_at};
+ghost use Rattle.commands.specs.words.Values.{IsCount, most_routes};
 ghost use Rattle.commands.specs.runs.SessionRuns.{ReadsOldSession, WritesNextPage, place_of};
 
 use crate::failure::Failure;
@@ -31,7 +32,7 @@ fn write_next<I: Read, O: Write, S: Write, A: Allocator + Copy>(
     keep: bool,
     session: &mut S,
 ) -> Result<(), Failure>
-    requires { count ≤ 10000 }
+    requires { count ≤ most_routes }
     ensures { (told : Result Seen SessionFault)
         × ReadsOldSession (Ok plan.now) (I.remaining old.old) (I.failures old.old) told (I.remaining old.new) (I.failures old.new)
         × WritesNextPage (Ok plan.now) (place_of told) keep count result
@@ -54,7 +55,7 @@ fn read_and_write_next<P: Read, I: Read, O: Write, S: Write, A: Allocator + Copy
     keep: bool,
     session: &mut S,
 ) -> Result<(), Failure>
-    requires { count ≤ 10000 }
+    requires { count ≤ most_routes }
     ensures { (planned : Result TabledPlan PlanFault) × ((told : Result Seen SessionFault)
         × ReadsPlan (P.remaining plan.old) (P.failures plan.old) planned (P.remaining plan.new) (P.failures plan.new)
         × ReadsOldSession planned (I.remaining old.old) (I.failures old.old) told (I.remaining old.new) (I.failures old.new)
@@ -86,7 +87,7 @@ pub fn run_next<P: Read, I: Read, O: Write, S: Write, E: Write, A: Allocator + C
     session: &mut S,
     err: &mut E,
 ) -> Status
-    requires { (1 ≤ count) × (count ≤ 10000) }
+    requires { IsCount count }
     ensures { (planned : Result TabledPlan PlanFault) × ((told : Result Seen SessionFault) × ((end : Result (Unit {0}) Failure)
         × ReadsPlan (P.remaining plan.old) (P.failures plan.old) planned (P.remaining plan.new) (P.failures plan.new)
         × ReadsOldSession planned (I.remaining old.old) (I.failures old.old) told (I.remaining old.new) (I.failures old.new)

@@ -1,12 +1,12 @@
 //! Writing a page: its report, and then the session after it, if that is kept.
 
-ghost use Rattle.std.specs.Prelude.{◌≡◌, ℕ, ◌+◌, ◌^◌, ◌<◌, ◌≤◌, All, IfOk, IfSome, IsTrue, is_some, length};
+ghost use Rattle.std.specs.Prelude.{◌≡◌, ℕ, ◌+◌, ◌^◌, ◌<◌, ◌≤◌, All, Ok, IfOk, IfSome, IsTrue, is_some, length};
 ghost use Rattle.sabr_model.specs.Devices.{WritesText};
 ghost use Rattle.sabr_plan.specs.Canonical.{digest_of};
-ghost use Rattle.sabr_frontier.specs.Listing.{steps};
 ghost use Rattle.sabr_session.specs.ReportText.{HasSpelledTimes, report_text};
-ghost use Rattle.sabr_session.specs.SessionText.{text_of};
-ghost use Rattle.commands.specs.runs.SessionRuns.{next_report, kept_text, WritesPage};
+ghost use Rattle.sabr_session.specs.SessionText.{text_of_session};
+ghost use Rattle.commands.specs.runs.SessionRuns.{WritesNextPage};
+ghost use Rattle.commands.specs.words.Values.{most_routes};
 
 use crate::failure::Failure;
 use sabr_frontier::Session;
@@ -41,7 +41,7 @@ fn send_session<S: Write, B: BestOf<A>, A: Allocator + Copy>(
     session: &mut S,
 ) -> Result<(), WriteFault>
     requires { digest.now ≡ digest_of listing.now.plan.plan }
-    ensures text { WritesText (S.contents session.old) (S.failures session.old) (text_of (digest_of listing.now.plan.plan) listing.now.request listing.now.state) result (S.contents session.new) (S.failures session.new) }
+    ensures text { WritesText (S.contents session.old) (S.failures session.old) (text_of_session listing.now) result (S.contents session.new) (S.failures session.new) }
     ensures flushed { IfOk result (λ _. IsTrue (S.flushed session.new)) }
 {
     write_session(listing, digest, session)?;
@@ -67,9 +67,9 @@ pub fn write_page<O: Write, S: Write, B: BestOf<A>, A: Allocator + Copy>(
     keep: Option<[u8; 32]>,
     session: &mut S,
 ) -> Result<(), Failure>
-    requires count { count ≤ 10000 }
+    requires count { count ≤ most_routes }
     requires digest { IfSome keep (λ digest. digest ≡ digest_of listing.plan.plan) }
-    ensures { WritesPage (is_some keep) (next_report listing.entry.plan.plan listing.entry.request listing.entry.state count) (kept_text (is_some keep) listing.entry.plan.plan listing.entry.request (steps listing.entry.plan.plan listing.entry.request count listing.entry.state).1) result
+    ensures { WritesNextPage (Ok listing.entry.plan) (Ok (listing.entry.request, listing.entry.state)) (is_some keep) count result
         (O.contents out.old) (O.failures out.old) (O.contents out.new) (O.failures out.new) (O.flushed out.new)
         (S.contents session.old) (S.failures session.old) (S.contents session.new) (S.failures session.new) (S.flushed session.new) }
 {

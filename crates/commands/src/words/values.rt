@@ -1,9 +1,9 @@
 //! The values of a command, read strictly.
 
-ghost use Rattle.std.specs.Prelude.{◌≡◌, [], Ok, Err, IfOk, IfErr, IfSome, IsTrue, IsErrOf, ◌⊎◌, ◌≤◌, is_some};
+ghost use Rattle.std.specs.Prelude.{◌≡◌, [], Ok, Err, IfOk, IfErr, IfSome, IsTrue, IsErrOf, ◌⊎◌, is_some};
 ghost use Rattle.clap.specs.Matches.{found_of};
 ghost use Rattle.commands.specs.words.Lists.{numbers_within};
-ghost use Rattle.commands.specs.words.Values.{command_named, has_request, has_count, has_contacts, value_of, values_of, words_where_asked, count_where_asked, contacts_where_asked, request_where_asked, IsInRange};
+ghost use Rattle.commands.specs.words.Values.{command_named, has_request, has_count, has_contacts, value_of, values_of, words_where_asked, count_where_asked, contacts_where_asked, request_where_asked, IsCount, IsInRange};
 
 use crate::command::{CommandName, command_named};
 use crate::words::lists::contacts_listed;
@@ -13,6 +13,9 @@ use crate::words::value_name::ValueName;
 use clap::ArgMatches;
 use sabr_model::{Numbers, Request, RequestValues};
 use std::alloc::{Allocator, Global};
+
+/// The most routes of a page.
+const MOST_ROUTES: u64 = 10000;
 
 /// The values of a command. What the command doesn't have is `None` or empty.
 #[derive(Drop)]
@@ -51,12 +54,12 @@ fn count_where_asked(
 ) -> Result<Option<u32>, ValueFault>
     ensures value { result ≡ count_where_asked command (found_of matches.now) }
     ensures asked { IfOk result (λ count. is_some count ≡ has_count command) }
-    ensures range { IfOk result (λ count. IfSome count (λ n. (1 ≤ n) × (n ≤ 10000))) }
+    ensures range { IfOk result (λ count. IfSome count IsCount) }
 {
     if !command.declared().has_count {
         return Ok(None);
     }
-    let count = number_given(matches, ValueName::Count, 1, 10000)?;
+    let count = number_given(matches, ValueName::Count, 1, MOST_ROUTES)?;
     Ok(Some(count as u32))
 }
 
@@ -106,7 +109,7 @@ fn values_of<A: Allocator + Copy>(
     ensures memory { IsErrOf result ValueFault.NoMemory → IsTrue (has_contacts command) }
     ensures request { IfOk result (λ v. is_some v.request ≡ has_request command) }
     ensures count { IfOk result (λ v. is_some v.count ≡ has_count command) }
-    ensures count_range { IfOk result (λ v. IfSome v.count (λ n. (1 ≤ n) × (n ≤ 10000))) }
+    ensures count_range { IfOk result (λ v. IfSome v.count IsCount) }
 {
     let words = words_where_asked(command, matches)?;
     let count = count_where_asked(command, matches)?;
@@ -142,7 +145,7 @@ pub fn read_values<A: Allocator + Copy>(
     ensures memory { IfSome (command_named command.now) (λ name. IsErrOf result ValueFault.NoMemory → IsTrue (has_contacts name)) }
     ensures request { IfSome (command_named command.now) (λ name. IfOk result (λ v. is_some v.request ≡ has_request name)) }
     ensures count { IfSome (command_named command.now) (λ name. IfOk result (λ v. is_some v.count ≡ has_count name)) }
-    ensures count_range { IfOk result (λ v. IfSome v.count (λ n. (1 ≤ n) × (n ≤ 10000))) }
+    ensures count_range { IfOk result (λ v. IfSome v.count IsCount) }
 {
     let command = command_named(command).unwrap();
     values_of(alloc, command, matches)
