@@ -24,7 +24,7 @@ take_behind (suc k) x [] = refl
 take_behind (suc k) x (y ∷ xs) = ap (λ ys. x ∷ ys) (take_behind k y xs)
 
 module _ {X : Type 0} (cmp : X → X → Ordering) where
-  -- what stands behind the first k before a put stands behind them afterwards
+  -- what stands after the first k before a put stands after them afterwards
   pub take-put_in : (k : ℕ) (x : X) (xs : List X) → take k (put_in cmp x (take k xs)) ≡ take k (put_in cmp x xs)
   take-put_in zero x xs = refl
   take-put_in (suc k) x [] = refl
@@ -40,7 +40,7 @@ module _ {X : Type 0} (cmp : X → X → Ordering) where
   put_front x [] all = refl
   put_front x (y ∷ ys) all = ap (λ o. elim o [ Less ↦ x ∷ y ∷ ys | Equal ↦ y ∷ ys | Greater ↦ y ∷ put_in cmp x ys ]) all.0
 
-  -- an element above the first goes behind it
+  -- an element above the first goes after it
   pub put_behind : (x y : X) (ys : List X) → cmp x y ≡ Greater → put_in cmp x (y ∷ ys) ≡ y ∷ put_in cmp x ys
   put_behind x y ys e = ap (λ o. elim o [ Less ↦ x ∷ y ∷ ys | Equal ↦ y ∷ ys | Greater ↦ y ∷ put_in cmp x ys ]) e
 
@@ -83,18 +83,18 @@ module _ {X : Type 0} where
 abbrev pub AgreeBut : {X : Type 0} → (X → Bool) → (X → Bool) → X → X → Type 0
 AgreeBut one other w x = (x ≡ w) ⊎ (one x ≡ other x)
 
--- the element of a list that stands in its first place, or behind it
+-- the element of a list that stands in its first place, or after it
 module _ {X : Type 0} (cmp : X → X → Ordering) (total : IsTotalOrder cmp) (one other : X → Bool) (w : X) where
   -- no element is below itself
   not_below_itself : (x : X) → cmp x x ≡ Less → ⊥
   not_below_itself x e = let turned : cmp x x ≡ ordering_reverse (cmp x x) = total.antisymm x x in cc (e, ap ordering_reverse e)
 
-  -- behind w the tests agree
+  -- after w the tests agree
   agree_behind : (y : X) → y ≡ w → (x : X) → cmp y x ≡ Less → AgreeBut one other w x → one x ≡ other x
   agree_behind y e x below (inl same) = absurd (not_below_itself w (ap (λ z. cmp z w) (sym e) ∙ ap (cmp y) (sym same) ∙ below))
   agree_behind y e x below (inr agree) = agree
 
-  -- the first element is below w, which stands behind it
+  -- the first element is below w, which stands after it
   below_member : (y : X) (ys : List X) → AllByRecursion (λ z. cmp y z ≡ Less) ys → IsIn w ys → cmp y w ≡ Less
   below_member y ys all here = all_in (λ z. cmp y z ≡ Less) ys all w here
 

@@ -41,7 +41,7 @@ module _ {X : Type 0} (cmp : X → X → Ordering) (total : IsTotalOrder cmp) (o
   never_both : (x : X) → cmp x w ≡ Less → cmp w x ≡ Less → ⊥
   never_both x e f = let turned : cmp w x ≡ Greater = total.antisymm w x ∙ ap ordering_reverse e in cc
 
-  -- before w, which stands behind, the tests agree
+  -- before w, which comes later, the tests agree
   agree_before : (x : X) → cmp x w ≡ Less → AgreeOrAbove cmp one other w x → one x ≡ other x
   agree_before x below (inl agree) = agree
   agree_before x below (inr above) = absurd (never_both x below above)

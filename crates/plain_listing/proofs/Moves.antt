@@ -30,13 +30,13 @@ use Rattle.plain_listing.proofs.Places.{before_less, before_one, before-behind}
 use Rattle.plain_listing.proofs.Late.{AgreeOrAbove, same_first, arrival_after_later, key_less}
 use Rattle.plain_listing.proofs.Passed.{passed_number, passed_kind, passed_into, passed_back, none_before, all_before}
 
--- the next number behind s, from low on: what routes go on with behind s, from low on, is no less
+-- the next number after s, from low on: what routes go on with after s, from low on, is no less
 pub record IsNext (p : ContactPlan) (r : RouteRequest) (s : List ℕ) (low n : ℕ) : Type 0 where
   pub from : low ≤ n
   pub given : n ≤ p.greatest
   pub least : (k : ℕ) (u : List ℕ) → IsTrue (is_route p r (s ++ k ∷ u)) → low ≤ k → n ≤ k
 
--- no route goes on behind s with a number from low on
+-- no route goes on after s with a number from low on
 abbrev pub IsOver : ContactPlan → RouteRequest → List ℕ → ℕ → Type 0
 IsOver p r s low = (k : ℕ) (u : List ℕ) → IsTrue (is_route p r (s ++ k ∷ u)) → low ≤ k → ⊥
 

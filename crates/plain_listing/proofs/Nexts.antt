@@ -17,7 +17,7 @@ below y low h = grind (arith, nat_tests)
 beyond : (y low : ℕ) → ltb y low ≡ false → leb low y ≡ true
 beyond y low h = grind (arith, nat_tests)
 
--- what stands at the place behind the lesser numbers is the first from low on
+-- what stands at the place after the lesser numbers is the first from low on
 pub next_at : (low : ℕ) (xs : List ℕ) (i : ℕ) → IsPartitionPoint (λ y. ltb y low ≡ true) (λ y. ltb y low ≡ false) xs i → slice_get (drop i xs) 0 ≡ next_from low xs
 next_at low [] zero h = refl
 next_at low [] (suc i) h = refl

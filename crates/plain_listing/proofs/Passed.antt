@@ -8,7 +8,7 @@ use Rattle.plain_listing.proofs.Places.{begins_or_apart, before_less, before_gre
 
 -- what comes before one list and not before the other begins with q
 module _ (q : List ℕ) (P : List ℕ → Type 0) where
-  -- two places behind q, told apart by the lists that begin with q
+  -- two places after q, kept apart by the lists that begin with q
   by_rest : (m n : ℕ) (t v : List ℕ) → ((u : List ℕ) → P (q ++ u) → numbers_before u (m ∷ t) ≡ numbers_before u (n ∷ v))
       → (s : List ℕ) → P s → numbers_before s (q ++ m ∷ t) ≡ numbers_before s (q ++ n ∷ v)
   by_rest m n t v same s h =
@@ -83,7 +83,7 @@ module _ (q : List ℕ) (P : List ℕ → Type 0) where
           (cases_lt k (n + 1)))
           (cases_lt k low)
 
-  -- back behind the lists that take a number, where none of them is left
+  -- back after the lists that take a number, where none of them is left
   pub passed_back : (m low : ℕ) → ((k : ℕ) (u : List ℕ) → P (q ++ m ∷ k ∷ u) → low ≤ k → ⊥)
       → (s : List ℕ) → P s → numbers_before s (q ++ m ∷ low ∷ []) ≡ numbers_before s (q ++ (m + 1) ∷ [])
   passed_back m low none = by_rest m (m + 1) (low ∷ []) [] same

@@ -57,7 +57,7 @@ module _ {X : Type 0} (cmp : X → X → Ordering) (total : IsTotalOrder cmp) wh
       let below : cmp y x ≡ Less = sym (alike_right total (get_or ys k y) x y (h y)) ∙ first in
       put_behind cmp x y ys (turned y x Less below) ∙ ap (λ zs. y ∷ zs) (put_tied x ys k sorted.1 (omega arith) h)
 
-  -- behind the last of as many elements as are kept nothing is put
+  -- after the last of as many elements as are kept nothing is put
   pub put_past : (x : X) (xs : List X) (i limit : ℕ) → IsPartitionPoint (λ y. cmp y x ≡ Less) (λ y. cmp y x ≡ Greater) xs i → i ≤ length xs → length xs ≤ limit → limit ≤ i
       → xs ≡ take limit (put_in cmp x xs)
   put_past x xs i limit h le within full =

@@ -10,7 +10,7 @@ use Rattle.std.proofs.lemmas.Bool.Decides.{nat_tests}
 use Rattle.std.specs.declared.cmp.Ordering.TheVariants.{Less, Equal, Greater}
 use Rattle.sabr_model.specs.Order.{by_numbers, numbers_before}
 
--- behind the same beginning
+-- after the same beginning
 pub by_numbers-behind : (q s t : List ℕ) → by_numbers (q ++ s) (q ++ t) ≡ by_numbers s t
 by_numbers-behind [] s t = refl
 by_numbers-behind (n ∷ q) s t = ap (λ o. ordering_then o (by_numbers (q ++ s) (q ++ t))) (tied_itself nat_cmp_total n) ∙ by_numbers-behind q s t
@@ -19,7 +19,7 @@ by_numbers-behind (n ∷ q) s t = ap (λ o. ordering_then o (by_numbers (q ++ s)
 abbrev pub IsApart : List ℕ → List ℕ → Type 0
 IsApart q s = (m n : ℕ) (t v : List ℕ) → by_numbers s (q ++ m ∷ t) ≡ by_numbers s (q ++ n ∷ v)
 
--- apart behind the same number
+-- apart after the same number
 apart_behind : (k j : ℕ) (q s : List ℕ) → IsApart q s → IsApart (k ∷ q) (j ∷ s)
 apart_behind k j q s apart m n t v = ap (ordering_then (nat_cmp j k)) (apart m n t v)
 
@@ -52,7 +52,7 @@ before_less k n u t h = ap (λ o. is_lt (ordering_then o (by_numbers u t))) (les
 pub before_greater : (k n : ℕ) (u t : List ℕ) → n < k → numbers_before (k ∷ u) (n ∷ t) ≡ false
 before_greater k n u t h = ap (λ o. is_lt (ordering_then o (by_numbers u t))) (greater k n h)
 
--- behind the same first number the rest decides
+-- after the same first number the rest decides
 pub before_same : (k : ℕ) (u t : List ℕ) → numbers_before (k ∷ u) (k ∷ t) ≡ numbers_before u t
 before_same k u t = ap (λ o. is_lt (ordering_then o (by_numbers u t))) (tied_itself nat_cmp_total k)
 
@@ -69,6 +69,6 @@ before_one k n u h =
     (λ ne. before_greater k n u [] (omega arith))
     (cases_eq k n)
 
--- behind the same beginning the rest decides
+-- after the same beginning the rest decides
 pub before-behind : (q s t : List ℕ) → numbers_before (q ++ s) (q ++ t) ≡ numbers_before s t
 before-behind q s t = ap is_lt (by_numbers-behind q s t)

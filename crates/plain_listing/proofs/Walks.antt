@@ -129,7 +129,7 @@ module _ (p : ContactPlan) (r : RouteRequest) (good : IsPlan p) where
         }
 
     module _ (n : ℕ) (next : IsNext p r (numbers_of hops) low n) where
-      -- the number behind is at most one above the greatest
+      -- the next number is at most one above the greatest
       past_least : n + 1 ≤ p.greatest + 1
       past_least = let g = next.given in omega arith
 
@@ -154,7 +154,7 @@ module _ (p : ContactPlan) (r : RouteRequest) (good : IsPlan p) where
         end_named : (b : ℕ) × (chain_end p r.source (numbers_of hops ++ n ∷ []) ≡ Some b)
         end_named = value_of (chain_end p r.source (numbers_of hops ++ n ∷ [])) (path_facts p r (numbers_of hops ++ n ∷ []) open_way).chained
 
-        -- past a number that leads behind all that is kept
+        -- past a number that leads after all that is kept
         pub move_late : is_past limit kept (hop_of p r (numbers_of hops) n).stop.at ≡ true → IsMove p r limit hops low hops (Some (n + 1)) kept
         move_late past =
             let s = numbers_of hops in
@@ -195,7 +195,7 @@ module _ (p : ContactPlan) (r : RouteRequest) (good : IsPlan p) where
               fewer = past_fewer;
             }
 
-        -- on behind a hop
+        -- on after a hop
         pub move_into : (hop_of p r (numbers_of hops) n).stop.node ≢ r.destination → IsMove p r limit hops low (hops ++ hop_of p r (numbers_of hops) n ∷ []) (Some 0) kept
         move_into elsewhere =
             let s = numbers_of hops in

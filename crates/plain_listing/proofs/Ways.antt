@@ -44,14 +44,14 @@ last_of_push [] x (suc k) e = absurd (omega arith)
 last_of_push (y ∷ xs) x zero e = absurd (omega arith)
 last_of_push (y ∷ xs) x (suc k) e = last_of_push xs x k (omega arith)
 
--- ---- hops one behind the other
+-- ---- hops one after the other
 
--- the numbers behind one hop more
+-- the numbers after one hop more
 pub numbers_push : (hops : List Hop) (h : Hop) → numbers_of (hops ++ h ∷ []) ≡ numbers_of hops ++ h.number ∷ []
 numbers_push hops h = map-append (λ (x : Hop). x.number) hops (h ∷ [])
 
 module _ (p : ContactPlan) (r : RouteRequest) where
-  -- the hops behind one number more
+  -- the hops after one number more
   hops_push : (front s : List ℕ) (n : ℕ) → hops_behind p r front (s ++ n ∷ []) ≡ hops_behind p r front s ++ hop_of p r (front ++ s) n ∷ []
   hops_push front [] n = ap (λ w. hop_of p r w n ∷ []) (sym (append-nil front))
   hops_push front (m ∷ s) n =

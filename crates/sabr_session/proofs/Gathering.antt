@@ -21,10 +21,10 @@ module _ {W : Type 0} {contents : W → Option (List ℕ)} {failures : W → ℕ
   pub HasPut-append : {a b c : TextBuffer W} (xs ys : List ℕ) → HasPut contents failures a xs b → HasPut contents failures b ys c → HasPut contents failures a (xs ++ ys) c
   HasPut-append {a} {b} {c} xs ys p q =
       record {
-      same_writer = q.same_writer ∙ p.same_writer;
-      sent = p.sent ++ q.sent;
-      left = split_at a.held.items b.held.items p.sent xs ys p.left ∙ ap (λ zs. p.sent ++ zs) q.left ∙ sym (append_assoc p.sent q.sent c.held.items);
-      written = Written-append _ _ _ _ _ _ p.sent q.sent p.written q.written
+        same_writer = q.same_writer ∙ p.same_writer;
+        sent = p.sent ++ q.sent;
+        left = split_at a.held.items b.held.items p.sent xs ys p.left ∙ ap (λ zs. p.sent ++ zs) q.left ∙ sym (append_assoc p.sent q.sent c.held.items);
+        written = Written-append _ _ _ _ _ _ p.sent q.sent p.written q.written;
       }
 
   -- the writer failed, after a text was put
@@ -32,8 +32,8 @@ module _ {W : Type 0} {contents : W → Option (List ℕ)} {failures : W → ℕ
       → HasPut contents failures a xs b → StopsIn contents failures b (b.held.items ++ ys) c → StopsIn contents failures a (a.held.items ++ (xs ++ ys)) c
   StopsIn-after {a} {b} {c} xs ys p q =
       record {
-      same_writer = q.same_writer ∙ p.same_writer;
-      stopped = rw (split_at a.held.items b.held.items p.sent xs ys p.left) (in_part_after _ _ _ _ _ _ p.sent (b.held.items ++ ys) p.written q.stopped)
+        same_writer = q.same_writer ∙ p.same_writer;
+        stopped = rw (split_at a.held.items b.held.items p.sent xs ys p.left) (in_part_after _ _ _ _ _ _ p.sent (b.held.items ++ ys) p.written q.stopped);
       }
 
   -- the writer failed, with more to come

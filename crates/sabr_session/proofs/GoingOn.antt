@@ -13,7 +13,7 @@ use Rattle.sabr_session.specs.SessionLeaving.{Leaves}
 use Rattle.sabr_session.proofs.SessionOutcomes.{outcome-end, outcome-read, line_refused, line_read, rest_held, rest_refused}
 use Rattle.sabr_session.proofs.NeverRead.{misspelled_not, line_not_read}
 
--- what stands before a piece and behind some of it, over one plan
+-- what stands before a piece and after some of it, over one plan
 pub record HasTaken (old : OpenText) (piece : List ℕ) (t : OpenText) (rest : List ℕ) : Type 0 where
   pub plan : t.plan ≡ old.plan
   pub calls : t.calls ≡ old.calls
@@ -33,7 +33,7 @@ module _ (old : OpenText) (piece : List ℕ) (t : OpenText) (rest : List ℕ) (t
       let e : read_line old.plan.plan (digest_of old.plan.plan) (t.fed.lines + 1) t.fed.said (t.fed.held ++ front) ≡ Err f = rw (← taken.plan) is in
       inr (line_not_read _ _ _ _ _ f e, line_refused old.plan.plan (digest_of old.plan.plan) old.fed piece t.fed rest taken.same held front back one parted f e)
 
-  -- what is open behind it
+  -- what is open after it
   open_behind : (front back : List ℕ) → is_one_line front ≡ true → rest ≡ front ++ 10 ∷ back → (lines_of (t.fed.held ++ rest)).open_line ≡ (lines_of back).open_line
   open_behind front back one parted =
       let line = t.fed.held ++ front in
@@ -53,7 +53,7 @@ module _ (old : OpenText) (piece : List ℕ) (t : OpenText) (rest : List ℕ) (t
     grows = omega (arith, taken.grows, lines, ap length none, ap length parted, length-append front (10 ∷ back));
   }
 
-  -- what is behind the last LF is held
+  -- what is after the last LF is held
   pub rest_then_held : (new : OpenText) → is_one_line rest ≡ true → new ≡ record t { fed = record t.fed { held = t.fed.held ++ rest } }
       → is_bad_front (t.fed.lines + 1) t.fed.said (t.fed.held ++ rest) ≡ false → GoesOn old piece new
   rest_then_held new one is good =
@@ -88,7 +88,7 @@ module _ (s : OpenText) (one : is_one_line s.fed.held ≡ true) where
       let end : last_line true (s.fed.lines + 1) s.fed.held s.fed.said ≡ Err (misspelled (s.fed.lines + 1)) = rw before refl in
       rw (told, is, outcome-end p (digest_of p) s.fed true one, end) (inr refl)
 
-  -- behind it the text says what its lines say
+  -- after it the text says what its lines say
   pub ended_well : (answer : Result Seen SessionFault) → is_behind (s.fed.lines + 1) s.fed.said ≡ true → (is_behind (s.fed.lines + 1) s.fed.said && has_bytes s.fed.held) ≡ false
       → IsSessionFrom s.plan (Ok s.fed.said) answer → IsSessionFrom s.plan (outcome_of s [] true) answer
   ended_well answer behind none from =

@@ -24,7 +24,7 @@ use Rattle.sabr_session.proofs.StepsTaken.{and_then_some, map_some, and_then_ok,
 use Rattle.sabr_plan.proofs.SpelledNumbers.{number_within-range}
 use Rattle.sabr_session.proofs.WordsTold.{joined, words-joined, number_told, list_told, list_has_word, slash_joined}
 
--- a line behind its label
+-- a line after its label
 pub label_told : (label line rest : List ℕ) → behind_label label line ≡ Some rest → line ≡ label ++ rest
 unfolding behind_label
 label_told label line rest e =

@@ -1,4 +1,4 @@
--- Pieces and lines that are put into a text one behind the other.
+-- Pieces and lines that are put into a text one after the other.
 use Rattle.std.proofs.Common.{◌≡◌, ℕ, ◌+◌, ◌<◌, List, [], ◌∷◌, ◌++◌, Bor, map, length, get_or, take, drop, refl, sym, ap, ◌∙◌, append_assoc, append-nil, add-one, drop-cons, Option, Result}
 use Rattle.std.specs.List.{concat, flat_map}
 use Rattle.std.proofs.lemmas.List.{take_more, take-append-drop}
@@ -22,14 +22,14 @@ pub joined-more : (xs : List (Bor (List ℕ))) (i : ℕ) (d : Bor (List ℕ)) �
 joined-more xs i d h =
     ap joined (take_more xs i d h) ∙ joined-append (take i xs) (get_or xs i d ∷ []) ∙ ap (λ z. joined (take i xs) ++ z) (append-nil (get_or xs i d).now)
 
--- those before one of them, that one, and those behind it
+-- those before one of them, that one, and those after it
 pub joined-at : (xs : List (Bor (List ℕ))) (i : ℕ) (d : Bor (List ℕ)) → i < length xs
     → joined xs ≡ joined (take i xs) ++ ((get_or xs i d).now ++ joined (drop (i + 1) xs))
 joined-at xs i d h =
     ap joined (sym (take-append-drop i xs)) ∙ joined-append (take i xs) (drop i xs)
     ∙ ap (λ z. joined (take i xs) ++ joined z) (drop-cons xs i d h ∙ ap (λ k. get_or xs i d ∷ drop k xs) (sym (add-one i)))
 
--- the lines of the first n records, which are ys, that of the next, which is x, and those behind it
+-- the lines of the first n records, which are ys, that of the next, which is x, and those after it
 pub lines-at : {X : Type 0} (line : X → List ℕ) (all ys : List X) (n : ℕ) (x : X) → ys ≡ take n all → (n < length all) × (x ≡ get_or all n x)
     → flat_map line all ≡ flat_map line ys ++ (line x ++ flat_map line (drop (n + 1) all))
 lines-at line all ys n x e h =

@@ -12,7 +12,7 @@ use Rattle.sabr_session.specs.declared.session_fault.SessionFault.TheVariants as
 use Rattle.sabr_session.proofs.SessionOutcomes.{said_of-outcome}
 use Rattle.sabr_session.proofs.OpenLines.{open_line-append}
 
--- behind these bytes, what was fed comes to what they come to
+-- after these bytes, what was fed comes to what they come to
 abbrev SoFar : TabledPlan → List ℕ → Result OpenText SessionFault → Type 0
 SoFar plan bytes (Ok t) = (t.plan ≡ plan) × ((more : List ℕ) (ended : Bool) → said_over plan (bytes ++ more) ended ≡ outcome_of t more ended) × (t.fed.held ≡ (lines_of bytes).open_line)
 SoFar plan bytes (Err f) = (f ≡ fault.NoMemory) ⊎ ((f ≢ fault.Read) × ((more : List ℕ) (ended : Bool) → said_over plan (bytes ++ more) ended ≡ Err f))

@@ -13,10 +13,10 @@ digits_are_word (d ∷ ds) all =
     let low : 48 ≤ d = leb-true 48 d (and_parts (leb 48 d) (leb d 57) p.0).0 in
     (omega arith, digits_are_word ds p.1)
 
--- with nothing behind them
+-- with nothing after them
 pub digits-alone : (ds : List ℕ) → list_all is_digit ds ≡ true → words_of ds ≡ ds ∷ []
 digits-alone ds all = words-word ds (digits_are_word ds all)
 
--- with a space behind them
+-- with a space after them
 pub digits-ahead : (ds rest : List ℕ) → list_all is_digit ds ≡ true → words_of (ds ++ 32 ∷ rest) ≡ ds ∷ words_of rest
 digits-ahead ds rest all = words-apart ds rest ∙ ap (λ ws. ws ++ words_of rest) (digits-alone ds all)

@@ -7,7 +7,7 @@ use Rattle.std.specs.declared.option.Option.{Option}
 use Rattle.std.specs.declared.option.Option.TheVariants.{Some, None}
 use Rattle.sabr_session.specs.SessionWords.{all_of, counted}
 
--- what the rest gives, behind what was read
+-- what the rest gives, after what was read
 abbrev pub behind : List ℕ → Option (List ℕ) → Option (List ℕ)
 behind so_far rest = option_map (λ tail. so_far ++ tail) rest
 
@@ -51,7 +51,7 @@ full most so_far n (Some ns) h =
     ap (λ t. cond (ltb 0 (length all) && t) (Some all) None) (above (length all) most more)
     ∙ ap (λ t. cond t (Some all) None) (and-false (ltb 0 (length all)))
 
--- one more behind the most
+-- one more after the most
 pub behind-full : (f : List ℕ → Option ℕ) (most : ℕ) (so_far : List ℕ) (whole : Option (List ℕ)) (ps qs : List (List ℕ)) (p : List ℕ) (n : ℕ)
     → whole ≡ behind so_far (all_of (map f ps)) → ps ≡ p ∷ qs → f p ≡ Some n → length so_far ≡ most → counted most whole ≡ None
 behind-full f most so_far whole ps qs p n w e is h = ap (counted most) (behind-on f so_far whole ps qs p n w e is) ∙ full most so_far n (all_of (map f qs)) h

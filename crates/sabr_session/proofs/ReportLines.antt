@@ -17,7 +17,7 @@ report_lines-append rank (x ∷ xs) ys =
 from_place : (rank : ℕ) (xs : List RouteRecord) (i : ℕ) (ys : List RouteRecord) → i < length xs → report_lines (rank + length (take i xs)) ys ≡ report_lines (rank + i) ys
 from_place rank xs i ys h = ap (λ k. report_lines (rank + k) ys) (length-take-le i xs (omega (arith, h)))
 
--- the route at a place, with those before it and those behind it
+-- the route at a place, with those before it and those after it
 pub report_lines-at : (rank : ℕ) (xs : List RouteRecord) (i : ℕ) (d : RouteRecord) → i < length xs
     → report_lines rank xs ≡ report_lines rank (take i xs) ++ (report_line (rank + i) (get_or xs i d) ++ report_lines (rank + i + 1) (drop (suc i) xs))
 report_lines-at rank xs i d h =

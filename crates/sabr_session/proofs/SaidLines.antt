@@ -107,7 +107,7 @@ module _ (p : ContactPlan) (h line : List ℕ) (t : Staged) (s : Said) (n : ℕ)
 other_number : (n m : ℕ) → m < n → eqb n m ≡ false
 other_number n m less = grind (arith, nat_tests)
 
--- a line behind the first six
+-- a line after the first six
 pub other_line : (p : ContactPlan) (h : List ℕ) (n : ℕ) (s : Said) (line : List ℕ) → 7 ≤ n → line_said p h n s line ≡ (if nat_lt n (7 + s.count) then part_said p n s line else end_said n s line)
 unfolding line_said
 other_line p h n s line behind =

@@ -13,7 +13,7 @@ use Rattle.sabr_session.specs.SessionGiven.{ReadsSession, said_over}
 use Rattle.sabr_session.proofs.SessionOutcomes.{said_of-outcome, outcome-read}
 use Rattle.sabr_session.proofs.NeverRead.{text_not_read}
 
--- these bytes were read of a text over the plan that wasn't refused, and whatever comes behind them, it comes to the same
+-- these bytes were read of a text over the plan that wasn't refused, and whatever comes after them, it comes to the same
 pub record HasGiven (plan : TabledPlan) (calls : ℕ) (old new : Option (List ℕ)) (t : OpenText) : Type 0 where
   pub given : List ℕ
   pub consumed : Consumes old new given
@@ -84,7 +84,7 @@ calls_kept plan calls old new (Err f) answer was told = absurd was
 calls_kept plan calls old new (Ok t) (Err f) was told = tt
 calls_kept plan calls old new (Ok t) (Ok s) was told = told ∙ was.counted
 
--- no session is told so that a fault is Read, unless its reader failed
+-- the fault of a session is Read only if its reader failed
 pub read_failed : (plan : TabledPlan) (old : Option (List ℕ)) (before : ℕ) (answer : Result Seen SessionFault) (new : Option (List ℕ)) (after : ℕ) → ReadsSession plan old before answer new after → IfErr answer (λ f. f ≡ fault.Read → after ≡ before + 1)
 read_failed plan old before (Ok s) new after reads = tt
 read_failed plan old before (Err f) new after reads = λ e.

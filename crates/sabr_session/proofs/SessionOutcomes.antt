@@ -72,7 +72,7 @@ module _ (p : ContactPlan) (h : List ℕ) where
   unfolding outcome
   outcome-held s bytes more ended = rw append_assoc refl
 
-  -- a text ends, or breaks off, behind what is held
+  -- a text ends, or breaks off, after what is held
   pub outcome-end : (s : SessionFed) (ended : Bool) → is_one_line s.held ≡ true → outcome p h s [] ended ≡ last_line ended (s.lines + 1) s.held s.said
   outcome-end s ended one =
       outcome-lines s [] ended ∙ ap (λ t. lines_outcome (s.lines + 1) s.said t ended) (ap lines_of (append-nil s.held) ∙ lines_of-one s.held one) ∙ lines_outcome-last (s.lines + 1) s.said s.held ended
@@ -99,7 +99,7 @@ module _ (p : ContactPlan) (h : List ℕ) where
   not_before : (n m : ℕ) → m < n → ltb n m ≡ false
   not_before n m less = grind (arith, nat_tests)
 
-  -- a line behind `end` is refused
+  -- a line after `end` is refused
   said_behind : (n : ℕ) (s : Said) (line : List ℕ) → is_behind n s ≡ true → line_said p h n s line ≡ Err (misspelled n)
   unfolding line_said
   said_behind n s line behind =
@@ -142,14 +142,14 @@ module _ (p : ContactPlan) (h : List ℕ) where
       by_length true false e false is ended q = absurd cc
       by_length false some e false is ended q = absurd cc
 
-  -- whatever comes behind it
+  -- whatever comes after it
   front_refused : (n : ℕ) (s : Said) (front : List ℕ) (lines : List (List ℕ)) (rest : List ℕ) (ended : Bool) → is_bad_front n s front ≡ true
       → lines_outcome n s (in_front front (record { ended = lines; open_line = rest })) ended ≡ Err (misspelled n)
   front_refused n s front [] rest ended bad = lines_outcome-last n s (front ++ rest) ended ∙ bad_last n s (front ++ rest) ended (bad_more n s front rest bad)
   front_refused n s front (line ∷ lines) rest ended bad =
       lines_outcome-more n s (front ++ line) lines rest ended ∙ rw (bad_line n s (front ++ line) (bad_more n s front line bad)) refl
 
-  -- bytes that are refused, whatever comes behind them
+  -- bytes that are refused, whatever comes after them
   pub outcome-refused : (s : SessionFed) (bytes more : List ℕ) (ended : Bool) → is_one_line s.held ≡ true → is_one_line bytes ≡ true
       → is_bad_front (s.lines + 1) s.said (s.held ++ bytes) ≡ true → outcome p h s (bytes ++ more) ended ≡ Err (misspelled (s.lines + 1))
   outcome-refused s bytes more ended held one bad =
@@ -161,7 +161,7 @@ module _ (p : ContactPlan) (h : List ℕ) where
       ∙ ap (λ t. lines_outcome (s.lines + 1) s.said t ended) (ap lines_of parts ∙ lines_of-front front more whole)
       ∙ front_refused (s.lines + 1) s.said front t.ended t.open_line ended bad
 
-  -- bytes that aren't, where the reader fails behind them
+  -- bytes that aren't, where the reader fails after them
   pub outcome-read : (s : SessionFed) → is_one_line s.held ≡ true → is_bad_front (s.lines + 1) s.said s.held ≡ false → outcome p h s [] false ≡ Err fault.Read
   outcome-read s one good = outcome-end s false one ∙ by_bytes (is_behind (s.lines + 1) s.said) (has_bytes s.held) (ltb 660008 (length s.held)) good
     where
@@ -172,7 +172,7 @@ module _ (p : ContactPlan) (h : List ℕ) where
       by_bytes false some true q = absurd cc
       by_bytes false some false q = refl
 
--- behind a piece: what was fed, and what is left of the piece
+-- after a piece: what was fed, and what is left of the piece
 module _ (p : ContactPlan) (h : List ℕ) (first : SessionFed) (piece : List ℕ) (s : SessionFed) (rest : List ℕ)
     (same : (more : List ℕ) (ended : Bool) → outcome p h first (piece ++ more) ended ≡ outcome p h s (rest ++ more) ended) (held : is_one_line s.held ≡ true) where
   module _ (front back : List ℕ) (one : is_one_line front ≡ true) (parted : rest ≡ front ++ 10 ∷ back) where
@@ -190,7 +190,7 @@ module _ (p : ContactPlan) (h : List ℕ) (first : SessionFed) (piece : List ℕ
         let made : ◌≡◌ {A = SessionFed} (record { lines = s.lines + 1; said = new.said; held = [] }) new = rw (← lines, ← none) refl in
         line_ends more ended ∙ rw e (ap (λ t. outcome p h t (back ++ more) ended) made)
 
-  -- what is behind the last LF is held
+  -- what is after the last LF is held
   pub rest_held : (new : SessionFed) → new ≡ record { lines = s.lines; said = s.said; held = s.held ++ rest } → (more : List ℕ) (ended : Bool) → outcome p h first (piece ++ more) ended ≡ outcome p h new more ended
   rest_held new is more ended = same more ended ∙ outcome-held p h s rest more ended ∙ ap (λ t. outcome p h t more ended) (sym is)
 

@@ -28,13 +28,13 @@ numbers_of_record : (p : ContactPlan) (r : RouteRequest) (o : Option (List ℕ))
 numbers_of_record p r None = refl
 numbers_of_record p r (Some s) = refl
 
--- what is told of a part shows the part
+-- what a session shows of a part is the part
 part_told : (p : ContactPlan) (r : RouteRequest) (t : PartState) → part_shown (told_part p r t) ≡ t
 part_told p r t =
     let same : ◌≡◌ {A = PartState} (record { prefix = t.prefix; excluded = t.excluded; carried = option_map numbers_of (option_map (record_of p r) t.carried) }) (record { prefix = t.prefix; excluded = t.excluded; carried = t.carried }) = rw (numbers_of_record p r t.carried) refl in
     same
 
--- the lines of what is told are the lines of the parts
+-- the lines of what a session shows are the lines of the parts
 lines_told : (p : ContactPlan) (r : RouteRequest) (ts : List PartState) → flat_map told_line (map (told_part p r) ts) ≡ flat_map part_line ts
 lines_told p r [] = refl
 lines_told p r (t ∷ ts) = ap (λ u. part_line u ++ flat_map told_line (map (told_part p r) ts)) (part_told p r t) ∙ ap (λ zs. part_line t ++ zs) (lines_told p r ts)

@@ -1,4 +1,4 @@
--- The words up to a `/`, and those behind it.
+-- The words up to a `/`, and those after it.
 use Rattle.std.proofs.Common.{◌≡◌, ℕ, ◌<◌, arith, Bool, true, false, List, [], ◌∷◌, map, option_map, refl, sym, ap, ◌∙◌}
 use Rattle.std.specs.List.{list_any}
 use Rattle.std.specs.Prelude.{codes, not, if◌then◌else◌}
@@ -100,7 +100,7 @@ pub slash_refused : (ws : List (List ℕ)) → list_any is_slash ws ≡ true →
 unfolding list_within
 slash_refused ws e = rw (undashed ws e) (ap (counted 20000) (unnumbered 1 4294967295 ws (omega arith) e))
 
--- numbers or `-` up to the end, and nothing behind them
+-- numbers or `-` up to the end, and nothing after them
 pub list-ended : (ws : List (List ℕ)) (ns : List ℕ) (stopped : Bool) → contacts_of (before_slash ws) ≡ Some ns → stopped ≡ list_any is_slash ws
     → contacts_of ws ≡ (if not stopped then Some ns else None)
 list-ended ws ns true found is = slash_refused ws (sym is)

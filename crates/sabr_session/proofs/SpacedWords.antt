@@ -8,7 +8,7 @@ use Rattle.std.proofs.lemmas.List.Splits.{length-slice_split}
 use Rattle.std.specs.declared.option.Option.TheVariants.{Some, None}
 use Rattle.sabr_session.specs.SessionWords.{is_space, words_of}
 
--- a space behind no other cuts the first word off
+-- a space after no other cuts the first word off
 cut-at : (text : List ℕ) (i : ℕ) → i < length text → is_space (get_or text i 0) ≡ true → ((k : ℕ) → k < i → is_space (get_or text k 0) ≡ false)
     → slice_split is_space text ≡ take i text ∷ slice_split is_space (drop (suc i) text)
 cut-at [] i lt is before = absurd (omega arith)

@@ -44,7 +44,7 @@ word-apart w u h = words-apart w u ∙ ap (λ ws. ws ++ words_of u) (words-word 
 number-apart : (n : ℕ) (u : List ℕ) → n < 10 ^ 64 → words_of (decimal n ++ 32 ∷ u) ≡ decimal n ∷ words_of u
 number-apart n u h = word-apart (decimal n) u (decimal_is_word n h)
 
--- what stands behind a label
+-- what stands after a label
 pub label-there : (label text : List ℕ) → behind_label label (label ++ text) ≡ Some text
 label-there label text = label-front label (label ++ text) label text true (sym (take-append_seam label text)) (sym (drop-append_seam label text)) (same_text label label refl)
 
@@ -79,7 +79,7 @@ last_read ns h = rw (label-there (codes "last ") (list_text ns), contacts_words 
 abbrev pub four_onto : RouteRequest → List ℕ → List ℕ
 four_onto r u = decimal r.source ++ 32 ∷ (decimal r.destination ++ 32 ∷ (time_text_of r.at ++ 32 ∷ (decimal r.margin ++ u)))
 
--- what stands behind the label, in version 2 and in version 1
+-- what stands after the label, in version 2 and in version 1
 abbrev pub request_text : RouteRequest → List ℕ
 request_text r = four_onto r (32 ∷ (decimal r.max_hops ++ 32 ∷ (47 ∷ 32 ∷ list_text r.avoided)))
 

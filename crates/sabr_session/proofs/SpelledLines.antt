@@ -9,7 +9,7 @@ use Rattle.sabr_session.specs.SpacedNumbers.{spaced_behind, list_text}
 use Rattle.sabr_session.proofs.SpelledWords.{IsWord, AreWithin, decimal_is_word}
 use Rattle.sabr_plan.proofs.Held.{one_line-append}
 
--- lines, LF behind each
+-- lines, LF after each
 abbrev pub joined : List (List ℕ) → List ℕ
 joined [] = []
 joined (line ∷ lines) = line ++ 10 ∷ joined lines

@@ -35,7 +35,7 @@ part_pieces t = codes "part " ∷ list_text t.prefix ∷ codes " / " ∷ list_te
 abbrev pub spelled_part : PartState → List ℕ
 spelled_part t = concat (part_pieces t)
 
--- three lists behind the label
+-- three lists after the label
 abbrev lists_text : List ℕ → List ℕ → List ℕ → List ℕ
 lists_text p x r = list_text p ++ 32 ∷ (47 ∷ 32 ∷ (list_text x ++ 32 ∷ (47 ∷ 32 ∷ r)))
 
@@ -105,7 +105,7 @@ rises_back : (xs ys : List (List ℕ)) → Rises by_numbers (xs ++ ys) → Rises
 rises_back [] ys h = h
 rises_back (x ∷ xs) ys h = rises_back xs ys h.1
 
--- where prefixes rise, each part comes behind those before it
+-- where prefixes rise, each part comes after those before it
 behind-last : (before : List PartState) (t : PartState) (ts : List PartState) → Rises by_numbers (prefixes (before ++ t ∷ ts)) → comes_behind before t.prefix ≡ true
 behind-last before t ts up = elim (last_item before) as (λ o. last_item before ≡ o → option_map_or (λ (u : PartState). numbers_before u.prefix t.prefix) o true ≡ true) [
   | None ↦ λ e. refl
@@ -135,7 +135,7 @@ same_number : (n m : ℕ) → n ≡ m → eqb n m ≡ true
 same_number n m e = grind (arith, nat_tests)
 
 module _ (p : ContactPlan) (h : List ℕ) where
-  -- a line that is read, and those behind it
+  -- a line that is read, and those after it
   pub read_on : (n : ℕ) (s s₁ : Said) (line : List ℕ) (lines : List (List ℕ)) → length line ≤ 660008 → line_said p h n s line ≡ Ok s₁
       → read_lines p h n s (line ∷ lines) ≡ read_lines p h (n + 1) s₁ lines
   unfolding read_lines
@@ -160,7 +160,7 @@ module _ (p : ContactPlan) (h : List ℕ) where
         is.carries,
       ) refl
 
-  -- behind the parts `end` stands
+  -- after the parts `end` stands
   end_taken : (n : ℕ) (s : Said) → n ≡ 7 + s.count → line_said p h n s (codes "end") ≡ Ok s
   unfolding line_said
   end_taken n s e =

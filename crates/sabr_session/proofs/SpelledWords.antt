@@ -12,12 +12,12 @@ use Rattle.sabr_plan.specs.Numbers.{number_within}
 use Rattle.sabr_plan.proofs.SpelledNumbers.{number_within-spelled_within}
 use Rattle.sabr_session.proofs.ReadNumbers.{counted-some}
 
--- bytes behind the space: neither a space nor LF is one of them
+-- bytes after the space: neither a space nor LF is one of them
 abbrev pub IsWord : List ℕ → Type 0
 IsWord [] = Unit {0}
 IsWord (b ∷ w) = (32 < b) × IsWord w
 
--- digits, and what comes behind them
+-- digits, and what comes after them
 abbrev pub AreDigits : List ℕ → Type 0
 AreDigits [] = Unit {0}
 AreDigits (d ∷ ds) = (48 ≤ d) × AreDigits ds
@@ -77,7 +77,7 @@ split-apart (b ∷ u) v = elim (is_space b) as (λ (t : Bool). cond t ([] ∷ sl
   | false ↦ ap (onto_first b) (split-apart u v) ∙ onto-more b (slice_split is_space u) (slice_split is_space v) (omega (arith, length-slice_split is_space u))
 ]
 
--- the words before a space, and those behind it
+-- the words before a space, and those after it
 pub words-apart : (u v : List ℕ) → words_of (u ++ 32 ∷ v) ≡ words_of u ++ words_of v
 unfolding words_of
 words-apart u v = split-apart u v

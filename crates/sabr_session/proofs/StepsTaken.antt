@@ -4,7 +4,7 @@ use Rattle.std.specs.Option.{option_and_then, option_map}
 use Rattle.sabr_plan.specs.Steps.{and_then, given_as}
 use Rattle.sabr_session.specs.SessionRead.{spelled_at}
 
--- a step that may give nothing, behind another
+-- a step that may give nothing, after another
 pub and_then_some : {A B : Type 0} (f : A → Option B) (o : Option A) (y : B) → option_and_then f o ≡ Some y → (x : A) × (o ≡ Some x) × (f x ≡ Some y)
 and_then_some f None y e = absurd cc
 and_then_some f (Some x) y e = (x, refl, e)

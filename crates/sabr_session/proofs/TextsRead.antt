@@ -29,7 +29,7 @@ use Rattle.sabr_plan.proofs.Held.{one_line-append}
 
 -- ---- the lines of a text
 
--- those behind the request
+-- those after the request
 abbrev state_words : State → List (List ℕ)
 state_words s =
     (codes "emitted " ++ decimal s.emitted) ∷ (codes "last " ++ list_text s.last) ∷ (codes "parts " ++ decimal (length s.parts))
@@ -156,7 +156,7 @@ module _ (p : ContactPlan) (r : RouteRequest) (s : State) (told : IsRequest r) (
   list_short : length (list_text s.last) ≤ 219999
   list_short = list_length 1 4294967295 (omega arith) s.last state.latest.within state.latest.few
 
-  -- the lines behind the request
+  -- the lines after the request
   state_read : (v : Version) → read_lines p (digest_of p) 4 (asked_so v) (state_words s) ≡ Ok (all_said v)
   unfolding line_said asked_so all_said
   state_read v =

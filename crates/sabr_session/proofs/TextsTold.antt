@@ -65,7 +65,7 @@ module _ (p : ContactPlan) (h : List ℕ) where
       by_length true e = absurd cc
       by_length false e = e
 
-  -- one line, and those behind it
+  -- one line, and those after it
   record FirstRead (n : ℕ) (s t : Said) (lines : List (List ℕ)) : Type 0 where
     pub line : List ℕ
     pub rest : List (List ℕ)
@@ -99,7 +99,7 @@ module _ (p : ContactPlan) (h : List ℕ) where
       by_tests false true e = absurd cc
       by_tests false false e = cc
 
-  -- a part, behind the first six lines
+  -- a part, after the first six lines
   part_line_told : (n : ℕ) (s t : Said) (line : List ℕ) → 6 < n → n < 7 + s.count → line_said p h n s line ≡ Ok t
       → (u : PartState) × (line ++ 10 ∷ [] ≡ part_line u) × (t ≡ record s { parts = s.parts ++ u ∷ [] })
   unfolding line_said
@@ -119,7 +119,7 @@ module _ (p : ContactPlan) (h : List ℕ) where
       before : (a b : ℕ) → a < b → ltb a b ≡ true
       before a b less = grind (arith, nat_tests)
 
-  -- the line behind the parts
+  -- the line after the parts
   end_line_told : (n : ℕ) (s t : Said) (line : List ℕ) → 6 < n → 7 + s.count ≤ n → line_said p h n s line ≡ Ok t
       → (n ≡ 7 + s.count) × (line ≡ codes "end") × (t ≡ s)
   unfolding line_said
@@ -141,12 +141,12 @@ module _ (p : ContactPlan) (h : List ℕ) where
       by_tests true is false also e = absurd cc
       by_tests false is b also e = absurd cc
 
-  -- a part, and those behind it
+  -- a part, and those after it
   one_more : (s next t : Said) (u : PartState) (us : List PartState) → next ≡ record s { parts = s.parts ++ u ∷ [] } → t ≡ record next { parts = next.parts ++ us } → t ≡ record s { parts = s.parts ++ u ∷ us }
   one_more s next t u us e f =
       f ∙ ap (λ (x : Said). record x { parts = x.parts ++ us }) e ∙ ap (λ (ts : List PartState). record s { parts = ts }) (append_assoc s.parts (u ∷ []) us)
 
-  -- no line is behind it
+  -- no line is after it
   nothing_behind : (n : ℕ) (s t : Said) (lines : List (List ℕ)) → 6 < n → 7 + s.count < n → read_lines p h n s lines ≡ Ok t → (lines ≡ []) × (t ≡ s)
   unfolding read_lines
   nothing_behind n s t [] low over e = let same : t ≡ s = cc in (refl, same)
@@ -274,7 +274,7 @@ module _ (p : ContactPlan) (h : List ℕ) where
       let there : HasText (state_with emitted last parts) = omega arith in
       subst (λ (x : Said). HasText (state_of x) × IsTextOf bytes x.request (state_of x)) (sym e) (there, spelled)
 
-  -- behind the last LF there is nothing
+  -- after the last LF there is nothing
   open_told : (n : ℕ) (line : List ℕ) (s t : Said) → last_line true n line s ≡ Ok t → (7 + s.count < n) × (line ≡ []) × (t ≡ s)
   open_told n line s t e = by_tests (is_behind n s) refl (has_bytes line) refl e
     where

@@ -97,13 +97,7 @@ fn put_route<W: Write, A: Allocator + Copy>(
     ensures { Puts W.contents W.failures text.old (route_line route.now) result text.new }
 {
     let contacts = route.contacts.as_slice();
-    put_route_line(
-        text,
-        contacts,
-        route.delivery,
-        route.until,
-        route.entry,
-    )
+    put_route_line(text, contacts, route.delivery, route.until, route.entry)
 }
 
 /// Puts the line of a route, given by the numbers of its contacts, its best-case delivery time, its termination time
@@ -157,10 +151,7 @@ fn put_told<W: Write>(
 }
 
 /// Puts `more` if the listing goes on, and else `end`.
-fn put_last_line<W: Write>(
-    text: &mut TextBuffer<'_, W>,
-    more: bool,
-) -> Result<(), WriteFault>
+fn put_last_line<W: Write>(text: &mut TextBuffer<'_, W>, more: bool) -> Result<(), WriteFault>
     ensures { Puts W.contents W.failures text.old (last_line more) result text.new }
 {
     if more {

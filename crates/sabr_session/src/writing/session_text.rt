@@ -67,10 +67,7 @@ fn put_session<W: Write, B: BestOf<A>, A: Allocator + Copy>(
 }
 
 /// Puts the line of the digest.
-fn put_digest<W: Write>(
-    text: &mut TextBuffer<'_, W>,
-    digest: &[u8; 32],
-) -> Result<(), WriteFault>
+fn put_digest<W: Write>(text: &mut TextBuffer<'_, W>, digest: &[u8; 32]) -> Result<(), WriteFault>
     ensures { Puts W.contents W.failures text.old (plan_line digest.now) result text.new }
 {
     let digits = digest_text(digest);
@@ -79,10 +76,7 @@ fn put_digest<W: Write>(
 }
 
 /// Puts the line of the request.
-fn put_request<W: Write>(
-    text: &mut TextBuffer<'_, W>,
-    request: &Request,
-) -> Result<(), WriteFault>
+fn put_request<W: Write>(text: &mut TextBuffer<'_, W>, request: &Request) -> Result<(), WriteFault>
     ensures { Puts W.contents W.failures text.old (request_line request.now) result text.new }
 {
     put_asked(text, request)?;
@@ -91,10 +85,7 @@ fn put_request<W: Write>(
 }
 
 /// Puts the values of the request, except for the avoided nodes.
-fn put_asked<W: Write>(
-    text: &mut TextBuffer<'_, W>,
-    request: &Request,
-) -> Result<(), WriteFault>
+fn put_asked<W: Write>(text: &mut TextBuffer<'_, W>, request: &Request) -> Result<(), WriteFault>
     ensures { Puts W.contents W.failures text.old (concat (asked_pieces request.now)) result text.new }
 {
     let mut from = Buffer::new();

@@ -1,4 +1,4 @@
--- The text ends behind the LF of `end`, or too early.
+-- The text ends after the LF of `end`, or too early.
 use Rattle.std.proofs.Common.{◌∙◌, refl, sym, ap}
 use Rattle.sabr_session.specs.SessionRead.{misspelled}
 use Rattle.sabr_session.specs.SessionFed.{OpenText}
