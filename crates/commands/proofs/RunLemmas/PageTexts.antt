@@ -19,7 +19,7 @@ use Rattle.commands.specs.runs.SessionRuns.{next_report, WritesPage}
 pub flush_failed : (a b c : Option (List ℕ)) (k m n : ℕ) (text : List ℕ) → Written a k text b m → Keeps b c → n ≡ m + 1 → WrittenInPart a k text c n
 flush_failed a b c k m n text p q e = ((text, ([], sym (append-nil text)), Appends-kept a b c text p.0 q), e ∙ ap (λ j. j + 1) p.1)
 
--- the report of a page, from the session before it and the session behind it
+-- the report of a page, from the session before it and the session after it
 pub report_of_page : (before behind : Seen) (k : ℕ) (routes : List RouteRecord) (rank : ℕ) (more : Bool)
     → routes ≡ map (record_of before.plan.plan before.request) (steps before.plan.plan before.request k before.state).0
     → rank ≡ before.state.emitted → more ≡ is_some (next_route behind.plan.plan behind.request behind.state)
@@ -28,7 +28,7 @@ pub report_of_page : (before behind : Seen) (k : ℕ) (routes : List RouteRecord
 report_of_page before behind k routes rank more given count goes_on plan request state =
     rw (given, count, goes_on, plan, request, state) refl
 
--- the text of the session behind a page
+-- the text of the session after a page
 pub text_behind : (before behind : Seen) (k : ℕ) → behind.plan ≡ before.plan → behind.request ≡ before.request
     → behind.state ≡ (steps before.plan.plan before.request k before.state).1
     → text_of (digest_of behind.plan.plan) behind.request behind.state
@@ -41,7 +41,7 @@ pub report_failed : (keep : Bool) (report text : List ℕ) (end : Result (Unit {
 report_failed keep report text (Ok _) a c k n f b m g bad h = absurd bad
 report_failed keep report text (Err e) a c k n f b m g is h = rw is (inl (h, (refl, refl)))
 
--- the session's writer failed, behind the report
+-- the session's writer failed, after the report
 pub session_failed : (keep : Bool) (report text : List ℕ) (end : Result (Unit {0}) Failure) (a c : Option (List ℕ)) (k n : ℕ) (f : Bool) (b d : Option (List ℕ)) (m j : ℕ) (g : Bool)
     → IsErrAnd end (λ e. e ≡ failure.Write) → IsTrue keep → WrittenAndFlushed a k report c n f → WrittenInPart b m text d j
     → WritesPage keep report text end a k c n f b m d j g

@@ -31,11 +31,11 @@ take_then (suc k) n (x ∷ xs) =
     ap (λ ys. x ∷ ys) (take_then k n xs) ∙ ap (λ m. take m (x ∷ xs)) one
 
 module _ (p : ContactPlan) (r : RouteRequest) (good : IsPlan p) (accepted : IsRequest r) where
-  -- the place behind a page
+  -- the place after a page
   pub next_within : (i k : ℕ) → i ≤ length (routes p r) → i + length (page_of p r i k) ≤ length (routes p r)
   next_within i k h = omega (arith, length-take k (drop i (routes p r)), length-drop i (routes p r))
 
-  -- two pages, one behind the other
+  -- two pages, one after the other
   pub pages_joined : (i k n : ℕ) → page_of p r i k ++ page_of p r (i + length (page_of p r i k)) n ≡ page_of p r i (k + n)
   pages_joined i k n =
       ap (λ xs. page_of p r i k ++ take n xs) (sym (drop-drop (length (page_of p r i k)) i (routes p r))) ∙ take_then k n (drop i (routes p r))
@@ -47,11 +47,11 @@ module _ (p : ContactPlan) (r : RouteRequest) (good : IsPlan p) (accepted : IsRe
   same_place : (bytes : List ℕ) (x y : RouteRequest × State) → IsSessionOf p (digest_of p) bytes true (Ok x) → IsSessionOf p (digest_of p) bytes true (Ok y) → x ≡ y
   same_place bytes x y a b = let one = answers_once p (digest_of p) bytes true (Ok x) (Ok y) a b in cc
 
-  -- where a run stands behind its events
+  -- where a run stands after its events
   abbrev Stands : ℕ → List Event → List (List ℕ) → RouteRequest × State → Type 0
   Stands i events given y = (given ≡ page_of p r i (asked_for events)) × (y ≡ (r, state_at p r (i + length given)))
 
-  -- the session behind a page
+  -- the session after a page
   page_led : (i k : ℕ) (x : RouteRequest × State) → i ≤ length (routes p r) → x ≡ (r, state_at p r i) → steps p x.0 k x.1 ≡ (page_of p r i k, state_at p r (i + length (page_of p r i k)))
   page_led i k x h at = ap (λ (w : RouteRequest × State). steps p w.0 k w.1) at ∙ (steps_follow p r good).pages i k h
 

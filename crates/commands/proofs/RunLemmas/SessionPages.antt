@@ -16,7 +16,7 @@ use Rattle.commands.specs.runs.SessionRuns.{next_report, report_behind}
 none_before : (n : ℕ) → 0 + n ≡ n
 none_before n = omega arith
 
--- the first page, and the place behind it
+-- the first page, and the place after it
 first_steps : (p : ContactPlan) (r : RouteRequest) (k : ℕ) → IsPlan p
     → steps p r k (state_at p r 0) ≡ (page_of p r 0 k, state_at p r (length (page_of p r 0 k)))
 first_steps p r k rules =
@@ -32,7 +32,7 @@ taken (suc k) (x ∷ xs) = elim (taken k xs) [
   | inr h ↦ inr (omega arith, ap suc h.1)
 ]
 
--- the list goes on behind its first k members exactly where it has more than k
+-- the list goes on after its first k members exactly where it has more than k
 behind : {X : Type 0} (k : ℕ) (xs : List X) → nat_lt (length (take k xs)) (length xs) ≡ nat_lt k (length xs)
 behind k xs = elim (taken k xs) [
   | inl h ↦ ap (λ n. nat_lt n (length xs)) h.1
@@ -42,7 +42,7 @@ behind k xs = elim (taken k xs) [
 within : {X : Type 0} (k : ℕ) (xs : List X) → length (take k xs) ≤ length xs
 within k xs = elim (taken k xs) [ inl h ↦ let e = h.1 in let lt = h.0 in omega arith | inr h ↦ let e = h.1 in omega arith ]
 
--- a route is carried behind the first page exactly where the list goes on
+-- a route is carried after the first page exactly where the list goes on
 more_behind : (p : ContactPlan) (r : RouteRequest) (k : ℕ) → IsPlan p
     → is_some (next_route p r (state_at p r (length (page_of p r 0 k)))) ≡ nat_lt k (length (routes p r))
 more_behind p r k rules = (steps_follow p r rules).carries (length (take k (routes p r))) (within k (routes p r)) ∙ behind k (routes p r)

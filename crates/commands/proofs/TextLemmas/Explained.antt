@@ -31,7 +31,7 @@ no_fault_before : (o o' : Option HopFault) → fault_or o o' ≡ None → (o ≡
 no_fault_before None o' e = (refl, e)
 no_fault_before (Some f) o' e = absurd cc
 
--- behind numbers without a fault the lines go on
+-- after numbers without a fault the lines go on
 pub hop_lines-append : (p : ContactPlan) (r : RouteRequest) (q s t : List ℕ) → first_fault p r q s ≡ None
     → hop_lines p r q (s ++ t) ≡ hop_lines p r q s ++ hop_lines p r (q ++ s) t
 hop_lines-append p r q [] t e = ap (λ w. hop_lines p r w t) (sym (append-nil q))
@@ -50,7 +50,7 @@ path_up_to p r s i d path h =
     (subst (λ w. IsTrue (is_path p r w))
     (sym (take-append-drop i s) ∙ ap (λ w. take i s ++ w) (drop-cons s i d h) ∙ sym (append_assoc (take i s) (get_or s i d ∷ []) (drop (suc i) s))) path)
 
--- the lines of a path up to one of its hops, the line of that hop, and those behind it
+-- the lines of a path up to one of its hops, the line of that hop, and those after it
 pub hop_lines-at : (p : ContactPlan) (r : RouteRequest) (s : List ℕ) (i d : ℕ) → IsTrue (is_path p r s) → i < length s
     → hop_lines p r [] s ≡ hop_lines p r [] (take i s) ++ (line_behind p r (take i s) (get_or s i d) ++ hop_lines p r (take i s ++ get_or s i d ∷ []) (drop (suc i) s))
 hop_lines-at p r s i d path h =
@@ -106,7 +106,7 @@ place_told p r q n g hops e =
           ∙ omega arith
     ] e
 
--- so many numbers have no fault, and the lines end behind them
+-- so many numbers have no fault, and the lines end after them
 pub record Stops (p : ContactPlan) (r : RouteRequest) (q s : List ℕ) (k : ℕ) : Type 0 where
   pub within : k ≤ length s
   pub good : first_fault p r q (take k s) ≡ None

@@ -1,4 +1,4 @@
--- Texts that a writer takes one behind the other.
+-- Texts that a writer takes one after the other.
 use Rattle.std.proofs.Common.{◌≡◌, ℕ, ◌+◌, ◌<◌, List, Result, Ok, Err, Bor, length, get_or, take, ap, ◌∙◌, Option}
 use Rattle.std.specs.Result.{IsErr}
 use Rattle.sabr_model.specs.Devices.{Written, WrittenInPart, WritesText}

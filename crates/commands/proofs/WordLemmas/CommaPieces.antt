@@ -2,7 +2,7 @@
 use Rattle.std.proofs.Common.{◌≡◌, ℕ, ◌<◌, zero, suc, Bool, true, false, cond, eqb, List, [], ◌∷◌, length, get_or, take, drop, refl, ◌∙◌, ap, arith}
 use Rattle.commands.specs.words.Lists.{pieces_of, with_byte}
 
--- a comma behind no other cuts the first piece off
+-- a comma after no other cuts the first piece off
 pub pieces-at : (text : List ℕ) (i : ℕ) → i < length text → eqb (get_or text i 0) 44 ≡ true → ((k : ℕ) → k < i → eqb (get_or text k 0) 44 ≡ false)
     → pieces_of text ≡ take i text ∷ pieces_of (drop (suc i) text)
 pieces-at [] i lt is before = absurd (omega arith)

@@ -24,7 +24,7 @@ full so_far n (Some ns) h =
     let more : 16 < length ((so_far ++ n ∷ []) ++ ns) = omega (arith, length-append (so_far ++ n ∷ []) ns, length-append so_far (n ∷ []), h) in
     ap (λ t. cond t (Some ((so_far ++ n ∷ []) ++ ns)) None) (above (length ((so_far ++ n ∷ []) ++ ns)) 16 more)
 
--- one more behind 16
+-- one more after 16
 pub few-full : (f : List ℕ → Option ℕ) (so_far : List ℕ) (whole : Option (List ℕ)) (ps qs : List (List ℕ)) (p : List ℕ) (n : ℕ)
     → whole ≡ behind so_far (all_of (map f ps)) → ps ≡ p ∷ qs → f p ≡ Some n → length so_far ≡ 16 → few whole ≡ None
 few-full f so_far whole ps qs p n w e is h = ap few (behind-on f so_far whole ps qs p n w e is) ∙ full so_far n (all_of (map f qs)) h

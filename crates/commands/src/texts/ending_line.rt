@@ -31,10 +31,7 @@ fn put_refusal<W: Write>(
 }
 
 /// Puts the line of a fault.
-fn put_fault<W: Write>(
-    text: &mut TextBuffer<'_, W>,
-    fault: HopFault,
-) -> Result<(), WriteFault>
+fn put_fault<W: Write>(text: &mut TextBuffer<'_, W>, fault: HopFault) -> Result<(), WriteFault>
     ensures { Puts W.contents W.failures text.old (fault_line fault) result text.new }
 {
     match fault {
