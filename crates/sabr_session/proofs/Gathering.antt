@@ -56,12 +56,6 @@ module _ {W : Type 0} {contents : W → Option (List ℕ)} {failures : W → ℕ
   Puts-stopped P xs ys (Ok _) bad p = absurd bad
   Puts-stopped P xs ys (Err _) is p = StopsIn-before xs ys p
 
-  -- the writer failed in the second text
-  pub Puts-stopped_after : {A E : Type 0} (P : E → Type 0) {a b c : TextBuffer W} (xs ys : List ℕ) (r : Result A E)
-      → HasPut contents failures a xs b → IsErrAnd r P → StopsIn contents failures b (b.held.items ++ ys) c → Puts contents failures a (xs ++ ys) r c
-  Puts-stopped_after P xs ys (Ok _) p bad q = absurd bad
-  Puts-stopped_after P xs ys (Err _) p is q = StopsIn-after xs ys p q
-
   -- the writer failed in the bytes held before
   pub Puts-unheld : {A E : Type 0} (P : E → Type 0) {a c : TextBuffer W} (xs : List ℕ) (r : Result A E)
       → IsErrAnd r P → StopsIn contents failures a a.held.items c → Puts contents failures a xs r c
