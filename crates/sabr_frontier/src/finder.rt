@@ -28,5 +28,5 @@ pub fn ask<B: BestOf<A>, A: Allocator + Copy>(
     ensures called { B.calls_of finder.new ≡ B.calls_of finder.old + 1 }
     ensures kept { IsKept plan.now request.now kept.new }
 {
-    finder.best_beside(kept, plan, request, Part { prefix, excluded })
+    finder.best_rising(kept, plan, request, Part { prefix, excluded })
 }
