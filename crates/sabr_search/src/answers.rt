@@ -10,7 +10,7 @@ ghost use Rattle.sabr_search.specs.Task.{IsTask, Takes};
 ghost use Rattle.sabr_search.specs.Told.{hops_told};
 ghost use Rattle.sabr_search.specs.Following.{tabled_of};
 ghost use Rattle.sabr_search.specs.Answers.{IsAnswered};
-ghost use Rattle.sabr_search.specs.KeptAnswers.{AllShut, AreListed, Covers, IsAnswerTo, AnswersAt, IsAnswer, IsPut};
+ghost use Rattle.sabr_search.specs.KeptAnswers.{AllShut, Covers, IsAnswerTo, AnswersAt, IsAnswer, IsPut};
 
 use crate::looks::Looks;
 use crate::pick::Standing;
@@ -29,6 +29,10 @@ const COMPARED: usize = 16;
 /// line of 20000 contacts took 4.25 times the instructions of a native program, with this one 1.18, both in a copy of this
 /// design in plain Rust.
 const MOST_EXCLUDED: usize = 64;
+
+/// Questions after a longer prefix aren't kept: an answer lists the nodes that were shut. Without a limit 4096 answers of a
+/// line of 20000 contacts would take some 600 MB; other limits weren't tried.
+const MOST_PREFIX: usize = 64;
 
 /// The place of no answer.
 const NONE: usize = usize::MAX;
@@ -80,19 +84,6 @@ fn are_shut(flags: &[bool], nodes: &[usize]) -> bool
     true
 }
 
-/// The indices of the nodes that are shut.
-fn shut_nodes<A: Allocator + Copy>(alloc: A, flags: &[bool]) -> Result<Vec<usize, A>, NoMemory>
-    ensures { IfOk result (λ nodes. AreListed flags.now nodes.items) }
-{
-    let mut nodes = Vec::new(alloc);
-    for node in 0..flags.len() {
-        if flags[node] {
-            nodes.push(node)?;
-        }
-    }
-    Ok(nodes)
-}
-
 /// The numbers of a route after so many; none where there is no route.
 fn way_of<A: Allocator + Copy>(
     alloc: A,
@@ -137,7 +128,8 @@ impl<A: Allocator + Copy> Answer<A> {
     {
         let mut excluded = Vec::new(alloc);
         excluded.extend_from_slice(task.excluded())?;
-        let shut = shut_nodes(alloc, task.shut())?;
+        let mut shut = Vec::new(alloc);
+        shut.extend_from_slice(task.shut_nodes())?;
         let way = way_of(alloc, answer, prefix.len())?;
         let from = Standing {
             node: task.start(),
@@ -221,6 +213,12 @@ impl<A: Allocator + Copy> Answer<A> {
     }
 }
 
+/// Returns whether the answer to a question after this prefix is kept: not if the prefix is empty, since no other one ends at
+/// the source, and not if too many numbers are excluded or the prefix is too long.
+fn is_kept(prefix: &[u32], excluded: &[u32]) -> bool {
+    !prefix.is_empty() && prefix.len() <= MOST_PREFIX && excluded.len() <= MOST_EXCLUDED
+}
+
 /// The bucket of a node and of the numbers that are excluded there.
 fn bucket_of(node: usize, excluded: &[u32]) -> usize {
     let mut sum = node.wrapping_mul(7919);
@@ -296,7 +294,7 @@ impl<A: Allocator + Copy> Answers<A> {
         ensures looks { IfOk result (λ o. IfSome o (λ answer. looks.new.count ≤ most + hops_told answer)) }
         ensures counted { IfOk result (λ o. IfSome o (λ answer. hops_told answer ≤ looks.new.count)) }
     {
-        if prefix.is_empty() || task.excluded().len() > MOST_EXCLUDED {
+        if !is_kept(prefix, task.excluded()) {
             return Ok(None);
         }
         let Some(place) = self.find(task, looks, most, left) else {
@@ -346,8 +344,7 @@ impl<A: Allocator + Copy> Answers<A> {
         }
     }
 
-    /// Keeps the answer to a question after the prefix; or not, where a growth is refused, or too many numbers are
-    /// excluded, or the prefix is empty: no other prefix ends at the source.
+    /// Keeps the answer to a question after the prefix, if it is one that is kept and no growth is refused.
     pub fn keep(
         &mut self,
         task: &Task<'_, A>,
@@ -360,7 +357,7 @@ impl<A: Allocator + Copy> Answers<A> {
         requires answered { IsAnswered task.now prefix.now left answer.now }
         ensures { All (IsAnswer (tabled_of task.now) task.now.request) self.new.slots.items }
     {
-        if prefix.is_empty() || task.excluded().len() > MOST_EXCLUDED {
+        if !is_kept(prefix, task.excluded()) {
             return;
         }
         if !self.open() {

@@ -10,56 +10,52 @@ ghost use Rattle.sabr_search.specs.Entering.{AreShut, IsPassed};
 
 use crate::looks::Looks;
 use crate::pick::Standing;
+use crate::shut::Shut;
 use sabr_model::{NoMemory, Plan, Request};
 use std::alloc::Allocator;
 
-/// Makes as many nodes, all open.
-fn open_all<A: Allocator + Copy>(flags: &mut Vec<bool, A>, nodes: usize) -> Result<(), NoMemory>
-    ensures many { OnOk result (length flags.new.items ≡ nodes) }
-    ensures none { OnOk result ((k : ℕ) → slice_index_or flags.new.items k false ≡ false) }
-{
-    flags.clear();
-    flags.resize(nodes, false)?;
-    Ok(())
-}
-
 /// Shuts the nodes to avoid, where all are open.
-fn shut_avoided<A: Allocator + Copy>(shut: &mut Vec<bool, A>, plan: &Plan<A>, request: &Request)
+fn shut_avoided<A: Allocator + Copy>(
+    shut: &mut Shut<A>,
+    plan: &Plan<A>,
+    request: &Request,
+) -> Result<(), NoMemory>
     requires nodes { HasNodes plan.now.plan plan.now.table }
-    requires many { length shut.old.items ≡ length plan.now.table }
-    requires none { (k : ℕ) → slice_index_or shut.old.items k false ≡ false }
-    ensures { AreShut plan.now.table shut.new.items (λ x. has x request.now.avoided) }
+    requires many { length shut.old ≡ length plan.now.table }
+    requires none { (k : ℕ) → slice_index_or shut.old k false ≡ false }
+    ensures { OnOk result (AreShut plan.now.table shut.new (λ x. has x request.now.avoided)) }
 {
     for node in request.avoided() {
         if let Some(index) = plan.node_index(*node) {
-            shut[index] = true;
+            shut.put(index)?;
         }
     }
+    Ok(())
 }
 
 /// Goes along the prefix, and shuts the source and every node on it.
 fn pass_prefix<A: Allocator + Copy>(
-    shut: &mut Vec<bool, A>,
+    shut: &mut Shut<A>,
     looks: &mut Looks,
     plan: &Plan<A>,
     request: &Request,
     prefix: &[u32],
     source: usize,
-) -> Standing
+) -> Result<Standing, NoMemory>
     requires plan { IsPlan plan.now.plan }
     requires nodes { HasNodes plan.now.plan plan.now.table }
     requires fits { IsTrue (is_prefix plan.now.plan request.now prefix.now) }
     requires source { slice_get plan.now.table source ≡ Some request.now.source }
     requires few { looks.old.count + length prefix.now ≤ 2 ^ 62 }
-    requires shut { AreShut plan.now.table shut.old.items (λ x. has x request.now.avoided) }
-    ensures looks { looks.new.count ≡ looks.old.count + length prefix.now }
-    ensures passed { IsPassed plan.now request.now prefix.now shut.new.items result.node result.at }
+    requires shut { AreShut plan.now.table shut.old (λ x. has x request.now.avoided) }
+    ensures looks { looks.new.count ≤ looks.old.count + length prefix.now }
+    ensures passed { IfOk result (λ standing. IsPassed plan.now request.now prefix.now shut.new standing.node standing.at) }
 {
     let mut standing = Standing {
         node: source,
         at: request.at(),
     };
-    shut[source] = true;
+    shut.put(source)?;
     for number in prefix {
         let Some(hop) = looks.hop(plan, *number) else {
             unreachable!();
@@ -67,19 +63,19 @@ fn pass_prefix<A: Allocator + Copy>(
         let Some(at) = hop.arrive(request, standing.at) else {
             unreachable!();
         };
-        shut[hop.receiver] = true;
+        shut.put(hop.receiver)?;
         standing = Standing {
             node: hop.receiver,
             at,
         };
     }
-    standing
+    Ok(standing)
 }
 
 /// Tells where the search behind the prefix starts, and its goal; none where the plan has not both the source and the
 /// destination.
 pub fn enter<A: Allocator + Copy>(
-    shut: &mut Vec<bool, A>,
+    shut: &mut Shut<A>,
     looks: &mut Looks,
     plan: &Plan<A>,
     request: &Request,
@@ -93,18 +89,18 @@ pub fn enter<A: Allocator + Copy>(
     ensures looks { looks.new.count ≤ looks.old.count + length prefix.now }
     ensures none { IfOk result (λ o. IfNone o ((s : List ℕ) → IsTrue (is_route plan.now.plan request.now s) → ⊥)) }
     ensures some { IfOk result (λ o. IfSome o (λ found. (excluded : List ℕ) →
-        IsTask (record { plan = plan.now.plan; request = request.now; table = plan.now.table; shut = shut.new.items; excluded = excluded; start = found.0.node; goal = found.1; at = found.0.at })
-        × IsBehind (record { plan = plan.now.plan; request = request.now; table = plan.now.table; shut = shut.new.items; excluded = excluded; start = found.0.node; goal = found.1; at = found.0.at }) prefix.now)) }
+        IsTask (record { plan = plan.now.plan; request = request.now; table = plan.now.table; shut = shut.new; excluded = excluded; start = found.0.node; goal = found.1; at = found.0.at })
+        × IsBehind (record { plan = plan.now.plan; request = request.now; table = plan.now.table; shut = shut.new; excluded = excluded; start = found.0.node; goal = found.1; at = found.0.at }) prefix.now)) }
 {
     plan.tell_rules();
-    open_all(shut, plan.nodes())?;
+    shut.open_all(plan.nodes())?;
     let Some(source) = plan.node_index(request.from()) else {
         return Ok(None);
     };
     let Some(goal) = plan.node_index(request.to()) else {
         return Ok(None);
     };
-    shut_avoided(shut, plan, request);
-    let standing = pass_prefix(shut, looks, plan, request, prefix, source);
+    shut_avoided(shut, plan, request)?;
+    let standing = pass_prefix(shut, looks, plan, request, prefix, source)?;
     Ok(Some((standing, goal)))
 }

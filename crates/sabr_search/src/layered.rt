@@ -8,6 +8,7 @@ use crate::finger::rises;
 use crate::layers::{Layers, Limits, NEVER};
 use crate::looks::Looks;
 use crate::part::Part;
+use crate::shut::Shut;
 use crate::task::Task;
 use sabr_model::{GhostCount, NoMemory, Plan, Request, Route};
 use std::alloc::{Allocator, Global};
@@ -21,7 +22,7 @@ pub struct Layered<A: Allocator + Copy = Global> {
     /// Where the buffers take their memory.
     alloc: A,
     /// By node whether a route may not pass it.
-    shut: Vec<bool, A>,
+    shut: Shut<A>,
     /// Layers forward and deadlines.
     layers: Layers<A>,
     /// The looks of the last call.
@@ -38,7 +39,7 @@ impl<A: Allocator + Copy> Layered<A> {
     {
         Layered {
             alloc,
-            shut: Vec::new(alloc),
+            shut: Shut::new(alloc),
             layers: Layers::new(alloc),
             looks: Looks::new(),
             calls: GhostCount::new(),

@@ -12,6 +12,7 @@ use crate::layers::{Best, Layers, NEVER};
 use crate::looks::Looks;
 use crate::pick::Standing;
 use crate::rung::{Due, Rung, Span};
+use crate::shut::Shut;
 use crate::task::Task;
 use sabr_model::{LAST_TIME, MOST_LIGHT, NoMemory, Plan, Request};
 use std::alloc::Allocator;
@@ -233,7 +234,7 @@ pub fn rung_for<A: Allocator + Copy>(
     if deadline == 0 || deadline == NEVER {
         return Ok(None);
     }
-    let mut shut = Vec::new(alloc);
+    let mut shut = Shut::new(alloc);
     let Some((standing, goal)) = enter(&mut shut, looks, plan, request, &[])? else {
         return Ok(None);
     };

@@ -28,6 +28,7 @@ mod rung;
 mod rungs;
 mod settled;
 mod settling;
+mod shut;
 mod task;
 mod trying;
 

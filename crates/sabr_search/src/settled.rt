@@ -22,6 +22,7 @@ use crate::looks::Looks;
 use crate::part::Part;
 use crate::rungs::Rungs;
 use crate::settling::Settling;
+use crate::shut::Shut;
 use crate::task::Task;
 use sabr_model::{GhostCount, NoMemory, Plan, Request, Route};
 use std::alloc::{Allocator, Global};
@@ -174,7 +175,7 @@ pub struct Settled<A: Allocator + Copy = Global> {
     /// Where the buffers take their memory.
     alloc: A,
     /// By node whether a route may not pass it.
-    shut: Vec<bool, A>,
+    shut: Shut<A>,
     /// Nodes in order of arrival.
     settling: Settling<A>,
     /// Layers backward, or forward, and deadlines.
@@ -193,7 +194,7 @@ impl<A: Allocator + Copy> Settled<A> {
     {
         Settled {
             alloc,
-            shut: Vec::new(alloc),
+            shut: Shut::new(alloc),
             settling: Settling::new(alloc),
             layers: Layers::new(alloc),
             looks: Looks::new(),

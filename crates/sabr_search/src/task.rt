@@ -8,12 +8,14 @@ ghost use Rattle.sabr_model.specs.Route.{until_of, entry_of};
 ghost use Rattle.sabr_model.specs.Outgoing.{links_in, passes_in};
 ghost use Rattle.sabr_model.specs.Hops.{hop_arrival, IsSmall};
 ghost use Rattle.sabr_search.specs.Task.{IsTask};
+ghost use Rattle.sabr_search.specs.KeptAnswers.{AreListed};
 ghost use Rattle.sabr_search.specs.KeptAnswers.{Arrives};
 ghost use Rattle.sabr_search.specs.Linked.{AreLinksAt, AreSendersAt};
 
 use crate::finger::Finger;
 use crate::looks::Looks;
 use crate::pick::Standing;
+use crate::shut::Shut;
 use sabr_model::{Hop, NoMemory, Outgoing, Pass, Plan, Request, Route, Senders, Told};
 use std::alloc::Allocator;
 use std::marker::Model;
@@ -26,7 +28,7 @@ pub struct Task<'a, A: Allocator + Copy> {
     /// What is asked.
     request: &'a Request,
     /// By node whether a way may not pass it.
-    shut: &'a [bool],
+    shut: &'a Shut<A>,
     /// The numbers that no way takes first.
     excluded: &'a [u32],
     /// Whether these are known to rise.
@@ -56,7 +58,7 @@ impl<'a, A: Allocator + Copy> Task<'a, A> {
     pub fn new(
         plan: &'a Plan<A>,
         request: &'a Request,
-        shut: &'a [bool],
+        shut: &'a Shut<A>,
         excluded: &'a [u32],
         in_order: bool,
         standing: Standing,
@@ -129,7 +131,14 @@ impl<'a, A: Allocator + Copy> Task<'a, A> {
     pub fn shut(&self) -> &[bool]
         ensures { result.now ≡ self.now.shut }
     {
-        self.shut
+        self.shut.flags()
+    }
+
+    /// The nodes that are shut.
+    pub fn shut_nodes(&self) -> &[usize]
+        ensures { AreListed self.now.shut result.now }
+    {
+        self.shut.nodes()
     }
 
     /// The numbers that no way takes first.
@@ -147,7 +156,7 @@ impl<'a, A: Allocator + Copy> Task<'a, A> {
         ensures some { IfSome result (Arrives self.now number at) }
     {
         let hop = looks.hop(self.plan, number)?;
-        if self.shut[hop.receiver] {
+        if self.shut.flags()[hop.receiver] {
             return None;
         }
         let at = hop.arrive(self.request, at)?;

@@ -17,8 +17,8 @@ returns-in_default-node_index-clause-none g c =
 pub shut_avoided-requires-clause-nodes : goal.shut_avoided-requires-clause-nodes
 shut_avoided-requires-clause-nodes g c = has_nodes c.args.plan.now c.nodes.ensures.tabled
 
-pub pass_prefix-standing-requires-clause-nodes : goal.pass_prefix-standing-requires-clause-nodes
-pass_prefix-standing-requires-clause-nodes g c = has_nodes c.args.plan.now c.nodes.ensures.tabled
+pub pass_prefix-requires-clause-nodes : goal.pass_prefix-requires-clause-nodes
+pass_prefix-requires-clause-nodes g c = has_nodes c.args.plan.now c.nodes.ensures.tabled
 
 pub returns-clause-some : goal.returns-clause-some
 returns-clause-some g c = λ excluded.
@@ -26,7 +26,7 @@ returns-clause-some g c = λ excluded.
     let r = c.args.request.now in
     let nodes = has_nodes p c.nodes.ensures.tabled in
     let goal_is : slice_get p.table c.in-Some-node_index.goal ≡ Some r.destination = c.in-Some-node_index.ensures ∙ ap Some c.to.ensures.value in
-    let passed = c.pass_prefix-standing.ensures.passed in (
-      task_passed p r c.args.prefix.now c.pass_prefix-standing.new.shut.items c.pass_prefix-standing.result.node c.pass_prefix-standing.result.at passed nodes c.in-Some-node_index.goal goal_is excluded c.tell_rules.ensures c.from.ensures.limits (prefix_facts p.plan r c.args.prefix.now c.requires.fits),
-      behind_passed p r c.args.prefix.now c.pass_prefix-standing.new.shut.items c.pass_prefix-standing.result.node c.pass_prefix-standing.result.at passed nodes c.in-Some-node_index.goal goal_is excluded,
+    let passed = c.in_ok-standing.ensures.passed in (
+      task_passed p r c.args.prefix.now c.pass_prefix.new.shut c.in_ok-standing.standing.node c.in_ok-standing.standing.at passed nodes c.in-Some-node_index.goal goal_is excluded c.tell_rules.ensures c.from.ensures.limits (prefix_facts p.plan r c.args.prefix.now c.requires.fits),
+      behind_passed p r c.args.prefix.now c.pass_prefix.new.shut c.in_ok-standing.standing.node c.in_ok-standing.standing.at passed nodes c.in-Some-node_index.goal goal_is excluded,
     )

@@ -18,7 +18,7 @@ loop-number-init g c =
       counted = omega arith;
       node = (r.source, c.requires.source, refl);
       time = ap (λ t. arrival_after p.plan r t c.args.prefix.now) c.at.ensures.value;
-      shuts = shut_more p.plan p.table c.requires.nodes c.args.shut.now.items (λ x. has x r.avoided) (is_closed p.plan r []) c.args.source r.source c.requires.shut c.requires.source (closed_none p.plan r);
+      shuts = rw c.in_ok-put.ensures (shut_more p.plan p.table c.requires.nodes c.args.shut.now (λ x. has x r.avoided) (is_closed p.plan r []) c.args.source r.source c.requires.shut c.requires.source (closed_none p.plan r));
     }
 
 pub unreachable-requires : goal.unreachable-requires
@@ -44,8 +44,8 @@ unreachable-requires-in_default-arrive g c =
     let a = next_arrival p r c.loop-number.standing.at i n prefix next c.in-Some.hop c.in-Some.ensures.value in
     let e : None ≡ Some next.b = sym c.in_default-arrive.is ∙ c.arrive.ensures ∙ a.1 in cc
 
-pub index_mut-requires-in-loop-number : goal.index_mut-requires-in-loop-number
-index_mut-requires-in-loop-number g c = omega (arith, c.loop-number.shut.ok.0, c.loop-number.invariant.shuts.many, slice_get_within c.args.plan.now.table c.in-Some.hop.receiver c.in-Some.ensures.value.contact.to c.in-Some.ensures.value.is.receiver)
+pub put-requires-in-loop-number : goal.put-requires-in-loop-number
+put-requires-in-loop-number g c = omega (arith, c.loop-number.invariant.shuts.many, slice_get_within c.args.plan.now.table c.in-Some.hop.receiver c.in-Some.ensures.value.contact.to c.in-Some.ensures.value.is.receiver)
 
 pub loop-number-preserved : goal.loop-number-preserved
 loop-number-preserved g c =
@@ -65,7 +65,7 @@ loop-number-preserved g c =
       counted = omega (arith, so_far.counted, c.hop.ensures.counted);
       node = (next.contact.to, to, next.on_chain);
       time = ap (λ t. arrival_after p.plan r t (drop (i + 1) prefix)) at ∙ next.on_time;
-      shuts = shut_more p.plan p.table c.requires.nodes c.loop-number.shut.items (is_closed p.plan r (take i prefix)) (is_closed p.plan r (take (i + 1) prefix)) c.in-Some.hop.receiver next.contact.to so_far.shuts to (closed_more p.plan r prefix i n next.contact here next.named);
+      shuts = rw c.in_ok-put-2.ensures (shut_more p.plan p.table c.requires.nodes c.loop-number.shut (is_closed p.plan r (take i prefix)) (is_closed p.plan r (take (i + 1) prefix)) c.in-Some.hop.receiver next.contact.to so_far.shuts to (closed_more p.plan r prefix i n next.contact here next.named));
     }
 
 pub returns-clause-passed : goal.returns-clause-passed

@@ -10,5 +10,5 @@ invariant-loop-number g l = record {
   counted : l.looks.count ≡ l.fn.looks.count + l.number-index;
   node : (v : ℕ) × (slice_get l.plan.table l.standing.node ≡ Some v) × (chain_end l.plan.plan v (drop l.number-index l.prefix) ≡ chain_end l.plan.plan l.request.source l.prefix);
   time : arrival_after l.plan.plan l.request l.standing.at (drop l.number-index l.prefix) ≡ arrival_after l.plan.plan l.request l.request.at l.prefix;
-  shuts : AreShut l.plan.table l.shut.items (is_closed l.plan.plan l.request (take l.number-index l.prefix));
+  shuts : AreShut l.plan.table l.shut (is_closed l.plan.plan l.request (take l.number-index l.prefix));
 }

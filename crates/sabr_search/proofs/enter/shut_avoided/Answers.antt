@@ -4,7 +4,7 @@ use Rattle.std.proofs.lemmas.Option.{slice_get-get_or}
 use Rattle.sabr_model.specs.Plan.{has}
 use Rattle.sabr_search.proofs.Entering.{shut_more, shut_same, has_more, has_other}
 use Rattle.sabr_search.proofs.enter.shut_avoided.Goals as goal
-use Rattle.sabr_search.proofs.enter.shut_avoided.Goals.{in-Some, in_default}
+use Rattle.sabr_search.proofs.enter.shut_avoided.Goals.{in-Some+in_ok-put, in_default}
 
 pub loop-node-preserved : goal.loop-node-preserved
 loop-node-preserved g c =
@@ -12,8 +12,8 @@ loop-node-preserved g c =
     let i = c.loop-node.node-index in
     let here : slice_get nodes i ≡ Some (slice_index nodes i) = slice_get-get_or nodes i 0 c.loop-node-test.true in
     elim c.match-node_index.branch [
-      | in-Some w ↦ rw w.shut-is (shut_more c.args.plan.now.plan c.args.plan.now.table c.requires.nodes c.loop-node.shut.items (λ x. has x (take i nodes)) (λ x. has x (take (i + 1) nodes)) w.in-Some.index (slice_index nodes i) c.loop-node.invariant w.in-Some.ensures (λ x. has_more nodes i (slice_index nodes i) x here))
-      | in_default w ↦ rw w.shut-is (shut_same c.args.plan.now.table c.loop-node.shut.items (λ x. has x (take i nodes)) (λ x. has x (take (i + 1) nodes)) c.loop-node.invariant (λ x inside. has_other nodes i (slice_index nodes i) x here c.args.plan.now.table w.in_default.ensures inside))
+      | in-Some+in_ok-put w ↦ rw w.shut-is (rw w.in_ok-put.ensures (shut_more c.args.plan.now.plan c.args.plan.now.table c.requires.nodes c.loop-node.shut (λ x. has x (take i nodes)) (λ x. has x (take (i + 1) nodes)) w.in-Some.index (slice_index nodes i) c.loop-node.invariant w.in-Some.ensures (λ x. has_more nodes i (slice_index nodes i) x here)))
+      | in_default w ↦ rw w.shut-is (shut_same c.args.plan.now.table c.loop-node.shut (λ x. has x (take i nodes)) (λ x. has x (take (i + 1) nodes)) c.loop-node.invariant (λ x inside. has_other nodes i (slice_index nodes i) x here c.args.plan.now.table w.in_default.ensures inside))
     ]
 
 pub returns : goal.returns

@@ -4,4 +4,4 @@ use Rattle.sabr_search.specs.Entering.{AreShut}
 use Rattle.sabr_search.proofs.enter.shut_avoided.Given as goal
 
 abbrev pub invariant-loop-node : goal.invariant-loop-node
-invariant-loop-node g l = AreShut l.plan.table l.shut.items (λ x. has x (take l.node-index l.node-items))
+invariant-loop-node g l = AreShut l.plan.table l.shut (λ x. has x (take l.node-index l.node-items))
