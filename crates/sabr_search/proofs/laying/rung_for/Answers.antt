@@ -11,4 +11,4 @@ lay-requires-clause-whole g c =
     let p = c.args.plan.now in
     let found = rw c.in-Some.is at c.in_ok-standing.ensures.some in
     let both = found [] in
-    rw (c.new-task.ensures, c.deref.ensures.value) (whole_task p.plan c.args.request.now p.table c.enter.new.shut.items c.in-Some.standing.node c.in-Some.goal c.in-Some.standing.at both.0 both.1)
+    rw c.new-task.ensures (whole_task p.plan c.args.request.now p.table c.enter.new.shut c.in-Some.standing.node c.in-Some.goal c.in-Some.standing.at both.0 both.1)

@@ -1,6 +1,6 @@
-use Rattle.std.proofs.Common.{◌-◌, ◌<◌, length, reverse, arith, ap, sym, subst, ◌∙◌}
-use Rattle.sabr_frontier.specs.Shape.{Shape, shape_of}
-use Rattle.sabr_frontier.specs.Session.{AreStarts, IsSound}
+use Rattle.std.proofs.Common.{◌≡◌, ◌-◌, ◌<◌, ◌∷◌, length, reverse, arith, ap, sym, subst, ◌∙◌}
+use Rattle.sabr_frontier.specs.Shape.{Shape, shape_of, shown}
+use Rattle.sabr_frontier.specs.Session.{AreStarts, IsSound, Seen, former_of}
 use Rattle.sabr_frontier.proofs.Pages.{sound_undos, sound_back, last_first}
 use Rattle.sabr_frontier.specs.Undo.{IsIndexBack, undone_times}
 use Rattle.sabr_frontier.proofs.Settled.{index_back}
@@ -36,3 +36,12 @@ invariant_of-self-2 g c =
       room = c.undo_to.ensures.room;
       tables = c.self.invariant.tables;
     }
+
+pub returns-clause-yes : goal.returns-clause-yes
+returns-clause-yes g c = λ is_yes.
+    let s = c.self.inside in
+    let t = shape_of s.tree in
+    let rest = reverse c.pop.new.self.items in
+    let pages : reverse s.pages.items ≡ c.in-Some.start ∷ rest = ap reverse c.in-Some.ensures.items ∙ last_first c.pop.new.self.items c.in-Some.start in
+    let was : c.args.self.now.former ≡ former_of (reverse s.pages.items) t = sym (ap (λ (x : Seen). x.former) c.self.view_is) in
+    ap (λ z. shown z ∷ former_of rest z) c.undo_to.ensures.former ∙ sym (was ∙ ap (λ xs. former_of xs t) pages)

@@ -34,7 +34,7 @@ overflow_sub-nodes g c =
     let r = c.args.request.now in
     let prefix = c.args.part.prefix.now in
     let facts = prefix_facts p.plan r prefix c.requires.fits in
-    let task : SearchTask = record { plan = p.plan; request = r; table = p.table; shut = c.enter.new.shut.items; excluded = c.args.part.excluded.now; start = c.in-Some.standing.node; goal = c.in-Some.goal; at = c.in-Some.standing.at } in
+    let task : SearchTask = record { plan = p.plan; request = r; table = p.table; shut = c.enter.new.shut; excluded = c.args.part.excluded.now; start = c.in-Some.standing.node; goal = c.in-Some.goal; at = c.in-Some.standing.at } in
     let found = rw c.in-Some.is at c.in_ok-standing.ensures.some in
     let both : IsTask task × IsBehind task prefix = found c.args.part.excluded.now in
     omega (arith, both.0.start_in, c.nodes.ensures.table)
@@ -45,10 +45,10 @@ answer-requires-clause-task g c =
     let r = c.args.request.now in
     let prefix = c.args.part.prefix.now in
     let facts = prefix_facts p.plan r prefix c.requires.fits in
-    let task : SearchTask = record { plan = p.plan; request = r; table = p.table; shut = c.enter.new.shut.items; excluded = c.args.part.excluded.now; start = c.in-Some.standing.node; goal = c.in-Some.goal; at = c.in-Some.standing.at } in
+    let task : SearchTask = record { plan = p.plan; request = r; table = p.table; shut = c.enter.new.shut; excluded = c.args.part.excluded.now; start = c.in-Some.standing.node; goal = c.in-Some.goal; at = c.in-Some.standing.at } in
     let found = rw c.in-Some.is at c.in_ok-standing.ensures.some in
     let both : IsTask task × IsBehind task prefix = found c.args.part.excluded.now in
-    rw (c.new-task.ensures, c.deref.ensures.value) both.0
+    rw (c.new-task.ensures) both.0
 
 pub answer-requires-clause-few : goal.answer-requires-clause-few
 answer-requires-clause-few g c =
@@ -56,7 +56,7 @@ answer-requires-clause-few g c =
     let r = c.args.request.now in
     let prefix = c.args.part.prefix.now in
     let facts = prefix_facts p.plan r prefix c.requires.fits in
-    let task : SearchTask = record { plan = p.plan; request = r; table = p.table; shut = c.enter.new.shut.items; excluded = c.args.part.excluded.now; start = c.in-Some.standing.node; goal = c.in-Some.goal; at = c.in-Some.standing.at } in
+    let task : SearchTask = record { plan = p.plan; request = r; table = p.table; shut = c.enter.new.shut; excluded = c.args.part.excluded.now; start = c.in-Some.standing.node; goal = c.in-Some.goal; at = c.in-Some.standing.at } in
     let found = rw c.in-Some.is at c.in_ok-standing.ensures.some in
     let both : IsTask task × IsBehind task prefix = found c.args.part.excluded.now in
     rw c.new-task.ensures (looks_fit task both.0 prefix facts 0 c.min.result c.enter.new.looks.count c.max_hops.ensures.limits.hops.1 (omega (arith, c.min.ensures, c.max_hops.ensures.value)) (omega (arith, c.enter.ensures.looks, c.new-self.ensures)) (omega arith))
@@ -67,7 +67,7 @@ answer-requires-clause-many g c =
     let r = c.args.request.now in
     let prefix = c.args.part.prefix.now in
     let facts = prefix_facts p.plan r prefix c.requires.fits in
-    let task : SearchTask = record { plan = p.plan; request = r; table = p.table; shut = c.enter.new.shut.items; excluded = c.args.part.excluded.now; start = c.in-Some.standing.node; goal = c.in-Some.goal; at = c.in-Some.standing.at } in
+    let task : SearchTask = record { plan = p.plan; request = r; table = p.table; shut = c.enter.new.shut; excluded = c.args.part.excluded.now; start = c.in-Some.standing.node; goal = c.in-Some.goal; at = c.in-Some.standing.at } in
     let found = rw c.in-Some.is at c.in_ok-standing.ensures.some in
     let both : IsTask task × IsBehind task prefix = found c.args.part.excluded.now in
     omega (arith, facts.within, c.max_hops.ensures.limits.hops.1, c.min.ensures, c.max_hops.ensures.value)
@@ -78,11 +78,11 @@ returns-clause-least g c =
     let r = c.args.request.now in
     let prefix = c.args.part.prefix.now in
     let facts = prefix_facts p.plan r prefix c.requires.fits in
-    let task : SearchTask = record { plan = p.plan; request = r; table = p.table; shut = c.enter.new.shut.items; excluded = c.args.part.excluded.now; start = c.in-Some.standing.node; goal = c.in-Some.goal; at = c.in-Some.standing.at } in
+    let task : SearchTask = record { plan = p.plan; request = r; table = p.table; shut = c.enter.new.shut; excluded = c.args.part.excluded.now; start = c.in-Some.standing.node; goal = c.in-Some.goal; at = c.in-Some.standing.at } in
     let found = rw c.in-Some.is at c.in_ok-standing.ensures.some in
     let both : IsTask task × IsBehind task prefix = found c.args.part.excluded.now in
     let hops : c.min.result ≡ min (r.max_hops - length prefix) (length p.table - 1) = c.min.ensures ∙ ap (λ m. min (m - length prefix) (c.nodes.result - 1)) c.max_hops.ensures.value ∙ ap (λ n. min (r.max_hops - length prefix) (n - 1)) c.nodes.ensures.table in
-    least_answer task both.0 prefix both.1 facts c.min.result hops c.answer.result (rw (c.new-task.ensures, c.deref.ensures.value) at c.answer.ensures.none) (rw (c.new-task.ensures, c.deref.ensures.value) at c.answer.ensures.some)
+    least_answer task both.0 prefix both.1 facts c.min.result hops c.answer.result (rw (c.new-task.ensures) at c.answer.ensures.none) (rw (c.new-task.ensures) at c.answer.ensures.some)
 
 pub returns-clause-bound : goal.returns-clause-bound
 returns-clause-bound g c =
@@ -90,9 +90,9 @@ returns-clause-bound g c =
     let r = c.args.request.now in
     let prefix = c.args.part.prefix.now in
     let facts = prefix_facts p.plan r prefix c.requires.fits in
-    let task : SearchTask = record { plan = p.plan; request = r; table = p.table; shut = c.enter.new.shut.items; excluded = c.args.part.excluded.now; start = c.in-Some.standing.node; goal = c.in-Some.goal; at = c.in-Some.standing.at } in
+    let task : SearchTask = record { plan = p.plan; request = r; table = p.table; shut = c.enter.new.shut; excluded = c.args.part.excluded.now; start = c.in-Some.standing.node; goal = c.in-Some.goal; at = c.in-Some.standing.at } in
     let found = rw c.in-Some.is at c.in_ok-standing.ensures.some in
     let both : IsTask task × IsBehind task prefix = found c.args.part.excluded.now in
     subst (λ n. c.answer.new.looks.count ≤ (3 * n + 1) * length p.plan.contacts) (sym c.nodes.ensures.table ∙ c.nodes.ensures.value)
     (answer_looks task both.0 prefix both.1 facts c.min.result never c.enter.new.looks.count c.answer.new.looks.count (omega (arith, facts.within, c.min.ensures, c.max_hops.ensures.value)) (omega (arith, both.0.start_in, c.min.ensures, c.nodes.ensures.table)) (omega (arith, c.enter.ensures.looks, c.new-self.ensures)) c.answer.result
-    (rw c.new-task.ensures at c.answer.ensures.err_looks) (rw c.new-task.ensures at c.answer.ensures.ok_looks) (rw (c.new-task.ensures, c.deref.ensures.value) at c.answer.ensures.some))
+    (rw c.new-task.ensures at c.answer.ensures.err_looks) (rw c.new-task.ensures at c.answer.ensures.ok_looks) (rw (c.new-task.ensures) at c.answer.ensures.some))

@@ -32,18 +32,18 @@ returns-in_default-clause-cut g c = λ most.
 pub least_beside-requires-clause-task : goal.least_beside-requires-clause-task
 least_beside-requires-clause-task g c =
     let p = c.args.plan.now in
-    let task : SearchTask = record { plan = p.plan; request = c.args.request.now; table = p.table; shut = c.enter.new.shut.items; excluded = c.args.part.excluded.now; start = c.in-Some.standing.node; goal = c.in-Some.goal; at = c.in-Some.standing.at } in
+    let task : SearchTask = record { plan = p.plan; request = c.args.request.now; table = p.table; shut = c.enter.new.shut; excluded = c.args.part.excluded.now; start = c.in-Some.standing.node; goal = c.in-Some.goal; at = c.in-Some.standing.at } in
     let found = rw c.in-Some.is at c.in_ok-standing.ensures.some in
     let both : IsTask task × IsBehind task c.args.part.prefix.now = found c.args.part.excluded.now in
-    rw (c.new-task.ensures, c.deref.ensures.value) both.0
+    rw (c.new-task.ensures) both.0
 
 pub least_beside-requires-clause-behind : goal.least_beside-requires-clause-behind
 least_beside-requires-clause-behind g c =
     let p = c.args.plan.now in
-    let task : SearchTask = record { plan = p.plan; request = c.args.request.now; table = p.table; shut = c.enter.new.shut.items; excluded = c.args.part.excluded.now; start = c.in-Some.standing.node; goal = c.in-Some.goal; at = c.in-Some.standing.at } in
+    let task : SearchTask = record { plan = p.plan; request = c.args.request.now; table = p.table; shut = c.enter.new.shut; excluded = c.args.part.excluded.now; start = c.in-Some.standing.node; goal = c.in-Some.goal; at = c.in-Some.standing.at } in
     let found = rw c.in-Some.is at c.in_ok-standing.ensures.some in
     let both : IsTask task × IsBehind task c.args.part.prefix.now = found c.args.part.excluded.now in
-    rw (c.new-task.ensures, c.deref.ensures.value) both.1
+    rw (c.new-task.ensures) both.1
 
 pub least_beside-requires-clause-fits : goal.least_beside-requires-clause-fits
 least_beside-requires-clause-fits g c = rw c.new-task.ensures c.requires.fits
