@@ -1,11 +1,11 @@
 #!/usr/bin/env python3
-"""Counts the instructions of `first` by callgrind: as many on a busy machine as on a quiet one.
+"""Counts the instructions of `first` by callgrind: a busy machine has the same count as a quiet one.
 
     instructions.py [PROGRAM] --plan FILE [--plan FILE ..] [--questions FILE] [--counts N,N,..] [--beside PATH]
                     [--most-seconds S] [--json FILE] [--words TEXT]
 
-Plans and questions are those of listing.py. A run under callgrind takes some fifty times as long; one that takes longer
-than the limit of seconds is told as stopped.
+Plans and questions are those of listing.py. A run under callgrind takes some fifty times as long. If it takes longer than
+the limit of seconds, the table says `stopped`.
 """
 import argparse
 import os
@@ -21,7 +21,7 @@ TOLD = re.compile(rb"Collected : (\d+)")
 
 
 def count(words, most_seconds):
-    """The instructions of a run in millions; nothing where it was stopped or failed."""
+    """The instructions of a run in millions; nothing if it was stopped or failed."""
     counted = ["valgrind", "--tool=callgrind", "--callgrind-out-file=/dev/null", *words]
     try:
         ran = subprocess.run(counted, stdin=subprocess.DEVNULL, capture_output=True, timeout=most_seconds, check=False)

@@ -1,4 +1,4 @@
-"""What reading.py and listing.py share: one timed run, one measured run, the machine, and tables."""
+"""What the scripts share: one timed run, one measured run, the machine, and tables."""
 import hashlib
 import json
 import os
@@ -178,7 +178,7 @@ def print_row(row, widths):
 
 
 def print_head(heads):
-    """Prints the head of a table in Markdown, and answers the widths of its columns."""
+    """Prints the head of a table in Markdown, and returns the widths of its columns."""
     widths = [max(len(head), 8) for head in heads]
     print_row(heads, widths)
     print("|" + "|".join("-" * (width + 1) + ":" for width in widths) + "|")
@@ -192,7 +192,7 @@ def built(crate):
 
 def add_run_words(words):
     """The words that say how the runs are timed."""
-    words.add_argument("--repeats", type=int, default=5, help="how often each run is timed; the best is told")
+    words.add_argument("--repeats", type=int, default=5, help="how often each run is timed; the best is printed")
     words.add_argument("--most-seconds", type=float, default=60, help="a longer run is stopped")
     words.add_argument("--json", metavar="FILE", help="writes all figures to this file, too")
 
@@ -204,7 +204,7 @@ def add_words(words):
 
 
 def programs_of(given):
-    """The programs, each under the name of its file; the second is called beside where both have one name."""
+    """The programs, each under the name of its file; the second is called `beside` if both have one name."""
     programs = [Program(command) for command in (given.program, given.beside) if command is not None]
     if len({program.name for program in programs}) < len(programs):
         programs[1].name = "beside"
@@ -212,7 +212,7 @@ def programs_of(given):
 
 
 def end(given, machine, rows, programs=()):
-    """Says how busy the machine was in the end, and writes the figures if they are asked for."""
+    """Prints how busy the machine was in the end, and writes the figures if they are asked for."""
     machine.end()
     if given.json is None:
         return

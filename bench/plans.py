@@ -4,7 +4,7 @@
     plans.py [--out FOLDER] [--seed N] [--contacts N,N,..] [--shapes spread,hub] [--ranges-last]
 
 Each plan has as many ranges as contacts, and each of its contacts has a light time. The lines of either kind stand in
-no order. A plan's comments say how it was made, and of which nodes and time routes are asked in it.
+no order. A plan's comments say how it was made, and between which nodes and at which time routes are asked for.
 
 spread  contacts among many nodes, one node for each twenty contacts; each link has at most four contacts in a day,
         one in each quarter of it, and a light time for each quarter
@@ -33,7 +33,7 @@ class Plan:
         self.contacts.append(f"a contact +{start} +{end} {sender} {receiver} {rate}")
 
     def range(self, start, end, one, other, light):
-        """Holds both ways where one is the lesser node."""
+        """Holds both ways if one is the lesser node."""
         self.ranges.append(f"a range +{start} +{end} {one} {other} {light}")
 
     def text(self, dice, title, ranges_last):
@@ -99,7 +99,7 @@ def make(shape, contacts, seed, ranges_last=False):
 
 
 def write(folder, shape, contacts, seed, ranges_last=False):
-    """Writes a plan, and answers its file."""
+    """Writes a plan, and returns its file."""
     os.makedirs(folder, exist_ok=True)
     path = os.path.join(folder, f"{shape}-{contacts}.txt")
     with open(path, "w", encoding="ascii") as file:
@@ -122,7 +122,7 @@ def add_words(words):
 
 
 def write_all(given):
-    """Writes each plan that the words name, and answers their files."""
+    """Writes each plan that the words name, and returns their files."""
     return [
         write(given.out, shape, contacts, given.seed, given.ranges_last)
         for shape in given.shapes.split(",")

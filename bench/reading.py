@@ -3,8 +3,8 @@
 
     reading.py [PROGRAM] [--beside PATH] [--repeats N] [--most-seconds S] [--json FILE] [words of plans.py]
 
-So a run is the reading of the plan, its tables, and the one line `end`. Where reading takes time in proportion to a
-plan's bytes, the column `ns/byte` stays as it is down the table. Status 1: a program failed, or two answers differ.
+So a run is the reading of the plan, its tables, and the one line `end`. If reading takes time in proportion to a plan's
+bytes, the column `ns/byte` stays the same down the table. Status 1: a program failed, or two answers differ.
 """
 import argparse
 import os

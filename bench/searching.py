@@ -4,7 +4,7 @@
     searching.py [PROGRAM] --plan FILE [--plan FILE ..] [--questions FILE] [--count N] [--finders layered,settled]
                  [--repeats N] [--most-seconds S] [--json FILE]
 
-PROGRAM is crates/bench/out/bench where it isn't given. The nodes and the time are those of the plan's line
+PROGRAM is crates/bench/out/bench if not given. The nodes and the time are those of the plan's line
 `# ask FROM TO TIME`, of --from, --to and --at, or of a file of questions: a list in JSON of objects with the words
 `plan` (a path, from that file's folder), `from`, `to` and `at`; these plans come after the others. A look is a read of
 a contact's record. Status 1: a run failed, or two finders gave pages of different length.

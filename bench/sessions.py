@@ -1,13 +1,13 @@
 #!/usr/bin/env python3
 """Times session texts: the writing, reading and verifying of them, beside the listing of their routes.
 
-Each run writes, or reads, a text ten times. The least of them is printed, and after it the first, which has the first use
-of code and memory in it.
+Each run writes, or reads, a text ten times. The least of the ten times is printed, and after it the first, which includes
+the first use of code and memory.
 
     sessions.py [PROGRAM] --plan FILE [--plan FILE ..] [--questions FILE] [--counts N,N,..] [--repeats N]
                 [--rounds N] [--most-seconds S] [--json FILE]
 
-PROGRAM is crates/bench/out/bench where it isn't given. The nodes and the time are those of the plan's
+PROGRAM is crates/bench/out/bench if not given. The nodes and the time are those of the plan's
 line `# ask FROM TO TIME`, of --from, --to and --at, or of a file of questions: a list in JSON of objects with the words
 `plan` (a path, from that file's folder), `from`, `to` and `at`; these plans come after the others. Status 1: a run
 failed, a text was read as another number of routes, or one wasn't verified.
@@ -72,7 +72,7 @@ def figures_of(path, ends, count, text, given):
 
 
 def better_of(first, again):
-    """The lesser figures of two rounds; how a run ended where one did that has none."""
+    """The lesser figures of two rounds; or how a run without figures ended."""
     if isinstance(first, str) or isinstance(again, str):
         return again if isinstance(again, str) else first
     return {what: figure if figure is None else min(figure, again[what]) for what, figure in first.items()}
@@ -92,7 +92,7 @@ def read_words():
     words.add_argument("program", nargs="?", default=BUILT)
     listing.add_questions(words)
     words.add_argument("--counts", type=plans.numbers, default=COUNTS, help="joined by commas")
-    words.add_argument("--rounds", type=int, default=1, help="so often over all plans, where the machine's speed goes up and down")
+    words.add_argument("--rounds", type=int, default=1, help="how often over all plans, if the machine's speed goes up and down")
     measure.add_run_words(words)
     return words.parse_args()
 

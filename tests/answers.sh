@@ -1,6 +1,6 @@
 #!/usr/bin/env bash
 # Tries tools/latest and tools/report: over the worked plans, with answers that were worked out by hand, and over stubs
-# in the place of the program. Its last line is 'N passed, M failed'.
+# in place of the program. Its last line is 'N passed, M failed'.
 #
 #     tests/answers.sh [PROGRAM]      the program; the one that this clone built if not given
 set -u

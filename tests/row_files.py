@@ -55,7 +55,7 @@ class Section:
     rows: list = field(default_factory=list)
 
     def lines(self):
-        """For each line of its tables with each of the others: what tells it, and a speller that knows its cells."""
+        """For each line of its tables with each of the others: what names it, and a speller that knows its cells."""
         for lines in itertools.product(*self.tables):
             named = dict(self.named)
             for _, cells in lines:
@@ -91,7 +91,7 @@ def numbers_of(cell):
 
 
 def table_of(item):
-    """The lines of a table: of each what tells it from the others, and its cells by their names."""
+    """The lines of a table: for each, what distinguishes it from the others, and its cells by their names."""
     names = cells_of(item.rest)
     table = []
     for number, line in enumerate(item.below, item.number + 1):
@@ -134,7 +134,7 @@ def takes_no_row(_, item):
 
 
 def paths_in(folder):
-    """The files of rows in a folder, without the one of the shared texts."""
+    """The files of rows in a folder, without that of the shared texts."""
     return sorted({os.path.relpath(it, TOP) for it in glob.glob(f"{TOP}/{folder}/*.txt")} - {SHARED})
 
 
@@ -184,7 +184,7 @@ class Speller:
         return int(limit if limit.isdigit() else self.text_named(limit))
 
     def repeated(self, name, first, last, raw):
-        """A line for each number, for which the name stands; with `.next` behind it, for the number after."""
+        """A line for each number, for which the name stands; with `.next` after it, for the next number."""
         speller = Speller(dict(self.named))
         for number in range(int(first), int(last) + 1):
             speller.named[name] = Named((f"{number}\\",))

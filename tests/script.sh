@@ -1,5 +1,5 @@
 #!/usr/bin/env bash
-# Tries the script `cgrlist` in a clone of its own, with a stub in the place of `rt`: when it builds, what it shows, and
+# Tries the script `cgrlist` in a clone of its own, with a stub in place of `rt`: when it builds, what it shows, and
 # that no failed step ends in a run of an old program. Its last line is 'N passed, M failed'.
 set -u
 

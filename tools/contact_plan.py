@@ -32,7 +32,7 @@ WORDS_STATUS, PLAN_STATUS, FILE_STATUS, START_STATUS = 2, 3, 5, 125  # as the pr
 
 
 class Refused(Exception):
-    """A tool can't do what it was asked for: the message, None where it was told already, and the tool's status."""
+    """A tool can't do what it was asked for: the message, None if it was printed already, and the tool's status."""
 
     def __init__(self, message, status=1):
         super().__init__(message)
@@ -218,7 +218,7 @@ class Hop:
 
 @dataclass(frozen=True)
 class Route:
-    """A route as the program prints it; its hops only where the program explained it."""
+    """A route as the program prints it; with its hops only if the program explained it."""
 
     rank: int
     delivery: int
@@ -412,7 +412,7 @@ def add_names_word(parser):
 
 
 class Words(argparse.ArgumentParser):
-    """A parser of a tool's command line, whose help is the tool's own text. A bad word is told in one line."""
+    """A parser of a tool's command line, whose help is the tool's own text. A bad word has a message of one line."""
 
     def __init__(self, text):
         shape = argparse.RawDescriptionHelpFormatter
@@ -447,7 +447,7 @@ def run_tool(name, tool):
 
 
 def _give_up(name, message, status):
-    """Ends a tool, with one line that says why if it wasn't told already."""
+    """Ends a tool, with one line that says why, unless it was printed already."""
     if message is not None:
         line = "".join(it if it.isprintable() else repr(it)[1:-1] for it in message)
         print(f"{name}: {line}", file=sys.stderr)
