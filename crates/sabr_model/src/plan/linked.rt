@@ -20,7 +20,7 @@ pub use outgoing::Outgoing;
 pub use senders::Senders;
 use std::alloc::Allocator;
 
-/// What a ready plan keeps of one node: its links, and the passes over which they lie.
+/// What a ready plan keeps of one node: its links and their passes.
 #[derive(Drop)]
 pub struct NodeLinks<A: Allocator + Copy> {
     pub links: Vec<Link, A>,
@@ -28,7 +28,7 @@ pub struct NodeLinks<A: Allocator + Copy> {
 }
 
 impl<A: Allocator + Copy> Plan<A> {
-    /// Gives the links of the node at an index of the table; none where the plan isn't ready.
+    /// The links of the node at an index of the table, or none if the plan isn't ready.
     pub fn links(&self, index: usize) -> Option<Links<'_>>
         requires { index < length self.now.table }
         ensures { IfSome result (λ l. (node : ℕ) → slice_get self.now.table index ≡ Some node → AreLinksOf self.now node l.links.now l.passes.now) }
@@ -45,7 +45,7 @@ impl<A: Allocator + Copy> Plan<A> {
         }
     }
 
-    /// Gives the links to the node at an index of the table, each with its sender; none where the plan isn't ready.
+    /// The links to the node at an index of the table, each with its sender, or none if the plan isn't ready.
     pub fn senders(&self, index: usize) -> Option<Senders<'_, A>>
         requires { index < length self.now.table }
         ensures { IfSome result (λ s. (node : ℕ) → slice_get self.now.table index ≡ Some node → AreLinksTo self.now node s) }

@@ -26,11 +26,13 @@ use std::alloc::{AllocError, Allocator};
 use std::mem;
 
 impl<A: Allocator + Copy> Plan<A> {
-    /// Makes the plan ready for searches: from then on, until the plan changes, they find what they read of a contact in one
-    /// step. The plan stays as it is; where memory is short searches answer the same, but take longer.
+    /// Makes the plan ready for searches. From then on, until the plan changes, they find what they read of a contact
+    /// in one step. The plan's contacts and ranges stay as they are. When it runs out of memory, searches return the
+    /// same, but take longer.
     ///
-    /// It takes some steps for each contact and node, and a halving or two of one node's ranges for each link, or for a
-    /// contact where those of a link weren't added in order of their starts; only there it sorts the contacts of a node.
+    /// It takes some steps for each contact and node, and a binary search or two of one node's ranges for each link. If
+    /// the contacts of a link weren't added in order of their starts, it takes such a search for each of them, and
+    /// sorts the contacts of that node.
     pub fn make_ready(&mut self) -> Result<(), NoMemory>
         ensures { self.new ≡ self.old }
     {
@@ -41,7 +43,8 @@ impl<A: Allocator + Copy> Plan<A> {
         Ok(())
     }
 
-    /// Forgets the links that were kept, puts the hop of each contact beside it, and answers in which order links are made.
+    /// Forgets the links that were kept, puts the hop of each contact beside it, and returns the order to make links
+    /// in.
     fn put_hops(&mut self) -> Result<ContactOrder<A>, AllocError>
         ensures same { self.new ≡ self.old }
         ensures as_many { IfOk result (λ o. length o.numbers.items ≡ length o.senders) }
@@ -76,7 +79,7 @@ impl<A: Allocator + Copy> Plan<A> {
     }
 }
 
-/// Gives the hop of a contact of the table.
+/// Returns the hop of a contact of the table.
 pub fn hop_of_contact<A: Allocator + Copy>(
     contact: &Contact,
     ranges: &[Range],
@@ -94,7 +97,7 @@ pub fn hop_of_contact<A: Allocator + Copy>(
     }
 }
 
-/// Puts the hop of each contact beside it. What is looked up for that goes again before it returns.
+/// Puts the hop of each contact beside it. What it looks up for that is dropped before it returns.
 fn fill<A: Allocator + Copy>(
     alloc: A,
     hops: &mut Vec<Hop, A>,
@@ -136,8 +139,8 @@ fn fill<A: Allocator + Copy>(
     Ok(())
 }
 
-/// Where the guesses of the link between two of so many nodes stand among `slots`. Two links may share a slot, which
-/// only makes their guesses worse.
+/// Where the guesses of the link between two of so many nodes stand among `slots`. Two links may share a slot; then
+/// their guesses are worse, and no answer is wrong.
 fn slot_of_link(from: usize, to: usize, nodes: usize, slots: usize) -> usize
     requires { 0 < slots }
     ensures { result < slots }
@@ -145,7 +148,7 @@ fn slot_of_link(from: usize, to: usize, nodes: usize, slots: usize) -> usize
     from.wrapping_mul(nodes).wrapping_add(to) % slots
 }
 
-/// Gives the ends of each contact: those that are known, or else all looked up.
+/// Returns the ends of each contact: those that are known, or else it looks all of them up.
 fn all_ends<A: Allocator + Copy>(
     alloc: A,
     known: Vec<Ends, A>,

@@ -1,4 +1,4 @@
-//! Where the ranges of each node stand among all, so that a light time is looked for among those of one node.
+//! Where the ranges of each node stand among all, so that a light time is looked for only among those of one node.
 
 ghost use Rattle.std.specs.Prelude.{◌≡◌, ◌<◌, ◌≤◌, ◌==◌, ℕ, IfOk, length, nat_eq, slice_index_or, if◌then◌else◌};
 ghost use Rattle.indexmap.specs.IndexMap.{IsUnique, keys};
@@ -19,7 +19,7 @@ pub struct Stretch {
     pub end: usize,
 }
 
-/// Gives by index of the table the stretch of the ranges that are written from each node.
+/// Returns, by index of the table, the stretch of the ranges that are written from each node.
 pub fn stretches_of<A: Allocator + Copy>(
     alloc: A,
     ranges: &[Range],
@@ -41,7 +41,7 @@ pub fn stretches_of<A: Allocator + Copy>(
     Ok(stretches)
 }
 
-/// Gives the place behind those from `first` on that are written from its node.
+/// Returns the place after those from `first` on that are written from its node.
 fn end_of_run(ranges: &[Range], first: usize) -> usize
     requires { first < length ranges.now }
     ensures behind { first < result }
@@ -56,7 +56,7 @@ fn end_of_run(ranges: &[Range], first: usize) -> usize
     end
 }
 
-/// Makes a stretch, and a run of ranges behind it.
+/// Returns a stretch with a run of ranges added at its end.
 fn with_run(stretch: Stretch, first: usize, end: usize) -> Stretch
     ensures { result ≡ record { first = if stretch.end == 0 then first else stretch.first; end = end } }
 {
@@ -70,8 +70,8 @@ fn with_run(stretch: Stretch, first: usize, end: usize) -> Stretch
     }
 }
 
-/// The light time of the range of this ordered pair that is in force at `t`, where the ranges from `one` stand in the
-/// stretch, and a guess where those in force soon after `t` stand, made with such a guess.
+/// Returns the light time of the range of this ordered pair that is in force at `t`, and a guess where those in force
+/// soon after `t` stand. The ranges from `one` stand in the stretch. It takes such a guess, too.
 pub fn light_in_stretch(
     ranges: &[Range],
     stretch: Stretch,

@@ -13,7 +13,7 @@ use crate::plan::Plan;
 use crate::plan::order::ContactOrder;
 use std::alloc::{AllocError, Allocator};
 
-/// Gives the links of each node of the table.
+/// Makes the links of each node of the table.
 pub fn link_nodes<A: Allocator + Copy>(
     alloc: A,
     plan: &Plan<A>,
@@ -39,7 +39,7 @@ pub fn link_nodes<A: Allocator + Copy>(
     Ok(linked)
 }
 
-/// The links over the contacts of these numbers.
+/// Makes the links over the contacts of these numbers.
 pub fn links_of_numbers<A: Allocator + Copy>(
     alloc: A,
     plan: &Plan<A>,
@@ -53,7 +53,7 @@ pub fn links_of_numbers<A: Allocator + Copy>(
     Ok(NodeLinks { links, passes })
 }
 
-/// Gives the passes of those contacts of these numbers that have a light time.
+/// Makes the passes of those contacts of these numbers that have a light time.
 fn passes_of<A: Allocator + Copy>(
     alloc: A,
     plan: &Plan<A>,
@@ -72,7 +72,7 @@ fn passes_of<A: Allocator + Copy>(
     Ok(passes)
 }
 
-/// Gives the pass of the contact of a number, bounded by itself alone; none where it has no light time.
+/// Makes the pass of the contact of a number, bounded by itself alone, or none if it has no light time.
 fn pass_of<A: Allocator + Copy>(plan: &Plan<A>, number: u32) -> Option<Pass>
     ensures { MatchOption result (HasNoLight plan.now number) (λ x. (x.number ≡ number) × IsContactPass plan.now x × IsBounded x) }
 {

@@ -1,4 +1,4 @@
-//! Links in chains, one chain for each receiver: how those that lead to a node are found in one pass.
+//! Links in chains, one chain for each receiver, so that one pass finds those that lead to each node.
 
 ghost use Rattle.std.specs.Prelude.{◌≡◌, ◌<◌, ◌+◌, ◌++◌, ◌∷◌, [], ℕ, Some, IfOk, OnOk, length, slice_get, slice_index};
 ghost use Rattle.sabr_model.specs.declared.plan.linked.chains.Chained.{Chained};
@@ -7,8 +7,7 @@ ghost use Rattle.sabr_model.specs.Incoming.{AreChains, AreChained, HaveReceivers
 use super::NodeLinks;
 use std::alloc::{AllocError, Allocator};
 
-/// A link: its sender, its place among the sender's links, its receiver, and one more than the place of the link before
-/// it in the chain of those to its receiver, 0 at the chain's end.
+/// A link in the chain of its receiver.
 #[derive(Clone, Copy)]
 pub struct Chained {
     /// The index of its sender.
@@ -21,15 +20,15 @@ pub struct Chained {
     pub next: u32,
 }
 
-/// The links of all nodes in chains, and for each node one more than the place where the chain of those to it begins, 0
-/// where none leads to it.
+/// The links of all nodes in chains, and for each node one more than the place where its chain begins, 0 if no link
+/// leads to it.
 #[derive(Drop)]
 pub struct Chains<A: Allocator + Copy> {
     pub chained: Vec<Chained, A>,
     pub heads: Vec<u32, A>,
 }
 
-/// Gives the links of all nodes in chains.
+/// Puts the links of all nodes into chains.
 pub fn chain_links<A: Allocator + Copy>(
     alloc: A,
     linked: &[NodeLinks<A>],
@@ -97,7 +96,7 @@ fn chain_link<A: Allocator + Copy>(
     Ok(())
 }
 
-/// Gives a number in 32 bits. An error where it doesn't fit, which takes a plan of more than 4000000000 nodes or links.
+/// Returns a number in 32 bits, or an error if it doesn't fit, as in a plan of more than 4000000000 nodes or links.
 pub fn narrow(number: usize) -> Result<u32, AllocError>
     ensures { IfOk result (λ n. n ≡ number) }
 {

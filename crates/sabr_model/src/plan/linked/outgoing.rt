@@ -11,7 +11,7 @@ use crate::link::Links;
 use crate::plan::Plan;
 use std::alloc::{Allocator, Global};
 
-/// The links of one node: those that a ready plan keeps, or links that were made for one who asked.
+/// The links of one node: those that a ready plan keeps, or links that were made for one call.
 #[derive(Drop)]
 pub enum Outgoing<'a, A: Allocator + Copy = Global> {
     Kept(Links<'a>),
@@ -19,7 +19,7 @@ pub enum Outgoing<'a, A: Allocator + Copy = Global> {
 }
 
 impl<'a, A: Allocator + Copy> Outgoing<'a, A> {
-    /// Gives the links, and the passes over which they lie.
+    /// The links and their passes.
     pub fn all(&self) -> Links<'_>
         ensures links { result.links.now ≡ links_in self.now }
         ensures passes { result.passes.now ≡ passes_in self.now }
@@ -35,8 +35,8 @@ impl<'a, A: Allocator + Copy> Outgoing<'a, A> {
 }
 
 impl<A: Allocator + Copy> Plan<A> {
-    /// Gives the links of the node at an index of the table. A plan that isn't ready makes them for each call, and only
-    /// then does this take memory.
+    /// Returns the links of the node at an index of the table. A plan that isn't ready makes them for each call, and
+    /// only then does this take memory.
     pub fn outgoing(&self, index: usize) -> Result<Outgoing<'_, A>, NoMemory>
         requires { index < length self.now.table }
         ensures { IfOk result (λ o. (node : ℕ) → slice_get self.now.table index ≡ Some node → AreLinksOf self.now node (links_in o) (passes_in o)) }

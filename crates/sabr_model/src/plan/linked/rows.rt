@@ -1,4 +1,4 @@
-//! The links that lie over passes in order of their receivers.
+//! The links over passes that are in order of their receivers.
 
 ghost use Rattle.std.specs.Prelude.{◌≡◌, ◌+◌, ◌-◌, ◌<◌, ◌≤◌, ℕ, IfOk, length, slice_index_or};
 ghost use Rattle.sabr_model.specs.declared.link.Pass.{Pass};
@@ -7,7 +7,7 @@ ghost use Rattle.sabr_model.specs.Linking.{AreRows};
 use crate::link::{Link, LinkBounds, Pass};
 use std::alloc::{AllocError, Allocator};
 
-/// Gives the links over passes: one over each row of passes that have one receiver.
+/// Makes the links over passes: one over each row of passes to one receiver.
 pub fn links_over<A: Allocator + Copy>(
     alloc: A,
     passes: &[Pass],
@@ -29,8 +29,8 @@ pub fn links_over<A: Allocator + Copy>(
     Ok(links)
 }
 
-/// Tells what bounds the passes of a link, from `first` up to `end`: the last of them tells the greatest end of all,
-/// and the first the least start and the least light time.
+/// Returns what bounds the passes of a link, from `first` up to `end`. The last pass has the greatest end of all, and
+/// the first the least start and the least light time.
 fn bounds_of_row(passes: &[Pass], first: usize, end: usize) -> LinkBounds
     requires filled { first < end }
     requires within { end ≤ length passes.now }
@@ -49,7 +49,7 @@ fn bounds_of_row(passes: &[Pass], first: usize, end: usize) -> LinkBounds
     }
 }
 
-/// Gives the place behind those from `first` on that have its receiver.
+/// Returns the place after those from `first` on that have its receiver.
 fn end_of_row(passes: &[Pass], first: usize) -> usize
     requires { first < length passes.now }
     ensures behind { first < result }

@@ -1,4 +1,4 @@
-//! The links to a node, as a search reads them that goes backward.
+//! The links to a node, as a search reads them that goes backward from the goal.
 
 ghost use Rattle.std.specs.Prelude.{◌≡◌, ◌<◌, [], Some, length, slice_get};
 ghost use Rattle.sabr_model.specs.Links.{AreWithin};
@@ -36,7 +36,7 @@ impl<'a, A: Allocator + Copy> Model for Senders<'a, A> {
 }
 
 impl<'a, A: Allocator + Copy> Senders<'a, A> {
-    /// The links that are named among those of all nodes.
+    /// Makes the list of the links that are named, among those of all nodes.
     pub(super) fn over(incoming: &'a [Incoming], linked: &'a [NodeLinks<A>]) -> Senders<'a, A>
         requires { AllLieOver linked.now }
         ensures { result ≡ links_named linked.now incoming.now }
@@ -44,14 +44,14 @@ impl<'a, A: Allocator + Copy> Senders<'a, A> {
         Senders { incoming, linked }
     }
 
-    /// Tells how many links lead to the node.
+    /// How many links lead to the node.
     pub fn len(&self) -> usize
         ensures { result ≡ length self.now }
     {
         self.incoming.len()
     }
 
-    /// Gives the link at a place.
+    /// The link at a place.
     pub fn at(&self, place: usize) -> Sender<'a>
         requires { place < length self.now }
         ensures link { slice_get self.now place ≡ Some (record { sender = result.node; passes = result.passes.now }) }
@@ -64,7 +64,7 @@ impl<'a, A: Allocator + Copy> Senders<'a, A> {
     }
 }
 
-/// Gives the link that is named.
+/// The link that is named.
 fn sender_named<A: Allocator + Copy>(linked: &[NodeLinks<A>], named: Incoming) -> Sender<'_>
     requires { AllLieOver linked.now }
     ensures sender { result.node ≡ named.sender }
@@ -77,7 +77,7 @@ fn sender_named<A: Allocator + Copy>(linked: &[NodeLinks<A>], named: Incoming) -
     }
 }
 
-/// Gives the link that is named, among those of its sender.
+/// The link that is named, among those of its sender.
 fn sender_at<A: Allocator + Copy>(node: &NodeLinks<A>, named: Incoming) -> Sender<'_>
     requires { LieOver node.now }
     ensures sender { result.node ≡ named.sender }
@@ -94,7 +94,7 @@ fn sender_at<A: Allocator + Copy>(node: &NodeLinks<A>, named: Incoming) -> Sende
     }
 }
 
-/// Gives a link from a node without passes.
+/// A link from a node without passes.
 fn no_passes<'a>(node: usize) -> Sender<'a>
     ensures sender { result.node ≡ node }
     ensures passes { result.passes.now ≡ [] }
@@ -111,7 +111,7 @@ fn no_passes<'a>(node: usize) -> Sender<'a>
     }
 }
 
-/// Gives the passes over which a link lies.
+/// The passes of a link.
 fn passes_over<'a>(passes: &'a [Pass], link: &Link) -> &'a [Pass]
     requires { LiesOver passes.now link.now }
     ensures { result.now ≡ passes_over passes.now link.now }
