@@ -1,6 +1,6 @@
 -- Contacts that are gathered with what no two of them share; and ranges that are gathered in any order, most in their
 -- places, and the latest beside them.
-use Rattle.std.specs.Prelude.{◌≡◌, ℕ, ◌≤◌, Bool, false, true, List, [], ◌∷◌, ◌++◌, ⊤, map}
+use Rattle.std.specs.Prelude.{◌≡◌, ℕ, ◌≤◌, Bool, false, true, nat_lt, List, [], ◌∷◌, ◌++◌, ⊤, map}
 use Rattle.std.specs.List.{list_any, AllByRecursion}
 use Rattle.std.specs.List.Sorted.{IsStrictlySortedBy}
 use Rattle.std.specs.declared.cmp.Ordering.{Ordering}
@@ -63,6 +63,10 @@ plan_of_ranges ranges = record { contacts = []; ranges = ranges; greatest = 0 }
 -- the ranges in their places, and the latest put among them
 abbrev pub gathered : List Range → List Range → List Range
 gathered placed late = put_all by_range_key late placed
+
+-- the range ends after a pair and second, given as a number, in the order of ranges
+abbrev pub ends_after : ℕ → Range → Bool
+ends_after number r = nat_lt number (place_number r.one r.other r.end)
 
 -- ranges in order, and others in order that share no second of a pair with them
 pub record AreTwoLists (placed late : List Range) : Type 0 where
