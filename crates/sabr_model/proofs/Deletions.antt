@@ -19,7 +19,7 @@ module _ {X : Type 0} where
       elim (t x) as (λ b. AllByRecursion P (cond b (x ∷ filter t xs) (filter t xs))) [ true ↦ (all.0, all_filter P t xs all.1) | false ↦ all_filter P t xs all.1 ]
 
   -- if no element passes a test, none of a filtered list does
-  any_filter : (p t : X → Bool) (xs : List X) → list_any p xs ≡ false → list_any p (filter t xs) ≡ false
+  pub any_filter : (p t : X → Bool) (xs : List X) → list_any p xs ≡ false → list_any p (filter t xs) ≡ false
   any_filter p t [] none = refl
   any_filter p t (x ∷ xs) none =
       let parts = or_parts (p x) (list_any p xs) none in

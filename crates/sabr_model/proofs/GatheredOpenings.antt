@@ -1,16 +1,16 @@
 -- What no two gathered contacts share, as the set beside them has it.
-use Rattle.std.proofs.Common.{◌≡◌, ℕ, ◌<◌, Bool, true, false, cond, ◌&&◌, ◌||◌, not, eqb, List, [], ◌∷◌, ◌++◌, refl, sym, ap, ◌∙◌}
-use Rattle.std.specs.List.{filter, list_any}
+use Rattle.std.proofs.Common.{◌≡◌, ℕ, zero, suc, ◌<◌, ◌≤◌, Bool, true, false, cond, ◌&&◌, ◌||◌, not, eqb, List, [], ◌∷◌, ◌++◌, length, get_or, refl, sym, ap, subst, ◌∙◌, arith}
+use Rattle.std.specs.List.{filter, list_any, AllByRecursion}
 use Rattle.std.proofs.lemmas.List.{map-append}
 use Rattle.sabr_model.specs.declared.contact.Contact.{Contact}
 use Rattle.sabr_model.specs.declared.opening.Opening.{Opening}
-use Rattle.std.proofs.lemmas.Bool.{lt-leb, ne_eqb}
+use Rattle.std.proofs.lemmas.Bool.{lt-leb, ne_eqb, and_parts, eqb-true, false_from_ne_true}
 use Rattle.std.specs.declared.option.Option.TheVariants.{Some, None}
-use Rattle.sabr_model.specs.declared.fault.AddFault.{AddFault}
 use Rattle.sabr_model.specs.declared.fault.AddFault.TheVariants.{DuplicateContact}
 use Rattle.sabr_model.specs.Plan.{ContactPlan, opens}
 use Rattle.sabr_model.specs.Adding.{contact_refusal}
-use Rattle.sabr_model.specs.Gathering.{openings_of}
+use Rattle.sabr_model.specs.Gathering.{opening_of, openings_of, opening_number, KnowsFirst, KnowsSome}
+use Rattle.sabr_model.proofs.PlanLemmas.{all_push, all_weaker}
 
 -- and, grouped the other way
 and_assoc : (a b c : Bool) → (a && (b && c)) ≡ ((a && b) && c)
@@ -44,6 +44,82 @@ openings_fewer from to start (c ∷ cs) =
       | false ↦ rest
     ]
 
+-- ---- the openings of the first contacts
+
+-- a set after the insertion of one that it hasn't
+pub set_more : {X : Type 0} (known : List X) (x : X) (b : Bool) (new : List X) → new ≡ cond b known (known ++ x ∷ []) → b ≡ false → new ≡ known ++ x ∷ []
+set_more known x b new is none = is ∙ ap (λ t. cond t known (known ++ x ∷ [])) none
+
+-- and of one that it has
+pub set_same : {X : Type 0} (known : List X) (x : X) (b : Bool) (new : List X) → new ≡ cond b known (known ++ x ∷ []) → b ≡ true → new ≡ known
+set_same known x b new is there = is ∙ ap (λ t. cond t known (known ++ x ∷ [])) there
+
+-- one contact more
+pub known_more : (os : List Opening) (cs : List Contact) (k : ℕ) (d : Contact) → KnowsFirst os cs → k ≡ length os → k < length cs → KnowsFirst (os ++ opening_of (get_or cs k d) ∷ []) cs
+known_more [] [] k d h e lt = absurd (omega arith)
+known_more [] (c ∷ cs) zero d h e lt = (refl, tt)
+known_more [] (c ∷ cs) (suc k) d h e lt = absurd (omega (arith, e))
+known_more (o ∷ os) [] k d h e lt = absurd h
+known_more (o ∷ os) (c ∷ cs) zero d h e lt = absurd (omega (arith, e))
+known_more (o ∷ os) (c ∷ cs) (suc k) d h e lt = (h.0, known_more os cs k d h.1 (omega (arith, e)) (omega (arith, lt)))
+
+-- of all of them
+pub known_all : (os : List Opening) (cs : List Contact) → KnowsFirst os cs → length cs ≤ length os → os ≡ openings_of cs
+known_all [] [] h le = refl
+known_all [] (c ∷ cs) h le = absurd (omega arith)
+known_all (o ∷ os) [] h le = absurd h
+known_all (o ∷ os) (c ∷ cs) h le = ap (λ x. x ∷ os) h.0 ∙ ap (λ xs. opening_of c ∷ xs) (known_all os cs h.1 (omega (arith, le)))
+
+pub known_these : (cs : List Contact) → KnowsFirst (openings_of cs) cs
+known_these [] = tt
+known_these (c ∷ cs) = (refl, known_these cs)
+
+-- behind them a contact more
+pub known_push : (os : List Opening) (cs : List Contact) (c : Contact) → KnowsFirst os cs → KnowsFirst os (cs ++ c ∷ [])
+known_push [] cs c h = tt
+known_push (o ∷ os) [] c h = absurd h
+known_push (o ∷ os) (d ∷ cs) c h = (h.0, known_push os cs c h.1)
+
+-- of fewer contacts
+pub known_fewer : (from to start : ℕ) (os : List Opening) (cs : List Contact) → KnowsFirst os cs → KnowsFirst (filter (λ o. not ((eqb from o.from && eqb to o.to) && eqb start o.start)) os) (filter (λ c. not (opens from to start c)) cs)
+known_fewer from to start [] cs h = tt
+known_fewer from to start (o ∷ os) [] h = absurd h
+known_fewer from to start (o ∷ os) (c ∷ cs) h =
+    let rest = known_fewer from to start os cs h.1 in
+    let kept = filter (λ (d : Contact). not (opens from to start d)) cs in
+    let left = filter (λ (p : Opening). not ((eqb from p.from && eqb to p.to) && eqb start p.start)) os in
+    subst (λ (p : Opening). KnowsFirst (cond (not ((eqb from p.from && eqb to p.to) && eqb start p.start)) (p ∷ left) left) (cond (not (opens from to start c)) (c ∷ kept) kept)) (sym h.0)
+    (elim (not (opens from to start c)) as (λ b. KnowsFirst (cond b (opening_of c ∷ left) left) (cond b (c ∷ kept) kept)) [ true ↦ (refl, rest) | false ↦ rest ])
+
+-- ---- contacts that open by a last opening
+
+-- none has an opening that comes after it
+pub after_all : (o last : Opening) (cs : List Contact) → AllByRecursion (λ c. opening_number (opening_of c) ≤ opening_number last) cs → opening_number last < opening_number o → list_any (opens o.from o.to o.start) cs ≡ false
+after_all o last [] all lt = refl
+after_all o last (c ∷ cs) all lt =
+    ap (λ b. b || list_any (opens o.from o.to o.start) cs)
+    (false_from_ne_true (opens o.from o.to o.start c) (λ yes.
+    let a = and_parts (eqb o.from c.from && eqb o.to c.to) (eqb o.start c.start) yes in
+    let b = and_parts (eqb o.from c.from) (eqb o.to c.to) a.0 in
+    omega (arith, all.0, lt, eqb-true o.from c.from b.0, eqb-true o.to c.to b.1, eqb-true o.start c.start a.1)))
+    ∙ after_all o last cs all.1 lt
+
+-- a contact that opens after the last opening
+pub some_push_last : (os : List Opening) (last o : Opening) (cs : List Contact) → KnowsSome os last cs → opening_number last < opening_number o → (c : Contact) → opening_of c ≡ o → KnowsSome os o (cs ++ c ∷ [])
+some_push_last os last o cs h lt c is = (
+  known_push os cs c h.0,
+  all_push (λ d. opening_number (opening_of d) ≤ opening_number o) cs c
+      (all_weaker (λ d. opening_number (opening_of d) ≤ opening_number last) (λ d. opening_number (opening_of d) ≤ opening_number o) (λ d le. omega (arith, le, lt)) cs h.1)
+      (let same = ap opening_number is in omega (arith, same)),
+)
+
+-- a contact that opens by then, after all are in the set
+pub some_push : (os : List Opening) (last o : Opening) (cs : List Contact) → KnowsSome os last cs → os ≡ openings_of cs → opening_number o ≤ opening_number last → (c : Contact) → opening_of c ≡ o → KnowsSome (os ++ o ∷ []) last (cs ++ c ∷ [])
+some_push os last o cs h all le c is = (
+  subst (λ xs. KnowsFirst xs (cs ++ c ∷ [])) (sym (ap (λ xs. xs ++ o ∷ []) all ∙ ap (λ x. openings_of cs ++ x ∷ []) (sym is) ∙ openings_push cs c)) (known_these (cs ++ c ∷ [])),
+  all_push (λ d. opening_number (opening_of d) ≤ opening_number last) cs c h.1 (let same = ap opening_number is in omega (arith, same, le)),
+)
+
 -- over a window, between two nodes, and where there is room, a contact is refused as a duplicate or not at all
 module _ (p : ContactPlan) (from to start end : ℕ) (window : start < end) (apart : from ≡ to → ⊥) (room : p.greatest < 20000) where
   refused_by_opening : contact_refusal p from to start end ≡ cond (list_any (opens from to start) p.contacts) (Some DuplicateContact) None
@@ -51,9 +127,3 @@ module _ (p : ContactPlan) (from to start end : ℕ) (window : start < end) (apa
 
   pub new_accepted : list_any (opens from to start) p.contacts ≡ false → contact_refusal p from to start end ≡ None
   new_accepted new = refused_by_opening ∙ ap (λ b. cond b (Some DuplicateContact) None) new
-
-  pub new_not_refused : (f : AddFault) → list_any (opens from to start) p.contacts ≡ false → contact_refusal p from to start end ≡ Some f → ⊥
-  new_not_refused f new e = let same : None ≡ Some f = sym (new_accepted new) ∙ e in absurd cc
-
-  pub old_not_accepted : list_any (opens from to start) p.contacts ≡ true → contact_refusal p from to start end ≡ None → ⊥
-  old_not_accepted old e = let same : None ≡ Some DuplicateContact = sym e ∙ refused_by_opening ∙ ap (λ b. cond b (Some DuplicateContact) None) old in absurd cc

@@ -35,13 +35,13 @@ or_assoc false b c = refl
 
 module _ {X : Type 0} (cmp : X → X → Ordering) where
   -- where a put goes, by how it compares with the first
-  put_less : (x y : X) (ys : List X) → cmp x y ≡ Less → put_in cmp x (y ∷ ys) ≡ x ∷ y ∷ ys
+  pub put_less : (x y : X) (ys : List X) → cmp x y ≡ Less → put_in cmp x (y ∷ ys) ≡ x ∷ y ∷ ys
   put_less x y ys e = ap (λ o. elim o as (λ _. List X) [ Less ↦ x ∷ y ∷ ys | Equal ↦ y ∷ ys | Greater ↦ y ∷ put_in cmp x ys ]) e
 
   put_equal : (x y : X) (ys : List X) → cmp x y ≡ Equal → put_in cmp x (y ∷ ys) ≡ y ∷ ys
   put_equal x y ys e = ap (λ o. elim o as (λ _. List X) [ Less ↦ x ∷ y ∷ ys | Equal ↦ y ∷ ys | Greater ↦ y ∷ put_in cmp x ys ]) e
 
-  put_greater : (x y : X) (ys : List X) → cmp x y ≡ Greater → put_in cmp x (y ∷ ys) ≡ y ∷ put_in cmp x ys
+  pub put_greater : (x y : X) (ys : List X) → cmp x y ≡ Greater → put_in cmp x (y ∷ ys) ≡ y ∷ put_in cmp x ys
   put_greater x y ys e = ap (λ o. elim o as (λ _. List X) [ Less ↦ x ∷ y ∷ ys | Equal ↦ y ∷ ys | Greater ↦ y ∷ put_in cmp x ys ]) e
 
   -- before all others
@@ -50,7 +50,7 @@ module _ {X : Type 0} (cmp : X → X → Ordering) where
   put_front x (y ∷ ys) all = put_less x y ys all.0
 
   -- what holds of all
-  all_put_all : (P : X → Type 0) (xs ys : List X) → AllByRecursion P xs → AllByRecursion P ys → AllByRecursion P (put_all cmp xs ys)
+  pub all_put_all : (P : X → Type 0) (xs ys : List X) → AllByRecursion P xs → AllByRecursion P ys → AllByRecursion P (put_all cmp xs ys)
   all_put_all P [] ys a b = b
   all_put_all P (x ∷ xs) ys a b = all_put cmp P x (put_all cmp xs ys) a.0 (all_put_all P xs ys a.1 b)
 
@@ -82,7 +82,7 @@ module _ {X : Type 0} (cmp : X → X → Ordering) where
 
   module _ (total : IsTotalOrder cmp) where
     -- the other way round
-    turned : (x y : X) → cmp x y ≡ Less → cmp y x ≡ Greater
+    pub turned : (x y : X) → cmp x y ≡ Less → cmp y x ≡ Greater
     turned x y e = total.antisymm y x ∙ ap ordering_reverse e
 
     turned_back : (x y : X) → cmp x y ≡ Greater → cmp y x ≡ Less
@@ -122,7 +122,7 @@ module _ {X : Type 0} (cmp : X → X → Ordering) where
 
 -- ---- ranges
 
-order_total : IsTotalOrder by_range_key
+pub order_total : IsTotalOrder by_range_key
 order_total = on_total range_key nat_list_cmp_total
 
 -- a range that overlaps none ties with none
@@ -205,12 +205,12 @@ all_placed_or_not (Ok u) placed late latest placed_then late_then latest_then h 
 all_placed_or_not (Err f) placed late latest placed_then late_then latest_then h a b c d e = rw (d, e.1) ((h, e.0), refl)
 
 -- one is false where both together are
-or_false : (a b : Bool) → (a || b) ≡ false → (a ≡ false) × (b ≡ false)
+pub or_false : (a b : Bool) → (a || b) ≡ false → (a ≡ false) × (b ≡ false)
 or_false true b e = absurd cc
 or_false false b e = (refl, e)
 
 -- what is not refused
-chosen : (a b c d : Bool) → a ≡ false → b ≡ false → c ≡ false → d ≡ false → cond a (Some EmptyWindow) (cond b (Some SelfPair) (cond c (Some RangeOverlap) (cond d (Some TooMany) None))) ≡ None
+pub chosen : (a b c d : Bool) → a ≡ false → b ≡ false → c ≡ false → d ≡ false → cond a (Some EmptyWindow) (cond b (Some SelfPair) (cond c (Some RangeOverlap) (cond d (Some TooMany) None))) ≡ None
 chosen a b c d p q r s = rw (p, q, r, s) refl
 
 module _ (placed late : List Range) (h : AreGathered placed late) (r : Range) (accept : range_refusal (plan_of_ranges (gathered placed late)) r ≡ None) where

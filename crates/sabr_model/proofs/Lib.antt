@@ -19,6 +19,7 @@ pub mod Tabled
 pub mod TableSteps
 pub mod RangeKeys
 pub mod Gathers
+pub mod LastRanges
 pub mod RangeChains
 pub mod GatheredOpenings
 pub mod ReadyLemmas

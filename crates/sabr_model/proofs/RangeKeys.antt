@@ -23,7 +23,7 @@ use Rattle.sabr_model.proofs.RangeLemmas.{all_at, accepted_range, same_key_overl
 -- ---- keys as numbers
 
 -- how less numbers compare
-cmp_less : (a b : ℕ) → a < b → nat_cmp a b ≡ Less
+pub cmp_less : (a b : ℕ) → a < b → nat_cmp a b ≡ Less
 cmp_less a b lt = ap (λ t. cond t Less (cond (eqb a b) Equal Greater)) (lt-ltb a b lt)
 
 -- how greater numbers compare

@@ -51,7 +51,7 @@ and_assoc true b c = refl
 and_assoc false b c = refl
 
 -- overlap is symmetric
-overlap_flip : (a b : Range) → overlap a b ≡ overlap b a
+pub overlap_flip : (a b : Range) → overlap a b ≡ overlap b a
 overlap_flip a b =
     ap (λ x. x && eqb a.other b.other && ltb a.start b.end && ltb b.start a.end) (eqb_flip a.one b.one)
     ∙ ap (λ x. eqb b.one a.one && x && ltb a.start b.end && ltb b.start a.end) (eqb_flip a.other b.other)
@@ -60,7 +60,7 @@ overlap_flip a b =
     ∙ sym (and_assoc (eqb b.one a.one && eqb b.other a.other) (ltb b.start a.end) (ltb a.start b.end))
 
 module _ {X : Type 0} (cmp : X → X → Ordering) where
-  any_put : (p : X → Bool) (x : X) (ys : List X) → p x ≡ false → list_any p ys ≡ false → list_any p (put_in cmp x ys) ≡ false
+  pub any_put : (p : X → Bool) (x : X) (ys : List X) → p x ≡ false → list_any p ys ≡ false → list_any p (put_in cmp x ys) ≡ false
   any_put p x [] one none = or_from (p x) false one refl
   any_put p x (y ∷ ys) one none =
       let parts = or_parts (p y) (list_any p ys) none in

@@ -1,19 +1,26 @@
 -- Contacts that are gathered with what no two of them share; and ranges that are gathered in any order, most in their
 -- places, and the latest beside them.
-use Rattle.std.specs.Prelude.{◌≡◌, ℕ, Bool, false, true, List, [], ◌∷◌, map}
+use Rattle.std.specs.Prelude.{◌≡◌, ℕ, ◌≤◌, Bool, false, true, nat_lt, List, [], ◌∷◌, ◌++◌, ⊤, map}
 use Rattle.std.specs.List.{list_any, AllByRecursion}
 use Rattle.std.specs.List.Sorted.{IsStrictlySortedBy}
 use Rattle.std.specs.declared.cmp.Ordering.{Ordering}
+use Rattle.std.specs.declared.option.Option.{Option}
+use Rattle.std.specs.declared.option.Option.TheVariants.{Some, None}
 use Rattle.sabr_model.specs.declared.contact.Contact.{Contact}
 use Rattle.sabr_model.specs.declared.contact.Range.{Range}
 use Rattle.sabr_model.specs.declared.opening.Opening.{Opening}
 use Rattle.sabr_model.specs.Order.{by_numbers, put_in}
-use Rattle.sabr_model.specs.Plan.{ContactPlan, IsPlan, IsWindow, overlap, range_key}
+use Rattle.sabr_model.specs.Plan.{ContactPlan, IsPlan, IsWindow, opens, overlap, range_key}
 use Rattle.sabr_model.specs.Adding.{by_range_key}
+use Rattle.sabr_model.specs.RangeOrder.{place_number}
 
 -- contacts alone and the greatest number given, as a plan without ranges
 abbrev pub plan_of_contacts : List Contact → ℕ → ContactPlan
 plan_of_contacts contacts greatest = record { contacts = contacts; ranges = []; greatest = greatest }
+
+-- the sender, the receiver and the start of a contact
+abbrev pub opening_of : Contact → Opening
+opening_of c = record { from = c.from; to = c.to; start = c.start }
 
 -- the sender, the receiver and the start of each contact
 abbrev pub openings_of : List Contact → List Opening
@@ -22,6 +29,27 @@ openings_of contacts = map (λ c. record { from = c.from; to = c.to; start = c.s
 -- where the set is kept, it has what no two of the contacts share
 abbrev pub KnowsOpenings : Bool → List Opening → List Contact → Type 0
 KnowsOpenings kept known contacts = kept ≡ true → known ≡ openings_of contacts
+
+-- an opening as one number: by start, then by sender and receiver
+abbrev pub opening_number : Opening → ℕ
+opening_number o = place_number o.start o.from o.to
+
+-- the openings are those of the first contacts
+abbrev pub KnowsFirst : List Opening → List Contact → Type 0
+KnowsFirst [] cs = ⊤
+KnowsFirst (o ∷ os) [] = ⊥
+KnowsFirst (o ∷ os) (c ∷ cs) = (o ≡ opening_of c) × KnowsFirst os cs
+
+-- the openings are those of the first contacts, and no contact opens after the last one
+abbrev pub KnowsSome : List Opening → Opening → List Contact → Type 0
+KnowsSome known last contacts = KnowsFirst known contacts × AllByRecursion (λ c. opening_number (opening_of c) ≤ opening_number last) contacts
+
+-- an opening that no contact has was noted, one that a contact has was found, or neither
+abbrev pub IsNoted : List Contact → Opening → Option Bool → List Opening → Opening → Type 0
+IsNoted contacts o (Some true) known last =
+    (list_any (opens o.from o.to o.start) contacts ≡ false) × ((c : Contact) → opening_of c ≡ o → KnowsSome known last (contacts ++ c ∷ []))
+IsNoted contacts o (Some false) known last = (list_any (opens o.from o.to o.start) contacts ≡ true) × KnowsSome known last contacts
+IsNoted contacts o None known last = KnowsSome known last contacts
 
 -- elements put into a list, one after the other
 abbrev pub put_all : {X : Type 0} → (X → X → Ordering) → List X → List X → List X
@@ -35,6 +63,10 @@ plan_of_ranges ranges = record { contacts = []; ranges = ranges; greatest = 0 }
 -- the ranges in their places, and the latest put among them
 abbrev pub gathered : List Range → List Range → List Range
 gathered placed late = put_all by_range_key late placed
+
+-- the range ends after a pair and second, given as a number, in the order of ranges
+abbrev pub ends_after : ℕ → Range → Bool
+ends_after number r = nat_lt number (place_number r.one r.other r.end)
 
 -- ranges in order, and others in order that share no second of a pair with them
 pub record AreTwoLists (placed late : List Range) : Type 0 where

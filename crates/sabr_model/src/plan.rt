@@ -9,6 +9,7 @@ mod gathered;
 mod gathered_contacts;
 mod gathered_ranges;
 mod grouping;
+mod known_openings;
 mod latest_ranges;
 mod light;
 mod linked;

@@ -8,36 +8,34 @@ ghost use Rattle.sabr_model.specs.declared.fault.AddFault.TheVariants.{NoMemory,
 ghost use Rattle.sabr_model.specs.Adding.{next_contact, contact_refusal, with_contact, number_of_opening, without_contact};
 
 use super::delete::contact_of_opening;
+use super::known_openings::KnownOpenings;
 use super::refusals::refusal;
 use crate::contact::Contact;
 use crate::fault::AddFault;
 use crate::limits::MOST_RECORDS;
 use crate::opening::Opening;
-use indexmap::IndexSet;
 use std::alloc::{Allocator, Global};
-use std::hash::{BuildHasherDefault, FoldHasher};
 use std::marker::Model;
 
 /// Contacts that obey the rules of a plan's contacts, by number, and the greatest number that was given.
 ///
-/// What no two of them share stands in a set beside them, so that a duplicate is found in one step.
+/// Their openings are known beside them, so that a duplicate is found in one step.
 #[derive(Drop)]
 pub struct GatheredContacts<A: Allocator + Copy = Global> {
     contacts: Vec<Contact, A>,
-    openings: IndexSet<Opening, BuildHasherDefault<FoldHasher>, A>,
+    openings: KnownOpenings<A>,
     greatest: u32,
 }
 
 impl<A: Allocator + Copy> Model for GatheredContacts<A> {
-    ghost use Rattle.std.specs.Prelude.{◌≡◌};
     ghost use Rattle.sabr_model.specs.Plan.{ContactPlan, IsPlan};
-    ghost use Rattle.sabr_model.specs.Gathering.{plan_of_contacts, openings_of};
+    ghost use Rattle.sabr_model.specs.Gathering.{plan_of_contacts, KnowsSome};
 
     ghost Value = { ContactPlan };
 
     ghost view = { λ g. plan_of_contacts g.contacts.items g.greatest };
 
-    ghost invariant = { λ g. IsPlan (plan_of_contacts g.contacts.items g.greatest) × (g.openings.keys ≡ openings_of g.contacts.items) };
+    ghost invariant = { λ g. IsPlan (plan_of_contacts g.contacts.items g.greatest) × KnowsSome g.openings.set.keys g.openings.last g.contacts.items };
 }
 
 impl<A: Allocator + Copy> GatheredContacts<A> {
@@ -47,7 +45,7 @@ impl<A: Allocator + Copy> GatheredContacts<A> {
     {
         GatheredContacts {
             contacts: Vec::new(alloc),
-            openings: IndexSet::new(alloc),
+            openings: KnownOpenings::new(alloc),
             greatest: 0,
         }
     }
@@ -91,8 +89,9 @@ impl<A: Allocator + Copy> GatheredContacts<A> {
     fn has_opening(&self, from: u64, to: u64, start: u64) -> bool
         ensures { result ≡ list_any (opens from to start) self.now.contacts }
     {
-        let opening = Opening { from, to, start };
-        self.openings.contains(&opening)
+        self.contacts
+            .iter()
+            .any(|c| from == c.from && to == c.to && start == c.start)
     }
 
     /// Adds a contact that is refused as a duplicate or not at all.
@@ -113,8 +112,9 @@ impl<A: Allocator + Copy> GatheredContacts<A> {
         if self.contacts.reserve(1).is_err() {
             return Err(self.fault(from, to, start, end));
         }
-        let Ok(is_new) = self.openings.insert(Opening { from, to, start }) else {
-            return Err(AddFault::NoMemory);
+        let opening = Opening { from, to, start };
+        let Some(is_new) = self.openings.note(&self.contacts, opening) else {
+            return Err(self.fault(from, to, start, end));
         };
         if !is_new {
             return Err(AddFault::DuplicateContact);
@@ -143,8 +143,7 @@ impl<A: Allocator + Copy> GatheredContacts<A> {
             return Err(AddFault::NothingToDelete);
         };
         let number = contact.number;
-        self.openings
-            .retain(|o| !(from == o.from && to == o.to && start == o.start));
+        self.openings.forget(from, to, start);
         self.contacts
             .retain(|c| !(from == c.from && to == c.to && start == c.start));
         Ok(number)

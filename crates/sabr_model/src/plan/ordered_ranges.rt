@@ -1,6 +1,6 @@
 //! A list of ranges in order, found and merged by it.
 
-ghost use Rattle.std.specs.Prelude.{◌≡◌, [], Err, OnOk, OnErr, IsTrue, IsFalse, IsOk, filter, length, not};
+ghost use Rattle.std.specs.Prelude.{◌≡◌, [], ◌∷◌, ◌++◌, Err, OnOk, OnErr, IsTrue, IsFalse, IsOk, filter, length, not};
 ghost use Rattle.std.specs.List.{list_any};
 ghost use Rattle.sabr_model.specs.Plan.{overlap, IsPlan};
 ghost use Rattle.sabr_model.specs.Gathering.{plan_of_ranges, gathered, AreGathered};
@@ -72,6 +72,16 @@ impl<A: Allocator + Copy> OrderedRanges<A> {
         overlaps_some(&self.ranges, range)
     }
 
+    /// Adds a range that comes after the others.
+    pub fn push(&mut self, range: Range) -> Result<(), AllocError>
+        requires { IsPlan (plan_of_ranges (self.old ++ range ∷ [])) }
+        ensures ok { OnOk result (self.new ≡ self.old ++ range ∷ []) }
+        ensures err { OnErr result (self.new ≡ self.old) }
+    {
+        self.ranges.push(range)?;
+        Ok(())
+    }
+
     /// Puts others in their places among these, and leaves none there.
     pub fn take_in(&mut self, others: &mut OrderedRanges<A>) -> Result<(), AllocError>
         requires { AreGathered self.old others.old }
@@ -80,6 +90,9 @@ impl<A: Allocator + Copy> OrderedRanges<A> {
         ensures err { OnErr result (self.new ≡ self.old) }
         ensures err_others { OnErr result (others.new ≡ others.old) }
     {
+        if others.ranges.is_empty() {
+            return Ok(());
+        }
         if self.ranges.is_empty() {
             mem::swap(&mut self.ranges, &mut others.ranges);
             return Ok(());

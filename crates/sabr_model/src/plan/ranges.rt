@@ -11,7 +11,7 @@ ghost use Rattle.sabr_model.specs.RangeOrder.{place_number, number_of_range, IsR
 use crate::contact::Range;
 
 /// Returns true if one pair and second come no later than another, in the order of ranges.
-fn comes_by(one: u64, other: u64, t: u64, bound_one: u64, bound_other: u64, bound: u64) -> bool
+pub fn comes_by(one: u64, other: u64, t: u64, bound_one: u64, bound_other: u64, bound: u64) -> bool
     ensures { IsTrue result ↔ (place_number one other t ≤ place_number bound_one bound_other bound) }
 {
     one < bound_one
