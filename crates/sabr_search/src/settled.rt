@@ -42,7 +42,7 @@ fn least_route<A: Allocator + Copy>(
     requires fits { IsTrue (is_prefix task.now.plan task.now.request prefix.now) }
     requires hops { max_hops ≡ task.now.request.max_hops }
     requires nodes { length task.now.table ≤ 40000 }
-    requires few { looks.old.count ≤ length task.now.plan.contacts }
+    requires few { looks.old.count ≤ 2 * length task.now.plan.contacts }
     ensures answered { IfOk result (IsAnswered task.now prefix.now (max_hops - length prefix.now)) }
     ensures bound { looks.new.count ≤ (3 * length task.now.table + 1) * length task.now.plan.contacts }
     ensures counted { IfOk result (λ answer. hops_told answer ≤ looks.new.count) }
@@ -73,7 +73,7 @@ fn least_searched<A: Allocator + Copy>(
     requires fits { IsTrue (is_prefix task.now.plan task.now.request prefix.now) }
     requires hops { max_hops ≡ task.now.request.max_hops }
     requires nodes { length task.now.table ≤ 40000 }
-    requires few { looks.old.count ≤ length task.now.plan.contacts }
+    requires few { looks.old.count ≤ 2 * length task.now.plan.contacts }
     requires kept { AreRungs (tabled_of task.now) task.now.request rungs.old }
     ensures kept { rungs.new.rungs ≡ rungs.old.rungs }
     ensures answered { IfOk result (IsAnswered task.now prefix.now (max_hops - length prefix.now)) }
@@ -82,7 +82,7 @@ fn least_searched<A: Allocator + Copy>(
     ensures cut { IfOk result (λ answer. max_hops ≡ most_hops → looks.new.count ≤ (3 * (hops_told answer - length prefix.now) + 3) * length task.now.plan.contacts) }
     ensures longer { IfOk result (λ answer. IfSome answer (λ route. length prefix.now < length route.contacts)) }
 {
-    let most = task.one_pass();
+    let most = task.two_passes();
     let followed = rungs.follow(layers, task, looks, most, prefix, max_hops)?;
     if let Some(answer) = followed {
         return Ok(answer);
@@ -115,7 +115,7 @@ fn least_beside<A: Allocator + Copy>(
     ensures cut { IfOk result (λ answer. max_hops ≡ most_hops → looks.new.count ≤ (3 * (hops_told answer - length prefix.now) + 3) * length task.now.plan.contacts) }
     ensures longer { IfOk result (λ answer. IfSome answer (λ route. length prefix.now < length route.contacts)) }
 {
-    let most = task.one_pass();
+    let most = task.two_passes();
     let left = max_hops as usize - prefix.len();
     let told = kept.answers.tell(alloc, task, looks, most, prefix, left)?;
     if let Some(answer) = told {

@@ -166,7 +166,7 @@ impl<'a, A: Allocator + Copy> Task<'a, A> {
         })
     }
 
-    /// Gives as many looks as one pass over all contacts takes.
+    /// As many looks as one pass over all contacts takes.
     pub fn one_pass(&self) -> u64
         ensures value { result ≡ length self.now.plan.contacts }
         ensures limit { result ≤ 2 ^ 60 }
@@ -174,12 +174,20 @@ impl<'a, A: Allocator + Copy> Task<'a, A> {
         self.plan.contacts().len() as u64
     }
 
-    /// Gives as many looks as two passes over all contacts take.
+    /// As many looks as two passes over all contacts take.
     pub fn two_passes(&self) -> u64
         ensures value { result ≡ 2 * length self.now.plan.contacts }
+        ensures limit { result ≤ 2 ^ 61 }
+    {
+        2 * self.one_pass()
+    }
+
+    /// As many looks as three passes over all contacts take.
+    pub fn three_passes(&self) -> u64
+        ensures value { result ≡ 3 * length self.now.plan.contacts }
         ensures limit { result ≤ 2 ^ 62 }
     {
-        2 * self.plan.contacts().len() as u64
+        3 * self.one_pass()
     }
 
     /// Tells how many passes of a link, this one and those behind it, have numbers that no route takes behind the prefix:
