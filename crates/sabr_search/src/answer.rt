@@ -69,7 +69,10 @@ impl<A: Allocator + Copy> Layers<A> {
         ensures hops { IfOk result (λ route. length route.contacts ≡ length prefix.now + best.hops) }
         ensures picked { IfOk result (λ route. (s : List ℕ) × (route.contacts ≡ prefix.now ++ s) × IsPicked task.now best s × IsTold task.now.plan route) }
     {
-        let contacts = self.pick(alloc, task, looks, best, prefix)?;
+        let picked = self.pick(alloc, task, looks, best, prefix, u64::MAX)?;
+        let Some(contacts) = picked else {
+            unreachable!();
+        };
         Ok(task.record(looks, contacts, best.delivery))
     }
 
