@@ -38,3 +38,4 @@ pub mod Ended
 pub mod Rising
 pub mod Staying
 pub mod KeptAnswers
+pub mod WideTasks

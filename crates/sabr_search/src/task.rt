@@ -8,8 +8,8 @@ ghost use Rattle.sabr_model.specs.Route.{until_of, entry_of};
 ghost use Rattle.sabr_model.specs.Outgoing.{links_in, passes_in};
 ghost use Rattle.sabr_model.specs.Hops.{hop_arrival, IsSmall};
 ghost use Rattle.sabr_search.specs.Task.{IsTask};
-ghost use Rattle.sabr_search.specs.KeptAnswers.{AreListed};
-ghost use Rattle.sabr_search.specs.KeptAnswers.{Arrives};
+ghost use Rattle.sabr_search.specs.Answers.{narrowed};
+ghost use Rattle.sabr_search.specs.KeptAnswers.{AreListed, Arrives};
 ghost use Rattle.sabr_search.specs.Linked.{AreLinksAt, AreSendersAt};
 
 use crate::finger::Finger;
@@ -76,6 +76,24 @@ impl<'a, A: Allocator + Copy> Task<'a, A> {
             start: standing.node,
             goal,
             at: standing.at,
+        }
+    }
+
+    /// The same search with these nodes shut.
+    pub fn with_shut<'b>(&self, shut: &'b Shut<A>) -> Task<'b, A>
+    where
+        'a: 'b,
+        ensures { result ≡ narrowed self.now shut.now self.now.at }
+    {
+        Task {
+            plan: self.plan,
+            request: self.request,
+            shut,
+            excluded: self.excluded,
+            in_order: self.in_order,
+            start: self.start,
+            goal: self.goal,
+            at: self.at,
         }
     }
 
