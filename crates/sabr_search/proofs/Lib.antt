@@ -38,4 +38,3 @@ pub mod Ended
 pub mod Rising
 pub mod Staying
 pub mod KeptAnswers
-pub mod WideTasks
