@@ -52,15 +52,15 @@ passes_within n c looks some le =
     let product : 1 * c ≤ n * c = mul-le-mul_right c some in
     omega (arith, product)
 
--- so is one pass with the picks, answered or refused; the picks go over as many layers as there are nodes, or as an
+-- so are two passes with the picks, answered or refused; the picks go over as many layers as there are nodes, or as an
 -- answer has hops
-pub picks_within : (n c x told looks : ℕ) → 1 ≤ n → x ≤ n → told ≤ c → looks ≤ c + x * c + told → looks ≤ (3 * n + 1) * c
+pub picks_within : (n c x told looks : ℕ) → 1 ≤ n → x ≤ n → told ≤ c → looks ≤ 2 * c + x * c + told → looks ≤ (3 * n + 1) * c
 picks_within n c x told looks some few short le =
     let product : x * c ≤ n * c = mul-le-mul_right c few in
     let one : 1 * c ≤ n * c = mul-le-mul_right c some in
     omega (arith, product, one)
 
-pub picks_cut : (x c told looks : ℕ) → told ≤ c → looks ≤ c + x * c + told → looks ≤ (3 * x + 3) * c
+pub picks_cut : (x c told looks : ℕ) → told ≤ c → looks ≤ 2 * c + x * c + told → looks ≤ (3 * x + 3) * c
 picks_cut x c told looks short le = omega arith
 
 pub passes_more : (x c looks : ℕ) → 0 < x → looks ≤ 4 * c → looks ≤ (3 * x + 3) * c

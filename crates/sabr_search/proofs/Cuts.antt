@@ -72,7 +72,7 @@ module _ (task : SearchTask) (is : IsTask task) (prefix : List ℕ) (behind : Is
 
   -- and always within those of a layer for each node but the start
   pub bound_told : {E : Type 0} (old new : ℕ) (result : Result (Option RouteRecord) E) → IfOk result (λ o. IfSome o IsRouteFound) →
-      IfErr result (λ e. new ≤ old + 3 * (limits.hops * length task.plan.contacts)) → IfOk result (λ o. new ≤ old + 3 * (limits.hops * length task.plan.contacts) + hops_told o) → old ≤ 2 * length task.plan.contacts →
+      IfErr result (λ e. new ≤ old + 3 * (limits.hops * length task.plan.contacts)) → IfOk result (λ o. new ≤ old + 3 * (limits.hops * length task.plan.contacts) + hops_told o) → old ≤ 3 * length task.plan.contacts →
       new ≤ (3 * length task.table + 1) * length task.plan.contacts
   bound_told old new (Err e) told refused answered few = omega (arith, refused, few, layers_within)
   bound_told old new (Ok o) told refused answered few = omega (arith, answered, few, told_short o told, layers_within)

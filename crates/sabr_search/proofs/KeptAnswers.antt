@@ -15,7 +15,7 @@ use Rattle.sabr_search.specs.Picks.{IsLeastWay}
 use Rattle.sabr_search.specs.Told.{IsTold}
 use Rattle.sabr_search.specs.Following.{tabled_of, HasNoWay, IsFound}
 use Rattle.sabr_search.specs.Answers.{narrowed, Narrows, HasNoWayWithin, IsAnswered}
-use Rattle.sabr_search.specs.KeptAnswers.{asked, AreListed, AllShut, IsAnswer, Covers, IsAnswerTo, AnswersAt, IsPut, Arrives}
+use Rattle.sabr_search.specs.KeptAnswers.{asked, AreListed, AllShut, IsFoundWay, IsAnswer, Covers, IsAnswerTo, AnswersAt, IsPut, Arrives}
 use Rattle.sabr_search.proofs.Staying.{answers_stay}
 use Rattle.sabr_search.proofs.Ways.{Leads-append}
 use Rattle.sabr_search.proofs.Bridge.{takes_timely}
@@ -111,7 +111,7 @@ module _ {A : Type 0} (task : SearchTask) (is : IsTask task) (goal_is : slice_ge
   pub none_kept : (left : ℕ) → Covers a task left → a.way.items ≡ [] → HasNoWayWithin task left
   none_kept left covers none =
       subst (λ t. HasNoWayWithin t left) (narrowed_is task a covers.node covers.same answer.flags answer.goal goals)
-      (answers_stay.none (asked (tabled_of task) task.request a answer.flags answer.goal) task.shut task.at a.left left is.nodes (narrows left covers) covers.fewer (answer.none none))
+      (answers_stay.none (asked (tabled_of task) task.request a answer.flags answer.goal) task.shut task.at a.left left is.nodes (narrows left covers) covers.fewer (answer.found.none none))
 
   pub way_kept : (left : ℕ) → IsAnswerTo a task left → 0 < length a.way.items → IsLeastWay task left (a.delivery + 1) a.way.items a.delivery
   way_kept left to some =
@@ -121,7 +121,7 @@ module _ {A : Type 0} (task : SearchTask) (is : IsTask task) (goal_is : slice_ge
       let taken : Leads (Takes (narrowed was task.shut task.at)) a.from.node task.at a.way.items answer.goal a.delivery =
       subst (λ (t : SearchTask). Leads (Takes t) t.start t.at a.way.items t.goal a.delivery) (sym same) way.1 in
       subst (λ t. IsLeastWay t left (a.delivery + 1) a.way.items a.delivery) same
-      (answers_stay.least was task.shut task.at a.left left (a.delivery + 1) a.way.items a.delivery is.nodes (narrows left to.covers) to.covers.fewer (answer.some some) way.0 taken)
+      (answers_stay.least was task.shut task.at a.left left (a.delivery + 1) a.way.items a.delivery is.nodes (narrows left to.covers) to.covers.fewer (answer.found.some some) way.0 taken)
 
   -- the way stands at the start
   pub on_way_first : a.from.node ≡ task.start → a.excluded.items ≡ task.excluded → 0 < length a.way.items → IsOnWay task a.way.items 0 task.start task.at
@@ -131,7 +131,7 @@ module _ {A : Type 0} (task : SearchTask) (is : IsTask task) (goal_is : slice_ge
     goal = answer.goal;
     end = a.delivery;
     rest = subst (λ u. Leads (Joins task) u a.from.at a.way.items answer.goal a.delivery) node
-        (joins task a node same answer.flags answer.goal a.way.items a.from.node a.from.at answer.goal a.delivery (answer.some some).way);
+        (joins task a node same answer.flags answer.goal a.way.items a.from.node a.from.at answer.goal a.delivery (answer.found.some some).way);
   }
 
 -- what is told by the answer at a place
@@ -156,32 +156,34 @@ module _ {A : Type 0} (task : SearchTask) (is : IsTask task) (goal_is : slice_ge
   pub way_told : 0 < length a.way.items → IsLeastWay task left (a.delivery + 1) a.way.items a.delivery
   way_told some = way_kept task is goal_is a one left to some
 
--- the answer to a question, kept
-pub kept_is : {A : Type 0} (task : SearchTask) (a : Answer A) (prefix : List ℕ) (o : Option RouteRecord) → slice_get task.table task.goal ≡ Some task.request.destination → IsAnswered task prefix a.left o →
-    a.from.node ≡ task.start → a.from.at ≡ task.at → a.excluded.items ≡ task.excluded → AreListed task.shut a.shut.items →
-    IfNone o (a.way.items ≡ []) → IfSome o (λ route. a.way.items ≡ drop (length prefix) route.contacts) → IfSome o (λ route. a.delivery ≡ route.delivery) → IsAnswer (tabled_of task) task.request a
-kept_is task a prefix None goal_is answered node at same listed none some delivery = record {
-  flags = task.shut;
-  goal = task.goal;
-  goal_is = goal_is;
-  listed = listed;
-  none = λ empty. subst (λ t. HasNoWayWithin t a.left) (sym (asked_is task a node same at)) answered;
+-- the way of an answer after a prefix
+pub way_is : (task : SearchTask) (prefix : List ℕ) (left : ℕ) (o : Option RouteRecord) (numbers : List ℕ) (delivery : ℕ) → IsAnswered task prefix left o →
+    IfNone o (numbers ≡ []) → IfSome o (λ route. numbers ≡ drop (length prefix) route.contacts) → IfSome o (λ route. delivery ≡ route.delivery) → IsFoundWay task left numbers delivery
+way_is task prefix left None numbers delivery answered none some at = record {
+  none = λ empty. answered;
   some = λ more. absurd (omega (arith, more, ap length none));
 }
-kept_is task a prefix (Some route) goal_is answered node at same listed none some delivery =
-    let way : a.way.items ≡ answered.0 = some ∙ ap (drop (length prefix)) answered.1 ∙ drop_front prefix answered.0 in
-    let least : IsLeastWay task a.left (a.delivery + 1) a.way.items a.delivery = rw (way, delivery) answered.2 in
+way_is task prefix left (Some route) numbers delivery answered none some at =
+    let way : numbers ≡ answered.0 = some ∙ ap (drop (length prefix)) answered.1 ∙ drop_front prefix answered.0 in
+    let least : IsLeastWay task left (delivery + 1) numbers delivery = rw (way, at) answered.2 in
     record {
-      flags = task.shut;
-      goal = task.goal;
-      goal_is = goal_is;
-      listed = listed;
       none = λ empty. absurd (omega (arith, least.some, ap length empty));
-      some = λ more. subst (λ t. IsLeastWay t a.left (a.delivery + 1) a.way.items a.delivery) (sym (asked_is task a node same at)) least;
+      some = λ more. least;
     }
   where
     drop_front : (xs ys : List ℕ) → drop (length xs) (xs ++ ys) ≡ ys
     drop_front xs ys = grind (arith, common_steps)
+
+-- the answer to a question, kept
+pub kept_is : {A : Type 0} (task : SearchTask) (a : Answer A) → slice_get task.table task.goal ≡ Some task.request.destination → IsFoundWay task a.left a.way.items a.delivery →
+    a.from.node ≡ task.start → a.from.at ≡ task.at → a.excluded.items ≡ task.excluded → AreListed task.shut a.shut.items → IsAnswer (tabled_of task) task.request a
+kept_is task a goal_is found node at same listed = record {
+  flags = task.shut;
+  goal = task.goal;
+  goal_is = goal_is;
+  listed = listed;
+  found = subst (λ t. IsFoundWay t a.left a.way.items a.delivery) (sym (asked_is task a node same at)) found;
+}
 
 -- what is found with all hops allowed is the answer with the hops that are left
 pub found_answers : (task : SearchTask) (prefix : List ℕ) (most left : ℕ) → length prefix + left ≡ most → (o : Option RouteRecord) → IfNone o (HasNoWay task) → IfSome o (IsFound task prefix most) → IsAnswered task prefix left o

@@ -19,14 +19,18 @@ asked p r a shut goal = record { plan = p.plan; request = r; table = p.table; sh
 abbrev pub AreListed : List Bool → List ℕ → Type 0
 AreListed shut nodes = (k : ℕ) → slice_index_or shut k false ≡ true → (i : ℕ) × (slice_get nodes i ≡ Some k)
 
+-- the numbers of the least way and when it delivers, or no numbers where there is no way
+pub record IsFoundWay (task : SearchTask) (left : ℕ) (numbers : List ℕ) (delivery : ℕ) : Type 0 where
+  pub none : numbers ≡ [] → HasNoWayWithin task left
+  pub some : 0 < length numbers → IsLeastWay task left (delivery + 1) numbers delivery
+
 -- the answer to a question to the destination: the least way, or no numbers where there is none
 pub record IsAnswer {A : Type 0} (p : TabledPlan) (r : RouteRequest) (a : Answer A) : Type 0 where
   pub flags : List Bool
   pub goal : ℕ
   pub goal_is : slice_get p.table goal ≡ Some r.destination
   pub listed : AreListed flags a.shut.items
-  pub none : a.way.items ≡ [] → HasNoWayWithin (asked p r a flags goal) a.left
-  pub some : 0 < length a.way.items → IsLeastWay (asked p r a flags goal) a.left (a.delivery + 1) a.way.items a.delivery
+  pub found : IsFoundWay (asked p r a flags goal) a.left a.way.items a.delivery
 
 -- each of these nodes is shut
 abbrev pub AllShut : List Bool → List ℕ → Type 0

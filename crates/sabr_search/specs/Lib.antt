@@ -19,3 +19,4 @@ pub mod Kept
 pub mod Following
 pub mod Laying
 pub mod Answers
+pub mod WideTasks

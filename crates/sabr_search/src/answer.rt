@@ -35,7 +35,7 @@ impl<A: Allocator + Copy> Layers<A> {
         ensures some { IfOk result (λ o. IfSome o (λ route. (s : List ℕ) × (route.contacts ≡ prefix.now ++ s) × IsLeastWay task.now limits.hops limits.ceiling s route.delivery × IsTold task.now.plan route)) }
         ensures err_looks { OnErr result (looks.new.count ≤ looks.old.count + 3 * (limits.hops * length task.now.plan.contacts)) }
         ensures ok_looks { IfOk result (λ o. looks.new.count ≤ looks.old.count + 3 * (limits.hops * length task.now.plan.contacts) + hops_told o) }
-        ensures stopped { IfOk result (λ o. IfSome o (λ route. route.delivery ≤ limits.lower → looks.new.count ≤ looks.old.count + 3 * ((length route.contacts - length prefix.now) * length task.now.plan.contacts) + length route.contacts)) }
+        ensures stopped { IfOk result (λ o. IfSome o (λ route. route.delivery ≤ limits.lower → looks.new.count + length task.now.plan.contacts ≤ looks.old.count + 3 * ((length route.contacts - length prefix.now) * length task.now.plan.contacts) + length route.contacts)) }
         ensures counted { IfOk result (λ o. hops_told o ≤ looks.new.count) }
     {
         let best = self.make(task, looks, limits)?;
@@ -69,7 +69,10 @@ impl<A: Allocator + Copy> Layers<A> {
         ensures hops { IfOk result (λ route. length route.contacts ≡ length prefix.now + best.hops) }
         ensures picked { IfOk result (λ route. (s : List ℕ) × (route.contacts ≡ prefix.now ++ s) × IsPicked task.now best s × IsTold task.now.plan route) }
     {
-        let contacts = self.pick(alloc, task, looks, best, prefix)?;
+        let picked = self.pick(alloc, task, looks, best, prefix, u64::MAX)?;
+        let Some(contacts) = picked else {
+            unreachable!();
+        };
         Ok(task.record(looks, contacts, best.delivery))
     }
 
@@ -119,8 +122,8 @@ impl<A: Allocator + Copy> Layers<A> {
         first: Best,
     ) -> Result<Option<Route<A>>, NoMemory>
         requires task { IsTask task.now }
-        requires looked { looks.old.count ≤ 2 * length task.now.plan.contacts }
-        requires few { 2 * length task.now.plan.contacts + 3 * (limits.hops * length task.now.plan.contacts) + length prefix.now + limits.hops ≤ 2 ^ 62 }
+        requires looked { looks.old.count ≤ 3 * length task.now.plan.contacts }
+        requires few { 3 * length task.now.plan.contacts + 3 * (limits.hops * length task.now.plan.contacts) + length prefix.now + limits.hops ≤ 2 ^ 62 }
         requires many { length prefix.now + limits.hops < 2 ^ 32 }
         requires sooner { limits.lower < limits.ceiling }
         requires ceiling { limits.ceiling ≤ never }
@@ -129,8 +132,8 @@ impl<A: Allocator + Copy> Layers<A> {
         requires least { (ns : List ℕ) (e : ℕ) → Leads (Takes task.now) task.now.start task.now.at ns task.now.goal e → first.delivery ≤ e }
         ensures none { IfOk result (λ o. IfNone o ((ns : List ℕ) (e : ℕ) → length ns ≤ limits.hops → Leads (Takes task.now) task.now.start task.now.at ns task.now.goal e → limits.ceiling ≤ e)) }
         ensures some { IfOk result (λ o. IfSome o (λ route. (s : List ℕ) × (route.contacts ≡ prefix.now ++ s) × IsLeastWay task.now limits.hops limits.ceiling s route.delivery × IsTold task.now.plan route)) }
-        ensures err_looks { OnErr result (looks.new.count ≤ 2 * length task.now.plan.contacts + 3 * (limits.hops * length task.now.plan.contacts)) }
-        ensures ok_looks { IfOk result (λ o. looks.new.count ≤ 2 * length task.now.plan.contacts + 3 * (limits.hops * length task.now.plan.contacts) + hops_told o) }
+        ensures err_looks { OnErr result (looks.new.count ≤ 3 * length task.now.plan.contacts + 3 * (limits.hops * length task.now.plan.contacts)) }
+        ensures ok_looks { IfOk result (λ o. looks.new.count ≤ 3 * length task.now.plan.contacts + 3 * (limits.hops * length task.now.plan.contacts) + hops_told o) }
         ensures stopped { IfOk result (λ o. IfSome o (λ route. route.delivery ≤ limits.lower → looks.new.count ≤ 2 * length task.now.plan.contacts + 3 * ((length route.contacts - length prefix.now) * length task.now.plan.contacts) + length route.contacts)) }
         ensures counted { IfOk result (λ o. hops_told o ≤ looks.new.count) }
     {
@@ -138,7 +141,7 @@ impl<A: Allocator + Copy> Layers<A> {
             let forward = self.answer(alloc, task, looks, prefix, limits)?;
             return Ok(forward);
         }
-        let most = task.two_passes();
+        let most = task.three_passes();
         let backward = self.answer_back(alloc, task, looks, prefix, arrival, first, most)?;
         if let Some(route) = backward {
             return Ok(Some(route));

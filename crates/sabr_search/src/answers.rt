@@ -10,7 +10,7 @@ ghost use Rattle.sabr_search.specs.Task.{IsTask, Takes};
 ghost use Rattle.sabr_search.specs.Told.{hops_told};
 ghost use Rattle.sabr_search.specs.Following.{tabled_of};
 ghost use Rattle.sabr_search.specs.Answers.{IsAnswered};
-ghost use Rattle.sabr_search.specs.KeptAnswers.{AllShut, Covers, IsAnswerTo, AnswersAt, IsAnswer, IsPut};
+ghost use Rattle.sabr_search.specs.KeptAnswers.{AllShut, Covers, IsAnswerTo, AnswersAt, IsFoundWay, IsAnswer, IsPut};
 
 use crate::looks::Looks;
 use crate::pick::Standing;
@@ -34,6 +34,13 @@ const MOST_EXCLUDED: usize = 64;
 /// line of 20000 contacts would take some 600 MB; other limits weren't tried.
 const MOST_PREFIX: usize = 64;
 
+/// Of so many wide questions as many must have answered one, or `REST` questions go by without. Taken from a native prototype,
+/// not varied: over satellites and sparse plans all answer, over relays one in four.
+const ASKED: u32 = 64;
+
+/// So many questions go by.
+const REST: u32 = 1024;
+
 /// The place of no answer.
 const NONE: usize = usize::MAX;
 
@@ -52,6 +59,8 @@ pub struct Answer<A: Allocator + Copy = Global> {
     pub way: Vec<u32, A>,
     /// When the way delivers.
     pub delivery: u64,
+    /// Whether the question was a wide one.
+    pub wide: bool,
     /// The place of the answer that was put into the same bucket before.
     pub next: usize,
 }
@@ -69,6 +78,12 @@ pub struct Answers<A: Allocator + Copy = Global> {
     next: usize,
     /// By bucket the place of the latest answer.
     heads: Vec<usize, A>,
+    /// How many wide questions were asked of late.
+    asked: u32,
+    /// How many questions their answers have answered.
+    won: u32,
+    /// How many questions go by before a wide one is asked again.
+    rest: u32,
 }
 
 /// Returns whether each of these nodes is shut.
@@ -84,53 +99,57 @@ fn are_shut(flags: &[bool], nodes: &[usize]) -> bool
     true
 }
 
-/// The numbers of a route after so many; none where there is no route.
+/// The contact numbers of the least way of a question, and when it delivers; no numbers where there is no way.
+#[derive(Drop)]
+pub struct FoundWay<A: Allocator + Copy = Global> {
+    pub numbers: Vec<u32, A>,
+    pub delivery: u64,
+}
+
+/// The way of an answer after so many contacts.
 fn way_of<A: Allocator + Copy>(
     alloc: A,
     answer: &Option<Route<A>>,
     prefix: usize,
-) -> Result<Vec<u32, A>, NoMemory>
+) -> Result<FoundWay<A>, NoMemory>
     requires { IfSome answer.now (λ route. prefix ≤ length route.contacts) }
-    ensures none { IfOk result (λ way. IfNone answer.now (way.items ≡ [])) }
-    ensures some { IfOk result (λ way. IfSome answer.now (λ route. way.items ≡ drop prefix route.contacts)) }
+    ensures none { IfOk result (λ found. IfNone answer.now (found.numbers.items ≡ [])) }
+    ensures some { IfOk result (λ found. IfSome answer.now (λ route. found.numbers.items ≡ drop prefix route.contacts)) }
+    ensures delivery { IfOk result (λ found. IfSome answer.now (λ route. found.delivery ≡ route.delivery)) }
 {
-    let mut way = Vec::new(alloc);
-    if let Some(route) = answer {
-        let contacts = route.contacts.as_slice();
-        way.extend_from_slice(&contacts[prefix..])?;
-    }
-    Ok(way)
-}
-
-/// When a route delivers; 0 where there is none.
-fn delivery_of<A: Allocator + Copy>(answer: &Option<Route<A>>) -> u64
-    ensures { IfSome answer.now (λ route. result ≡ route.delivery) }
-{
-    match answer {
-        Some(route) => route.delivery,
-        None => 0,
-    }
+    let mut numbers = Vec::new(alloc);
+    let Some(route) = answer else {
+        return Ok(FoundWay {
+            numbers,
+            delivery: 0,
+        });
+    };
+    let contacts = route.contacts.as_slice();
+    numbers.extend_from_slice(&contacts[prefix..])?;
+    Ok(FoundWay {
+        numbers,
+        delivery: route.delivery,
+    })
 }
 
 impl<A: Allocator + Copy> Answer<A> {
-    /// Makes the answer to a question from its route after the prefix.
+    /// Makes the answer to a question from its least way.
     fn of(
         alloc: A,
         task: &Task<'_, A>,
-        prefix: &[u32],
         left: usize,
+        found: FoundWay<A>,
+        wide: bool,
         next: usize,
-        answer: &Option<Route<A>>,
     ) -> Result<Answer<A>, NoMemory>
         requires goal { slice_get task.now.table task.now.goal ≡ Some task.now.request.destination }
-        requires answered { IsAnswered task.now prefix.now left answer.now }
+        requires found { IsFoundWay task.now left found.numbers.items found.delivery }
         ensures { IfOk result (IsAnswer (tabled_of task.now) task.now.request) }
     {
         let mut excluded = Vec::new(alloc);
         excluded.extend_from_slice(task.excluded())?;
         let mut shut = Vec::new(alloc);
         shut.extend_from_slice(task.shut_nodes())?;
-        let way = way_of(alloc, answer, prefix.len())?;
         let from = Standing {
             node: task.start(),
             at: task.at(),
@@ -140,8 +159,9 @@ impl<A: Allocator + Copy> Answer<A> {
             left,
             excluded,
             shut,
-            way,
-            delivery: delivery_of(answer),
+            way: found.numbers,
+            delivery: found.delivery,
+            wide,
             next,
         })
     }
@@ -238,6 +258,46 @@ impl<A: Allocator + Copy> Answers<A> {
             slots: Vec::new(alloc),
             next: 0,
             heads: Vec::new(alloc),
+            asked: 0,
+            won: 0,
+            rest: 0,
+        }
+    }
+
+    /// Returns whether wide questions pay; if so, counts one.
+    fn pays(&mut self) -> bool
+        ensures { self.new.slots ≡ self.old.slots }
+    {
+        if self.rest > 0 {
+            self.rest -= 1;
+            return false;
+        }
+        if self.asked >= ASKED {
+            self.rest = if self.won < ASKED { REST } else { 0 };
+            self.asked = 0;
+            self.won = 0;
+        }
+        self.asked += 1;
+        true
+    }
+
+    /// Returns whether a wide question is to be asked for one after this prefix: it shuts fewer nodes, its answer is kept, and
+    /// some answer was kept before, so that others may come.
+    pub fn takes_wide(&mut self, prefix: &[u32], excluded: &[u32]) -> bool
+        ensures { self.new.slots ≡ self.old.slots }
+    {
+        if self.slots.is_empty() || prefix.len() < 2 || !is_kept(prefix, excluded) {
+            return false;
+        }
+        self.pays()
+    }
+
+    /// Counts a question that the answer at this place has answered, if that is the answer to a wide one.
+    fn count_win(&mut self, place: usize)
+        ensures { self.new.slots ≡ self.old.slots }
+    {
+        if place < self.slots.len() && self.slots[place].wide && self.won < ASKED {
+            self.won += 1;
         }
     }
 
@@ -274,7 +334,7 @@ impl<A: Allocator + Copy> Answers<A> {
 
     /// The answer to a question after the prefix, with so many hops left, if one that is kept shows it within `most` looks.
     pub fn tell(
-        &self,
+        &mut self,
         alloc: A,
         task: &Task<'_, A>,
         looks: &mut Looks,
@@ -284,10 +344,11 @@ impl<A: Allocator + Copy> Answers<A> {
     ) -> Result<Option<Option<Route<A>>>, NoMemory>
         requires task { IsTask task.now }
         requires goal { slice_get task.now.table task.now.goal ≡ Some task.now.request.destination }
-        requires kept { All (IsAnswer (tabled_of task.now) task.now.request) self.now.slots.items }
+        requires kept { All (IsAnswer (tabled_of task.now) task.now.request) self.old.slots.items }
         requires few { looks.old.count ≤ most }
         requires most { most ≤ 2 ^ 60 }
         requires many { length prefix.now + left < 2 ^ 32 }
+        ensures slots { self.new.slots ≡ self.old.slots }
         ensures refused { OnErr result (looks.new.count ≤ most) }
         ensures untold { IfOk result (λ o. IfNone o (looks.new.count ≤ most)) }
         ensures told { IfOk result (λ o. IfSome o (IsAnswered task.now prefix.now left)) }
@@ -300,6 +361,7 @@ impl<A: Allocator + Copy> Answers<A> {
         let Some(place) = self.find(task, looks, most, left) else {
             return Ok(None);
         };
+        self.count_win(place);
         let answer = &self.slots[place];
         if answer.way.is_empty() {
             return Ok(Some(None));
@@ -344,8 +406,28 @@ impl<A: Allocator + Copy> Answers<A> {
         }
     }
 
+    /// Keeps the answer to a question, if no growth is refused.
+    pub fn keep(&mut self, task: &Task<'_, A>, left: usize, found: FoundWay<A>, wide: bool)
+        requires goal { slice_get task.now.table task.now.goal ≡ Some task.now.request.destination }
+        requires kept { All (IsAnswer (tabled_of task.now) task.now.request) self.old.slots.items }
+        requires found { IsFoundWay task.now left found.numbers.items found.delivery }
+        ensures { All (IsAnswer (tabled_of task.now) task.now.request) self.new.slots.items }
+    {
+        if !self.open() {
+            return;
+        }
+        let bucket = bucket_of(task.start(), task.excluded());
+        let next = self.head(bucket);
+        let Ok(made) = Answer::of(self.alloc, task, left, found, wide, next) else {
+            return;
+        };
+        if let Some(place) = self.put(made) {
+            self.put_head(bucket, place);
+        }
+    }
+
     /// Keeps the answer to a question after the prefix, if it is one that is kept and no growth is refused.
-    pub fn keep(
+    pub fn keep_after(
         &mut self,
         task: &Task<'_, A>,
         prefix: &[u32],
@@ -360,16 +442,9 @@ impl<A: Allocator + Copy> Answers<A> {
         if !is_kept(prefix, task.excluded()) {
             return;
         }
-        if !self.open() {
-            return;
-        }
-        let bucket = bucket_of(task.start(), task.excluded());
-        let next = self.head(bucket);
-        let Ok(made) = Answer::of(self.alloc, task, prefix, left, next, answer) else {
+        let Ok(found) = way_of(self.alloc, answer, prefix.len()) else {
             return;
         };
-        if let Some(place) = self.put(made) {
-            self.put_head(bucket, place);
-        }
+        self.keep(task, left, found, false);
     }
 }

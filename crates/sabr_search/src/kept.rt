@@ -6,6 +6,7 @@ ghost use Rattle.sabr_search.specs.Kept.{IsKept};
 
 use crate::answers::Answers;
 use crate::rungs::Rungs;
+use crate::shut::Shut;
 use std::alloc::{Allocator, Global};
 
 /// What is kept for the searches of one plan and request: tables for deliveries that come again, and answers.
@@ -17,6 +18,8 @@ pub struct Kept<A: Allocator + Copy = Global> {
     pub rungs: Rungs<A>,
     /// Answers to questions so far.
     pub answers: Answers<A>,
+    /// The nodes that the last wide question shut.
+    pub wide: Shut<A>,
 }
 
 impl<A: Allocator + Copy> Kept<A> {
@@ -27,6 +30,7 @@ impl<A: Allocator + Copy> Kept<A> {
         Kept {
             rungs: Rungs::new(alloc),
             answers: Answers::new(alloc),
+            wide: Shut::new(alloc),
         }
     }
 }

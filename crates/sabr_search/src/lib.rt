@@ -31,6 +31,7 @@ mod settling;
 mod shut;
 mod task;
 mod trying;
+mod wide;
 
 pub use best::BestOf;
 pub use fitting::fits;

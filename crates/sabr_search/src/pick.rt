@@ -3,7 +3,7 @@
 ghost use Rattle.std.specs.Prelude.{◌≡◌, ◌++◌, ℕ, List, ◌+◌, ◌*◌, ◌^◌, ◌≤◌, ◌<◌, false, Some, IfOk, IfSome, IfNone, IsTrue, length};
 ghost use Rattle.sabr_search.specs.Ways.{Leads};
 ghost use Rattle.sabr_search.specs.Task.{IsTask, Takes};
-ghost use Rattle.sabr_search.specs.Steps.{degree};
+ghost use Rattle.sabr_search.specs.Linked.{AreLinksAt};
 ghost use Rattle.sabr_search.specs.Deadlines.{ArePointed, IsInTime, AreTimed};
 ghost use Rattle.sabr_search.specs.Picks.{IsAtMost, IsLeastStep, IsPicked};
 
@@ -11,7 +11,7 @@ use crate::layers::{Best, Layers};
 use crate::looks::Looks;
 use crate::over_link::link_passes;
 use crate::task::Task;
-use sabr_model::NoMemory;
+use sabr_model::{Links, NoMemory};
 use std::alloc::Allocator;
 
 /// A node, and when the bundle is there.
@@ -49,30 +49,31 @@ impl<A: Allocator + Copy> Layers<A> {
         best: Best,
         hop: usize,
         from: Standing,
-    ) -> Result<Option<Step>, NoMemory>
+        links: Links<'_>,
+    ) -> Option<Step>
         requires task { IsTask task.now }
-        requires few { looks.old.count + degree task.now from.node ≤ 2 ^ 62 }
+        requires links { AreLinksAt task.now from.node links.links.now links.passes.now }
+        requires few { looks.old.count + length links.passes.now ≤ 2 ^ 62 }
         requires pointed { ArePointed task.now hop self.now.bounds.items self.now.place.items self.now.reached.items }
         requires timed { AreTimed task.now best hop self.now.bounds.items self.now.place.items self.now.reached.items }
         requires later { 0 < hop }
         requires hop { hop ≤ best.hops }
         requires node { from.node < length task.now.table }
-        ensures looks { looks.new.count ≤ looks.old.count + degree task.now from.node }
-        ensures some { IfOk result (λ o. IfSome o (IsLeastStep task.now best self.now.bounds.items self.now.reached.items hop from.node from.at)) }
-        ensures none { IfOk result (λ o. IfNone o ((n w b : ℕ) → Takes task.now n from.node from.at w b → IsInTime task.now best self.now.bounds.items self.now.reached.items hop w b → ⊥)) }
+        ensures looks { looks.new.count ≤ looks.old.count + length links.entry.passes.now }
+        ensures some { IfSome result (IsLeastStep task.now best self.now.bounds.items self.now.reached.items hop from.node from.at) }
+        ensures none { IfNone result ((n w b : ℕ) → Takes task.now n from.node from.at w b → IsInTime task.now best self.now.bounds.items self.now.reached.items hop w b → ⊥) }
     {
-        let outgoing = task.links(from.node)?;
-        let links = outgoing.all();
         let mut least: Option<Step> = None;
         for link in links.links {
             let passes = link_passes(links, link);
             let before = self.deadline(task, best, hop, link.receiver);
             least = task.least_over(looks, from.node, link, passes, from.at, before, least);
         }
-        Ok(least)
+        least
     }
 
     /// Returns the least numbers after the prefix that lead from the start to the goal with the best delivery and hops.
+    /// None if more than `most` looks might be needed.
     pub fn pick(
         &mut self,
         alloc: A,
@@ -80,15 +81,19 @@ impl<A: Allocator + Copy> Layers<A> {
         looks: &mut Looks,
         best: Best,
         prefix: &[u32],
-    ) -> Result<Vec<u32, A>, NoMemory>
+        most: u64,
+    ) -> Result<Option<Vec<u32, A>>, NoMemory>
         requires task { IsTask task.now }
+        requires looked { looks.old.count ≤ most }
         requires few { looks.old.count + best.hops * length task.now.plan.contacts ≤ 2 ^ 62 }
         requires many { length prefix.now + best.hops < 2 ^ 32 }
         requires some { 0 < best.hops }
         requires timed { AreTimed task.now best 1 self.old.bounds.items self.old.place.items self.old.reached.items }
         requires least { (ns : List ℕ) (e : ℕ) → length ns ≤ best.hops → Leads (Takes task.now) task.now.start task.now.at ns task.now.goal e → best.delivery ≤ e }
         ensures looks { looks.new.count ≤ looks.old.count + best.hops * length task.now.plan.contacts }
-        ensures picked { IfOk result (λ v. (s : List ℕ) × (v.items ≡ prefix.now ++ s) × IsPicked task.now best s) }
+        ensures limit { looks.new.count ≤ most }
+        ensures none { IfOk result (λ o. IfNone o (most < looks.old.count + best.hops * length task.now.plan.contacts)) }
+        ensures picked { IfOk result (λ o. IfSome o (λ v. (s : List ℕ) × (v.items ≡ prefix.now ++ s) × IsPicked task.now best s)) }
     {
         let mut contacts = Vec::with_capacity(alloc, prefix.len() + best.hops)?;
         contacts.extend_from_slice(prefix)?;
@@ -98,7 +103,12 @@ impl<A: Allocator + Copy> Layers<A> {
         };
         for hop in 0..best.hops {
             self.point_at(hop + 1);
-            let least = self.least_step(task, looks, best, hop + 1, from)?;
+            let outgoing = task.links(from.node)?;
+            let links = outgoing.all();
+            if links.passes.len() as u64 > most - looks.count {
+                return Ok(None);
+            }
+            let least = self.least_step(task, looks, best, hop + 1, from, links);
             let Some(step) = least else {
                 unreachable!();
             };
@@ -108,6 +118,6 @@ impl<A: Allocator + Copy> Layers<A> {
                 at: step.at,
             };
         }
-        Ok(contacts)
+        Ok(Some(contacts))
     }
 }

@@ -1,6 +1,6 @@
 //! The finder that settles nodes first, and then makes only the layers that the least route needs.
 
-ghost use Rattle.std.specs.Prelude.{◌≡◌, ◌⊎◌, ◌≤◌, ◌<◌, ◌+◌, ◌-◌, ◌*◌, IfOk, IfSome, IfNone, IsTrue, length};
+ghost use Rattle.std.specs.Prelude.{◌≡◌, ◌⊎◌, ◌≤◌, ◌<◌, ◌+◌, ◌-◌, ◌*◌, ◌^◌, Some, IfOk, IfSome, IfNone, IsTrue, OnErr, length, slice_get};
 ghost use Rattle.std.specs.List.Sorted.{IsStrictlyIncreasing};
 ghost use Rattle.sabr_model.specs.Route.{is_prefix};
 ghost use Rattle.sabr_model.specs.Table.{node_count};
@@ -24,6 +24,7 @@ use crate::rungs::Rungs;
 use crate::settling::Settling;
 use crate::shut::Shut;
 use crate::task::Task;
+use crate::wide::{shut_few, way_within};
 use sabr_model::{GhostCount, NoMemory, Plan, Request, Route};
 use std::alloc::{Allocator, Global};
 
@@ -42,7 +43,7 @@ fn least_route<A: Allocator + Copy>(
     requires fits { IsTrue (is_prefix task.now.plan task.now.request prefix.now) }
     requires hops { max_hops ≡ task.now.request.max_hops }
     requires nodes { length task.now.table ≤ 40000 }
-    requires few { looks.old.count ≤ length task.now.plan.contacts }
+    requires few { looks.old.count ≤ 2 * length task.now.plan.contacts }
     ensures answered { IfOk result (IsAnswered task.now prefix.now (max_hops - length prefix.now)) }
     ensures bound { looks.new.count ≤ (3 * length task.now.table + 1) * length task.now.plan.contacts }
     ensures counted { IfOk result (λ answer. hops_told answer ≤ looks.new.count) }
@@ -73,7 +74,7 @@ fn least_searched<A: Allocator + Copy>(
     requires fits { IsTrue (is_prefix task.now.plan task.now.request prefix.now) }
     requires hops { max_hops ≡ task.now.request.max_hops }
     requires nodes { length task.now.table ≤ 40000 }
-    requires few { looks.old.count ≤ length task.now.plan.contacts }
+    requires few { looks.old.count ≤ 2 * length task.now.plan.contacts }
     requires kept { AreRungs (tabled_of task.now) task.now.request rungs.old }
     ensures kept { rungs.new.rungs ≡ rungs.old.rungs }
     ensures answered { IfOk result (IsAnswered task.now prefix.now (max_hops - length prefix.now)) }
@@ -82,7 +83,7 @@ fn least_searched<A: Allocator + Copy>(
     ensures cut { IfOk result (λ answer. max_hops ≡ most_hops → looks.new.count ≤ (3 * (hops_told answer - length prefix.now) + 3) * length task.now.plan.contacts) }
     ensures longer { IfOk result (λ answer. IfSome answer (λ route. length prefix.now < length route.contacts)) }
 {
-    let most = task.one_pass();
+    let most = task.two_passes();
     let followed = rungs.follow(layers, task, looks, most, prefix, max_hops)?;
     if let Some(answer) = followed {
         return Ok(answer);
@@ -90,7 +91,46 @@ fn least_searched<A: Allocator + Copy>(
     least_route(alloc, settling, layers, task, looks, max_hops, prefix)
 }
 
-/// Gives the least route behind the prefix: told by an answer that is kept, or else by a search, whose answer is kept.
+/// The least route after the prefix, or that there is none, if the answer to a wide question shows it. That answer is kept.
+fn told_wide<A: Allocator + Copy>(
+    alloc: A,
+    settling: &mut Settling<A>,
+    layers: &mut Layers<A>,
+    kept: &mut Kept<A>,
+    task: &Task<'_, A>,
+    looks: &mut Looks,
+    prefix: &[u32],
+    left: usize,
+) -> Result<Option<Option<Route<A>>>, NoMemory>
+    requires task { IsTask task.now }
+    requires goal { slice_get task.now.table task.now.goal ≡ Some task.now.request.destination }
+    requires nodes { length task.now.table ≤ 40000 }
+    requires few { looks.old.count ≤ 2 * length task.now.plan.contacts }
+    requires many { length prefix.now + left < 2 ^ 32 }
+    requires kept { IsKept (tabled_of task.now) task.now.request kept.old }
+    ensures kept { IsKept (tabled_of task.now) task.now.request kept.new }
+    ensures refused { OnErr result (looks.new.count ≤ 2 * length task.now.plan.contacts) }
+    ensures untold { IfOk result (λ o. IfNone o (looks.new.count ≤ 2 * length task.now.plan.contacts)) }
+    ensures told { IfOk result (λ o. IfSome o (IsAnswered task.now prefix.now left)) }
+    ensures looks { IfOk result (λ o. IfSome o (λ answer. looks.new.count ≤ 2 * length task.now.plan.contacts + hops_told answer)) }
+    ensures counted { IfOk result (λ o. IfSome o (λ answer. hops_told answer ≤ looks.new.count)) }
+{
+    if !kept.answers.takes_wide(prefix, task.excluded()) {
+        return Ok(None);
+    }
+    let most = task.two_passes();
+    shut_few(&mut kept.wide, task, prefix.len())?;
+    let question = task.with_shut(&kept.wide);
+    let found = way_within(alloc, settling, layers, &question, looks, most, left)?;
+    let Some(way) = found else {
+        return Ok(None);
+    };
+    kept.answers.keep(&question, left, way, true);
+    kept.answers.tell(alloc, task, looks, most, prefix, left)
+}
+
+/// The least route after the prefix: told by an answer that is kept, or by that to a wide question, or else by a search,
+/// whose answer is kept.
 fn least_beside<A: Allocator + Copy>(
     alloc: A,
     settling: &mut Settling<A>,
@@ -115,10 +155,14 @@ fn least_beside<A: Allocator + Copy>(
     ensures cut { IfOk result (λ answer. max_hops ≡ most_hops → looks.new.count ≤ (3 * (hops_told answer - length prefix.now) + 3) * length task.now.plan.contacts) }
     ensures longer { IfOk result (λ answer. IfSome answer (λ route. length prefix.now < length route.contacts)) }
 {
-    let most = task.one_pass();
+    let most = task.two_passes();
     let left = max_hops as usize - prefix.len();
     let told = kept.answers.tell(alloc, task, looks, most, prefix, left)?;
     if let Some(answer) = told {
+        return Ok(answer);
+    }
+    let wide = told_wide(alloc, settling, layers, kept, task, looks, prefix, left)?;
+    if let Some(answer) = wide {
         return Ok(answer);
     }
     let answer = least_searched(
@@ -131,7 +175,7 @@ fn least_beside<A: Allocator + Copy>(
         max_hops,
         prefix,
     )?;
-    kept.answers.keep(task, prefix, left, &answer);
+    kept.answers.keep_after(task, prefix, left, &answer);
     Ok(answer)
 }
 

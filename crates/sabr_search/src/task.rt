@@ -8,8 +8,8 @@ ghost use Rattle.sabr_model.specs.Route.{until_of, entry_of};
 ghost use Rattle.sabr_model.specs.Outgoing.{links_in, passes_in};
 ghost use Rattle.sabr_model.specs.Hops.{hop_arrival, IsSmall};
 ghost use Rattle.sabr_search.specs.Task.{IsTask};
-ghost use Rattle.sabr_search.specs.KeptAnswers.{AreListed};
-ghost use Rattle.sabr_search.specs.KeptAnswers.{Arrives};
+ghost use Rattle.sabr_search.specs.Answers.{narrowed};
+ghost use Rattle.sabr_search.specs.KeptAnswers.{AreListed, Arrives};
 ghost use Rattle.sabr_search.specs.Linked.{AreLinksAt, AreSendersAt};
 
 use crate::finger::Finger;
@@ -76,6 +76,24 @@ impl<'a, A: Allocator + Copy> Task<'a, A> {
             start: standing.node,
             goal,
             at: standing.at,
+        }
+    }
+
+    /// The same search with these nodes shut.
+    pub fn with_shut<'b>(&self, shut: &'b Shut<A>) -> Task<'b, A>
+    where
+        'a: 'b,
+        ensures { result ≡ narrowed self.now shut.now self.now.at }
+    {
+        Task {
+            plan: self.plan,
+            request: self.request,
+            shut,
+            excluded: self.excluded,
+            in_order: self.in_order,
+            start: self.start,
+            goal: self.goal,
+            at: self.at,
         }
     }
 
@@ -166,7 +184,7 @@ impl<'a, A: Allocator + Copy> Task<'a, A> {
         })
     }
 
-    /// Gives as many looks as one pass over all contacts takes.
+    /// As many looks as one pass over all contacts takes.
     pub fn one_pass(&self) -> u64
         ensures value { result ≡ length self.now.plan.contacts }
         ensures limit { result ≤ 2 ^ 60 }
@@ -174,12 +192,20 @@ impl<'a, A: Allocator + Copy> Task<'a, A> {
         self.plan.contacts().len() as u64
     }
 
-    /// Gives as many looks as two passes over all contacts take.
+    /// As many looks as two passes over all contacts take.
     pub fn two_passes(&self) -> u64
         ensures value { result ≡ 2 * length self.now.plan.contacts }
+        ensures limit { result ≤ 2 ^ 61 }
+    {
+        2 * self.one_pass()
+    }
+
+    /// As many looks as three passes over all contacts take.
+    pub fn three_passes(&self) -> u64
+        ensures value { result ≡ 3 * length self.now.plan.contacts }
         ensures limit { result ≤ 2 ^ 62 }
     {
-        2 * self.plan.contacts().len() as u64
+        3 * self.one_pass()
     }
 
     /// Tells how many passes of a link, this one and those behind it, have numbers that no route takes behind the prefix:

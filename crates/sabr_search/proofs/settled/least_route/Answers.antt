@@ -69,7 +69,7 @@ returns-clause-bound g c =
     let facts = prefix_facts task.plan task.request c.args.prefix.now c.requires.fits in
     let limits : AreLimits task.request.max_hops (length c.args.prefix.now) c.in_ok-first.first c.limits_of-limits.result = rw c.requires.hops at c.limits_of-limits.ensures in
     bound_told task c.requires.task c.args.prefix.now c.requires.behind facts c.in_ok-first.first c.in_ok-first.ensures.first (omega arith) c.limits_of-limits.result limits
-    (2 * length task.plan.contacts) c.answer_by.new.looks.count c.answer_by.result c.answer_by.ensures.some c.answer_by.ensures.err_looks c.answer_by.ensures.ok_looks
+    (3 * length task.plan.contacts) c.answer_by.new.looks.count c.answer_by.result c.answer_by.ensures.some c.answer_by.ensures.err_looks c.answer_by.ensures.ok_looks
     (omega arith)
 
 pub returns-clause-cut : goal.returns-clause-cut

@@ -1,18 +1,22 @@
 use Rattle.std.proofs.Common.{◌+◌, ◌-◌, ◌≡◌, length, arith}
 use Rattle.sabr_search.specs.Told.{hops_told}
 use Rattle.sabr_search.proofs.Prefixes.{prefix_facts}
+use Rattle.sabr_search.proofs.Law.{contacts_few}
 use Rattle.sabr_search.proofs.KeptAnswers.{found_answers}
 use Rattle.sabr_search.proofs.Beside.{told_sizes, told_longer, picks_within, picks_cut}
 use Rattle.sabr_search.proofs.settled.least_searched.Goals as goal
 
 pub follow-requires-clause-few : goal.follow-requires-clause-few
-follow-requires-clause-few g c = omega (arith, c.requires.few, c.one_pass-most.ensures.value)
+follow-requires-clause-few g c = omega (arith, c.requires.few, c.two_passes-most.ensures.value)
+
+pub follow-requires-clause-most : goal.follow-requires-clause-most
+follow-requires-clause-most g c = omega (arith, c.two_passes-most.ensures.value, contacts_few c.args.task.now.plan c.requires.task.plan)
 
 pub returns-in_err-followed-clause-bound : goal.returns-in_err-followed-clause-bound
 returns-in_err-followed-clause-bound g c =
     let task = c.args.task.now in
     picks_within (length task.table) (length task.plan.contacts) (length task.table) 0 c.follow.new.looks.count (omega (arith, c.requires.task.start_in)) (omega arith) (omega arith)
-    (omega (arith, c.in_err-followed.ensures.refused, c.one_pass-most.ensures.value))
+    (omega (arith, c.in_err-followed.ensures.refused, c.two_passes-most.ensures.value))
 
 pub returns-in-Some-clause-answered : goal.returns-in-Some-clause-answered
 returns-in-Some-clause-answered g c =
@@ -29,7 +33,7 @@ returns-in-Some-clause-bound g c =
     let looks = rw c.in-Some.is at c.in_ok-followed.ensures.looks in
     let sizes = told_sizes task c.requires.task prefix c.requires.behind facts c.args.max_hops c.requires.hops c.in-Some.answer (rw c.in-Some.is at c.in_ok-followed.ensures.some) in
     picks_within (length task.table) (length task.plan.contacts) (hops_told c.in-Some.answer - length prefix) (hops_told c.in-Some.answer) c.follow.new.looks.count (omega (arith, c.requires.task.start_in)) sizes.1 sizes.0
-    (omega (arith, looks, c.one_pass-most.ensures.value))
+    (omega (arith, looks, c.two_passes-most.ensures.value))
 
 pub returns-in-Some-clause-cut : goal.returns-in-Some-clause-cut
 returns-in-Some-clause-cut g c = λ most.
@@ -38,7 +42,7 @@ returns-in-Some-clause-cut g c = λ most.
     let facts = prefix_facts task.plan task.request prefix c.requires.fits in
     let looks = rw c.in-Some.is at c.in_ok-followed.ensures.looks in
     let sizes = told_sizes task c.requires.task prefix c.requires.behind facts c.args.max_hops c.requires.hops c.in-Some.answer (rw c.in-Some.is at c.in_ok-followed.ensures.some) in
-    picks_cut (hops_told c.in-Some.answer - length prefix) (length task.plan.contacts) (hops_told c.in-Some.answer) c.follow.new.looks.count sizes.0 (omega (arith, looks, c.one_pass-most.ensures.value))
+    picks_cut (hops_told c.in-Some.answer - length prefix) (length task.plan.contacts) (hops_told c.in-Some.answer) c.follow.new.looks.count sizes.0 (omega (arith, looks, c.two_passes-most.ensures.value))
 
 pub returns-in-Some-clause-longer : goal.returns-in-Some-clause-longer
 returns-in-Some-clause-longer g c = told_longer c.args.task.now c.args.prefix.now c.args.max_hops c.in-Some.answer (rw c.in-Some.is at c.in_ok-followed.ensures.some)

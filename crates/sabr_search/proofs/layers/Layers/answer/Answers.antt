@@ -1,7 +1,12 @@
-use Rattle.std.proofs.Common.{◌≡◌, ◌≤◌, ◌-◌, ◌*◌, length, arith}
+use Rattle.std.proofs.Common.{ℕ, ◌≡◌, ◌≤◌, ◌<◌, ◌+◌, ◌-◌, ◌*◌, length, arith}
 use Rattle.std.proofs.Math.Nat.{mul-le-mul_right}
 use Rattle.sabr_search.proofs.Front.{timed_made, least_way}
 use Rattle.sabr_search.proofs.layers.Layers.answer.Goals as goal
+
+one_fewer : (hops contacts : ℕ) → 0 < hops → (hops - 1) * contacts + contacts ≤ hops * contacts
+one_fewer hops contacts some =
+    let le : ((hops - 1) + 1) * contacts ≤ hops * contacts = mul-le-mul_right contacts (omega (arith, some)) in
+    omega (arith, le)
 
 pub set_deadlines-requires-clause-timed : goal.set_deadlines-requires-clause-timed
 set_deadlines-requires-clause-timed g c =
@@ -26,7 +31,7 @@ pub returns-clause-stopped : goal.returns-clause-stopped
 returns-clause-stopped g c = λ le.
     let contacts = length c.args.task.now.plan.contacts in
     let by : c.in_ok-best.best.delivery ≤ c.args.limits.lower = rw c.in_ok-route.ensures.delivery at le in
-    let fewer : (c.in_ok-best.best.hops - 1) * contacts ≤ c.in_ok-best.best.hops * contacts = mul-le-mul_right contacts (omega arith) in
+    let fewer : (c.in_ok-best.best.hops - 1) * contacts + contacts ≤ c.in_ok-best.best.hops * contacts = one_fewer c.in_ok-best.best.hops contacts (omega arith) in
     let hops : length c.in_ok-route.route.contacts - length c.args.prefix.now ≡ c.in_ok-best.best.hops = omega (arith, c.in_ok-route.ensures.hops) in
     rw hops (omega (arith, c.in_ok-best.ensures.stopped by, c.set_deadlines.ensures.looks, c.in_ok-route.ensures.ok_looks, fewer))
 

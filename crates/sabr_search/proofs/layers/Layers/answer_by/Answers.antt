@@ -25,5 +25,9 @@ returns-in-Some-clause-ok_looks g c =
 
 pub returns-in-Some-clause-stopped : goal.returns-in-Some-clause-stopped
 returns-in-Some-clause-stopped g c = λ le.
+    let told = rw c.in-Some.is at c.in_ok-backward.ensures.some in
     let looks = rw c.in-Some.is at c.in_ok-backward.ensures.looks in
-    omega (arith, looks)
+    let contacts = length c.args.task.now.plan.contacts in
+    let many : length c.in-Some.route.contacts ≡ length c.args.prefix.now + length told.0 = ap length told.1 ∙ length-append c.args.prefix.now told.0 in
+    let some : 1 * contacts ≤ (length c.in-Some.route.contacts - length c.args.prefix.now) * contacts = mul-le-mul_right contacts (omega (arith, many, told.2.some)) in
+    omega (arith, looks, some)

@@ -27,7 +27,7 @@ pub loop-link-preserved : goal.loop-link-preserved
 loop-link-preserved g c =
     let task = c.args.task.now in
     let own = c.args.self.now in
-    let l = slice_index_or c.all-links.result.links.now c.loop-link.link-index no_link in
+    let l = slice_index_or c.args.links.links.now c.loop-link.link-index no_link in
     let so_far = c.loop-link.invariant in
     let link = link_here _ _ _ _ so_far.links _ c.loop-link-test.true _ c.link_passes-passes.ensures in
     let over = c.least_over-least.ensures in
@@ -61,7 +61,7 @@ returns-clause-some g c =
     least_found task c.args.best own.bounds.items own.reached.items c.args.hop c.args.from.node t c.loop-link.least c.loop-link.invariant.chosen
     (λ n w b s admits.
     (let on = c.loop-link.invariant.links.whole n t w b s in
-    c.loop-link.invariant.least on.0 on.1 n w b (omega (arith, slice_get_within c.all-links.result.links.now on.0 on.1 on.2, c.loop-link-test.false)) on.2 on.3 s admits))
+    c.loop-link.invariant.least on.0 on.1 n w b (omega (arith, slice_get_within c.args.links.links.now on.0 on.1 on.2, c.loop-link-test.false)) on.2 on.3 s admits))
 
 pub returns-clause-none : goal.returns-clause-none
 returns-clause-none g c =
@@ -71,4 +71,4 @@ returns-clause-none g c =
     least_missing task c.args.best own.bounds.items own.reached.items c.args.hop c.args.from.node t c.loop-link.least
     (λ n w b s admits.
     (let on = c.loop-link.invariant.links.whole n t w b s in
-    c.loop-link.invariant.least on.0 on.1 n w b (omega (arith, slice_get_within c.all-links.result.links.now on.0 on.1 on.2, c.loop-link-test.false)) on.2 on.3 s admits))
+    c.loop-link.invariant.least on.0 on.1 n w b (omega (arith, slice_get_within c.args.links.links.now on.0 on.1 on.2, c.loop-link-test.false)) on.2 on.3 s admits))
