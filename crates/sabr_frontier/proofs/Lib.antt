@@ -39,6 +39,7 @@ pub mod Divided
 pub mod Sounds
 pub mod Merged
 pub mod Merging
+pub mod Winning
 mod Turns
 pub mod Filled
 pub mod Ranked

@@ -7,6 +7,7 @@ pub mod Leading
 pub mod Step
 pub mod Listing
 pub mod Waiting
+pub mod Winners
 pub mod Shape
 pub mod Undo
 pub mod Queue

@@ -27,6 +27,7 @@ mod tree;
 mod turning;
 mod undo;
 mod views;
+mod winners;
 
 pub use laws::{law4, law5, law6, pages_give_new_routes};
 pub use load_fault::LoadFault;
