@@ -1,5 +1,7 @@
 -- What the winners of slots are.
 use Rattle.std.proofs.Common.{◌≡◌, ◌≢◌, ℕ, zero, suc, ◌+◌, ◌-◌, ◌*◌, ◌/◌, ◌<◌, ◌≤◌, Bool, true, false, ◌⊎◌, inl, inr, List, ◌++◌, length, get_or, set, Option, Some, None, refl, sym, ap, subst, ◌∙◌, arith, true≢false, length-set, length-append}
+use Rattle.std.specs.Prelude.{slice_get}
+use Rattle.std.specs.Option.{option_and_then}
 use Rattle.std.specs.Ordering.{is_lt}
 use Rattle.std.specs.declared.cmp.Ordering.TheVariants.{Less, Equal, Greater}
 use Rattle.std.proofs.lemmas.Bool.{cases_eq, cases_lt}
@@ -9,9 +11,29 @@ use Rattle.sabr_model.specs.Record.{RouteRecord, by_record, by_record_total}
 use Rattle.sabr_frontier.specs.declared.tree.NodeId.{NodeId}
 use Rattle.sabr_frontier.specs.declared.tree.Node.{Node}
 use Rattle.sabr_frontier.specs.Shape.{ids_from, route_at}
-use Rattle.sabr_frontier.specs.Winners.{winner_at, is_less, comes_first, IsNoGreater, IsLesser, IsWinner, IsWon, AreWinners, low, high, IsAbove, AreOthersWinners, IsSettled}
+use Rattle.sabr_frontier.specs.Winners.{route_of, winner_at, comes_first, IsUpTo, IsNoGreater, IsLeast, IsFirst, CarriesNone, IsLesser, IsWinner, IsWon, AreWinners, low, high, IsAbove, AreOthersWinners, IsSettled}
 use Rattle.sabr_frontier.proofs.Rising.{turned}
-use Rattle.sabr_frontier.proofs.Orders.{less_from_test, worse_too}
+use Rattle.sabr_frontier.proofs.Orders.{less_from_test}
+use Rattle.sabr_frontier.proofs.Nodes.{get_within}
+
+-- ---- what a node carries
+
+pub standing_at : {A : Type 0} (nodes : List (Node A)) (id : NodeId) (x : RouteRecord) → route_at nodes id ≡ Some x → (n : Node A) × (slice_get nodes id.0 ≡ Some n) × (n.route ≡ Some x)
+standing_at nodes id x h = elim (slice_get nodes id.0) as (λ o. slice_get nodes id.0 ≡ o → option_and_then route_of o ≡ Some x → (n : Node _) × (slice_get nodes id.0 ≡ Some n) × (n.route ≡ Some x)) [
+  | None ↦ λ _ k. absurd cc
+  | Some n ↦ λ e k. (n, e, k)
+] refl h
+
+-- the same winners where each node carries what it carried
+pub winners_same : {A : Type 0} (nodes old : List (Node A)) (ids : List NodeId) → ((id : NodeId) → route_at nodes id ≡ route_at old id) → AreWinners old ids → AreWinners nodes ids
+winners_same nodes old ids same won k l =
+    let is = won k l in
+    let w = winner_at ids k in
+    record {
+      own = subst (λ (z : Option RouteRecord × Option RouteRecord). IsNoGreater z.0 z.1) (λ i. (sym (same w) i, sym (same (record { 0 = k })) i)) is.own;
+      over = λ c a b m. subst (λ (z : Option RouteRecord × Option RouteRecord). IsNoGreater z.0 z.1) (λ i. (sym (same w) i, sym (same (winner_at ids c)) i)) (is.over c a b m);
+      from = is.from;
+    }
 
 -- ---- routes that are no greater
 
@@ -21,7 +43,11 @@ no_greater_itself (Some x) = ap is_lt (tied_itself by_record_total x)
 
 not_less : (x y z : RouteRecord) → is_lt (by_record y x) ≡ false → is_lt (by_record z y) ≡ false → is_lt (by_record z x) ≡ false
 not_less x y z a b = elim (by_record z x) as (λ o. by_record z x ≡ o → is_lt o ≡ false) [
-  | Less ↦ λ e. absurd (true≢false (sym (worse_too z (Some y) (Some x) a (ap is_lt e)) ∙ b))
+  | Less ↦ λ e. elim (by_record y x) as (λ o. by_record y x ≡ o → is_lt o ≡ false → is_lt Less ≡ false) [
+    | Less ↦ λ _ h. absurd (true≢false h)
+    | Equal ↦ λ f _. absurd (true≢false (sym (ap is_lt (turned by_record_total y z Greater (by_record_total.congr y x z f ∙ turned by_record_total z x Less e))) ∙ b))
+    | Greater ↦ λ f _. absurd (true≢false (sym (ap is_lt (by_record_total.trans z x y e (turned by_record_total y x Greater f))) ∙ b))
+  ] refl a
   | Equal ↦ λ _. refl
   | Greater ↦ λ _. refl
 ] refl
@@ -182,6 +208,29 @@ module _ {A : Type 0} (nodes : List (Node A)) where
     -- no node carries a lesser route than its winner
     pub least_is : (j : ℕ) → j < length ids → IsNoGreater (route_at nodes (winner_at ids 0)) (route_at nodes (record { 0 = j }))
     least_is j l = no_greater_then (route_at nodes (winner_at ids 0)) (route_at nodes (winner_at ids j)) (route_at nodes (record { 0 = j })) (first_is j j (omega arith) l) (won j l).own
+
+    -- a node carries the least route where some node carries one
+    module _ (all : length nodes ≤ length ids) where
+      least_of : (o : Option RouteRecord) → ((id : NodeId) → id.0 < length nodes → IsNoGreater o (route_at nodes id)) → (x : RouteRecord) → o ≡ Some x → IsLeast nodes x
+      least_of o below x e id y f = subst (λ o. IsUpTo o y) e (subst (IsNoGreater o) f (below id (let w = standing_at nodes id y f in get_within nodes id.0 w.0 w.1)))
+
+      below_first : (id : NodeId) → id.0 < length nodes → IsNoGreater (route_at nodes (winner_at ids 0)) (route_at nodes id)
+      below_first id l = least_is id.0 (omega (arith, l, all))
+
+      pub first_carries : (x : RouteRecord) → route_at nodes (winner_at ids 0) ≡ Some x → IsFirst nodes (winner_at ids 0) x
+      first_carries x e = record { carries = e; least = least_of (route_at nodes (winner_at ids 0)) below_first x e }
+
+      pub none_carries : route_at nodes (winner_at ids 0) ≡ None → CarriesNone nodes
+      none_carries e id = elim (route_at nodes id) as (λ o. route_at nodes id ≡ o → o ≡ None) [
+        | None ↦ λ _. refl
+        | Some y ↦ λ f. absurd (subst (λ o. IsUpTo o y) e (subst (IsNoGreater (route_at nodes (winner_at ids 0))) f (below_first id (let w = standing_at nodes id y f in get_within nodes id.0 w.0 w.1))))
+      ] refl
+
+    pub nothing_there : length nodes ≡ 0 → CarriesNone nodes
+    nothing_there none id = elim (route_at nodes id) as (λ o. route_at nodes id ≡ o → o ≡ None) [
+      | None ↦ λ _. refl
+      | Some y ↦ λ f. (let w = standing_at nodes id y f in absurd (omega (arith, none, get_within nodes id.0 w.0 w.1)))
+    ] refl
 
     -- a winner's slot is over its own
     named : (n c : ℕ) → length ids - c ≤ n → c < length ids → (i : ℕ) × (winner_at ids c ≡ record { 0 = i }) × (i < length ids) × IsAbove c i (i + 1)

@@ -1,11 +1,37 @@
 -- The node with the least route, found as in a tournament: slot k names the winner among node k and the winners of slots
 -- 2k + 1 and 2k + 2.
-use Rattle.std.specs.Prelude.{◌≡◌, ℕ, ◌+◌, ◌*◌, ◌-◌, ◌/◌, ◌<◌, ◌≤◌, ◌⊎◌, zero, suc, Bool, true, false, get_or, length, List, Option, Some, None}
+use Rattle.std.specs.Prelude.{slice_get, ◌≡◌, ℕ, ◌+◌, ◌*◌, ◌-◌, ◌/◌, ◌<◌, ◌≤◌, ◌⊎◌, zero, suc, Bool, true, false, get_or, length, List, Option, Some, None}
+use Rattle.std.specs.Option.{option_and_then}
 use Rattle.std.specs.Ordering.{is_lt}
 use Rattle.sabr_model.specs.Record.{RouteRecord, by_record}
 use Rattle.sabr_frontier.specs.declared.tree.NodeId.{NodeId}
 use Rattle.sabr_frontier.specs.declared.tree.Node.{Node}
-use Rattle.sabr_frontier.specs.Waiting.{route_at}
+
+-- what a node carries
+abbrev pub route_of : {A : Type 0} → Node A → Option RouteRecord
+route_of n = n.route
+
+abbrev pub route_at : {A : Type 0} → List (Node A) → NodeId → Option RouteRecord
+route_at nodes id = option_and_then route_of (slice_get nodes id.0)
+
+-- no node carries a lesser route
+abbrev pub IsLeast : {A : Type 0} → List (Node A) → RouteRecord → Type 0
+IsLeast nodes x = (id : NodeId) (y : RouteRecord) → route_at nodes id ≡ Some y → is_lt (by_record y x) ≡ false
+
+-- the node carries this route, the least
+pub record IsFirst {A : Type 0} (nodes : List (Node A)) (id : NodeId) (x : RouteRecord) : Type 0 where
+  pub carries : route_at nodes id ≡ Some x
+  pub least : IsLeast nodes x
+
+-- some node carries a route, and this is the least
+abbrev pub IsNext : {A : Type 0} → List (Node A) → RouteRecord → Type 0
+IsNext nodes x = (id : NodeId) × IsFirst nodes id x
+
+abbrev pub CarriesSome : {A : Type 0} → List (Node A) → Type 0
+CarriesSome nodes = (x : RouteRecord) × IsNext nodes x
+
+abbrev pub CarriesNone : {A : Type 0} → List (Node A) → Type 0
+CarriesNone nodes = (id : NodeId) → route_at nodes id ≡ None
 
 -- the node that a slot names
 abbrev pub winner_at : List NodeId → ℕ → NodeId

@@ -17,8 +17,6 @@ mod leading;
 mod load_fault;
 mod loader;
 mod places;
-mod queue;
-mod ranking;
 mod root;
 mod rows;
 mod session;

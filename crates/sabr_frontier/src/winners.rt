@@ -1,7 +1,7 @@
 //! The node with the least route, found as in a tournament: slot `k` names the winner among node `k` and the winners of
 //! slots `2k + 1` and `2k + 2`.
 
-ghost use Rattle.std.specs.Prelude.{◌≡◌, ◌<◌, ◌≤◌, length, vec_len, vec_capacity};
+ghost use Rattle.std.specs.Prelude.{◌≡◌, ◌+◌, ◌<◌, ◌≤◌, length, vec_len, vec_capacity};
 ghost use Rattle.sabr_frontier.specs.Shape.{route_at};
 ghost use Rattle.sabr_frontier.specs.Winners.{AreOthersWinners, AreWinners, IsLesser, IsSettled, IsWinner, comes_first};
 
@@ -99,4 +99,26 @@ pub fn fill<A: Allocator + Copy>(nodes: &[Node<A>], winners: &mut Vec<NodeId, A>
     let first = winners.len();
     push_block(winners, first, nodes.len() - first);
     settle_up(nodes, winners.as_mut_slice(), first, nodes.len());
+}
+
+/// Renews the winners after a node's route changed.
+pub fn renew<A: Allocator + Copy>(nodes: &[Node<A>], winners: &mut Vec<NodeId, A>, node: NodeId)
+    requires within { node.0 < vec_len winners.old }
+    requires others { AreOthersWinners nodes.now winners.old.items node.0 (node.0 + 1) }
+    ensures won { AreWinners nodes.now winners.new.items }
+    ensures len { vec_len winners.new ≡ vec_len winners.old }
+    ensures capacity { vec_capacity winners.new ≡ vec_capacity winners.old }
+{
+    settle_up(nodes, winners.as_mut_slice(), node.0, node.0 + 1);
+}
+
+/// Finds the winners of all nodes, for which there is room.
+pub fn rebuild<A: Allocator + Copy>(nodes: &[Node<A>], winners: &mut Vec<NodeId, A>)
+    requires { length nodes.now ≤ vec_capacity winners.old }
+    ensures won { AreWinners nodes.now winners.new.items }
+    ensures len { vec_len winners.new ≡ length nodes.now }
+    ensures capacity { vec_capacity winners.old ≤ vec_capacity winners.new }
+{
+    winners.clear();
+    fill(nodes, winners);
 }
