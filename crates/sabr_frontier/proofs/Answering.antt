@@ -39,7 +39,7 @@ use Rattle.sabr_frontier.proofs.Listed.{goes_on_within}
 use Rattle.sabr_frontier.proofs.Nodes.{last_split}
 use Rattle.sabr_frontier.proofs.Orders.{less_from_test}
 use Rattle.sabr_frontier.proofs.Paths.{prefix_no_route}
-use Rattle.sabr_frontier.proofs.Merging.{no_last}
+use Rattle.sabr_frontier.proofs.Nodes.{no_last}
 use Rattle.sabr_model.proofs.Apart.{same_numbers_tell}
 
 -- ---- order

@@ -19,7 +19,7 @@ use Rattle.sabr_frontier.specs.Tree.{tree}
 use Rattle.sabr_frontier.specs.State.{PartState, pair_of, Member, leaves}
 use Rattle.sabr_frontier.specs.Step.{carry, parts_after, given, fresh}
 use Rattle.sabr_frontier.specs.Shape.{Shape, shown, part_at, part_of, prefix_of, front_of, contacts_in, numbers_of}
-use Rattle.sabr_frontier.specs.Undo.{modify, last_item}
+use Rattle.sabr_frontier.specs.Undo.{modify}
 use Rattle.sabr_frontier.specs.Best.{best_of}
 use Rattle.sabr_frontier.specs.Taking.{passing, stands_before, nodes_then, widened, wide_of, fresh_nodes, ids_from, with_block, divided}
 use Rattle.sabr_frontier.specs.Sound.{IsTree, IsLent}
@@ -65,8 +65,7 @@ part_stable : {A : Type 0} (leaves : List RouteRecord) (x : RouteRecord) (nodes 
 part_stable leaves x nodes None i f e = refl
 part_stable leaves x nodes (Some n) i f e = λ j. record { prefix = prefix_stable leaves (x ∷ []) n (f n (get_Member nodes i n e)) j; excluded = n.excluded; carried = option_map numbers_of n.route }
 
-module _ {A : Type 0} (p : ContactPlan) (r : RouteRequest) (t : Shape A) (is : IsTree p r t) (node : NodeId) (last : last_item t.queue ≡ Some node)
-    (n : Node A) (x : RouteRecord) (stands : slice_get t.nodes node.0 ≡ Some n) (carries : n.route ≡ Some x) where
+module _ {A : Type 0} (p : ContactPlan) (r : RouteRequest) (t : Shape A) (is : IsTree p r t) (node : NodeId) (n : Node A) (x : RouteRecord) (stands : slice_get t.nodes node.0 ≡ Some n) (carries : n.route ≡ Some x) where
   abbrev s : List ℕ
   s = x.contacts
 
@@ -74,19 +73,19 @@ module _ {A : Type 0} (p : ContactPlan) (r : RouteRequest) (t : Shape A) (is : I
   pre = prefix_of t.leaves n
 
   abbrev y : ℕ
-  y = (inside p r t is node last n x stands carries).1.0
+  y = (inside p r t is node n x stands carries).1.0
 
   abbrev rest : List ℕ
-  rest = (cut p r t is node last n x stands carries).0
+  rest = (cut p r t is node n x stands carries).0
 
   whole : s ≡ pre ++ y ∷ rest
-  whole = (cut p r t is node last n x stands carries).1
+  whole = (cut p r t is node n x stands carries).1
 
   abbrev q0 : List ℕ
   q0 = take (n.length + 1) s
 
   q_is : q0 ≡ pre ++ y ∷ []
-  q_is = (cut p r t is node last n x stands carries).2.more
+  q_is = (cut p r t is node n x stands carries).2.more
 
   abbrev test : NodeId → Bool
   test = stands_before t.leaves t.nodes q0
@@ -101,7 +100,7 @@ module _ {A : Type 0} (p : ContactPlan) (r : RouteRequest) (t : Shape A) (is : I
   old = map part t.index
 
   abbrev hole : PartState
-  hole = here p r t is node last n x stands carries
+  hole = here p r t is node n x stands carries
 
   falls : (a b : NodeId) → IsBefore t.leaves t.nodes a b → test b ≡ true → test a ≡ true
   falls a b = earlier_prefix q0 (part a).prefix (part b).prefix
@@ -112,10 +111,10 @@ module _ {A : Type 0} (p : ContactPlan) (r : RouteRequest) (t : Shape A) (is : I
   -- ---- where the node stands in the index
 
   node_passes : test node ≡ true
-  node_passes = (λ i. is_lt (by_numbers (part_is p r t is node last n x stands carries i).prefix (q_is i))) ∙ ap is_lt (begins_less pre y [])
+  node_passes = (λ i. is_lt (by_numbers (part_is p r t is node n x stands carries i).prefix (q_is i))) ∙ ap is_lt (begins_less pre y [])
 
   node_front : Member node (take k t.index)
-  node_front = elim (member_cut k node t.index (is.listed node (node_within p r t is node last))) [
+  node_front = elim (member_cut k node t.index (is.listed node (node_within p r t is node n x stands carries))) [
     | inl m ↦ m
     | inr m ↦ absurd (true≢false (sym node_passes ∙ back_fails test (IsBefore t.leaves t.nodes) falls node t.index order m))
   ]
@@ -144,7 +143,7 @@ module _ {A : Type 0} (p : ContactPlan) (r : RouteRequest) (t : Shape A) (is : I
   spread f = map-append f (F ++ node ∷ M) B ∙ ap (λ z. z ++ map f B) (map-append f F (node ∷ M))
 
   old_is : old ≡ (map part F ++ hole ∷ map part M) ++ map part B
-  old_is = ap (map part) index_is ∙ spread part ∙ ap (λ z. (map part F ++ z ∷ map part M) ++ map part B) (part_is p r t is node last n x stands carries)
+  old_is = ap (map part) index_is ∙ spread part ∙ ap (λ z. (map part F ++ z ∷ map part M) ++ map part B) (part_is p r t is node n x stands carries)
 
   abbrev S : List (List ℕ)
   S = leaves (is_route p r) (map pair_of old)
@@ -156,7 +155,7 @@ module _ {A : Type 0} (p : ContactPlan) (r : RouteRequest) (t : Shape A) (is : I
   pair_in u m = subst (Member (pair_of u)) is_tree (Member-map pair_of u old m)
 
   unused : has nat_cmp y n.excluded ≡ false
-  unused = (inside p r t is node last n x stands carries).1.2
+  unused = (inside p r t is node n x stands carries).1.2
 
   low : (u : PartState) → Member u (map part M) → by_numbers u.prefix (pre ++ y ∷ []) ≡ Less
   low u m =
@@ -171,7 +170,7 @@ module _ {A : Type 0} (p : ContactPlan) (r : RouteRequest) (t : Shape A) (is : I
       let fails' : is_lt (by_numbers u.prefix (pre ++ y ∷ [])) ≡ false = (λ i. is_lt (by_numbers (w.1 i).prefix (sym q_is i))) ∙ fails in
       let u_in : Member u old = subst (λ z. Member z old) (sym w.1) (Member-map part w.0 t.index (member_dropped k w.0 t.index w.2)) in
       let listed = (tree_has u.prefix u.excluded S (pair_in u u_in)).0 in
-      let X_is = (tree_has pre n.excluded S (pair_in hole (here_in p r t is node last n x stands carries))).1 in
+      let X_is = (tree_has pre n.excluded S (pair_in hole (here_in p r t is node n x stands carries))).1 in
       elim (by_numbers u.prefix (pre ++ y ∷ [])) as (λ o. by_numbers u.prefix (pre ++ y ∷ []) ≡ o → is_lt o ≡ false → by_numbers (pre ++ y ∷ []) u.prefix ≡ Less) [
         | Less ↦ λ _ h. absurd (true≢false h)
         | Equal ↦ λ e _.
@@ -201,20 +200,20 @@ module _ {A : Type 0} (p : ContactPlan) (r : RouteRequest) (t : Shape A) (is : I
   part' = part_at leaves' nodes'
 
   other_part : (id : NodeId) → id.0 < length t.nodes → (id.0 ≡ node.0 → ⊥) → part' id ≡ part id
-  other_part id l ne = ap (part_of leaves') (kept p r t is node last wide found new id l ne) ∙ part_stable t.leaves x t.nodes (slice_get t.nodes id.0) id.0 is.lent refl
+  other_part id l ne = ap (part_of leaves') (kept p r t is node wide found new id l ne) ∙ part_stable t.leaves x t.nodes (slice_get t.nodes id.0) id.0 is.lent refl
 
   wide_is : wide ≡ put_in nat_cmp y n.excluded
-  wide_is = ap (λ z. put_in nat_cmp z n.excluded) (cut p r t is node last n x stands carries).2.number
+  wide_is = ap (λ z. put_in nat_cmp z n.excluded) (cut p r t is node n x stands carries).2.number
 
   front_is : take n.length s ≡ pre
-  front_is = (cut p r t is node last n x stands carries).2.front
+  front_is = (cut p r t is node n x stands carries).2.front
 
   abbrev wide_part : PartState
   wide_part = record { prefix = pre; excluded = put_in nat_cmp y n.excluded; carried = least_in p r pre (put_in nat_cmp y n.excluded) }
 
   this_part : part' node ≡ wide_part
   this_part =
-      ap (part_of leaves') (get_front (modify (widened wide found) t.nodes node.0) new node.0 (let l = node_within p r t is node last in omega (arith, length-modify (widened wide found) t.nodes node.0)) ∙ get_same (widened wide found) t.nodes node.0 n stands)
+      ap (part_of leaves') (get_front (modify (widened wide found) t.nodes node.0) new node.0 (let l = node_within p r t is node n x stands carries in omega (arith, length-modify (widened wide found) t.nodes node.0)) ∙ get_same (widened wide found) t.nodes node.0 n stands)
       ∙ (λ i. record { prefix = prefix_stable t.leaves (x ∷ []) n (is.lent n (get_Member t.nodes node.0 n stands)) i; excluded = wide_is i; carried = (best_numbers p r (take n.length s) wide ∙ (λ j. least_in p r (front_is j) (wide_is j))) i })
 
   same_parts : (ids : List NodeId) → ((id : NodeId) → Member id ids → Member id t.index × (id.0 ≡ node.0 → ⊥)) → map part' ids ≡ map part ids
@@ -253,7 +252,7 @@ module _ {A : Type 0} (p : ContactPlan) (r : RouteRequest) (t : Shape A) (is : I
   new_parts =
       let base : List (Node A) = modify (widened wide found) t.nodes node.0 in
       let long : length t.nodes ≡ length base = sym (length-modify (widened wide found) t.nodes node.0) in
-      let behind : drop (n.length + 1) s ≡ rest = (cut p r t is node last n x stands carries).2.behind in
+      let behind : drop (n.length + 1) s ≡ rest = (cut p r t is node n x stands carries).2.behind in
       let all : x.contacts ≡ q0 ++ drop (n.length + 1) s = sym (take-append-drop (n.length + 1) s) in
       ap (λ m. map part' (ids_from m (length new))) long
       ∙ fresh_parts p r leaves' (length t.leaves) x (get_at_end t.leaves [] x) base q0 (drop (n.length + 1) s) (length new) all refl

@@ -26,10 +26,10 @@ pub mod Undoing
 pub mod Partition
 pub mod Fronts
 pub mod Orders
-pub mod Queues
 pub mod Blocks
 pub mod Takes
 pub mod Nodes
+pub mod Winning
 pub mod Excluding
 pub mod Splits
 pub mod Found
@@ -37,11 +37,7 @@ pub mod Refined
 pub mod Indexed
 pub mod Divided
 pub mod Sounds
-pub mod Merged
-pub mod Merging
 mod Turns
-pub mod Filled
-pub mod Ranked
 pub mod GhostWalks
 pub mod Giving
 pub mod Pages

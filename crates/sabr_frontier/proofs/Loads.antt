@@ -33,9 +33,6 @@ use Rattle.sabr_frontier.proofs.Members.{Member-map, Member-map_cases, Member-fi
 use Rattle.sabr_frontier.proofs.Division.{map-append}
 use Rattle.sabr_frontier.proofs.Leaves.{Pairs}
 use Rattle.sabr_frontier.proofs.Nodes.{get_within, get_at_end, ids_cases, ids_has}
-use Rattle.sabr_frontier.proofs.Refined.{carried_there}
-use Rattle.sabr_frontier.proofs.Queues.{enqueued_all_falls}
-use Rattle.sabr_frontier.proofs.Sounds.{all_cases, all_has, all_length, block_apart}
 use Rattle.sabr_frontier.proofs.Answering.{paid_closed, paid_owes, pairs_two}
 use Rattle.std.proofs.Math.Seq.{take-append_seam}
 use Rattle.sabr_search.proofs.Prefixes.{number_after_some}
@@ -270,9 +267,6 @@ module _ {A : Type 0} (p : ContactPlan) (r : RouteRequest) (h : Holding A) (held
     abbrev ids : List NodeId
     ids = ids_from 0 (length h.nodes)
 
-    carries_within : (id : NodeId) → is_some (route_at h.nodes id) ≡ true → id.0 < length h.nodes
-    carries_within id k = let w = carried_there h.nodes id k in get_within h.nodes id.0 w.0 w.2
-
     pub loaded_is_tree : IsTree p r t
     loaded_is_tree = record {
       formed = subst (IsState p r) (sym shown_then) formed_then;
@@ -281,9 +275,4 @@ module _ {A : Type 0} (p : ContactPlan) (r : RouteRequest) (h : Holding A) (held
       lent = lent_all.1;
       records = held.records;
       given = given_then;
-      queued = λ id m. elim (all_cases h.nodes id ids [] m) [ inl w ↦ w.1 | inr z ↦ absurd z ];
-      waiting = λ id k. all_has h.nodes id ids [] (inl (ids_has id 0 (length h.nodes) (omega arith) (let l = carries_within id k in omega (arith, l)), k));
-      falls = enqueued_all_falls h.nodes ids [] tt;
-      once = block_apart h.nodes 0 (length h.nodes) [] (λ y m. absurd m) tt;
-      short = omega (arith, all_length h.nodes ids [], Rattle.sabr_frontier.proofs.Blocks.length-ids 0 (length h.nodes));
     }

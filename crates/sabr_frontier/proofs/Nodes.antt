@@ -1,5 +1,5 @@
 -- What stands at a place of a list of nodes, and what is changed there.
-use Rattle.std.proofs.Common.{◌≡◌, ℕ, zero, suc, ◌+◌, ◌-◌, ◌<◌, ◌≤◌, List, [], ◌∷◌, ◌++◌, length, take, drop, refl, sym, ap, subst, ◌⊎◌, inl, inr, arith, Some}
+use Rattle.std.proofs.Common.{◌≡◌, ℕ, zero, suc, ◌+◌, ◌-◌, ◌<◌, ◌≤◌, List, [], ◌∷◌, ◌++◌, length, take, drop, refl, sym, ap, subst, ◌⊎◌, inl, inr, arith, Some, None}
 use Rattle.std.specs.Prelude.{slice_get}
 use Rattle.std.proofs.lemmas.List.{take-append-drop}
 use Rattle.sabr_frontier.specs.declared.tree.NodeId.{NodeId}
@@ -118,3 +118,7 @@ last_split xs z e = get_last xs (length xs - 1) z e (omega (arith, get_within xs
 
 pub some_last : {X : Type 0} (xs : List X) → 0 < length xs → (z : X) × (last_item xs ≡ Some z)
 some_last xs l = within_get xs (length xs - 1) (omega arith)
+
+pub no_last : {X : Type 0} (xs : List X) → last_item xs ≡ None → xs ≡ []
+no_last [] e = refl
+no_last (x ∷ xs) e = let w = some_last (x ∷ xs) (omega arith) in let f = w.1 in absurd cc

@@ -1,19 +1,18 @@
 -- Steps of a tree, one after another, and the trees before them.
-use Rattle.std.proofs.lemmas.Bool.Decides.{nat_tests}
-use Rattle.std.proofs.Common.{◌≡◌, ℕ, zero, suc, ◌+◌, ◌-◌, ◌<◌, ◌≤◌, Bool, true, false, not, nat_eq, reverse, ◌⊎◌, inl, inr, List, [], ◌∷◌, ◌++◌, map, length, refl, sym, ap, subst, ◌∙◌, arith, Some, None, append_assoc}
+use Rattle.std.proofs.Common.{◌≡◌, ℕ, zero, suc, ◌+◌, ◌-◌, ◌<◌, ◌≤◌, Bool, true, false, not, reverse, ◌⊎◌, inl, inr, List, [], ◌∷◌, ◌++◌, map, length, refl, sym, ap, subst, ◌∙◌, arith, Some, None, append_assoc}
 use Rattle.sabr_model.specs.Plan.{ContactPlan, IsPlan}
 use Rattle.sabr_model.specs.Arrival.{RouteRequest}
 use Rattle.sabr_model.specs.Record.{RouteRecord, record_of}
 use Rattle.sabr_frontier.specs.State.{State}
-use Rattle.std.specs.Prelude.{is_some}
+use Rattle.std.specs.Prelude.{is_some, IsTrue, IsFalse}
 use Rattle.std.proofs.lemmas.List.{reverse-append}
 use Rattle.sabr_frontier.specs.Listing.{one_step, next_route, given_first, steps, searches_for, searches_in}
 use Rattle.sabr_frontier.specs.Shape.{Shape, shown}
 use Rattle.sabr_frontier.specs.Undo.{CanUndoTimes, undone, undone_times}
-use Rattle.sabr_frontier.specs.Taking.{taken, new_count}
+use Rattle.sabr_frontier.specs.Winners.{CarriesNone, CarriesSome}
 use Rattle.sabr_frontier.specs.Sound.{IsTree}
 use Rattle.sabr_frontier.specs.Session.{IsSoundFor, IsSound, tree_before, former_of}
-use Rattle.sabr_frontier.proofs.Giving.{IsGiven, is_given, nothing_carried, nothing_given}
+use Rattle.sabr_frontier.proofs.Giving.{IsGiven, next_carried, nothing_carried, nothing_given, some_given}
 use Rattle.sabr_frontier.proofs.Undoing.{entries_undone}
 
 pub steps_stop : (p : ContactPlan) (r : RouteRequest) (s : State) (k : ℕ) → one_step p r s ≡ None → steps p r k s ≡ ([], s)
@@ -34,15 +33,15 @@ module _ {A : Type 0} (p : ContactPlan) (r : RouteRequest) where
   sound_tree zero t h = h
   sound_tree (suc n) t h = h.0
 
-  pub sound_taken : (t : Shape A) → IsGiven p r t → IsSound p r t → IsSound p r (taken p r t)
-  sound_taken t g h =
-      let next : suc (length t.journal) ≡ length (taken p r t).journal = omega (arith, g.entries) in
-      subst (λ n. IsSoundFor p r n (taken p r t)) next (g.sound, g.can, subst (IsSoundFor p r (length t.journal)) (sym g.back) h)
+  pub sound_taken : (t u : Shape A) → IsGiven p r t u → IsSound p r t → IsSound p r u
+  sound_taken t u g h =
+      let next : suc (length t.journal) ≡ length u.journal = omega (arith, g.entries) in
+      subst (λ n. IsSoundFor p r n u) next (g.sound, g.can, subst (IsSoundFor p r (length t.journal)) (sym g.back) h)
 
-  pub before_taken : (t : Shape A) (start : ℕ) → IsGiven p r t → start ≤ length t.journal → tree_before start (taken p r t) ≡ tree_before start t
-  before_taken t start g l =
-      let more : length (taken p r t).journal - start ≡ suc (length t.journal - start) = omega (arith, g.entries) in
-      ap (λ n. undone_times n (taken p r t)) more ∙ ap (undone_times (length t.journal - start)) g.back
+  pub before_taken : (t u : Shape A) (start : ℕ) → IsGiven p r t u → start ≤ length t.journal → tree_before start u ≡ tree_before start t
+  before_taken t u start g l =
+      let more : length u.journal - start ≡ suc (length t.journal - start) = omega (arith, g.entries) in
+      ap (λ n. undone_times n u) more ∙ ap (undone_times (length t.journal - start)) g.back
 
   -- undos are possible, and lead to a sound tree
   pub sound_undos : (m n : ℕ) (t : Shape A) → m ≤ n → IsSoundFor p r n t → CanUndoTimes m t
@@ -78,20 +77,20 @@ at_first p r all k t given e h =
       entries = ap (λ n. length t.journal + length (steps p r n (shown t)).0) e;
     }
 
-pub one_on : {A : Type 0} (p : ContactPlan) (r : RouteRequest) (s : State) (all : ℕ) (first : Shape A) (before : List RouteRecord) (k : ℕ) (t : Shape A) (given new : List RouteRecord) (g : IsGiven p r t)
-    → new ≡ given ++ g.route ∷ [] → IsOnTheWay p r s all first before (suc k) t given → IsOnTheWay p r s all first before k (taken p r t) new
-one_on p r s all first before k t given new g e h =
-    let go = steps_go p r (shown t) (shown (taken p r t)) g.route.contacts k g.stepped in
+pub one_on : {A : Type 0} (p : ContactPlan) (r : RouteRequest) (s : State) (all : ℕ) (first : Shape A) (before : List RouteRecord) (k : ℕ) (t u : Shape A) (given new : List RouteRecord) (g : IsGiven p r t u)
+    → new ≡ given ++ g.route ∷ [] → IsOnTheWay p r s all first before (suc k) t given → IsOnTheWay p r s all first before k u new
+one_on p r s all first before k t u given new g e h =
+    let go = steps_go p r (shown t) (shown u) g.route.contacts k g.stepped in
     record {
-      routes = ap (λ z. z ++ map (record_of p r) (steps p r k (shown (taken p r t))).0) e
-          ∙ append_assoc given (g.route ∷ []) (map (record_of p r) (steps p r k (shown (taken p r t))).0)
-          ∙ ap (λ (z : RouteRecord). given ++ z ∷ map (record_of p r) (steps p r k (shown (taken p r t))).0) g.told
+      routes = ap (λ z. z ++ map (record_of p r) (steps p r k (shown u)).0) e
+          ∙ append_assoc given (g.route ∷ []) (map (record_of p r) (steps p r k (shown u)).0)
+          ∙ ap (λ (z : RouteRecord). given ++ z ∷ map (record_of p r) (steps p r k (shown u)).0) g.told
           ∙ ap (λ (z : List (List ℕ) × State). given ++ map (record_of p r) z.0) (sym go)
           ∙ h.routes;
       state = ap (λ (z : List (List ℕ) × State). z.1) (sym go) ∙ h.state;
-      sound = sound_taken p r t g h.sound;
+      sound = sound_taken p r t u g h.sound;
       longer = (let a = h.longer in omega (arith, g.entries));
-      back = before_taken p r t (length first.journal) g h.longer ∙ h.back;
+      back = before_taken p r t u (length first.journal) g h.longer ∙ h.back;
       entries = (let a = h.entries in let b = ap (λ (z : List (List ℕ) × State). length z.0) go in omega (arith, g.entries, a, b));
     }
 
@@ -115,15 +114,8 @@ at_last p r s all first before k t given e h = record {
 
 -- if no part carries a route, the steps end
 pub at_end : {A : Type 0} (p : ContactPlan) (r : RouteRequest) (good : IsPlan p) (s : State) (all : ℕ) (first : Shape A) (before : List RouteRecord) (k : ℕ) (t : Shape A) (given : List RouteRecord)
-    → length t.queue ≡ 0 → IsOnTheWay p r s all first before k t given → IsAllGiven p r s all first before t given
+    → CarriesNone t.nodes → IsOnTheWay p r s all first before k t given → IsAllGiven p r s all first before t given
 at_end p r good s all first before k t given e h = at_last p r s all first before k t given (steps_stop p r (shown t) k (nothing_given p r good t (sound_tree p r (length t.journal) t h.sound) e)) h
-
--- what a test of a length for 0 says
-pub none_there : (n : ℕ) (b : Bool) → b ≡ nat_eq n 0 → b ≡ true → n ≡ 0
-none_there n b e t = let h : nat_eq n 0 ≡ true = sym e ∙ t in grind (arith, nat_tests)
-
-pub some_there : (n : ℕ) (b : Bool) → b ≡ nat_eq n 0 → b ≡ false → 0 < n
-some_there n b e t = let h : nat_eq n 0 ≡ false = sym e ∙ t in grind (arith, nat_tests)
 
 pub last_steps : (p : ContactPlan) (r : RouteRequest) (s : State) (k : ℕ) → k ≡ 0 → steps p r k s ≡ ([], s)
 last_steps p r s k e = ap (λ n. steps p r n s) e ∙ steps_none p r s
@@ -135,24 +127,24 @@ module _ {A : Type 0} (p : ContactPlan) (r : RouteRequest) (good : IsPlan p) (t 
   tree_is = sound_tree p r (length t.journal) t sound
 
   -- no step, or nothing carried: nothing is given
-  pub idle : (k : ℕ) → (k ≡ 0) ⊎ (length t.queue ≡ 0) → steps p r k (shown t) ≡ ([], shown t)
+  pub idle : (k : ℕ) → (k ≡ 0) ⊎ CarriesNone t.nodes → steps p r k (shown t) ≡ ([], shown t)
   idle k (inl e) = last_steps p r (shown t) k e
   idle k (inr e) = steps_stop p r (shown t) k (nothing_given p r good t tree_is e)
 
   -- a step, and something carried: a route is given
-  pub busy : (k : ℕ) → 0 < k → 0 < length t.queue → (x : List ℕ) × (xs : List (List ℕ)) × ((steps p r k (shown t)).0 ≡ x ∷ xs)
+  pub busy : (k : ℕ) → 0 < k → CarriesSome t.nodes → (x : List ℕ) × (xs : List (List ℕ)) × ((steps p r k (shown t)).0 ≡ x ∷ xs)
   busy zero l m = absurd (omega arith)
   busy (suc k) l m =
-      let g = is_given p r good t tree_is m in
-      (g.route.contacts, (steps p r k (shown (taken p r t))).0, ap (λ (z : List (List ℕ) × State). z.0) (steps_go p r (shown t) (shown (taken p r t)) g.route.contacts k g.stepped))
+      let w = some_given p r good t tree_is m in
+      (w.1.route.contacts, (steps p r k (shown w.0)).0, ap (λ (z : List (List ℕ) × State). z.0) (steps_go p r (shown t) (shown w.0) w.1.route.contacts k w.1.stepped))
 
-  pub carried_or_not : (k : ℕ) → 0 < k → 0 < length t.queue → (k ≡ 0) ⊎ (next_route p r (shown t) ≡ None) → ⊥
+  pub carried_or_not : (k : ℕ) → 0 < k → CarriesSome t.nodes → (k ≡ 0) ⊎ (next_route p r (shown t) ≡ None) → ⊥
   carried_or_not k l m (inl e) = omega arith
-  carried_or_not k l m (inr e) = let g = is_given p r good t tree_is m in let a = g.next in cc
+  carried_or_not k l m (inr e) = let a = (next_carried p r good t tree_is m.0 m.1).0 in cc
 
-  pub more_is : (n : ℕ) (b : Bool) → n ≡ length t.queue → b ≡ nat_eq n 0 → not b ≡ is_some (next_route p r (shown t))
-  more_is n true l e = sym (ap is_some (nothing_carried p r good t tree_is (let z = none_there n true e refl in omega arith)))
-  more_is n false l e = let g = is_given p r good t tree_is (let z = some_there n false e refl in omega arith) in sym (ap is_some g.next)
+  pub more_is : (b : Bool) → (IsTrue b → CarriesNone t.nodes) → (IsFalse b → CarriesSome t.nodes) → not b ≡ is_some (next_route p r (shown t))
+  more_is true none some = sym (ap is_some (nothing_carried p r good t tree_is (none refl)))
+  more_is false none some = let w = some refl in sym (ap is_some (next_carried p r good t tree_is w.0 w.1).0)
 
 pub length-former : {A : Type 0} (ss : List ℕ) (t : Shape A) → length (former_of ss t) ≡ length ss
 length-former [] t = refl
@@ -196,11 +188,11 @@ unfolding searches_in
 counts_none p r s zero e = refl
 counts_none p r s (suc k) e = absurd (omega arith)
 
-pub counts_idle : {A : Type 0} (p : ContactPlan) (r : RouteRequest) (good : IsPlan p) (t : Shape A) → IsSound p r t → (k : ℕ) → (k ≡ 0) ⊎ (length t.queue ≡ 0) → searches_in p r k (shown t) ≡ 0
+pub counts_idle : {A : Type 0} (p : ContactPlan) (r : RouteRequest) (good : IsPlan p) (t : Shape A) → IsSound p r t → (k : ℕ) → (k ≡ 0) ⊎ CarriesNone t.nodes → searches_in p r k (shown t) ≡ 0
 counts_idle p r good t sound k (inl e) = counts_none p r (shown t) k e
 counts_idle p r good t sound k (inr e) = counts_stop p r (shown t) k (nothing_given p r good t (sound_tree p r (length t.journal) t sound) e)
 
-pub counts_on : {A : Type 0} (p : ContactPlan) (r : RouteRequest) (t : Shape A) (g : IsGiven p r t) (k n m all : ℕ) → m ≡ new_count t → n + searches_in p r (suc k) (shown t) ≡ all → (n + m) + searches_in p r k (shown (taken p r t)) ≡ all
-counts_on p r t g k n m all c h =
-    let go = counts_go p r (shown t) (shown (taken p r t)) g.route.contacts k g.stepped in
-    omega (arith, go, g.counted)
+pub counts_on : {A : Type 0} (p : ContactPlan) (r : RouteRequest) (t u : Shape A) (g : IsGiven p r t u) (k n m all : ℕ) → m ≡ searches_for (shown t) g.route.contacts → n + searches_in p r (suc k) (shown t) ≡ all → (n + m) + searches_in p r k (shown u) ≡ all
+counts_on p r t u g k n m all c h =
+    let go = counts_go p r (shown t) (shown u) g.route.contacts k g.stepped in
+    omega (arith, go, c)

@@ -1,4 +1,4 @@
--- What holds of a sound tree whose queue isn't empty, before its least route is given.
+-- What holds of a node of a sound tree that carries a route, before that is given.
 use Rattle.std.proofs.Common.{◌≡◌, ℕ, ◌-◌, ◌<◌, true, false, nat_eq, List, [], ◌∷◌, ◌++◌, map, length, refl, sym, ap, subst, ◌∙◌, inl, inr, arith, true≢false, Option, Some, None}
 use Rattle.std.specs.Prelude.{slice_get, is_some}
 use Rattle.std.specs.Option.{option_map, option_and_then}
@@ -23,38 +23,32 @@ use Rattle.sabr_frontier.specs.State.{PartState, pair_of, Member, leaves}
 use Rattle.sabr_frontier.specs.Formed.{Within}
 use Rattle.sabr_frontier.specs.Listing.{next_route, carries_it, hops_past, searches_for}
 use Rattle.sabr_frontier.specs.Shape.{Shape, shown, part_at, part_of, prefix_of, numbers_of, route_at, route_of}
-use Rattle.sabr_frontier.specs.Undo.{modify, last_item, front}
-use Rattle.sabr_frontier.specs.Queue.{InPairs, IsBefore, IsAtOrBehind, IsNotBetter}
+use Rattle.sabr_frontier.specs.Undo.{modify}
+use Rattle.sabr_frontier.specs.Winners.{IsFirst, IsLeast}
+use Rattle.sabr_frontier.specs.Queue.{InPairs, IsBefore}
 use Rattle.sabr_frontier.specs.Taking.{nodes_then, widened}
-use Rattle.sabr_frontier.specs.Sound.{IsTree, CanExclude, AreApart}
+use Rattle.sabr_frontier.specs.Sound.{IsTree, CanExclude}
 use Rattle.sabr_frontier.proofs.Found.{found_is, none_found}
 use Rattle.sabr_frontier.proofs.Rising.{is_equal}
 use Rattle.sabr_frontier.proofs.Beginnings.{lists_exact}
-use Rattle.sabr_frontier.proofs.Members.{Member-map, Member-map_cases, Member-append_left, Member-append_right}
+use Rattle.sabr_frontier.proofs.Members.{Member-map, Member-map_cases}
 use Rattle.sabr_frontier.proofs.Closed.{tree_has, leaves_has}
 use Rattle.sabr_frontier.proofs.Trees.{Listed}
 use Rattle.sabr_frontier.proofs.Parting.{in_one_part}
 use Rattle.sabr_frontier.proofs.Paths.{routes_apart}
 use Rattle.sabr_frontier.proofs.Leaves.{closed_tree}
-use Rattle.sabr_frontier.proofs.NextPlace.{least_carried_is, not_less_itself}
+use Rattle.sabr_frontier.proofs.NextPlace.{least_carried_is}
 use Rattle.sabr_frontier.proofs.Listed.{by_key_exact}
 use Rattle.sabr_frontier.proofs.Ends.{length-modify}
 use Rattle.sabr_frontier.proofs.Partition.{pairs_from_rises}
-use Rattle.sabr_frontier.proofs.Nodes.{get_within, get_Member, get_front, get_other, pair_across, pairs_front, pairs_weaker, last_split}
+use Rattle.sabr_frontier.proofs.Nodes.{get_within, get_Member, get_front, get_other}
+use Rattle.sabr_frontier.proofs.Winning.{standing_at}
 use Rattle.sabr_frontier.proofs.Splits.{IsCut, cut_at, prefix_length}
 use Rattle.sabr_search.proofs.Prefixes.{number_after_some}
 
-ne_from_test : (a b : ℕ) → nat_eq a b ≡ false → a ≡ b → ⊥
-ne_from_test a b e = λ s. grind (arith, nat_tests)
-
-pub carried_there : {A : Type 0} (nodes : List (Node A)) (id : NodeId) → is_some (route_at nodes id) ≡ true → (n : Node A) × (x : RouteRecord) × (slice_get nodes id.0 ≡ Some n) × (n.route ≡ Some x)
-carried_there nodes id h = elim (slice_get nodes id.0) as (λ o. slice_get nodes id.0 ≡ o → is_some (option_and_then route_of o) ≡ true → (n : Node _) × (x : RouteRecord) × (slice_get nodes id.0 ≡ Some n) × (n.route ≡ Some x)) [
-  | None ↦ λ _ k. absurd (true≢false (sym k))
-  | Some n ↦ λ e k. elim n.route as (λ w. n.route ≡ w → is_some w ≡ true → (m : Node _) × (x : RouteRecord) × (slice_get nodes id.0 ≡ Some m) × (m.route ≡ Some x)) [
-    | None ↦ λ _ l. absurd (true≢false (sym l))
-    | Some x ↦ λ f _. (n, x, e, f)
-  ] refl k
-] refl h
+-- the node that carries the least route
+pub standing : {A : Type 0} (nodes : List (Node A)) (id : NodeId) → ((x : RouteRecord) × IsFirst nodes id x) → (n : Node A) × (x : RouteRecord) × (slice_get nodes id.0 ≡ Some n) × (n.route ≡ Some x) × IsLeast nodes x
+standing nodes id (x, is) = let w = standing_at nodes id x is.carries in (w.0, x, w.1, w.2, is.least)
 
 pub route_there : {A : Type 0} (nodes : List (Node A)) (id : NodeId) (n : Node A) (x : RouteRecord) → slice_get nodes id.0 ≡ Some n → n.route ≡ Some x → route_at nodes id ≡ Some x
 route_there nodes id n x e f = ap (option_and_then route_of) e ∙ f
@@ -69,145 +63,100 @@ module _ {A : Type 0} (p : ContactPlan) (r : RouteRequest) (t : Shape A) (is : I
   pub index_order : InPairs (IsBefore t.leaves t.nodes) t.index
   index_order = pairs_from_rises by_numbers (λ (id : NodeId). (part_at t.leaves t.nodes id).prefix) t.index (subst (Rises by_numbers) (keys_map t.leaves t.nodes t.index) is.formed.order.by_prefix)
 
-  -- ---- the queue behind its last
+  -- ---- other nodes stay as they are
 
-  module _ (node : NodeId) (last : last_item t.queue ≡ Some node) where
-    pub queue_is : t.queue ≡ front t.queue ++ node ∷ []
-    queue_is = last_split t.queue node last
+  module _ (node : NodeId) (wide : List ℕ) (found : Option RouteRecord) (fresh : List (Node A)) where
+    pub kept : (id : NodeId) → id.0 < length t.nodes → (id.0 ≡ node.0 → ⊥) → slice_get (nodes_then t.nodes node wide found fresh) id.0 ≡ slice_get t.nodes id.0
+    kept id l ne = get_front (modify (widened wide found) t.nodes node.0) fresh id.0 (omega (arith, length-modify (widened wide found) t.nodes node.0)) ∙ get_other (widened wide found) t.nodes node.0 id.0 ne
 
-    pub node_queued : Member node t.queue
-    node_queued = subst (Member node) (sym queue_is) (Member-append_right node (front t.queue) (node ∷ []) (inl refl))
+  -- ---- the part that carries the route
 
-    pub standing : (n : Node A) × (x : RouteRecord) × (slice_get t.nodes node.0 ≡ Some n) × (n.route ≡ Some x)
-    standing = carried_there t.nodes node (is.queued node node_queued)
-
+  module _ (node : NodeId) (n : Node A) (x : RouteRecord) (stands : slice_get t.nodes node.0 ≡ Some n) (carries : n.route ≡ Some x) where
     pub node_within : node.0 < length t.nodes
-    node_within = get_within t.nodes node.0 standing.0 standing.2
+    node_within = get_within t.nodes node.0 n stands
 
-    -- each other of the queue is another node, and is there
-    pub rest_other : (id : NodeId) → Member id (front t.queue) → id.0 ≡ node.0 → ⊥
-    rest_other id m = ne_from_test id.0 node.0 (pair_across AreApart (front t.queue) (node ∷ []) id node (subst (InPairs AreApart) queue_is is.once) m (inl refl))
+    abbrev pub parts : List PartState
+    parts = map (part_at t.leaves t.nodes) t.index
 
-    pub rest_queued : (id : NodeId) → Member id (front t.queue) → Member id t.queue
-    rest_queued id m = subst (Member id) (sym queue_is) (Member-append_left id (front t.queue) (node ∷ []) m)
+    abbrev pub here : PartState
+    here = record { prefix = prefix_of t.leaves n; excluded = n.excluded; carried = Some x.contacts }
 
-    pub rest_within : (id : NodeId) → Member id (front t.queue) → id.0 < length t.nodes
-    rest_within id m = let w = carried_there t.nodes id (is.queued id (rest_queued id m)) in get_within t.nodes id.0 w.0 w.2
+    pub part_is : part_at t.leaves t.nodes node ≡ here
+    part_is = ap (part_of t.leaves) stands ∙ (λ i. record { prefix = prefix_of t.leaves n; excluded = n.excluded; carried = option_map numbers_of (carries i) })
 
-    -- ---- other nodes stay as they are
+    pub here_in : Member here parts
+    here_in = subst (λ z. Member z parts) part_is (Member-map (part_at t.leaves t.nodes) node t.index (is.listed node node_within))
 
-    module _ (wide : List ℕ) (found : Option RouteRecord) (fresh : List (Node A)) where
-      pub kept : (id : NodeId) → id.0 < length t.nodes → (id.0 ≡ node.0 → ⊥) → slice_get (nodes_then t.nodes node wide found fresh) id.0 ≡ slice_get t.nodes id.0
-      kept id l ne = get_front (modify (widened wide found) t.nodes node.0) fresh id.0 (omega (arith, length-modify (widened wide found) t.nodes node.0)) ∙ get_other (widened wide found) t.nodes node.0 id.0 ne
+    pub inside : (is_route p r x.contacts ≡ true) × Within (prefix_of t.leaves n) n.excluded x.contacts
+    inside = is.formed.carried here x.contacts here_in refl
 
-      pub kept_route : (id : NodeId) → id.0 < length t.nodes → (id.0 ≡ node.0 → ⊥) → route_at (nodes_then t.nodes node wide found fresh) id ≡ route_at t.nodes id
-      kept_route id l ne = ap (option_and_then route_of) (kept id l ne)
+    abbrev pub number : ℕ
+    number = inside.1.0
 
-      pub rest_order : InPairs (IsAtOrBehind (nodes_then t.nodes node wide found fresh)) (front t.queue)
-      rest_order = pairs_weaker (IsAtOrBehind t.nodes) (IsAtOrBehind (nodes_then t.nodes node wide found fresh)) (front t.queue)
-          (λ a b m k h. let P : Option RouteRecord × Option RouteRecord → Type 0 = λ w. IsNotBetter w.0 w.1 in
-          subst P (λ i. (sym (kept_route a (rest_within a m) (rest_other a m)) i, sym (kept_route b (rest_within b k) (rest_other b k)) i)) h)
-          (pairs_front (IsAtOrBehind t.nodes) (front t.queue) (node ∷ []) (subst (InPairs (IsAtOrBehind t.nodes)) queue_is is.falls))
+    pub cut : (rest : List ℕ) × (x.contacts ≡ prefix_of t.leaves n ++ number ∷ rest) × IsCut x.contacts (prefix_of t.leaves n) number rest n.length
+    cut =
+        let w = number_after_some (prefix_of t.leaves n) x.contacts number inside.1.1 in
+        (w.0, w.1, cut_at x.contacts (prefix_of t.leaves n) number w.0 n.length w.1 (prefix_length t.leaves n (is.lent n (get_Member t.nodes node.0 n stands))))
 
-    -- ---- the part that carries the least route
+    pub can_exclude : CanExclude n x.contacts
+    can_exclude = record {
+      longer = cut.2.inside;
+      rises = is.formed.order.numbers (prefix_of t.leaves n) n.excluded (Member-map pair_of here parts here_in);
+      absent = ap (λ z. has nat_cmp z n.excluded) cut.2.number ∙ inside.1.2;
+    }
 
-    module _ (n : Node A) (x : RouteRecord) (stands : slice_get t.nodes node.0 ≡ Some n) (carries : n.route ≡ Some x) where
-      abbrev pub parts : List PartState
-      parts = map (part_at t.leaves t.nodes) t.index
+    pub record_is : x ≡ record_of p r x.contacts
+    record_is = is.records n x (get_Member t.nodes node.0 n stands) carries
 
-      abbrev pub here : PartState
-      here = record { prefix = prefix_of t.leaves n; excluded = n.excluded; carried = Some x.contacts }
+    -- no part carries a lesser route
+    least_here : IsLeast t.nodes x → (u : PartState) (s : List ℕ) → Member u parts → u.carried ≡ Some s → is_lt (by_key p r s x.contacts) ≡ false
+    least_here least u s m e =
+        let w = Member-map_cases (part_at t.leaves t.nodes) u t.index m in
+        let id = w.0 in
+        let c : (part_at t.leaves t.nodes id).carried ≡ Some s = ap (λ (z : PartState). z.carried) (sym w.1) ∙ e in
+        let v : (y : RouteRecord) × (k : Node A) × (slice_get t.nodes id.0 ≡ Some k) × (k.route ≡ Some y) × (y.contacts ≡ s) = elim (slice_get t.nodes id.0) as (λ o. slice_get t.nodes id.0 ≡ o → (part_of t.leaves o).carried ≡ Some s → (y : RouteRecord) × (k : Node A) × (slice_get t.nodes id.0 ≡ Some k) × (k.route ≡ Some y) × (y.contacts ≡ s)) [
+          | None ↦ λ _ h. absurd cc
+          | Some k ↦ λ g h. elim k.route as (λ z. k.route ≡ z → option_map numbers_of z ≡ Some s → (y : RouteRecord) × (l : Node A) × (slice_get t.nodes id.0 ≡ Some l) × (l.route ≡ Some y) × (y.contacts ≡ s)) [
+            | None ↦ λ _ q. absurd cc
+            | Some y ↦ λ f q. (y, k, g, f, (let same : y.contacts ≡ s = cc in same))
+          ] refl h
+        ] refl c in
+        let there : route_at t.nodes id ≡ Some v.0 = route_there t.nodes id v.1 v.0 v.2 v.3 in
+        let told : v.0 ≡ record_of p r s = is.records v.1 v.0 (get_Member t.nodes id.0 v.1 v.2) v.3 ∙ ap (record_of p r) v.4 in
+        sym (ap is_lt (record_order p r s x.contacts)) ∙ sym (λ i. is_lt (by_record (told i) (record_is i))) ∙ least id v.0 there
 
-      pub part_is : part_at t.leaves t.nodes node ≡ here
-      part_is = ap (part_of t.leaves) stands ∙ (λ i. record { prefix = prefix_of t.leaves n; excluded = n.excluded; carried = option_map numbers_of (carries i) })
+    -- the tree's least route is the least that a part carries
+    pub next_is : IsLeast t.nodes x → next_route p r (shown t) ≡ Some x.contacts
+    next_is least = least_carried_is (key_total p r) (by_key_exact p r) parts here x.contacts here_in refl (least_here least)
 
-      pub here_in : Member here parts
-      here_in = subst (λ z. Member z parts) part_is (Member-map (part_at t.leaves t.nodes) node t.index (is.listed node node_within))
+    -- a part that carries the same route has the same prefix
+    leaf_route : (l : List ℕ) → has by_numbers l (leaves (is_route p r) (map pair_of parts)) ≡ true → is_route p r l ≡ true
+    leaf_route l h = (leaves_has (is_route p r) l (map pair_of parts) h).6
 
-      pub inside : (is_route p r x.contacts ≡ true) × Within (prefix_of t.leaves n) n.excluded x.contacts
-      inside = is.formed.carried here x.contacts here_in refl
+    listed_within : (u : PartState) → Member u parts → (is_route p r x.contacts ≡ true) × Within u.prefix u.excluded x.contacts → Listed (leaves (is_route p r) (map pair_of parts)) u.prefix × Within u.prefix (numbers_after u.prefix (leaves (is_route p r) (map pair_of parts))) x.contacts
+    listed_within u m w =
+        let S : List (List ℕ) = leaves (is_route p r) (map pair_of parts) in
+        let h = tree_has u.prefix u.excluded S (subst (Member (pair_of u)) (closed_tree (is_route p r) (is_path p r) (is_prefix p r) (map pair_of parts) is.formed.order is.formed.closed) (Member-map pair_of u parts m)) in
+        (h.0, subst (λ Z. Within u.prefix Z x.contacts) h.1 w.1)
 
-      abbrev pub number : ℕ
-      number = inside.1.0
+    same_prefix : (u : PartState) → Member u parts → u.carried ≡ Some x.contacts → u.prefix ≡ prefix_of t.leaves n
+    same_prefix u m e =
+        let a = listed_within u m (is.formed.carried u x.contacts m e) in
+        let b = listed_within here here_in inside in
+        in_one_part (is_route p r) (routes_apart p r) (leaves (is_route p r) (map pair_of parts)) leaf_route x.contacts inside.0 u.prefix (prefix_of t.leaves n) a.0 b.0 a.1 b.1
 
-      pub cut : (rest : List ℕ) × (x.contacts ≡ prefix_of t.leaves n ++ number ∷ rest) × IsCut x.contacts (prefix_of t.leaves n) number rest n.length
-      cut =
-          let w = number_after_some (prefix_of t.leaves n) x.contacts number inside.1.1 in
-          (w.0, w.1, cut_at x.contacts (prefix_of t.leaves n) number w.0 n.length w.1 (prefix_length t.leaves n (is.lent n (get_Member t.nodes node.0 n stands))))
+    carried_is : (u : PartState) → carries_it x.contacts u ≡ true → u.carried ≡ Some x.contacts
+    carried_is u h = elim u.carried as (λ o. option_map_or (same_numbers x.contacts) o false ≡ true → o ≡ Some x.contacts) [
+      | None ↦ λ k. absurd (true≢false (sym k))
+      | Some s ↦ λ k. ap Some (sym (lists_exact x.contacts s (is_equal (by_numbers x.contacts s) k)))
+    ] h
 
-      pub can_exclude : CanExclude n x.contacts
-      can_exclude = record {
-        longer = cut.2.inside;
-        rises = is.formed.order.numbers (prefix_of t.leaves n) n.excluded (Member-map pair_of here parts here_in);
-        absent = ap (λ z. has nat_cmp z n.excluded) cut.2.number ∙ inside.1.2;
-      }
-
-      pub record_is : x ≡ record_of p r x.contacts
-      record_is = is.records n x (get_Member t.nodes node.0 n stands) carries
-
-      -- no part carries a lesser route
-      least_here : (u : PartState) (s : List ℕ) → Member u parts → u.carried ≡ Some s → is_lt (by_key p r s x.contacts) ≡ false
-      least_here u s m e =
-          let w = Member-map_cases (part_at t.leaves t.nodes) u t.index m in
-          let id = w.0 in
-          let c : (part_at t.leaves t.nodes id).carried ≡ Some s = ap (λ (z : PartState). z.carried) (sym w.1) ∙ e in
-          let v : (y : RouteRecord) × (k : Node A) × (slice_get t.nodes id.0 ≡ Some k) × (k.route ≡ Some y) × (y.contacts ≡ s) = elim (slice_get t.nodes id.0) as (λ o. slice_get t.nodes id.0 ≡ o → (part_of t.leaves o).carried ≡ Some s → (y : RouteRecord) × (k : Node A) × (slice_get t.nodes id.0 ≡ Some k) × (k.route ≡ Some y) × (y.contacts ≡ s)) [
-            | None ↦ λ _ h. absurd cc
-            | Some k ↦ λ g h. elim k.route as (λ z. k.route ≡ z → option_map numbers_of z ≡ Some s → (y : RouteRecord) × (l : Node A) × (slice_get t.nodes id.0 ≡ Some l) × (l.route ≡ Some y) × (y.contacts ≡ s)) [
-              | None ↦ λ _ q. absurd cc
-              | Some y ↦ λ f q. (y, k, g, f, (let same : y.contacts ≡ s = cc in same))
-            ] refl h
-          ] refl c in
-          let there : route_at t.nodes id ≡ Some v.0 = route_there t.nodes id v.1 v.0 v.2 v.3 in
-          let queued : Member id t.queue = is.waiting id (ap is_some there) in
-          let told : v.0 ≡ record_of p r s = is.records v.1 v.0 (get_Member t.nodes id.0 v.1 v.2) v.3 ∙ ap (record_of p r) v.4 in
-          elim (Rattle.sabr_frontier.proofs.Members.Member-append_cases id (front t.queue) (node ∷ []) (subst (Member id) queue_is queued)) [
-            | inl k ↦
-                let h = pair_across (IsAtOrBehind t.nodes) (front t.queue) (node ∷ []) id node (subst (InPairs (IsAtOrBehind t.nodes)) queue_is is.falls) k (inl refl) in
-                let P : Option RouteRecord × Option RouteRecord → Type 0 = λ z. IsNotBetter z.0 z.1 in
-                let worse : is_lt (by_record v.0 x) ≡ false = subst P (λ i. (there i, route_there t.nodes node n x stands carries i)) h in
-                sym (ap is_lt (record_order p r s x.contacts)) ∙ sym (λ i. is_lt (by_record (told i) (record_is i))) ∙ worse
-            | inr k ↦ elim k [
-              | inl same ↦
-                  let same_route : Some v.0 ≡ Some x = sym there ∙ ap (route_at t.nodes) same ∙ route_there t.nodes node n x stands carries in
-                  let e2 : v.0 ≡ x = cc in
-                  ap (λ z. is_lt (by_key p r z x.contacts)) (sym v.4 ∙ ap numbers_of e2) ∙ not_less_itself (key_total p r) (by_key_exact p r) x.contacts
-              | inr none ↦ absurd none
-            ]
-          ]
-
-      -- the tree's least route is the least that a part carries
-      pub next_is : next_route p r (shown t) ≡ Some x.contacts
-      next_is = least_carried_is (key_total p r) (by_key_exact p r) parts here x.contacts here_in refl least_here
-
-      -- a part that carries the same route has the same prefix
-      leaf_route : (l : List ℕ) → has by_numbers l (leaves (is_route p r) (map pair_of parts)) ≡ true → is_route p r l ≡ true
-      leaf_route l h = (leaves_has (is_route p r) l (map pair_of parts) h).6
-
-      listed_within : (u : PartState) → Member u parts → (is_route p r x.contacts ≡ true) × Within u.prefix u.excluded x.contacts → Listed (leaves (is_route p r) (map pair_of parts)) u.prefix × Within u.prefix (numbers_after u.prefix (leaves (is_route p r) (map pair_of parts))) x.contacts
-      listed_within u m w =
-          let S : List (List ℕ) = leaves (is_route p r) (map pair_of parts) in
-          let h = tree_has u.prefix u.excluded S (subst (Member (pair_of u)) (closed_tree (is_route p r) (is_path p r) (is_prefix p r) (map pair_of parts) is.formed.order is.formed.closed) (Member-map pair_of u parts m)) in
-          (h.0, subst (λ Z. Within u.prefix Z x.contacts) h.1 w.1)
-
-      same_prefix : (u : PartState) → Member u parts → u.carried ≡ Some x.contacts → u.prefix ≡ prefix_of t.leaves n
-      same_prefix u m e =
-          let a = listed_within u m (is.formed.carried u x.contacts m e) in
-          let b = listed_within here here_in inside in
-          in_one_part (is_route p r) (routes_apart p r) (leaves (is_route p r) (map pair_of parts)) leaf_route x.contacts inside.0 u.prefix (prefix_of t.leaves n) a.0 b.0 a.1 b.1
-
-      carried_is : (u : PartState) → carries_it x.contacts u ≡ true → u.carried ≡ Some x.contacts
-      carried_is u h = elim u.carried as (λ o. option_map_or (same_numbers x.contacts) o false ≡ true → o ≡ Some x.contacts) [
-        | None ↦ λ k. absurd (true≢false (sym k))
-        | Some s ↦ λ k. ap Some (sym (lists_exact x.contacts s (is_equal (by_numbers x.contacts s) k)))
-      ] h
-
-      pub searches_are : searches_for (shown t) x.contacts ≡ length x.contacts - n.length
-      unfolding searches_for
-      searches_are = elim (find (carries_it x.contacts) parts) as (λ o. find (carries_it x.contacts) parts ≡ o → hops_past x.contacts o ≡ length x.contacts - n.length) [
-        | None ↦ λ e. absurd (none_found (carries_it x.contacts) parts e here here_in (ap is_eq (tied_itself nat_list_cmp_total x.contacts)))
-        | Some u ↦ λ e.
-            let w = found_is (carries_it x.contacts) parts u e in
-            let same = same_prefix u w.0 (carried_is u w.1) in
-            ap (λ q. length x.contacts - length q) same ∙ ap (λ d. length x.contacts - d) (prefix_length t.leaves n (is.lent n (get_Member t.nodes node.0 n stands)))
-      ] refl
+    pub searches_are : searches_for (shown t) x.contacts ≡ length x.contacts - n.length
+    unfolding searches_for
+    searches_are = elim (find (carries_it x.contacts) parts) as (λ o. find (carries_it x.contacts) parts ≡ o → hops_past x.contacts o ≡ length x.contacts - n.length) [
+      | None ↦ λ e. absurd (none_found (carries_it x.contacts) parts e here here_in (ap is_eq (tied_itself nat_list_cmp_total x.contacts)))
+      | Some u ↦ λ e.
+          let w = found_is (carries_it x.contacts) parts u e in
+          let same = same_prefix u w.0 (carried_is u w.1) in
+          ap (λ q. length x.contacts - length q) same ∙ ap (λ d. length x.contacts - d) (prefix_length t.leaves n (is.lent n (get_Member t.nodes node.0 n stands)))
+    ] refl

@@ -39,43 +39,14 @@ first_only id l = same_node id first_id (omega arith)
 
 module _ (A : Type 0) (p : ContactPlan) (r : RouteRequest) (good : IsPlan p) where
   root_parts : (found : Option RouteRecord) → ((x : RouteRecord) → found ≡ Some x → x ≡ record_of p r x.contacts) → IsState p r (shown (root {A = A} found)) → leaves_in p r (shown (root {A = A} found)) ≡ [] → IsTree p r (root {A = A} found)
-  root_parts None told formed none = record {
+  root_parts found told formed none = record {
     formed = formed;
     known = λ id m. elim m [ inl e ↦ (let a : id.0 ≡ 0 = ap (λ (z : NodeId). z.0) e in omega arith) | inr z ↦ absurd z ];
     listed = λ id l. inl (first_only id l);
     lent = λ n m. elim m [ inl e ↦ inl (ap (λ (z : Node A). z.length) e) | inr z ↦ absurd z ];
     records = λ n x m e. elim m [ inl h ↦ told x (sym (ap (λ (z : Node A). z.route) h) ∙ e) | inr z ↦ absurd z ];
     given = record { counted = λ x m. absurd m; recorded = λ s m. subst (Member s) none m };
-    queued = λ id m. absurd m;
-    waiting = λ id h. absurd (none_there id.0 h);
-    falls = tt;
-    once = tt;
-    short = omega arith;
   }
-    where
-      none_there : (n : ℕ) → is_some (route_at (root {A = A} None).nodes (record { 0 = n })) ≡ true → ⊥
-      none_there zero h = true≢false (sym h)
-      none_there (suc n) h = true≢false (sym h)
-  root_parts (Some x) told formed none = record {
-    formed = formed;
-    known = λ id m. elim m [ inl e ↦ (let a : id.0 ≡ 0 = ap (λ (z : NodeId). z.0) e in omega arith) | inr z ↦ absurd z ];
-    listed = λ id l. inl (first_only id l);
-    lent = λ n m. elim m [ inl e ↦ inl (ap (λ (z : Node A). z.length) e) | inr z ↦ absurd z ];
-    records = λ n y m e. elim m [ inl h ↦ told y (sym (ap (λ (z : Node A). z.route) h) ∙ e) | inr z ↦ absurd z ];
-    given = record { counted = λ y m. absurd m; recorded = λ s m. subst (Member s) none m };
-    queued = λ id m. elim m [ inl e ↦ ap (λ z. is_some (route_at (root {A = A} (Some x)).nodes z)) e | inr z ↦ absurd z ];
-    waiting = λ id h. inl (first_there id h);
-    falls = ((λ y m. absurd m), tt);
-    once = ((λ y m. absurd m), tt);
-    short = omega arith;
-  }
-    where
-      first_there : (id : NodeId) → is_some (route_at (root {A = A} (Some x)).nodes id) ≡ true → id ≡ first_id
-      first_there id h = at id.0 h
-        where
-          at : (n : ℕ) → is_some (route_at (root {A = A} (Some x)).nodes (record { 0 = n })) ≡ true → record { 0 = n } ≡ first_id
-          at zero h = refl
-          at (suc n) h = absurd (true≢false (sym h))
 
   pub root_is_tree : IsTree p r (root {A = A} (best_of p r [] []))
   root_is_tree = root_parts (best_of p r [] []) (best_is p r [] []) (subst (IsState p r) (sym (shown_root A p r)) (first_formed p r good)) refl

@@ -1,5 +1,5 @@
 -- Taking a route and undoing it give back the tree, on the nose.
-use Rattle.std.proofs.Common.{◌≡◌, ℕ, ◌≤◌, zero, suc, Bool, true, false, cond, ◌&&◌, not, nat_lt, nat_eq, List, [], ◌∷◌, ◌++◌, length, filter, take, drop, Option, Some, refl, sym, ap, ◌∙◌, arith, slice_index, take-append-drop}
+use Rattle.std.proofs.Common.{◌≡◌, ℕ, ◌≤◌, zero, suc, Bool, true, false, inl, inr, cond, nat_lt, List, [], ◌∷◌, ◌++◌, length, filter, take, drop, Option, Some, refl, sym, ap, ◌∙◌, arith, slice_index, take-append-drop}
 use Rattle.std.specs.Prelude.{slice_get}
 use Rattle.std.proofs.lemmas.Bool.Decides.{nat_tests}
 use Rattle.std.proofs.lemmas.List.Elements.{filter-append}
@@ -8,8 +8,9 @@ use Rattle.sabr_frontier.specs.declared.tree.Node.{Node}
 use Rattle.sabr_model.specs.Record.{RouteRecord}
 use Rattle.sabr_frontier.specs.declared.tree.Entry.{Entry}
 use Rattle.sabr_frontier.specs.Shape.{Shape}
-use Rattle.sabr_frontier.specs.Undo.{modify, given_back, others, undone, undone_by, without}
+use Rattle.sabr_frontier.specs.Undo.{modify, given_back, undone, undone_by, without}
 use Rattle.sabr_frontier.specs.Taking.{ids_from, with_block}
+use Rattle.sabr_frontier.specs.State.{Member}
 use Rattle.sabr_frontier.proofs.Ends.{last_item_push, front_push, length-modify, modify_twice, modify_back}
 
 -- each passes
@@ -21,6 +22,10 @@ pub filter_all : {X : Type 0} (p : X → Bool) (xs : List X) → Passes p xs →
 filter_all p [] h = refl
 filter_all p (x ∷ xs) h = ap (λ b. cond b (x ∷ filter p xs) (filter p xs)) h.0 ∙ ap (λ t. x ∷ t) (filter_all p xs h.1)
 
+pub passes_from : {X : Type 0} (test : X → Bool) (xs : List X) → ((x : X) → Member x xs → test x ≡ true) → Passes test xs
+passes_from test [] f = tt
+passes_from test (x ∷ xs) f = (f x (inl refl), passes_from test xs (λ y m. f y (inr m)))
+
 not_below : (f n c : ℕ) → c ≤ f → filter (λ (id : NodeId). nat_lt id.0 c) (ids_from f n) ≡ []
 not_below f zero c l = refl
 not_below f (suc n) c l = let no : nat_lt f c ≡ false = grind (arith, nat_tests) in ap (λ b. cond b (record { 0 = f } ∷ filter (λ (id : NodeId). nat_lt id.0 c) (ids_from (suc f) n)) (filter (λ (id : NodeId). nat_lt id.0 c) (ids_from (suc f) n))) no ∙ not_below (suc f) n c (omega arith)
@@ -31,14 +36,11 @@ take_front [] ys (suc n) e = absurd (omega arith)
 take_front (x ∷ xs) ys zero e = absurd (omega arith)
 take_front (x ∷ xs) ys (suc n) e = ap (λ t. x ∷ t) (take_front xs ys n (omega arith))
 
-module _ {A : Type 0} (t : Shape A) (node : NodeId) (part : Node A) (r : RouteRecord) (rest : List NodeId) (wide : List ℕ) (found : Option RouteRecord) (fresh : List (Node A)) (place : ℕ) (queue : List NodeId)
+module _ {A : Type 0} (t : Shape A) (node : NodeId) (part : Node A) (r : RouteRecord) (wide : List ℕ) (found : Option RouteRecord) (fresh : List (Node A)) (place : ℕ)
     (stands : slice_get t.nodes node.0 ≡ Some part)
     (carries : part.route ≡ Some r)
     (forgets : without (slice_index r.contacts part.length) wide ≡ part.excluded)
-    (queued : t.queue ≡ rest ++ node ∷ [])
-    (known : Passes (λ (id : NodeId). nat_lt id.0 (length t.nodes)) t.index)
-    (older : Passes (λ (id : NodeId). nat_lt id.0 (length t.nodes) && not (nat_eq id.0 node.0)) rest)
-    (only_new : filter (λ (id : NodeId). nat_lt id.0 (length t.nodes) && not (nat_eq id.0 node.0)) queue ≡ filter (λ (id : NodeId). nat_lt id.0 (length t.nodes) && not (nat_eq id.0 node.0)) rest) where
+    (known : Passes (λ (id : NodeId). nat_lt id.0 (length t.nodes)) t.index) where
   abbrev entry : Entry
   entry = record { node = node; nodes = length t.nodes; last = t.last }
 
@@ -50,7 +52,6 @@ module _ {A : Type 0} (t : Shape A) (node : NodeId) (part : Node A) (r : RouteRe
   after = record {
     nodes = modify widened t.nodes node.0 ++ fresh;
     index = with_block place (ids_from (length t.nodes) (length fresh)) t.index;
-    queue = queue;
     leaves = t.leaves ++ r ∷ [];
     last = Some (length t.leaves);
     journal = t.journal ++ entry ∷ [];
@@ -73,10 +74,7 @@ module _ {A : Type 0} (t : Shape A) (node : NodeId) (part : Node A) (r : RouteRe
       nil_right [] = refl
       nil_right (x ∷ xs) = ap (λ z. x ∷ z) (nil_right xs)
 
-  queue_back : others entry queue ++ node ∷ [] ≡ t.queue
-  queue_back = ap (λ z. z ++ node ∷ []) (only_new ∙ filter_all (λ (id : NodeId). nat_lt id.0 (length t.nodes) && not (nat_eq id.0 node.0)) rest older) ∙ sym queued
-
   pub undone-after : undone after ≡ t
   undone-after =
       let base : undone after ≡ undone_by after (Some entry) (Some r) = λ i. undone_by after (last_item_push after.journal t.journal entry refl i) (last_item_push after.leaves t.leaves r refl i) in
-      base ∙ (λ i. record { nodes = nodes_back i; index = index_back i; queue = queue_back i; leaves = front_push after.leaves t.leaves r refl i; last = t.last; journal = front_push after.journal t.journal entry refl i })
+      base ∙ (λ i. record { nodes = nodes_back i; index = index_back i; leaves = front_push after.leaves t.leaves r refl i; last = t.last; journal = front_push after.journal t.journal entry refl i })

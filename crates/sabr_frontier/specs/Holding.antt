@@ -18,7 +18,7 @@ use Rattle.sabr_frontier.specs.Formed.{InOrder, Within}
 use Rattle.sabr_frontier.specs.Owing.{Owing, onward, IsGood, Owes}
 use Rattle.sabr_frontier.specs.Shape.{Shape, given_at, numbers_of}
 use Rattle.sabr_frontier.specs.Undo.{last_item, front}
-use Rattle.sabr_frontier.specs.Taking.{enqueued_all, ids_from}
+use Rattle.sabr_frontier.specs.Taking.{ids_from}
 use Rattle.sabr_frontier.specs.Leading.{AreOwed, AreSteps, prefix_owed, step_of}
 use Rattle.sabr_frontier.specs.Loading.{Loaded}
 
@@ -166,7 +166,6 @@ abbrev pub loaded_tree : {A : Type 0} → Holding A → Option ℕ → Shape A
 loaded_tree h last = record {
   nodes = h.nodes;
   index = ids_from 0 (length h.nodes);
-  queue = enqueued_all h.nodes (ids_from 0 (length h.nodes)) [];
   leaves = h.leaves;
   last = last;
   journal = [];

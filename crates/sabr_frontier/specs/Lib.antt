@@ -6,12 +6,11 @@ pub mod Owing
 pub mod Leading
 pub mod Step
 pub mod Listing
-pub mod Waiting
+pub mod Winners
 pub mod Shape
 pub mod Undo
 pub mod Queue
 pub mod Index
-pub mod Ranking
 pub mod Best
 pub mod Taking
 pub mod Room

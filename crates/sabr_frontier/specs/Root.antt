@@ -1,5 +1,5 @@
 -- The tree before any route is given.
-use Rattle.std.specs.Prelude.{is_some, [], ◌∷◌, Option, None, if◌then◌else◌}
+use Rattle.std.specs.Prelude.{[], ◌∷◌, Option, None}
 use Rattle.sabr_model.specs.Record.{RouteRecord}
 use Rattle.sabr_frontier.specs.declared.tree.NodeId.{NodeId}
 use Rattle.sabr_frontier.specs.Shape.{Shape}
@@ -13,7 +13,6 @@ abbrev pub root : {A : Type 0} → Option RouteRecord → Shape A
 root found = record {
   nodes = record { leaf = 0; length = 0; excluded = []; route = found } ∷ [];
   index = first_id ∷ [];
-  queue = if is_some found then first_id ∷ [] else [];
   leaves = [];
   last = None;
   journal = [];

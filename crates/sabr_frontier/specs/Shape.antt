@@ -10,14 +10,12 @@ use Rattle.sabr_frontier.specs.declared.tree.Node.{Node}
 use Rattle.sabr_frontier.specs.declared.tree.Entry.{Entry}
 use Rattle.sabr_frontier.specs.declared.tree.Tree.{Tree}
 use Rattle.sabr_frontier.specs.State.{PartState, State}
-use Rattle.sabr_frontier.specs.Waiting.{waiting}
-pub use Rattle.sabr_frontier.specs.Waiting.{route_of, route_at}
+pub use Rattle.sabr_frontier.specs.Winners.{route_of, route_at}
 
 -- a tree without its capacities
 pub record Shape (A : Type 0) : Type 0 where
   pub nodes : List (Node A)
   pub index : List NodeId
-  pub queue : List NodeId
   pub leaves : List RouteRecord
   pub last : Option ℕ
   pub journal : List Entry
@@ -67,7 +65,7 @@ order_of leaves nodes = in_order (by_prefix leaves nodes) (ids_from 0 (length no
 
 -- its index is that of all nodes, at each time
 abbrev pub shape_of : {A : Type 0} → Tree A → Shape A
-shape_of t = record { nodes = t.nodes.items; index = order_of t.leaves.items t.nodes.items; queue = waiting t.nodes.items t.queue; leaves = t.leaves.items; last = t.last; journal = t.journal.items }
+shape_of t = record { nodes = t.nodes.items; index = order_of t.leaves.items t.nodes.items; leaves = t.leaves.items; last = t.last; journal = t.journal.items }
 
 -- the route of the leaf with this number
 abbrev pub given_at : List RouteRecord → Option ℕ → List ℕ

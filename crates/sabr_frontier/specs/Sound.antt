@@ -1,5 +1,5 @@
--- When a tree stands for a well-formed state, and its queue for what its parts carry.
-use Rattle.std.specs.Prelude.{◌≡◌, ℕ, ◌<◌, ◌≤◌, true, false, nat_eq, is_some, ◌⊎◌, List, length, Some, slice_get, slice_index}
+-- When a tree stands for a well-formed state.
+use Rattle.std.specs.Prelude.{◌≡◌, ℕ, ◌<◌, ◌≤◌, false, ◌⊎◌, List, length, Some, slice_get, slice_index}
 use Rattle.std.specs.Ordering.{nat_cmp}
 use Rattle.sabr_model.specs.Plan.{ContactPlan}
 use Rattle.sabr_model.specs.Arrival.{RouteRequest}
@@ -9,16 +9,11 @@ use Rattle.sabr_frontier.specs.declared.tree.Node.{Node}
 use Rattle.sabr_frontier.specs.Rising.{has, Rises}
 use Rattle.sabr_frontier.specs.State.{Member}
 use Rattle.sabr_frontier.specs.Listing.{IsState, leaves_in}
-use Rattle.sabr_frontier.specs.Shape.{Shape, shown, route_at}
-use Rattle.sabr_frontier.specs.Queue.{InPairs, IsAtOrBehind}
+use Rattle.sabr_frontier.specs.Shape.{Shape, shown}
 
 -- the node's prefix is empty, or a front of a leaf that is there and long enough
 abbrev pub IsLent : {A : Type 0} → List RouteRecord → Node A → Type 0
 IsLent leaves n = (n.length ≡ 0) ⊎ ((x : RouteRecord) × (slice_get leaves n.leaf ≡ Some x) × (n.length ≤ length x.contacts))
-
--- a and b are different nodes
-abbrev pub AreApart : NodeId → NodeId → Type 0
-AreApart a b = nat_eq a.0 b.0 ≡ false
 
 -- the leaves are the records of the routes that the state counts as given
 pub record AreGiven {A : Type 0} (p : ContactPlan) (r : RouteRequest) (t : Shape A) : Type 0 where
@@ -32,11 +27,6 @@ pub record IsTree {A : Type 0} (p : ContactPlan) (r : RouteRequest) (t : Shape A
   pub lent : (n : Node A) → Member n t.nodes → IsLent t.leaves n
   pub records : (n : Node A) (x : RouteRecord) → Member n t.nodes → n.route ≡ Some x → x ≡ record_of p r x.contacts
   pub given : AreGiven p r t
-  pub queued : (id : NodeId) → Member id t.queue → is_some (route_at t.nodes id) ≡ true
-  pub waiting : (id : NodeId) → is_some (route_at t.nodes id) ≡ true → Member id t.queue
-  pub falls : InPairs (IsAtOrBehind t.nodes) t.queue
-  pub once : InPairs AreApart t.queue
-  pub short : length t.queue ≤ length t.nodes
 
 -- the list goes on behind the node's prefix with a number that the node doesn't exclude
 pub record CanExclude {A : Type 0} (n : Node A) (s : List ℕ) : Type 0 where

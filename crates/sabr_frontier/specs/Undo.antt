@@ -1,21 +1,25 @@
 -- What the undo of a route leaves, and when it can be undone.
-use Rattle.std.specs.Prelude.{◌≡◌, ℕ, ◌-◌, ◌+◌, ◌<◌, ◌≤◌, ◌&&◌, zero, suc, not, nat_lt, nat_eq, List, [], ◌∷◌, ◌++◌, length, take, Option, Some, None, slice_index, slice_index_or, slice_get, vec_len, vec_capacity}
+use Rattle.std.specs.Prelude.{◌≡◌, ℕ, ◌-◌, ◌+◌, ◌<◌, ◌≤◌, zero, suc, not, nat_lt, nat_eq, List, [], ◌∷◌, ◌++◌, length, take, Option, Some, None, slice_index, slice_index_or, slice_get, vec_len, vec_capacity}
 use Rattle.std.specs.List.{filter}
 use Rattle.sabr_model.specs.Record.{RouteRecord}
 use Rattle.sabr_frontier.specs.declared.tree.NodeId.{NodeId}
 use Rattle.sabr_frontier.specs.declared.tree.Node.{Node}
 use Rattle.sabr_frontier.specs.declared.tree.Entry.{Entry}
 use Rattle.sabr_frontier.specs.declared.tree.Tree.{Tree}
-use Rattle.sabr_frontier.specs.Shape.{Shape, order_of, route_at}
-use Rattle.sabr_frontier.specs.State.{Member}
-use Rattle.sabr_frontier.specs.Queue.{IsQueue, IsNotBetter}
+use Rattle.sabr_frontier.specs.Shape.{Shape, order_of}
+use Rattle.sabr_frontier.specs.Winners.{AreWinners}
 
--- the queue is one of its nodes, and has places for every node, as the index has, and the room for those that it lacks
-pub record IsRoomy {A : Type 0} (t : Tree A) : Type 0 where
+-- the index and the winners have places for every node, and so has the room for those that the index lacks
+pub record IsSpacious {A : Type 0} (t : Tree A) : Type 0 where
   pub index : length t.nodes.items ≤ vec_capacity t.index
   pub added : length t.nodes.items ≤ vec_len t.index + vec_capacity t.late
-  pub places : length t.nodes.items ≤ vec_capacity t.queue.placed
-  pub queue : IsQueue t.nodes.items t.queue
+  pub places : length t.nodes.items ≤ vec_capacity t.winners
+
+-- the same, and the winners are those of all nodes
+pub record IsRoomy {A : Type 0} (t : Tree A) : Type 0 where
+  pub space : IsSpacious t
+  pub won : AreWinners t.nodes.items t.winners.items
+  pub count : vec_len t.winners ≡ length t.nodes.items
 
 -- f at one place
 abbrev pub modify : {X : Type 0} → (X → X) → List X → ℕ → List X
@@ -39,15 +43,10 @@ without x xs = filter (λ y. not (nat_eq y x)) xs
 abbrev pub given_back : {A : Type 0} → RouteRecord → Node A → Node A
 given_back r n = record n { excluded = without (slice_index r.contacts n.length) n.excluded; route = Some r }
 
--- the queue without the nodes that came later and without the node itself
-abbrev pub others : Entry → List NodeId → List NodeId
-others e ids = filter (λ id. nat_lt id.0 e.nodes && not (nat_eq id.0 e.node.0)) ids
-
 abbrev pub undone_by : {A : Type 0} → Shape A → Option Entry → Option RouteRecord → Shape A
 undone_by t (Some e) (Some r) = record {
   nodes = modify (given_back r) (take e.nodes t.nodes) e.node.0;
   index = filter (λ id. nat_lt id.0 e.nodes) t.index;
-  queue = others e t.queue ++ e.node ∷ [];
   leaves = front t.leaves;
   last = e.last;
   journal = front t.journal;
@@ -76,8 +75,7 @@ pub record IsIndexBack {A : Type 0} (t : Shape A) (ids : List NodeId) : Type 0 w
   pub index : t.index ≡ filter (λ (id : NodeId). nat_lt id.0 (length t.nodes)) ids
   pub whole : length t.nodes ≤ length t.index
 
--- what the undo reads is there, the queue becomes no longer than the nodes, and none of it is better than the route;
--- the index then is that of all nodes
+-- what the undo reads is there, and the index then is that of all nodes
 pub record CanUndo {A : Type 0} (t : Shape A) : Type 0 where
   pub entry : Entry
   pub route : RouteRecord
@@ -86,9 +84,7 @@ pub record CanUndo {A : Type 0} (t : Shape A) : Type 0 where
   pub in_range : entry.node.0 < entry.nodes
   pub counted : entry.nodes ≤ length t.nodes
   pub longer : IsLonger (take entry.nodes t.nodes) entry.node.0 route
-  pub places : length (others entry t.queue) < entry.nodes
   pub indexed : IsIndexed (undone t)
-  pub behind : (id : NodeId) → Member id (others entry t.queue) → IsNotBetter (route_at t.nodes id) (Some route)
 
 abbrev pub CanUndoTimes : {A : Type 0} → ℕ → Shape A → Type 0
 CanUndoTimes zero t = Unit {0}

@@ -1,6 +1,6 @@
 //! Whether a tree stands for the state of the place that it counts.
 
-ghost use Rattle.std.specs.Prelude.{◌≡◌, ◌↔◌, ◌+◌, ◌≤◌, length, slice_get, IfOk, IsTrue};
+ghost use Rattle.std.specs.Prelude.{◌≡◌, ◌↔◌, ◌+◌, ◌≤◌, length, slice_get, IfOk, IfSome, IfNone, IsTrue};
 ghost use Rattle.std.specs.List.{list_any};
 ghost use Rattle.std.specs.Option.{option_and_then, option_copied};
 ghost use Rattle.std.specs.Ordering.{is_lt};
@@ -11,7 +11,7 @@ ghost use Rattle.sabr_frontier.specs.Laws.{CarriesLeast};
 ghost use Rattle.sabr_frontier.specs.Listing.{state_at};
 ghost use Rattle.sabr_frontier.specs.Shape.{shape_of, shown};
 ghost use Rattle.sabr_frontier.specs.Sound.{IsTree};
-ghost use Rattle.sabr_frontier.specs.Taking.{least_route};
+ghost use Rattle.sabr_frontier.specs.Winners.{CarriesNone, IsNext};
 ghost use Rattle.sabr_frontier.specs.Undo.{IsRoomy};
 
 use crate::finder::ask;
@@ -58,10 +58,10 @@ impl<A: Allocator + Copy> Tree<A> {
     /// Gives the least route that a node carries.
     fn next_carried(&self) -> Option<&Route<A>>
         requires { IsRoomy self.now }
-        ensures { option_copied result ≡ least_route (shape_of self.now) }
+        ensures some { IfSome result (λ x. IsNext self.now.nodes.items x.now) }
+        ensures none { IfNone result (CarriesNone self.now.nodes.items) }
     {
-        let nodes = self.nodes.as_slice();
-        carried(nodes, self.queue.least(nodes)?)
+        carried(self.nodes.as_slice(), self.least()?)
     }
 
     /// Tells whether each part carries its least route: one search for each. It needs the memory of a search.

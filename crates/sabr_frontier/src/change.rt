@@ -1,16 +1,18 @@
 //! Changing the tree where a route is given, without memory.
 
-ghost use Rattle.std.specs.Prelude.{◌≡◌, ℕ, ◌+◌, ◌^◌, ◌<◌, ◌≤◌, [], ◌∷◌, ◌++◌, length, nat_eq, vec_len, vec_capacity, Some, IsSome, OnOk, OnErr};
+ghost use Rattle.std.specs.Prelude.{◌≡◌, ◌<◌, [], ◌∷◌, ◌++◌, vec_len, vec_capacity, Some, IfSome, IfNone, IsSome, IsTrue, IsFalse, OnOk};
 ghost use Rattle.sabr_model.specs.Record.{RouteRecord};
 ghost use Rattle.sabr_frontier.specs.Shape.{order_of, shape_of, route_at};
-ghost use Rattle.sabr_frontier.specs.Undo.{IsRoomy, front, modify};
-ghost use Rattle.sabr_frontier.specs.State.{Member};
+ghost use Rattle.sabr_frontier.specs.Undo.{IsRoomy, modify};
+ghost use Rattle.sabr_frontier.specs.Winners.{CarriesNone, CarriesSome, IsFirst};
 ghost use Rattle.sabr_frontier.specs.Taking.{changed_by};
 ghost use Rattle.sabr_frontier.specs.Prepared.{carrying, nodes_with};
 ghost use Rattle.sabr_frontier.specs.Room.{HasRoom};
 
 use crate::divide::Division;
+use crate::places::carried;
 use crate::tree::{Entry, Node, NodeId, Tree};
+use crate::winners::{fill, renew};
 use sabr_model::{NoMemory, Route};
 use std::alloc::Allocator;
 use std::mem;
@@ -32,12 +34,30 @@ fn carry<A: Allocator + Copy>(
 }
 
 impl<A: Allocator + Copy> Tree<A> {
-    /// Tells whether no node carries a route.
+    /// The node that carries the least route, if some node carries one.
+    pub fn least(&self) -> Option<NodeId>
+        requires { IsRoomy self.now }
+        ensures some { IfSome result (λ id. (x : RouteRecord) × IsFirst self.now.nodes.items id x) }
+        ensures none { IfNone result (CarriesNone self.now.nodes.items) }
+    {
+        let ids = self.winners.as_slice();
+        if ids.len() == 0 {
+            return None;
+        }
+        let id = ids[0];
+        match carried(self.nodes.as_slice(), id) {
+            Some(_) => Some(id),
+            None => None,
+        }
+    }
+
+    /// Whether no node carries a route.
     pub fn is_empty(&self) -> bool
         requires { IsRoomy self.now }
-        ensures { result ≡ nat_eq (length (shape_of self.now).queue) 0 }
+        ensures none { IsTrue result → CarriesNone self.now.nodes.items }
+        ensures some { IsFalse result → CarriesSome self.now.nodes.items }
     {
-        self.queue.is_empty()
+        self.least().is_none()
     }
 
     /// Makes room for one route given and `count` new nodes.
@@ -65,33 +85,33 @@ impl<A: Allocator + Copy> Tree<A> {
         let Ok(()) = self.journal.reserve(1) else {
             return Err(NoMemory);
         };
-        self.queue.reserve(nodes)
+        let more = nodes.saturating_sub(self.winners.len());
+        let Ok(()) = self.winners.reserve(more) else {
+            return Err(NoMemory);
+        };
+        Ok(())
     }
 
-    /// Gives the route of the node that stands last in the queue: the node carries another or none, and each of it and
-    /// its new nodes that carries a route is in the queue. There is room for all of it.
+    /// Gives the route of a node: the node carries another or none, and its new nodes come after the others. There is
+    /// room for all of it.
     pub fn change(&mut self, node: NodeId, division: Division<A>)
-        requires queue { IsRoomy self.old }
-        requires waiting { 0 < length (shape_of self.old).queue }
+        requires roomy { IsRoomy self.old }
         requires in_range { node.0 < vec_len self.old.nodes }
         requires carries { IsSome (route_at self.old.nodes.items node) }
-        requires kept { (id : NodeId) → Member id (front (shape_of self.old).queue) → route_at (nodes_with self.old.nodes.items node division.found division.fresh.items) id ≡ route_at self.old.nodes.items id }
-        requires short { length (shape_of self.old).queue ≤ vec_len self.old.nodes }
         requires room { HasRoom self.old (vec_len division.fresh) }
-        ensures shape { (x : RouteRecord) → route_at self.old.nodes.items node ≡ Some x → shape_of self.new ≡ changed_by (shape_of self.old) node x (order_of (self.old.leaves.items ++ x ∷ []) (nodes_with self.old.nodes.items node division.found division.fresh.items)) (nodes_with self.old.nodes.items node division.found division.fresh.items) (length division.fresh.items) }
+        ensures shape { (x : RouteRecord) → route_at self.old.nodes.items node ≡ Some x → shape_of self.new ≡ changed_by (shape_of self.old) node x (order_of (self.old.leaves.items ++ x ∷ []) (nodes_with self.old.nodes.items node division.found division.fresh.items)) (nodes_with self.old.nodes.items node division.found division.fresh.items) }
         ensures index { self.new.index.items ≡ self.old.index.items }
         ensures room { IsRoomy self.new }
     {
         let mut fresh = division.fresh;
         let first = self.nodes.len();
-        self.queue.pop(self.nodes.as_slice());
         let Some(route) = carry(&mut self.nodes, node, division.found) else {
             unreachable!()
         };
         let appended = self.nodes.append(&mut fresh);
         let Ok(()) = appended else { unreachable!() };
-        self.queue.put(self.nodes.as_slice(), node);
-        self.queue.put_from(self.nodes.as_slice(), first);
+        renew(self.nodes.as_slice(), &mut self.winners, node);
+        fill(self.nodes.as_slice(), &mut self.winners);
         self.journal.push_reserved(Entry {
             node,
             nodes: first,

@@ -14,9 +14,8 @@ use crate::ghost_lists::GhostLists;
 use crate::index::push_block;
 use crate::judge::{Judged, judge};
 use crate::leading::{Lead, Owed};
-use crate::queue::Queue;
-use crate::ranking::enqueue_each;
 use crate::tree::{Node, Tree};
+use crate::winners::rebuild;
 use sabr_model::{NoMemory, Plan, Request, Route};
 use std::alloc::{Allocator, Global};
 use std::cmp::Ordering;
@@ -271,17 +270,16 @@ impl<A: Allocator + Copy> Held<A> {
         let Ok(mut index) = Vec::with_capacity(alloc, count) else {
             return Err(NoMemory);
         };
-        let mut queue = Queue::new(alloc);
-        let Ok(()) = queue.placed.reserve(count) else {
+        let Ok(mut winners) = Vec::with_capacity(alloc, count) else {
             return Err(NoMemory);
         };
         push_block(&mut index, 0, count);
-        enqueue_each(alloc, self.nodes.as_slice(), &mut queue.placed)?;
+        rebuild(self.nodes.as_slice(), &mut winners);
         Ok(Tree {
             nodes: self.nodes,
             index,
             late: Vec::new(alloc),
-            queue,
+            winners,
             leaves: self.leaves,
             last,
             journal: Vec::new(alloc),

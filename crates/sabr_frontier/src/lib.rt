@@ -17,8 +17,6 @@ mod leading;
 mod load_fault;
 mod loader;
 mod places;
-mod queue;
-mod ranking;
 mod root;
 mod rows;
 mod session;
@@ -27,6 +25,7 @@ mod tree;
 mod turning;
 mod undo;
 mod views;
+mod winners;
 
 pub use laws::{law4, law5, law6, pages_give_new_routes};
 pub use load_fault::LoadFault;

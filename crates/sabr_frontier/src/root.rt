@@ -6,8 +6,8 @@ ghost use Rattle.sabr_frontier.specs.Shape.{shape_of};
 ghost use Rattle.sabr_frontier.specs.Undo.{IsRoomy};
 
 use crate::excluded::Excluded;
-use crate::queue::Queue;
 use crate::tree::{Node, NodeId, Tree};
+use crate::winners::rebuild;
 use sabr_model::{NoMemory, Route};
 use std::alloc::Allocator;
 
@@ -20,19 +20,16 @@ impl<A: Allocator + Copy> Tree<A> {
     {
         let mut nodes = Vec::new(alloc);
         let mut index = Vec::new(alloc);
-        let mut queue = Queue::new(alloc);
+        let mut winners = Vec::new(alloc);
         let Ok(()) = nodes.reserve(1) else {
             return Err(NoMemory);
         };
         let Ok(()) = index.reserve(1) else {
             return Err(NoMemory);
         };
-        let Ok(()) = queue.placed.reserve(1) else {
+        let Ok(()) = winners.reserve(1) else {
             return Err(NoMemory);
         };
-        if found.is_some() {
-            queue.placed.push_reserved(NodeId(0));
-        }
         index.push_reserved(NodeId(0));
         nodes.push_reserved(Node {
             leaf: 0,
@@ -40,11 +37,12 @@ impl<A: Allocator + Copy> Tree<A> {
             excluded: Excluded::none(alloc),
             route: found,
         });
+        rebuild(nodes.as_slice(), &mut winners);
         Ok(Tree {
             nodes,
             index,
             late: Vec::new(alloc),
-            queue,
+            winners,
             leaves: Vec::new(alloc),
             last: None,
             journal: Vec::new(alloc),

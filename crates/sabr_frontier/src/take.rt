@@ -1,14 +1,15 @@
 //! Giving the least route that the tree carries.
 
-ghost use Rattle.std.specs.Prelude.{◌≡◌, ℕ, ◌+◌, ◌<◌, ◌≤◌, ◌∷◌, ◌++◌, [], length, vec_len, slice_get, Some, IsSome, IfOk, IfSome, OnOk, OnErr};
+ghost use Rattle.std.specs.Prelude.{◌≡◌, ◌+◌, ◌<◌, length, vec_len, slice_get, Some, IsSome, IfOk, OnErr};
 ghost use Rattle.sabr_model.specs.Plan.{IsPlan};
 ghost use Rattle.sabr_model.specs.Record.{RouteRecord};
 ghost use Rattle.sabr_search.specs.Kept.{IsKept};
 ghost use Rattle.sabr_frontier.specs.Shape.{shape_of, route_at};
 ghost use Rattle.sabr_frontier.specs.Undo.{IsRoomy};
-ghost use Rattle.sabr_frontier.specs.Taking.{least_route, taken, new_count};
+ghost use Rattle.sabr_frontier.specs.Taking.{IsTaken};
 ghost use Rattle.sabr_frontier.specs.Sound.{IsTree};
 ghost use Rattle.sabr_frontier.specs.Prepared.{IsReady};
+ghost use Rattle.sabr_frontier.specs.Winners.{CarriesSome};
 
 use crate::divide::{copied, divide, numbers};
 use crate::tree::{Node, NodeId, Tree};
@@ -53,19 +54,17 @@ impl<A: Allocator + Copy> Tree<A> {
     ) -> Result<u64, NoMemory>
         requires plan { IsPlan plan.now.plan }
         requires tree { IsTree plan.now.plan request.now (shape_of self.old) }
-        requires waiting { 0 < length (shape_of self.old).queue }
+        requires waiting { CarriesSome self.old.nodes.items }
         requires room { IsRoomy self.old }
         requires kept { IsKept plan.now request.now kept.old }
-        ensures ok { OnOk result (shape_of self.new ≡ taken plan.now.plan request.now (shape_of self.old)) }
-        ensures given { OnOk result (IfSome (least_route (shape_of self.old)) (λ x. given.new.items ≡ given.old.items ++ x ∷ [])) }
-        ensures count { IfOk result (λ n. n ≡ new_count (shape_of self.old)) }
+        ensures ok { IfOk result (IsTaken plan.now.plan request.now (shape_of self.old) (shape_of self.new) given.old.items given.new.items) }
         ensures called { IfOk result (λ n. B.calls_of finder.new ≡ B.calls_of finder.old + n) }
         ensures err { OnErr result (shape_of self.new ≡ shape_of self.old) }
         ensures index { self.new.index.items ≡ self.old.index.items }
         ensures kept { IsKept plan.now request.now kept.new }
         ensures room { IsRoomy self.new }
     {
-        let Some(node) = self.queue.least(self.nodes.as_slice()) else {
+        let Some(node) = self.least() else {
             unreachable!()
         };
         let prepared = self.prepare(alloc, node)?;

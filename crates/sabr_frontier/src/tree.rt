@@ -1,7 +1,6 @@
 //! The parts of a listing as nodes in one vector, with the routes given and a journal of the changes.
 
 use crate::excluded::Excluded;
-use crate::queue::Queue;
 use sabr_model::Route;
 use std::alloc::{Allocator, Global};
 
@@ -31,8 +30,8 @@ pub struct Entry {
     pub last: Option<usize>,
 }
 
-/// The nodes; their numbers in order of prefix, without those of the page that is made; those that carry a route, in
-/// order; the routes given; the last of them; and an entry for each route that can be taken back.
+/// The nodes; their numbers in order of prefix, without those of the page that is made; the winners among them; the
+/// routes given; the last of them; and an entry for each route that can be taken back.
 #[derive(Debug, Drop)]
 pub struct Tree<A: Allocator + Copy = Global> {
     /// The parts, in the order in which they were made.
@@ -41,8 +40,8 @@ pub struct Tree<A: Allocator + Copy = Global> {
     pub index: Vec<NodeId, A>,
     /// Room for the numbers of a page's nodes, until they are put among the others. Else empty.
     pub late: Vec<NodeId, A>,
-    /// Those that carry a route, in order.
-    pub queue: Queue<A>,
+    /// Slot `k` names the node with the least route among node `k` and the winners of slots `2k + 1` and `2k + 2`.
+    pub winners: Vec<NodeId, A>,
     /// The routes given, in the order of the parts that they made.
     pub leaves: Vec<Route<A>, A>,
     /// The place of the last of them.

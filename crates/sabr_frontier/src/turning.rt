@@ -1,4 +1,4 @@
-//! Lists turned with few nodes moved at a time, by copies that never overlap.
+//! Lists moved with few nodes at a time, by copies that never overlap.
 
 ghost use Rattle.std.specs.Prelude.{◌≡◌, ◌+◌, ◌-◌, ◌≤◌, ◌++◌, take, drop, length};
 
@@ -32,20 +32,4 @@ pub fn shift_up(ids: &mut [NodeId], by: usize)
         copy_up(&mut ids[start..end + by], by, &mut room);
         end = start;
     }
-}
-
-/// Puts the last `count` nodes of a list in front of the others.
-pub fn turn_back(ids: &mut [NodeId], count: usize)
-    requires within { count ≤ length ids.old }
-    ensures { ids.new ≡ drop (length ids.old - count) ids.old ++ take (length ids.old - count) ids.old }
-{
-    if count > ROOM {
-        ids.rotate_right(count);
-        return;
-    }
-    let mut last = [NodeId(0); 256];
-    let rest = ids.len() - count;
-    last[..count].copy_from_slice(&ids[rest..]);
-    shift_up(ids, count);
-    ids[..count].copy_from_slice(&last[..count]);
 }

@@ -1,11 +1,12 @@
 //! Taking a given route back, without memory.
 
-ghost use Rattle.std.specs.Prelude.{◌≡◌, ℕ, ◌-◌, ◌<◌, ◌≤◌, ◌&&◌, not, nat_lt, nat_eq, List, [], ◌∷◌, ◌++◌, length, vec_len, vec_capacity};
+ghost use Rattle.std.specs.Prelude.{◌≡◌, ◌-◌, ◌<◌, nat_lt, length, vec_len, vec_capacity};
 ghost use Rattle.std.specs.List.{filter};
 ghost use Rattle.sabr_frontier.specs.Shape.{shape_of};
-ghost use Rattle.sabr_frontier.specs.Undo.{CanUndo, CanUndoTimes, IsIndexBack, IsLonger, IsRoomy, undone, undone_times, given_back, modify};
+ghost use Rattle.sabr_frontier.specs.Undo.{CanUndo, CanUndoTimes, IsIndexBack, IsLonger, IsRoomy, IsSpacious, undone, undone_times, given_back, modify};
 
 use crate::tree::{Node, NodeId, Tree};
+use crate::winners::rebuild;
 use sabr_model::Route;
 use std::alloc::Allocator;
 
@@ -15,15 +16,6 @@ fn keep_below<A: Allocator + Copy>(ids: &mut Vec<NodeId, A>, count: usize)
     ensures capacity { vec_capacity ids.new ≡ vec_capacity ids.old }
 {
     ids.retain(|id| id.0 < count);
-}
-
-/// Puts the node last, in a place that is kept.
-fn put_back<A: Allocator + Copy>(ids: &mut Vec<NodeId, A>, node: NodeId)
-    requires { vec_len ids.old < vec_capacity ids.old }
-    ensures items { ids.new.items ≡ ids.old.items ++ node ∷ [] }
-    ensures capacity { vec_capacity ids.old ≤ vec_capacity ids.new }
-{
-    ids.push_reserved(node);
 }
 
 /// Puts the route back into its node.
@@ -39,13 +31,13 @@ fn give_back<A: Allocator + Copy>(nodes: &mut Vec<Node<A>, A>, node: NodeId, rou
 }
 
 impl<A: Allocator + Copy> Tree<A> {
-    /// Takes the last route back. It needs no memory.
+    /// Takes the last route back. It needs no memory, and leaves the index and the winners as they were.
     fn undo(&mut self)
         requires possible { CanUndo (shape_of self.old) }
-        requires room { IsRoomy self.old }
+        requires room { IsSpacious self.old }
         ensures former { shape_of self.new ≡ undone (shape_of self.old) }
         ensures index { self.new.index.items ≡ self.old.index.items }
-        ensures room { IsRoomy self.new }
+        ensures room { IsSpacious self.new }
     {
         let Some(entry) = self.journal.pop() else {
             unreachable!()
@@ -55,19 +47,17 @@ impl<A: Allocator + Copy> Tree<A> {
         };
         self.nodes.truncate(entry.nodes);
         give_back(&mut self.nodes, entry.node, route);
-        self.queue.keep_others(entry.nodes, entry.node);
-        put_back(&mut self.queue.placed, entry.node);
         self.last = entry.last;
     }
 
     /// Takes routes back until the journal has as many entries as it had then. It needs no memory, and leaves the index
-    /// as it was.
+    /// and the winners as they were.
     fn undo_each(&mut self, start: usize)
         requires possible { CanUndoTimes (length self.old.journal.items - start) (shape_of self.old) }
-        requires room { IsRoomy self.old }
+        requires room { IsSpacious self.old }
         ensures former { shape_of self.new ≡ undone_times (length self.old.journal.items - start) (shape_of self.old) }
         ensures index { self.new.index.items ≡ self.old.index.items }
-        ensures room { IsRoomy self.new }
+        ensures room { IsSpacious self.new }
     {
         while self.journal.len() > start {
             self.undo();
@@ -85,5 +75,6 @@ impl<A: Allocator + Copy> Tree<A> {
     {
         self.undo_each(start);
         keep_below(&mut self.index, self.nodes.len());
+        rebuild(self.nodes.as_slice(), &mut self.winners);
     }
 }

@@ -1,30 +1,21 @@
-use Rattle.std.proofs.Common.{◌≡◌, ◌++◌, [], length, arith, sym, subst, ◌∙◌}
-use Rattle.sabr_frontier.specs.Queue.{InPairs, IsAtOrBehind}
-use Rattle.sabr_frontier.specs.Taking.{enqueued_all, ids_from}
-use Rattle.sabr_frontier.proofs.Queues.{enqueued_all_falls}
-use Rattle.sabr_frontier.proofs.Merging.{queue_alone, waiting_alone}
+use Rattle.std.proofs.Common.{◌≡◌, ◌++◌, length, arith, sym, subst, ◌∙◌}
+use Rattle.sabr_frontier.specs.Taking.{ids_from}
+use Rattle.sabr_frontier.specs.Winners.{AreWinners}
 use Rattle.sabr_frontier.proofs.held.Held.into_tree.Goals as goal
 
 pub returns-clause-shape : goal.returns-clause-shape
-returns-clause-shape g c =
-    let nodes = c.args.self.nodes.items in
-    let value = c.as_slice.ensures.value in
-    let placed = c.in_ok-enqueue_each.ensures.items ∙ (λ i. enqueued_all (value i) (ids_from 0 (length (value i))) []) in
-    let queue = waiting_alone nodes (record c.new-queue.result { placed = c.enqueue_each.new.queue }) c.new-queue.ensures.late ∙ placed in
-    λ i. record { nodes = nodes; index = sym c.requires i; queue = queue i; leaves = c.args.self.leaves.items; last = c.args.last; journal = c.new-2.ensures.items i }
+returns-clause-shape g c = λ i. record { nodes = c.args.self.nodes.items; index = sym c.requires i; leaves = c.args.self.leaves.items; last = c.args.last; journal = c.new-2.ensures.items i }
 
 pub returns-clause-room : goal.returns-clause-room
-returns-clause-room g c =
-    let nodes = c.args.self.nodes.items in
-    let value = c.as_slice.ensures.value in
-    let placed = c.in_ok-enqueue_each.ensures.items ∙ (λ i. enqueued_all (value i) (ids_from 0 (length (value i))) []) in
-    record {
-      index = omega (arith, c.push_block.ensures.capacity, c.in-Ok.ensures.capacity, c.len-count.ensures);
-      added = omega (arith, c.push_block.ensures.len, c.in-Ok.ensures.len, c.len-count.ensures);
-      places = omega (arith, c.enqueue_each.ensures.capacity, c.as_slice.ensures.len);
-      queue = queue_alone nodes (record c.new-queue.result { placed = c.enqueue_each.new.queue }) c.new-queue.ensures.late
-          (subst (InPairs (IsAtOrBehind nodes)) (sym placed) (enqueued_all_falls nodes (ids_from 0 (length nodes)) [] tt));
-    }
+returns-clause-room g c = record {
+  space = record {
+    index = omega (arith, c.push_block.ensures.capacity, c.in-Ok.ensures.capacity, c.len-count.ensures);
+    added = omega (arith, c.push_block.ensures.len, c.in-Ok.ensures.len, c.len-count.ensures);
+    places = omega (arith, c.rebuild.ensures.capacity, c.in-Ok-with_capacity.ensures.capacity, c.len-count.ensures);
+  };
+  won = subst (λ z. AreWinners z c.rebuild.new.winners.items) c.as_slice.ensures.value c.rebuild.ensures.won;
+  count = omega (arith, c.rebuild.ensures.len, c.as_slice.ensures.len);
+}
 
 pub returns-clause-index : goal.returns-clause-index
 returns-clause-index g c =

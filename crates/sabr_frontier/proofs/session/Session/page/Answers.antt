@@ -4,8 +4,9 @@ use Rattle.sabr_frontier.specs.State.{State}
 use Rattle.sabr_frontier.specs.Listing.{next_route, searches_in, steps}
 use Rattle.sabr_frontier.specs.Shape.{Shape, shape_of, shown}
 use Rattle.sabr_frontier.specs.Session.{Seen, AreStarts, IsSound, former_of, former_then, tree_before}
-use Rattle.sabr_frontier.proofs.Pages.{sound_tree, counts_idle, sound_undos, last_first, idle, busy, carried_or_not, none_there, some_there}
+use Rattle.sabr_frontier.proofs.Pages.{sound_tree, counts_idle, sound_undos, last_first, idle, busy, carried_or_not}
 use Rattle.sabr_frontier.specs.Undo.{IsIndexBack}
+use Rattle.sabr_frontier.specs.Winners.{CarriesNone}
 use Rattle.sabr_frontier.proofs.Settled.{back_before, part_before}
 use Rattle.sabr_frontier.specs.Fresh.{GivesNewRoutes}
 use Rattle.sabr_frontier.proofs.NewRoutes.{new_routes}
@@ -17,9 +18,9 @@ returns-then-count-eq0-clause-routes g c =
     let s = c.self.inside in
     let t = shape_of s.tree in
     let k = c.args.count in
-    let none : (k ≡ 0) ⊎ (length t.queue ≡ 0) = elim c.then-count-eq0.branch [
+    let none : (k ≡ 0) ⊎ CarriesNone t.nodes = elim c.then-count-eq0.branch [
       | then-count-eq0-via-then-count-eq0 w ↦ inl (omega arith)
-      | then-count-eq0-via-else-count-eq0+then-is_empty w ↦ inr (let z = none_there _ _ w.is_empty.ensures w.if-is_empty.true in omega (arith, z))
+      | then-count-eq0-via-else-count-eq0+then-is_empty w ↦ inr (w.is_empty.ensures.none w.if-is_empty.true)
     ] in
     let still = idle s.plan.now.plan s.request c.self.invariant.rules t c.self.invariant.sound k none in
     subst (λ (v : Seen). c.new-given.result.items ≡ map (record_of v.plan.plan v.request) (steps v.plan.plan v.request k v.state).0) c.self.view_is
@@ -30,9 +31,9 @@ returns-then-count-eq0-clause-state g c =
     let s = c.self.inside in
     let t = shape_of s.tree in
     let k = c.args.count in
-    let none : (k ≡ 0) ⊎ (length t.queue ≡ 0) = elim c.then-count-eq0.branch [
+    let none : (k ≡ 0) ⊎ CarriesNone t.nodes = elim c.then-count-eq0.branch [
       | then-count-eq0-via-then-count-eq0 w ↦ inl (omega arith)
-      | then-count-eq0-via-else-count-eq0+then-is_empty w ↦ inr (let z = none_there _ _ w.is_empty.ensures w.if-is_empty.true in omega (arith, z))
+      | then-count-eq0-via-else-count-eq0+then-is_empty w ↦ inr (w.is_empty.ensures.none w.if-is_empty.true)
     ] in
     let still = idle s.plan.now.plan s.request c.self.invariant.rules t c.self.invariant.sound k none in
     subst (λ (v : Seen). shown t ≡ (steps v.plan.plan v.request k v.state).1) c.self.view_is (sym (ap (λ (z : List (List ℕ) × State). z.1) still))
@@ -42,9 +43,9 @@ returns-then-count-eq0-clause-former g c =
     let s = c.self.inside in
     let t = shape_of s.tree in
     let k = c.args.count in
-    let none : (k ≡ 0) ⊎ (length t.queue ≡ 0) = elim c.then-count-eq0.branch [
+    let none : (k ≡ 0) ⊎ CarriesNone t.nodes = elim c.then-count-eq0.branch [
       | then-count-eq0-via-then-count-eq0 w ↦ inl (omega arith)
-      | then-count-eq0-via-else-count-eq0+then-is_empty w ↦ inr (let z = none_there _ _ w.is_empty.ensures w.if-is_empty.true in omega (arith, z))
+      | then-count-eq0-via-else-count-eq0+then-is_empty w ↦ inr (w.is_empty.ensures.none w.if-is_empty.true)
     ] in
     let still = idle s.plan.now.plan s.request c.self.invariant.rules t c.self.invariant.sound k none in
     let former = former_of (reverse s.pages.items) t in
@@ -54,8 +55,8 @@ pub returns-in_default-clause-free : goal.returns-in_default-clause-free
 returns-in_default-clause-free g c h =
     let s = c.self.inside in
     let t = shape_of s.tree in
-    let some = some_there _ _ c.is_empty.ensures c.if-is_empty.false in
-    absurd (carried_or_not s.plan.now.plan s.request c.self.invariant.rules t c.self.invariant.sound c.args.count (omega arith) (omega (arith, some))
+    let some = c.is_empty.ensures.some c.if-is_empty.false in
+    absurd (carried_or_not s.plan.now.plan s.request c.self.invariant.rules t c.self.invariant.sound c.args.count (omega arith) some
     (subst (λ (v : Seen). (c.args.count ≡ 0) ⊎ (next_route v.plan.plan v.request v.state ≡ None)) (sym c.self.view_is) h))
 
 pub settle-requires-clause-all : goal.settle-requires-clause-all
@@ -78,8 +79,8 @@ pub invariant_of-self-in-Ok-gather : goal.invariant_of-self-in-Ok-gather
 invariant_of-self-in-Ok-gather g c =
     let s = c.self.inside in
     let t = shape_of s.tree in
-    let some = some_there _ _ c.is_empty.ensures c.if-is_empty.false in
-    let given = busy s.plan.now.plan s.request c.self.invariant.rules t c.self.invariant.sound c.args.count (omega arith) (omega (arith, some)) in
+    let some = c.is_empty.ensures.some c.if-is_empty.false in
+    let given = busy s.plan.now.plan s.request c.self.invariant.rules t c.self.invariant.sound c.args.count (omega arith) some in
     let start : c.len-start.result ≡ length t.journal = omega (arith, c.len-start.ensures) in
     let more : c.len-start.result < length c.gather.new.self.journal.items = omega (arith, start, c.in-Ok-gather.ensures.entries, ap (length {A = List ℕ}) given.2) in
     let pages : reverse c.push_reserved.new.self.items ≡ c.len-start.result ∷ reverse s.pages.items = ap reverse (c.push_reserved.ensures.items ∙ ap (λ z. z ++ c.len-start.result ∷ []) c.reserve.ensures.items) ∙ last_first s.pages.items c.len-start.result in
@@ -130,8 +131,8 @@ pub returns-in-Ok-gather-clause-former : goal.returns-in-Ok-gather-clause-former
 returns-in-Ok-gather-clause-former g c =
     let s = c.self.inside in
     let t = shape_of s.tree in
-    let some = some_there _ _ c.is_empty.ensures c.if-is_empty.false in
-    let given = busy s.plan.now.plan s.request c.self.invariant.rules t c.self.invariant.sound c.args.count (omega arith) (omega (arith, some)) in
+    let some = c.is_empty.ensures.some c.if-is_empty.false in
+    let given = busy s.plan.now.plan s.request c.self.invariant.rules t c.self.invariant.sound c.args.count (omega arith) some in
     let start : c.len-start.result ≡ length t.journal = omega (arith, c.len-start.ensures) in
     let pages : reverse c.push_reserved.new.self.items ≡ c.len-start.result ∷ reverse s.pages.items = ap reverse (c.push_reserved.ensures.items ∙ ap (λ z. z ++ c.len-start.result ∷ []) c.reserve.ensures.items) ∙ last_first s.pages.items c.len-start.result in
     let before : tree_before c.len-start.result (shape_of c.settle.new.self) ≡ t = ap (tree_before c.len-start.result) c.settle.ensures.same ∙ ap (λ n. tree_before n (shape_of c.gather.new.self)) start ∙ c.in-Ok-gather.ensures.back in
@@ -145,8 +146,8 @@ pub returns-in-Err-clause-free : goal.returns-in-Err-clause-free
 returns-in-Err-clause-free g c h =
     let s = c.self.inside in
     let t = shape_of s.tree in
-    let some = some_there _ _ c.is_empty.ensures c.if-is_empty.false in
-    absurd (carried_or_not s.plan.now.plan s.request c.self.invariant.rules t c.self.invariant.sound c.args.count (omega arith) (omega (arith, some))
+    let some = c.is_empty.ensures.some c.if-is_empty.false in
+    absurd (carried_or_not s.plan.now.plan s.request c.self.invariant.rules t c.self.invariant.sound c.args.count (omega arith) some
     (subst (λ (v : Seen). (c.args.count ≡ 0) ⊎ (next_route v.plan.plan v.request v.state ≡ None)) (sym c.self.view_is) h))
 
 pub returns-then-count-eq0-clause-searches : goal.returns-then-count-eq0-clause-searches
@@ -154,9 +155,9 @@ returns-then-count-eq0-clause-searches g c =
     let s = c.self.inside in
     let t = shape_of s.tree in
     let k = c.args.count in
-    let none : (k ≡ 0) ⊎ (length t.queue ≡ 0) = elim c.then-count-eq0.branch [
+    let none : (k ≡ 0) ⊎ CarriesNone t.nodes = elim c.then-count-eq0.branch [
       | then-count-eq0-via-then-count-eq0 w ↦ inl (omega arith)
-      | then-count-eq0-via-else-count-eq0+then-is_empty w ↦ inr (let z = none_there _ _ w.is_empty.ensures w.if-is_empty.true in omega (arith, z))
+      | then-count-eq0-via-else-count-eq0+then-is_empty w ↦ inr (w.is_empty.ensures.none w.if-is_empty.true)
     ] in
     subst (λ (v : Seen). 0 ≡ searches_in v.plan.plan v.request k v.state) c.self.view_is (sym (counts_idle s.plan.now.plan s.request c.self.invariant.rules t c.self.invariant.sound k none))
 
@@ -165,9 +166,9 @@ returns-then-count-eq0-clause-calls g c =
     let s = c.self.inside in
     let t = shape_of s.tree in
     let k = c.args.count in
-    let none : (k ≡ 0) ⊎ (length t.queue ≡ 0) = elim c.then-count-eq0.branch [
+    let none : (k ≡ 0) ⊎ CarriesNone t.nodes = elim c.then-count-eq0.branch [
       | then-count-eq0-via-then-count-eq0 w ↦ inl (omega arith)
-      | then-count-eq0-via-else-count-eq0+then-is_empty w ↦ inr (let z = none_there _ _ w.is_empty.ensures w.if-is_empty.true in omega (arith, z))
+      | then-count-eq0-via-else-count-eq0+then-is_empty w ↦ inr (w.is_empty.ensures.none w.if-is_empty.true)
     ] in
     let still = counts_idle s.plan.now.plan s.request c.self.invariant.rules t c.self.invariant.sound k none in
     subst (λ (v : Seen). g.B.BestOf.calls_of s.finder ≡ v.calls + searches_in v.plan.plan v.request k v.state) c.self.view_is (omega (arith, still))

@@ -3,7 +3,7 @@ use Rattle.std.specs.Prelude.{IfSome}
 use Rattle.sabr_model.specs.Record.{RouteRecord}
 use Rattle.sabr_frontier.specs.Shape.{Shape, shape_of, shown}
 use Rattle.sabr_frontier.proofs.Giving.{is_given}
-use Rattle.sabr_frontier.proofs.Pages.{IsOnTheWay, at_first, one_on, at_last, at_end, sound_tree, none_there, some_there, last_steps, counts_on, counts_idle, counts_none}
+use Rattle.sabr_frontier.proofs.Pages.{IsOnTheWay, at_first, one_on, at_last, at_end, sound_tree, last_steps, counts_on, counts_idle, counts_none}
 use Rattle.sabr_frontier.specs.Listing.{searches_in}
 use Rattle.sabr_frontier.proofs.tree.Tree.gather.Goals as goal
 
@@ -20,20 +20,17 @@ loop-init g c = record {
 
 pub returns-then-is_empty-clause-routes : goal.returns-then-is_empty-clause-routes
 returns-then-is_empty-clause-routes g c =
-    let none = none_there _ _ c.is_empty.ensures c.if-is_empty.true in
-    let empty : length (shape_of c.loop.self).queue ≡ 0 = none in
+    let empty = c.is_empty.ensures.none c.if-is_empty.true in
     (at_end c.args.plan.now.plan c.args.request.now c.requires.plan (shown (shape_of c.args.self.now)) c.args.count (shape_of c.args.self.now) c.args.given.now.items (c.args.count - c.loop.counter) (shape_of c.loop.self) c.loop.given.items empty c.loop.invariant.way).routes
 
 pub returns-then-is_empty-clause-state : goal.returns-then-is_empty-clause-state
 returns-then-is_empty-clause-state g c =
-    let none = none_there _ _ c.is_empty.ensures c.if-is_empty.true in
-    let empty : length (shape_of c.loop.self).queue ≡ 0 = none in
+    let empty = c.is_empty.ensures.none c.if-is_empty.true in
     (at_end c.args.plan.now.plan c.args.request.now c.requires.plan (shown (shape_of c.args.self.now)) c.args.count (shape_of c.args.self.now) c.args.given.now.items (c.args.count - c.loop.counter) (shape_of c.loop.self) c.loop.given.items empty c.loop.invariant.way).state
 
 pub returns-then-is_empty-clause-entries : goal.returns-then-is_empty-clause-entries
 returns-then-is_empty-clause-entries g c =
-    let none = none_there _ _ c.is_empty.ensures c.if-is_empty.true in
-    let empty : length (shape_of c.loop.self).queue ≡ 0 = none in
+    let empty = c.is_empty.ensures.none c.if-is_empty.true in
     (at_end c.args.plan.now.plan c.args.request.now c.requires.plan (shown (shape_of c.args.self.now)) c.args.count (shape_of c.args.self.now) c.args.given.now.items (c.args.count - c.loop.counter) (shape_of c.loop.self) c.loop.given.items empty c.loop.invariant.way).entries
 
 pub take-requires-clause-tree : goal.take-requires-clause-tree
@@ -44,10 +41,8 @@ overflow_add-searches g c =
     let p = c.args.plan.now.plan in
     let r = c.args.request.now in
     let t = shape_of c.loop.self in
-    let some = some_there _ _ c.is_empty.ensures c.if-is_empty.false in
-    let there : 0 < length t.queue = some in
-    let step = is_given p r c.requires.plan t (sound_tree p r (length t.journal) t c.loop.invariant.way.sound) there in
-    omega (arith, step.few, c.in_ok-searches.ensures.count, c.loop.invariant.few, c.requires.hops, c.requires.count, c.loop-test.true)
+    let step = is_given p r c.requires.plan t (sound_tree p r (length t.journal) t c.loop.invariant.way.sound) _ _ _ _ c.in_ok-searches.ensures.ok in
+    omega (arith, step.0.few, step.2, c.loop.invariant.few, c.requires.hops, c.requires.count, c.loop-test.true)
 
 pub loop-preserved : goal.loop-preserved
 loop-preserved g c =
@@ -56,22 +51,18 @@ loop-preserved g c =
     let t = shape_of c.loop.self in
     let first = shape_of c.args.self.now in
     let before = c.args.given.now.items in
-    let some = some_there _ _ c.is_empty.ensures c.if-is_empty.false in
-    let there : 0 < length t.queue = some in
-    let step = is_given p r c.requires.plan t (sound_tree p r (length t.journal) t c.loop.invariant.way.sound) there in
+    let step = is_given p r c.requires.plan t (sound_tree p r (length t.journal) t c.loop.invariant.way.sound) _ _ _ _ c.in_ok-searches.ensures.ok in
+    let u = shape_of c.take.new.self in
     let left : c.args.count - c.loop.counter ≡ suc (c.args.count - (c.loop.counter + 1)) = omega (arith, c.loop-test.true) in
-    let given : c.take.new.given.items ≡ c.loop.given.items ++ step.route ∷ [] = subst (λ (o : Option RouteRecord). IfSome o (λ x. c.take.new.given.items ≡ c.loop.given.items ++ x ∷ [])) step.least c.in_ok-searches.ensures.given in
     let way = subst (λ n. IsOnTheWay p r (shown first) c.args.count first before n t c.loop.given.items) left c.loop.invariant.way in
     record {
-      way = subst (λ (z : Shape g.row.A.Denot). IsOnTheWay p r (shown first) c.args.count first before (c.args.count - (c.loop.counter + 1)) z c.take.new.given.items) (sym c.in_ok-searches.ensures.ok)
-          (one_on p r (shown first) c.args.count first before (c.args.count - (c.loop.counter + 1)) t c.loop.given.items c.take.new.given.items step given way);
+      way = one_on p r (shown first) c.args.count first before (c.args.count - (c.loop.counter + 1)) t u c.loop.given.items c.take.new.given.items step.0 step.1 way;
       index = c.take.ensures.index ∙ c.loop.invariant.index;
       room = c.in_ok-searches.ensures.room;
-      sum = subst (λ (z : Shape g.row.A.Denot). (c.loop.searches + c.in_ok-searches.field-0) + searches_in p r (c.args.count - (c.loop.counter + 1)) (shown z) ≡ searches_in p r c.args.count (shown first)) (sym c.in_ok-searches.ensures.ok)
-          (counts_on p r t step (c.args.count - (c.loop.counter + 1)) c.loop.searches c.in_ok-searches.field-0 (searches_in p r c.args.count (shown first)) c.in_ok-searches.ensures.count
-          (subst (λ n. c.loop.searches + searches_in p r n (shown t) ≡ searches_in p r c.args.count (shown first)) left c.loop.invariant.sum));
+      sum = counts_on p r t u step.0 (c.args.count - (c.loop.counter + 1)) c.loop.searches c.in_ok-searches.field-0 (searches_in p r c.args.count (shown first)) step.2
+          (subst (λ n. c.loop.searches + searches_in p r n (shown t) ≡ searches_in p r c.args.count (shown first)) left c.loop.invariant.sum);
       called = omega (arith, c.in_ok-searches.ensures.called, c.loop.invariant.called);
-      few = omega (arith, step.few, c.in_ok-searches.ensures.count, c.loop.invariant.few, c.requires.hops);
+      few = omega (arith, step.0.few, step.2, c.loop.invariant.few, c.requires.hops);
       kept = c.take.ensures.kept;
     }
 
@@ -92,8 +83,7 @@ returns-clause-entries g c =
 
 pub returns-then-is_empty-clause-searches : goal.returns-then-is_empty-clause-searches
 returns-then-is_empty-clause-searches g c =
-    let none = none_there _ _ c.is_empty.ensures c.if-is_empty.true in
-    let empty : length (shape_of c.loop.self).queue ≡ 0 = none in
+    let empty = c.is_empty.ensures.none c.if-is_empty.true in
     let still = counts_idle c.args.plan.now.plan c.args.request.now c.requires.plan (shape_of c.loop.self) c.loop.invariant.way.sound (c.args.count - c.loop.counter) (inr empty) in
     omega (arith, still, c.loop.invariant.sum)
 

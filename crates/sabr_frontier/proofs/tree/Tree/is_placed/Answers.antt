@@ -22,7 +22,7 @@ returns-then-not-is_below-clause-placed g c =
     let p = c.args.plan.now.plan in
     let r = c.args.request.now in
     let t = shape_of c.args.self.now in
-    refused p r c.requires.plan t c.requires.tree (reached p r c.requires.plan t c.requires.tree c.in-Some.last.now c.in-Some-next_carried.next.now (sym c.in-Some.ensures) (sym c.in-Some-next_carried.ensures) (sym c.is_below.ensures ∙ c.if-not-is_below.true))
+    refused p r c.requires.plan t c.requires.tree (reached p r c.requires.plan t c.requires.tree c.in-Some.last.now c.in-Some-next_carried.next.now (sym c.in-Some.ensures) c.in-Some-next_carried.ensures.some (sym c.is_below.ensures ∙ c.if-not-is_below.true))
 
 pub returns-clause-placed : goal.returns-clause-placed
 returns-clause-placed g c =
@@ -33,11 +33,11 @@ returns-clause-placed g c =
       | in-Some+else-is_passed+in-Some-next_carried+else-not-is_below w ↦
           above_some p r c.requires.plan t c.requires.tree w.in-Some.last.now w.in-Some-next_carried.next.now (sym w.in-Some.ensures)
           (sym (ap (list_any (λ y. is_lt (by_record w.in-Some.last.now y))) w.as_slice.ensures.value) ∙ sym w.is_passed.ensures ∙ w.if-is_passed.false)
-          (sym w.in-Some-next_carried.ensures) (sym w.is_below.ensures ∙ w.if-not-is_below.false)
+          w.in-Some-next_carried.ensures.some (sym w.is_below.ensures ∙ w.if-not-is_below.false)
       | in-Some+else-is_passed+in_default-next_carried w ↦
           above_end p r c.requires.plan t c.requires.tree w.in-Some.last.now (sym w.in-Some.ensures)
           (sym (ap (list_any (λ y. is_lt (by_record w.in-Some.last.now y))) w.as_slice.ensures.value) ∙ sym w.is_passed.ensures ∙ w.if-is_passed.false)
-          (sym w.in_default-next_carried.ensures)
+          w.in_default-next_carried.ensures.none
       | in_default w ↦ first_none p r c.requires.plan t c.requires.tree (sym w.in_default.ensures)
     ] in
     decided p r c.requires.plan t c.requires.tree c.carries_least.result first c.carries_least.ensures.least

@@ -1,13 +1,13 @@
 use Rattle.std.proofs.Common.{◌≡◌, ◌-◌, length}
 use Rattle.sabr_frontier.specs.Shape.{shape_of}
-use Rattle.sabr_frontier.specs.Undo.{CanUndoTimes, undone_times, IsRoomy}
+use Rattle.sabr_frontier.specs.Undo.{CanUndoTimes, undone_times, IsSpacious}
 use Rattle.sabr_frontier.proofs.tree.Tree.undo_each.Given as goal
 
 abbrev pub invariant-loop-self : goal.invariant-loop-self
 invariant-loop-self g l = record {
   possible : CanUndoTimes (length l.self.journal.items - l.start) (shape_of l.self);
   index : l.self.index.items ≡ l.fn.self.index.items;
-  room : IsRoomy l.self;
+  room : IsSpacious l.self;
   former : undone_times (length l.self.journal.items - l.start) (shape_of l.self) ≡ undone_times (length l.fn.self.journal.items - l.start) (shape_of l.fn.self);
 }
 

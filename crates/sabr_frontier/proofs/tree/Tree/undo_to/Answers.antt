@@ -1,9 +1,10 @@
-use Rattle.std.proofs.Common.{◌≡◌, ◌-◌, arith, ap, sym, ◌∙◌, length}
+use Rattle.std.proofs.Common.{◌≡◌, ◌-◌, arith, ap, sym, subst, ◌∙◌, length}
 use Rattle.std.specs.Prelude.{nat_lt}
 use Rattle.std.specs.List.{filter}
 use Rattle.sabr_frontier.specs.declared.tree.NodeId.{NodeId}
 use Rattle.sabr_frontier.specs.Shape.{Shape, shape_of}
 use Rattle.sabr_frontier.specs.Undo.{undone_times}
+use Rattle.sabr_frontier.specs.Winners.{AreWinners}
 use Rattle.sabr_frontier.proofs.tree.Tree.undo_to.Goals as goal
 
 pub returns-clause-index : goal.returns-clause-index
@@ -20,9 +21,13 @@ returns-clause-room g c =
     let room = c.undo_each.ensures.room in
     let count : c.len.result ≡ length (undone_times (length s.journal.items - c.args.start) (shape_of s)).nodes = omega (arith, c.len.ensures, ap (λ (z : Shape g.row.A.Denot). length z.nodes) former) in
     let index = c.keep_below.ensures.items ∙ (λ i. filter (λ (id : NodeId). nat_lt id.0 (count i)) (c.undo_each.ensures.index i)) ∙ sym c.requires.index.index in
+    let nodes = c.as_slice.ensures.value in
     record {
-      index = omega (arith, room.index, c.keep_below.ensures.capacity);
-      added = omega (arith, c.requires.index.whole, ap (length {A = NodeId}) index, ap (λ (z : Shape g.row.A.Denot). length z.nodes) former);
-      places = room.places;
-      queue = room.queue;
+      space = record {
+        index = omega (arith, room.index, c.keep_below.ensures.capacity);
+        added = omega (arith, c.requires.index.whole, ap (length {A = NodeId}) index, ap (λ (z : Shape g.row.A.Denot). length z.nodes) former);
+        places = omega (arith, room.places, c.rebuild.ensures.capacity);
+      };
+      won = subst (λ z. AreWinners z c.rebuild.new.winners.items) nodes c.rebuild.ensures.won;
+      count = omega (arith, c.rebuild.ensures.len, c.as_slice.ensures.len);
     }

@@ -1,0 +1,124 @@
+//! The node with the least route, found as in a tournament: slot `k` names the winner among node `k` and the winners of
+//! slots `2k + 1` and `2k + 2`.
+
+ghost use Rattle.std.specs.Prelude.{◌≡◌, ◌+◌, ◌<◌, ◌≤◌, length, vec_len, vec_capacity};
+ghost use Rattle.sabr_frontier.specs.Shape.{route_at};
+ghost use Rattle.sabr_frontier.specs.Winners.{AreOthersWinners, AreWinners, IsLesser, IsSettled, IsWinner, comes_first};
+
+use crate::index::push_block;
+use crate::places::carried;
+use crate::tree::{Node, NodeId};
+use std::alloc::Allocator;
+use std::cmp::Ordering;
+
+/// Whether a node carries a lesser route than another, or the other carries none.
+fn comes_first<A: Allocator + Copy>(nodes: &[Node<A>], id: NodeId, other: NodeId) -> bool
+    ensures { result ≡ comes_first (route_at nodes.now id) (route_at nodes.now other) }
+{
+    let Some(route) = carried(nodes, id) else {
+        return false;
+    };
+    match carried(nodes, other) {
+        Some(carried) => route.cmp(carried) == Ordering::Less,
+        None => true,
+    }
+}
+
+/// The node of two that carries the lesser route.
+fn lesser<A: Allocator + Copy>(nodes: &[Node<A>], id: NodeId, other: NodeId) -> NodeId
+    ensures { IsLesser nodes.now id other result }
+{
+    if comes_first(nodes, other, id) {
+        return other;
+    }
+    id
+}
+
+/// The winner of a slot among its own node and the winners of the two slots below it.
+fn winner<A: Allocator + Copy>(nodes: &[Node<A>], ids: &[NodeId], slot: usize) -> NodeId
+    requires { slot < length ids.now }
+    ensures { IsWinner nodes.now ids.now slot result }
+{
+    if slot >= ids.len() / 2 {
+        return NodeId(slot);
+    }
+    let left = lesser(nodes, NodeId(slot), ids[slot * 2 + 1]);
+    if slot * 2 + 2 >= ids.len() {
+        return left;
+    }
+    lesser(nodes, left, ids[slot * 2 + 2])
+}
+
+/// Settles the slots from `first` on and before `end`.
+fn settle<A: Allocator + Copy>(
+    nodes: &[Node<A>],
+    ids: &mut [NodeId],
+    first: usize,
+    end: usize,
+)
+    requires order { first ≤ end }
+    requires within { end ≤ length ids.old }
+    ensures { IsSettled nodes.now ids.old ids.new first end }
+{
+    let mut slot = end;
+    while first < slot {
+        slot -= 1;
+        ids[slot] = winner(nodes, ids, slot);
+    }
+}
+
+/// Settles the slots from `first` on and before `end`, and those over them.
+pub fn settle_up<A: Allocator + Copy>(
+    nodes: &[Node<A>],
+    ids: &mut [NodeId],
+    mut first: usize,
+    mut end: usize,
+)
+    requires order { first ≤ end }
+    requires within { end ≤ length ids.old }
+    requires others { AreOthersWinners nodes.now ids.old first end }
+    ensures won { AreWinners nodes.now ids.new }
+    ensures len { length ids.new ≡ length ids.old }
+{
+    while 0 < end {
+        settle(nodes, ids, first, end);
+        first = first.saturating_sub(1) / 2;
+        end /= 2;
+    }
+}
+
+/// Adds a slot for each node that has none, for which there is room.
+pub fn fill<A: Allocator + Copy>(nodes: &[Node<A>], winners: &mut Vec<NodeId, A>)
+    requires won { AreWinners nodes.now winners.old.items }
+    requires within { vec_len winners.old ≤ length nodes.now }
+    requires room { length nodes.now ≤ vec_capacity winners.old }
+    ensures won { AreWinners nodes.now winners.new.items }
+    ensures len { vec_len winners.new ≡ length nodes.now }
+    ensures capacity { vec_capacity winners.old ≤ vec_capacity winners.new }
+{
+    let first = winners.len();
+    push_block(winners, first, nodes.len() - first);
+    settle_up(nodes, winners.as_mut_slice(), first, nodes.len());
+}
+
+/// Renews the winners after a node's route changed.
+pub fn renew<A: Allocator + Copy>(nodes: &[Node<A>], winners: &mut Vec<NodeId, A>, node: NodeId)
+    requires within { node.0 < vec_len winners.old }
+    requires others { AreOthersWinners nodes.now winners.old.items node.0 (node.0 + 1) }
+    ensures won { AreWinners nodes.now winners.new.items }
+    ensures len { vec_len winners.new ≡ vec_len winners.old }
+    ensures capacity { vec_capacity winners.new ≡ vec_capacity winners.old }
+{
+    settle_up(nodes, winners.as_mut_slice(), node.0, node.0 + 1);
+}
+
+/// Finds the winners of all nodes, for which there is room.
+pub fn rebuild<A: Allocator + Copy>(nodes: &[Node<A>], winners: &mut Vec<NodeId, A>)
+    requires { length nodes.now ≤ vec_capacity winners.old }
+    ensures won { AreWinners nodes.now winners.new.items }
+    ensures len { vec_len winners.new ≡ length nodes.now }
+    ensures capacity { vec_capacity winners.old ≤ vec_capacity winners.new }
+{
+    winners.clear();
+    fill(nodes, winners);
+}
