@@ -6,15 +6,11 @@ abbrev pub spaced_by : {N : Type 0} → (N → List ℕ) → List N → List ℕ
 spaced_by spelled [] = []
 spaced_by spelled (n ∷ ns) = (32 ∷ spelled n) ++ spaced_by spelled ns
 
--- the numbers, spelled so and parted by single spaces, and `-` where there is none
+-- the same with no space before the first, and `-` where there is none
 abbrev pub listed_by : {N : Type 0} → (N → List ℕ) → List N → List ℕ
 listed_by spelled [] = codes "-"
 listed_by spelled (n ∷ ns) = spelled n ++ spaced_by spelled ns
 
--- each number in decimal digits, after a space
-abbrev pub spaced_behind : List ℕ → List ℕ
-spaced_behind ns = spaced_by decimal ns
-
--- the numbers in decimal digits
+-- the numbers in decimal digits, parted by single spaces, and `-` where there is none
 abbrev pub list_text : List ℕ → List ℕ
 list_text ns = listed_by decimal ns
