@@ -1,3 +1,2 @@
 -- Lists on the command line.
-pub mod CommaPieces
 pub mod ListedNumbers

@@ -1,7 +1,7 @@
 pub mod Gathering
 pub mod SpacedNumbers
 mod ReportLines
-mod SpacedWords
+pub mod SpacedWords
 pub mod ReadNumbers
 mod SlashLists
 mod Labels

@@ -5,7 +5,7 @@ use Rattle.std.proofs.lemmas.Bool.Decides.{nat_tests}
 use Rattle.std.proofs.lemmas.Fmt.{length-decimal-le_wide}
 use Rattle.sabr_plan.specs.Words.{TextLines, is_one_line, lines_of}
 use Rattle.sabr_plan.proofs.Lines.{lines_of-line}
-use Rattle.sabr_session.specs.SpacedNumbers.{spaced_behind, list_text}
+use Rattle.sabr_session.specs.SpacedNumbers.{spaced_by, list_text}
 use Rattle.sabr_session.proofs.SpelledWords.{IsWord, AreWithin, decimal_is_word}
 use Rattle.sabr_plan.proofs.Held.{one_line-append}
 
@@ -55,27 +55,27 @@ word_line [] h = refl
 word_line (b ∷ w) h = rw (no_lf b h.0) (word_line w h.1)
 
 module _ (low high : ℕ) (short : high < 10 ^ 64) where
-  spaced_line : (ns : List ℕ) → AreWithin low high ns → is_one_line (spaced_behind ns) ≡ true
+  spaced_line : (ns : List ℕ) → AreWithin low high ns → is_one_line (spaced_by decimal ns) ≡ true
   spaced_line [] h = refl
   spaced_line (n ∷ ns) h =
-      one_line-append (decimal n) (spaced_behind ns) (word_line (decimal n) (decimal_is_word n (omega (arith, h.0.1)))) (spaced_line ns h.1)
+      one_line-append (decimal n) (spaced_by decimal ns) (word_line (decimal n) (decimal_is_word n (omega (arith, h.0.1)))) (spaced_line ns h.1)
 
   pub list_line : (ns : List ℕ) → AreWithin low high ns → is_one_line (list_text ns) ≡ true
   list_line [] h = refl
   list_line (n ∷ ns) h =
-      one_line-append (decimal n) (spaced_behind ns) (word_line (decimal n) (decimal_is_word n (omega (arith, h.0.1)))) (spaced_line ns h.1)
+      one_line-append (decimal n) (spaced_by decimal ns) (word_line (decimal n) (decimal_is_word n (omega (arith, h.0.1)))) (spaced_line ns h.1)
 
 -- lists of numbers of at most ten digits
 module _ (low high : ℕ) (ten : high < 10000000000) where
   pub ten_digits : (n : ℕ) → n ≤ high → length (decimal n) ≤ 10
   ten_digits n h = length-decimal-le_wide 10 n (omega arith) (omega arith) (omega arith)
 
-  spaced_length : (ns : List ℕ) → AreWithin low high ns → length (spaced_behind ns) ≤ 11 * length ns
+  spaced_length : (ns : List ℕ) → AreWithin low high ns → length (spaced_by decimal ns) ≤ 11 * length ns
   spaced_length [] h = omega arith
   spaced_length (n ∷ ns) h =
       let here = ten_digits n h.0.1 in
       let rest = spaced_length ns h.1 in
-      let both = length-append (decimal n) (spaced_behind ns) in
+      let both = length-append (decimal n) (spaced_by decimal ns) in
       omega (arith, here, rest, both)
 
   pub list_length : (ns : List ℕ) → AreWithin low high ns → length ns ≤ 20000 → length (list_text ns) ≤ 219999
@@ -83,19 +83,19 @@ module _ (low high : ℕ) (ten : high < 10000000000) where
   list_length (n ∷ ns) h l =
       let here = ten_digits n h.0.1 in
       let rest = spaced_length ns h.1 in
-      let both = length-append (decimal n) (spaced_behind ns) in
+      let both = length-append (decimal n) (spaced_by decimal ns) in
       omega (arith, here, rest, both, l)
 
 -- lists of nodes
 node_digits : (n : ℕ) → n ≤ 18446744073709551615 → length (decimal n) ≤ 20
 node_digits n h = length-decimal-le_wide 20 n (omega arith) (omega arith) (omega arith)
 
-spaced_nodes : (ns : List ℕ) → AreWithin 0 18446744073709551615 ns → length (spaced_behind ns) ≤ 21 * length ns
+spaced_nodes : (ns : List ℕ) → AreWithin 0 18446744073709551615 ns → length (spaced_by decimal ns) ≤ 21 * length ns
 spaced_nodes [] h = omega arith
 spaced_nodes (n ∷ ns) h =
     let here = node_digits n h.0.1 in
     let rest = spaced_nodes ns h.1 in
-    let both = length-append (decimal n) (spaced_behind ns) in
+    let both = length-append (decimal n) (spaced_by decimal ns) in
     omega (arith, here, rest, both)
 
 pub nodes_length : (ns : List ℕ) → AreWithin 0 18446744073709551615 ns → length ns ≤ 16 → length (list_text ns) ≤ 336
@@ -103,5 +103,5 @@ nodes_length [] h l = omega arith
 nodes_length (n ∷ ns) h l =
     let here = node_digits n h.0.1 in
     let rest = spaced_nodes ns h.1 in
-    let both = length-append (decimal n) (spaced_behind ns) in
+    let both = length-append (decimal n) (spaced_by decimal ns) in
     omega (arith, here, rest, both, l)

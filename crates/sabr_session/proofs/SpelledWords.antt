@@ -6,7 +6,7 @@ use Rattle.std.proofs.lemmas.Bool.Decides.{nat_tests}
 use Rattle.std.proofs.lemmas.Fmt.{decimal_by_steps_wide}
 use Rattle.std.proofs.lemmas.List.Splits.{length-slice_split}
 use Rattle.std.specs.declared.option.Option.TheVariants.{Some}
-use Rattle.sabr_session.specs.SpacedNumbers.{spaced_behind, list_text}
+use Rattle.sabr_session.specs.SpacedNumbers.{spaced_by, list_text}
 use Rattle.sabr_session.specs.SessionWords.{is_space, words_of, all_of, counted, is_dash, list_within, is_slash, before_slash, after_slash}
 use Rattle.sabr_plan.specs.Numbers.{number_within}
 use Rattle.sabr_plan.proofs.SpelledNumbers.{number_within-spelled_within}
@@ -106,11 +106,11 @@ list_words [] = codes "-" ∷ []
 list_words (n ∷ ns) = map decimal (n ∷ ns)
 
 module _ (low high : ℕ) (short : high < 10 ^ 64) where
-  words-numbers : (n : ℕ) (ns : List ℕ) → AreWithin low high (n ∷ ns) → words_of (decimal n ++ spaced_behind ns) ≡ map decimal (n ∷ ns)
+  words-numbers : (n : ℕ) (ns : List ℕ) → AreWithin low high (n ∷ ns) → words_of (decimal n ++ spaced_by decimal ns) ≡ map decimal (n ∷ ns)
   words-numbers n [] h = ap words_of (append-nil (decimal n)) ∙ words-word (decimal n) (decimal_is_word n (omega (arith, h.0.1)))
   words-numbers n (m ∷ ns) h =
-      words-apart (decimal n) (decimal m ++ spaced_behind ns)
-      ∙ ap (λ ws. ws ++ words_of (decimal m ++ spaced_behind ns)) (words-word (decimal n) (decimal_is_word n (omega (arith, h.0.1))))
+      words-apart (decimal n) (decimal m ++ spaced_by decimal ns)
+      ∙ ap (λ ws. ws ++ words_of (decimal m ++ spaced_by decimal ns)) (words-word (decimal n) (decimal_is_word n (omega (arith, h.0.1))))
       ∙ ap (λ ws. decimal n ∷ ws) (words-numbers m ns h.1)
 
   -- the words of a list's text

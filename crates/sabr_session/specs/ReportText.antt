@@ -3,7 +3,7 @@ use Rattle.std.specs.Prelude.{ℕ, ◌+◌, ◌≤◌, Bool, List, [], ◌∷◌
 use Rattle.std.specs.List.{concat}
 use Rattle.sabr_model.specs.Record.{RouteRecord}
 use Rattle.sabr_plan.specs.Times.{time_text_of}
-use Rattle.sabr_session.specs.SpacedNumbers.{spaced_behind}
+use Rattle.sabr_session.specs.SpacedNumbers.{spaced_by}
 
 -- both times of a route can be spelled, since they lie before the end of year 9999
 abbrev pub HasSpelledTimes : RouteRecord → Type 0
@@ -24,7 +24,7 @@ route_line r = concat (
     ∷ codes " hops " ∷ decimal (length r.contacts)
     ∷ codes " entry " ∷ decimal r.entry
     ∷ codes " until " ∷ time_text_of r.until
-    ∷ codes " contacts" ∷ spaced_behind r.contacts ∷ codes "\n" ∷ []
+    ∷ codes " contacts" ∷ spaced_by decimal r.contacts ∷ codes "\n" ∷ []
     )
 
 -- the same after its rank

@@ -1,26 +1,21 @@
 -- What the texts of the command line spell.
-use Rattle.std.specs.Prelude.{ℕ, ◌==◌, nat_le, List, [], ◌∷◌, length, option_and_then, map, if◌then◌else◌}
+use Rattle.std.specs.Prelude.{ℕ, ◌==◌, nat_le, List, [], length, option_and_then, map, if◌then◌else◌}
+use Rattle.std.specs.List.{slice_split}
 use Rattle.sabr_plan.specs.Numbers.{number_within}
 use Rattle.sabr_session.specs.SessionWords.{all_of}
 use Rattle.std.specs.declared.option.Option.{Option}
 use Rattle.std.specs.declared.option.Option.TheVariants.{Some, None}
 
--- the piece that a byte goes on with
-abbrev pub with_byte : ℕ → List (List ℕ) → List (List ℕ)
-with_byte b [] = (b ∷ []) ∷ []
-with_byte b (piece ∷ pieces) = (b ∷ piece) ∷ pieces
-
 -- the pieces of a text between its commas
 abbrev pub pieces_of : List ℕ → List (List ℕ)
-pieces_of [] = [] ∷ []
-pieces_of (b ∷ text) = if b == 44 then [] ∷ pieces_of text else with_byte b (pieces_of text)
+pieces_of text = slice_split (λ b. b == 44) text
 
 -- the pieces of what stands after a comma, if there is one
 abbrev pub pieces_behind : Option (List ℕ) → List (List ℕ)
 pieces_behind None = []
 pieces_behind (Some text) = pieces_of text
 
--- the numbers that a text lists, parted by single commas, each within these bounds
+-- the numbers that a text lists, separated by single commas, each within these bounds
 unfoldable pub numbers_within : ℕ → ℕ → List ℕ → Option (List ℕ)
 numbers_within low high text = all_of (map (number_within low high) (pieces_of text))
 

@@ -1,42 +1,29 @@
 //! The run that reports what a plan holds.
 
-ghost use Rattle.std.specs.Prelude.{◌≡◌, Result, IfOk, IsTrue};
+ghost use Rattle.std.specs.Prelude.{◌≡◌, Result};
 ghost use Rattle.sabr_model.specs.Plan.{TabledPlan};
-ghost use Rattle.sabr_model.specs.Devices.{WritesText};
 ghost use Rattle.sabr_plan.specs.PlanRead.{ReadsPlan};
 ghost use Rattle.sabr_plan.specs.declared.fault.PlanFault.{PlanFault};
 ghost use Rattle.commands.specs.declared.failure.Failure.{Failure};
 ghost use Rattle.commands.specs.runs.Runs.{TellsEnd, status_at};
-ghost use Rattle.commands.specs.texts.CheckText.{check_text, WritesCheck};
+ghost use Rattle.commands.specs.texts.CheckText.{WritesCheck};
 
 use crate::failure::Failure;
 use crate::runs::ending::tell_end;
 use crate::status::Status;
 use crate::texts::write_check_text;
-use sabr_model::{Plan, Read, Write, WriteFault};
+use sabr_model::{Plan, Read, Write};
 use sabr_plan::read_plan;
 use std::alloc::Allocator;
 
 /// Writes and flushes the text of a check.
-fn write_and_flush<O: Write, A: Allocator + Copy>(
-    plan: &Plan<A>,
-    out: &mut O,
-) -> Result<(), WriteFault>
-    ensures text { WritesText (O.contents out.old) (O.failures out.old) (check_text plan.now.plan) result (O.contents out.new) (O.failures out.new) }
-    ensures flushed { IfOk result (λ _. IsTrue (O.flushed out.new)) }
-{
-    write_check_text(plan, out)?;
-    let Ok(()) = out.flush() else {
-        return Err(WriteFault);
-    };
-    Ok(())
-}
-
-/// Writes and flushes the text of a check, as part of a run.
 fn write_check<O: Write, A: Allocator + Copy>(plan: &Plan<A>, out: &mut O) -> Result<(), Failure>
     ensures { WritesCheck (Ok plan.now) result (O.contents out.old) (O.failures out.old) (O.contents out.new) (O.failures out.new) (O.flushed out.new) }
 {
-    write_and_flush(plan, out)?;
+    write_check_text(plan, out)?;
+    let Ok(()) = out.flush() else {
+        return Err(Failure::Write);
+    };
     Ok(())
 }
 

@@ -1,42 +1,22 @@
 //! The run that explains a list of contacts.
 
-ghost use Rattle.std.specs.Prelude.{◌≡◌, Bool, Result, IfOk, IsTrue};
+ghost use Rattle.std.specs.Prelude.{◌≡◌, Bool, Result};
 ghost use Rattle.sabr_model.specs.Plan.{TabledPlan};
-ghost use Rattle.sabr_model.specs.Route.{is_route};
-ghost use Rattle.sabr_model.specs.Devices.{WritesText};
 ghost use Rattle.sabr_plan.specs.PlanRead.{ReadsPlan};
 ghost use Rattle.sabr_plan.specs.declared.fault.PlanFault.{PlanFault};
 ghost use Rattle.commands.specs.declared.failure.Failure.{Failure};
 ghost use Rattle.commands.specs.runs.Runs.{TellsEnd, status_of_answer};
-ghost use Rattle.commands.specs.texts.Explanation.{explanation_text, WritesExplanation};
+ghost use Rattle.commands.specs.texts.Explanation.{WritesExplanation};
 
 use crate::failure::Failure;
 use crate::runs::ending::tell_answer;
 use crate::status::Status;
 use crate::texts::write_explanation;
-use sabr_model::{Plan, Read, Request, Write, WriteFault};
+use sabr_model::{Plan, Read, Request, Write};
 use sabr_plan::read_plan;
 use std::alloc::Allocator;
 
 /// Writes and flushes the explanation, and returns whether the contacts make a route.
-fn write_and_flush<O: Write, A: Allocator + Copy>(
-    plan: &Plan<A>,
-    request: &Request,
-    contacts: &[u32],
-    out: &mut O,
-) -> Result<bool, WriteFault>
-    ensures text { WritesText (O.contents out.old) (O.failures out.old) (explanation_text plan.now.plan request.now contacts.now) result (O.contents out.new) (O.failures out.new) }
-    ensures route { IfOk result (λ answer. answer ≡ is_route plan.now.plan request.now contacts.now) }
-    ensures flushed { IfOk result (λ _. IsTrue (O.flushed out.new)) }
-{
-    let is_route = write_explanation(plan, request, contacts, out)?;
-    let Ok(()) = out.flush() else {
-        return Err(WriteFault);
-    };
-    Ok(is_route)
-}
-
-/// Writes and flushes the explanation, as part of a run.
 fn explain<O: Write, A: Allocator + Copy>(
     plan: &Plan<A>,
     request: &Request,
@@ -45,7 +25,10 @@ fn explain<O: Write, A: Allocator + Copy>(
 ) -> Result<bool, Failure>
     ensures { WritesExplanation (Ok plan.now) request.now contacts.now result (O.contents out.old) (O.failures out.old) (O.contents out.new) (O.failures out.new) (O.flushed out.new) }
 {
-    let is_route = write_and_flush(plan, request, contacts, out)?;
+    let is_route = write_explanation(plan, request, contacts, out)?;
+    let Ok(()) = out.flush() else {
+        return Err(Failure::Write);
+    };
     Ok(is_route)
 }
 

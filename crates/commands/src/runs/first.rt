@@ -15,34 +15,13 @@ use crate::runs::pages::write_page;
 use crate::runs::searched_plan::read_searched_plan;
 use crate::status::Status;
 use sabr_frontier::Session;
-use sabr_model::{Plan, Read, Request, Write};
+use sabr_model::{Read, Request, Write};
 use sabr_plan::digest;
 use sabr_search::Settled;
 use std::alloc::Allocator;
 
-/// Writes the first page of a request's listing.
-fn write_first<O: Write, S: Write, A: Allocator + Copy>(
-    alloc: A,
-    plan: &Plan<A>,
-    request: Request,
-    count: u32,
-    out: &mut O,
-    keep: bool,
-    session: &mut S,
-) -> Result<(), Failure>
-    requires { count ≤ most_routes }
-    ensures { WritesFirstPage (Ok plan.now) request keep count result
-        (O.contents out.old) (O.failures out.old) (O.contents out.new) (O.failures out.new) (O.flushed out.new)
-        (S.contents session.old) (S.failures session.old) (S.contents session.new) (S.failures session.new) (S.flushed session.new) }
-{
-    plan.tell_rules();
-    let listing = Session::start(alloc, plan, request, Settled::new(alloc))?;
-    let digest = if keep { Some(digest(plan)) } else { None };
-    write_page(listing, count, out, digest, session)
-}
-
 /// Reads the plan, and writes the first page of the listing over it.
-fn read_and_write_first<P: Read, O: Write, S: Write, A: Allocator + Copy>(
+fn write_first<P: Read, O: Write, S: Write, A: Allocator + Copy>(
     alloc: A,
     plan: &mut P,
     request: Request,
@@ -59,7 +38,10 @@ fn read_and_write_first<P: Read, O: Write, S: Write, A: Allocator + Copy>(
         (S.contents session.old) (S.failures session.old) (S.contents session.new) (S.failures session.new) (S.flushed session.new) }
 {
     let plan = read_searched_plan(alloc, plan)?;
-    write_first(alloc, &plan, request, count, out, keep, session)
+    plan.tell_rules();
+    let listing = Session::start(alloc, &plan, request, Settled::new(alloc))?;
+    let digest = if keep { Some(digest(&plan)) } else { None };
+    write_page(listing, count, out, digest, session)
 }
 
 /// Lists the first `count` routes, from 1 to 10000, over a plan, best first, and whether the listing goes on: reads the
@@ -90,6 +72,6 @@ pub fn run_first<P: Read, O: Write, S: Write, E: Write, A: Allocator + Copy>(
         × TellsEnd end (E.contents err.old) (E.failures err.old) (E.contents err.new) (E.failures err.new)
         × (result ≡ status_at end)) }
 {
-    let end = read_and_write_first(alloc, plan, request, count, out, keep, session);
+    let end = write_first(alloc, plan, request, count, out, keep, session);
     tell_end(end, err)
 }

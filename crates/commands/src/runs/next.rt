@@ -16,37 +16,14 @@ use crate::runs::ending::tell_end;
 use crate::runs::pages::write_page;
 use crate::runs::searched_plan::read_searched_plan;
 use crate::status::Status;
-use sabr_model::{Plan, Read, Write};
+use sabr_model::{Read, Write};
 use sabr_plan::digest;
 use sabr_search::Settled;
 use sabr_session::read_session;
 use std::alloc::Allocator;
 
-/// Reads an old session over a plan, and writes its next page.
-fn write_next<I: Read, O: Write, S: Write, A: Allocator + Copy>(
-    alloc: A,
-    plan: &Plan<A>,
-    old: &mut I,
-    count: u32,
-    out: &mut O,
-    keep: bool,
-    session: &mut S,
-) -> Result<(), Failure>
-    requires { count ≤ most_routes }
-    ensures { (told : Result Seen SessionFault)
-        × ReadsOldSession (Ok plan.now) (I.remaining old.old) (I.failures old.old) told (I.remaining old.new) (I.failures old.new)
-        × WritesNextPage (Ok plan.now) (place_of told) keep count result
-        (O.contents out.old) (O.failures out.old) (O.contents out.new) (O.failures out.new) (O.flushed out.new)
-        (S.contents session.old) (S.failures session.old) (S.contents session.new) (S.failures session.new) (S.flushed session.new) }
-{
-    let digest = digest(plan);
-    let listing = read_session(alloc, old, plan, &digest, Settled::new(alloc))?;
-    let keep = if keep { Some(digest) } else { None };
-    write_page(listing, count, out, keep, session)
-}
-
 /// Reads the plan, and then the old session over it, and writes the session's next page.
-fn read_and_write_next<P: Read, I: Read, O: Write, S: Write, A: Allocator + Copy>(
+fn write_next<P: Read, I: Read, O: Write, S: Write, A: Allocator + Copy>(
     alloc: A,
     plan: &mut P,
     old: &mut I,
@@ -64,7 +41,10 @@ fn read_and_write_next<P: Read, I: Read, O: Write, S: Write, A: Allocator + Copy
         (S.contents session.old) (S.failures session.old) (S.contents session.new) (S.failures session.new) (S.flushed session.new)) }
 {
     let plan = read_searched_plan(alloc, plan)?;
-    write_next(alloc, &plan, old, count, out, keep, session)
+    let digest = digest(&plan);
+    let listing = read_session(alloc, old, &plan, &digest, Settled::new(alloc))?;
+    let keep = if keep { Some(digest) } else { None };
+    write_page(listing, count, out, keep, session)
 }
 
 /// Lists the `count` routes, from 1 to 10000, that follow an old session, and whether the listing goes on: reads the
@@ -97,6 +77,6 @@ pub fn run_next<P: Read, I: Read, O: Write, S: Write, E: Write, A: Allocator + C
         × TellsEnd end (E.contents err.old) (E.failures err.old) (E.contents err.new) (E.failures err.new)
         × (result ≡ status_at end))) }
 {
-    let end = read_and_write_next(alloc, plan, old, count, out, keep, session);
+    let end = write_next(alloc, plan, old, count, out, keep, session);
     tell_end(end, err)
 }

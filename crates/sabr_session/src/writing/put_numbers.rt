@@ -1,46 +1,45 @@
 //! Numbers put into a text.
 
-ghost use Rattle.std.specs.Prelude.{◌++◌, decimal};
+ghost use Rattle.std.specs.Prelude.{◌++◌};
 ghost use Rattle.sabr_session.specs.Gathering.{Puts};
-ghost use Rattle.sabr_session.specs.SpacedNumbers.{spaced_behind};
+ghost use Rattle.sabr_session.specs.SpacedNumbers.{spaced_by};
 
 use crate::writing::text_buffer::TextBuffer;
-use itoa::Buffer;
+use itoa::{Buffer, Integer};
 use sabr_model::{Write, WriteFault};
 
-/// Puts a count in decimal digits.
-pub(crate) fn put_count<W: Write>(
+/// Puts the number in decimal digits.
+pub(crate) fn put_digits<W: Write, N: Integer>(
     text: &mut TextBuffer<'_, W>,
-    count: u128,
+    number: N,
 ) -> Result<(), WriteFault>
-    ensures { Puts W.contents W.failures text.old (decimal count) result text.new }
+    ensures { Puts W.contents W.failures text.old (N.text number) result text.new }
 {
-    let mut digits = Buffer::new();
-    text.put(digits.format(count).as_bytes())
-}
-
-/// Puts the label, and after it the number in decimal digits.
-pub(crate) fn put_number<W: Write>(
-    text: &mut TextBuffer<'_, W>,
-    label: &[u8],
-    number: u64,
-) -> Result<(), WriteFault>
-    ensures { Puts W.contents W.failures text.old (label.now ++ decimal number) result text.new }
-{
-    text.put(label)?;
     let mut digits = Buffer::new();
     text.put(digits.format(number).as_bytes())
 }
 
-/// Puts each number after a space.
-pub(crate) fn put_numbers<W: Write>(
+/// Puts the label, and after it the number in decimal digits.
+pub(crate) fn put_number<W: Write, N: Integer>(
     text: &mut TextBuffer<'_, W>,
-    numbers: &[u32],
+    label: &[u8],
+    number: N,
 ) -> Result<(), WriteFault>
-    ensures { Puts W.contents W.failures text.old (spaced_behind numbers.now) result text.new }
+    ensures { Puts W.contents W.failures text.old (label.now ++ N.text number) result text.new }
+{
+    text.put(label)?;
+    put_digits(text, number)
+}
+
+/// Puts each number after a space.
+pub(crate) fn put_numbers<W: Write, N: Integer>(
+    text: &mut TextBuffer<'_, W>,
+    numbers: &[N],
+) -> Result<(), WriteFault>
+    ensures { Puts W.contents W.failures text.old (spaced_by N.text numbers.now) result text.new }
 {
     for number in numbers {
-        put_number(text, b" ", u64::from(*number))?;
+        put_number(text, b" ", *number)?;
     }
     Ok(())
 }

@@ -7,7 +7,7 @@ ghost use Rattle.sabr_session.specs.Gathering.{Puts};
 ghost use Rattle.sabr_session.specs.ReportText.{HasSpelledTimes, told_pieces, route_line, report_line, report_lines, last_line, report_text};
 
 use crate::writing::put_lists::put_pieces;
-use crate::writing::put_numbers::{put_count, put_numbers};
+use crate::writing::put_numbers::{put_digits, put_numbers};
 use crate::writing::text_buffer::TextBuffer;
 use itoa::Buffer;
 use sabr_model::{Route, Write, WriteFault};
@@ -83,7 +83,7 @@ fn put_line<W: Write, A: Allocator + Copy>(
     requires { HasSpelledTimes route.now }
     ensures { Puts W.contents W.failures text.old (report_line rank route.now) result text.new }
 {
-    put_count(text, rank)?;
+    put_digits(text, rank)?;
     text.put(b" ")?;
     put_route(text, route)
 }

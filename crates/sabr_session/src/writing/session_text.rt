@@ -12,8 +12,8 @@ ghost use Rattle.sabr_session.specs.SessionText.{plan_line, request_line, state_
 ghost use Rattle.sabr_session.specs.SessionPieces.{asked_pieces, counts_pieces, told_line};
 
 use crate::hex_digest::digest_text;
-use crate::writing::put_lists::{put_list, put_nodes, put_pieces};
-use crate::writing::put_numbers::{put_count, put_number};
+use crate::writing::put_lists::{put_list, put_pieces};
+use crate::writing::put_numbers::put_number;
 use crate::writing::text_buffer::TextBuffer;
 use itoa::Buffer;
 use sabr_frontier::{PartView, Parts, Session};
@@ -80,7 +80,7 @@ fn put_request<W: Write>(text: &mut TextBuffer<'_, W>, request: &Request) -> Res
     ensures { Puts W.contents W.failures text.old (request_line request.now) result text.new }
 {
     put_asked(text, request)?;
-    put_nodes(text, b" / ", request.avoided())?;
+    put_list(text, b" / ", request.avoided())?;
     text.put(b"\n")
 }
 
@@ -127,8 +127,7 @@ fn put_counts<W: Write, B: BestOf<A>, A: Allocator + Copy>(
 ) -> Result<(), WriteFault>
     ensures { Puts W.contents W.failures text.old (concat (counts_pieces session.now.state)) result text.new }
 {
-    text.put(b"emitted ")?;
-    put_count(text, session.emitted())?;
+    put_number(text, b"emitted ", session.emitted())?;
     put_list(text, b"\nlast ", session.last())?;
     put_number(text, b"\nparts ", session.part_count() as u64)?;
     text.put(b"\n")

@@ -1,7 +1,7 @@
-use Rattle.std.proofs.Common.{ℕ, List, ◌∷◌, decimal, drop, suc, get_or, add-one}
-use Rattle.sabr_session.specs.SpacedNumbers.{spaced_behind}
+use Rattle.std.proofs.Common.{◌∷◌, drop, suc, add-one}
+use Rattle.sabr_session.specs.SpacedNumbers.{spaced_by}
 use Rattle.sabr_session.proofs.Gathering.{HasPut-nil, HasPut-append, Puts-stopped, Puts-after}
-use Rattle.sabr_session.proofs.SpacedNumbers.{spaced_behind-at, spaced_behind-take}
+use Rattle.sabr_session.proofs.SpacedNumbers.{spaced_by-at, spaced_by-take}
 use Rattle.sabr_session.proofs.writing.put_numbers.put_numbers.Goals as goal
 
 pub loop-number-init : goal.loop-number-init
@@ -9,16 +9,14 @@ loop-number-init g c = HasPut-nil c.args.text.now
 
 pub returns-in_err-put_number : goal.returns-in_err-put_number
 returns-in_err-put_number g c =
-    let xs : List ℕ = c.args.numbers.now in
-    let i : ℕ = c.loop-number.number-index in
-    let h = c.in_err-put_number.ensures {u = tt} in
-    rw (spaced_behind-at xs i 0 c.loop-number-test.true)
+    let xs = c.args.numbers.now in
+    let i = c.loop-number.number-index in
+    let x = c.number-item.result in
+    rw (spaced_by-at g.N.Integer.text xs i x c.loop-number-test.true, ← c.number-item.is)
     (Puts-after _ _ _ _ c.loop-number.invariant
-    (Puts-stopped _ (32 ∷ decimal (get_or xs i 0)) (spaced_behind (drop (suc i) xs)) c.from_residual.result c.from_residual.ensures.1 (rw c.from.ensures at h)))
+    (Puts-stopped _ (32 ∷ g.N.Integer.text x) (spaced_by g.N.Integer.text (drop (suc i) xs)) c.from_residual.result c.from_residual.ensures.1 (c.in_err-put_number.ensures {u = tt})))
 
 pub loop-number-preserved : goal.loop-number-preserved
 loop-number-preserved g c =
-    let xs : List ℕ = c.args.numbers.now in
-    let h = c.in_ok-put_number.ensures {u = tt} in
-    rw (add-one, spaced_behind-take xs c.loop-number.number-index 0 c.loop-number-test.true)
-    (HasPut-append _ _ c.loop-number.invariant (rw c.from.ensures at h))
+    rw (add-one, spaced_by-take g.N.Integer.text c.args.numbers.now c.loop-number.number-index c.number-item.result c.loop-number-test.true, ← c.number-item.is)
+    (HasPut-append _ _ c.loop-number.invariant (c.in_ok-put_number.ensures {u = tt}))

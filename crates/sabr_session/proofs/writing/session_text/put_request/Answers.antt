@@ -16,15 +16,15 @@ returns-in_err-put_asked g c =
     rw (request_in_pieces r)
     (Puts-stopped _ front (nodes ++ newline) c.from_residual.result c.from_residual.ensures.1 c.in_err-put_asked.ensures)
 
-pub returns-in_err-put_nodes : goal.returns-in_err-put_nodes
-returns-in_err-put_nodes g c =
+pub returns-in_err-put_list : goal.returns-in_err-put_list
+returns-in_err-put_list g c =
     let r : RouteRequest = c.args.request.now in
     let front : List ℕ = concat (asked_pieces r) in
     let nodes : List ℕ = codes " / " ++ list_text r.avoided in
     let newline : List ℕ = codes "\n" in
     rw (request_in_pieces r)
     (Puts-after _ front (nodes ++ newline) _ c.in_ok-put_asked.ensures
-    (Puts-stopped _ nodes newline c.from_residual-in_err-put_nodes.result c.from_residual-in_err-put_nodes.ensures.1 (rw c.avoided.ensures.value at c.in_err-put_nodes.ensures)))
+    (Puts-stopped _ nodes newline c.from_residual-in_err-put_list.result c.from_residual-in_err-put_list.ensures.1 (rw c.avoided.ensures.value at c.in_err-put_list.ensures)))
 
 pub returns : goal.returns
 returns g c =
@@ -34,5 +34,5 @@ returns g c =
     let newline : List ℕ = codes "\n" in
     rw (request_in_pieces r)
     (Puts-after _ front (nodes ++ newline) _ c.in_ok-put_asked.ensures
-    (Puts-after _ nodes newline _ (rw c.avoided.ensures.value at c.in_ok-put_nodes.ensures)
+    (Puts-after _ nodes newline _ (rw c.avoided.ensures.value at c.in_ok-put_list.ensures)
     c.put.ensures))
