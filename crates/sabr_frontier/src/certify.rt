@@ -1,4 +1,4 @@
-//! Whether a tree stands for the state of the place that it counts.
+//! Whether a tree is the state of the place that it counts.
 
 ghost use Rattle.std.specs.Prelude.{◌≡◌, ◌↔◌, ◌+◌, ◌≤◌, length, slice_get, IfOk, IfSome, IfNone, IsTrue};
 ghost use Rattle.std.specs.List.{list_any};
@@ -22,14 +22,14 @@ use sabr_search::{BestOf, Kept};
 use std::alloc::Allocator;
 use std::cmp::Ordering;
 
-/// Tells whether a route is below another.
+/// Returns true if a route is less than another.
 fn is_below<A: Allocator + Copy>(route: &Route<A>, other: &Route<A>) -> bool
     ensures { result ≡ is_lt (by_record route.now other.now) }
 {
     route.cmp(other) == Ordering::Less
 }
 
-/// Tells whether both are there and are told alike, or neither is there.
+/// Returns true if both are there and have the same numbers and delivery, or if neither is there.
 fn is_same<A: Allocator + Copy>(one: &Option<Route<A>>, other: &Option<Route<A>>) -> bool
     ensures { IsTrue result ↔ (one.now ≡ other.now) }
 {
@@ -40,7 +40,7 @@ fn is_same<A: Allocator + Copy>(one: &Option<Route<A>>, other: &Option<Route<A>>
     }
 }
 
-/// Tells whether one of the routes is above this one.
+/// Returns true if one of the routes is greater than this one.
 fn is_passed<A: Allocator + Copy>(route: &Route<A>, routes: &[Route<A>]) -> bool
     ensures { result ≡ list_any (λ x. is_lt (by_record route.now x)) routes.now }
 {
@@ -48,14 +48,14 @@ fn is_passed<A: Allocator + Copy>(route: &Route<A>, routes: &[Route<A>]) -> bool
 }
 
 impl<A: Allocator + Copy> Tree<A> {
-    /// Gives the last route given, none where none was.
+    /// The last route given, or none.
     fn last_given(&self) -> Option<&Route<A>>
         ensures { option_copied result ≡ option_and_then (slice_get self.now.leaves.items) self.now.last }
     {
         self.leaves.get(self.last?)
     }
 
-    /// Gives the least route that a node carries.
+    /// The least route that a node carries, or none.
     fn next_carried(&self) -> Option<&Route<A>>
         requires { IsRoomy self.now }
         ensures some { IfSome result (λ x. IsNext self.now.nodes.items x.now) }
@@ -64,7 +64,7 @@ impl<A: Allocator + Copy> Tree<A> {
         carried(self.nodes.as_slice(), self.least()?)
     }
 
-    /// Tells whether each part carries its least route: one search for each. It needs the memory of a search.
+    /// Returns true if each part carries its least route: one search for each. It takes the memory of a search.
     fn carries_least<B: BestOf<A>>(
         &self,
         plan: &Plan<A>,
@@ -88,8 +88,8 @@ impl<A: Allocator + Copy> Tree<A> {
         Ok(true)
     }
 
-    /// Tells whether the state is that of the place that it counts: no route given is above the last one, that is below
-    /// all that is carried, and each part carries its least route (law 5).
+    /// Returns true if the state is that of the place that it counts: no route given is greater than the last one, each
+    /// carried route is, and each part carries its least route (law 5).
     pub fn is_placed<B: BestOf<A>>(
         &self,
         plan: &Plan<A>,

@@ -1,4 +1,4 @@
-//! Changing the tree where a route is given, without memory.
+//! Changing the tree when a route is given, without memory.
 
 ghost use Rattle.std.specs.Prelude.{◌≡◌, ◌<◌, [], ◌∷◌, ◌++◌, vec_len, vec_capacity, Some, IfSome, IfNone, IsSome, IsTrue, IsFalse, OnOk};
 ghost use Rattle.sabr_model.specs.Record.{RouteRecord};
@@ -17,7 +17,7 @@ use sabr_model::{NoMemory, Route};
 use std::alloc::Allocator;
 use std::mem;
 
-/// Sets what the node carries, and answers what it carried.
+/// Sets what the node carries, and returns what it carried.
 fn carry<A: Allocator + Copy>(
     nodes: &mut Vec<Node<A>, A>,
     node: NodeId,
@@ -60,7 +60,7 @@ impl<A: Allocator + Copy> Tree<A> {
         self.least().is_none()
     }
 
-    /// Makes room for one route given and `count` new nodes.
+    /// Reserves room for one route given and `count` new nodes.
     pub fn reserve(&mut self, count: usize) -> Result<(), NoMemory>
         requires { IsRoomy self.old }
         ensures same { shape_of self.new ≡ shape_of self.old }

@@ -1,4 +1,4 @@
-//! Dividing a part by the route that it carries: the number that it excludes from then on, and all searches.
+//! Dividing a part by the route that it carries: the number that it then excludes, and all searches.
 
 ghost use Rattle.std.specs.Prelude.{◌≡◌, ℕ, ◌+◌, ◌≤◌, ◌<◌, take, drop, slice_index, slice_get, length, vec_len, vec_capacity, Some, [], ◌∷◌, IfOk, OnOk, OnErr, IsTrue};
 ghost use Rattle.std.specs.Ordering.{nat_cmp};
@@ -18,14 +18,14 @@ use sabr_model::{NoMemory, Numbers, Plan, Request, Route};
 use sabr_search::{BestOf, Kept};
 use std::alloc::{Allocator, Global};
 
-/// What a part carries once its route is given, and the new parts.
+/// What a part carries after its route was given, and the new parts.
 #[derive(Debug, Drop)]
 pub struct Division<A: Allocator + Copy = Global> {
     pub found: Option<Route<A>>,
     pub fresh: Vec<Node<A>, A>,
 }
 
-/// Gives a record of its own.
+/// Copies a route.
 pub fn copied<A: Allocator + Copy>(alloc: A, route: &Route<A>) -> Result<Route<A>, NoMemory>
     ensures { IfOk result (λ x. x ≡ route.now) }
 {
@@ -40,14 +40,14 @@ pub fn copied<A: Allocator + Copy>(alloc: A, route: &Route<A>) -> Result<Route<A
     }
 }
 
-/// Gives the numbers of a record.
+/// The contact numbers of a route.
 pub fn numbers<A: Allocator + Copy>(route: &Route<A>) -> &[u32]
     ensures { result.now ≡ route.now.contacts }
 {
     route.contacts.as_slice()
 }
 
-/// Gives a node of a leaf, for the first `count` numbers of a route and its next number.
+/// Makes the node of a leaf for the first `count` numbers of a route, with its next number excluded.
 fn fresh_node<B: BestOf<A>, A: Allocator + Copy>(
     alloc: A,
     plan: &Plan<A>,
@@ -82,7 +82,7 @@ fn fresh_node<B: BestOf<A>, A: Allocator + Copy>(
     })
 }
 
-/// Gives the nodes of a leaf for the beginnings of a route from `first` numbers on, each with its next number excluded.
+/// Makes the nodes of a leaf for the beginnings of a route from `first` numbers on, each with its next number excluded.
 fn fresh_nodes<B: BestOf<A>, A: Allocator + Copy>(
     alloc: A,
     plan: &Plan<A>,
@@ -110,8 +110,8 @@ fn fresh_nodes<B: BestOf<A>, A: Allocator + Copy>(
     Ok(nodes)
 }
 
-/// Tells what a node carries next, for the numbers that it excludes, and the new nodes of its route, a leaf of the
-/// number `leaf` from then on: one search for the node itself, and one for each new node.
+/// Finds what a node carries next, for the numbers that it excludes, and makes the new nodes of its route, which is
+/// then the leaf `leaf`. It takes one search for the node itself, and one for each new node.
 fn search<B: BestOf<A>, A: Allocator + Copy>(
     alloc: A,
     plan: &Plan<A>,
@@ -144,7 +144,7 @@ fn search<B: BestOf<A>, A: Allocator + Copy>(
     Ok(Division { found, fresh })
 }
 
-/// Puts the number that a route takes behind the node's prefix to those that it excludes, or changes nothing.
+/// Excludes the number that a route takes after the node's prefix, or changes nothing if memory was refused.
 fn exclude_next<A: Allocator + Copy>(
     nodes: &mut Vec<Node<A>, A>,
     node: NodeId,
@@ -163,7 +163,7 @@ fn exclude_next<A: Allocator + Copy>(
     Ok(())
 }
 
-/// Takes the number that a route takes behind the node's prefix out of those that it excludes. It takes no memory.
+/// Includes the number again that a route takes after the node's prefix. It takes no memory.
 fn include_next<A: Allocator + Copy>(nodes: &mut Vec<Node<A>, A>, node: NodeId, route: &[u32])
     requires in_range { node.0 < vec_len nodes.old }
     requires longer { (n : Node A) → slice_get nodes.old.items node.0 ≡ Some n → n.length < length route.now }
@@ -176,8 +176,8 @@ fn include_next<A: Allocator + Copy>(nodes: &mut Vec<Node<A>, A>, node: NodeId, 
     part.excluded.forget(number);
 }
 
-/// Divides the part of a node by a route of it, a leaf of the number `leaf` from then on: the node excludes one
-/// number more. After a refusal the nodes are as they were.
+/// Divides the part of a node by a route of it, which is then the leaf `leaf`: the node excludes one number more. After
+/// a refusal the nodes are as they were.
 pub fn divide<B: BestOf<A>, A: Allocator + Copy>(
     alloc: A,
     plan: &Plan<A>,

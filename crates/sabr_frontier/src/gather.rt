@@ -16,8 +16,8 @@ use sabr_search::{BestOf, Kept};
 use std::alloc::Allocator;
 
 impl<A: Allocator + Copy> Tree<A> {
-    /// Gives the next `count` routes, or all that are left if they are fewer, and answers how many searches
-    /// that took. After a refusal the routes given so far can be taken back.
+    /// Gives the next `count` routes, or all that are left if they are fewer, and returns how many searches that took.
+    /// After a refusal the routes given so far can be taken back.
     pub fn gather<B: BestOf<A>>(
         &mut self,
         alloc: A,

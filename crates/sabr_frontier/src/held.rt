@@ -1,4 +1,4 @@
-//! What a loader has gathered, and the tree that comes of it.
+//! What a loader has gathered, and the tree that it makes.
 
 ghost use Rattle.std.specs.Prelude.{◌≡◌, [], true, ◌&&◌, ◌<◌, ◌≤◌, is_some, length, Some, None, IfOk, IfSome, IfNone, IsTrue, OnOk, OnErr, vec_len, vec_capacity};
 ghost use Rattle.std.specs.Option.{option_map_or};
@@ -21,9 +21,8 @@ use std::alloc::{Allocator, Global};
 use std::cmp::Ordering;
 use std::mem::replace;
 
-/// The last of the parts' prefixes, and the parts' nodes; the leaves that the parts made; the prefixes that are to be
-/// parts, the least last, each with where it leads; and whether each part so far was the least that was to come. Where
-/// one wasn't, the parts alone are kept. In `room` the next part is judged.
+/// The parts so far, the leaves that they made, and the prefixes that are owed: those that must still come as parts. As
+/// soon as a part isn't the least that is owed, the parts alone are kept.
 #[derive(Drop)]
 pub struct Held<A: Allocator + Copy = Global> {
     /// The prefixes of the parts, rising.
@@ -34,16 +33,16 @@ pub struct Held<A: Allocator + Copy = Global> {
     pub nodes: Vec<Node<A>, A>,
     /// The leaves that the parts made.
     pub leaves: Vec<Route<A>, A>,
-    /// The prefixes that are to be parts, the least last, each with where it leads.
+    /// The prefixes that are owed, the least last, each with where it leads.
     pub owed: Vec<Owed, A>,
-    /// Whether each part so far was the least that was to come.
+    /// Whether each part so far was the least that was owed.
     pub sound: bool,
     /// Room in which the next part is judged.
     pub room: Judged<A>,
 }
 
-/// Tells where the last route is among the leaves, none inside where there is no leaf; none where the count or the last
-/// is wrong.
+/// Returns the place of the last route among the leaves: `None` inside if there is no leaf, and `None` if the count or
+/// the last route is wrong.
 pub fn last_place<A: Allocator + Copy>(
     leaves: &[Route<A>],
     emitted: u128,
@@ -67,7 +66,7 @@ pub fn last_place<A: Allocator + Copy>(
 }
 
 impl<A: Allocator + Copy> Held<A> {
-    /// Begins with nothing. It takes no memory.
+    /// Makes an empty value. It takes no memory.
     pub fn new(alloc: A) -> Held<A>
         ensures { holding_of result ≡ nothing_held }
     {
@@ -82,14 +81,15 @@ impl<A: Allocator + Copy> Held<A> {
         }
     }
 
-    /// Tells whether a prefix comes behind the last.
+    /// Returns true if a prefix comes after the last.
     fn comes_behind(&self, prefix: &[u32]) -> bool
         ensures { result ≡ option_map_or (λ q. numbers_before q prefix.now) (last_prefix (holding_of self.now)) true }
     {
         self.nodes.is_empty() || self.last.as_slice().cmp(prefix) == Ordering::Less
     }
 
-    /// Tells whether a part comes behind the others: its excluded numbers rise, and its prefix is above the last.
+    /// Returns true if a part comes after the others: its excluded numbers rise, and its prefix is greater than the
+    /// last.
     pub fn is_next(&self, prefix: &[u32], excluded: &[u32]) -> bool
         requires paired { length self.now.prefixes.items ≡ length self.now.nodes.items }
         requires last { last_item self.now.prefixes.items ≡ last_prefix (holding_of self.now) }
@@ -101,7 +101,7 @@ impl<A: Allocator + Copy> Held<A> {
         self.comes_behind(prefix)
     }
 
-    /// Tells where a prefix leads that is the least to come, of which the first is empty; none for any other.
+    /// Returns where a prefix leads if it is the least that is owed, or none. The first that is owed is empty.
     pub fn due(&self, plan: &Plan<A>, request: &Request, prefix: &[u32]) -> Option<Lead>
         requires { IsTrue self.now.sound → AreOwed plan.now.plan request.now self.now.last.items self.now.owed.items }
         ensures due { is_some result ≡ is_due (holding_of self.now) prefix.now }
@@ -122,8 +122,8 @@ impl<A: Allocator + Copy> Held<A> {
         None
     }
 
-    /// Tells what a part leads to, or none where it isn't the least that is to come, or one of its excluded numbers
-    /// makes no path, or it excludes none and isn't the first.
+    /// Returns what a part leads to, or none if it isn't the least that is owed, if one of its excluded numbers makes
+    /// no path, or if it excludes none and isn't the first.
     fn judge(
         &mut self,
         alloc: A,
@@ -148,7 +148,7 @@ impl<A: Allocator + Copy> Held<A> {
         judge(alloc, plan, request, prefix, excluded, lead, room)
     }
 
-    /// Makes room for a part whose prefix has so many numbers, and for what it leads to.
+    /// Reserves room for a part whose prefix has so many numbers, and for what it leads to.
     fn reserve(&mut self, numbers: usize, leaves: usize, onward: usize) -> Result<(), NoMemory>
         ensures same { holding_of self.new ≡ holding_of self.old }
         ensures ok { OnOk result (HasPlaces self.new numbers leaves onward) }
@@ -168,7 +168,7 @@ impl<A: Allocator + Copy> Held<A> {
         }
     }
 
-    /// Puts a part behind the others, for which there is room.
+    /// Adds a part after the others, for which there is room.
     fn push(&mut self, prefix: &[u32], excluded: Excluded<A>, route: Option<Route<A>>)
         requires numbers { length prefix.now ≤ vec_capacity self.old.last }
         requires node { vec_len self.old.nodes < vec_capacity self.old.nodes }
@@ -188,7 +188,7 @@ impl<A: Allocator + Copy> Held<A> {
         let Ok(()) = kept else { unreachable!() };
     }
 
-    /// Adds the part that was due, and takes in what it leads to. What may be refused comes before the first change.
+    /// Adds the part that was owed, and what it leads to. What may be refused comes before the first change.
     fn answer(
         &mut self,
         prefix: &[u32],
@@ -211,7 +211,7 @@ impl<A: Allocator + Copy> Held<A> {
         Ok(())
     }
 
-    /// Adds a part that wasn't due, or isn't good: from now on the parts alone are kept.
+    /// Adds a part that wasn't owed, or isn't right: from now on the parts alone are kept.
     fn add(
         &mut self,
         prefix: &[u32],
@@ -227,8 +227,8 @@ impl<A: Allocator + Copy> Held<A> {
         Ok(())
     }
 
-    /// Takes in a part that comes behind the others, with the record of the route that it carries. Its prefix is the
-    /// least that is to come, and leads to `due`, or it is another.
+    /// Adds a part that comes after the others, with the record of the route that it carries. If its prefix is the
+    /// least that is owed, `due` is where that leads.
     pub fn take_in(
         &mut self,
         alloc: A,
@@ -252,14 +252,14 @@ impl<A: Allocator + Copy> Held<A> {
         }
     }
 
-    /// Tells whether there is a part, each part was the least that was to come, and none is left to come.
+    /// Returns true if there is a part, each part was the least that was owed, and none is owed any more.
     pub fn is_paid(&self) -> bool
         ensures { result ≡ is_paid (holding_of self.now) }
     {
         self.sound && !self.nodes.is_empty() && self.owed.is_empty()
     }
 
-    /// Gives the tree of the parts.
+    /// Makes the tree of the parts.
     pub fn into_tree(self, alloc: A, last: Option<usize>) -> Result<Tree<A>, NoMemory>
         requires { IsIndexed (loaded_tree (holding_of self) last) }
         ensures shape { IfOk result (λ t. shape_of t ≡ loaded_tree (holding_of self) last) }

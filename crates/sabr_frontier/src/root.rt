@@ -12,7 +12,7 @@ use sabr_model::{NoMemory, Route};
 use std::alloc::Allocator;
 
 impl<A: Allocator + Copy> Tree<A> {
-    /// Gives one part with all routes, which carries the best of them.
+    /// Makes the tree of one part with all routes, which carries the best of them.
     pub fn root(alloc: A, found: Option<Route<A>>) -> Result<Tree<A>, NoMemory>
         ensures shape { IfOk result (λ t. shape_of t ≡ root found) }
         ensures index { IfOk result (λ t. t.index.items ≡ (shape_of t).index) }

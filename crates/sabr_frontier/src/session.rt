@@ -20,16 +20,18 @@ use sabr_search::{BestOf, Kept};
 use std::alloc::{Allocator, Global};
 use std::marker::Model;
 
-/// A listing of the routes of a plan for a request, as far as they were given: the parts that are left (Yen,
-/// Lawler), each with its least route. Contracts see the plan, the request, the state, the states that `back` leads
-/// to, the latest first, the count of searches, and how often the finder was called.
+/// A listing of the routes of a plan for a request, as far as they were given. It keeps the parts that are left (Yen,
+/// Lawler), each with its least route.
+///
+/// Contracts see the plan, the request, the state, the states that `back` leads to, the latest first, the count of
+/// searches, and how often the finder was called.
 #[derive(Drop)]
 pub struct Session<'p, B: BestOf<A>, A: Allocator + Copy = Global> {
-    /// Where the parts and what is kept take their memory.
+    /// The allocator of the parts and of what is kept.
     alloc: A,
     /// The plan whose routes are listed.
     plan: &'p Plan<A>,
-    /// What is asked.
+    /// The request.
     request: Request,
     /// The finder of a part's least route.
     finder: B,
@@ -39,7 +41,7 @@ pub struct Session<'p, B: BestOf<A>, A: Allocator + Copy = Global> {
     tree: Tree<A>,
     /// How long the journal was before each page that can be taken back.
     pages: Vec<usize, A>,
-    /// How many searches the last call took that counts them.
+    /// The searches of the last call that counts them.
     searches: u64,
 }
 
@@ -54,11 +56,11 @@ impl<'p, B: BestOf<A>, A: Allocator + Copy> Model for Session<'p, B, A> {
 }
 
 impl<'p, B: BestOf<A>, A: Allocator + Copy> Session<'p, B, A> {
-    /// Gives a session of which no route was given yet. It takes one search.
+    /// Starts a session: no route was given yet. It takes one search.
     ///
     /// # Errors
     ///
-    /// [`NoMemory`] where a growth was refused. The finder is dropped.
+    /// [`NoMemory`] if a growth was refused. The finder is dropped.
     pub fn start(
         alloc: A,
         plan: &'p Plan<A>,
@@ -113,15 +115,15 @@ impl<'p, B: BestOf<A>, A: Allocator + Copy> Session<'p, B, A> {
         }
     }
 
-    /// Gives the next `count` routes, at most 10000, or all that are left if they are fewer. They come by key: by
+    /// Returns the next `count` routes, at most 10000, or all that are left if they are fewer. They come by key: by
     /// delivery, then by number of hops, then by contact numbers (this project's profile).
     ///
-    /// A route takes a search for each of its hops behind the prefix of the part that carried it. No part is
-    /// copied. Where no route is asked for, or none is left, no memory is taken.
+    /// A route takes a search for each of its hops after the prefix of the part that carried it. No part is copied. If
+    /// no route is asked for, or none is left, no memory is taken.
     ///
     /// # Errors
     ///
-    /// [`NoMemory`] where a growth was refused. All is shown as before, and the same call can be made again.
+    /// [`NoMemory`] if a growth was refused. All is shown as before, and the same call can be made again.
     pub fn page(&mut self, count: u32) -> Result<Vec<Route<A>, A>, NoMemory>
         requires { count ≤ 10000 }
         ensures routes { IfOk result (λ given. given.items ≡ map (record_of self.old.plan.plan self.old.request) (steps self.old.plan.plan self.old.request count self.old.state).0) }
@@ -166,8 +168,8 @@ impl<'p, B: BestOf<A>, A: Allocator + Copy> Session<'p, B, A> {
         }
     }
 
-    /// Takes the last page back that gave routes and wasn't taken back yet: the state is the one before it. False,
-    /// and nothing changes, where there is none. It takes no memory, and a pass over the parts for each route.
+    /// Takes back the last page that gave routes and wasn't taken back yet: the state is the one before it. Returns
+    /// false, and changes nothing, if there is none. It takes no memory, and a pass over the parts for each route.
     pub fn back(&mut self) -> bool
         ensures yes { IsTrue result → self.new.state ∷ self.new.former ≡ self.old.former }
         ensures searches { IsTrue result → self.new.searches ≡ 0 }
@@ -185,13 +187,13 @@ impl<'p, B: BestOf<A>, A: Allocator + Copy> Session<'p, B, A> {
         true
     }
 
-    /// Tells whether the state is that of the place `emitted` in the listing: whether the routes that it counts as
-    /// given are the first of them, and each part carries its least route. All is shown as before, whatever is
-    /// answered. It takes a search for each part, and a pass over the routes given.
+    /// Returns true if the state is that of the place `emitted` in the listing: the routes that it counts as given are
+    /// the first of them, and each part carries its least route. All is shown as before in any case. It takes a search
+    /// for each part, and a pass over the routes given.
     ///
     /// # Errors
     ///
-    /// [`NoMemory`] where a growth was refused.
+    /// [`NoMemory`] if a growth was refused.
     pub fn certify(&mut self) -> Result<bool, NoMemory>
         ensures same { self.new ≡ record self.old { calls = self.new.calls } }
         ensures calls { self.new.calls ≤ self.old.calls + length self.old.state.parts }
@@ -201,14 +203,14 @@ impl<'p, B: BestOf<A>, A: Allocator + Copy> Session<'p, B, A> {
             .is_placed(self.plan, &self.request, &mut self.finder, &mut self.kept)
     }
 
-    /// Tells whether there is a page to take back: one that gave routes and wasn't taken back yet.
+    /// Returns true if there is a page to take back: one that gave routes and wasn't taken back yet.
     pub fn can_back(&self) -> bool
         ensures { IsTrue result ↔ (0 < length self.now.former) }
     {
         !self.pages.is_empty()
     }
 
-    /// Tells how many routes were given and not taken back.
+    /// How many routes were given and not taken back.
     pub fn emitted(&self) -> u128
         ensures count { result ≡ self.now.state.emitted }
         ensures bound { result < 2 ^ 64 }
@@ -216,14 +218,14 @@ impl<'p, B: BestOf<A>, A: Allocator + Copy> Session<'p, B, A> {
         self.tree.leaves.len() as u128
     }
 
-    /// Tells whether routes are left: whether some part carries one.
+    /// Returns true if routes are left: some part carries one.
     pub fn more(&self) -> bool
         ensures { result ≡ is_some (next_route self.now.plan.plan self.now.request self.now.state) }
     {
         !self.tree.is_empty()
     }
 
-    /// Gives the contact numbers of the last route given, none where none was.
+    /// The contact numbers of the last route given, empty if none was.
     pub fn last(&self) -> &[u32]
         ensures { result.now ≡ self.now.state.last }
     {
@@ -236,15 +238,15 @@ impl<'p, B: BestOf<A>, A: Allocator + Copy> Session<'p, B, A> {
         }
     }
 
-    /// Tells how many parts there are, those without a route among them.
+    /// How many parts there are, those without a route among them.
     pub fn part_count(&self) -> usize
         ensures { result ≡ length self.now.state.parts }
     {
         self.tree.index.len()
     }
 
-    /// Gives the parts, rising by prefix, all borrowed; those without a route are among them. A step for each, and no
-    /// memory.
+    /// The parts, rising by prefix, all borrowed. Those without a route are among them. It takes a step for each, and
+    /// no memory.
     pub fn parts(&self) -> Parts<'_, A>
         ensures { told_left result ≡ map (told_part self.now.plan.plan self.now.request) self.now.state.parts }
     {
@@ -255,22 +257,22 @@ impl<'p, B: BestOf<A>, A: Allocator + Copy> Session<'p, B, A> {
         }
     }
 
-    /// Tells how many searches the last call of `start` or `page` took that was answered, each a call of the finder,
-    /// and 0 after a `back` that was true.
+    /// How many searches, each a call of the finder, the last call of `start` or `page` took that wasn't refused; 0
+    /// after a `back` that was true.
     pub fn searches(&self) -> u64
         ensures { result ≡ self.now.searches }
     {
         self.searches
     }
 
-    /// Gives the plan whose routes are listed.
+    /// The plan whose routes are listed.
     pub fn plan(&self) -> &'p Plan<A>
         ensures { result.now ≡ self.now.plan }
     {
         self.plan
     }
 
-    /// Gives the request that they answer.
+    /// The request.
     pub fn request(&self) -> &Request
         ensures { result.now ≡ self.now.request }
     {

@@ -17,7 +17,7 @@ use sabr_model::{NoMemory, Plan, Request, Route};
 use sabr_search::{BestOf, Kept};
 use std::alloc::{Allocator, Global};
 
-/// What is known before the tree changes: a copy of the route, and how many new nodes there will be.
+/// What is known before the tree changes: a copy of the route, and the number of new nodes.
 #[derive(Debug, Drop)]
 pub struct Prepared<A: Allocator + Copy = Global> {
     pub route: Route<A>,
@@ -25,7 +25,7 @@ pub struct Prepared<A: Allocator + Copy = Global> {
 }
 
 impl<A: Allocator + Copy> Tree<A> {
-    /// Tells what is known for giving the route of a node.
+    /// Returns what has to be known to give the route of a node.
     fn prepare(&self, alloc: A, node: NodeId) -> Result<Prepared<A>, NoMemory>
         requires in_range { node.0 < vec_len self.now.nodes }
         requires carries { IsSome (route_at self.now.nodes.items node) }
@@ -41,8 +41,8 @@ impl<A: Allocator + Copy> Tree<A> {
         Ok(Prepared { route: copy, count })
     }
 
-    /// Gives the least route that a node carries, and answers how many searches that took. Room for all comes first;
-    /// then the searches, and a refused one leaves the parts as they were.
+    /// Gives the least route that a node carries, and returns how many searches that took. Room for all is reserved
+    /// first. Then come the searches, and a refused one leaves the parts as they were.
     pub fn take<B: BestOf<A>>(
         &mut self,
         alloc: A,

@@ -1,4 +1,4 @@
-//! Taking a given route back, without memory.
+//! Taking routes back that were given, without memory.
 
 ghost use Rattle.std.specs.Prelude.{◌≡◌, ◌-◌, ◌<◌, nat_lt, length, vec_len, vec_capacity};
 ghost use Rattle.std.specs.List.{filter};

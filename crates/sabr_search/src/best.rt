@@ -15,20 +15,20 @@ use std::alloc::Allocator;
 
 /// A finder of the least route of a part of the routes.
 pub trait BestOf<A: Allocator + Copy>: Drop {
-    /// How many contact records the last call of `best` read.
+    /// The number of contact records that the last call of `best` read.
     ghost looks_of: { Self → ℕ };
 
-    /// How often `best` was called, whether it answered or was refused.
+    /// How often `best` was called, refused calls among them.
     ghost calls_of: { Self → ℕ };
 
-    /// Gives the least route of the part by key (delivery, number of hops, contact numbers), or none where the part has
+    /// Returns the least route of the part by key (delivery, number of hops, contact numbers), or none if the part has
     /// no route.
     ///
     /// The part's prefix is one that `fits`. The answer doesn't depend on what was asked before.
     ///
     /// # Errors
     ///
-    /// [`NoMemory`] where a growth was refused. The finder can be used again.
+    /// [`NoMemory`] if a growth was refused. The finder can be used again.
     fn best(
         &mut self,
         plan: &Plan<A>,
@@ -91,7 +91,7 @@ pub trait BestOf<A: Allocator + Copy>: Drop {
         self.best_beside(kept, plan, request, part)
     }
 
-    /// Tells how many times the last call of `best` read a contact's record, 0 before the first.
+    /// How many times the last call of `best` read a contact's record; 0 before the first call.
     fn looks(&self) -> u64
         ensures { result ≡ looks_of self.now };
 }

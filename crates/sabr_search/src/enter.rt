@@ -1,4 +1,4 @@
-//! Where a search starts and goes, and which nodes are shut: those of the prefix, the source, and those to avoid.
+//! Where a search starts and goes, and which nodes it shuts: those of the prefix, the source, and those to avoid.
 
 ghost use Rattle.std.specs.Prelude.{◌≡◌, ℕ, List, ◌+◌, ◌^◌, ◌≤◌, ◌<◌, Some, IfOk, IfSome, IfNone, OnOk, IsTrue, false, length, slice_get, slice_index_or};
 ghost use Rattle.sabr_model.specs.Plan.{IsPlan, has};
@@ -14,7 +14,7 @@ use crate::shut::Shut;
 use sabr_model::{NoMemory, Plan, Request};
 use std::alloc::Allocator;
 
-/// Shuts the nodes to avoid, where all are open.
+/// Shuts the nodes to avoid. All are open before.
 fn shut_avoided<A: Allocator + Copy>(
     shut: &mut Shut<A>,
     plan: &Plan<A>,
@@ -33,7 +33,7 @@ fn shut_avoided<A: Allocator + Copy>(
     Ok(())
 }
 
-/// Goes along the prefix, and shuts the source and every node on it.
+/// Follows the prefix, and shuts the source and every node on it.
 fn pass_prefix<A: Allocator + Copy>(
     shut: &mut Shut<A>,
     looks: &mut Looks,
@@ -72,7 +72,7 @@ fn pass_prefix<A: Allocator + Copy>(
     Ok(standing)
 }
 
-/// Tells where the search behind the prefix starts, and its goal; none where the plan has not both the source and the
+/// Returns where the search after the prefix starts, and its goal. None unless the plan has both the source and the
 /// destination.
 pub fn enter<A: Allocator + Copy>(
     shut: &mut Shut<A>,

@@ -1,24 +1,24 @@
-//! A search in a list of numbers that begins where the one before it ended.
+//! A search in a list of numbers that begins where the last one ended.
 
 ghost use Rattle.std.specs.Prelude.{◌≡◌, ◌↔◌, ℕ, ◌+◌, ◌<◌, ◌≤◌, Contains, IsTrue, true, false};
 ghost use Rattle.std.specs.List.Sorted.{IsNonDecreasing, IsStrictlyIncreasing};
 ghost use Rattle.sabr_model.specs.Plan.{has};
 
-/// Where the next number is looked for first. It may stand anywhere: what is told rests on what is compared.
+/// Where the next number is looked for first. It may be anywhere: the answer rests on what is compared.
 #[derive(Clone, Copy)]
 pub struct Finger {
     place: usize,
 }
 
 impl Finger {
-    /// Begins at the front of the list.
+    /// Starts at the front of the list.
     pub fn new() -> Finger {
         Finger { place: 0 }
     }
 
-    /// Tells how many numbers are in the list, this one and those behind it one by one, of which no more than `behind`
-    /// are asked for: 0 where this one isn't, and at least half of those that are. The caller has asked whether the list
-    /// rises; of one that isn't known to, only this number is looked for.
+    /// Returns how many consecutive numbers from this one on are in the list: 0 if this one isn't, else at least half
+    /// of them. At most `behind` after this one are asked for. If the list isn't known to rise, only this number is
+    /// looked for.
     #[inline(always)]
     pub fn counts(&mut self, numbers: &[u32], rising: bool, number: u32, behind: u32) -> usize
         requires { IsTrue rising → IsStrictlyIncreasing numbers.now }
@@ -37,8 +37,8 @@ impl Finger {
         more + 1
     }
 
-    /// Tells whether the number is in the list. Takes one comparison where it stands behind the number that was found
-    /// last, and else a halving.
+    /// Returns true if the number is in the list. It takes one comparison if the number stands after the one that was
+    /// found last, else a binary search.
     #[inline(always)]
     fn finds(&mut self, numbers: &[u32], in_order: bool, number: u32) -> bool
         requires { IsTrue in_order → IsNonDecreasing numbers.now }
@@ -51,7 +51,7 @@ impl Finger {
         self.seeks(numbers, in_order, number)
     }
 
-    /// Does the same, wherever the number stands: the finger then stands behind it, or where it would stand.
+    /// Does the same by binary search. The finger then stands after the number, or where it would stand.
     #[inline(never)]
     fn seeks(&mut self, numbers: &[u32], in_order: bool, number: u32) -> bool
         requires { IsTrue in_order → IsNonDecreasing numbers.now }
@@ -73,7 +73,7 @@ impl Finger {
     }
 }
 
-/// Tells whether each number is greater than the one before it. It looks at all of them, and so at several at a time.
+/// Returns true if each number is greater than the one before it. It compares all of them, several at a time.
 pub fn rises(numbers: &[u32]) -> bool
     ensures { IsTrue result → IsStrictlyIncreasing numbers.now }
 {
@@ -84,8 +84,8 @@ pub fn rises(numbers: &[u32]) -> bool
     rising
 }
 
-/// Tells how many numbers behind this one, one by one, stand in a rising list from a place on, of which no more than
-/// `most` are asked for: at least half of them.
+/// Returns how many of the numbers after this one stand one by one in a rising list from a place on: at least half of
+/// them, and at most `most`.
 #[inline(never)]
 fn row_behind(numbers: &[u32], place: usize, number: u32, most: u32) -> usize
     requires { IsStrictlyIncreasing numbers.now }

@@ -1,4 +1,4 @@
-//! The least route of a part, by a table that is kept for its delivery.
+//! The least route of a part, read off a table that is kept for its delivery.
 
 ghost use Rattle.std.specs.Prelude.{◌≡◌, ◌⊎◌, ◌++◌, ℕ, List, ◌+◌, ◌-◌, ◌*◌, ◌^◌, ◌≤◌, ◌<◌, Some, IfOk, IfSome, IfNone, OnOk, OnErr, IsTrue, length, slice_get};
 ghost use Rattle.sabr_search.specs.Task.{IsTask, IsBehind, Takes, never, latest_arrival};
@@ -17,7 +17,7 @@ use crate::task::Task;
 use sabr_model::{NoMemory, Route};
 use std::alloc::Allocator;
 
-/// Puts a node and when it is reached behind the others, where it is reached at all.
+/// Adds a node and when it is reached, if it is reached at all.
 fn put_step<A: Allocator + Copy>(
     first: &mut Vec<Standing, A>,
     step: Standing,
@@ -34,8 +34,8 @@ fn put_step<A: Allocator + Copy>(
 }
 
 impl<'a, A: Allocator + Copy> Task<'a, A> {
-    /// Gathers where the steps from a node come to, and when; tells whether these are all, or more than `most` looks might
-    /// be needed.
+    /// Gathers where the steps from a node come to, and when. Returns true if these are all, and false if more than
+    /// `most` looks might be needed.
     fn steps_from(
         &self,
         looks: &mut Looks,
@@ -80,8 +80,8 @@ impl<'a, A: Allocator + Copy> Task<'a, A> {
         Ok(true)
     }
 
-    /// Gathers where the first steps come to, and when; tells whether these are all, or more than `most` looks might be
-    /// needed.
+    /// Gathers where the first steps come to, and when. Returns true if these are all, and false if more than `most`
+    /// looks might be needed.
     pub fn first_steps(
         &self,
         looks: &mut Looks,
@@ -103,8 +103,8 @@ impl<'a, A: Allocator + Copy> Task<'a, A> {
         Ok(all)
     }
 
-    /// Gives the step of least number from a node that a table lets through, with so many hops left; none where there
-    /// is none, or where more than `most` looks might be needed.
+    /// Returns the step of least number from a node that a table lets through, with so many hops left. None if there is
+    /// none, or if more than `most` looks might be needed.
     fn least_due(
         &self,
         looks: &mut Looks,
@@ -142,8 +142,8 @@ impl<'a, A: Allocator + Copy> Task<'a, A> {
         Ok(least)
     }
 
-    /// Gives the least numbers that lead from the start to the goal by the deadline of a table, with so many hops,
-    /// behind the prefix; none where it leads to a dead end, or where more than `most` looks might be needed.
+    /// Returns the least numbers after the prefix that lead from the start to the goal by the deadline of a table, with
+    /// so many hops. None at a dead end, or if more than `most` looks might be needed.
     fn walk(
         &self,
         alloc: A,
@@ -186,7 +186,7 @@ impl<'a, A: Allocator + Copy> Task<'a, A> {
         Ok(Some(contacts))
     }
 
-    /// Gives the least route behind the prefix, where a table leads to one by its deadline, before which none delivers.
+    /// Returns the least route after the prefix, if a table leads to one by its deadline and none delivers sooner.
     fn follow_rung(
         &self,
         alloc: A,
@@ -226,7 +226,7 @@ impl<'a, A: Allocator + Copy> Task<'a, A> {
     }
 }
 
-/// Tells whether a first step is in time for a delivery by the deadline of a table.
+/// Returns true if a first step is in time for a delivery by the deadline of a table.
 fn meets<A: Allocator + Copy>(rung: &Rung<A>, first: &[Standing]) -> bool
     requires inside { (k : ℕ) (s : Standing) → slice_get first.now k ≡ Some s → s.node < length rung.now.spans.items }
     requires spans { AreSpans rung.now.dues.items rung.now.spans.items }
@@ -240,9 +240,8 @@ fn meets<A: Allocator + Copy>(rung: &Rung<A>, first: &[Standing]) -> bool
 }
 
 impl<A: Allocator + Copy> Rungs<A> {
-    /// Gives the table of the soonest deadline from the floor on, of those for a delivery, for which a first step is in
-    /// time: what is in time for one is in time for those behind it, and the table for none is the last, so they are
-    /// halved.
+    /// Returns the first table for a delivery, from the floor on, for which a first step is in time. What is in time
+    /// for one is in time for those after it, and the table for none is the last: so this is a binary search.
     fn met(&self) -> Option<usize>
         requires { HavePlaces self.now }
         ensures { IfSome result (λ place. place < length self.now.rungs.items) }
@@ -266,8 +265,8 @@ impl<A: Allocator + Copy> Rungs<A> {
         }
     }
 
-    /// Gives the least route behind the prefix, where none delivers before the deadline of a table: read off it, or
-    /// else by a short try backward from the goal. Raises the floor.
+    /// Returns the least route after the prefix, if none delivers before the deadline of a table: it is read off the
+    /// table, or else found by a short try backward from the goal. Raises the floor.
     fn answer_at(
         &mut self,
         layers: &mut Layers<A>,
@@ -309,8 +308,8 @@ impl<A: Allocator + Copy> Rungs<A> {
         Ok(tried)
     }
 
-    /// Gives the least route behind the prefix, by the table that is met first, or else by the next one where none
-    /// delivers by the first one's deadline.
+    /// Returns the least route after the prefix, by the table that is met first, or by the next one if none delivers by
+    /// the first one's deadline.
     fn answer_met(
         &mut self,
         layers: &mut Layers<A>,
@@ -353,7 +352,7 @@ impl<A: Allocator + Copy> Rungs<A> {
         Ok(later)
     }
 
-    /// Tells the least route behind the prefix, or that there is none, where tables help to within `most` looks.
+    /// Returns the least route after the prefix, or that there is none, if tables show it within `most` looks.
     pub fn follow(
         &mut self,
         layers: &mut Layers<A>,

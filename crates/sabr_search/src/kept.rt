@@ -11,7 +11,7 @@ use std::alloc::{Allocator, Global};
 
 /// What is kept for the searches of one plan and request: tables for deliveries that come again, and answers.
 ///
-/// An answer doesn't depend on what is kept. Where a growth is refused, what it was for is left out.
+/// An answer doesn't depend on what is kept. If a growth is refused, what it was for is left out.
 #[derive(Drop)]
 pub struct Kept<A: Allocator + Copy = Global> {
     /// Tables for deliveries that come again.
@@ -23,7 +23,7 @@ pub struct Kept<A: Allocator + Copy = Global> {
 }
 
 impl<A: Allocator + Copy> Kept<A> {
-    /// Begins with nothing so far. It has taken no memory.
+    /// Makes an empty value. It takes no memory.
     pub fn new(alloc: A) -> Kept<A>
         ensures { (p : TabledPlan) (r : RouteRequest) → IsKept p r result }
     {

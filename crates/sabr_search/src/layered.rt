@@ -15,13 +15,12 @@ use std::alloc::{Allocator, Global};
 
 /// A finder that makes hop layers forward, deadlines backward, and then picks the least numbers from the front.
 ///
-/// A call costs at most `(3 * N + 1) * C` looks, N the nodes and C the contacts of the plan. Its memory is kept from call
-/// to call.
+/// A call costs at most `(3 * N + 1) * C` looks, for N nodes and C contacts. Its memory is kept from call to call.
 #[derive(Drop)]
 pub struct Layered<A: Allocator + Copy = Global> {
-    /// Where the buffers take their memory.
+    /// The allocator of the buffers.
     alloc: A,
-    /// By node whether a route may not pass it.
+    /// The nodes that no route may pass.
     shut: Shut<A>,
     /// Layers forward and deadlines.
     layers: Layers<A>,
@@ -32,7 +31,7 @@ pub struct Layered<A: Allocator + Copy = Global> {
 }
 
 impl<A: Allocator + Copy> Layered<A> {
-    /// Makes a finder that has taken no memory and was not called.
+    /// Makes a finder that wasn't called. It takes no memory.
     pub fn new(alloc: A) -> Layered<A>
         ensures looks { result.looks.count ≡ 0 }
         ensures calls { result.calls.count ≡ 0 }

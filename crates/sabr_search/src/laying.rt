@@ -21,8 +21,8 @@ use std::alloc::Allocator;
 pub const LATEST: u64 = LAST_TIME + 2 * MOST_LIGHT as u64;
 
 impl<A: Allocator + Copy> Layers<A> {
-    /// Makes layers backward from the goal until one has no entry: answers how many there are before that one. None
-    /// where the plan isn't ready, where the start is in time for one, or where more than `most` looks might be needed.
+    /// Makes layers backward from the goal until one has no entry. Returns how many there are before that one. None if
+    /// the plan isn't ready, if the start is in time for one, or if more than `most` looks might be needed.
     fn make_all(
         &mut self,
         task: &Task<'_, A>,
@@ -54,8 +54,8 @@ impl<A: Allocator + Copy> Layers<A> {
         Ok(Some(self.ends.len() - 2))
     }
 
-    /// Gives by node the first second too late for a delivery before the deadline, from all layers for the second
-    /// before it.
+    /// Returns for each node the first second too late for a delivery before the deadline, from all layers for the
+    /// second before it.
     fn floors(&self, alloc: A, task: &Task<'_, A>, deadline: u64) -> Result<Vec<u64, A>, NoMemory>
         requires whole { IsWhole task.now }
         requires some { 0 < deadline }
@@ -70,7 +70,7 @@ impl<A: Allocator + Copy> Layers<A> {
         Ok(before)
     }
 
-    /// Puts the entries of a layer behind the dues.
+    /// Adds the entries of a layer to the dues.
     fn gather_layer(&self, left: usize, dues: &mut Vec<Due, A>) -> Result<(), NoMemory>
         requires bounded { left + 1 < length self.now.ends.items }
         requires within { slice_index self.now.ends.items (left + 1) ≤ length self.now.reached.items }
@@ -88,7 +88,7 @@ impl<A: Allocator + Copy> Layers<A> {
         Ok(())
     }
 
-    /// Gives the dues of so many layers, by node.
+    /// Returns the dues of so many layers, by node.
     fn gather(&self, alloc: A, all: usize) -> Result<Vec<Due, A>, NoMemory>
         requires bounded { all < length self.now.ends.items }
         requires within { (left : ℕ) → left < all → slice_index self.now.ends.items (left + 1) ≤ length self.now.reached.items }
@@ -102,8 +102,8 @@ impl<A: Allocator + Copy> Layers<A> {
         Ok(dues)
     }
 
-    /// Gives the dues of a deadline, and no entry of one that is behind every arrival; none where the plan isn't ready,
-    /// or where more than `most` looks might be needed.
+    /// Returns the dues of a deadline, and no due for a deadline after every arrival. None if the plan isn't ready, or
+    /// if more than `most` looks might be needed.
     fn dues_by(
         &mut self,
         alloc: A,
@@ -131,7 +131,7 @@ impl<A: Allocator + Copy> Layers<A> {
         Ok(Some(dues))
     }
 
-    /// Gives the table of a deadline; none where the plan isn't ready, or where more than `most` looks might be needed.
+    /// Returns the table of a deadline. None if the plan isn't ready, or if more than `most` looks might be needed.
     fn lay(
         &mut self,
         alloc: A,
@@ -176,7 +176,7 @@ const NO_SPAN: Span = Span {
     latest: 0,
 };
 
-/// Gives a span with a due more, behind its others.
+/// Returns a span with one due more, after its others.
 fn widened(span: Span, place: usize, due: Due) -> Span
     requires few { place < 2 ^ 62 }
     ensures due { IsWithin result place due }
@@ -194,7 +194,7 @@ fn widened(span: Span, place: usize, due: Due) -> Span
     }
 }
 
-/// Gives by node the places of its dues.
+/// Returns for each node the places of its dues.
 fn spans_of<A: Allocator + Copy>(
     alloc: A,
     dues: &[Due],
@@ -215,8 +215,8 @@ fn spans_of<A: Allocator + Copy>(
     Ok(spans)
 }
 
-/// Gives the table of a deadline for a plan and a request; none where there is none, where the plan isn't ready, or
-/// where more than `most` looks might be needed.
+/// Returns the table of a deadline for a plan and a request. None if the request has no goal in the plan, if the plan
+/// isn't ready, or if more than `most` looks might be needed.
 pub fn rung_for<A: Allocator + Copy>(
     alloc: A,
     layers: &mut Layers<A>,

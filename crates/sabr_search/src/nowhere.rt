@@ -1,4 +1,4 @@
-//! Where no way leads to the destination, however late: none at once.
+//! A table that shows that no way leads to the destination, however late.
 
 ghost use Rattle.std.specs.Prelude.{IsTrue};
 ghost use Rattle.sabr_search.specs.Kept.{HavePlaces, ShowsNone};
@@ -8,7 +8,7 @@ use crate::rungs::Rungs;
 use std::alloc::Allocator;
 
 impl<A: Allocator + Copy> Rungs<A> {
-    /// Tells whether the last table shows that no way leads to the goal: none of the first steps is in time for any
+    /// Returns true if the last table shows that no way leads to the goal: none of the first steps is in time for any
     /// delivery.
     pub(crate) fn shows_none(&self) -> bool
         requires { HavePlaces self.now }

@@ -14,16 +14,16 @@ use std::alloc::{Allocator, Global};
 /// How many deliveries are counted at a time.
 const SLOTS: u64 = 1024;
 
-/// A delivery gets its table when it is the answer for so many times.
+/// A delivery gets its table when it was the answer so many times.
 const TIMES: u32 = 8;
 
-/// There are no more tables than these.
+/// The most tables.
 const MOST_RUNGS: usize = 128;
 
-/// Where fewer than half of so many tries were answered, tables rest.
+/// If fewer than half of so many tries were answered, tables rest.
 const TRIES: u32 = 64;
 
-/// The table that shows that there is no route is made once so many parts had none.
+/// The table that shows that there is no route is made after so many parts had none.
 const NONES: u32 = 8;
 
 /// How many searches go by before they are tried again.
@@ -38,20 +38,20 @@ pub struct Seen {
 
 /// What is kept for the searches of one plan and request: tables for deliveries that come again.
 ///
-/// A table is a bound alone, so an answer doesn't depend on what is kept. Where its growth is refused, it is left out.
+/// A table is only a bound, so an answer doesn't depend on what is kept. A table whose growth is refused is left out.
 #[derive(Drop)]
 pub struct Rungs<A: Allocator + Copy = Global> {
-    /// Where tables take their memory.
+    /// The allocator of the tables.
     pub alloc: A,
     /// The tables, the soonest deadline first.
     pub rungs: Vec<Rung<A>, A>,
-    /// By the remainder of a delivery, how often it was the answer.
+    /// For each remainder of deliveries, how often one was the answer.
     pub seen: Vec<Seen, A>,
-    /// Where the first steps of the part that is asked for come to, and when.
+    /// Where the first steps of the part in question come to, and when.
     pub first: Vec<Standing, A>,
-    /// By node a second before which a try needn't be there.
+    /// For each node, a second before which a try needn't be there.
     pub since: Vec<u64, A>,
-    /// No way of the part that is asked for delivers before this second.
+    /// No way of the part in question delivers before this second.
     pub floor: u64,
     /// How many parts had no route, as far as is counted.
     pub nones: u32,
@@ -62,7 +62,7 @@ pub struct Rungs<A: Allocator + Copy = Global> {
 }
 
 impl<A: Allocator + Copy> Rungs<A> {
-    /// Begins with nothing so far. It has taken no memory.
+    /// Makes an empty value. It takes no memory.
     pub fn new(alloc: A) -> Rungs<A>
         ensures { result.rungs.items ≡ [] }
     {
@@ -78,7 +78,7 @@ impl<A: Allocator + Copy> Rungs<A> {
             answered: 0,
         }
     }
-    /// Tells whether tables are to be tried: there are some, and they have answered often enough.
+    /// Returns true if tables are to be tried: there are some, and they have answered often enough.
     pub fn pays(&mut self) -> bool
         ensures { self.new.rungs ≡ self.old.rungs }
     {
@@ -111,7 +111,7 @@ impl<A: Allocator + Copy> Rungs<A> {
         }
     }
 
-    /// Counts a delivery that was an answer; tells whether it is now worth a table.
+    /// Counts a delivery that was an answer. Returns true if it is now worth a table.
     fn note(&mut self, delivery: u64) -> bool
         ensures { self.new.rungs ≡ self.old.rungs }
     {
@@ -143,7 +143,7 @@ impl<A: Allocator + Copy> Rungs<A> {
         times + 1 == TIMES && self.is_new(delivery)
     }
 
-    /// Tells whether there is room for a table of a deadline, and none yet.
+    /// Returns true if there is room for a table of a deadline, and none yet.
     fn is_new(&self, deadline: u64) -> bool {
         for place in 0..self.rungs.len() {
             if self.rungs[place].deadline == deadline {
@@ -153,7 +153,7 @@ impl<A: Allocator + Copy> Rungs<A> {
         self.rungs.len() < MOST_RUNGS
     }
 
-    /// Tells how many tables have sooner deadlines.
+    /// Returns how many tables have sooner deadlines.
     fn place_for(&self, deadline: u64) -> usize
         ensures { result ≤ length self.now.rungs.items }
     {
@@ -164,7 +164,8 @@ impl<A: Allocator + Copy> Rungs<A> {
         place
     }
 
-    /// Keeps the table of a deadline behind those of sooner ones, where it is made within `most` looks and no growth is refused.
+    /// Keeps the table of a deadline after those of sooner ones, if it can be made within `most` looks and no growth is
+    /// refused.
     fn keep(
         &mut self,
         layers: &mut Layers<A>,
@@ -199,7 +200,7 @@ impl<A: Allocator + Copy> Rungs<A> {
         }
     }
 
-    /// Tells, once alone, whether so many parts had no route that a table is worth making that shows it.
+    /// Returns true, once only, if so many parts had no route that a table that shows it is worth making.
     fn takes_nones(&mut self) -> bool
         ensures { self.new.rungs ≡ self.old.rungs }
     {
@@ -210,7 +211,7 @@ impl<A: Allocator + Copy> Rungs<A> {
         true
     }
 
-    /// Keeps what makes later searches with this answer shorter, within `most` looks; or not, where a growth is refused.
+    /// Keeps what makes later searches with this answer shorter, within `most` looks, unless a growth is refused.
     pub fn learn(
         &mut self,
         layers: &mut Layers<A>,
@@ -232,7 +233,7 @@ impl<A: Allocator + Copy> Rungs<A> {
         self.keep(layers, looks, plan, request, delivery, most);
     }
 
-    /// Keeps, once many parts had no route, what shows that a part has none, within `most` looks; or not, where a growth is
+    /// Keeps, after many parts had no route, what shows that a part has none, within `most` looks, unless a growth is
     /// refused.
     pub fn learn_none(
         &mut self,

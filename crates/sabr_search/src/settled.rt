@@ -28,7 +28,7 @@ use crate::wide::{shut_few, way_within};
 use sabr_model::{GhostCount, NoMemory, Plan, Request, Route};
 use std::alloc::{Allocator, Global};
 
-/// Gives the least route behind the prefix: the first delivery says how many layers are needed, and what is too late.
+/// Returns the least route after the prefix. The first delivery says how many layers are needed, and what is too late.
 fn least_route<A: Allocator + Copy>(
     alloc: A,
     settling: &mut Settling<A>,
@@ -58,7 +58,7 @@ fn least_route<A: Allocator + Copy>(
     layers.answer_by(alloc, task, looks, prefix, limits, &settling.arrival, first)
 }
 
-/// Gives the least route behind the prefix: told by the tables that are kept, or else by a search.
+/// Returns the least route after the prefix, by the tables that are kept or else by a search.
 fn least_searched<A: Allocator + Copy>(
     alloc: A,
     settling: &mut Settling<A>,
@@ -91,7 +91,8 @@ fn least_searched<A: Allocator + Copy>(
     least_route(alloc, settling, layers, task, looks, max_hops, prefix)
 }
 
-/// The least route after the prefix, or that there is none, if the answer to a wide question shows it. That answer is kept.
+/// The least route after the prefix, or that there is none, if the answer to a wide question shows it. That answer is
+/// kept.
 fn told_wide<A: Allocator + Copy>(
     alloc: A,
     settling: &mut Settling<A>,
@@ -129,8 +130,8 @@ fn told_wide<A: Allocator + Copy>(
     kept.answers.tell(alloc, task, looks, most, prefix, left)
 }
 
-/// The least route after the prefix: told by an answer that is kept, or by that to a wide question, or else by a search,
-/// whose answer is kept.
+/// The least route after the prefix: told by an answer that is kept, or by that to a wide question, or else by a
+/// search, whose answer is kept.
 fn least_beside<A: Allocator + Copy>(
     alloc: A,
     settling: &mut Settling<A>,
@@ -179,8 +180,8 @@ fn least_beside<A: Allocator + Copy>(
     Ok(answer)
 }
 
-/// Keeps what makes later searches with this answer shorter. Where there is one, no more looks than two passes over all
-/// contacts take; and none where the search took more.
+/// Keeps what makes later searches with this answer shorter. It takes at most as many looks as two passes over all
+/// contacts, and none after a search that took more.
 fn learn<A: Allocator + Copy>(
     layers: &mut Layers<A>,
     rungs: &mut Rungs<A>,
@@ -209,16 +210,16 @@ fn learn<A: Allocator + Copy>(
     looks.count += making.count;
 }
 
-/// A finder that settles nodes in order of their arrival up to the first delivery, and then makes only as many hop layers
-/// as that needs.
+/// A finder that settles nodes in order of their arrival up to the first delivery, and then makes only as many hop
+/// layers as that needs.
 ///
-/// A call costs at most `(3 * N + 1) * C` looks, N the nodes and C the contacts of the plan, and without a limit on hops
-/// at most `(3 * r + 3) * C`, r the hops of the answer behind the prefix. Its memory is kept from call to call.
+/// A call costs at most `(3 * N + 1) * C` looks, for N nodes and C contacts. Without a limit on hops it costs at most
+/// `(3 * r + 3) * C`, for r hops of the answer after the prefix. Its memory is kept from call to call.
 #[derive(Drop)]
 pub struct Settled<A: Allocator + Copy = Global> {
-    /// Where the buffers take their memory.
+    /// The allocator of the buffers.
     alloc: A,
-    /// By node whether a route may not pass it.
+    /// The nodes that no route may pass.
     shut: Shut<A>,
     /// Nodes in order of arrival.
     settling: Settling<A>,
@@ -231,7 +232,7 @@ pub struct Settled<A: Allocator + Copy = Global> {
 }
 
 impl<A: Allocator + Copy> Settled<A> {
-    /// Makes a finder that has taken no memory and was not called.
+    /// Makes a finder that wasn't called. It takes no memory.
     pub fn new(alloc: A) -> Settled<A>
         ensures looks { result.looks.count ≡ 0 }
         ensures calls { result.calls.count ≡ 0 }
@@ -246,8 +247,8 @@ impl<A: Allocator + Copy> Settled<A> {
         }
     }
 
-    /// Finds the least route of a part: told by what is kept, or else by a search. `in_order` says that the excluded
-    /// numbers are known to rise.
+    /// Finds the least route of a part, by what is kept or else by a search. `in_order` says that the excluded numbers
+    /// are known to rise.
     fn find(
         &mut self,
         kept: &mut Kept<A>,

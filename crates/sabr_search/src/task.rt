@@ -1,4 +1,4 @@
-//! What does not change during a search, and the arrival over one contact.
+//! What a search asks, which doesn't change while it runs, and the arrival over one contact.
 
 ghost use Rattle.std.specs.Prelude.{◌≡◌, ℕ, ◌≤◌, ◌<◌, ◌+◌, ◌*◌, ◌^◌, Some, IfOk, IfSome, IfNone, IsTrue, false, true, length};
 ghost use Rattle.std.specs.List.Sorted.{IsStrictlyIncreasing};
@@ -20,14 +20,15 @@ use sabr_model::{Hop, NoMemory, Outgoing, Pass, Plan, Request, Route, Senders, T
 use std::alloc::Allocator;
 use std::marker::Model;
 
-/// A plan and a request, the nodes that are shut, the numbers excluded at the start, the start and when, and the goal.
+/// What a search asks: the least way from a node and a second to the goal, to no node that is shut, which takes no
+/// excluded number first.
 #[derive(Drop)]
 pub struct Task<'a, A: Allocator + Copy> {
     /// The plan that is searched.
     plan: &'a Plan<A>,
-    /// What is asked.
+    /// The request.
     request: &'a Request,
-    /// By node whether a way may not pass it.
+    /// For each node, whether it is shut.
     shut: &'a Shut<A>,
     /// The numbers that no way takes first.
     excluded: &'a [u32],
@@ -97,7 +98,7 @@ impl<'a, A: Allocator + Copy> Task<'a, A> {
         }
     }
 
-    /// Gives the links of a node, on which every step from there is. Takes memory where the plan isn't ready.
+    /// Returns the links of a node; every step from there is on one. It takes memory if the plan isn't ready.
     pub fn links(&self, node: usize) -> Result<Outgoing<'_, A>, NoMemory>
         requires task { IsTask self.now }
         requires node { node < length self.now.table }
@@ -106,7 +107,7 @@ impl<'a, A: Allocator + Copy> Task<'a, A> {
         self.plan.outgoing(node)
     }
 
-    /// Gives the links to a node, on which every step to there is; none where the plan isn't ready.
+    /// Returns the links to a node; every step to there is on one. None if the plan isn't ready.
     pub fn senders(&self, node: usize) -> Option<Senders<'_, A>>
         requires task { IsTask self.now }
         requires node { node < length self.now.table }
@@ -115,7 +116,7 @@ impl<'a, A: Allocator + Copy> Task<'a, A> {
         self.plan.senders(node)
     }
 
-    /// Gives the record of a route with this delivery: one look for each of its contacts.
+    /// Returns the record of a route with this delivery: one look for each of its contacts.
     pub fn record(&self, looks: &mut Looks, contacts: Vec<u32, A>, delivery: u64) -> Route<A>
         requires few { looks.old.count + length contacts.items ≤ 2 ^ 62 }
         ensures looks { looks.new.count ≡ looks.old.count + length contacts.items }
@@ -124,28 +125,28 @@ impl<'a, A: Allocator + Copy> Task<'a, A> {
         Told::of(self.plan, looks.look_all(&contacts)).route(contacts, delivery)
     }
 
-    /// Tells where the search starts.
+    /// The node at which the search starts.
     pub fn start(&self) -> usize
         ensures { result ≡ self.now.start }
     {
         self.start
     }
 
-    /// Tells when the search starts.
+    /// The second at which the search starts.
     pub fn at(&self) -> u64
         ensures { result ≡ self.now.at }
     {
         self.at
     }
 
-    /// Tells where the search goes.
+    /// The node to which the search goes.
     pub fn goal(&self) -> usize
         ensures { result ≡ self.now.goal }
     {
         self.goal
     }
 
-    /// Tells by node whether it is shut.
+    /// For each node, whether it is shut.
     pub fn shut(&self) -> &[bool]
         ensures { result.now ≡ self.now.shut }
     {
@@ -166,7 +167,8 @@ impl<'a, A: Allocator + Copy> Task<'a, A> {
         self.excluded
     }
 
-    /// Where a contact leads that is taken at this second, and when, if it leads to an open node in time: one look.
+    /// Returns where a contact leads that is taken at this second, and when, if it leads to an open node in time: one
+    /// look.
     pub fn arrive_by(&self, looks: &mut Looks, number: u32, at: u64) -> Option<Standing>
         requires task { IsTask self.now }
         requires few { looks.old.count < 2 ^ 62 }
@@ -208,8 +210,8 @@ impl<'a, A: Allocator + Copy> Task<'a, A> {
         3 * self.one_pass()
     }
 
-    /// Tells how many passes of a link, this one and those behind it, have numbers that no route takes behind the prefix:
-    /// 0 where one may take this, and else no more than the pass knows in its row. A walk over passes keeps the finger.
+    /// Returns how many passes of a link, from this one on, have numbers that no route takes after the prefix: 0 if a
+    /// route may take this one, else at most as many as the pass knows in its row. A walk over passes keeps the finger.
     #[inline(always)]
     pub fn excluded_from(&self, node: usize, pass: &Pass, finger: &mut Finger) -> usize
         ensures none { result ≡ 0 → node ≡ self.now.start → has pass.now.number self.now.excluded ≡ false }
@@ -227,7 +229,7 @@ impl<'a, A: Allocator + Copy> Task<'a, A> {
         )
     }
 
-    /// Gives a light time with the margin, in seconds.
+    /// Returns a light time with the margin, in seconds.
     pub fn cost(&self, light: u32) -> u64
         requires light { light ≤ most_light }
         ensures { result ≡ cost self.now.request.margin light }
@@ -235,7 +237,7 @@ impl<'a, A: Allocator + Copy> Task<'a, A> {
         self.request.cost(light)
     }
 
-    /// Gives the arrival over the contact where it is before `before`.
+    /// Returns the arrival over the contact if it is before `before`.
     pub fn arrive_before(&self, at: u64, hop: &Hop, before: u64) -> Option<u64>
         requires small { IsSmall hop.now }
         ensures some { IfSome result (λ b. (hop_arrival self.now.request.margin at hop.now ≡ Some b) × (b < before)) }
@@ -253,7 +255,7 @@ impl<'a, A: Allocator + Copy> Task<'a, A> {
         }
     }
 
-    /// Gives the first second from which on the contact no longer arrives before `before`; 0 where it never does.
+    /// Returns the first second from which on the contact no longer arrives before `before`; 0 if it never does.
     pub fn leave_before(&self, hop: &Hop, before: u64) -> u64
         requires small { IsSmall hop.now }
         requires window { hop.now.start < hop.now.end }

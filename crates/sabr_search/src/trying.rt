@@ -1,4 +1,5 @@
-//! Short tries backward from the goal: they show before which second none delivers, and what a table's dead end hides.
+//! Short tries backward from the goal. They show that nothing delivers before some second, or what is after a table's
+//! dead end.
 
 ghost use Rattle.std.specs.Prelude.{◌≡◌, ℕ, List, ◌+◌, ◌-◌, ◌*◌, ◌^◌, ◌≤◌, ◌<◌, Some, IfOk, IfSome, OnOk, OnErr, length, slice_get};
 ghost use Rattle.sabr_search.specs.Task.{IsTask, IsBehind};
@@ -15,11 +16,11 @@ use crate::task::Task;
 use sabr_model::{NoMemory, Route};
 use std::alloc::Allocator;
 
-/// A try takes no more looks than these. With fewer, tries over plans of more than thousand nodes give up too often; with
-/// more, those that give up cost more than the others save.
+/// The most looks of a try. With fewer, tries over plans of more than a thousand nodes give up too often. With more,
+/// those that give up cost more than the others save.
 const TRY: u64 = 1000;
 
-/// Gives a second before which none of these is there.
+/// Returns a second before which none of these is there.
 fn soonest_of(first: &[Standing]) -> u64
     ensures { (k : ℕ) (s : Standing) → slice_get first.now k ≡ Some s → result ≤ s.at }
 {
@@ -31,7 +32,7 @@ fn soonest_of(first: &[Standing]) -> u64
 }
 
 impl<A: Allocator + Copy> Rungs<A> {
-    /// Makes ready for layers backward: no way comes to a node before the soonest of the first steps.
+    /// Prepares layers backward: no way comes to a node before the soonest of the first steps.
     fn begin_back(&mut self, task: &Task<'_, A>) -> Result<(), NoMemory>
         requires task { IsTask task.now }
         requires first { AreFirstSteps task.now self.old.first.items }
@@ -46,7 +47,7 @@ impl<A: Allocator + Copy> Rungs<A> {
         Ok(())
     }
 
-    /// Raises the floor to the deadline of a table, where none delivers before it: by the table's floors, or else where a
+    /// Raises the floor to the deadline of a table, if nothing delivers before it: by the table's floors, or else if a
     /// few looks backward from the goal show it.
     pub fn raise_floor(
         &mut self,
@@ -92,8 +93,8 @@ impl<A: Allocator + Copy> Rungs<A> {
         Ok(())
     }
 
-    /// Gives the least route behind the prefix, where none delivers before the floor, and a few looks backward from the
-    /// goal show one that does by then; where they show that none does, the floor is raised.
+    /// Returns the least route after the prefix, if a few looks backward from the goal show one that delivers at the
+    /// floor. If they show that none does, the floor is raised.
     pub fn try_back(
         &mut self,
         layers: &mut Layers<A>,
