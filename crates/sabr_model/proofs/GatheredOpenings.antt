@@ -1,6 +1,6 @@
 -- What no two gathered contacts share, as the set beside them has it.
 use Rattle.std.proofs.Common.{◌≡◌, ℕ, zero, suc, ◌<◌, ◌≤◌, Bool, true, false, cond, ◌&&◌, ◌||◌, not, eqb, List, [], ◌∷◌, ◌++◌, length, get_or, refl, sym, ap, subst, ◌∙◌, arith}
-use Rattle.std.specs.List.{filter, list_any, AllByRecursion}
+use Rattle.std.specs.List.{filter, list_any}
 use Rattle.std.proofs.lemmas.List.{map-append}
 use Rattle.sabr_model.specs.declared.contact.Contact.{Contact}
 use Rattle.sabr_model.specs.declared.opening.Opening.{Opening}
@@ -9,7 +9,7 @@ use Rattle.std.specs.declared.option.Option.TheVariants.{Some, None}
 use Rattle.sabr_model.specs.declared.fault.AddFault.TheVariants.{DuplicateContact}
 use Rattle.sabr_model.specs.Plan.{ContactPlan, opens}
 use Rattle.sabr_model.specs.Adding.{contact_refusal}
-use Rattle.sabr_model.specs.Gathering.{opening_of, openings_of, opening_number, KnowsFirst, KnowsSome}
+use Rattle.sabr_model.specs.Gathering.{opening_of, openings_of, opening_number, KnowsFirst, OpenBy, KnowsSome}
 use Rattle.sabr_model.proofs.PlanLemmas.{all_push, all_weaker}
 
 -- and, grouped the other way
@@ -94,7 +94,7 @@ known_fewer from to start (o ∷ os) (c ∷ cs) h =
 -- ---- contacts that open by a last opening
 
 -- none has an opening that comes after it
-pub after_all : (o last : Opening) (cs : List Contact) → AllByRecursion (λ c. opening_number (opening_of c) ≤ opening_number last) cs → opening_number last < opening_number o → list_any (opens o.from o.to o.start) cs ≡ false
+pub after_all : (o last : Opening) (cs : List Contact) → OpenBy last cs → opening_number last < opening_number o → list_any (opens o.from o.to o.start) cs ≡ false
 after_all o last [] all lt = refl
 after_all o last (c ∷ cs) all lt =
     ap (λ b. b || list_any (opens o.from o.to o.start) cs)
@@ -105,20 +105,18 @@ after_all o last (c ∷ cs) all lt =
     ∙ after_all o last cs all.1 lt
 
 -- a contact that opens after the last opening
-pub some_push_last : (os : List Opening) (last o : Opening) (cs : List Contact) → KnowsSome os last cs → opening_number last < opening_number o → (c : Contact) → opening_of c ≡ o → KnowsSome os o (cs ++ c ∷ [])
-some_push_last os last o cs h lt c is = (
-  known_push os cs c h.0,
-  all_push (λ d. opening_number (opening_of d) ≤ opening_number o) cs c
-      (all_weaker (λ d. opening_number (opening_of d) ≤ opening_number last) (λ d. opening_number (opening_of d) ≤ opening_number o) (λ d le. omega (arith, le, lt)) cs h.1)
+pub some_push_last : (os : List Opening) (last o : Opening) (cs : List Contact) → KnowsFirst os cs → OpenBy last cs → opening_number last < opening_number o → (rising : Bool) (c : Contact) → opening_of c ≡ o → KnowsSome os rising o (cs ++ c ∷ [])
+some_push_last os last o cs h all lt rising c is = (
+  known_push os cs c h,
+  λ _. all_push (λ d. opening_number (opening_of d) ≤ opening_number o) cs c
+      (all_weaker (λ d. opening_number (opening_of d) ≤ opening_number last) (λ d. opening_number (opening_of d) ≤ opening_number o) (λ d le. omega (arith, le, lt)) cs all)
       (let same = ap opening_number is in omega (arith, same)),
 )
 
--- a contact that opens by then, after all are in the set
-pub some_push : (os : List Opening) (last o : Opening) (cs : List Contact) → KnowsSome os last cs → os ≡ openings_of cs → opening_number o ≤ opening_number last → (c : Contact) → opening_of c ≡ o → KnowsSome (os ++ o ∷ []) last (cs ++ c ∷ [])
-some_push os last o cs h all le c is = (
-  subst (λ xs. KnowsFirst xs (cs ++ c ∷ [])) (sym (ap (λ xs. xs ++ o ∷ []) all ∙ ap (λ x. openings_of cs ++ x ∷ []) (sym is) ∙ openings_push cs c)) (known_these (cs ++ c ∷ [])),
-  all_push (λ d. opening_number (opening_of d) ≤ opening_number last) cs c h.1 (let same = ap opening_number is in omega (arith, same, le)),
-)
+-- a contact whose opening goes into the set, behind all others
+pub known_push_all : (os : List Opening) (o : Opening) (cs : List Contact) → os ≡ openings_of cs → (c : Contact) → opening_of c ≡ o → KnowsFirst (os ++ o ∷ []) (cs ++ c ∷ [])
+known_push_all os o cs all c is =
+    subst (λ xs. KnowsFirst xs (cs ++ c ∷ [])) (sym (ap (λ xs. xs ++ o ∷ []) all ∙ ap (λ x. openings_of cs ++ x ∷ []) (sym is) ∙ openings_push cs c)) (known_these (cs ++ c ∷ []))
 
 -- over a window, between two nodes, and where there is room, a contact is refused as a duplicate or not at all
 module _ (p : ContactPlan) (from to start end : ℕ) (window : start < end) (apart : from ≡ to → ⊥) (room : p.greatest < 20000) where

@@ -40,16 +40,20 @@ KnowsFirst [] cs = ⊤
 KnowsFirst (o ∷ os) [] = ⊥
 KnowsFirst (o ∷ os) (c ∷ cs) = (o ≡ opening_of c) × KnowsFirst os cs
 
--- the openings are those of the first contacts, and no contact opens after the last one
-abbrev pub KnowsSome : List Opening → Opening → List Contact → Type 0
-KnowsSome known last contacts = KnowsFirst known contacts × AllByRecursion (λ c. opening_number (opening_of c) ≤ opening_number last) contacts
+-- no contact opens after this
+abbrev pub OpenBy : Opening → List Contact → Type 0
+OpenBy last contacts = AllByRecursion (λ c. opening_number (opening_of c) ≤ opening_number last) contacts
+
+-- the openings are those of the first contacts, and if the contacts rise none opens after the last one
+abbrev pub KnowsSome : List Opening → Bool → Opening → List Contact → Type 0
+KnowsSome known rising last contacts = KnowsFirst known contacts × (rising ≡ true → OpenBy last contacts)
 
 -- an opening that no contact has was noted, one that a contact has was found, or neither
-abbrev pub IsNoted : List Contact → Opening → Option Bool → List Opening → Opening → Type 0
-IsNoted contacts o (Some true) known last =
-    (list_any (opens o.from o.to o.start) contacts ≡ false) × ((c : Contact) → opening_of c ≡ o → KnowsSome known last (contacts ++ c ∷ []))
-IsNoted contacts o (Some false) known last = (list_any (opens o.from o.to o.start) contacts ≡ true) × KnowsSome known last contacts
-IsNoted contacts o None known last = KnowsSome known last contacts
+abbrev pub IsNoted : List Contact → Opening → Option Bool → List Opening → Bool → Opening → Type 0
+IsNoted contacts o (Some true) known rising last =
+    (list_any (opens o.from o.to o.start) contacts ≡ false) × ((c : Contact) → opening_of c ≡ o → KnowsSome known rising last (contacts ++ c ∷ []))
+IsNoted contacts o (Some false) known rising last = (list_any (opens o.from o.to o.start) contacts ≡ true) × KnowsSome known rising last contacts
+IsNoted contacts o None known rising last = KnowsSome known rising last contacts
 
 -- elements put into a list, one after the other
 abbrev pub put_all : {X : Type 0} → (X → X → Ordering) → List X → List X → List X

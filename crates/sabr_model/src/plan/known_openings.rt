@@ -15,12 +15,14 @@ use std::hash::{BuildHasherDefault, FoldHasher};
 
 /// The last of the openings of contacts, by start, sender and receiver, and a set with those of the first contacts.
 ///
-/// While each contact opens after the others, the set stays empty.
+/// While each contact opens after those before it, the set stays empty. From the first that doesn't, it is filled.
 #[derive(Drop)]
 pub struct KnownOpenings<A: Allocator + Copy> {
     /// The openings of the first contacts.
     pub set: IndexSet<Opening, BuildHasherDefault<FoldHasher>, A>,
-    /// No contact opens after it.
+    /// Whether each contact so far opens after those before it.
+    pub rising: bool,
+    /// If so, no contact opens after it.
     pub last: Opening,
 }
 
@@ -31,6 +33,7 @@ impl<A: Allocator + Copy> KnownOpenings<A> {
     {
         KnownOpenings {
             set: IndexSet::new(alloc),
+            rising: true,
             last: Opening {
                 from: 0,
                 to: 0,
@@ -42,13 +45,14 @@ impl<A: Allocator + Copy> KnownOpenings<A> {
     /// Notes the opening of a contact that is to stand after these. Returns false if one of them has it, and None if
     /// out of memory.
     pub fn note(&mut self, contacts: &[Contact], opening: Opening) -> Option<bool>
-        requires { KnowsSome self.old.set.keys self.old.last contacts.now }
-        ensures { IsNoted contacts.now opening result self.new.set.keys self.new.last }
+        requires { KnowsSome self.old.set.keys self.old.rising self.old.last contacts.now }
+        ensures { IsNoted contacts.now opening result self.new.set.keys self.new.rising self.new.last }
     {
-        if comes_after(&opening, &self.last) {
+        if self.rising && comes_after(&opening, &self.last) {
             self.last = opening;
             return Some(true);
         }
+        self.rising = false;
         if !note_all(&mut self.set, contacts) {
             return None;
         }
@@ -60,7 +64,7 @@ impl<A: Allocator + Copy> KnownOpenings<A> {
 
     /// Takes out that of the contact with this sender, receiver and start. It takes no memory.
     pub fn forget(&mut self, from: u64, to: u64, start: u64)
-        ensures { (contacts : List Contact) → KnowsSome self.old.set.keys self.old.last contacts → KnowsSome self.new.set.keys self.new.last (filter (λ c. not (opens from to start c)) contacts) }
+        ensures { (contacts : List Contact) → KnowsSome self.old.set.keys self.old.rising self.old.last contacts → KnowsSome self.new.set.keys self.new.rising self.new.last (filter (λ c. not (opens from to start c)) contacts) }
     {
         self.set
             .retain(|o| !(from == o.from && to == o.to && start == o.start));
@@ -92,7 +96,10 @@ fn note_all<A: Allocator + Copy>(
 {
     while set.len() < contacts.len() {
         let Contact {
-            from, to, start, ..
+            from,
+            to,
+            start,
+            ..
         } = contacts[set.len()];
         let Ok(true) = set.insert(Opening { from, to, start }) else {
             return false;

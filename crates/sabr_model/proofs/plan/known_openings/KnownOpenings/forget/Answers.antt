@@ -14,5 +14,5 @@ returns g c = λ contacts h.
     let start = c.args.start in
     let left = filter_same _ (λ (o : Opening). not ((eqb from o.from && eqb to o.to) && eqb start o.start)) _ (λ o b f' k. search rules) _ _ c.retain.ensures.filtered in (
       subst (λ os. KnowsFirst os (filter (λ d. not (opens from to start d)) contacts)) (sym left) (known_fewer from to start c.args.self.now.set.keys contacts h.0),
-      all_filter (λ d. opening_number (opening_of d) ≤ opening_number c.args.self.now.last) (λ d. not (opens from to start d)) contacts h.1,
+      λ up. all_filter (λ d. opening_number (opening_of d) ≤ opening_number c.args.self.now.last) (λ d. not (opens from to start d)) contacts (h.1 up),
     )
