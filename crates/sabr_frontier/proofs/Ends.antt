@@ -34,10 +34,6 @@ get_there [] i x l e = absurd (omega arith)
 get_there (y ∷ xs) zero x l e = ap Some (sym e)
 get_there (y ∷ xs) (suc i) x l e = get_there xs i x (omega arith) e
 
--- what a pop leaves
-pub vec_front : {X A : Type 0} (v : Vec X A) → take (vec_len v - 1) v.items ≡ front v.items
-vec_front v = let e : vec_len v ≡ length v.items = omega arith in ap (λ n. take (n - 1) v.items) e
-
 -- one write after another at one place
 pub modify_twice : {X : Type 0} (f g : X → X) (xs : List X) (i : ℕ) → modify g (modify f xs i) i ≡ modify (λ x. g (f x)) xs i
 modify_twice f g [] i = refl
