@@ -1,6 +1,6 @@
 -- The last of a list, and one place of it.
 use Rattle.std.proofs.Common.{◌≡◌, ℕ, ◌-◌, ◌<◌, zero, suc, List, [], ◌∷◌, ◌++◌, length, take, set, get_or, Some, refl, sym, ap, ◌∙◌, arith, length-append}
-use Rattle.std.specs.Prelude.{slice_get, Vec, vec_len}
+use Rattle.std.specs.Prelude.{slice_get}
 use Rattle.sabr_frontier.specs.Undo.{modify, last_item, front}
 use Rattle.sabr_search.proofs.LateLists.{get_push_here}
 

@@ -50,12 +50,7 @@ fn winner<A: Allocator + Copy>(nodes: &[Node<A>], ids: &[NodeId], slot: usize) -
 }
 
 /// Settles the slots from `first` on and before `end`.
-fn settle<A: Allocator + Copy>(
-    nodes: &[Node<A>],
-    ids: &mut [NodeId],
-    first: usize,
-    end: usize,
-)
+fn settle<A: Allocator + Copy>(nodes: &[Node<A>], ids: &mut [NodeId], first: usize, end: usize)
     requires order { first ≤ end }
     requires within { end ≤ length ids.old }
     ensures { IsSettled nodes.now ids.old ids.new first end }
