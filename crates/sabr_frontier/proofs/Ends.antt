@@ -1,6 +1,6 @@
 -- The last of a list, and one place of it.
 use Rattle.std.proofs.Common.{◌≡◌, ℕ, ◌-◌, ◌<◌, zero, suc, List, [], ◌∷◌, ◌++◌, length, take, set, get_or, Some, refl, sym, ap, ◌∙◌, arith, length-append}
-use Rattle.std.specs.Prelude.{slice_get, Vec, vec_len}
+use Rattle.std.specs.Prelude.{slice_get}
 use Rattle.sabr_frontier.specs.Undo.{modify, last_item, front}
 use Rattle.sabr_search.proofs.LateLists.{get_push_here}
 
@@ -33,10 +33,6 @@ pub get_there : {X : Type 0} (xs : List X) (i : ℕ) (x : X) → i < length xs �
 get_there [] i x l e = absurd (omega arith)
 get_there (y ∷ xs) zero x l e = ap Some (sym e)
 get_there (y ∷ xs) (suc i) x l e = get_there xs i x (omega arith) e
-
--- what a pop leaves
-pub vec_front : {X A : Type 0} (v : Vec X A) → take (vec_len v - 1) v.items ≡ front v.items
-vec_front v = let e : vec_len v ≡ length v.items = omega arith in ap (λ n. take (n - 1) v.items) e
 
 -- one write after another at one place
 pub modify_twice : {X : Type 0} (f g : X → X) (xs : List X) (i : ℕ) → modify g (modify f xs i) i ≡ modify (λ x. g (f x)) xs i

@@ -1,6 +1,6 @@
 -- The tree of closed parts is sound, and represents the state that they make.
-use Rattle.std.proofs.Common.{◌≡◌, ℕ, suc, ◌+◌, ◌<◌, ◌≤◌, Bool, true, false, cond, not, List, [], ◌∷◌, ◌++◌, map, flat_map, take, length, refl, sym, ap, subst, ◌∙◌, ◌⊎◌, inl, inr, arith, true≢false, Option, Some, None, append_assoc, length-append}
-use Rattle.std.specs.Prelude.{slice_get, is_some}
+use Rattle.std.proofs.Common.{◌≡◌, ℕ, suc, ◌+◌, ◌≤◌, Bool, true, false, cond, not, List, [], ◌∷◌, ◌++◌, map, flat_map, take, length, refl, sym, ap, subst, ◌∙◌, ◌⊎◌, inl, inr, arith, true≢false, Option, Some, None, append_assoc, length-append}
+use Rattle.std.specs.Prelude.{slice_get}
 use Rattle.std.specs.Option.{option_map}
 use Rattle.std.specs.Ordering.{nat_cmp}
 use Rattle.std.specs.declared.cmp.Ordering.TheVariants.{Less}
@@ -21,7 +21,7 @@ use Rattle.sabr_frontier.specs.Formed.{InOrder}
 use Rattle.sabr_frontier.specs.Owing.{Owing, onward, Owes}
 use Rattle.sabr_frontier.specs.Listing.{IsState, leaves_in}
 use Rattle.sabr_frontier.specs.Loading.{IsCounted, state_with}
-use Rattle.sabr_frontier.specs.Shape.{Shape, front_of, numbers_of, part_at, part_of, prefix_of, route_at, shown}
+use Rattle.sabr_frontier.specs.Shape.{Shape, front_of, numbers_of, part_at, part_of, prefix_of, shown}
 use Rattle.sabr_frontier.specs.Queue.{InPairs}
 use Rattle.sabr_frontier.specs.Sound.{AreGiven, IsLent, IsTree}
 use Rattle.sabr_frontier.specs.Taking.{ids_from}
@@ -32,7 +32,7 @@ use Rattle.sabr_frontier.proofs.Closed.{In_Member, Member_In, set_of_has, has_se
 use Rattle.sabr_frontier.proofs.Members.{Member-map, Member-map_cases, Member-filter_cases, Member-flat_map_cases, Below-member, Less-apart}
 use Rattle.sabr_frontier.proofs.Division.{map-append}
 use Rattle.sabr_frontier.proofs.Leaves.{Pairs}
-use Rattle.sabr_frontier.proofs.Nodes.{get_within, get_at_end, ids_cases, ids_has}
+use Rattle.sabr_frontier.proofs.Nodes.{get_at_end, ids_cases, ids_has}
 use Rattle.sabr_frontier.proofs.Answering.{paid_closed, paid_owes, pairs_two}
 use Rattle.std.proofs.Math.Seq.{take-append_seam}
 use Rattle.sabr_search.proofs.Prefixes.{number_after_some}

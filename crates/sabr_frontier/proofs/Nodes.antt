@@ -81,10 +81,6 @@ module _ {X : Type 0} where
   pairs_back Q [] M h = h
   pairs_back Q (x ∷ F) M h = pairs_back Q F M h.1
 
-  pub pairs_weaker : (Q R : X → X → Type 0) (xs : List X) → ((a b : X) → Member a xs → Member b xs → Q a b → R a b) → InPairs Q xs → InPairs R xs
-  pairs_weaker Q R [] f h = tt
-  pairs_weaker Q R (x ∷ xs) f h = ((λ y m. f x y (inl refl) (inr m) (h.0 y m)), pairs_weaker Q R xs (λ a b m k. f a b (inr m) (inr k)) h.1)
-
 -- ---- nodes by their numbers
 
 pub same_node : (a b : NodeId) → a.0 ≡ b.0 → a ≡ b

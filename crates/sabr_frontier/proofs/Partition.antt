@@ -30,13 +30,6 @@ module _ {X : Type 0} (test : X → Bool) where
     | false ↦ refl
   ]
 
-  pub passing-le : (xs : List X) → passing test xs ≤ length xs
-  passing-le [] = omega arith
-  passing-le (x ∷ xs) = elim (test x) as (λ b. cond b (suc (passing test xs)) 0 ≤ length (x ∷ xs)) [
-    | true ↦ omega (arith, passing-le xs)
-    | false ↦ omega arith
-  ]
-
   -- each element before the split passes
   pub front_passes : (e : X) (xs : List X) → Member e (take (passing test xs) xs) → test e ≡ true
   front_passes e [] m = absurd m

@@ -1,8 +1,8 @@
 -- A sound tree stays sound where a node's route is given, and the undo of that gives the tree back.
-use Rattle.std.proofs.Common.{◌≡◌, ℕ, zero, suc, ◌+◌, ◌<◌, ◌≤◌, Bool, true, false, cond, ◌&&◌, not, nat_lt, nat_eq, filter, List, [], ◌∷◌, ◌++◌, length, take, drop, refl, sym, ap, subst, ◌∙◌, ◌⊎◌, inl, inr, arith, true≢false, Option, Some, None, append_assoc, length-append, slice_index}
-use Rattle.std.specs.Prelude.{slice_get, is_some, slice_index_or}
+use Rattle.std.proofs.Common.{◌≡◌, ℕ, ◌+◌, ◌<◌, true, nat_lt, List, [], ◌∷◌, ◌++◌, length, take, drop, refl, sym, ap, subst, ◌∙◌, ◌⊎◌, inl, inr, arith, Option, Some, None, append_assoc, length-append, slice_index}
+use Rattle.std.specs.Prelude.{slice_get, slice_index_or}
 use Rattle.std.specs.Option.{option_map}
-use Rattle.std.proofs.lemmas.Bool.{cases_eq, cases_lt}
+use Rattle.std.proofs.lemmas.Bool.{cases_lt}
 use Rattle.std.proofs.lemmas.List.{take-append-drop}
 use Rattle.std.proofs.lemmas.Option.{get_or_from_slice_get}
 use Rattle.std.proofs.lemmas.Bool.Decides.{nat_tests}
@@ -17,8 +17,8 @@ use Rattle.sabr_frontier.specs.declared.tree.NodeId.{NodeId}
 use Rattle.sabr_frontier.specs.declared.tree.Node.{Node}
 use Rattle.sabr_frontier.specs.State.{Member}
 use Rattle.sabr_frontier.specs.Listing.{IsState, leaves_in}
-use Rattle.sabr_frontier.specs.Shape.{Shape, shown, route_at}
-use Rattle.sabr_frontier.specs.Undo.{modify, front, last_item, undone, without, CanUndo, IsIndexed}
+use Rattle.sabr_frontier.specs.Shape.{Shape, shown}
+use Rattle.sabr_frontier.specs.Undo.{modify, undone, without, CanUndo, IsIndexed}
 use Rattle.sabr_frontier.specs.Best.{best_of}
 use Rattle.sabr_frontier.specs.Taking.{passing, stands_before, widened, wide_of, fresh_nodes, ids_from, divided}
 use Rattle.sabr_frontier.specs.Sound.{IsTree, IsLent, AreGiven}
@@ -31,7 +31,7 @@ use Rattle.sabr_frontier.proofs.Paths.{route_filled, routes_apart, route_chains,
 use Rattle.sabr_frontier.proofs.Listed.{least_some}
 use Rattle.sabr_frontier.proofs.Ends.{length-modify, last_item_push}
 use Rattle.sabr_frontier.proofs.Takes.{passes_from, take_front, undone-after}
-use Rattle.sabr_frontier.proofs.Nodes.{pair_across, get_within, get_Member, get_at_end, get_same, modify_cases, member_cut, member_taken, member_dropped, pairs_front, same_node, ids_cases, ids_has}
+use Rattle.sabr_frontier.proofs.Nodes.{get_Member, get_at_end, get_same, modify_cases, member_cut, member_taken, member_dropped, ids_cases, ids_has}
 use Rattle.sabr_frontier.proofs.Splits.{lent_stable}
 use Rattle.sabr_frontier.proofs.Refined.{node_within, here, here_in, cut, can_exclude, record_is}
 use Rattle.sabr_frontier.proofs.Indexed.{tree_indexed}

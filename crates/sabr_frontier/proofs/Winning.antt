@@ -1,5 +1,5 @@
 -- What the winners of slots are.
-use Rattle.std.proofs.Common.{◌≡◌, ◌≢◌, ℕ, zero, suc, ◌+◌, ◌-◌, ◌*◌, ◌/◌, ◌<◌, ◌≤◌, Bool, true, false, ◌⊎◌, inl, inr, List, ◌++◌, length, get_or, set, Option, Some, None, refl, sym, ap, subst, ◌∙◌, arith, true≢false, length-set, length-append}
+use Rattle.std.proofs.Common.{◌≡◌, ◌≢◌, ℕ, zero, suc, ◌+◌, ◌-◌, ◌*◌, ◌/◌, ◌<◌, ◌≤◌, true, false, ◌⊎◌, inl, inr, List, ◌++◌, length, set, Option, Some, None, refl, sym, ap, subst, ◌∙◌, arith, true≢false, length-set}
 use Rattle.std.specs.Prelude.{slice_get}
 use Rattle.std.specs.Option.{option_and_then}
 use Rattle.std.specs.Ordering.{is_lt}
@@ -11,7 +11,7 @@ use Rattle.sabr_model.specs.Record.{RouteRecord, by_record, by_record_total}
 use Rattle.sabr_frontier.specs.declared.tree.NodeId.{NodeId}
 use Rattle.sabr_frontier.specs.declared.tree.Node.{Node}
 use Rattle.sabr_frontier.specs.Shape.{ids_from, route_at}
-use Rattle.sabr_frontier.specs.Winners.{route_of, winner_at, comes_first, IsUpTo, IsNoGreater, IsLeast, IsFirst, CarriesNone, IsLesser, IsWinner, IsWon, AreWinners, low, high, IsAbove, AreOthersWinners, IsSettled}
+use Rattle.sabr_frontier.specs.Winners.{route_of, winner_at, is_lesser, IsUpTo, IsNoGreater, IsLeast, IsFirst, CarriesNone, IsLesser, IsWinner, IsWon, AreWinners, low, high, IsAbove, AreOthersWinners, IsSettled}
 use Rattle.sabr_frontier.proofs.Rising.{turned}
 use Rattle.sabr_frontier.proofs.Orders.{less_from_test}
 use Rattle.sabr_frontier.proofs.Nodes.{get_within}
@@ -58,12 +58,12 @@ no_greater_then o None (Some z) a b = absurd b
 no_greater_then None (Some y) (Some z) a b = absurd a
 no_greater_then (Some x) (Some y) (Some z) a b = not_less x y z a b
 
-first_then : (o p : Option RouteRecord) → comes_first o p ≡ true → IsNoGreater o p
+first_then : (o p : Option RouteRecord) → is_lesser o p ≡ true → IsNoGreater o p
 first_then None p e = absurd (true≢false (sym e))
 first_then (Some x) None e = tt
 first_then (Some x) (Some y) e = ap is_lt (turned by_record_total x y Less (less_from_test (by_record x y) e))
 
-not_first : (o p : Option RouteRecord) → comes_first o p ≡ false → IsNoGreater p o
+not_first : (o p : Option RouteRecord) → is_lesser o p ≡ false → IsNoGreater p o
 not_first None p e = tt
 not_first (Some x) None e = absurd (true≢false e)
 not_first (Some x) (Some y) e = e
@@ -95,10 +95,10 @@ above_none k a (m, x, y) = omega (arith, y, high_zero m)
 -- ---- the winner of a slot
 
 module _ {A : Type 0} (nodes : List (Node A)) where
-  pub lesser_other : (a b : NodeId) → comes_first (route_at nodes b) (route_at nodes a) ≡ true → IsLesser nodes a b b
+  pub lesser_other : (a b : NodeId) → is_lesser (route_at nodes b) (route_at nodes a) ≡ true → IsLesser nodes a b b
   lesser_other a b e = record { first = first_then (route_at nodes b) (route_at nodes a) e; second = no_greater_itself (route_at nodes b); one = inr refl }
 
-  pub lesser_same : (a b : NodeId) → comes_first (route_at nodes b) (route_at nodes a) ≡ false → IsLesser nodes a b a
+  pub lesser_same : (a b : NodeId) → is_lesser (route_at nodes b) (route_at nodes a) ≡ false → IsLesser nodes a b a
   lesser_same a b e = record { first = no_greater_itself (route_at nodes a); second = not_first (route_at nodes b) (route_at nodes a) e; one = inl refl }
 
   module _ (ids : List NodeId) (k : ℕ) where

@@ -37,6 +37,10 @@ one_step p r s = step (is_route p r) (least_in p r) (by_key p r) s
 abbrev pub given_first : List ℕ → List (List ℕ) × State → List (List ℕ) × State
 given_first s rest = (s ∷ rest.0, rest.1)
 
+-- the greatest number of routes of a page
+abbrev pub most_routes : ℕ
+most_routes = 10000
+
 -- at most k steps in a row: the routes given and the state that is left; fewer if no part carries a route
 unfoldable pub steps : ContactPlan → RouteRequest → ℕ → State → List (List ℕ) × State
 steps p r zero s = ([], s)

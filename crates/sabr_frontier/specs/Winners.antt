@@ -43,9 +43,9 @@ is_less x None = true
 is_less x (Some y) = is_lt (by_record x y)
 
 -- the first is there and less than the second, or the second isn't there
-abbrev pub comes_first : Option RouteRecord → Option RouteRecord → Bool
-comes_first None o = false
-comes_first (Some x) o = is_less x o
+abbrev pub is_lesser : Option RouteRecord → Option RouteRecord → Bool
+is_lesser None o = false
+is_lesser (Some x) o = is_less x o
 
 -- the first is there and y isn't less
 abbrev pub IsUpTo : Option RouteRecord → RouteRecord → Type 0

@@ -5,7 +5,7 @@ ghost use Rattle.sabr_model.specs.Plan.{IsPlan};
 ghost use Rattle.sabr_model.specs.Record.{record_of};
 ghost use Rattle.sabr_model.specs.Asking.{most_hops};
 ghost use Rattle.sabr_search.specs.Kept.{IsKept};
-ghost use Rattle.sabr_frontier.specs.Listing.{searches_in, steps};
+ghost use Rattle.sabr_frontier.specs.Listing.{most_routes, searches_in, steps};
 ghost use Rattle.sabr_frontier.specs.Shape.{shape_of, shown};
 ghost use Rattle.sabr_frontier.specs.Undo.{IsRoomy};
 ghost use Rattle.sabr_frontier.specs.Session.{IsSound, tree_before};
@@ -30,7 +30,7 @@ impl<A: Allocator + Copy> Tree<A> {
     ) -> Result<u64, NoMemory>
         requires plan { IsPlan plan.now.plan }
         requires hops { request.now.max_hops ≤ most_hops }
-        requires count { count ≤ 10000 }
+        requires count { count ≤ most_routes }
         requires sound { IsSound plan.now.plan request.now (shape_of self.old) }
         requires room { IsRoomy self.old }
         requires kept { IsKept plan.now request.now kept.old }

@@ -5,7 +5,7 @@ ghost use Rattle.sabr_model.specs.Plan.{IsPlan};
 ghost use Rattle.sabr_model.specs.Asking.{IsRequest};
 ghost use Rattle.sabr_model.specs.Record.{record_of};
 ghost use Rattle.sabr_frontier.specs.Fresh.{GivesNewRoutes};
-ghost use Rattle.sabr_frontier.specs.Listing.{next_route, searches_in, state_at, steps};
+ghost use Rattle.sabr_frontier.specs.Listing.{most_routes, next_route, searches_in, state_at, steps};
 ghost use Rattle.sabr_frontier.specs.Session.{former_then, told_part};
 ghost use Rattle.sabr_frontier.specs.Shape.{shape_of, shown};
 ghost use Rattle.sabr_frontier.specs.Sound.{IsTree};
@@ -125,7 +125,7 @@ impl<'p, B: BestOf<A>, A: Allocator + Copy> Session<'p, B, A> {
     ///
     /// [`NoMemory`] if a growth was refused. All is shown as before, and the same call can be made again.
     pub fn page(&mut self, count: u32) -> Result<Vec<Route<A>, A>, NoMemory>
-        requires { count ≤ 10000 }
+        requires { count ≤ most_routes }
         ensures routes { IfOk result (λ given. given.items ≡ map (record_of self.old.plan.plan self.old.request) (steps self.old.plan.plan self.old.request count self.old.state).0) }
         ensures state { OnOk result (self.new.state ≡ (steps self.old.plan.plan self.old.request count self.old.state).1) }
         ensures former { OnOk result (self.new.former ≡ former_then (steps self.old.plan.plan self.old.request count self.old.state).0 self.old.state self.old.former) }

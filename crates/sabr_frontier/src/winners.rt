@@ -3,7 +3,7 @@
 
 ghost use Rattle.std.specs.Prelude.{◌≡◌, ◌+◌, ◌<◌, ◌≤◌, length, vec_len, vec_capacity};
 ghost use Rattle.sabr_frontier.specs.Shape.{route_at};
-ghost use Rattle.sabr_frontier.specs.Winners.{AreOthersWinners, AreWinners, IsLesser, IsSettled, IsWinner, comes_first};
+ghost use Rattle.sabr_frontier.specs.Winners.{AreOthersWinners, AreWinners, IsLesser, IsSettled, IsWinner, is_lesser};
 
 use crate::index::push_block;
 use crate::places::carried;
@@ -12,8 +12,8 @@ use std::alloc::Allocator;
 use std::cmp::Ordering;
 
 /// Whether a node carries a lesser route than another, or the other carries none.
-fn comes_first<A: Allocator + Copy>(nodes: &[Node<A>], id: NodeId, other: NodeId) -> bool
-    ensures { result ≡ comes_first (route_at nodes.now id) (route_at nodes.now other) }
+fn is_lesser<A: Allocator + Copy>(nodes: &[Node<A>], id: NodeId, other: NodeId) -> bool
+    ensures { result ≡ is_lesser (route_at nodes.now id) (route_at nodes.now other) }
 {
     let Some(route) = carried(nodes, id) else {
         return false;
@@ -28,7 +28,7 @@ fn comes_first<A: Allocator + Copy>(nodes: &[Node<A>], id: NodeId, other: NodeId
 fn lesser<A: Allocator + Copy>(nodes: &[Node<A>], id: NodeId, other: NodeId) -> NodeId
     ensures { IsLesser nodes.now id other result }
 {
-    if comes_first(nodes, other, id) {
+    if is_lesser(nodes, other, id) {
         return other;
     }
     id
@@ -50,12 +50,7 @@ fn winner<A: Allocator + Copy>(nodes: &[Node<A>], ids: &[NodeId], slot: usize) -
 }
 
 /// Settles the slots from `first` on and before `end`.
-fn settle<A: Allocator + Copy>(
-    nodes: &[Node<A>],
-    ids: &mut [NodeId],
-    first: usize,
-    end: usize,
-)
+fn settle<A: Allocator + Copy>(nodes: &[Node<A>], ids: &mut [NodeId], first: usize, end: usize)
     requires order { first ≤ end }
     requires within { end ≤ length ids.old }
     ensures { IsSettled nodes.now ids.old ids.new first end }

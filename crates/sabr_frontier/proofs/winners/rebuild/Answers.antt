@@ -1,4 +1,4 @@
-use Rattle.std.proofs.Common.{length, ap, sym, subst, arith}
+use Rattle.std.proofs.Common.{sym, subst, arith}
 use Rattle.sabr_frontier.specs.Winners.{AreWinners}
 use Rattle.sabr_frontier.proofs.winners.rebuild.Goals as goal
 

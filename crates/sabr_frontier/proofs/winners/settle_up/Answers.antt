@@ -1,4 +1,4 @@
-use Rattle.std.proofs.Common.{◌≡◌, ◌-◌, ◌/◌, arith, sym, subst, ◌∙◌}
+use Rattle.std.proofs.Common.{◌≡◌, ◌-◌, ◌/◌, arith, subst, ◌∙◌}
 use Rattle.sabr_frontier.specs.Winners.{AreOthersWinners}
 use Rattle.sabr_frontier.proofs.Winning.{others_over, others_all}
 use Rattle.sabr_frontier.proofs.winners.settle_up.Goals as goal

@@ -1,7 +1,5 @@
-use Rattle.std.proofs.Common.{◌≡◌, refl, ◌-◌, ◌+◌, ◌<◌, ◌++◌, ◌∷◌, [], suc, length, arith, ap, sym, subst, ◌∙◌, inr, Option, zero-add}
-use Rattle.std.specs.Prelude.{IfSome}
-use Rattle.sabr_model.specs.Record.{RouteRecord}
-use Rattle.sabr_frontier.specs.Shape.{Shape, shape_of, shown}
+use Rattle.std.proofs.Common.{◌≡◌, refl, ◌-◌, ◌+◌, suc, length, arith, ap, subst, ◌∙◌, inr, zero-add}
+use Rattle.sabr_frontier.specs.Shape.{shape_of, shown}
 use Rattle.sabr_frontier.proofs.Giving.{is_given}
 use Rattle.sabr_frontier.proofs.Pages.{IsOnTheWay, at_first, one_on, at_last, at_end, sound_tree, last_steps, counts_on, counts_idle, counts_none}
 use Rattle.sabr_frontier.specs.Listing.{searches_in}

@@ -1,4 +1,4 @@
-use Rattle.std.proofs.Common.{◌≡◌, arith, sym, subst, ◌∙◌}
+use Rattle.std.proofs.Common.{arith, sym, subst, ◌∙◌}
 use Rattle.sabr_frontier.specs.Shape.{route_at}
 use Rattle.sabr_frontier.specs.Winners.{IsFirst, winner_at}
 use Rattle.sabr_frontier.proofs.Winning.{first_carries, none_carries, nothing_there}

@@ -1,4 +1,4 @@
-use Rattle.std.proofs.Common.{◌≡◌, ◌++◌, ◌∷◌, [], arith, ap, sym, subst, ◌∙◌, None}
+use Rattle.std.proofs.Common.{◌++◌, ◌∷◌, [], arith, ap, sym, subst, ◌∙◌, None}
 use Rattle.sabr_frontier.specs.declared.tree.Node.{Node}
 use Rattle.sabr_frontier.specs.Root.{first_id}
 use Rattle.sabr_frontier.specs.Winners.{AreWinners}

@@ -1,7 +1,6 @@
-use Rattle.std.proofs.Common.{arith, List, length, ◌<◌, ◌≤◌, ◌≡◌, ◌++◌, ◌∷◌, [], ap, ◌∙◌, sym, subst, Some, take, length-take-le}
+use Rattle.std.proofs.Common.{arith, length, ◌≤◌, ◌≡◌, ap, ◌∙◌, sym, subst, Some, take, length-take-le}
 use Rattle.sabr_frontier.specs.declared.tree.Entry.{Entry}
 use Rattle.sabr_frontier.specs.declared.tree.Node.{Node}
-use Rattle.sabr_frontier.specs.declared.tree.NodeId.{NodeId}
 use Rattle.sabr_model.specs.Record.{RouteRecord}
 use Rattle.sabr_frontier.specs.Shape.{order_of, shape_of}
 use Rattle.sabr_frontier.specs.Undo.{IsIndexed, undone, undone_by, modify, given_back, IsLonger}
