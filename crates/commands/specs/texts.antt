@@ -1,4 +1,4 @@
--- The texts that runs write, but for reports and sessions.
+-- The texts that runs write, except for reports and sessions.
 pub mod Messages
 pub mod CheckText
 pub mod Followed

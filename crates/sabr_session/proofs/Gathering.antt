@@ -8,7 +8,7 @@ use Rattle.sabr_session.specs.declared.writing.text_buffer.TextBuffer.{TextBuffe
 use Rattle.sabr_session.specs.Gathering.{IsEmptyBefore, HasPut, StopsIn, Puts, Sends}
 use Rattle.sabr_plan.proofs.CanonicalLines.{in_part_after, in_part_more}
 
--- the bytes held, and two texts: parted after the first text's part that was written
+-- the bytes held, and two texts: separated after the first text's part that was written
 split_at : (h i sent xs ys : List ℕ) → h ++ xs ≡ sent ++ i → h ++ (xs ++ ys) ≡ sent ++ (i ++ ys)
 split_at h i sent xs ys e = sym (append_assoc h xs ys) ∙ ap (λ zs. zs ++ ys) e ∙ append_assoc sent i ys
 

@@ -24,7 +24,7 @@ module _ (plan : TabledPlan) where
   regrouped : (bytes piece more : List ℕ) (ended : Bool) → said_over plan ((bytes ++ piece) ++ more) ended ≡ said_over plan (bytes ++ (piece ++ more)) ended
   regrouped bytes piece more ended = ap (λ b. said_over plan b ended) (append_assoc bytes piece more)
 
-  -- a piece more
+  -- one more piece
   piece_fed : (bytes piece : List ℕ) (old new : Result OpenText SessionFault) (answer : Result (Unit {0}) SessionFault) → SoFar plan bytes old → IsFed old piece answer new → SoFar plan (bytes ++ piece) new × IsAnswerSoFar plan (bytes ++ piece) answer
   piece_fed bytes piece (Ok t) (Ok s) (Ok u) so fed =
       let same : (more : List ℕ) (ended : Bool) → said_over plan ((bytes ++ piece) ++ more) ended ≡ outcome_of s more ended = λ more ended. regrouped bytes piece more ended ∙ so.1 (piece ++ more) ended ∙ fed.same more ended in

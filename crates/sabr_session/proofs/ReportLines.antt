@@ -24,7 +24,7 @@ report_lines-at rank xs i d h =
     ap (report_lines rank) (sym (take-append-drop i xs)) ∙ report_lines-append rank (take i xs) (drop i xs)
     ∙ ap (λ zs. report_lines rank (take i xs) ++ zs) (from_place rank xs i (drop i xs) h ∙ ap (report_lines (rank + i)) (drop-cons xs i d h))
 
--- one route more
+-- one more route
 pub report_lines-take : (rank : ℕ) (xs : List RouteRecord) (i : ℕ) (d : RouteRecord) → i < length xs
     → report_lines rank (take (suc i) xs) ≡ report_lines rank (take i xs) ++ report_line (rank + i) (get_or xs i d)
 report_lines-take rank xs i d h =

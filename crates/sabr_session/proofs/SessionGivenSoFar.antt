@@ -38,7 +38,7 @@ nothing_given plan calls old feed is = rw is (record {
   fine = outcome-read plan.plan (digest_of plan.plan) nothing_fed refl refl;
 })
 
--- a piece more
+-- one more piece
 pub piece_given : {U : Type 0} (plan : TabledPlan) (calls : ℕ) (old mid new : Option (List ℕ)) (feed next : Result OpenText SessionFault) (piece : List ℕ) (u : U)
     → HasFed plan calls old mid feed → Consumes mid new piece → IsFed {U = U} feed piece (Ok u) next → HasFed plan calls old new next
 piece_given plan calls old mid new (Err f) next piece u was consumed fed = absurd was

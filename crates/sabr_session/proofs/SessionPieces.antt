@@ -1,4 +1,4 @@
--- The lines of a session's text, put together of their pieces.
+-- The lines of a session's text, made of their pieces.
 use Rattle.std.proofs.Common.{◌≡◌, ℕ, List, [], ◌∷◌, ◌++◌, map, codes, refl, ap, ◌∙◌, append-nil, Option, Some, None}
 use Rattle.std.specs.List.{concat, flat_map}
 use Rattle.std.specs.Option.{option_map}
@@ -42,7 +42,7 @@ lines_told p r (t ∷ ts) = ap (λ u. part_line u ++ flat_map told_line (map (to
 pub lines_of_told : (p : ContactPlan) (r : RouteRequest) (told : List PartTold) (ts : List PartState) → told ≡ map (told_part p r) ts → flat_map told_line told ≡ flat_map part_line ts
 lines_of_told p r told ts e = ap (flat_map told_line) e ∙ lines_told p r ts
 
--- one line more
+-- one more line
 pub lines-more : {X : Type 0} (view : X → PartTold) (xs : List X) (x : X) → flat_map told_line (map view (xs ++ x ∷ [])) ≡ flat_map told_line (map view xs) ++ told_line (view x)
 lines-more view xs x =
     ap (flat_map told_line) (map-append view xs (x ∷ [])) ∙ flat_map-append told_line (map view xs) (view x ∷ [])

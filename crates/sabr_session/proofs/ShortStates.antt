@@ -1,4 +1,4 @@
--- What a text tells of well-formed states over a plan is within its bounds.
+-- What a text says of well-formed states over a plan is within its bounds.
 use Rattle.std.proofs.Common.{◌≡◌, ℕ, ◌+◌, ◌*◌, ◌<◌, ◌≤◌, Bool, true, false, cond, ltb, ◌⊎◌, inl, inr, List, [], ◌∷◌, ◌++◌, map, filter, length, refl, sym, subst, arith, Option, Some, None, unwrap_or}
 use Rattle.std.specs.List.{AllByRecursion, flat_map}
 use Rattle.std.specs.Option.{option_map_or}
@@ -36,7 +36,7 @@ use Rattle.sabr_session.proofs.SpelledWords.{AreWithin}
 use Rattle.sabr_session.proofs.SpelledHead.{IsContactList}
 use Rattle.sabr_session.proofs.SpelledParts.{PartIsTellable, IsPartOf, ArePartsOf}
 
--- what a text tells of a state
+-- what a text says of a state
 pub record StateIsTellable (p : ContactPlan) (r : RouteRequest) (s : State) : Type 0 where
   pub given : s.emitted ≤ 340282366920938463463374607431768211455
   pub latest : IsContactList s.last

@@ -17,7 +17,7 @@ module _ {N : Type 0} (spelled : N → List ℕ) where
       ap (spaced_by spelled) (sym (take-append-drop i xs)) ∙ spaced_by-append (take i xs) (drop i xs)
       ∙ ap (λ ys. spaced_by spelled (take i xs) ++ spaced_by spelled ys) (drop-cons xs i d h)
 
-  -- one number more
+  -- one more number
   pub spaced_by-take : (xs : List N) (i : ℕ) (d : N) → i < length xs
       → spaced_by spelled (take (suc i) xs) ≡ spaced_by spelled (take i xs) ++ (32 ∷ spelled (get_or xs i d))
   spaced_by-take xs i d h =

@@ -75,7 +75,7 @@ last_read ns h = rw (label-there (codes "last ") (list_text ns), contacts_words 
 
 -- ---- the line of the request
 
--- the first four words, in front of a text
+-- the first four words, before a text
 abbrev pub four_onto : RouteRequest → List ℕ → List ℕ
 four_onto r u = decimal r.source ++ 32 ∷ (decimal r.destination ++ 32 ∷ (time_text_of r.at ++ 32 ∷ (decimal r.margin ++ u)))
 

@@ -27,7 +27,7 @@ lines_of-joined (line ∷ lines) h =
     lines_of-line line (joined lines) h.0
     ∙ ap (λ (t : TextLines). record { ended = line ∷ t.ended; open_line = t.open_line }) (lines_of-joined lines h.1)
 
--- pieces and LF, in front of a text
+-- pieces and LF, before a text
 pub lf_behind : (xs : List (List ℕ)) (u : List ℕ) → concat (xs ++ codes "\n" ∷ []) ++ u ≡ concat xs ++ 10 ∷ u
 lf_behind [] u = refl
 lf_behind (x ∷ xs) u =

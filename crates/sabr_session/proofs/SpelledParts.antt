@@ -21,7 +21,7 @@ use Rattle.sabr_session.proofs.SpelledWords.{list_words, other_number, words-apa
 use Rattle.sabr_session.proofs.SpelledLines.{concat_line, length-concat, list_line, list_length}
 use Rattle.sabr_session.proofs.SpelledHead.{IsContactList, label-there, contacts_words, contacts_read, word-apart}
 
--- what a text tells of a part, whose route isn't empty
+-- what a text says of a part, whose route isn't empty
 pub record PartIsTellable (t : PartState) : Type 0 where
   pub prefix : IsContactList t.prefix
   pub excluded : IsContactList t.excluded

@@ -1,4 +1,4 @@
--- The words of what numbers, lists and times are spelled with.
+-- The words in which numbers, lists and times are spelled.
 use Rattle.std.proofs.Common.{◌≡◌, ℕ, ◌+◌, ◌%◌, ◌<◌, ◌≤◌, ◌^◌, Bool, true, false, cond, eqb, List, [], ◌∷◌, ◌++◌, length, map, refl, ap, ◌∙◌, arith, append-nil, decimal, codes, option_map}
 use Rattle.std.specs.List.{slice_split, onto_first}
 use Rattle.std.specs.Str.{bytes_eq}

@@ -28,7 +28,7 @@ pub spelled_at_ok : {A : Type 0} (n : ℕ) (o : Option A) (x : A) → spelled_at
 spelled_at_ok n None x e = absurd cc
 spelled_at_ok n (Some y) x e = let same : y ≡ x = cc in rw same refl
 
--- what a test lets by
+-- what a test lets pass
 pub test_some : {A : Type 0} (b : Bool) (x y : A) → cond b (Some x) None ≡ Some y → (b ≡ true) × (x ≡ y)
 test_some true x y e = let same : x ≡ y = cc in (refl, same)
 test_some false x y e = absurd cc

@@ -46,7 +46,7 @@ bytes_of-lines (b ∷ bytes) = by_end (eqb b 10) refl (bytes_of-lines bytes)
     by_end true is same = let lf : b ≡ 10 = eqb-true b 10 is in ap (λ (s : List ℕ). 10 ∷ s) same ∙ ap (λ (x : ℕ). x ∷ bytes) (sym lf)
     by_end false is same = bytes-before b t.ended t.open_line ∙ ap (λ (s : List ℕ). b ∷ s) same
 
--- a line more
+-- one more line
 with_ends-on : (line text : List ℕ) (lines : List (List ℕ)) (rest : List ℕ) → line ≡ text → with_ends lines ≡ rest → with_ends (line ∷ lines) ≡ text ++ 10 ∷ rest
 with_ends-on line text lines rest e f = rw (e, f) (append_assoc text (10 ∷ []) rest)
 

@@ -10,7 +10,7 @@ use Rattle.sabr_session.specs.SpacedNumbers.{list_text}
 use Rattle.sabr_session.specs.SessionWords.{words_of, all_of, counted, is_dash, list_within, contacts_of, is_slash, before_slash, after_slash}
 use Rattle.sabr_plan.specs.Numbers.{number_within}
 
--- words, parted by single spaces
+-- words, separated by single spaces
 abbrev pub joined : List (List ℕ) → List ℕ
 joined words = join_with_byte 32 words
 

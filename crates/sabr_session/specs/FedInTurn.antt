@@ -17,7 +17,7 @@ AreFed old (fed ∷ more) new = (mid : Result OpenText SessionFault) × IsFed ol
 abbrev pub bytes_of : List (List ℕ × Result (Unit {0}) SessionFault) → List ℕ
 bytes_of fed = flat_map (λ f. f.0) fed
 
--- how a piece is answered where these are the bytes so far: Ok where a failure of the reader after them would be
+-- how a piece is answered if these are the bytes so far: Ok if a failure of the reader after them would be
 -- reported as Read, else the fault that would be reported, or out of memory
 abbrev pub IsAnswerSoFar : TabledPlan → List ℕ → Result (Unit {0}) SessionFault → Type 0
 IsAnswerSoFar plan bytes (Ok u) = said_over plan bytes false ≡ Err Read

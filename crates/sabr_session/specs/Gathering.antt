@@ -1,18 +1,18 @@
--- What a call leaves that puts a text into a buffer in front of its writer.
+-- What a call that puts a text into a buffer before its writer leaves.
 use Rattle.std.specs.Prelude.{◌≡◌, ℕ, List, [], ◌++◌, Result, Ok, Err, Option}
 use Rattle.std.specs.Borrow.{MutBor}
 use Rattle.sabr_model.specs.Devices.{Written, WrittenInPart}
 use Rattle.sabr_session.specs.declared.writing.text_buffer.TextBuffer.{TextBuffer}
 
--- a buffer in front of this writer that holds no bytes
+-- a buffer before this writer, which holds no bytes
 pub record IsEmptyBefore {W : Type 0} (writer : MutBor W) (text : TextBuffer W) : Type 0 where
   pub same_writer : text.writer.ghost_name ≡ writer.ghost_name
   pub unchanged : text.writer.now ≡ writer.now
   pub empty : text.held.items ≡ []
 
--- by what writers of the type `W` show: their bytes, where they tell them, and how often they failed
+-- by what writers of type `W` show: their bytes, if these are known, and how often they failed
 module _ {W : Type 0} (contents : W → Option (List ℕ)) (failures : W → ℕ) where
-  -- the buffer keeps its writer, and the bytes held and the text were written, but for what is held now
+  -- the buffer keeps its writer, and the bytes held and the text were written, except for what is held now
   pub record HasPut (old : TextBuffer W) (text : List ℕ) (new : TextBuffer W) : Type 0 where
     pub same_writer : new.writer.ghost_name ≡ old.writer.ghost_name
     pub sent : List ℕ

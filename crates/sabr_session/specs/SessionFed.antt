@@ -29,7 +29,7 @@ outcome p h s bytes ended =
 abbrev pub is_bad_front : ℕ → Said → List ℕ → Bool
 is_bad_front n s front = (is_behind n s && has_bytes front) || nat_lt most_bytes (length front)
 
--- over a plan, what was fed of a text that wasn't refused, and how often the finder was called that its session is to have
+-- over a plan, what was fed of a text that wasn't refused, and how often the finder of its session was called
 pub record OpenText : Type 0 where
   pub plan : TabledPlan
   pub calls : ℕ
@@ -43,8 +43,8 @@ opened_over plan calls = record { plan = plan; calls = calls; fed = nothing_fed 
 abbrev pub outcome_of : OpenText → List ℕ → Bool → Result Said SessionFault
 outcome_of t bytes ended = outcome t.plan.plan (digest_of t.plan.plan) t.fed bytes ended
 
--- a piece goes on with a text: the line after the last LF is held, and no more; whatever follows, the text comes to the
--- same; and where the reader fails there, Read is the answer
+-- a piece continues a text: the line after the last LF is held, and no more; whatever follows, the text comes to the
+-- same; and if the reader fails there, Read is the answer
 pub record GoesOn (old : OpenText) (piece : List ℕ) (new : OpenText) : Type 0 where
   pub plan : new.plan ≡ old.plan
   pub calls : new.calls ≡ old.calls
@@ -56,7 +56,7 @@ pub record GoesOn (old : OpenText) (piece : List ℕ) (new : OpenText) : Type 0 
 abbrev pub IsRefusedPiece : OpenText → List ℕ → SessionFault → Type 0
 IsRefusedPiece t piece f = (f ≡ NoMemory) ⊎ ((f ≢ Read) × ((more : List ℕ) (ended : Bool) → outcome_of t (piece ++ more) ended ≡ Err f))
 
--- more bytes aren't held: out of memory, or since no line begins with them and those held
+-- more bytes aren't held: out of memory, or no line begins with those held and them
 abbrev pub IsRefusedFront : OpenText → List ℕ → SessionFault → Type 0
 IsRefusedFront t bytes f =
     (f ≡ NoMemory) ⊎ ((f ≡ misspelled (t.fed.lines + 1)) × (is_bad_front (t.fed.lines + 1) t.fed.said (t.fed.held ++ bytes) ≡ true))

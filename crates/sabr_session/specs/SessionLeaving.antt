@@ -1,4 +1,4 @@
--- What a call leaves that reads a line of a session text, and may also run out of memory.
+-- What a call that reads a line of a session text leaves; it may also run out of memory.
 use Rattle.std.specs.Prelude.{◌≡◌, ◌⊎◌, Result, Ok, Err}
 use Rattle.sabr_session.specs.declared.session_fault.SessionFault.{SessionFault}
 use Rattle.sabr_session.specs.declared.session_fault.SessionFault.TheVariants.{NoMemory}

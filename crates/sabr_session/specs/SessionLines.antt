@@ -13,7 +13,7 @@ use Rattle.sabr_session.specs.declared.reading.first_lines.Version.{Version}
 use Rattle.sabr_session.specs.declared.reading.first_lines.Version.TheVariants.{One, Two}
 use Rattle.sabr_model.specs.declared.request_values.RequestValues.{RequestValues}
 
--- what stands after the label, where the text begins with it
+-- what stands after the label, if the text begins with it
 unfoldable pub behind_label : List ℕ → List ℕ → Option (List ℕ)
 behind_label label text = if bytes_eq (take (length label) text) label then Some (drop (length label) text) else None
 
@@ -36,7 +36,7 @@ is_digest text = (length text == 64) && list_all is_digest_digit text
 unfoldable pub digest_named : List ℕ → Option (List ℕ)
 digest_named line = option_and_then (λ text. if is_digest text then Some text else None) (behind_label (codes "plan ") line)
 
--- the values of these words, where each has one
+-- the values of these words, if each has one
 abbrev pub four_of : List ℕ → List ℕ → List ℕ → List ℕ → ℕ → List ℕ → Option RequestValues
 four_of from to time margin hops avoid =
     option_and_then (λ f. option_and_then (λ t. option_and_then (λ s. option_map (λ m.
@@ -82,7 +82,7 @@ abbrev pub carried_of : List ℕ → Option (List ℕ)
 carried_of [] = None
 carried_of (n ∷ ns) = Some (n ∷ ns)
 
--- `LIST / LIST / LIST`; the third is empty where no route is carried
+-- `LIST / LIST / LIST`; the third is empty if no route is carried
 unfoldable pub lists_of : List (List ℕ) → Option PartState
 lists_of words =
     let others = after_slash words in

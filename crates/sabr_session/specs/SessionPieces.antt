@@ -1,4 +1,4 @@
--- The pieces that a session's text is put together of.
+-- The pieces that make up a session's text.
 use Rattle.std.specs.Prelude.{ℕ, List, [], ◌∷◌, length, decimal, codes}
 use Rattle.std.specs.Option.{option_map}
 use Rattle.sabr_model.specs.Arrival.{RouteRequest}

@@ -41,7 +41,7 @@ nothing_said = record { version = Two; request = unlimited 0 0 0 0; emitted = 0;
 abbrev pub misspelled : ℕ → SessionFault
 misspelled n = if n == 1 then BadHeader else BadLine n
 
--- what line n says, where it is spelled
+-- what line n says, if it is spelled so
 abbrev pub spelled_at : {A : Type 0} → ℕ → Option A → Result A SessionFault
 spelled_at n None = Err (misspelled n)
 spelled_at n (Some x) = Ok x
@@ -138,7 +138,7 @@ abbrev pub is_behind : ℕ → Said → Bool
 is_behind n s = nat_lt (7 + s.count) n
 
 -- after the last LF these bytes of line n stand: the text may end, or its reader fail, after the LF of `end` alone;
--- any byte there is a fault, and so is an unfinished line where the text ends or the line is too long
+-- any byte there is a fault, and so is an unfinished line if the text ends or the line is too long
 abbrev pub last_line : Bool → ℕ → List ℕ → Said → Result Said SessionFault
 last_line ended n line s =
     if is_behind n s && not (has_bytes line) then (if ended then Ok s else Err Read)
@@ -159,8 +159,8 @@ state_of s = record { emitted = s.emitted; last = s.last_route; parts = s.parts 
 abbrev pub IsClosedSaid : ContactPlan → Said → Type 0
 IsClosedSaid p s = IsClosed (is_route p s.request) (is_path p s.request) (is_prefix p s.request) (map pair_of s.parts)
 
--- what comes of lines without a fault: their request and their state where that is well formed; NotClosed where its
--- parts aren't closed; and BadCount where they are, and the count or the last route is wrong
+-- what comes of lines without a fault: their request and their state if that is well formed; NotClosed if its
+-- parts aren't closed; and BadCount if they are, and the count or the last route is wrong
 abbrev pub Judges : ContactPlan → Said → Result (RouteRequest × State) SessionFault → Type 0
 Judges p s (Ok x) = (x ≡ (s.request, state_of s)) × IsState p s.request (state_of s)
 Judges p s (Err f) =

@@ -28,7 +28,7 @@ IsStage plan None (Some l) = l.plan ≡ plan
 IsStage plan None None = ⊥
 IsStage plan (Some finder) (Some l) = ⊥
 
--- what the first six lines say but for the request, and what the stage has of the others
+-- what the first six lines say except for the request, and what the stage has of the others
 abbrev pub said_with : Said → Staged → Said
 said_with s t = record s { request = t.request; parts = t.parts }
 

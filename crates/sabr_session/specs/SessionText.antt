@@ -65,7 +65,7 @@ old_text_of h r s = codes "cgr-session 1\n" ++ (plan_line h ++ (old_request_line
 abbrev pub text_of_session : Seen → List ℕ
 text_of_session s = text_of (digest_of s.plan.plan) s.request s.state
 
--- a state has a text where its number of parts is at most the greatest that can stand there
+-- a state has a text if its number of parts is at most the greatest that a text can name
 abbrev pub HasText : State → Type 0
 HasText s = length s.parts ≤ 18446744073709551615
 

@@ -7,11 +7,11 @@ use Rattle.sabr_plan.specs.Numbers.{number_within}
 use Rattle.std.specs.declared.option.Option.{Option}
 use Rattle.std.specs.declared.option.Option.TheVariants.{Some, None}
 
--- a space parts words
+-- a space separates words
 abbrev pub is_space : ℕ → Bool
 is_space b = b == 32
 
--- the words of a text, parted by single spaces; an empty text has one empty word
+-- the words of a text, separated by single spaces; an empty text has one empty word
 unfoldable pub words_of : List ℕ → List (List ℕ)
 words_of text = slice_split is_space text
 
@@ -20,7 +20,7 @@ abbrev pub words_behind : Option (List ℕ) → List (List ℕ)
 words_behind None = []
 words_behind (Some text) = words_of text
 
--- the values of all, where each has one
+-- the values of all, if each has one
 abbrev pub all_of : List (Option ℕ) → Option (List ℕ)
 all_of [] = Some []
 all_of (None ∷ os) = None
@@ -56,7 +56,7 @@ contacts_of words = list_within most_records 1 4294967295 words
 abbrev pub nodes_of : List (List ℕ) → Option (List ℕ)
 nodes_of words = list_within 16 0 18446744073709551615 words
 
--- the word `/`, which parts lists
+-- the word `/`, which separates lists
 abbrev pub is_slash : List ℕ → Bool
 is_slash word = bytes_eq word (codes "/")
 

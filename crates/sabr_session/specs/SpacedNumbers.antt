@@ -11,6 +11,6 @@ abbrev pub listed_by : {N : Type 0} → (N → List ℕ) → List N → List ℕ
 listed_by spelled [] = codes "-"
 listed_by spelled (n ∷ ns) = spelled n ++ spaced_by spelled ns
 
--- the numbers in decimal digits, parted by single spaces, and `-` where there is none
+-- the numbers in decimal digits, separated by single spaces, and `-` where there is none
 abbrev pub list_text : List ℕ → List ℕ
 list_text ns = listed_by decimal ns

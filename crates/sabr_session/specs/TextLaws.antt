@@ -21,7 +21,7 @@ pub record IsReadBack (p : ContactPlan) (r : RouteRequest) (s : State) : Type 0 
   pub text : IsSessionOf p (digest_of p) (text_of (digest_of p) r s) true (Ok (r, s))
   pub old : IsUnlimited r → IsSessionOf p (digest_of p) (old_text_of (digest_of p) r s) true (Ok (r, s))
 
--- where two texts of a version are equal, so are their requests and their states
+-- if two texts of a version are equal, so are their requests and their states
 pub record AreApart (h : List ℕ) (r q : RouteRequest) (s t : State) : Type 0 where
   pub text : text_of h r s ≡ text_of h q t → (r ≡ q) × (s ≡ t)
   pub old : IsUnlimited r → IsUnlimited q → old_text_of h r s ≡ old_text_of h q t → (r ≡ q) × (s ≡ t)

@@ -21,7 +21,7 @@ pub record IsSessionText (p : ContactPlan) (bytes : List ℕ) : Type 0 where
   pub there : HasText (state_at p request place)
   pub spelled : (bytes ≡ session_text p request place) ⊎ (IsUnlimited request × (bytes ≡ old_session_text p request place))
 
--- the reader ended after these bytes: yes exactly where they are such a text, or memory was refused
+-- the reader ended after these bytes: yes exactly if they are such a text, or memory was refused
 abbrev pub EndsVerified : ContactPlan → List ℕ → ℕ → Result Bool SessionFault → Option (List ℕ) → ℕ → Type 0
 EndsVerified p given before (Ok placed) new after = IsAtEnd new × (after ≡ before) × (IsTrue placed ↔ IsSessionText p given)
 EndsVerified p given before (Err f) new after = (after ≡ before) × (f ≡ NoMemory)

@@ -26,7 +26,7 @@ use Rattle.commands.specs.runs.SessionRuns.{WritesNextPage, WritesPage, next_rep
 use Rattle.commands.specs.runs.NextPage.{report_from, text_after, NextGoesOn}
 use Rattle.commands.proofs.RunLemmas.RunsFollow.{next_within, text_begins}
 
--- of a reader that has these bytes, what was read is a beginning of them, and all where it ended
+-- of a reader that has these bytes, what was read is a beginning of them, and all of them if it ended
 some_more : (bytes given : List ℕ) (left : Option (List ℕ)) → Consumes (Some bytes) left given → (more : List ℕ) × (given ++ more ≡ bytes)
 some_more bytes given None taken = absurd taken
 some_more bytes given (Some more) taken = (more, sym taken)

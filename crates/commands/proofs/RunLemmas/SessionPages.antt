@@ -32,7 +32,7 @@ taken (suc k) (x ∷ xs) = elim (taken k xs) [
   | inr h ↦ inr (omega arith, ap suc h.1)
 ]
 
--- the list goes on after its first k members exactly where it has more than k
+-- the list goes on after its first k members exactly if it has more than k
 behind : {X : Type 0} (k : ℕ) (xs : List X) → nat_lt (length (take k xs)) (length xs) ≡ nat_lt k (length xs)
 behind k xs = elim (taken k xs) [
   | inl h ↦ ap (λ n. nat_lt n (length xs)) h.1
@@ -42,7 +42,7 @@ behind k xs = elim (taken k xs) [
 within : {X : Type 0} (k : ℕ) (xs : List X) → length (take k xs) ≤ length xs
 within k xs = elim (taken k xs) [ inl h ↦ let e = h.1 in let lt = h.0 in omega arith | inr h ↦ let e = h.1 in omega arith ]
 
--- a route is carried after the first page exactly where the list goes on
+-- a route is carried after the first page exactly if the list goes on
 more_behind : (p : ContactPlan) (r : RouteRequest) (k : ℕ) → IsPlan p
     → is_some (next_route p r (state_at p r (length (page_of p r 0 k)))) ≡ nat_lt k (length (routes p r))
 more_behind p r k rules = (steps_follow p r rules).carries (length (take k (routes p r))) (within k (routes p r)) ∙ behind k (routes p r)

@@ -61,7 +61,7 @@ hop_lines-at p r s i d path h =
     ∙ hop_lines-append p r [] (take i s) (get_or s i d ∷ drop (suc i) s) front
     ∙ ap (λ o. hop_lines p r [] (take i s) ++ cond (is_none o) (line_behind p r (take i s) (get_or s i d) ++ hop_lines p r (take i s ++ get_or s i d ∷ []) (drop (suc i) s)) []) good
 
--- one hop more
+-- one more hop
 pub hop_lines-take : (p : ContactPlan) (r : RouteRequest) (s : List ℕ) (i d : ℕ) → IsTrue (is_path p r s) → i < length s
     → hop_lines p r [] (take (suc i) s) ≡ hop_lines p r [] (take i s) ++ line_behind p r (take i s) (get_or s i d)
 hop_lines-take p r s i d path h =
@@ -87,7 +87,7 @@ told_place false false false false true f x g hops h = let same : AvoidedNode x 
 told_place false false false false false true x g hops h = let same : TooManyHops x ≡ g = cc in subst (λ y. hops_before y hops ≡ x - 1) same refl
 told_place false false false false false false x g hops h = absurd cc
 
--- before the fault of a number come the hops in front of it
+-- before the fault of a number come the hops before it
 place_told : (p : ContactPlan) (r : RouteRequest) (q : List ℕ) (n : ℕ) (g : HopFault) (hops : ℕ) → fault_at p r q n ≡ Some g → hops_before g hops ≡ length q
 place_told p r q n g hops e =
     elim (contact_named p n) as (λ o. option_map_or (contact_fault p r q) o (Some (NoSuchContact (length q + 1))) ≡ Some g → hops_before g hops ≡ length q) [

@@ -67,7 +67,7 @@ HaveTexts p r i (_ ∷ es) = HaveTexts p r i es
 
 -- what a run from place i gives: the pages joined are the next routes of the listing, as many as they were asked for or
 -- all that are left; it stands at the place after them, so its text is the one of that place; and a route is left
--- exactly where the listing goes on
+-- exactly if the listing goes on
 pub record FollowsListing (p : ContactPlan) (r : RouteRequest) (i : ℕ) (events : List Event) (given : List (List ℕ)) (y : RouteRequest × State) : Type 0 where
   pub pages : given ≡ page_of p r i (asked_for events)
   pub place : y ≡ (r, state_at p r (i + length given))

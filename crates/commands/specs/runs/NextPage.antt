@@ -19,7 +19,7 @@ abbrev pub report_from : ContactPlan → RouteRequest → ℕ → ℕ → List �
 report_from p r i count =
     report_text (map (record_of p r) (page_of p r i count)) (i + 1) (nat_lt (i + length (page_of p r i count)) (length (routes p r)))
 
--- the session text of the place after that page, where it is to be kept
+-- the session text of the place after that page, if it is to be kept
 abbrev pub text_after : Bool → ContactPlan → RouteRequest → ℕ → ℕ → List ℕ
 text_after keep p r i count = if keep then session_text p r (i + length (page_of p r i count)) else []
 

@@ -28,13 +28,13 @@ report_behind p r given page = report_text (map (record_of p r) page.0) (given +
 abbrev pub next_report : ContactPlan → RouteRequest → State → ℕ → List ℕ
 next_report p r s count = report_behind p r s.emitted (steps p r count s)
 
--- the text of a state where it is to be kept, and none where it isn't
+-- the text of a state if it is to be kept, and none if it isn't
 abbrev pub kept_text : Bool → ContactPlan → RouteRequest → State → List ℕ
 kept_text keep p r s = if keep then text_of (digest_of p) r s else []
 
--- what a page leaves on `out` and on the session's writer: both texts, whole and flushed; or, where one of them failed,
+-- what a page leaves on `out` and on the session's writer: both texts, whole and flushed; or, if one of them failed,
 -- a beginning of the report and no session, or the report, whole and flushed, and a beginning of the session; or nothing
--- where memory was refused
+-- if memory was refused
 abbrev pub WritesPage : Bool → List ℕ → List ℕ → Result (Unit {0}) Failure
     → Option (List ℕ) → ℕ → Option (List ℕ) → ℕ → Bool → Option (List ℕ) → ℕ → Option (List ℕ) → ℕ → Bool → Type 0
 WritesPage keep report text (Ok _) old before new after flushed old₁ before₁ new₁ after₁ flushed₁ =
@@ -47,7 +47,7 @@ WritesPage keep report text (Err failure.NoMemory) old before new after flushed 
 WritesPage keep report text (Err _) old before new after flushed old₁ before₁ new₁ after₁ flushed₁ = ⊥
 
 -- what a first run leaves over what reading gave: over a plan the report of the first page and the session of the place
--- that it reaches; nothing where the plan was refused
+-- that it reaches; nothing if the plan was refused
 abbrev pub WritesFirstPage : Result TabledPlan PlanFault → RouteRequest → Bool → ℕ → Result (Unit {0}) Failure
     → Option (List ℕ) → ℕ → Option (List ℕ) → ℕ → Bool → Option (List ℕ) → ℕ → Option (List ℕ) → ℕ → Bool → Type 0
 WritesFirstPage (Err fault) r keep count end old before new after flushed old₁ before₁ new₁ after₁ flushed₁ =
@@ -61,14 +61,14 @@ abbrev pub place_of : Result Seen SessionFault → Result (RouteRequest × State
 place_of (Ok s) = Ok (s.request, s.state)
 place_of (Err fault) = Err fault
 
--- an old session is read over what reading the plan gave: where the plan was refused it isn't, and nothing is asked of
+-- an old session is read over what reading the plan gave: if the plan was refused it isn't, and nothing is asked of
 -- the answer
 abbrev pub ReadsOldSession : Result TabledPlan PlanFault → Option (List ℕ) → ℕ → Result Seen SessionFault → Option (List ℕ) → ℕ → Type 0
 ReadsOldSession (Err fault) old before answer new after = Untouched old before new after
 ReadsOldSession (Ok p) old before answer new after = ReadsSession p old before answer new after
 
 -- what a next run leaves over what reading the plan and then the session gave: the report of the steps from that
--- session's state, and the session of the state that they reach; nothing where either was refused, the plan first
+-- session's state, and the session of the state that they reach; nothing if either was refused, the plan first
 abbrev pub WritesNextPage : Result TabledPlan PlanFault → Result (RouteRequest × State) SessionFault → Bool → ℕ → Result (Unit {0}) Failure
     → Option (List ℕ) → ℕ → Option (List ℕ) → ℕ → Bool → Option (List ℕ) → ℕ → Option (List ℕ) → ℕ → Bool → Type 0
 WritesNextPage (Err fault) session keep count end old before new after flushed old₁ before₁ new₁ after₁ flushed₁ =
@@ -83,21 +83,21 @@ WritesNextPage (Ok p) (Ok s) keep count end old before new after flushed old₁ 
 abbrev pub answer_line : Bool → List ℕ
 answer_line answer = if answer then codes "yes\n" else codes "no\n"
 
--- what is written of a session that was verified: the answer as a line, whole and flushed, or a beginning of it where the
--- writer failed; nothing where the session's reader failed or memory was refused
+-- what is written of a session that was verified: the answer as a line, whole and flushed, or a beginning of it if the
+-- writer failed; nothing if the session's reader failed or memory was refused
 abbrev pub WritesVerified : Result Bool SessionFault → Result Bool Failure → Option (List ℕ) → ℕ → Option (List ℕ) → ℕ → Bool → Type 0
 WritesVerified (Err fault) end old before new after flushed = (end ≡ Err (failure_of_session fault)) × Untouched old before new after
 WritesVerified (Ok answer) (Ok told) old before new after flushed = (told ≡ answer) × WrittenAndFlushed old before (answer_line answer) new after flushed
 WritesVerified (Ok answer) (Err failure.Write) old before new after flushed = WrittenInPart old before (answer_line answer) new after
 WritesVerified (Ok answer) (Err _) old before new after flushed = ⊥
 
--- an old session is verified over what reading the plan gave: where the plan was refused it isn't read, and nothing is
+-- an old session is verified over what reading the plan gave: if the plan was refused it isn't read, and nothing is
 -- asked of the answer
 abbrev pub VerifiesOldSession : Result TabledPlan PlanFault → Option (List ℕ) → ℕ → Result Bool SessionFault → Option (List ℕ) → ℕ → Type 0
 VerifiesOldSession (Err fault) old before answer new after = Untouched old before new after
 VerifiesOldSession (Ok p) old before answer new after = VerifiesText p.plan old before answer new after
 
--- what a verifying run leaves over what reading the plan and then verifying the session gave: nothing where the plan
+-- what a verifying run leaves over what reading the plan and then verifying the session gave: nothing if the plan
 -- was refused
 abbrev pub WritesAnswer : Result TabledPlan PlanFault → Result Bool SessionFault → Result Bool Failure
     → Option (List ℕ) → ℕ → Option (List ℕ) → ℕ → Bool → Type 0

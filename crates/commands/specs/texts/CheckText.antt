@@ -30,8 +30,8 @@ counts_text p =
 unfoldable pub check_text : ContactPlan → List ℕ
 check_text p = counts_text p ++ codes "digest " ++ encode_lower (digest_of p) ++ codes "\n"
 
--- what a check writes over what reading gave: over a plan its text, whole and flushed, or a beginning of it where the
--- writer failed, and it takes no memory; nothing where the plan was refused
+-- what a check writes over what reading gave: over a plan its text, whole and flushed, or a beginning of it if the
+-- writer failed, and it takes no memory; nothing if the plan was refused
 abbrev pub WritesCheck : Result TabledPlan PlanFault → Result (Unit {0}) Failure
     → Option (List ℕ) → ℕ → Option (List ℕ) → ℕ → Bool → Type 0
 WritesCheck (Err fault) end old before new after flushed = (end ≡ Err (failure_of_plan fault)) × Untouched old before new after

@@ -39,26 +39,26 @@ abbrev pub or_bad : {A : Type 0} → ValueName → Option A → Result A ValueFa
 or_bad name None = Err (Bad name)
 or_bad name (Some a) = Ok a
 
--- what a text that has to be there says
+-- what a required text says
 abbrev pub needed : {A : Type 0} → (List ℕ → Option A) → Option (List ℕ) → Option A
 needed reads None = None
 needed reads (Some text) = reads text
 
--- what a text says, or what stands where none is given
+-- what an optional text says, or the default
 abbrev pub given_or : {A : Type 0} → A → (List ℕ → Option A) → Option (List ℕ) → Option A
 given_or otherwise reads None = Some otherwise
 given_or otherwise reads (Some text) = reads text
 
--- goes on where nothing was refused
+-- goes on if nothing was refused
 abbrev pub and_then : {A B : Type 0} → Result A ValueFault → (A → Result B ValueFault) → Result B ValueFault
 and_then (Ok a) k = k a
 and_then (Err e) k = Err e
 
--- a value that has to be there
+-- a required value
 abbrev pub value_of : {A : Type 0} → (List ℕ → Option A) → Found → ValueName → Result A ValueFault
 value_of reads found name = or_bad name (needed reads (text_under found name))
 
--- a value that may be left out
+-- an optional value
 abbrev pub value_or : {A : Type 0} → A → (List ℕ → Option A) → Found → ValueName → Result A ValueFault
 value_or otherwise reads found name = or_bad name (given_or otherwise reads (text_under found name))
 
@@ -73,7 +73,7 @@ limits_of from to at margin found =
     and_then (value_or [] nodes_listed found Avoid) (λ avoid.
     Ok (record { from = from; to = to; at = at; margin_ppm = margin; max_hops = hops; avoid = avoid })))
 
--- what is asked for, word by word; the first bad word in this order is reported
+-- the values of a request, word by word; the first bad word in this order is reported
 unfoldable pub request_words : Found → Result RequestValues ValueFault
 request_words found =
     and_then (value_of node_of found From) (λ from.
@@ -97,7 +97,7 @@ request_of w =
     else if not (may_avoid w.from w.to w.avoid) then Err BadAvoid
     else Ok (with_limits (unlimited w.from w.to w.at w.margin_ppm) w.max_hops w.avoid)
 
--- the command of a name on the command line, where it is one
+-- the command of a name on the command line, if it is one
 abbrev pub command_named : List ℕ → Option CommandName
 command_named name =
     if bytes_eq name (codes "first") then Some command.First
@@ -124,7 +124,7 @@ abbrev pub has_contacts : CommandName → Bool
 has_contacts command.Explain = true
 has_contacts _ = false
 
--- what a command's values are; what it hasn't is none or empty
+-- the values of a command; what it doesn't have is none or empty
 pub record ValuesRead : Type 0 where
   pub request : Option RouteRequest
   pub count : Option ℕ
@@ -134,7 +134,7 @@ pub record ValuesRead : Type 0 where
 abbrev pub where_asked : {A : Type 0} → Bool → Result A ValueFault → Result (Option A) ValueFault
 where_asked asked value = if asked then and_then value (λ a. Ok (Some a)) else Ok None
 
--- the words of a request, where the command has one
+-- the words of a request, if the command has one
 abbrev pub words_where_asked : CommandName → Found → Result (Option RequestValues) ValueFault
 words_where_asked name found = where_asked (has_request name) (request_words found)
 
@@ -146,11 +146,11 @@ most_routes = 10000
 abbrev pub IsCount : ℕ → Type 0
 IsCount n = (1 ≤ n) × (n ≤ most_routes)
 
--- the count of routes, where the command has one
+-- the count of routes, if the command has one
 abbrev pub count_where_asked : CommandName → Found → Result (Option ℕ) ValueFault
 count_where_asked name found = where_asked (has_count name) (value_of (number_within 1 most_routes) found Count)
 
--- the contacts, where the command has them
+-- the contacts, if the command has them
 abbrev pub contacts_where_asked : CommandName → Found → Result (List ℕ) ValueFault
 contacts_where_asked name found = if has_contacts name then value_of (numbers_within 1 4294967295) found Contacts else Ok []
 

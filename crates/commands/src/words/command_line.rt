@@ -39,7 +39,7 @@ fn to<'a>(alloc: Global) -> Arg<'a> {
     required(alloc, "to", "NODE", help)
 }
 
-/// Makes the word for the time of asking.
+/// Makes the word for the time at which the bundle is at the source.
 fn at<'a>(alloc: Global) -> Arg<'a> {
     let help = "When the bundle is at the source, UTC: years 1970 to 9998";
     required(alloc, "at", "yyyy/mm/dd-hh:mm:ss", help)

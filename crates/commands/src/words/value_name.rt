@@ -12,7 +12,7 @@ pub enum ValueName {
     To,
     /// The time at which the bundle is at the source.
     At,
-    /// The margin on light times, in parts in a million.
+    /// The margin on light times, in parts per million.
     MarginPpm,
     /// The limit on hops.
     MaxHops,

@@ -78,7 +78,7 @@ fn numbers_to_slash<'a, A: Allocator + Copy>(
 ///
 /// # Errors
 ///
-/// [`NoMemory`] if a growth was refused. Then, and at `None`, what the vector holds is open.
+/// [`NoMemory`] if a growth was refused. Then, and for `None`, what the vector holds is unspecified.
 pub(crate) fn list_to_slash<'a, A: Allocator + Copy>(
     numbers: &mut Vec<u32, A>,
     text: &'a [u8],

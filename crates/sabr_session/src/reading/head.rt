@@ -62,7 +62,7 @@ fn asked(values: &RequestValues) -> Result<Request, SessionFault>
 }
 
 impl<A: Allocator + Copy> Head<A> {
-    /// Makes a head of which no line was read.
+    /// Makes a head before any line is read.
     pub(crate) fn new(alloc: A) -> Head<A>
         ensures { result ≡ nothing_said }
     {
@@ -80,10 +80,7 @@ impl<A: Allocator + Copy> Head<A> {
         ensures value { Leaves (header_said self.old line.now) result self.new }
         ensures refused { OnErr result (self.new ≡ self.old) }
     {
-        let Some(version) = header_of(line) else {
-            return Err(SessionFault::BadHeader);
-        };
-        self.version = version;
+        self.version = header_of(line).ok_or(SessionFault::BadHeader)?;
         Ok(())
     }
 
@@ -92,9 +89,7 @@ impl<A: Allocator + Copy> Head<A> {
         ensures value { Leaves (digest_said digest.now self.old line.now) result self.new }
         ensures refused { OnErr result (self.new ≡ self.old) }
     {
-        let Some(digits) = digest_named(line) else {
-            return Err(SessionFault::BadLine(2));
-        };
+        let digits = digest_named(line).ok_or(SessionFault::BadLine(2))?;
         if !is_digest_of(digits, digest) {
             return Err(SessionFault::OtherPlan);
         }
@@ -105,9 +100,7 @@ impl<A: Allocator + Copy> Head<A> {
     pub(crate) fn read_request(&self, line: &[u8]) -> Result<Request, SessionFault>
         ensures { MatchResult result (λ r. request_said self.now line.now ≡ Ok (record self.now { request = r })) (λ f. request_said self.now line.now ≡ Err f) }
     {
-        let Some(values) = request_of(self.version, line) else {
-            return Err(SessionFault::BadLine(3));
-        };
+        let values = request_of(self.version, line).ok_or(SessionFault::BadLine(3))?;
         asked(&values)
     }
 
@@ -116,10 +109,7 @@ impl<A: Allocator + Copy> Head<A> {
         ensures value { Leaves (emitted_said self.old line.now) result self.new }
         ensures refused { OnErr result (self.new ≡ self.old) }
     {
-        let Some(emitted) = emitted_of(line) else {
-            return Err(SessionFault::BadLine(4));
-        };
-        self.emitted = emitted;
+        self.emitted = emitted_of(line).ok_or(SessionFault::BadLine(4))?;
         Ok(())
     }
 
@@ -131,10 +121,7 @@ impl<A: Allocator + Copy> Head<A> {
         let Ok(listed) = last_listed(self.alloc, line) else {
             return Err(SessionFault::NoMemory);
         };
-        let Some(last) = listed else {
-            return Err(SessionFault::BadLine(5));
-        };
-        self.last = last;
+        self.last = listed.ok_or(SessionFault::BadLine(5))?;
         Ok(())
     }
 
@@ -143,10 +130,7 @@ impl<A: Allocator + Copy> Head<A> {
         ensures value { Leaves (count_said self.old line.now) result self.new }
         ensures refused { OnErr result (self.new ≡ self.old) }
     {
-        let Some(count) = count_of(line) else {
-            return Err(SessionFault::BadLine(6));
-        };
-        self.count = count;
+        self.count = count_of(line).ok_or(SessionFault::BadLine(6))?;
         Ok(())
     }
 

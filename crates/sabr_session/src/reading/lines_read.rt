@@ -112,7 +112,7 @@ fn read_other<'p, B: BestOf<A>, A: Allocator + Copy>(
 }
 
 impl<'p, B: BestOf<A>, A: Allocator + Copy> LinesRead<'p, B, A> {
-    /// Makes a text of which no line was read.
+    /// Makes a text before any line is read.
     pub(crate) fn new(alloc: A, plan: &'p Plan<A>, finder: B) -> LinesRead<'p, B, A>
         ensures { result ≡ opened_over plan.now (B.calls_of finder) }
     {

@@ -45,7 +45,7 @@ impl<A: Allocator + Copy> PartLine<A> {
     ///
     /// # Errors
     ///
-    /// [`NoMemory`] if a growth was refused. Then, and if the line isn't a part's, what the lists hold is open.
+    /// [`NoMemory`] if a growth was refused. Then, and if the line isn't a part's, what the lists hold is unspecified.
     #[tactic(auto, unfolding(crate::specs::SessionLines::part_of))]
     pub(crate) fn read(&mut self, line: &[u8]) -> Result<bool, NoMemory>
         ensures { IfOk result (λ found. part_of line.now ≡ (if found then Some self.new else None)) }

@@ -71,10 +71,7 @@ fn limited_of(text: &[u8]) -> Option<RequestValues>
     if !is_word(slash, b"/") {
         return None;
     }
-    let Some(nodes) = rest else {
-        return None;
-    };
-    let avoid = nodes_of(nodes)?;
+    let avoid = nodes_of(rest?)?;
     let max_hops = number_within(hops, 0, MOST_VALUE)? as u32;
     four_of(from, to, time, margin, max_hops, avoid)
 }

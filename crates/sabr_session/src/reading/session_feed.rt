@@ -33,7 +33,7 @@ impl<'p, B: BestOf<A>, A: Allocator + Copy> Model for SessionFeed<'p, B, A> {
 }
 
 impl<'p, B: BestOf<A>, A: Allocator + Copy> SessionFeed<'p, B, A> {
-    /// Makes a feed to which no piece was given. The digest is that of the plan. It takes no memory.
+    /// Makes a feed before its first piece. The digest is that of the plan. It takes no memory.
     pub fn new(alloc: A, plan: &'p Plan<A>, digest: &[u8; 32], finder: B) -> SessionFeed<'p, B, A>
         requires { digest.now ≡ digest_of plan.now.plan }
         ensures { result ≡ Ok (opened_over plan.now (B.calls_of finder)) }

@@ -1,4 +1,4 @@
-//! A session text that a reader gives.
+//! Reading a session text from a reader.
 
 ghost use Rattle.std.specs.Prelude.{◌≡◌, ◌+◌, IfOk, IfErr};
 ghost use Rattle.sabr_plan.specs.Canonical.{digest_of};

@@ -26,7 +26,8 @@ impl<'w, W: Write> TextBuffer<'w, W> {
         }
     }
 
-    /// Puts the text after the bytes held. What doesn't fit makes way first, or goes to the writer itself.
+    /// Puts the text after the bytes held. If it doesn't fit, these are sent first; a text longer than the buffer then goes
+    /// straight to the writer.
     ///
     /// # Errors
     ///

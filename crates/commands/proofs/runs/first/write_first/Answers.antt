@@ -19,6 +19,8 @@ returns g c =
       | else-keep w ↦ ap is_some w.digest-is ∙ sym w.if-keep.false
     ]
     in
-    let written = rw (c.in_ok-listing.ensures {u = tt}) at c.write_page.ensures in
-    (Ok c.in_ok-plan.plan, c.in_ok-plan.ensures,
-    rw (← keeps, ← first_report_is p r c.args.count c.tell_rules.ensures, ← first_place p r c.args.count c.tell_rules.ensures) written)
+    let written = rw (c.in_ok-listing.ensures {u = tt}) at c.write_page.ensures in (
+      Ok c.in_ok-plan.plan,
+      c.in_ok-plan.ensures,
+      rw (← keeps, ← first_report_is p r c.args.count c.tell_rules.ensures, ← first_place p r c.args.count c.tell_rules.ensures) written,
+    )

@@ -1,4 +1,4 @@
--- Numbers, or `-` where there are none.
+-- Numbers, or `-` if there are none.
 use Rattle.std.proofs.Common.{◌≡◌, ℕ, true, false, List, Option, Some, None, [], map, length, ◌<◌, sym, ap, ◌∙◌, arith}
 use Rattle.std.proofs.lemmas.Bool.Decides.{nat_tests}
 use Rattle.std.specs.Option.{MatchOption}

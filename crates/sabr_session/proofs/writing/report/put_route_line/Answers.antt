@@ -1,4 +1,4 @@
--- The pieces in front of the numbers, the numbers, and the end of the line.
+-- The pieces before the numbers, the numbers, and the end of the line.
 use Rattle.std.proofs.Common.{◌≡◌, [], ◌∷◌, ◌++◌, codes, decimal}
 use Rattle.std.specs.List.{concat}
 use Rattle.std.proofs.lemmas.List.Folds.{concat-append}
