@@ -8,21 +8,21 @@ use std::alloc::{Allocator, Global};
 #[derive(Clone, Copy, Debug, PartialEq, Eq)]
 pub struct NodeId(pub usize);
 
-/// A part: its prefix is the first `length` numbers of the route given as number `leaf`, from 0.
+/// A part. Its prefix is the first `length` numbers of the route given as number `leaf`, counted from 0.
 #[derive(Debug, Drop)]
 pub struct Node<A: Allocator + Copy = Global> {
-    /// The route given of which the prefix is a beginning, counted from 0.
+    /// The route given that the prefix begins, counted from 0.
     pub leaf: usize,
     /// How many of its numbers are the prefix.
     pub length: usize,
-    /// The numbers that the part leaves out behind the prefix.
+    /// The numbers that no route of the part takes right after the prefix.
     pub excluded: Excluded<A>,
     /// The least route of the part, if it has one.
     pub route: Option<Route<A>>,
 }
 
-/// What the undo of one route needs: the node that carried it, how many nodes there were before, and which
-/// route was the last.
+/// What taking one route back needs: the node that carried it, how many nodes there were before, and which route was
+/// the last.
 #[derive(Clone, Copy, Debug, PartialEq, Eq)]
 pub struct Entry {
     pub node: NodeId,

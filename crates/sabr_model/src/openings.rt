@@ -12,7 +12,7 @@ use indexmap::IndexSet;
 use std::alloc::{AllocError, Allocator};
 use std::hash::{BuildHasherDefault, FoldHasher};
 
-/// The openings of contacts; nothing where they weren't kept from the first contact on.
+/// The openings of contacts, or nothing if they weren't kept from the first contact on.
 #[derive(Drop)]
 pub struct Openings<A: Allocator + Copy> {
     /// What no two contacts share.
@@ -32,7 +32,7 @@ impl<A: Allocator + Copy> Openings<A> {
         }
     }
 
-    /// Gives no set, for contacts that are there already. It takes no memory.
+    /// Makes no set, for contacts that are there already. It takes no memory.
     pub fn without_set(alloc: A) -> Openings<A>
         ensures { result.kept ≡ false }
     {
@@ -42,7 +42,7 @@ impl<A: Allocator + Copy> Openings<A> {
         }
     }
 
-    /// Tells whether one of the contacts has this sender, receiver and start. One step where the set is kept.
+    /// Returns true if one of the contacts has this sender, receiver and start. It takes one step if the set is kept.
     pub fn has(&self, contacts: &[Contact], from: u64, to: u64, start: u64) -> bool
         requires { KnowsOpenings self.now.kept self.now.set.keys contacts.now }
         ensures { result ≡ list_any (opens from to start) contacts.now }
@@ -57,7 +57,7 @@ impl<A: Allocator + Copy> Openings<A> {
         }
     }
 
-    /// Makes room for one more.
+    /// Reserves room for one more.
     pub fn reserve(&mut self) -> Result<(), AllocError>
         ensures kept { self.new.kept ≡ self.old.kept }
         ensures set { self.new.set.keys ≡ self.old.set.keys }
@@ -68,7 +68,7 @@ impl<A: Allocator + Copy> Openings<A> {
         Ok(())
     }
 
-    /// Puts down that of a contact that goes behind the others.
+    /// Adds that of a contact that comes after the others.
     pub fn note(&mut self, contact: &Contact)
         ensures { (contacts : List Contact) → KnowsOpenings self.old.kept self.old.set.keys contacts → list_any (opens contact.now.from contact.now.to contact.now.start) contacts ≡ false → KnowsOpenings self.new.kept self.new.set.keys (contacts ++ contact.now ∷ []) }
     {
@@ -83,7 +83,7 @@ impl<A: Allocator + Copy> Openings<A> {
         };
     }
 
-    /// Takes out that of the contact with this sender, receiver and start. It takes no memory.
+    /// Removes that of the contact with this sender, receiver and start. It takes no memory.
     pub fn forget(&mut self, from: u64, to: u64, start: u64)
         ensures { (contacts : List Contact) → KnowsOpenings self.old.kept self.old.set.keys contacts → KnowsOpenings self.new.kept self.new.set.keys (filter (λ c. not (opens from to start c)) contacts) }
     {

@@ -19,14 +19,14 @@ const LINE_LIMIT: usize = 255;
 /// The greatest number of lines.
 const LINES_LIMIT: u32 = 1000000;
 
-/// What the lines so far leave, how many there are, and the bytes of the line behind them.
+/// The plan that the lines so far make, how many there are, and the bytes of the line after them.
 #[derive(Drop)]
 pub struct PlanFeed<A: Allocator + Copy> {
     /// How many lines LF has ended.
     lines: u32,
-    /// What they leave.
+    /// The plan that they make.
     reading: PlanReading<A>,
-    /// The bytes of the line behind them.
+    /// The bytes of the line after them.
     held: ArrayVec<u8, LINE_LIMIT>,
 }
 
@@ -42,7 +42,7 @@ impl<A: Allocator + Copy> Model for PlanFeed<A> {
     ghost invariant = { λ f. (f.lines ≤ 1000000) × (length f.held.items ≤ 255 * (1000000 - f.lines)) × (length f.held.items ≤ 255) × IsTrue (is_one_line f.held.items) };
 }
 
-/// Tells where the first LF stands.
+/// Returns the place of the first LF.
 pub fn line_end(text: &[u8]) -> Option<usize>
     ensures { MatchOption result (IsTrue (is_one_line text.now)) (λ end. (end < length text.now) × (slice_index text.now end ≡ 10) × IsTrue (is_one_line (take end text.now))) }
 {
@@ -53,7 +53,7 @@ impl<A: Allocator + Copy> PlanFeed<A> {
     ghost use Rattle.sabr_plan.specs.Reading.{judged, at_line, limited, read_line, ended_line, broken_line};
     ghost use Rattle.sabr_plan.specs.Feeding.{Fed, nothing_fed, outcome, IsFed, weight, Answers};
 
-    /// Begins before the first piece.
+    /// Starts before the first piece.
     pub fn new(alloc: A) -> PlanFeed<A>
         ensures { result ≡ nothing_fed }
     {
@@ -106,7 +106,7 @@ impl<A: Allocator + Copy> PlanFeed<A> {
         }
     }
 
-    /// Gives the plan that the lines leave.
+    /// Returns the plan that the lines make.
     fn into_plan(self) -> Result<Plan<A>, NoMemory>
         ensures { IfOk result (λ p. p.plan ≡ self.reading.plan) }
     {
@@ -118,7 +118,7 @@ impl<A: Allocator + Copy> PlanFeed<A> {
         reading.into_plan()
     }
 
-    /// Tells what the text ends with where the reader failed.
+    /// Returns the fault of a text whose reader failed.
     pub fn failed(&self) -> PlanFault
         ensures kind { result.kind ≡ kind.Read }
         ensures value { outcome self.now [] false ≡ Err result }
@@ -129,7 +129,7 @@ impl<A: Allocator + Copy> PlanFeed<A> {
         }
     }
 
-    /// Ends the line with these bytes, behind which LF or the end of the text stands.
+    /// Ends the line with these bytes. LF or the end of the text comes after them.
     fn end_line(&mut self, back: &[u8]) -> Result<(), PlanFault>
         requires { IsTrue (is_one_line back.now) }
         ensures value { LeavesAt (read_line (self.old.lines + 1) self.old.reading (self.old.held ++ back.now)) result self.new.reading }
@@ -180,7 +180,7 @@ impl<A: Allocator + Copy> PlanFeed<A> {
         };
     }
 
-    /// Holds what comes behind the last LF of a piece.
+    /// Holds what comes after the last LF of a piece.
     fn hold(&mut self, bytes: &[u8]) -> Result<(), PlanFault>
         requires { IsTrue (is_one_line bytes.now) }
         ensures ok { OnOk result (self.new ≡ record { lines = self.old.lines; reading = self.old.reading; held = self.old.held ++ bytes.now }) }

@@ -1,4 +1,4 @@
-//! What the lines of a plan text leave, one after the other.
+//! The plan that the lines of a text make, one after another.
 
 ghost use Rattle.std.specs.Prelude.{◌≡◌, None, [], IfOk};
 ghost use Rattle.sabr_plan.specs.Commands.{HasBounds};
@@ -16,13 +16,13 @@ use std::marker::Model;
 /// The gathered contacts and ranges of a plan, and the time that relative times are counted from.
 #[derive(Drop)]
 pub struct PlanReading<A: Allocator + Copy> {
-    /// Where the plan takes its memory.
+    /// The allocator of the plan.
     alloc: A,
     /// The contacts so far.
     contacts: GatheredContacts<A>,
     /// The ranges so far.
     ranges: GatheredRanges<A>,
-    /// What relative times are counted from, in seconds, once a line has said it.
+    /// The second from which relative times count, if a line has set it.
     reference: Option<u64>,
 }
 
@@ -34,7 +34,7 @@ impl<A: Allocator + Copy> Model for PlanReading<A> {
     ghost view = { λ r. record { plan = record { contacts = r.contacts.contacts; ranges = r.ranges; greatest = r.contacts.greatest }; reference = r.reference } };
 }
 
-/// Gives a refusal of the plan, as a kind of bad line.
+/// Returns a refusal of the plan as the fault of a line.
 fn kind_of(fault: AddFault) -> PlanKind
     ensures { result ≡ kind_of fault }
 {
@@ -52,7 +52,7 @@ fn kind_of(fault: AddFault) -> PlanKind
 impl<A: Allocator + Copy> PlanReading<A> {
     ghost use Rattle.sabr_plan.specs.Reading.{nothing_read, obeyed, judged};
 
-    /// Begins before the first line.
+    /// Starts before the first line.
     pub fn new(alloc: A) -> PlanReading<A>
         ensures { result ≡ nothing_read }
     {
@@ -64,7 +64,7 @@ impl<A: Allocator + Copy> PlanReading<A> {
         }
     }
 
-    /// Gives the plan that the lines leave.
+    /// Returns the plan that the lines make.
     pub fn into_plan(self) -> Result<Plan<A>, NoMemory>
         ensures { IfOk result (λ p. p.plan ≡ self.plan) }
     {

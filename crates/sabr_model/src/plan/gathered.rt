@@ -12,7 +12,7 @@ use crate::openings::Openings;
 use std::alloc::Allocator;
 
 impl<A: Allocator + Copy> Plan<A> {
-    /// Gives the plan of these contacts and ranges; `NoMemory` where memory for its tables is refused.
+    /// Makes the plan of these contacts and ranges, or returns `NoMemory` if memory for its tables is refused.
     ///
     /// It takes some steps for each contact and range.
     pub fn gathered(

@@ -39,7 +39,7 @@ impl<A: Allocator + Copy> Model for GatheredContacts<A> {
 }
 
 impl<A: Allocator + Copy> GatheredContacts<A> {
-    /// Begins with no contact. It takes no memory.
+    /// Makes an empty value. It takes no memory.
     pub fn new(alloc: A) -> GatheredContacts<A>
         ensures { result ≡ record { contacts = []; ranges = []; greatest = 0 } }
     {
@@ -50,8 +50,8 @@ impl<A: Allocator + Copy> GatheredContacts<A> {
         }
     }
 
-    /// Adds a contact, as `Plan::add_contact` does, and answers its number: nodes, times in seconds, rate in bytes per second,
-    /// and the same refusals. It takes one step.
+    /// Adds a contact, as `Plan::add_contact` does, and returns its number: nodes, times in seconds, rate in bytes per
+    /// second, and the same refusals. It takes one step.
     pub fn add(
         &mut self,
         from: u64,
@@ -75,7 +75,7 @@ impl<A: Allocator + Copy> GatheredContacts<A> {
         self.put(from, to, start, end, rate)
     }
 
-    /// Tells why a contact is refused, where it is.
+    /// Returns why a contact is refused, or none if it isn't.
     fn fault(&self, from: u64, to: u64, start: u64, end: u64) -> AddFault
         ensures { result ≡ unwrap_or (contact_refusal self.now from to start end) NoMemory }
     {
@@ -85,7 +85,7 @@ impl<A: Allocator + Copy> GatheredContacts<A> {
         refusal((from, to), (start, end), clashes, clash, given).unwrap_or(AddFault::NoMemory)
     }
 
-    /// Tells whether one of the contacts has this sender, receiver and start.
+    /// Returns true if one of the contacts has this sender, receiver and start.
     fn has_opening(&self, from: u64, to: u64, start: u64) -> bool
         ensures { result ≡ list_any (opens from to start) self.now.contacts }
     {
@@ -94,7 +94,7 @@ impl<A: Allocator + Copy> GatheredContacts<A> {
             .any(|c| from == c.from && to == c.to && start == c.start)
     }
 
-    /// Adds a contact that is refused as a duplicate or not at all.
+    /// Adds a contact that is refused only if it is a duplicate.
     fn put(&mut self, from: u64, to: u64, start: u64, end: u64, rate: u64) -> Result<u32, AddFault>
         requires from { 0 < from }
         requires to { 0 < to }
@@ -131,9 +131,9 @@ impl<A: Allocator + Copy> GatheredContacts<A> {
         Ok(number)
     }
 
-    /// Deletes the contact with this sender, receiver and start, and answers its number, which is not given again.
+    /// Deletes the contact with this sender, receiver and start, and returns its number, which is not given again.
     ///
-    /// `NothingToDelete` where there is no such contact; then the contacts stay as they were. It takes no memory.
+    /// `NothingToDelete` if there is no such contact; then the contacts stay as they were. It takes no memory.
     pub fn delete(&mut self, from: u64, to: u64, start: u64) -> Result<u32, AddFault>
         ensures value { result ≡ ok_or (number_of_opening self.old from to start) NothingToDelete }
         ensures ok { OnOk result (self.new ≡ without_contact self.old from to start) }
@@ -149,7 +149,7 @@ impl<A: Allocator + Copy> GatheredContacts<A> {
         Ok(number)
     }
 
-    /// Gives the contacts by number, and the greatest number that was given. It takes no memory.
+    /// Returns the contacts by number, and the greatest number that was given. It takes no memory.
     pub fn into_contacts(self) -> (Vec<Contact, A>, u32)
         ensures contacts { result.0.items ≡ self.contacts }
         ensures greatest { result.1 ≡ self.greatest }

@@ -1,4 +1,4 @@
-//! A list of ranges in order, found and merged by it.
+//! A list of ranges in order, which are found and merged by that order.
 
 ghost use Rattle.std.specs.Prelude.{◌≡◌, [], ◌∷◌, ◌++◌, Err, OnOk, OnErr, IsTrue, IsFalse, IsOk, filter, length, not};
 ghost use Rattle.std.specs.List.{list_any};
@@ -37,7 +37,7 @@ impl<A: Allocator + Copy> Model for OrderedRanges<A> {
 }
 
 impl<A: Allocator + Copy> OrderedRanges<A> {
-    /// Begins with no range. It takes no memory.
+    /// Makes an empty value. It takes no memory.
     pub fn new(alloc: A) -> OrderedRanges<A>
         ensures { result ≡ [] }
     {
@@ -58,14 +58,14 @@ impl<A: Allocator + Copy> OrderedRanges<A> {
         }
     }
 
-    /// Tells how many there are.
+    /// The number of ranges.
     pub fn len(&self) -> usize
         ensures { result ≡ length self.now }
     {
         self.ranges.len()
     }
 
-    /// Tells whether one of the ranges holds at some second of a range of the same ordered pair.
+    /// Returns true if one of the ranges overlaps a range of the same ordered pair.
     pub fn overlaps(&self, range: &Range) -> bool
         ensures { result ≡ list_any (overlap range.now) self.now }
     {
@@ -117,7 +117,7 @@ impl<A: Allocator + Copy> OrderedRanges<A> {
         Ok(())
     }
 
-    /// Gives the ranges as a list.
+    /// The ranges as a list.
     pub fn into_list(self) -> Vec<Range, A>
         ensures { result.items ≡ self }
     {

@@ -9,7 +9,7 @@ use super::ranges::overlap;
 use crate::contact::Range;
 use std::alloc::{AllocError, Allocator};
 
-/// So many buckets are there.
+/// The number of buckets.
 const BUCKETS: usize = 8192;
 
 /// What stands beside a range in the chain of its bucket.
@@ -21,7 +21,7 @@ pub struct RangeLink {
     pub depth: usize,
 }
 
-/// Gives the bucket of an ordered pair.
+/// The bucket of an ordered pair.
 pub fn bucket_of(one: u64, other: u64) -> usize
     ensures value { result ≡ bucket_of_pair one other }
     ensures limit { result < 8192 }
@@ -41,9 +41,9 @@ pub fn size_table<A: Allocator + Copy>(lasts: &mut Vec<usize, A>) -> Result<(), 
     Ok(())
 }
 
-/// Gives one more than the last place where a range of the bucket stands, 0 where none does.
+/// Returns one more than the last place where a range of the bucket stands, 0 if none does.
 ///
-/// The table may tell of ranges that are gone; so it is asked whether the range there is of the bucket.
+/// The table may name ranges that are gone, so the range there is compared with the bucket.
 pub fn last_of(ranges: &[Range], lasts: &[usize], bucket: usize) -> usize
     requires bucket { bucket < length lasts.now }
     requires tells { TellsLast ranges.now bucket (slice_index lasts.now bucket) }
@@ -64,8 +64,8 @@ pub fn last_of(ranges: &[Range], lasts: &[usize], bucket: usize) -> usize
     }
 }
 
-/// Tells whether one of the ranges holds at some second of a range of the same ordered pair, of which the chain ends
-/// behind the place before `last`.
+/// Returns true if one of the ranges overlaps a range of the same ordered pair, whose chain ends at the place before
+/// `last`.
 pub fn overlaps_in_chain(ranges: &[Range], links: &[RangeLink], last: usize, range: &Range) -> bool
     requires as_many { length links.now ≡ length ranges.now }
     requires linked { AreLinked ranges.now links.now }
