@@ -1,17 +1,20 @@
 -- What a route read off a table comes to: the answer, and the looks at contacts.
 use Rattle.std.proofs.Common.{◌≡◌, inl, inr, ℕ, ◌+◌, ◌-◌, ◌*◌, ◌<◌, ◌≤◌, ◌⊎◌, Bool, true, false, cond, List, [], ◌∷◌, ◌++◌, length, Option, Some, None, ap, ◌∙◌, arith, subst, length-append}
-use Rattle.std.specs.Prelude.{IfSome, IfNone, nat_eq}
+use Rattle.std.specs.Prelude.{IfSome, IfNone, IsTrue, nat_eq}
 use Rattle.std.specs.Set.{distinct_count, is_member, unique_keys}
 use Rattle.std.proofs.Math.Nat.{mul-le-mul_right}
 use Rattle.sabr_model.specs.declared.contact.Contact.{Contact}
 use Rattle.sabr_model.specs.Record.{RouteRecord}
 use Rattle.sabr_model.specs.Table.{ends_of, node_count}
+use Rattle.sabr_model.specs.Route.{is_prefix}
+use Rattle.sabr_search.specs.Part.{IsLeast}
 use Rattle.sabr_search.specs.Task.{SearchTask, IsTask, IsBehind}
 use Rattle.sabr_search.specs.Picks.{IsLeastWay}
 use Rattle.sabr_search.specs.Told.{hops_told}
 use Rattle.sabr_search.specs.Answers.{IsAnswered}
 use Rattle.sabr_search.specs.Following.{IsFound}
-use Rattle.sabr_search.proofs.Prefixes.{IsPrefix}
+use Rattle.sabr_search.proofs.Prefixes.{IsPrefix, prefix_facts}
+use Rattle.sabr_search.proofs.FirstLimits.{answered_is_least}
 use Rattle.sabr_search.proofs.PartWays.{way_is_route}
 use Rattle.sabr_search.proofs.Law.{behind_sizes}
 
@@ -62,6 +65,27 @@ picks_within n c x told looks some few short le =
 
 pub picks_cut : (x c told looks : ℕ) → told ≤ c → looks ≤ 2 * c + x * c + told → looks ≤ (3 * x + 3) * c
 picks_cut x c told looks short le = omega arith
+
+-- what an answer that is told within two passes comes to
+module _ (task : SearchTask) (is : IsTask task) (prefix : List ℕ) (behind : IsBehind task prefix) (fits : IsTrue (is_prefix task.plan task.request prefix)) (most : ℕ) (most_is : most ≡ task.request.max_hops)
+    (o : Option RouteRecord) (told : IsAnswered task prefix (most - length prefix) o) where
+  facts : IsPrefix task.plan task.request prefix
+  facts = prefix_facts task.plan task.request prefix fits
+
+  all : length prefix + (most - length prefix) ≡ task.request.max_hops
+  all = omega (arith, facts.within, most_is)
+
+  pub told_least : IsLeast task.plan task.request prefix task.excluded o
+  told_least = answered_is_least task is prefix behind facts (most - length prefix) all o told
+
+  told_short : hops_told o ≤ length task.plan.contacts
+  told_short = answered_sizes task is prefix behind facts (most - length prefix) all o told
+
+  pub told_bound : (looks : ℕ) → looks ≤ 2 * length task.plan.contacts + hops_told o → looks ≤ (3 * length task.table + 1) * length task.plan.contacts
+  told_bound looks few = picks_within (length task.table) (length task.plan.contacts) 0 (hops_told o) looks (omega (arith, is.start_in)) (omega arith) told_short (omega (arith, few))
+
+  pub told_cut : (looks : ℕ) → looks ≤ 2 * length task.plan.contacts + hops_told o → looks ≤ (3 * (hops_told o - length prefix) + 3) * length task.plan.contacts
+  told_cut looks few = picks_cut (hops_told o - length prefix) (length task.plan.contacts) (hops_told o) looks told_short (omega (arith, few))
 
 pub passes_more : (x c looks : ℕ) → 0 < x → looks ≤ 4 * c → looks ≤ (3 * x + 3) * c
 passes_more x c looks some le =

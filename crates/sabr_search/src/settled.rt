@@ -58,39 +58,6 @@ fn least_route<A: Allocator + Copy>(
     layers.answer_by(alloc, task, looks, prefix, limits, &settling.arrival, first)
 }
 
-/// Returns the least route after the prefix, by the tables that are kept or else by a search.
-fn least_searched<A: Allocator + Copy>(
-    alloc: A,
-    settling: &mut Settling<A>,
-    layers: &mut Layers<A>,
-    rungs: &mut Rungs<A>,
-    task: &Task<'_, A>,
-    looks: &mut Looks,
-    max_hops: u32,
-    prefix: &[u32],
-) -> Result<Option<Route<A>>, NoMemory>
-    requires task { IsTask task.now }
-    requires behind { IsBehind task.now prefix.now }
-    requires fits { IsTrue (is_prefix task.now.plan task.now.request prefix.now) }
-    requires hops { max_hops ≡ task.now.request.max_hops }
-    requires nodes { length task.now.table ≤ 40000 }
-    requires few { looks.old.count ≤ 2 * length task.now.plan.contacts }
-    requires kept { AreRungs (tabled_of task.now) task.now.request rungs.old }
-    ensures kept { rungs.new.rungs ≡ rungs.old.rungs }
-    ensures answered { IfOk result (IsAnswered task.now prefix.now (max_hops - length prefix.now)) }
-    ensures bound { looks.new.count ≤ (3 * length task.now.table + 1) * length task.now.plan.contacts }
-    ensures counted { IfOk result (λ answer. hops_told answer ≤ looks.new.count) }
-    ensures cut { IfOk result (λ answer. max_hops ≡ most_hops → looks.new.count ≤ (3 * (hops_told answer - length prefix.now) + 3) * length task.now.plan.contacts) }
-    ensures longer { IfOk result (λ answer. IfSome answer (λ route. length prefix.now < length route.contacts)) }
-{
-    let most = task.two_passes();
-    let followed = rungs.follow(layers, task, looks, most, prefix, max_hops)?;
-    if let Some(answer) = followed {
-        return Ok(answer);
-    }
-    least_route(alloc, settling, layers, task, looks, max_hops, prefix)
-}
-
 /// The least route after the prefix, or that there is none, if the answer to a wide question shows it. That answer is
 /// kept.
 fn told_wide<A: Allocator + Copy>(
@@ -130,8 +97,49 @@ fn told_wide<A: Allocator + Copy>(
     kept.answers.tell(alloc, task, looks, most, prefix, left)
 }
 
-/// The least route after the prefix: told by an answer that is kept, or by that to a wide question, or else by a
-/// search, whose answer is kept.
+/// The least route after the prefix: told by the tables that are kept, or by the answer to a wide question, or else by
+/// a search. The answer is kept.
+fn least_searched<A: Allocator + Copy>(
+    alloc: A,
+    settling: &mut Settling<A>,
+    layers: &mut Layers<A>,
+    kept: &mut Kept<A>,
+    task: &Task<'_, A>,
+    looks: &mut Looks,
+    max_hops: u32,
+    prefix: &[u32],
+) -> Result<Option<Route<A>>, NoMemory>
+    requires task { IsTask task.now }
+    requires behind { IsBehind task.now prefix.now }
+    requires fits { IsTrue (is_prefix task.now.plan task.now.request prefix.now) }
+    requires hops { max_hops ≡ task.now.request.max_hops }
+    requires nodes { length task.now.table ≤ 40000 }
+    requires few { looks.old.count ≤ 2 * length task.now.plan.contacts }
+    requires kept { IsKept (tabled_of task.now) task.now.request kept.old }
+    ensures kept { IsKept (tabled_of task.now) task.now.request kept.new }
+    ensures answered { IfOk result (IsAnswered task.now prefix.now (max_hops - length prefix.now)) }
+    ensures bound { looks.new.count ≤ (3 * length task.now.table + 1) * length task.now.plan.contacts }
+    ensures counted { IfOk result (λ answer. hops_told answer ≤ looks.new.count) }
+    ensures cut { IfOk result (λ answer. max_hops ≡ most_hops → looks.new.count ≤ (3 * (hops_told answer - length prefix.now) + 3) * length task.now.plan.contacts) }
+    ensures longer { IfOk result (λ answer. IfSome answer (λ route. length prefix.now < length route.contacts)) }
+{
+    let most = task.two_passes();
+    let left = max_hops as usize - prefix.len();
+    let followed = kept.rungs.follow(layers, task, looks, most, prefix, max_hops)?;
+    if let Some(answer) = followed {
+        kept.answers.keep_after(task, prefix, left, &answer);
+        return Ok(answer);
+    }
+    let wide = told_wide(alloc, settling, layers, kept, task, looks, prefix, left)?;
+    if let Some(answer) = wide {
+        return Ok(answer);
+    }
+    let answer = least_route(alloc, settling, layers, task, looks, max_hops, prefix)?;
+    kept.answers.keep_after(task, prefix, left, &answer);
+    Ok(answer)
+}
+
+/// The least route after the prefix: told by an answer that is kept, or else as by a search.
 fn least_beside<A: Allocator + Copy>(
     alloc: A,
     settling: &mut Settling<A>,
@@ -162,22 +170,7 @@ fn least_beside<A: Allocator + Copy>(
     if let Some(answer) = told {
         return Ok(answer);
     }
-    let wide = told_wide(alloc, settling, layers, kept, task, looks, prefix, left)?;
-    if let Some(answer) = wide {
-        return Ok(answer);
-    }
-    let answer = least_searched(
-        alloc,
-        settling,
-        layers,
-        &mut kept.rungs,
-        task,
-        looks,
-        max_hops,
-        prefix,
-    )?;
-    kept.answers.keep_after(task, prefix, left, &answer);
-    Ok(answer)
+    least_searched(alloc, settling, layers, kept, task, looks, max_hops, prefix)
 }
 
 /// Keeps what makes later searches with this answer shorter. It takes at most as many looks as two passes over all

@@ -3,7 +3,7 @@ use Rattle.sabr_search.specs.Told.{hops_told}
 use Rattle.sabr_search.proofs.Prefixes.{prefix_facts}
 use Rattle.sabr_search.proofs.Law.{contacts_few}
 use Rattle.sabr_search.proofs.KeptAnswers.{found_answers}
-use Rattle.sabr_search.proofs.Beside.{told_sizes, told_longer, picks_within, picks_cut}
+use Rattle.sabr_search.proofs.Beside.{told_sizes, told_longer, picks_within, picks_cut, told_bound, told_cut}
 use Rattle.sabr_search.proofs.settled.least_searched.Goals as goal
 
 pub follow-requires-clause-few : goal.follow-requires-clause-few
@@ -46,3 +46,23 @@ returns-in-Some-clause-cut g c = λ most.
 
 pub returns-in-Some-clause-longer : goal.returns-in-Some-clause-longer
 returns-in-Some-clause-longer g c = told_longer c.args.task.now c.args.prefix.now c.args.max_hops c.in-Some.answer (rw c.in-Some.is at c.in_ok-followed.ensures.some)
+
+pub overflow_sub-left : goal.overflow_sub-left
+overflow_sub-left g c =
+    let facts = prefix_facts c.args.task.now.plan c.args.task.now.request c.args.prefix.now c.requires.fits in
+    omega (arith, facts.within, c.requires.hops)
+
+pub told_wide-requires-clause-many : goal.told_wide-requires-clause-many
+told_wide-requires-clause-many g c =
+    let facts = prefix_facts c.args.task.now.plan c.args.task.now.request c.args.prefix.now c.requires.fits in
+    omega (arith, facts.within, c.requires.hops, c.ranges.max_hops.fits)
+
+pub returns-in-Some-wide-clause-bound : goal.returns-in-Some-wide-clause-bound
+returns-in-Some-wide-clause-bound g c =
+    told_bound c.args.task.now c.requires.task c.args.prefix.now c.requires.behind c.requires.fits c.args.max_hops c.requires.hops c.in-Some-wide.answer (rw c.in-Some-wide.is at c.in_ok-wide.ensures.told)
+    c.told_wide.new.looks.count (rw c.in-Some-wide.is at c.in_ok-wide.ensures.looks)
+
+pub returns-in-Some-wide-clause-cut : goal.returns-in-Some-wide-clause-cut
+returns-in-Some-wide-clause-cut g c = λ most.
+    told_cut c.args.task.now c.requires.task c.args.prefix.now c.requires.behind c.requires.fits c.args.max_hops c.requires.hops c.in-Some-wide.answer (rw c.in-Some-wide.is at c.in_ok-wide.ensures.told)
+    c.told_wide.new.looks.count (rw c.in-Some-wide.is at c.in_ok-wide.ensures.looks)
