@@ -1,11 +1,10 @@
 -- Within the limits that the first way leaves, layers lose no least route.
 use Rattle.std.proofs.Common.{◌≡◌, inl, inr, ℕ, ◌+◌, ◌<◌, ◌≤◌, List, ◌++◌, length, Option, arith}
-use Rattle.std.specs.Prelude.{IsTrue, IfSome, IfNone, IfOk}
+use Rattle.std.specs.Prelude.{IfSome, IfNone, IfOk}
 use Rattle.std.specs.declared.option.Option.TheVariants.{Some, None}
 use Rattle.std.specs.declared.result.Result.{Result}
 use Rattle.std.specs.declared.result.Result.TheVariants.{Ok, Err}
 use Rattle.sabr_model.specs.Record.{RouteRecord}
-use Rattle.sabr_model.specs.Route.{is_route}
 use Rattle.sabr_search.specs.declared.layers.Best.{Best}
 use Rattle.sabr_search.specs.declared.layers.Limits.{Limits}
 use Rattle.sabr_search.specs.Ways.{Leads}

@@ -1,5 +1,5 @@
 -- What an answer that is kept is worth: by the law of answers, to each question that it covers.
-use Rattle.std.proofs.Common.{◌≡◌, inl, inr, ℕ, zero, suc, ◌+◌, ◌≤◌, ◌<◌, Bool, true, false, List, [], ◌∷◌, ◌++◌, length, take, drop, Some, None, Option, slice_get, slice_index, slice_index_or, refl, ap, sym, subst, ◌∙◌, arith, length-append}
+use Rattle.std.proofs.Common.{◌≡◌, inl, inr, ℕ, ◌+◌, ◌<◌, Bool, true, false, List, [], ◌∷◌, ◌++◌, length, take, drop, Some, None, Option, slice_get, slice_index, slice_index_or, refl, ap, sym, subst, ◌∙◌, arith}
 use Rattle.std.specs.Prelude.{All, IfSome, IfNone}
 use Rattle.std.proofs.lemmas.Bool.{both_ways}
 use Rattle.std.proofs.lemmas.Grind.{common_steps}
@@ -10,12 +10,11 @@ use Rattle.sabr_model.specs.Record.{RouteRecord}
 use Rattle.sabr_search.specs.declared.answers.Answer.{Answer}
 use Rattle.sabr_search.specs.declared.pick.Standing.{Standing}
 use Rattle.sabr_search.specs.Ways.{Leads}
-use Rattle.sabr_search.specs.Task.{SearchTask, HasNodes, Takes, IsTask, IsBehind}
+use Rattle.sabr_search.specs.Task.{SearchTask, Takes, IsTask}
 use Rattle.sabr_search.specs.Picks.{IsLeastWay}
-use Rattle.sabr_search.specs.Told.{IsTold}
 use Rattle.sabr_search.specs.Following.{tabled_of, HasNoWay, IsFound}
 use Rattle.sabr_search.specs.Answers.{narrowed, Narrows, HasNoWayWithin, IsAnswered}
-use Rattle.sabr_search.specs.KeptAnswers.{asked, AreListed, AllShut, IsFoundWay, IsAnswer, Covers, IsAnswerTo, AnswersAt, IsPut, Arrives}
+use Rattle.sabr_search.specs.KeptAnswers.{asked, AreListed, IsFoundWay, IsAnswer, Covers, IsAnswerTo, AnswersAt, IsPut, Arrives}
 use Rattle.sabr_search.proofs.Staying.{answers_stay}
 use Rattle.sabr_search.proofs.Ways.{Leads-append}
 use Rattle.sabr_search.proofs.Bridge.{takes_timely}

@@ -1,5 +1,5 @@
 -- Ways of a search that shuts more nodes and starts later are ways of the other one, and end there no later.
-use Rattle.std.proofs.Common.{◌≡◌, ℕ, ◌≤◌, ◌<◌, Bool, List, [], ◌∷◌, length, arith}
+use Rattle.std.proofs.Common.{ℕ, ◌≤◌, Bool, List, [], ◌∷◌, length, arith}
 use Rattle.sabr_search.specs.Ways.{Leads}
 use Rattle.sabr_search.specs.Task.{SearchTask, HasNodes, Takes}
 use Rattle.sabr_search.specs.Picks.{IsLeastWay}

@@ -2,7 +2,7 @@
 use Rattle.std.specs.Prelude.{◌≡◌, ◌⊎◌, ℕ, ◌+◌, ◌≤◌, ◌<◌, Bool, true, false, List, [], length, slice_get, slice_index_or}
 use Rattle.std.specs.declared.option.Option.TheVariants.{Some}
 use Rattle.sabr_model.specs.declared.contact.Contact.{Contact}
-use Rattle.sabr_model.specs.Plan.{TabledPlan, contact_named, has}
+use Rattle.sabr_model.specs.Plan.{TabledPlan, contact_named}
 use Rattle.sabr_model.specs.Arrival.{RouteRequest, arrival}
 use Rattle.sabr_search.specs.declared.answers.Answer.{Answer}
 use Rattle.sabr_search.specs.declared.pick.Standing.{Standing}

@@ -34,11 +34,11 @@ const MOST_EXCLUDED: usize = 64;
 /// line of 20000 contacts would take some 600 MB; other limits weren't tried.
 const MOST_PREFIX: usize = 64;
 
-/// Of so many wide questions as many must have answered one, or `REST` questions go by without. Taken from a native prototype,
-/// not varied: over satellites and sparse plans all answer, over relays one in four.
-const ASKED: u32 = 64;
+/// The answers to so many wide questions must have answered as many, or `REST` go by. With 64 a page of 300 routes over relays
+/// took 14 hundredths more looks than without wide questions, since fewer are answered there; over satellites all are.
+const ASKED: u32 = 16;
 
-/// So many questions go by.
+/// So many wide questions go by before one is asked again. Taken from a native prototype, not varied.
 const REST: u32 = 1024;
 
 /// The place of no answer.

@@ -125,7 +125,9 @@ fn least_searched<A: Allocator + Copy>(
 {
     let most = task.two_passes();
     let left = max_hops as usize - prefix.len();
-    let followed = kept.rungs.follow(layers, task, looks, most, prefix, max_hops)?;
+    let followed = kept
+        .rungs
+        .follow(layers, task, looks, most, prefix, max_hops)?;
     if let Some(answer) = followed {
         kept.answers.keep_after(task, prefix, left, &answer);
         return Ok(answer);

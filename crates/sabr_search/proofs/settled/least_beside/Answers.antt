@@ -1,12 +1,5 @@
-use Rattle.std.proofs.Common.{◌+◌, ◌-◌, ◌*◌, ◌≡◌, ◌≤◌, ℕ, List, Option, length, arith}
-use Rattle.std.specs.Prelude.{IsTrue}
-use Rattle.sabr_model.specs.Record.{RouteRecord}
-use Rattle.sabr_model.specs.Route.{is_prefix}
-use Rattle.sabr_search.specs.Part.{IsLeast}
-use Rattle.sabr_search.specs.Task.{SearchTask, IsTask, IsBehind}
-use Rattle.sabr_search.specs.Answers.{IsAnswered}
-use Rattle.sabr_search.specs.Told.{hops_told}
-use Rattle.sabr_search.proofs.Prefixes.{IsPrefix, prefix_facts}
+use Rattle.std.proofs.Common.{◌-◌, length, arith}
+use Rattle.sabr_search.proofs.Prefixes.{prefix_facts}
 use Rattle.sabr_search.proofs.Law.{contacts_few, prefix_few}
 use Rattle.sabr_search.proofs.FirstLimits.{answers_are_least}
 use Rattle.sabr_search.proofs.Beside.{answered_longer, picks_within, told_least, told_bound, told_cut}

@@ -1,4 +1,4 @@
-use Rattle.std.proofs.Common.{◌+◌, ◌-◌, ◌≡◌, length, arith}
+use Rattle.std.proofs.Common.{◌-◌, length, arith}
 use Rattle.sabr_search.specs.Told.{hops_told}
 use Rattle.sabr_search.proofs.Prefixes.{prefix_facts}
 use Rattle.sabr_search.proofs.Law.{contacts_few}
