@@ -10,7 +10,7 @@ use Rattle.std.proofs.lemmas.List.{get_or-set_same, get_or-set_other, get_or_app
 use Rattle.sabr_model.specs.Record.{RouteRecord, by_record, by_record_total}
 use Rattle.sabr_frontier.specs.declared.tree.NodeId.{NodeId}
 use Rattle.sabr_frontier.specs.declared.tree.Node.{Node}
-use Rattle.sabr_frontier.specs.Shape.{ids_from, route_at}
+use Rattle.sabr_frontier.specs.Shape.{route_at}
 use Rattle.sabr_frontier.specs.Winners.{route_of, winner_at, is_lesser, IsUpTo, IsNoGreater, IsLeast, IsFirst, CarriesNone, IsLesser, IsWinner, IsWon, AreWinners, low, high, IsAbove, AreOthersWinners, IsSettled, IsRising, IsBeside}
 use Rattle.sabr_frontier.proofs.Rising.{turned}
 use Rattle.sabr_frontier.proofs.Orders.{less_from_test}
