@@ -1,17 +1,17 @@
 -- What the winners of slots are.
-use Rattle.std.proofs.Common.{◌≡◌, ◌≢◌, ℕ, zero, suc, ◌+◌, ◌-◌, ◌*◌, ◌/◌, ◌<◌, ◌≤◌, true, false, ◌⊎◌, inl, inr, List, ◌++◌, length, set, Option, Some, None, refl, sym, ap, subst, ◌∙◌, arith, true≢false, length-set}
+use Rattle.std.proofs.Common.{◌≡◌, ◌≢◌, ℕ, zero, suc, ◌+◌, ◌-◌, ◌*◌, ◌/◌, ◌<◌, ◌≤◌, true, false, ◌⊎◌, inl, inr, List, [], ◌∷◌, ◌++◌, length, set, Option, Some, None, refl, sym, ap, subst, ◌∙◌, arith, true≢false, length-append, length-set}
 use Rattle.std.specs.Prelude.{slice_get}
 use Rattle.std.specs.Option.{option_and_then}
 use Rattle.std.specs.Ordering.{is_lt}
 use Rattle.std.specs.declared.cmp.Ordering.TheVariants.{Less, Equal, Greater}
 use Rattle.std.proofs.lemmas.Bool.{cases_eq, cases_lt}
 use Rattle.std.proofs.lemmas.Cmp.{tied_itself}
-use Rattle.std.proofs.lemmas.List.{get_or-set_same, get_or-set_other, get_or_append_left}
+use Rattle.std.proofs.lemmas.List.{get_or-set_same, get_or-set_other, get_or_append_left, get_or_at}
 use Rattle.sabr_model.specs.Record.{RouteRecord, by_record, by_record_total}
 use Rattle.sabr_frontier.specs.declared.tree.NodeId.{NodeId}
 use Rattle.sabr_frontier.specs.declared.tree.Node.{Node}
-use Rattle.sabr_frontier.specs.Shape.{ids_from, route_at}
-use Rattle.sabr_frontier.specs.Winners.{route_of, winner_at, is_lesser, IsUpTo, IsNoGreater, IsLeast, IsFirst, CarriesNone, IsLesser, IsWinner, IsWon, AreWinners, low, high, IsAbove, AreOthersWinners, IsSettled}
+use Rattle.sabr_frontier.specs.Shape.{route_at}
+use Rattle.sabr_frontier.specs.Winners.{route_of, winner_at, is_lesser, IsUpTo, IsNoGreater, IsLeast, IsFirst, CarriesNone, IsLesser, IsWinner, IsWon, AreWinners, low, high, IsAbove, AreOthersWinners, IsSettled, IsRising, IsBeside}
 use Rattle.sabr_frontier.proofs.Rising.{turned}
 use Rattle.sabr_frontier.proofs.Orders.{less_from_test}
 use Rattle.sabr_frontier.proofs.Nodes.{get_within}
@@ -240,18 +240,6 @@ module _ {A : Type 0} (nodes : List (Node A)) where
       | inr f ↦ (let x = f.1 in let r = named n f.0 (omega (arith, few, x)) f.3 in (r.0, f.4 ∙ r.1, r.2, above_over f.0 c r.0 (r.0 + 1) r.3 f.1 f.2))
     ]
 
-    -- nodes more
-    pub others_filled : (n m : ℕ) (ids' : List NodeId) → n ≡ length ids → ids' ≡ ids ++ ids_from n m → length ids' ≡ n + m → AreOthersWinners nodes ids' n (n + m)
-    others_filled n m ids' long is both k l out =
-        let here : k < length ids = elim (cases_lt k (length ids)) [ inl h ↦ h | inr h ↦ absurd (out (0, omega (arith, long, h), omega (arith, l, both))) ] in
-        subst (IsWinner nodes ids' k) (sym (same k here)) (stays ids ids' k (winner_at ids k) (omega (arith, both, long)) (λ c x y z. (let w = within c x y z in (w, same c w))) (won k here))
-      where
-        same : (c : ℕ) → c < length ids → winner_at ids' c ≡ winner_at ids c
-        same c w = ap (λ z. winner_at z c) is ∙ get_or_append_left ids (ids_from n m) (record { 0 = 0 }) c w
-
-        within : (c : ℕ) → k * 2 + 1 ≤ c → c ≤ k * 2 + 2 → c < length ids' → c < length ids
-        within c x y z = elim (cases_lt c (length ids)) [ inl h ↦ h | inr h ↦ absurd (out (above_over c k n (n + m) (0, omega (arith, long, h), omega (arith, z, both)) x y)) ]
-
 -- another route of one node
 pub others_changed : {A : Type 0} (nodes old : List (Node A)) (ids : List NodeId) (i : ℕ) → AreWinners old ids → ((id : NodeId) → id.0 < length ids → (id.0 ≡ i → ⊥) → route_at nodes id ≡ route_at old id) → AreOthersWinners nodes ids i (i + 1)
 others_changed nodes old ids i won same k l out =
@@ -267,3 +255,108 @@ others_changed nodes old ids i won same k l out =
     there c z off =
         let r = named old ids won (length ids) c (omega arith) z in
         ap (route_at nodes) r.1 ∙ same (record { 0 = r.0 }) r.2 (λ e. off (subst (λ j. IsAbove c j (j + 1)) e r.3)) ∙ sym (ap (route_at old) r.1)
+
+-- ---- a node that wins slots over its own
+
+module _ {A : Type 0} (nodes : List (Node A)) where
+  -- one node more
+  pub rising_first : (ids ids' : List NodeId) (n : ℕ) → n ≡ length ids → ids' ≡ ids ++ record { 0 = n } ∷ [] → AreWinners nodes ids → IsRising nodes ids' n (record { 0 = n })
+  rising_first ids ids' n long is won = record {
+    within = omega (arith, more);
+    here = last;
+    others = λ k l out. elim (cases_eq k n) [
+      | inl e ↦ subst (λ k. IsWon nodes ids' k) (sym e) (subst (IsWinner nodes ids' n) (sym last) (won_alone nodes ids' n (omega (arith, more))))
+      | inr d ↦ (let h : k < length ids = omega (arith, l, more, long, d) in subst (IsWinner nodes ids' k) (sym (same k h))
+          (stays nodes ids ids' k (winner_at ids k) (omega (arith, more, long)) (λ c x y z. (let w : c < length ids = elim (cases_eq c n) [ inl f ↦ absurd (out (omega (arith, x, f)) (omega (arith, y, f))) | inr g ↦ omega (arith, z, more, long, g) ] in (w, same c w))) (won k h)))
+    ];
+    above = λ k x y.
+        let h : k < length ids = omega (arith, x, long) in
+        let was = won k h in
+        let e = same k h in
+        record {
+          own = subst (λ z. IsNoGreater (route_at nodes z) (route_at nodes (record { 0 = k }))) (sym e) was.own;
+          over = λ c a b l d. (let w : c < length ids = omega (arith, l, more, long, d) in subst (λ (z : NodeId × NodeId). IsNoGreater (route_at nodes z.0) (route_at nodes z.1)) (λ i. (sym e i, sym (same c w) i)) (was.over c a b w));
+          from = inr (elim was.from [ inl f ↦ inl (e ∙ f) | inr f ↦ (let w = f.3 in inr (f.0, f.1, f.2, omega (arith, w, more, long), omega (arith, w, long), e ∙ f.4 ∙ sym (same f.0 w))) ]);
+        };
+  }
+    where
+      more : length ids' ≡ n + 1
+      more = omega (arith, ap (length {A = NodeId}) is, length-append ids (record { 0 = n } ∷ []), long)
+
+      last : winner_at ids' n ≡ record { 0 = n }
+      last = ap (λ z. winner_at z n) is ∙ get_or_at ids (record { 0 = n }) [] (record { 0 = 0 }) n (sym long)
+
+      same : (c : ℕ) → c < length ids → winner_at ids' c ≡ winner_at ids c
+      same c w = ap (λ z. winner_at z c) is ∙ get_or_append_left ids (record { 0 = n } ∷ []) (record { 0 = 0 }) c w
+
+  module _ (ids : List NodeId) (at : ℕ) (id : NodeId) (is : IsRising nodes ids at id) where
+    -- at the first slot
+    pub rising_ends : at ≤ 0 → AreWinners nodes ids
+    rising_ends none k l = is.others k l (λ x y. omega (arith, none, x))
+
+    -- the slot over it has a winner that isn't greater
+    pub rising_stops : (p : ℕ) → p * 2 + 1 ≤ at → at ≤ p * 2 + 2 → is_lesser (route_at nodes id) (route_at nodes (winner_at ids p)) ≡ false → AreWinners nodes ids
+    rising_stops p x y e k l = elim (cases_eq k p) [
+      | inr d ↦ is.others k l (λ a b. d (omega (arith, a, b, x, y)))
+      | inl f ↦ subst (λ k. IsWon nodes ids k) (sym f) (record {
+        own = b.own;
+        over = λ c s t u. elim (cases_eq c at) [
+          | inl g ↦ subst (λ c. IsNoGreater (route_at nodes (winner_at ids p)) (route_at nodes (winner_at ids c))) (sym g) (subst (λ z. IsNoGreater (route_at nodes (winner_at ids p)) (route_at nodes z)) (sym is.here) (not_first (route_at nodes id) (route_at nodes (winner_at ids p)) e))
+          | inr d ↦ b.over c s t u d
+        ];
+        from = elim b.from [
+          | inl h ↦ absurd (true≢false (sym h ∙ e))
+          | inr h ↦ elim h [ inl g ↦ inl g | inr g ↦ inr (g.0, g.1, g.2, g.3, g.5) ]
+        ];
+      })
+    ]
+      where
+        b : IsBeside nodes ids p at id
+        b = is.above p x y
+
+    -- the slot over it is won
+    pub rising_on : (p : ℕ) → p * 2 + 1 ≤ at → at ≤ p * 2 + 2 → is_lesser (route_at nodes id) (route_at nodes (winner_at ids p)) ≡ true → IsRising nodes (set ids p id) p id
+    rising_on p x y e = record {
+      within = omega (arith, long, is.within, x);
+      here = here;
+      others = λ k l out. elim (cases_eq k p) [
+        | inl f ↦ subst (λ k. IsWon nodes (set ids p id) k) (sym f) (subst (IsWinner nodes (set ids p id) p) (sym here) (record {
+          own = no_greater_then (route_at nodes id) (route_at nodes (winner_at ids p)) (route_at nodes (record { 0 = p })) less b.own;
+          over = λ c s t u. subst (λ z. IsNoGreater (route_at nodes id) (route_at nodes z)) (sym (other c (omega (arith, s)))) (elim (cases_eq c at) [
+            | inl g ↦ subst (λ c. IsNoGreater (route_at nodes id) (route_at nodes (winner_at ids c))) (sym g) (subst (λ z. IsNoGreater (route_at nodes id) (route_at nodes z)) (sym is.here) (no_greater_itself (route_at nodes id)))
+            | inr d ↦ no_greater_then (route_at nodes id) (route_at nodes (winner_at ids p)) (route_at nodes (winner_at ids c)) less (b.over c s t (omega (arith, u, long)) d)
+          ]);
+          from = inr (at, x, y, omega (arith, long, is.within), sym (other at (omega (arith, x)) ∙ is.here));
+        }))
+        | inr d ↦ subst (IsWinner nodes (set ids p id) k) (sym (other k d)) (stays nodes ids (set ids p id) k (winner_at ids k) (omega (arith, long)) (λ c s t u. (omega (arith, u, long), other c (λ g. out (omega (arith, s, g)) (omega (arith, t, g))))) (is.others k (omega (arith, l, long)) (λ s t. d (omega (arith, s, t, x, y)))))
+      ];
+      above = λ k s t.
+          let d : k ≢ p = omega (arith, s) in
+          let was = is.others k (omega (arith, s, x, is.within)) (λ m n. d (omega (arith, m, n, x, y))) in
+          record {
+            own = subst (λ z. IsNoGreater (route_at nodes z) (route_at nodes (record { 0 = k }))) (sym (other k d)) was.own;
+            over = λ c m n u f. subst (λ (z : NodeId × NodeId). IsNoGreater (route_at nodes z.0) (route_at nodes z.1)) (λ i. (sym (other k d) i, sym (other c f) i)) (was.over c m n (omega (arith, u, long)));
+            from = elim was.from [
+              | inl f ↦ inr (inl (other k d ∙ f))
+              | inr f ↦ elim (cases_eq f.0 p) [
+                | inl g ↦ inl (ap (λ z. is_lesser (route_at nodes id) (route_at nodes z)) (other k d ∙ f.4 ∙ ap (winner_at ids) g) ∙ e)
+                | inr g ↦ (let w = f.3 in inr (inr (f.0, f.1, f.2, omega (arith, w, long), g, other k d ∙ f.4 ∙ sym (other f.0 g))))
+              ]
+            ];
+          };
+    }
+      where
+        b : IsBeside nodes ids p at id
+        b = is.above p x y
+
+        less : IsNoGreater (route_at nodes id) (route_at nodes (winner_at ids p))
+        less = first_then (route_at nodes id) (route_at nodes (winner_at ids p)) e
+
+        long : length (set ids p id) ≡ length ids
+        long = length-set ids p id
+
+        here : winner_at (set ids p id) p ≡ id
+        here = get_or-set_same ids p id (record { 0 = 0 }) (omega (arith, x, is.within))
+
+        other : (c : ℕ) → c ≢ p → winner_at (set ids p id) c ≡ winner_at ids c
+        other c d = get_or-set_other ids p c id (record { 0 = 0 }) d

@@ -1,6 +1,6 @@
 -- The node with the least route, found as in a tournament: slot k names the winner among node k and the winners of slots
 -- 2k + 1 and 2k + 2.
-use Rattle.std.specs.Prelude.{slice_get, ◌≡◌, ℕ, ◌+◌, ◌*◌, ◌-◌, ◌/◌, ◌<◌, ◌≤◌, ◌⊎◌, zero, suc, Bool, true, false, get_or, length, List, Option, Some, None}
+use Rattle.std.specs.Prelude.{slice_get, ◌≡◌, ◌≢◌, ℕ, ◌+◌, ◌*◌, ◌-◌, ◌/◌, ◌<◌, ◌≤◌, ◌⊎◌, zero, suc, Bool, true, false, get_or, length, List, Option, Some, None}
 use Rattle.std.specs.Option.{option_and_then}
 use Rattle.std.specs.Ordering.{is_lt}
 use Rattle.sabr_model.specs.Record.{RouteRecord, by_record}
@@ -98,3 +98,16 @@ pub record IsSettled {A : Type 0} (nodes : List (Node A)) (old ids : List NodeId
   pub won : (k : ℕ) → a ≤ k → k < b → IsWon nodes ids k
   pub others : (k : ℕ) → (k < a) ⊎ (b ≤ k) → winner_at ids k ≡ winner_at old k
   pub long : length ids ≡ length old
+
+-- slot k, over the slot `at`, names a winner but for that slot; or what it names carries a greater route than the node
+pub record IsBeside {A : Type 0} (nodes : List (Node A)) (ids : List NodeId) (k at : ℕ) (id : NodeId) : Type 0 where
+  pub own : IsNoGreater (route_at nodes (winner_at ids k)) (route_at nodes (record { 0 = k }))
+  pub over : (c : ℕ) → k * 2 + 1 ≤ c → c ≤ k * 2 + 2 → c < length ids → c ≢ at → IsNoGreater (route_at nodes (winner_at ids k)) (route_at nodes (winner_at ids c))
+  pub from : (is_lesser (route_at nodes id) (route_at nodes (winner_at ids k)) ≡ true) ⊎ ((winner_at ids k ≡ record { 0 = k }) ⊎ ((c : ℕ) × (k * 2 + 1 ≤ c) × (c ≤ k * 2 + 2) × (c < length ids) × (c ≢ at) × (winner_at ids k ≡ winner_at ids c)))
+
+-- the slot names the node, and each other slot names a winner, but for the one over it
+pub record IsRising {A : Type 0} (nodes : List (Node A)) (ids : List NodeId) (at : ℕ) (id : NodeId) : Type 0 where
+  pub within : at < length ids
+  pub here : winner_at ids at ≡ id
+  pub others : (k : ℕ) → k < length ids → (k * 2 + 1 ≤ at → at ≤ k * 2 + 2 → ⊥) → IsWon nodes ids k
+  pub above : (k : ℕ) → k * 2 + 1 ≤ at → at ≤ k * 2 + 2 → IsBeside nodes ids k at id

@@ -3,9 +3,8 @@
 
 ghost use Rattle.std.specs.Prelude.{◌≡◌, ◌+◌, ◌<◌, ◌≤◌, length, vec_len, vec_capacity};
 ghost use Rattle.sabr_frontier.specs.Shape.{route_at};
-ghost use Rattle.sabr_frontier.specs.Winners.{AreOthersWinners, AreWinners, IsLesser, IsSettled, IsWinner, is_lesser};
+ghost use Rattle.sabr_frontier.specs.Winners.{AreOthersWinners, AreWinners, IsLesser, IsRising, IsSettled, IsWinner, is_lesser};
 
-use crate::index::push_block;
 use crate::places::carried;
 use crate::tree::{Node, NodeId};
 use std::alloc::Allocator;
@@ -82,6 +81,36 @@ pub fn settle_up<A: Allocator + Copy>(
     }
 }
 
+/// Lets a node win the slots over its own, as far as it carries a lesser route than their winners.
+fn rise<A: Allocator + Copy>(nodes: &[Node<A>], ids: &mut [NodeId], id: NodeId)
+    requires { IsRising nodes.now ids.old id.0 id }
+    ensures won { AreWinners nodes.now ids.new }
+    ensures len { length ids.new ≡ length ids.old }
+{
+    let mut slot = id.0;
+    while 0 < slot {
+        let over = (slot - 1) / 2;
+        if !is_lesser(nodes, id, ids[over]) {
+            return;
+        }
+        ids[over] = id;
+        slot = over;
+    }
+}
+
+/// Adds a slot for the next node, for which there is room.
+fn push<A: Allocator + Copy>(nodes: &[Node<A>], winners: &mut Vec<NodeId, A>)
+    requires won { AreWinners nodes.now winners.old.items }
+    requires room { vec_len winners.old < vec_capacity winners.old }
+    ensures won { AreWinners nodes.now winners.new.items }
+    ensures len { vec_len winners.new ≡ vec_len winners.old + 1 }
+    ensures capacity { vec_capacity winners.old ≤ vec_capacity winners.new }
+{
+    let id = NodeId(winners.len());
+    winners.push_reserved(id);
+    rise(nodes, winners.as_mut_slice(), id);
+}
+
 /// Adds a slot for each node that has none, for which there is room.
 pub fn fill<A: Allocator + Copy>(nodes: &[Node<A>], winners: &mut Vec<NodeId, A>)
     requires won { AreWinners nodes.now winners.old.items }
@@ -91,9 +120,9 @@ pub fn fill<A: Allocator + Copy>(nodes: &[Node<A>], winners: &mut Vec<NodeId, A>
     ensures len { vec_len winners.new ≡ length nodes.now }
     ensures capacity { vec_capacity winners.old ≤ vec_capacity winners.new }
 {
-    let first = winners.len();
-    push_block(winners, first, nodes.len() - first);
-    settle_up(nodes, winners.as_mut_slice(), first, nodes.len());
+    for _ in winners.len()..nodes.len() {
+        push(nodes, winners);
+    }
 }
 
 /// Renews the winners after a node's route changed.
