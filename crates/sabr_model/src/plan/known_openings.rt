@@ -94,6 +94,23 @@ fn note_all<A: Allocator + Copy>(
     ensures all { IsTrue result → set.new.keys ≡ openings_of contacts.now }
     ensures first { KnowsFirst set.new.keys contacts.now }
 {
+    if set.len() >= contacts.len() {
+        return true;
+    }
+    note_rest(set, contacts)
+}
+
+/// The same, if there are some.
+#[cold]
+#[inline(never)]
+fn note_rest<A: Allocator + Copy>(
+    set: &mut IndexSet<Opening, BuildHasherDefault<FoldHasher>, A>,
+    contacts: &[Contact],
+) -> bool
+    requires { KnowsFirst set.old.keys contacts.now }
+    ensures all { IsTrue result → set.new.keys ≡ openings_of contacts.now }
+    ensures first { KnowsFirst set.new.keys contacts.now }
+{
     while set.len() < contacts.len() {
         let Contact {
             from,

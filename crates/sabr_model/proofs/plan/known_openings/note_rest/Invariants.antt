@@ -1,6 +1,6 @@
 use Rattle.std.proofs.Common.{◌-◌, length}
 use Rattle.sabr_model.specs.Gathering.{KnowsFirst}
-use Rattle.sabr_model.proofs.plan.known_openings.note_all.Given as goal
+use Rattle.sabr_model.proofs.plan.known_openings.note_rest.Given as goal
 
 abbrev pub invariant-loop-set : goal.invariant-loop-set
 invariant-loop-set g l = KnowsFirst l.set.keys l.contacts
