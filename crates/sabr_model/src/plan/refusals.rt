@@ -1,8 +1,7 @@
 //! Why a contact or a range is refused.
 
-ghost use Rattle.std.specs.Prelude.{◌≡◌, ◌==◌, nat_le, Some, None, if◌then◌else◌};
-ghost use Rattle.sabr_model.specs.Plan.{most_records};
-ghost use Rattle.sabr_model.specs.declared.fault.AddFault.TheVariants.{EmptyWindow, SelfPair, TooMany};
+ghost use Rattle.std.specs.Prelude.{◌≡◌};
+ghost use Rattle.sabr_model.specs.Adding.{first_refusal};
 
 use crate::fault::AddFault;
 use crate::limits::MOST_RECORDS;
@@ -16,7 +15,7 @@ pub fn refusal(
     clash: AddFault,
     count: usize,
 ) -> Option<AddFault>
-    ensures { result ≡ (if nat_le window.1 window.0 then Some EmptyWindow else if nodes.0 == nodes.1 then Some SelfPair else if clashes then Some clash else if nat_le most_records count then Some TooMany else None) }
+    ensures { result ≡ first_refusal nodes.0 nodes.1 window.0 window.1 clashes clash count }
 {
     if window.0 >= window.1 {
         Some(AddFault::EmptyWindow)
