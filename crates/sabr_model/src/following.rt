@@ -13,7 +13,7 @@ use crate::request::Request;
 use std::alloc::Allocator;
 
 /// A node that a bundle has reached, and when.
-#[derive(Clone, Copy, Debug, PartialEq, Eq)]
+#[derive(Clone, Copy)]
 pub struct Reached {
     /// The node where the bundle is.
     pub node: u64,

@@ -6,7 +6,7 @@ ghost use Rattle.sabr_model.specs.Hops.{IsSmall, hop_arrival};
 use crate::request::Request;
 
 /// What a search reads of a contact: its window, its receiver and its light time.
-#[derive(Clone, Copy, Debug, PartialEq, Eq)]
+#[derive(Clone, Copy)]
 pub struct Hop {
     /// The first second at which the contact can be used.
     pub start: u64,

@@ -2,7 +2,7 @@
 
 /// A standing contact with a light time, among the contacts of one link in order of their starts. With it are bounds on
 /// the contacts before and after it, so that a search can skip most of them.
-#[derive(Clone, Copy, Debug, PartialEq, Eq)]
+#[derive(Clone, Copy)]
 pub struct Pass {
     /// The contact's number.
     pub number: u32,
@@ -27,7 +27,7 @@ pub struct Pass {
 }
 
 /// Bounds that hold for each pass of a link, so that a search can skip the whole link.
-#[derive(Clone, Copy, Debug, PartialEq, Eq)]
+#[derive(Clone, Copy)]
 pub struct LinkBounds {
     /// A second by which each pass has ended.
     pub latest_end: u64,
@@ -38,7 +38,7 @@ pub struct LinkBounds {
 }
 
 /// The contacts from one node to another: a range of places among the node's passes, with bounds for all of them.
-#[derive(Clone, Copy, Debug, PartialEq, Eq)]
+#[derive(Clone, Copy)]
 pub struct Link {
     /// The index of the receiver in the table of nodes.
     pub receiver: usize,

@@ -1,7 +1,7 @@
 //! What no two standing contacts have in common: sender, receiver and start.
 
 /// The sender, the receiver and the start of a contact.
-#[derive(Clone, Copy, Debug, PartialEq, Eq, Hash)]
+#[derive(Clone, Copy, PartialEq, Eq, Hash)]
 pub struct Opening {
     /// The sending node.
     pub from: u64,

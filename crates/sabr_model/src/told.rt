@@ -10,7 +10,7 @@ use crate::route::Route;
 use std::alloc::Allocator;
 
 /// What the record of a list of numbers holds besides them and their delivery.
-#[derive(Clone, Copy, Debug, PartialEq, Eq)]
+#[derive(Clone, Copy)]
 pub struct Told {
     /// The termination time: the least end of the contacts.
     pub until: u64,
