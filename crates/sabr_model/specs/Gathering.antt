@@ -1,7 +1,7 @@
 -- Contacts that are gathered with what no two of them share; and ranges that are gathered in any order, most in their
 -- places, and the latest beside them.
-use Rattle.std.specs.Prelude.{◌≡◌, ℕ, ◌≤◌, Bool, false, true, nat_lt, List, [], ◌∷◌, ◌++◌, ⊤, map}
-use Rattle.std.specs.List.{list_any, AllByRecursion}
+use Rattle.std.specs.Prelude.{◌≡◌, ℕ, ◌≤◌, Bool, false, true, not, nat_lt, List, [], ◌∷◌, ◌++◌, ⊤, map}
+use Rattle.std.specs.List.{list_any, filter, AllByRecursion}
 use Rattle.std.specs.List.Sorted.{IsStrictlySortedBy}
 use Rattle.std.specs.declared.cmp.Ordering.{Ordering}
 use Rattle.std.specs.declared.option.Option.{Option}
@@ -29,6 +29,15 @@ openings_of contacts = map (λ c. record { from = c.from; to = c.to; start = c.s
 -- where the set is kept, it has what no two of the contacts share
 abbrev pub KnowsOpenings : Bool → List Opening → List Contact → Type 0
 KnowsOpenings kept known contacts = kept ≡ true → known ≡ openings_of contacts
+
+-- so it still is once a contact that opens like none of them comes after them
+abbrev pub KnowOneMore : Bool → List Opening → Contact → Bool → List Opening → Type 0
+KnowOneMore kept known c kept' known' =
+    (contacts : List Contact) → KnowsOpenings kept known contacts → list_any (opens c.from c.to c.start) contacts ≡ false → KnowsOpenings kept' known' (contacts ++ c ∷ [])
+
+-- the contacts without the one that has this sender, receiver and start
+abbrev pub closed : ℕ → ℕ → ℕ → List Contact → List Contact
+closed from to start contacts = filter (λ c. not (opens from to start c)) contacts
 
 -- an opening as one number: by start, then by sender and receiver
 abbrev pub opening_number : Opening → ℕ

@@ -1,7 +1,8 @@
 -- Contact plans (CCSDS 734.3-B-1, contact plan: contacts and ranges).
-use Rattle.std.specs.Prelude.{◌≢◌, ℕ, ◌<◌, ◌≤◌, ◌^◌, Bool, true, ◌&&◌, not, nat_lt, ◌==◌, IsTrue, List, [], ◌∷◌, map, length}
+use Rattle.std.specs.Prelude.{◌≡◌, ◌≢◌, ℕ, ◌<◌, ◌≤◌, ◌^◌, Bool, true, ◌&&◌, not, nat_lt, ◌==◌, IsTrue, List, [], ◌∷◌, map, length, slice_get}
 use Rattle.std.specs.List.{find, list_any, AllByRecursion}
 use Rattle.std.specs.declared.option.Option.{Option}
+use Rattle.std.specs.declared.option.Option.TheVariants.{Some, None}
 use Rattle.std.specs.List.Sorted.{IsStrictlySortedBy}
 use Rattle.sabr_model.specs.Order.{by_numbers}
 use Rattle.sabr_model.specs.declared.contact.Contact.{Contact}
@@ -34,6 +35,11 @@ most_light = 1000000
 -- the standing contact with this number
 abbrev pub contact_named : ContactPlan → ℕ → Option Contact
 contact_named p n = find (λ c. c.number == n) p.contacts
+
+-- the place is that of the contact with this number, or no contact has it
+abbrev pub IsPlaceOf : List Contact → ℕ → Option ℕ → Type 0
+IsPlaceOf contacts n None = find (λ c. c.number == n) contacts ≡ None
+IsPlaceOf contacts n (Some k) = (k < length contacts) × (find (λ c. c.number == n) contacts ≡ slice_get contacts k)
 
 -- each number is greater than the one before it, and the first than `low`
 abbrev pub rises_above : ℕ → List ℕ → Bool

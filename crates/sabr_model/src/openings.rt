@@ -1,10 +1,10 @@
 //! The openings of contacts, in a set in which a duplicate is found in one step.
 
-ghost use Rattle.std.specs.Prelude.{◌≡◌, List, [], ◌∷◌, ◌++◌, false, not, filter};
+ghost use Rattle.std.specs.Prelude.{◌≡◌, List, [], false};
 ghost use Rattle.std.specs.List.{list_any};
 ghost use Rattle.sabr_model.specs.declared.contact.Contact.{Contact};
 ghost use Rattle.sabr_model.specs.Plan.{opens};
-ghost use Rattle.sabr_model.specs.Gathering.{KnowsOpenings};
+ghost use Rattle.sabr_model.specs.Gathering.{KnowsOpenings, KnowOneMore, closed};
 
 use crate::contact::Contact;
 use crate::opening::Opening;
@@ -70,7 +70,7 @@ impl<A: Allocator + Copy> Openings<A> {
 
     /// Adds that of a contact that comes after the others.
     pub fn note(&mut self, contact: &Contact)
-        ensures { (contacts : List Contact) → KnowsOpenings self.old.kept self.old.set.keys contacts → list_any (opens contact.now.from contact.now.to contact.now.start) contacts ≡ false → KnowsOpenings self.new.kept self.new.set.keys (contacts ++ contact.now ∷ []) }
+        ensures { KnowOneMore self.old.kept self.old.set.keys contact.now self.new.kept self.new.set.keys }
     {
         let opening = Opening {
             from: contact.from,
@@ -85,7 +85,7 @@ impl<A: Allocator + Copy> Openings<A> {
 
     /// Removes that of the contact with this sender, receiver and start. It takes no memory.
     pub fn forget(&mut self, from: u64, to: u64, start: u64)
-        ensures { (contacts : List Contact) → KnowsOpenings self.old.kept self.old.set.keys contacts → KnowsOpenings self.new.kept self.new.set.keys (filter (λ c. not (opens from to start c)) contacts) }
+        ensures { (contacts : List Contact) → KnowsOpenings self.old.kept self.old.set.keys contacts → KnowsOpenings self.new.kept self.new.set.keys (closed from to start contacts) }
     {
         self.set
             .retain(|o| !(from == o.from && to == o.to && start == o.start));

@@ -1,10 +1,9 @@
 //! The openings of contacts that come one by one. A contact that opens after all others needs no search for a duplicate.
 
-ghost use Rattle.std.specs.Prelude.{◌≡◌, ◌<◌, ◌≤◌, ◌↔◌, List, [], IsTrue, filter, not};
+ghost use Rattle.std.specs.Prelude.{◌≡◌, ◌<◌, ◌≤◌, ◌↔◌, List, [], IsTrue};
 ghost use Rattle.sabr_model.specs.declared.contact.Contact.{Contact};
-ghost use Rattle.sabr_model.specs.Plan.{opens};
 ghost use Rattle.sabr_model.specs.RangeOrder.{place_number};
-ghost use Rattle.sabr_model.specs.Gathering.{openings_of, opening_number, KnowsFirst, KnowsSome, IsNoted};
+ghost use Rattle.sabr_model.specs.Gathering.{openings_of, opening_number, closed, KnowsFirst, KnowsSome, IsNoted};
 
 use super::ranges::comes_by;
 use crate::contact::Contact;
@@ -64,7 +63,7 @@ impl<A: Allocator + Copy> KnownOpenings<A> {
 
     /// Takes out that of the contact with this sender, receiver and start. It takes no memory.
     pub fn forget(&mut self, from: u64, to: u64, start: u64)
-        ensures { (contacts : List Contact) → KnowsSome self.old.set.keys self.old.rising self.old.last contacts → KnowsSome self.new.set.keys self.new.rising self.new.last (filter (λ c. not (opens from to start c)) contacts) }
+        ensures { (cs : List Contact) → KnowsSome self.old.set.keys self.old.rising self.old.last cs → KnowsSome self.new.set.keys self.new.rising self.new.last (closed from to start cs) }
     {
         self.set
             .retain(|o| !(from == o.from && to == o.to && start == o.start));

@@ -1,9 +1,9 @@
 //! Finding the place of a contact by its number.
 
-ghost use Rattle.std.specs.Prelude.{◌≡◌, ℕ, ◌<◌, ◌≤◌, ◌-◌, ◌==◌, IsTrue, map, find, length, slice_get, slice_index_or, None, MatchOption};
+ghost use Rattle.std.specs.Prelude.{◌≡◌, ℕ, ◌<◌, ◌≤◌, ◌-◌, ◌==◌, IsTrue, map, find, length, slice_index_or};
 ghost use Rattle.std.specs.Option.{option_copied};
 ghost use Rattle.sabr_model.specs.declared.contact.Contact.{Contact};
-ghost use Rattle.sabr_model.specs.Plan.{rises_above};
+ghost use Rattle.sabr_model.specs.Plan.{rises_above, IsPlaceOf};
 
 use crate::contact::Contact;
 
@@ -35,7 +35,7 @@ fn number_at(contacts: &[Contact], place: usize) -> u32
 /// Returns the place of the contact with this number. This is O(1) if no contact was deleted, and else a binary search.
 pub fn place_of_number(contacts: &[Contact], number: u32) -> Option<usize>
     requires { IsTrue (rises_above 0 (map (λ c. c.number) contacts.now)) }
-    ensures { MatchOption result (find (λ c. c.number == number) contacts.now ≡ None) (λ k. (k < length contacts.now) × (find (λ c. c.number == number) contacts.now ≡ slice_get contacts.now k)) }
+    ensures { IsPlaceOf contacts.now number result }
 {
     if is_at_own_place(contacts, number) {
         Some(number as usize - 1)
@@ -56,7 +56,7 @@ fn is_at_own_place(contacts: &[Contact], number: u32) -> bool
 /// Finds the place of the contact with this number by binary search.
 fn halved_place(contacts: &[Contact], number: u32) -> Option<usize>
     requires { IsTrue (rises_above 0 (map (λ c. c.number) contacts.now)) }
-    ensures { MatchOption result (find (λ c. c.number == number) contacts.now ≡ None) (λ k. (k < length contacts.now) × (find (λ c. c.number == number) contacts.now ≡ slice_get contacts.now k)) }
+    ensures { IsPlaceOf contacts.now number result }
 {
     let (mut low, mut high) = window_of_number(contacts, number);
     while low < high {

@@ -2,7 +2,7 @@
 
 ghost use Rattle.std.specs.Prelude.{◌≡◌, ◌<◌, ◌+◌, ◌++◌, ◌∷◌, [], ℕ, Some, IfOk, OnOk, length, slice_get, slice_index};
 ghost use Rattle.sabr_model.specs.declared.plan.linked.chains.Chained.{Chained};
-ghost use Rattle.sabr_model.specs.Incoming.{AreChains, AreChained, HaveReceivers};
+ghost use Rattle.sabr_model.specs.Incoming.{AreChains, AreChained, HaveReceivers, IsChained};
 
 use super::NodeLinks;
 use std::alloc::{AllocError, Allocator};
@@ -83,7 +83,7 @@ fn chain_link<A: Allocator + Copy>(
     requires chains { AreChains chained.old.items heads.old.items }
     ensures heads { length heads.new.items ≡ length heads.old.items }
     ensures chains { OnOk result (AreChains chained.new.items heads.new.items) }
-    ensures chained { OnOk result ((next : ℕ) × (chained.new.items ≡ chained.old.items ++ record { sender = sender; link = link; receiver = receiver; next = next } ∷ [])) }
+    ensures chained { OnOk result (IsChained chained.old.items chained.new.items sender link receiver) }
 {
     let next = heads[receiver];
     chained.push(Chained {
