@@ -28,7 +28,7 @@ any_opening from to start (c ∷ cs) =
 pub opening_known : (from to start : ℕ) (cs : List Contact) (known : List Opening) → known ≡ openings_of cs → list_any (λ o. eqb from o.from && (eqb to o.to && eqb start o.start)) known ≡ list_any (opens from to start) cs
 opening_known from to start cs known are = ap (λ os. list_any (λ o. eqb from o.from && (eqb to o.to && eqb start o.start)) os) are ∙ any_opening from to start cs
 
--- behind a contact more
+-- after a contact more
 pub openings_push : (cs : List Contact) (c : Contact) → openings_of cs ++ record { from = c.from; to = c.to; start = c.start } ∷ [] ≡ openings_of (cs ++ c ∷ [])
 openings_push cs c = sym (map-append (λ (d : Contact). let o : Opening = record { from = d.from; to = d.to; start = d.start } in o) cs (c ∷ []))
 
@@ -74,7 +74,7 @@ pub known_these : (cs : List Contact) → KnowsFirst (openings_of cs) cs
 known_these [] = tt
 known_these (c ∷ cs) = (refl, known_these cs)
 
--- behind them a contact more
+-- after them a contact more
 pub known_push : (os : List Opening) (cs : List Contact) (c : Contact) → KnowsFirst os cs → KnowsFirst os (cs ++ c ∷ [])
 known_push [] cs c h = tt
 known_push (o ∷ os) [] c h = absurd h
@@ -113,7 +113,7 @@ some_push_last os last o cs h all lt rising c is = (
       (let same = ap opening_number is in omega (arith, same)),
 )
 
--- a contact whose opening goes into the set, behind all others
+-- a contact whose opening goes into the set, after all others
 pub known_push_all : (os : List Opening) (o : Opening) (cs : List Contact) → os ≡ openings_of cs → (c : Contact) → opening_of c ≡ o → KnowsFirst (os ++ o ∷ []) (cs ++ c ∷ [])
 known_push_all os o cs all c is =
     subst (λ xs. KnowsFirst xs (cs ++ c ∷ [])) (sym (ap (λ xs. xs ++ o ∷ []) all ∙ ap (λ x. openings_of cs ++ x ∷ []) (sym is) ∙ openings_push cs c)) (known_these (cs ++ c ∷ []))

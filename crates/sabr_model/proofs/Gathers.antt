@@ -54,13 +54,13 @@ module _ {X : Type 0} (cmp : X → X → Ordering) where
   all_put_all P [] ys a b = b
   all_put_all P (x ∷ xs) ys a b = all_put cmp P x (put_all cmp xs ys) a.0 (all_put_all P xs ys a.1 b)
 
-  -- all go behind the first
+  -- all go after the first
   put_all_behind : (y : X) (ys xs : List X) → AllByRecursion (λ x. cmp x y ≡ Greater) xs → put_all cmp xs (y ∷ ys) ≡ y ∷ put_all cmp xs ys
   put_all_behind y ys [] all = refl
   put_all_behind y ys (x ∷ xs) all =
       ap (put_in cmp x) (put_all_behind y ys xs all.1) ∙ put_greater x y (put_all cmp xs ys) all.0
 
-  -- what passes a test behind a put of what ties with none
+  -- what passes a test after a put of what ties with none
   any_put_new : (p : X → Bool) (x : X) (ys : List X) → AllByRecursion (λ y. cmp x y ≡ Equal → ⊥) ys → list_any p (put_in cmp x ys) ≡ (p x || list_any p ys)
   any_put_new p x [] none = refl
   any_put_new p x (y ∷ ys) none =
@@ -181,7 +181,7 @@ length_of_both placed late h = length_gathered placed h.placed_obey.range_window
 pub all_placed : (placed : List Range) → IsPlan (plan_of_ranges placed) → AreGathered placed []
 all_placed placed h = record { placed_obey = h; late_obey = IsPlan-empty; all_obey = h; are_apart = tt }
 
--- what the latest leave when they go to their places, or don't for want of memory
+-- what the latest leave when they go to their places, or don't because memory is refused
 pub placed_or_not : {U E : Type 0} (r : Result U E) (placed late placed_then late_then : List Range) → AreGathered placed late → OnOk r (placed_then ≡ gathered placed late) → OnOk r (late_then ≡ []) → OnErr r (placed_then ≡ placed) → OnErr r (late_then ≡ late)
     → AreGathered placed_then late_then × (gathered placed_then late_then ≡ gathered placed late)
 placed_or_not (Ok u) placed late placed_then late_then h a b c d = rw (a, b) (all_placed (gathered placed late) h.all_obey, refl)
@@ -192,12 +192,12 @@ pub deleted_or_not : {U E : Type 0} (r : Result U E) (t : Range → Bool) (all p
 deleted_or_not (Ok u) t all placed_then h a b = rw a (all_placed (filter t all) (IsPlan-fewer_ranges (plan_of_ranges all) t h))
 deleted_or_not (Err e) t all placed_then h a b = rw b (all_placed all h)
 
--- what is left of two lists that are one, where that didn't go among others for want of memory
+-- what is left of two lists that are one, if that didn't go among others because memory was refused
 pub left_or_not : {U E : Type 0} (r : Result U E) (late latest both late_then latest_then : List Range) → AreGathered late latest → both ≡ gathered late latest → latest_then ≡ [] → OnErr r (late_then ≡ both) → OnErr r (AreGathered late_then latest_then × (gathered late_then latest_then ≡ gathered late latest))
 left_or_not (Ok u) late latest both late_then latest_then h a b c = tt
 left_or_not (Err e) late latest both late_then latest_then h a b c = rw (c, a, b) (all_placed (gathered late latest) h.all_obey, refl)
 
--- what three lists leave when all go to their places in the first, or don't for want of memory
+-- what three lists leave when all go to their places in the first, or don't because memory is refused
 pub all_placed_or_not : {U E : Type 0} (r : Result U E) (placed late latest placed_then late_then latest_then : List Range) → AreGathered placed (gathered late latest)
     → OnOk r (placed_then ≡ gathered placed (gathered late latest)) → OnOk r (late_then ≡ []) → OnOk r (latest_then ≡ []) → OnErr r (placed_then ≡ placed) → OnErr r (AreGathered late_then latest_then × (gathered late_then latest_then ≡ gathered late latest))
     → (AreGathered placed_then (gathered late_then latest_then) × AreGathered late_then latest_then) × (gathered placed_then (gathered late_then latest_then) ≡ gathered placed (gathered late latest))
@@ -239,7 +239,7 @@ module _ (placed late : List Range) (h : AreGathered placed late) (r : Range) (a
     are_apart = all_put by_range_key (λ s. list_any (overlap s) placed ≡ false) r late news.1 h.are_apart;
   }
 
--- a range that goes among the latest, or doesn't for want of memory
+-- a range that goes among the latest, or doesn't because memory is refused
 pub put_or_not : {U E : Type 0} (result : Result U E) (r : Range) (placed late late_then : List Range) → AreGathered placed late → range_refusal (plan_of_ranges (gathered placed late)) r ≡ None → IsNode r.one → IsNode r.other → r.end ≤ last_time → r.light ≤ 1000000
     → OnOk result (late_then ≡ put_in by_range_key r late) → OnErr result (late_then ≡ late)
     → AreGathered placed late_then × OnOk result (gathered placed late_then ≡ put_in by_range_key r (gathered placed late)) × OnErr result (gathered placed late_then ≡ gathered placed late)
@@ -258,7 +258,7 @@ put_among_three result r placed late latest all latest_then h same news one othe
 
 -- ---- merging
 
--- those behind y come behind what comes before y
+-- those after y come after what comes before y
 all_behind : (x y : Range) (ss : List Range) → by_range_key x y ≡ Less → AllByRecursion (λ k. by_numbers (range_key y) k ≡ Less) (map range_key ss) → AllByRecursion (λ s. by_range_key x s ≡ Less) ss
 all_behind x y [] lt all = tt
 all_behind x y (s ∷ ss) lt all = (order_total.trans x y s lt all.0, all_behind x y ss lt all.1)
@@ -267,7 +267,7 @@ all_turned : (x : Range) (ss : List Range) → AllByRecursion (λ s. by_range_ke
 all_turned x [] all = tt
 all_turned x (s ∷ ss) all = (turned by_range_key order_total x s all.0, all_turned x ss all.1)
 
--- those behind y come behind it
+-- those after y come after it
 all_above : (y : Range) (ss : List Range) → AllByRecursion (λ k. by_numbers (range_key y) k ≡ Less) (map range_key ss) → AllByRecursion (λ s. by_range_key y s ≡ Less) ss
 all_above y [] all = tt
 all_above y (s ∷ ss) all = (all.0, all_above y ss all.1)
@@ -364,7 +364,7 @@ none_placed late h = late_alone late (record {
   are_apart = h.are_apart;
 })
 
--- where one of them is empty, they stand one behind the other
+-- where one of them is empty, they stand one after the other
 pub one_empty : (xs ys : List Range) → AreTwoLists xs ys → (length xs ≡ 0) ⊎ (length ys ≡ 0) → xs ++ ys ≡ gathered xs ys
 one_empty [] ys h e = sym (late_alone ys h)
 one_empty (x ∷ xs) [] h e = append-nil (x ∷ xs)

@@ -336,7 +336,7 @@ light_of_limit p c h =
 
 -- ---- where a range goes
 
--- behind those that come by its pair and start
+-- after those that come by its pair and start
 pub count_is_put : (p : ContactPlan) (r : Range) (i : ℕ) → IsPlan p → range_refusal p r ≡ None → r.other < 2 ^ 64 → r.start < 2 ^ 64 → IsCountUntil p.ranges (number_of_range r) i → insert p.ranges i r ≡ put_in by_range_key r p.ranges
 count_is_put p r i h accept other start c =
     let rs = p.ranges in

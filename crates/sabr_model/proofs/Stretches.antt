@@ -22,7 +22,7 @@ use Rattle.sabr_model.proofs.Tabled.{has_place, place_one}
 pub no_stretch : (rs : List Range) (node : ℕ) → IsStretchAmong rs 0 node (record { first = 0; end = 0 })
 no_stretch rs node = record { ordered = omega arith; within = omega arith; whole = λ i d lt is. absurd (omega arith) }
 
--- a run of the node's ranges behind those before it
+-- a run of the node's ranges after those before it
 pub stretch_run : (rs : List Range) (first end node : ℕ) (s : Stretch) → first < end → IsStretchAmong rs first node s → IsStretchAmong rs end node (record { first = cond (eqb s.end 0) first s.first; end = end })
 stretch_run rs first end node s more h =
     (elim (eqb s.end 0) as (λ b. eqb s.end 0 ≡ b → IsStretchAmong rs end node (record { first = cond b first s.first; end = end })) [
@@ -57,7 +57,7 @@ stretch_other rs first end node s more none h = record {
   ];
 }
 
--- the stretches of all nodes behind a run of the ranges of one
+-- the stretches of all nodes after a run of the ranges of one
 module _ (table : List ℕ) (different : are_different table ≡ true) (rs : List Range) (first end one : ℕ) (more : first < end) (alike : (i : ℕ) (d : Range) → first ≤ i → i < end → (get_or rs i d).one ≡ one) (old : List Stretch) (h : AreStretches table rs first old) where
   others : (k node : ℕ) (d : Stretch) → slice_get table k ≡ Some node → (node ≡ one → ⊥) → IsStretchAmong rs end node (get_or old k d)
   others k node d at apart = stretch_other rs first end node (get_or old k d) more (λ i e ge lt is. apart (sym is ∙ alike i e ge lt)) (h.each k node d at)

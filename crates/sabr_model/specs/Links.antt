@@ -29,7 +29,7 @@ pub record IsBefore (x y : Pass) : Type 0 where
   pub light_behind : x.least_light_behind ≤ y.light
   pub number_behind : x.least_number_behind ≤ y.number
 
--- y, some places behind x, has the number as far behind that of x, where it stands in the row that x knows
+-- y, some places after x, has the number as far after that of x, where it stands in the row that x knows
 abbrev pub IsInRow : Pass → ℕ → Pass → Type 0
 IsInRow x behind y = behind ≤ x.in_row_behind → y.number ≡ x.number + behind
 
@@ -58,7 +58,7 @@ pub record IsLinkOf (p : TabledPlan) (node : ℕ) (passes : List Pass) (l : Link
 abbrev pub numbers_of : List Pass → List ℕ
 numbers_of passes = map (λ x. x.number) passes
 
--- The links are the node's: each lies behind the one before it, each standing contact of the node that has a light time
+-- The links are the node's: each lies after the one before it, each standing contact of the node that has a light time
 -- is a pass of one of them, no contact stands there twice, and there are no more passes than the node has contacts.
 pub record AreLinksOf (p : TabledPlan) (node : ℕ) (links : List Link) (passes : List Pass) : Type 0 where
   pub each : (j : ℕ) (l : Link) → slice_get links j ≡ Some l → IsLinkOf p node passes l

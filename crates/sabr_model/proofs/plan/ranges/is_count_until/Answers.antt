@@ -6,7 +6,7 @@ use Rattle.sabr_model.specs.RangeOrder.{place_number, number_of_range, IsRangeLi
 use Rattle.sabr_model.proofs.plan.ranges.is_count_until.Goals as goal
 use Rattle.sabr_model.proofs.plan.ranges.is_count_until.Goals.{else-count-gt0-via-then-count-gt0+else-not-range_comes_by, else-count-gt0-via-else-count-gt0, else-count-ranges-2-via-then-count-ranges-2+else-range_comes_by, else-count-ranges-2-via-else-count-ranges-2}
 
--- what holds of the ranges around a place holds of all before and behind it
+-- what holds of the ranges around a place holds of all before and after it
 counted : (rs : List Range) (number count : ℕ) → IsRangeList rs → count ≤ length rs → (count ≡ 0) ⊎ ((d : Range) → number_of_range (get_or rs (count - 1) d) ≤ number) → (length rs ≤ count) ⊎ ((d : Range) → number < number_of_range (get_or rs count d)) → IsCountUntil rs number count
 counted rs number count h within before behind =
     record {
