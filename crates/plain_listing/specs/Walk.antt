@@ -6,10 +6,11 @@ use Rattle.std.specs.declared.option.Option.TheVariants.{Some, None}
 use Rattle.sabr_model.specs.Plan.{ContactPlan}
 use Rattle.sabr_model.specs.Arrival.{RouteRequest}
 use Rattle.sabr_model.specs.Listing.{routes}
-use Rattle.sabr_model.specs.Record.{RouteRecord, record_of}
+use Rattle.sabr_model.specs.Record.{RouteRecord, record_of, by_record}
+use Rattle.sabr_model.specs.Order.{put_in}
 use Rattle.plain_listing.specs.declared.hop.Hop.{Hop}
 use Rattle.plain_listing.specs.Before.{routes_before}
-use Rattle.plain_listing.specs.Way.{IsWay, numbers_of}
+use Rattle.plain_listing.specs.Way.{IsWay, numbers_of, record_over}
 use Rattle.plain_listing.specs.Steps.{steps_left}
 
 -- the records of the first of the routes before this place
@@ -30,6 +31,14 @@ pub record IsWalk (p : ContactPlan) (r : RouteRequest) (limit : ℕ) (hops : Lis
 abbrev pub Stands : ContactPlan → RouteRequest → ℕ → List Hop → Option ℕ → List RouteRecord → Type 0
 Stands p r limit hops (Some low) kept = IsWalk p r limit hops low kept
 Stands p r limit hops None kept = kept ≡ take limit (map (record_of p r) (routes p r))
+
+-- a hop that doesn't come to the destination stands after the others, and any number may come next
+abbrev pub GoesOn : List Hop → Hop → List Hop → ℕ → Type 0
+GoesOn hops hop further next = (next ≡ 0) × (further ≡ hops ++ hop ∷ [])
+
+-- the route over these hops and one to the destination is put among those that are kept, and a greater number comes next
+abbrev pub Arrives : ContactPlan → RouteRequest → ℕ → List Hop → Hop → ℕ → List RouteRecord → List RouteRecord → Type 0
+Arrives p r limit hops hop next kept more = (next ≡ hop.number + 1) × (more ≡ take limit (put_in by_record (record_over p r (hops ++ hop ∷ [])) kept))
 
 -- a move leads where the walk stands again, with fewer steps left
 pub record IsMove (p : ContactPlan) (r : RouteRequest) (limit : ℕ) (hops : List Hop) (low : ℕ) (further : List Hop) (next : Option ℕ) (kept : List RouteRecord) : Type 0 where

@@ -1,7 +1,9 @@
 -- The way on which a walk through the contacts stands.
-use Rattle.std.specs.Prelude.{◌≡◌, ℕ, ◌-◌, ◌==◌, ◌&&◌, ◌||◌, Bool, not, nat_lt, IsTrue, List, [], ◌∷◌, ◌++◌, map, length, unwrap_or, slice_get}
+use Rattle.std.specs.Prelude.{◌≡◌, ℕ, ◌-◌, ◌==◌, ◌&&◌, ◌||◌, Bool, not, nat_lt, IsTrue, List, [], ◌∷◌, ◌++◌, map, length, unwrap_or, slice_get, if◌then◌else◌}
 use Rattle.std.specs.List.{list_any}
 use Rattle.std.specs.Option.{option_map_or}
+use Rattle.std.specs.declared.option.Option.{Option}
+use Rattle.std.specs.declared.option.Option.TheVariants.{Some, None}
 use Rattle.sabr_model.specs.Plan.{ContactPlan, has}
 use Rattle.sabr_model.specs.Arrival.{RouteRequest}
 use Rattle.sabr_model.specs.Route.{chain_end, is_path, delivery_of, until_of, entry_of}
@@ -13,18 +15,22 @@ use Rattle.plain_listing.specs.declared.hop.Hop.{Hop}
 abbrev pub stop_of : ContactPlan → RouteRequest → List ℕ → Reached
 stop_of p r s = record { node = unwrap_or (chain_end p r.source s) 0; at = delivery_of p r s }
 
+-- the numbers of the hops
+abbrev pub numbers_of : List Hop → List ℕ
+numbers_of hops = map (λ h. h.number) hops
+
 -- the hop over contact n after the contacts of `front`
 abbrev pub hop_of : ContactPlan → RouteRequest → List ℕ → ℕ → Hop
 hop_of p r front n = record { number = n; stop = stop_of p r (front ++ n ∷ []) }
+
+-- the hop over contact n after these hops, if a route may begin with the numbers of all
+abbrev pub next_hop : ContactPlan → RouteRequest → List Hop → ℕ → Option Hop
+next_hop p r hops n = if is_path p r (numbers_of hops ++ n ∷ []) then Some (hop_of p r (numbers_of hops) n) else None
 
 -- the hops over the contacts of s after those of `front`
 abbrev pub hops_behind : ContactPlan → RouteRequest → List ℕ → List ℕ → List Hop
 hops_behind p r front [] = []
 hops_behind p r front (n ∷ s) = hop_of p r front n ∷ hops_behind p r (front ++ n ∷ []) s
-
--- the numbers of the hops
-abbrev pub numbers_of : List Hop → List ℕ
-numbers_of hops = map (λ h. h.number) hops
 
 -- the nodes at which the hops arrive
 abbrev pub nodes_of : List Hop → List ℕ

@@ -1,12 +1,10 @@
 //! The walk through all ways, depth first, in order of their numbers.
 
-ghost use Rattle.std.specs.Prelude.{◌≡◌, ◌≢◌, ◌≤◌, ◌+◌, ◌++◌, [], ◌∷◌, take, length, IfOk};
+ghost use Rattle.std.specs.Prelude.{◌≡◌, ◌≢◌, ◌≤◌, length, IfOk};
 ghost use Rattle.std.specs.List.Sorted.{IsStrictlySortedBy};
-ghost use Rattle.sabr_model.specs.Order.{put_in};
 ghost use Rattle.sabr_model.specs.Plan.{IsPlan, most_records};
 ghost use Rattle.sabr_model.specs.Record.{by_record};
-ghost use Rattle.plain_listing.specs.Way.{record_over};
-ghost use Rattle.plain_listing.specs.Walk.{IsWalk, IsMove};
+ghost use Rattle.plain_listing.specs.Walk.{IsWalk, IsMove, GoesOn, Arrives};
 
 use crate::hop::Hop;
 use crate::kept::Kept;
@@ -28,8 +26,10 @@ fn take_hop<A: Allocator + Copy>(
     requires rising { IsStrictlySortedBy by_record kept.old.routes.items }
     requires within { length kept.old.routes.items ≤ kept.old.limit }
     ensures limit { kept.new.limit ≡ kept.old.limit }
-    ensures onward { IfOk result (λ next. hop.stop.node ≢ request.now.destination → (next ≡ 0) × (hops.new.items ≡ hops.old.items ++ hop ∷ []) × (kept.new.routes.items ≡ kept.old.routes.items)) }
-    ensures route { IfOk result (λ next. hop.stop.node ≡ request.now.destination → (next ≡ hop.number + 1) × (hops.new.items ≡ hops.old.items) × (kept.new.routes.items ≡ take kept.old.limit (put_in by_record (record_over plan.now.plan request.now (hops.old.items ++ hop ∷ [])) kept.old.routes.items))) }
+    ensures onward { IfOk result (λ next. hop.stop.node ≢ request.now.destination → GoesOn hops.old.items hop hops.new.items next) }
+    ensures onward_kept { IfOk result (λ next. hop.stop.node ≢ request.now.destination → kept.new.routes.items ≡ kept.old.routes.items) }
+    ensures back { IfOk result (λ next. hop.stop.node ≡ request.now.destination → hops.new.items ≡ hops.old.items) }
+    ensures route { IfOk result (λ next. hop.stop.node ≡ request.now.destination → Arrives plan.now.plan request.now kept.old.limit hops.old.items hop next kept.old.routes.items kept.new.routes.items) }
 {
     hops.push(hop)?;
     if hop.stop.node != request.to() {

@@ -1,9 +1,9 @@
 //! The way on which the walk stands: where it ends, where it may go on, and the route over it.
 
-ghost use Rattle.std.specs.Prelude.{◌≡◌, ℕ, ◌<◌, ◌++◌, [], ◌∷◌, None, Some, IfOk, if◌then◌else◌};
+ghost use Rattle.std.specs.Prelude.{◌≡◌, ℕ, ◌<◌, ◌++◌, [], ◌∷◌, None, Some, IfOk};
 ghost use Rattle.sabr_model.specs.Plan.{IsPlan, has};
 ghost use Rattle.sabr_model.specs.Route.{is_path};
-ghost use Rattle.plain_listing.specs.Way.{IsWay, numbers_of, last_stop, hop_of, is_passed, may_visit, record_over};
+ghost use Rattle.plain_listing.specs.Way.{IsWay, numbers_of, last_stop, next_hop, is_passed, may_visit, record_over};
 
 use crate::hop::Hop;
 use sabr_model::{NoMemory, Plan, Reached, Request, Route, Told, arrive};
@@ -54,7 +54,7 @@ pub fn hop_over<A: Allocator + Copy>(
 ) -> Option<Hop>
     requires rules { IsPlan plan.now.plan }
     requires way { IsWay plan.now.plan request.now hops.now }
-    ensures { result ≡ (if is_path plan.now.plan request.now (numbers_of hops.now ++ number ∷ []) then Some (hop_of plan.now.plan request.now (numbers_of hops.now) number) else None) }
+    ensures { result ≡ next_hop plan.now.plan request.now hops.now number }
 {
     let end = end_of(request, hops);
     let contact = plan.contact(number)?;

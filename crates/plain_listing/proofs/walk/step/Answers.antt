@@ -122,13 +122,13 @@ returns-clause-ok g c =
     let is = c.in_ok-take_hop.ensures.route there in
     move_to p r limit hops low hops c.take_hop.new.hops.items (n + 1) c.in_ok-take_hop.field-0 c.take_hop.new.kept.routes.items c.take_hop.new.kept.routes.items
     (move_found p r c.requires.rules limit hops low kept c.requires.walk n next path (sym node ∙ there) c.take_hop.new.kept.routes.items
-    (is.2 ∙ ap (λ h. take limit (put_in by_record (record_over p r (hops ++ h ∷ [])) kept)) told))
-    is.1 (is.0 ∙ ap (λ m. m + 1) number) refl)
+    (is.1 ∙ ap (λ h. take limit (put_in by_record (record_over p r (hops ++ h ∷ [])) kept)) told))
+    (c.in_ok-take_hop.ensures.back there) (is.0 ∙ ap (λ m. m + 1) number) refl)
     (λ elsewhere.
     let is = c.in_ok-take_hop.ensures.onward elsewhere in
     move_to p r limit hops low (hops ++ hop_of p r (numbers_of hops) n ∷ []) c.take_hop.new.hops.items 0 c.in_ok-take_hop.field-0 kept c.take_hop.new.kept.routes.items
     (move_into p r c.requires.rules limit hops low kept c.requires.walk n next path (λ e. elsewhere (node ∙ e)))
-    (is.1 ∙ ap (λ h. hops ++ h ∷ []) told) is.0 is.2)
+    (is.1 ∙ ap (λ h. hops ++ h ∷ []) told) is.0 (c.in_ok-take_hop.ensures.onward_kept elsewhere))
     (cases_eq hop.stop.node r.destination)
 
 pub returns-in_default-hop_over-clause-ok : goal.returns-in_default-hop_over-clause-ok
