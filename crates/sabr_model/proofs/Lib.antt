@@ -30,6 +30,7 @@ pub mod Chains
 pub mod Grouping
 pub mod ContactOrders
 pub mod SenderLemmas
+pub mod Heads
 pub mod PlanLemmas
 pub mod Rises
 mod CountWalks

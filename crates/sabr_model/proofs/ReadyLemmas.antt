@@ -10,6 +10,7 @@ use Rattle.indexmap.specs.IndexMap.{IndexMap, keys}
 use Rattle.sabr_model.specs.declared.contact.Contact.{Contact}
 use Rattle.sabr_model.specs.declared.contact.Range.{Range}
 use Rattle.sabr_model.specs.declared.hop.Hop.{Hop}
+use Rattle.sabr_model.specs.declared.link.SenderHead.{SenderHead}
 use Rattle.sabr_model.specs.declared.plan.ends.Ends.{Ends}
 use Rattle.sabr_model.specs.declared.plan.stretches.Stretch.{Stretch}
 use Rattle.sabr_model.specs.declared.plan.linked.NodeLinks.{NodeLinks}
@@ -31,8 +32,8 @@ pub all_ends : (table : List ℕ) (contacts : List Contact) (ends : List Ends) �
 all_ends table contacts ends h k d e lt = h.each k d e (omega (arith, lt, h.as_many))
 
 -- a plan that is not ready promises the ends of contacts alone
-pub not_ready : {A : Type 0} {linked : List (NodeLinks A)} {starts : List ℕ} {named : List Incoming} (p : TabledPlan) (hops : List Hop) (known : List Ends) → BeginEnds p.table p.plan.contacts known → IsReady false p hops known linked starts named
-not_ready p hops known begin = record { ends = begin; hops = λ e. absurd cc; links = λ e. absurd cc; senders = λ e. absurd cc }
+pub not_ready : {A : Type 0} {linked : List (NodeLinks A)} {starts : List ℕ} {named : List Incoming} {heads : List SenderHead} (p : TabledPlan) (hops : List Hop) (known : List Ends) → BeginEnds p.table p.plan.contacts known → IsReady false p hops known linked starts named heads
+not_ready p hops known begin = record { ends = begin; hops = λ e. absurd cc; links = λ e. absurd cc; senders = λ e. absurd cc; tops = λ e. absurd cc }
 
 -- what holds beside each element holds with one more
 module _ {X Y : Type 0} (P : X → Y → Type 0) (xs : List X) (ys : List Y) (x : X) (y : Y) (range : length ys < length xs) (before : (k : ℕ) (d : X) (e : Y) → k < length ys → P (get_or xs k d) (get_or ys k e)) (here : P (get_or xs (length ys) x) y) where

@@ -30,7 +30,7 @@ pub use ghost_count::GhostCount;
 pub use hop::Hop;
 pub use laws::{candidates_hold_each_once, faults_tell_routes, law1, law2, law3};
 pub use limits::{LAST_TIME, MOST_AVOIDED, MOST_HOPS, MOST_LIGHT, MOST_MARGIN, MOST_RECORDS};
-pub use link::{Link, LinkBounds, Links, Pass, Sender};
+pub use link::{Link, LinkBounds, Links, Pass, Sender, SenderHead};
 pub use node_list::NodeList;
 pub use numbers::Numbers;
 pub use plan::{GatheredContacts, GatheredRanges, NodeLinks, Outgoing, Plan, Senders, arrive};

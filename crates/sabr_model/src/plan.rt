@@ -81,7 +81,7 @@ impl<A: Allocator + Copy> Model for Plan<A> {
 
     ghost view = { λ a. record { plan = record { contacts = a.contacts.items; ranges = a.ranges.items; greatest = a.greatest }; table = keys a.table } };
 
-    ghost invariant = { λ a. IsPlan (record { contacts = a.contacts.items; ranges = a.ranges.items; greatest = a.greatest }) × IsTableOf a.contacts.items a.table × IsReady a.ready (record { plan = record { contacts = a.contacts.items; ranges = a.ranges.items; greatest = a.greatest }; table = keys a.table }) a.hops.items a.ends.items a.linked.items a.incoming.starts.items a.incoming.named.items × KnowsOpenings a.openings.kept a.openings.set.keys a.contacts.items };
+    ghost invariant = { λ a. IsPlan (record { contacts = a.contacts.items; ranges = a.ranges.items; greatest = a.greatest }) × IsTableOf a.contacts.items a.table × IsReady a.ready (record { plan = record { contacts = a.contacts.items; ranges = a.ranges.items; greatest = a.greatest }; table = keys a.table }) a.hops.items a.ends.items a.linked.items a.incoming.starts.items a.incoming.named.items a.incoming.heads.items × KnowsOpenings a.openings.kept a.openings.set.keys a.contacts.items };
 }
 
 impl<A: Allocator + Copy> Plan<A> {

@@ -6,6 +6,9 @@ use Rattle.sabr_search.specs.declared.layers.Reached.{Reached}
 use Rattle.sabr_search.specs.Ways.{Leads}
 use Rattle.sabr_search.specs.Layers.{Entries}
 use Rattle.sabr_search.specs.Task.{SearchTask, Takes}
+use Rattle.sabr_search.specs.Linked.{IsLinkWithin, HasNumber}
+use Rattle.sabr_model.specs.declared.link.Pass.{Pass}
+use Rattle.sabr_model.specs.declared.link.SenderHead.{SenderHead}
 use Rattle.sabr_search.specs.Made.{Entry}
 
 -- the earliest second at which any way can be at a node: the least arrival that was found, or when the search stopped
@@ -53,6 +56,11 @@ IsNotedLate place reached begin u a x place' reached' =
 -- any other u is not too late
 abbrev pub IsToldLate : SearchTask → List ℕ → ℕ → List ℕ → ℕ → ℕ → Type 0
 IsToldLate task since d late u t = (u ≡ task.start → task.at ≤ t → ⊥) × (slice_index_or task.shut u false ≡ false → u ≢ task.goal → soonest since d u ≤ t → t < slice_index late u)
+
+-- so it is for each step over a link with this head that arrives before a second
+abbrev pub IsToldByHead : SearchTask → List ℕ → ℕ → List ℕ → SenderHead → ℕ → Type 0
+IsToldByHead task since d late head before =
+    (to : ℕ) (passes : List Pass) (n t w b : ℕ) → IsLinkWithin task head.node to passes head.bounds → HasNumber passes n → Takes task n head.node t w b → b < before → IsToldLate task since d late head.node t
 
 -- that holds for each step to an entry at the places from `first` to before `begin`
 abbrev pub AreTold : SearchTask → List ℕ → ℕ → List Reached → ℕ → ℕ → List ℕ → Type 0

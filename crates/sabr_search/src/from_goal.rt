@@ -4,15 +4,16 @@
 ghost use Rattle.std.specs.Prelude.{◌≡◌, ℕ, ◌+◌, ◌^◌, ◌≤◌, ◌<◌, min, take, length, true, false, IsTrue, slice_get, slice_index, slice_index_or, slice_set, Some, None, OnOk, IfOk, IfSome, IfNone, List, [], ◌∷◌, ◌++◌, ◌-◌, replicate, reverse};
 ghost use Rattle.sabr_search.specs.Task.{IsTask, Takes, never};
 ghost use Rattle.sabr_search.specs.Linked.{IsLinkWithin, HasNumber};
-ghost use Rattle.sabr_search.specs.Late.{soonest, InTimeFor, AreLate, IsNotedLate, IsToldLate, AreTold, AreArrivals, AreLateLayers, IsMet, IsEnded};
+ghost use Rattle.sabr_search.specs.Late.{soonest, InTimeFor, AreLate, IsNotedLate, IsToldLate, IsToldByHead, AreTold, AreArrivals, AreLateLayers, IsMet, IsEnded};
 ghost use Rattle.sabr_search.specs.Following.{IsNoneBefore};
 ghost use Rattle.sabr_search.specs.Ways.{Leads};
 ghost use Rattle.sabr_search.specs.Deadlines.{AreTimed};
 
 use crate::layers::{Best, Layers, Reached};
 use crate::looks::Looks;
+use crate::over_link::rules_out;
 use crate::task::Task;
-use sabr_model::{NoMemory, Sender};
+use sabr_model::{NoMemory, Sender, SenderHead};
 use std::alloc::Allocator;
 
 /// Returns the earliest second at which any way can be at a node. This is its least arrival, or the first delivery, at
@@ -71,6 +72,37 @@ impl<A: Allocator + Copy> Layers<A> {
         }
         self.late[entry.node] = entry.deadline;
         Ok(())
+    }
+
+    /// Returns true if a link to a node that is left in time before `before` needn't be taken: its sender is in no layer
+    /// but the start's, or its bounds show that its sender is too late then already.
+    #[inline(always)]
+    fn is_told(
+        &self,
+        task: &Task<'_, A>,
+        arrival: &[u64],
+        delivery: u64,
+        head: SenderHead,
+        before: u64,
+    ) -> bool
+        requires task { IsTask task.now }
+        requires arrivals { length arrival.now ≡ length task.now.table }
+        requires many { length self.now.late.items ≡ length task.now.table }
+        requires node { head.node < length task.now.table }
+        ensures { IsTrue result → IsToldByHead task.now arrival.now delivery self.now.late.items head before }
+    {
+        let node = head.node;
+        if node == task.start() {
+            return false;
+        }
+        if node == task.goal() {
+            return true;
+        }
+        if task.shut()[node] {
+            return true;
+        }
+        let at = self.late[node].max(soonest_at(arrival, delivery, node));
+        rules_out(head.bounds, at, before)
     }
 
     /// Takes one link to a node that is left in time before `before`, for the layer before `left`. Returns whether the
@@ -171,6 +203,10 @@ impl<A: Allocator + Copy> Layers<A> {
             return Ok(None);
         };
         for place in 0..senders.len() {
+            let head = senders.head(place);
+            if self.is_told(task, arrival, delivery, head, to.deadline) {
+                continue;
+            }
             let from = senders.at(place);
             if from.passes.len() as u64 > most - looks.count {
                 return Ok(None);

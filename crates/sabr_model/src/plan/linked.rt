@@ -53,7 +53,7 @@ impl<A: Allocator + Copy> Plan<A> {
         if !self.ready {
             return None;
         }
-        let incoming = self.incoming.of(index)?;
-        Some(Senders::over(incoming, &self.linked))
+        let (incoming, heads) = self.incoming.of(index)?;
+        Some(Senders::over(incoming, heads, &self.linked))
     }
 }

@@ -9,7 +9,7 @@ ghost use Rattle.sabr_model.specs.Tabled.{IsHopOf};
 ghost use Rattle.sabr_model.specs.Ready.{AreHops, BeginEnds};
 ghost use Rattle.sabr_model.specs.Linking.{AreLinked};
 ghost use Rattle.sabr_model.specs.Grouping.{AreByNode};
-ghost use Rattle.sabr_model.specs.Incoming.{AreSenders};
+ghost use Rattle.sabr_model.specs.Incoming.{AreSenders, AreHeads};
 ghost use Rattle.sabr_model.specs.Stretches.{AreEnds};
 
 use super::Plan;
@@ -72,6 +72,7 @@ impl<A: Allocator + Copy> Plan<A> {
     fn keep_links(&mut self, linked: Vec<NodeLinks<A>, A>, incoming: IncomingLinks<A>)
         requires links { AreLinked self.old linked.items }
         requires senders { AreSenders self.old linked.items incoming.starts.items incoming.named.items }
+        requires heads { AreHeads linked.items incoming.named.items incoming.heads.items }
         ensures { self.new ≡ self.old }
     {
         self.linked = linked;

@@ -2,10 +2,10 @@
 
 ghost use Rattle.std.specs.Prelude.{◌≡◌, ◌<◌, [], Some, length, slice_get};
 ghost use Rattle.sabr_model.specs.Links.{AreWithin};
-ghost use Rattle.sabr_model.specs.Incoming.{links_named, passes_over, passes_at, passes_named, LiesOver, LieOver, AllLieOver};
+ghost use Rattle.sabr_model.specs.Incoming.{links_named, passes_over, passes_at, passes_named, bounds_at, head_named, no_bounds, LiesOver, LieOver, AllLieOver, AreHeads, IsHeadAt};
 
 use super::NodeLinks;
-use crate::link::{Link, LinkBounds, Pass, Sender};
+use crate::link::{Link, LinkBounds, Pass, Sender, SenderHead};
 use std::alloc::{Allocator, Global};
 use std::marker::Model;
 
@@ -20,28 +20,38 @@ pub struct Incoming {
 #[derive(Drop)]
 pub struct Senders<'a, A: Allocator + Copy = Global> {
     incoming: &'a [Incoming],
+    heads: &'a [SenderHead],
     linked: &'a [NodeLinks<A>],
 }
 
 impl<'a, A: Allocator + Copy> Model for Senders<'a, A> {
     ghost use Rattle.std.specs.Prelude.{List};
     ghost use Rattle.sabr_model.specs.Links.{SentLink};
-    ghost use Rattle.sabr_model.specs.Incoming.{AllLieOver, links_named};
+    ghost use Rattle.sabr_model.specs.Incoming.{AllLieOver, AreHeads, links_named};
 
     ghost Value = { List SentLink };
 
     ghost view = { λ a. links_named a.linked.now a.incoming.now };
 
-    ghost invariant = { λ a. AllLieOver a.linked.now };
+    ghost invariant = { λ a. AllLieOver a.linked.now × AreHeads a.linked.now a.incoming.now a.heads.now };
 }
 
 impl<'a, A: Allocator + Copy> Senders<'a, A> {
-    /// Makes the list of the links that are named, among those of all nodes.
-    pub(super) fn over(incoming: &'a [Incoming], linked: &'a [NodeLinks<A>]) -> Senders<'a, A>
-        requires { AllLieOver linked.now }
+    /// Makes the list of the links that are named, among those of all nodes, each with its head.
+    pub(super) fn over(
+        incoming: &'a [Incoming],
+        heads: &'a [SenderHead],
+        linked: &'a [NodeLinks<A>],
+    ) -> Senders<'a, A>
+        requires lie { AllLieOver linked.now }
+        requires heads { AreHeads linked.now incoming.now heads.now }
         ensures { result ≡ links_named linked.now incoming.now }
     {
-        Senders { incoming, linked }
+        Senders {
+            incoming,
+            heads,
+            linked,
+        }
     }
 
     /// How many links lead to the node.
@@ -49,6 +59,21 @@ impl<'a, A: Allocator + Copy> Senders<'a, A> {
         ensures { result ≡ length self.now }
     {
         self.incoming.len()
+    }
+
+    /// What is compared before the link at a place is read.
+    #[inline(always)]
+    pub fn head(&self, place: usize) -> SenderHead
+        requires { place < length self.now }
+        ensures { IsHeadAt self.now place result }
+    {
+        match self.heads.get(place) {
+            Some(head) => *head,
+            None => SenderHead {
+                node: 0,
+                bounds: no_bounds(),
+            },
+        }
     }
 
     /// The link at a place.
@@ -94,6 +119,43 @@ fn sender_at<A: Allocator + Copy>(node: &NodeLinks<A>, named: Incoming) -> Sende
     }
 }
 
+/// The sender and the bounds of the link that is named.
+pub(super) fn head_named<A: Allocator + Copy>(
+    linked: &[NodeLinks<A>],
+    named: Incoming,
+) -> SenderHead
+    ensures { result ≡ head_named linked.now named }
+{
+    SenderHead {
+        node: named.sender as usize,
+        bounds: match linked.get(named.sender as usize) {
+            Some(node) => bounds_at(node, named.link),
+            None => no_bounds(),
+        },
+    }
+}
+
+/// The bounds of the link at a place among a node's links.
+fn bounds_at<A: Allocator + Copy>(node: &NodeLinks<A>, place: u32) -> LinkBounds
+    ensures { result ≡ bounds_at node.now place }
+{
+    match node.links.get(place as usize) {
+        Some(link) => link.bounds,
+        None => no_bounds(),
+    }
+}
+
+/// Bounds of no passes.
+fn no_bounds() -> LinkBounds
+    ensures { result ≡ no_bounds }
+{
+    LinkBounds {
+        latest_end: 0,
+        least_light: 0,
+        soonest: 0,
+    }
+}
+
 /// A link from a node without passes.
 fn no_passes<'a>(node: usize) -> Sender<'a>
     ensures sender { result.node ≡ node }
@@ -103,11 +165,7 @@ fn no_passes<'a>(node: usize) -> Sender<'a>
     Sender {
         node,
         passes: &[],
-        bounds: LinkBounds {
-            latest_end: 0,
-            least_light: 0,
-            soonest: 0,
-        },
+        bounds: no_bounds(),
     }
 }
 

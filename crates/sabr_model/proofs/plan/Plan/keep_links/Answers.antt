@@ -15,6 +15,7 @@ invariant_of-self g c =
         hops = ready.hops;
         links = λ e. subst (λ (q : TabledPlan). AreLinked q linked) (sym c.self.view_is) c.requires.links;
         senders = λ e. subst (λ (q : TabledPlan). AreSenders q linked c.args.incoming.starts.items c.args.incoming.named.items) (sym c.self.view_is) c.requires.senders;
+        tops = λ e. c.requires.heads;
       },
       c.self.invariant.3,
     )

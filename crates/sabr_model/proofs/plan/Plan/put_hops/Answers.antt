@@ -1,4 +1,4 @@
-use Rattle.std.proofs.Common.{◌≡◌, ℕ, List, sym, ap, subst, ◌∙◌}
+use Rattle.std.proofs.Common.{◌≡◌, ℕ, List, sym, ap, refl, subst, ◌∙◌}
 use Rattle.std.specs.Prelude.{[], slice_get, Vec}
 use Rattle.std.proofs.lemmas.Option.{none-some}
 use Rattle.indexmap.specs.IndexMap.{keys}
@@ -71,7 +71,8 @@ invariant_of-self-2 g c =
         ends = subst (λ (es : List Ends). BeginEnds table p.contacts es) gone (no_ends table p.contacts);
         hops = λ e. hops_of_ranges p table hops by_contacts;
         links = λ e k node s at there. absurd (none-some s (ap (λ (ls : List (NodeLinks g.row.A.Denot)). slice_get ls k) (sym c.clear.ensures.items) ∙ at));
-        senders = λ e to a b at_a at_b. absurd (none-some a (ap (λ (ss : List ℕ). slice_get ss to) (sym c.forget.ensures) ∙ at_a));
+        senders = λ e to a b at_a at_b. absurd (none-some a (ap (λ (ss : List ℕ). slice_get ss to) (sym c.forget.ensures.starts) ∙ at_a));
+        tops = λ e. rw (c.forget.ensures.named, c.forget.ensures.heads) refl;
       },
       c.self.invariant.3,
     )

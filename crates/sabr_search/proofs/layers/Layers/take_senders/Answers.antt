@@ -18,6 +18,28 @@ pub take_sender-requires-clause-given : goal.take_sender-requires-clause-given
 take_sender-requires-clause-given g c = λ b less.
     rw c.loop-place.invariant.ends (in_time_kept (slice_index c.args.self.now.ends.items c.args.left) (slice_index c.args.self.now.ends.items (c.args.left + 1)) c.loop-place.self.reached.items c.args.self.now.reached.items c.loop-place.invariant.kept c.args.to.node b (c.requires.given b less))
 
+pub is_told-requires-clause-node : goal.is_told-requires-clause-node
+is_told-requires-clause-node g c = c.in-Some.ensures.senders c.loop-place.place (record { sender = c.head-head.result.node; passes = c.head-head.ensures.0 }) c.head-head.ensures.1
+
+pub loop-place-preserved-then-is_told : goal.loop-place-preserved-then-is_told
+loop-place-preserved-then-is_told g c =
+    let so_far = c.loop-place.invariant in
+    let here = c.head-head.ensures in
+    let link = c.in-Some.ensures.each c.loop-place.place (record { sender = c.head-head.result.node; passes = here.0 }) here.1 in
+    record {
+      ends = so_far.ends;
+      counted = so_far.counted;
+      lists = so_far.lists;
+      kept = so_far.kept;
+      rises = so_far.rises;
+      told = λ j s n t w b less at has step by. elim (last_or_before j c.loop-place.place less) [
+        | inl before ↦ so_far.told j s n t w b before at has step by
+        | inr same ↦
+            (let is : s ≡ record { sender = c.head-head.result.node; passes = here.0 } = same_some (sym at ∙ ap (slice_get c.in-Some.senders) same ∙ here.1) in
+            rw is (c.is_told.ensures c.if-is_told.true c.args.to.node here.0 n t w b (link, here.2) (rw is at has) (rw is at step) by))
+      ];
+    }
+
 pub loop-place-preserved : goal.loop-place-preserved
 loop-place-preserved g c =
     let task = c.args.task.now in
