@@ -12,6 +12,7 @@ pub mod Undo
 pub mod Queue
 pub mod Index
 pub mod Best
+pub mod Asking
 pub mod Taking
 pub mod Room
 pub mod Sound

@@ -5,9 +5,8 @@ use Rattle.sabr_model.specs.Plan.{ContactPlan, TabledPlan, IsPlan}
 use Rattle.sabr_model.specs.Arrival.{RouteRequest}
 use Rattle.sabr_model.specs.Asking.{IsRequest}
 use Rattle.sabr_model.specs.Record.{RouteRecord, record_of}
-use Rattle.sabr_search.specs.declared.kept.Kept.{Kept}
-use Rattle.sabr_search.specs.Kept.{IsKept}
 use Rattle.sabr_frontier.specs.declared.tree.Tree.{Tree}
+use Rattle.sabr_frontier.specs.Asking.{Asked, Asking}
 use Rattle.sabr_frontier.specs.State.{State, PartState}
 use Rattle.sabr_frontier.specs.Shape.{Shape, shape_of, shown}
 use Rattle.sabr_frontier.specs.Undo.{CanUndo, IsRoomy, undone, undone_times}
@@ -47,17 +46,16 @@ abbrev pub former_of : {A : Type 0} → List ℕ → Shape A → List State
 former_of [] t = []
 former_of (s ∷ ss) t = shown (tree_before s t) ∷ former_of ss (tree_before s t)
 
-abbrev pub seen : {A : Type 0} → TabledPlan → RouteRequest → Tree A → List ℕ → ℕ → ℕ → Seen
-seen plan request tree pages searches calls = record { plan = plan; request = request; state = shown (shape_of tree); former = former_of (reverse pages) (shape_of tree); searches = searches; calls = calls }
+abbrev pub seen : {A : Type 0} → Asking → Tree A → List ℕ → ℕ → Seen
+seen asker tree pages searches = record { plan = asker.asked.plan; request = asker.asked.request; state = shown (shape_of tree); former = former_of (reverse pages) (shape_of tree); searches = searches; calls = asker.calls }
 
-pub record IsSession {A : Type 0} (plan : TabledPlan) (request : RouteRequest) (tree : Tree A) (pages : List ℕ) (kept : Kept A) : Type 0 where
-  pub rules : IsPlan plan.plan
-  pub limits : IsRequest request
-  pub sound : IsSound plan.plan request (shape_of tree)
+pub record IsSession {A : Type 0} (asked : Asked) (tree : Tree A) (pages : List ℕ) : Type 0 where
+  pub rules : IsPlan asked.plan.plan
+  pub limits : IsRequest asked.request
+  pub sound : IsSound asked.plan.plan asked.request (shape_of tree)
   pub starts : AreStarts (reverse pages) (length tree.journal.items)
   pub index : tree.index.items ≡ (shape_of tree).index
   pub room : IsRoomy tree
-  pub tables : IsKept plan request kept
 
 -- a state before a page that gave no routes, and before one that gave some
 abbrev pub former_then : List (List ℕ) → State → List State → List State

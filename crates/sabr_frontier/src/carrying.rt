@@ -13,6 +13,7 @@ ghost use Rattle.sabr_frontier.specs.Loading.{IsCarryFault, may_carry};
 
 use crate::leading::Lead;
 use crate::load_fault::LoadFault;
+use crate::question::Question;
 use sabr_model::{HopFault, Plan, Request, Route, Told, follow, follow_behind};
 use std::alloc::Allocator;
 
@@ -65,18 +66,16 @@ fn delivery<A: Allocator + Copy>(
 ///
 /// [`LoadFault::BadRoute`] if it is no route of the part, else [`LoadFault::NoMemory`] if a growth was refused.
 pub fn carried<A: Allocator + Copy>(
-    alloc: A,
-    plan: &Plan<A>,
-    request: &Request,
+    question: &Question<'_, A>,
     prefix: &[u32],
     excluded: &[u32],
     lead: Option<Lead>,
     route: Option<&[u32]>,
 ) -> Result<Option<Route<A>>, LoadFault>
-    requires { IfSome lead (IsLead plan.now.plan request.now prefix.now) }
-    ensures ok { IfOk result (λ o. o ≡ option_map (record_of plan.now.plan request.now) (option_copied route.entry)) }
-    ensures may { OnOk result (may_carry plan.now.plan request.now (record { prefix = prefix.now; excluded = excluded.now; carried = option_copied route.entry }) ≡ true) }
-    ensures err { IfErr result (IsCarryFault (may_carry plan.now.plan request.now (record { prefix = prefix.now; excluded = excluded.now; carried = option_copied route.entry }))) }
+    requires { IfSome lead (IsLead question.now.plan.now.plan question.now.request prefix.now) }
+    ensures ok { IfOk result (λ o. o ≡ option_map (record_of question.now.plan.now.plan question.now.request) (option_copied route.entry)) }
+    ensures may { OnOk result (may_carry question.now.plan.now.plan question.now.request (record { prefix = prefix.now; excluded = excluded.now; carried = option_copied route.entry }) ≡ true) }
+    ensures err { IfErr result (IsCarryFault (may_carry question.now.plan.now.plan question.now.request (record { prefix = prefix.now; excluded = excluded.now; carried = option_copied route.entry }))) }
 {
     let Some(route) = route else {
         return Ok(None);
@@ -84,11 +83,11 @@ pub fn carried<A: Allocator + Copy>(
     if !goes_on(prefix, excluded, route) {
         return Err(LoadFault::BadRoute);
     }
-    let Ok(delivery) = delivery(plan, request, prefix, lead, route) else {
+    let Ok(delivery) = delivery(question.plan, &question.request, prefix, lead, route) else {
         return Err(LoadFault::BadRoute);
     };
-    let Ok(numbers) = Vec::from_slice(alloc, route) else {
+    let Ok(numbers) = Vec::from_slice(question.alloc, route) else {
         return Err(LoadFault::NoMemory);
     };
-    Ok(Some(Told::of(plan, route).route(numbers, delivery)))
+    Ok(Some(Told::of(question.plan, route).route(numbers, delivery)))
 }

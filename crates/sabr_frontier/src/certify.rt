@@ -6,7 +6,6 @@ ghost use Rattle.std.specs.Option.{option_and_then, option_copied};
 ghost use Rattle.std.specs.Ordering.{is_lt};
 ghost use Rattle.sabr_model.specs.Plan.{IsPlan};
 ghost use Rattle.sabr_model.specs.Record.{by_record};
-ghost use Rattle.sabr_search.specs.Kept.{IsKept};
 ghost use Rattle.sabr_frontier.specs.Laws.{CarriesLeast};
 ghost use Rattle.sabr_frontier.specs.Listing.{state_at};
 ghost use Rattle.sabr_frontier.specs.Shape.{shape_of, shown};
@@ -14,11 +13,11 @@ ghost use Rattle.sabr_frontier.specs.Sound.{IsTree};
 ghost use Rattle.sabr_frontier.specs.Winners.{CarriesNone, IsNext};
 ghost use Rattle.sabr_frontier.specs.Undo.{IsRoomy};
 
-use crate::finder::ask;
+use crate::asker::Asker;
 use crate::places::{carried, prefix};
 use crate::tree::Tree;
-use sabr_model::{NoMemory, Plan, Request, Route};
-use sabr_search::{BestOf, Kept};
+use sabr_model::{NoMemory, Route};
+use sabr_search::BestOf;
 use std::alloc::Allocator;
 use std::cmp::Ordering;
 
@@ -67,20 +66,16 @@ impl<A: Allocator + Copy> Tree<A> {
     /// Returns true if each part carries its least route: one search for each. It takes the memory of a search.
     fn carries_least<B: BestOf<A>>(
         &self,
-        plan: &Plan<A>,
-        request: &Request,
-        finder: &mut B,
-        kept: &mut Kept<A>,
+        asker: &mut Asker<'_, B, A>,
     ) -> Result<bool, NoMemory>
-        requires tree { IsTree plan.now.plan request.now (shape_of self.now) }
-        requires kept { IsKept plan.now request.now kept.old }
-        ensures least { IfOk result (λ yes. IsTrue yes ↔ CarriesLeast plan.now.plan request.now (shown (shape_of self.now))) }
-        ensures called { B.calls_of finder.new ≤ B.calls_of finder.old + length self.now.nodes.items }
-        ensures kept { IsKept plan.now request.now kept.new }
+        requires tree { IsTree asker.old.asked.plan.plan asker.old.asked.request (shape_of self.now) }
+        ensures least { IfOk result (λ yes. IsTrue yes ↔ CarriesLeast asker.old.asked.plan.plan asker.old.asked.request (shown (shape_of self.now))) }
+        ensures called { asker.new.calls ≤ asker.old.calls + length self.now.nodes.items }
+        ensures same { asker.new.asked ≡ asker.old.asked }
     {
         for node in self.nodes.iter() {
             let front = prefix(self.leaves.as_slice(), node);
-            let found = ask(finder, kept, plan, request, front, node.excluded.as_slice())?;
+            let found = asker.ask(front, node.excluded.as_slice())?;
             if !is_same(&found, &node.route) {
                 return Ok(false);
             }
@@ -92,18 +87,14 @@ impl<A: Allocator + Copy> Tree<A> {
     /// carried route is, and each part carries its least route (law 5).
     pub fn is_placed<B: BestOf<A>>(
         &self,
-        plan: &Plan<A>,
-        request: &Request,
-        finder: &mut B,
-        kept: &mut Kept<A>,
+        asker: &mut Asker<'_, B, A>,
     ) -> Result<bool, NoMemory>
-        requires plan { IsPlan plan.now.plan }
-        requires tree { IsTree plan.now.plan request.now (shape_of self.now) }
+        requires plan { IsPlan asker.old.asked.plan.plan }
+        requires tree { IsTree asker.old.asked.plan.plan asker.old.asked.request (shape_of self.now) }
         requires room { IsRoomy self.now }
-        requires kept { IsKept plan.now request.now kept.old }
-        ensures placed { IfOk result (λ yes. IsTrue yes ↔ (shown (shape_of self.now) ≡ state_at plan.now.plan request.now (shown (shape_of self.now)).emitted)) }
-        ensures called { B.calls_of finder.new ≤ B.calls_of finder.old + length self.now.nodes.items }
-        ensures kept { IsKept plan.now request.now kept.new }
+        ensures placed { IfOk result (λ yes. IsTrue yes ↔ (shown (shape_of self.now) ≡ state_at asker.old.asked.plan.plan asker.old.asked.request (shown (shape_of self.now)).emitted)) }
+        ensures called { asker.new.calls ≤ asker.old.calls + length self.now.nodes.items }
+        ensures same { asker.new.asked ≡ asker.old.asked }
     {
         if let Some(last) = self.last_given() {
             if is_passed(last, self.leaves.as_slice()) {
@@ -115,6 +106,6 @@ impl<A: Allocator + Copy> Tree<A> {
                 }
             }
         }
-        self.carries_least(plan, request, finder, kept)
+        self.carries_least(asker)
     }
 }

@@ -3,19 +3,18 @@
 ghost use Rattle.std.specs.Prelude.{◌≡◌, ℕ, ◌+◌, ◌≤◌, ◌<◌, take, drop, slice_index, slice_get, length, vec_len, vec_capacity, Some, [], ◌∷◌, IfOk, OnOk, OnErr, IsTrue};
 ghost use Rattle.std.specs.Ordering.{nat_cmp};
 ghost use Rattle.sabr_model.specs.Route.{is_route};
-ghost use Rattle.sabr_search.specs.Kept.{IsKept};
-ghost use Rattle.sabr_frontier.specs.Best.{best_of};
+ghost use Rattle.sabr_frontier.specs.Asking.{best_for};
 ghost use Rattle.sabr_frontier.specs.Rising.{Rises};
 ghost use Rattle.sabr_frontier.specs.Undo.{modify};
 ghost use Rattle.sabr_frontier.specs.Taking.{fresh_nodes, wide_of};
 ghost use Rattle.sabr_frontier.specs.Sound.{CanExclude};
 ghost use Rattle.sabr_frontier.specs.Prepared.{excluding, including};
 
+use crate::asker::Asker;
 use crate::excluded::Excluded;
-use crate::finder::ask;
 use crate::tree::{Node, NodeId};
-use sabr_model::{NoMemory, Numbers, Plan, Request, Route};
-use sabr_search::{BestOf, Kept};
+use sabr_model::{NoMemory, Numbers, Route};
+use sabr_search::BestOf;
 use std::alloc::{Allocator, Global};
 
 /// What a part carries after its route was given, and the new parts.
@@ -49,31 +48,19 @@ pub fn numbers<A: Allocator + Copy>(route: &Route<A>) -> &[u32]
 
 /// Makes the node of a leaf for the first `count` numbers of a route, with its next number excluded.
 fn fresh_node<B: BestOf<A>, A: Allocator + Copy>(
-    alloc: A,
-    plan: &Plan<A>,
-    request: &Request,
-    finder: &mut B,
-    kept: &mut Kept<A>,
+    asker: &mut Asker<'_, B, A>,
     leaf: usize,
     route: &[u32],
     count: usize,
 ) -> Result<Node<A>, NoMemory>
-    requires route { IsTrue (is_route plan.now.plan request.now route.now) }
-    requires kept { IsKept plan.now request.now kept.old }
+    requires route { IsTrue (is_route asker.old.asked.plan.plan asker.old.asked.request route.now) }
     requires longer { count < length route.now }
-    ensures node { IfOk result (λ n. n ≡ record { leaf = leaf; length = count; excluded = slice_index route.now count ∷ []; route = best_of plan.now.plan request.now (take count route.now) (slice_index route.now count ∷ []) }) }
-    ensures called { OnOk result (B.calls_of finder.new ≡ B.calls_of finder.old + 1) }
-    ensures kept { IsKept plan.now request.now kept.new }
+    ensures node { IfOk result (λ n. n ≡ record { leaf = leaf; length = count; excluded = slice_index route.now count ∷ []; route = best_for asker.old.asked (take count route.now) (slice_index route.now count ∷ []) }) }
+    ensures called { OnOk result (asker.new.calls ≡ asker.old.calls + 1) }
+    ensures same { asker.new.asked ≡ asker.old.asked }
 {
-    let excluded = Excluded::one(alloc, route[count])?;
-    let found = ask(
-        finder,
-        kept,
-        plan,
-        request,
-        &route[..count],
-        excluded.as_slice(),
-    )?;
+    let excluded = Excluded::one(asker.alloc(), route[count])?;
+    let found = asker.ask(&route[..count], excluded.as_slice())?;
     Ok(Node {
         leaf,
         length: count,
@@ -84,27 +71,22 @@ fn fresh_node<B: BestOf<A>, A: Allocator + Copy>(
 
 /// Makes the nodes of a leaf for the beginnings of a route from `first` numbers on, each with its next number excluded.
 fn fresh_nodes<B: BestOf<A>, A: Allocator + Copy>(
-    alloc: A,
-    plan: &Plan<A>,
-    request: &Request,
-    finder: &mut B,
-    kept: &mut Kept<A>,
+    asker: &mut Asker<'_, B, A>,
     leaf: usize,
     route: &[u32],
     first: usize,
 ) -> Result<Vec<Node<A>, A>, NoMemory>
-    requires route { IsTrue (is_route plan.now.plan request.now route.now) }
-    requires kept { IsKept plan.now request.now kept.old }
+    requires route { IsTrue (is_route asker.old.asked.plan.plan asker.old.asked.request route.now) }
     requires within { first ≤ length route.now }
-    ensures nodes { IfOk result (λ v. v.items ≡ fresh_nodes (best_of plan.now.plan request.now) leaf (take first route.now) (drop first route.now)) }
-    ensures called { IfOk result (λ v. B.calls_of finder.new ≡ B.calls_of finder.old + length v.items) }
-    ensures kept { IsKept plan.now request.now kept.new }
+    ensures nodes { IfOk result (λ v. v.items ≡ fresh_nodes (best_for asker.old.asked) leaf (take first route.now) (drop first route.now)) }
+    ensures called { IfOk result (λ v. asker.new.calls ≡ asker.old.calls + length v.items) }
+    ensures same { asker.new.asked ≡ asker.old.asked }
 {
-    let Ok(mut nodes) = Vec::with_capacity(alloc, route.len() - first) else {
+    let Ok(mut nodes) = Vec::with_capacity(asker.alloc(), route.len() - first) else {
         return Err(NoMemory);
     };
     for count in first..route.len() {
-        let node = fresh_node(alloc, plan, request, finder, kept, leaf, route, count)?;
+        let node = fresh_node(asker, leaf, route, count)?;
         nodes.push_reserved(node);
     }
     Ok(nodes)
@@ -113,34 +95,22 @@ fn fresh_nodes<B: BestOf<A>, A: Allocator + Copy>(
 /// Finds what a node carries next, for the numbers that it excludes, and makes the new nodes of its route, which is
 /// then the leaf `leaf`. It takes one search for the node itself, and one for each new node.
 fn search<B: BestOf<A>, A: Allocator + Copy>(
-    alloc: A,
-    plan: &Plan<A>,
-    request: &Request,
-    finder: &mut B,
-    kept: &mut Kept<A>,
+    asker: &mut Asker<'_, B, A>,
     node: &Node<A>,
     route: &[u32],
     leaf: usize,
 ) -> Result<Division<A>, NoMemory>
-    requires route { IsTrue (is_route plan.now.plan request.now route.now) }
-    requires kept { IsKept plan.now request.now kept.old }
+    requires route { IsTrue (is_route asker.old.asked.plan.plan asker.old.asked.request route.now) }
     requires longer { node.now.length < length route.now }
     requires rising { Rises nat_cmp node.now.excluded }
-    ensures found { IfOk result (λ w. w.found ≡ best_of plan.now.plan request.now (take node.now.length route.now) node.now.excluded) }
-    ensures fresh { IfOk result (λ w. w.fresh.items ≡ fresh_nodes (best_of plan.now.plan request.now) leaf (take (node.now.length + 1) route.now) (drop (node.now.length + 1) route.now)) }
-    ensures called { IfOk result (λ w. B.calls_of finder.new ≡ B.calls_of finder.old + (length w.fresh.items + 1)) }
-    ensures kept { IsKept plan.now request.now kept.new }
+    ensures found { IfOk result (λ w. w.found ≡ best_for asker.old.asked (take node.now.length route.now) node.now.excluded) }
+    ensures fresh { IfOk result (λ w. w.fresh.items ≡ fresh_nodes (best_for asker.old.asked) leaf (take (node.now.length + 1) route.now) (drop (node.now.length + 1) route.now)) }
+    ensures called { IfOk result (λ w. asker.new.calls ≡ asker.old.calls + (length w.fresh.items + 1)) }
+    ensures same { asker.new.asked ≡ asker.old.asked }
 {
     let count = node.length;
-    let found = ask(
-        finder,
-        kept,
-        plan,
-        request,
-        &route[..count],
-        node.excluded.as_slice(),
-    )?;
-    let fresh = fresh_nodes(alloc, plan, request, finder, kept, leaf, route, count + 1)?;
+    let found = asker.ask(&route[..count], node.excluded.as_slice())?;
+    let fresh = fresh_nodes(asker, leaf, route, count + 1)?;
     Ok(Division { found, fresh })
 }
 
@@ -179,40 +149,26 @@ fn include_next<A: Allocator + Copy>(nodes: &mut Vec<Node<A>, A>, node: NodeId, 
 /// Divides the part of a node by a route of it, which is then the leaf `leaf`: the node excludes one number more. After
 /// a refusal the nodes are as they were.
 pub fn divide<B: BestOf<A>, A: Allocator + Copy>(
-    alloc: A,
-    plan: &Plan<A>,
-    request: &Request,
-    finder: &mut B,
-    kept: &mut Kept<A>,
+    asker: &mut Asker<'_, B, A>,
     nodes: &mut Vec<Node<A>, A>,
     node: NodeId,
     route: &[u32],
     leaf: usize,
 ) -> Result<Division<A>, NoMemory>
     requires in_range { node.0 < vec_len nodes.old }
-    requires route { IsTrue (is_route plan.now.plan request.now route.now) }
-    requires kept { IsKept plan.now request.now kept.old }
+    requires route { IsTrue (is_route asker.old.asked.plan.plan asker.old.asked.request route.now) }
     requires next { (n : Node A) → slice_get nodes.old.items node.0 ≡ Some n → CanExclude n route.now }
     ensures ok { OnOk result (nodes.new.items ≡ modify (excluding route.now) nodes.old.items node.0) }
-    ensures found { IfOk result (λ w. (n : Node A) → slice_get nodes.old.items node.0 ≡ Some n → w.found ≡ best_of plan.now.plan request.now (take n.length route.now) (wide_of n route.now)) }
-    ensures fresh { IfOk result (λ w. (n : Node A) → slice_get nodes.old.items node.0 ≡ Some n → w.fresh.items ≡ fresh_nodes (best_of plan.now.plan request.now) leaf (take (n.length + 1) route.now) (drop (n.length + 1) route.now)) }
-    ensures called { IfOk result (λ w. B.calls_of finder.new ≡ B.calls_of finder.old + (length w.fresh.items + 1)) }
-    ensures kept { IsKept plan.now request.now kept.new }
+    ensures found { IfOk result (λ w. (n : Node A) → slice_get nodes.old.items node.0 ≡ Some n → w.found ≡ best_for asker.old.asked (take n.length route.now) (wide_of n route.now)) }
+    ensures fresh { IfOk result (λ w. (n : Node A) → slice_get nodes.old.items node.0 ≡ Some n → w.fresh.items ≡ fresh_nodes (best_for asker.old.asked) leaf (take (n.length + 1) route.now) (drop (n.length + 1) route.now)) }
+    ensures called { IfOk result (λ w. asker.new.calls ≡ asker.old.calls + (length w.fresh.items + 1)) }
+    ensures same { asker.new.asked ≡ asker.old.asked }
     ensures err { OnErr result (nodes.new.items ≡ nodes.old.items) }
     ensures len { vec_len nodes.new ≡ vec_len nodes.old }
     ensures capacity { vec_capacity nodes.new ≡ vec_capacity nodes.old }
 {
     exclude_next(nodes, node, route)?;
-    match search(
-        alloc,
-        plan,
-        request,
-        finder,
-        kept,
-        &nodes[node.0],
-        route,
-        leaf,
-    ) {
+    match search(asker, &nodes[node.0], route, leaf) {
         Ok(division) => Ok(division),
         Err(refused) => {
             include_next(nodes, node, route);

@@ -4,15 +4,15 @@ ghost use Rattle.std.specs.Prelude.{◌≡◌, ℕ, ◌+◌, ◌*◌, ◌≤◌,
 ghost use Rattle.sabr_model.specs.Plan.{IsPlan};
 ghost use Rattle.sabr_model.specs.Record.{record_of};
 ghost use Rattle.sabr_model.specs.Asking.{most_hops};
-ghost use Rattle.sabr_search.specs.Kept.{IsKept};
 ghost use Rattle.sabr_frontier.specs.Listing.{most_routes, searches_in, steps};
 ghost use Rattle.sabr_frontier.specs.Shape.{shape_of, shown};
 ghost use Rattle.sabr_frontier.specs.Undo.{IsRoomy};
 ghost use Rattle.sabr_frontier.specs.Session.{IsSound, tree_before};
 
+use crate::asker::Asker;
 use crate::tree::Tree;
-use sabr_model::{NoMemory, Plan, Request, Route};
-use sabr_search::{BestOf, Kept};
+use sabr_model::{NoMemory, Route};
+use sabr_search::BestOf;
 use std::alloc::Allocator;
 
 impl<A: Allocator + Copy> Tree<A> {
@@ -20,38 +20,33 @@ impl<A: Allocator + Copy> Tree<A> {
     /// After a refusal the routes given so far can be taken back.
     pub fn gather<B: BestOf<A>>(
         &mut self,
-        alloc: A,
-        plan: &Plan<A>,
-        request: &Request,
-        finder: &mut B,
-        kept: &mut Kept<A>,
+        asker: &mut Asker<'_, B, A>,
         count: u32,
         given: &mut Vec<Route<A>, A>,
     ) -> Result<u64, NoMemory>
-        requires plan { IsPlan plan.now.plan }
-        requires hops { request.now.max_hops ≤ most_hops }
+        requires plan { IsPlan asker.old.asked.plan.plan }
+        requires hops { asker.old.asked.request.max_hops ≤ most_hops }
         requires count { count ≤ most_routes }
-        requires sound { IsSound plan.now.plan request.now (shape_of self.old) }
+        requires sound { IsSound asker.old.asked.plan.plan asker.old.asked.request (shape_of self.old) }
         requires room { IsRoomy self.old }
-        requires kept { IsKept plan.now request.now kept.old }
-        ensures routes { OnOk result (given.new.items ≡ given.old.items ++ map (record_of plan.now.plan request.now) (steps plan.now.plan request.now count (shown (shape_of self.old))).0) }
-        ensures state { OnOk result (shown (shape_of self.new) ≡ (steps plan.now.plan request.now count (shown (shape_of self.old))).1) }
-        ensures entries { OnOk result (length self.new.journal.items ≡ length self.old.journal.items + length (steps plan.now.plan request.now count (shown (shape_of self.old))).0) }
-        ensures searches { IfOk result (λ n. n ≡ searches_in plan.now.plan request.now count (shown (shape_of self.old))) }
-        ensures called { IfOk result (λ n. B.calls_of finder.new ≡ B.calls_of finder.old + n) }
-        ensures sound { IsSound plan.now.plan request.now (shape_of self.new) }
+        ensures routes { OnOk result (given.new.items ≡ given.old.items ++ map (record_of asker.old.asked.plan.plan asker.old.asked.request) (steps asker.old.asked.plan.plan asker.old.asked.request count (shown (shape_of self.old))).0) }
+        ensures state { OnOk result (shown (shape_of self.new) ≡ (steps asker.old.asked.plan.plan asker.old.asked.request count (shown (shape_of self.old))).1) }
+        ensures entries { OnOk result (length self.new.journal.items ≡ length self.old.journal.items + length (steps asker.old.asked.plan.plan asker.old.asked.request count (shown (shape_of self.old))).0) }
+        ensures searches { IfOk result (λ n. n ≡ searches_in asker.old.asked.plan.plan asker.old.asked.request count (shown (shape_of self.old))) }
+        ensures called { IfOk result (λ n. asker.new.calls ≡ asker.old.calls + n) }
+        ensures sound { IsSound asker.old.asked.plan.plan asker.old.asked.request (shape_of self.new) }
         ensures longer { length self.old.journal.items ≤ length self.new.journal.items }
         ensures back { tree_before (length self.old.journal.items) (shape_of self.new) ≡ shape_of self.old }
         ensures index { self.new.index.items ≡ self.old.index.items }
         ensures room { IsRoomy self.new }
-        ensures kept { IsKept plan.now request.now kept.new }
+        ensures same { asker.new.asked ≡ asker.old.asked }
     {
         let mut searches = 0;
         for _ in 0..count {
             if self.is_empty() {
                 return Ok(searches);
             }
-            searches += self.take(alloc, plan, request, finder, kept, given)?;
+            searches += self.take(asker, given)?;
         }
         Ok(searches)
     }

@@ -14,9 +14,10 @@ use crate::ghost_lists::GhostLists;
 use crate::index::push_block;
 use crate::judge::{Judged, judge};
 use crate::leading::{Lead, Owed};
+use crate::question::Question;
 use crate::tree::{Node, Tree};
 use crate::winners::rebuild;
-use sabr_model::{NoMemory, Plan, Request, Route};
+use sabr_model::{NoMemory, Route};
 use std::alloc::{Allocator, Global};
 use std::cmp::Ordering;
 use std::mem::replace;
@@ -102,17 +103,17 @@ impl<A: Allocator + Copy> Held<A> {
     }
 
     /// Returns where a prefix leads if it is the least that is owed, or none. The first that is owed is empty.
-    pub fn due(&self, plan: &Plan<A>, request: &Request, prefix: &[u32]) -> Option<Lead>
-        requires { IsTrue self.now.sound → AreOwed plan.now.plan request.now self.now.last.items self.now.owed.items }
+    pub fn due(&self, question: &Question<'_, A>, prefix: &[u32]) -> Option<Lead>
+        requires { IsTrue self.now.sound → AreOwed question.now.plan.now.plan question.now.request self.now.last.items self.now.owed.items }
         ensures due { is_some result ≡ is_due (holding_of self.now) prefix.now }
-        ensures lead { IfSome result (IsLead plan.now.plan request.now prefix.now) }
+        ensures lead { IfSome result (IsLead question.now.plan.now.plan question.now.request prefix.now) }
     {
         if !self.sound {
             return None;
         }
         let Some(owed) = self.owed.last() else {
             if self.nodes.is_empty() && prefix.is_empty() {
-                return Some(Lead::start(plan, request));
+                return Some(Lead::start(question.plan, &question.request));
             }
             return None;
         };
@@ -126,16 +127,14 @@ impl<A: Allocator + Copy> Held<A> {
     /// no path, or if it excludes none and isn't the first.
     fn judge(
         &mut self,
-        alloc: A,
-        plan: &Plan<A>,
-        request: &Request,
+        question: &Question<'_, A>,
         prefix: &[u32],
         excluded: &[u32],
         due: Option<Lead>,
     ) -> Result<Option<Judged<A>>, NoMemory>
         requires due { is_some due ≡ is_due (holding_of self.old) prefix.now }
-        requires lead { IfSome due (IsLead plan.now.plan request.now prefix.now) }
-        ensures verdict { IfOk result (IsVerdict plan.now.plan request.now (holding_of self.old) (prefix.now, excluded.now)) }
+        requires lead { IfSome due (IsLead question.now.plan.now.plan question.now.request prefix.now) }
+        ensures verdict { IfOk result (IsVerdict question.now.plan.now.plan question.now.request (holding_of self.old) (prefix.now, excluded.now)) }
         ensures same { holding_of self.new ≡ holding_of self.old }
     {
         let Some(lead) = due else {
@@ -144,8 +143,8 @@ impl<A: Allocator + Copy> Held<A> {
         if !prefix.is_empty() && excluded.is_empty() {
             return Ok(None);
         }
-        let room = replace(&mut self.room, Judged::none(alloc));
-        judge(alloc, plan, request, prefix, excluded, lead, room)
+        let room = replace(&mut self.room, Judged::none(question.alloc));
+        judge(question, prefix, excluded, lead, room)
     }
 
     /// Reserves room for a part whose prefix has so many numbers, and for what it leads to.
@@ -231,21 +230,19 @@ impl<A: Allocator + Copy> Held<A> {
     /// least that is owed, `due` is where that leads.
     pub fn take_in(
         &mut self,
-        alloc: A,
-        plan: &Plan<A>,
-        request: &Request,
+        question: &Question<'_, A>,
         prefix: &[u32],
         excluded: &[u32],
         due: Option<Lead>,
         route: Option<Route<A>>,
     ) -> Result<(), NoMemory>
         requires due { is_some due ≡ is_due (holding_of self.old) prefix.now }
-        requires lead { IfSome due (IsLead plan.now.plan request.now prefix.now) }
-        ensures ok { OnOk result (IsTakenIn plan.now.plan request.now (holding_of self.old) prefix.now excluded.now route (holding_of self.new)) }
+        requires lead { IfSome due (IsLead question.now.plan.now.plan question.now.request prefix.now) }
+        ensures ok { OnOk result (IsTakenIn question.now.plan.now.plan question.now.request (holding_of self.old) prefix.now excluded.now route (holding_of self.new)) }
         ensures err { OnErr result (holding_of self.new ≡ holding_of self.old) }
     {
-        let judged = self.judge(alloc, plan, request, prefix, excluded, due)?;
-        let excluded = Excluded::of(alloc, excluded)?;
+        let judged = self.judge(question, prefix, excluded, due)?;
+        let excluded = Excluded::of(question.alloc, excluded)?;
         match judged {
             Some(judged) => self.answer(prefix, excluded, route, judged),
             None => self.add(prefix, excluded, route),

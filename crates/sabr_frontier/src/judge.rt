@@ -7,7 +7,8 @@ ghost use Rattle.sabr_frontier.specs.Leading.{AreSteps, IsLead, step_of};
 ghost use Rattle.sabr_frontier.specs.Holding.{AllGoOn, IsJudged, onward_of, routes_of};
 
 use crate::leading::{Lead, Owed};
-use sabr_model::{NoMemory, Plan, Request, Route};
+use crate::question::Question;
+use sabr_model::{NoMemory, Route};
 use std::alloc::{Allocator, Global};
 
 /// The routes that a prefix makes with its excluded numbers, and its steps over those that make no route and go on.
@@ -49,24 +50,22 @@ impl<A: Allocator + Copy> Judged<A> {
     /// Appends the path of a prefix and one more number to the others of its kind; false if they make none.
     fn put(
         &mut self,
-        alloc: A,
-        plan: &Plan<A>,
-        request: &Request,
+        question: &Question<'_, A>,
         prefix: &[u32],
         lead: Lead,
         number: u32,
     ) -> Result<bool, NoMemory>
-        requires { IsLead plan.now.plan request.now prefix.now lead }
-        ensures path { IfOk result (λ is. is ≡ is_path plan.now.plan request.now (prefix.now ++ number ∷ [])) }
-        ensures leaves { IfOk result (λ is. is ≡ true → self.new.leaves.items ≡ self.old.leaves.items ++ map (record_of plan.now.plan request.now) (routes_of plan.now.plan request.now (prefix.now ++ number ∷ []))) }
-        ensures onward { IfOk result (λ is. is ≡ true → map (step_of prefix.now) self.new.onward.items ≡ map (step_of prefix.now) self.old.onward.items ++ onward_of plan.now.plan request.now (prefix.now ++ number ∷ [])) }
-        ensures steps { IfOk result (λ _. AreSteps plan.now.plan request.now prefix.now self.old.onward.items → AreSteps plan.now.plan request.now prefix.now self.new.onward.items) }
+        requires { IsLead question.now.plan.now.plan question.now.request prefix.now lead }
+        ensures path { IfOk result (λ is. is ≡ is_path question.now.plan.now.plan question.now.request (prefix.now ++ number ∷ [])) }
+        ensures leaves { IfOk result (λ is. is ≡ true → self.new.leaves.items ≡ self.old.leaves.items ++ map (record_of question.now.plan.now.plan question.now.request) (routes_of question.now.plan.now.plan question.now.request (prefix.now ++ number ∷ []))) }
+        ensures onward { IfOk result (λ is. is ≡ true → map (step_of prefix.now) self.new.onward.items ≡ map (step_of prefix.now) self.old.onward.items ++ onward_of question.now.plan.now.plan question.now.request (prefix.now ++ number ∷ [])) }
+        ensures steps { IfOk result (λ _. AreSteps question.now.plan.now.plan question.now.request prefix.now self.old.onward.items → AreSteps question.now.plan.now.plan question.now.request prefix.now self.new.onward.items) }
     {
-        let Some(lead) = lead.extended(plan, request, prefix, number) else {
+        let Some(lead) = lead.extended(question.plan, &question.request, prefix, number) else {
             return Ok(false);
         };
-        if lead.here.node == request.to() {
-            let numbers = longer(alloc, prefix, number)?;
+        if lead.here.node == question.request.to() {
+            let numbers = longer(question.alloc, prefix, number)?;
             let route = lead.told.route(numbers, lead.here.at);
             let Ok(()) = self.leaves.push(route) else {
                 return Err(NoMemory);
@@ -88,22 +87,20 @@ impl<A: Allocator + Copy> Judged<A> {
 /// Returns where the excluded numbers of a prefix lead, or none if one of them makes no path. The result is gathered in
 /// `judged`, in place of what that held. The prefix leads to `lead`.
 pub fn judge<A: Allocator + Copy>(
-    alloc: A,
-    plan: &Plan<A>,
-    request: &Request,
+    question: &Question<'_, A>,
     prefix: &[u32],
     excluded: &[u32],
     lead: Lead,
     mut judged: Judged<A>,
 ) -> Result<Option<Judged<A>>, NoMemory>
-    requires { IsLead plan.now.plan request.now prefix.now lead }
-    ensures some { IfOk result (λ o. IfSome o (λ j. AllGoOn plan.now.plan request.now (prefix.now, excluded.now) × IsJudged plan.now.plan request.now (prefix.now, excluded.now) j)) }
-    ensures none { IfOk result (λ o. IfNone o (AllGoOn plan.now.plan request.now (prefix.now, excluded.now) → ⊥)) }
+    requires { IsLead question.now.plan.now.plan question.now.request prefix.now lead }
+    ensures some { IfOk result (λ o. IfSome o (λ j. AllGoOn question.now.plan.now.plan question.now.request (prefix.now, excluded.now) × IsJudged question.now.plan.now.plan question.now.request (prefix.now, excluded.now) j)) }
+    ensures none { IfOk result (λ o. IfNone o (AllGoOn question.now.plan.now.plan question.now.request (prefix.now, excluded.now) → ⊥)) }
 {
     judged.leaves.clear();
     judged.onward.clear();
     for number in excluded {
-        if !judged.put(alloc, plan, request, prefix, lead, *number)? {
+        if !judged.put(question, prefix, lead, *number)? {
             return Ok(None);
         }
     }

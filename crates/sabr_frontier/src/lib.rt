@@ -1,12 +1,12 @@
 //! Parts of a listing of routes, divided as routes are given.
 #![tactic(auto)]
 
+mod asker;
 mod carrying;
 mod certify;
 mod change;
 mod divide;
 mod excluded;
-mod finder;
 mod gather;
 mod ghost_lists;
 mod held;
@@ -17,6 +17,7 @@ mod leading;
 mod load_fault;
 mod loader;
 mod places;
+mod question;
 mod root;
 mod rows;
 mod session;

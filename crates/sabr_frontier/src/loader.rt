@@ -7,9 +7,11 @@ ghost use Rattle.sabr_frontier.specs.declared.load_fault.LoadFault.TheVariants a
 ghost use Rattle.sabr_frontier.specs.Listing.{IsState};
 ghost use Rattle.sabr_frontier.specs.Loading.{IsRefusedBy, part_refusal, state_with, with_part};
 
+use crate::asker::Asker;
 use crate::carrying::carried;
 use crate::held::{Held, last_place};
 use crate::load_fault::LoadFault;
+use crate::question::Question;
 use crate::session::Session;
 use sabr_model::{Plan, Request};
 use sabr_search::BestOf;
@@ -21,12 +23,8 @@ use std::marker::Model;
 /// called.
 #[derive(Drop)]
 pub struct Loader<'p, B: BestOf<A>, A: Allocator + Copy = Global> {
-    /// The allocator of the session.
-    alloc: A,
-    /// The plan whose routes are listed.
-    plan: &'p Plan<A>,
-    /// The request.
-    request: Request,
+    /// What the session will be asked for.
+    question: Question<'p, A>,
     /// The finder that the session will ask.
     finder: B,
     /// The parts so far.
@@ -39,9 +37,9 @@ impl<'p, B: BestOf<A>, A: Allocator + Copy> Model for Loader<'p, B, A> {
 
     ghost Value = { Loaded };
 
-    ghost view = { λ l. loaded l.plan.now l.request l.held (B.calls_of l.finder) };
+    ghost view = { λ l. loaded l.question.plan.now l.question.request l.held (B.calls_of l.finder) };
 
-    ghost invariant = { λ l. IsLoader l.plan.now l.request l.held };
+    ghost invariant = { λ l. IsLoader l.question.plan.now l.question.request l.held };
 }
 
 impl<'p, B: BestOf<A>, A: Allocator + Copy> Loader<'p, B, A> {
@@ -51,10 +49,13 @@ impl<'p, B: BestOf<A>, A: Allocator + Copy> Loader<'p, B, A> {
     {
         plan.tell_rules();
         request.tell_limits();
-        Loader {
+        let question = Question {
             alloc,
             plan,
             request,
+        };
+        Loader {
+            question,
             finder,
             held: Held::new(alloc),
         }
@@ -85,29 +86,13 @@ impl<'p, B: BestOf<A>, A: Allocator + Copy> Loader<'p, B, A> {
         if !self.held.is_next(prefix, excluded) {
             return Err(LoadFault::BadOrder);
         }
-        let due = self.held.due(self.plan, &self.request, prefix);
-        let route = match carried(
-            self.alloc,
-            self.plan,
-            &self.request,
-            prefix,
-            excluded,
-            due,
-            route,
-        ) {
+        let due = self.held.due(&self.question, prefix);
+        let route = match carried(&self.question, prefix, excluded, due, route) {
             Ok(route) => route,
             Err(fault) => return Err(fault),
         };
-        let Ok(()) = self.held.take_in(
-            self.alloc,
-            self.plan,
-            &self.request,
-            prefix,
-            excluded,
-            due,
-            route,
-        )
-        else {
+        let taken = self.held.take_in(&self.question, prefix, excluded, due, route);
+        let Ok(()) = taken else {
             return Err(LoadFault::NoMemory);
         };
         Ok(())
@@ -132,9 +117,9 @@ impl<'p, B: BestOf<A>, A: Allocator + Copy> Loader<'p, B, A> {
         let Some(last) = last_place(self.held.leaves.as_slice(), emitted, last) else {
             return Err(LoadFault::BadCount);
         };
-        let Ok(tree) = self.held.into_tree(self.alloc, last) else {
+        let Ok(tree) = self.held.into_tree(self.question.alloc(), last) else {
             return Err(LoadFault::NoMemory);
         };
-        Ok(Session::of_tree(self.alloc, self.plan, self.request, self.finder, tree))
+        Ok(Session::of_tree(Asker::new(self.question, self.finder), tree))
     }
 }

@@ -12,11 +12,12 @@ ghost use Rattle.sabr_frontier.specs.Sound.{IsTree};
 ghost use Rattle.sabr_frontier.specs.Undo.{IsRoomy};
 ghost use Rattle.sabr_frontier.specs.Views.{told_left};
 
-use crate::finder::ask;
+use crate::asker::Asker;
+use crate::question::Question;
 use crate::tree::Tree;
 use crate::views::Parts;
 use sabr_model::{NoMemory, Plan, Request, Route};
-use sabr_search::{BestOf, Kept};
+use sabr_search::BestOf;
 use std::alloc::{Allocator, Global};
 use std::marker::Model;
 
@@ -27,16 +28,8 @@ use std::marker::Model;
 /// searches, and how often the finder was called.
 #[derive(Drop)]
 pub struct Session<'p, B: BestOf<A>, A: Allocator + Copy = Global> {
-    /// The allocator of the parts and of what is kept.
-    alloc: A,
-    /// The plan whose routes are listed.
-    plan: &'p Plan<A>,
-    /// The request.
-    request: Request,
-    /// The finder of a part's least route.
-    finder: B,
-    /// What is kept for its searches.
-    kept: Kept<A>,
+    /// What finds the parts' least routes.
+    asker: Asker<'p, B, A>,
     /// The parts and the routes given.
     tree: Tree<A>,
     /// How long the journal was before each page that can be taken back.
@@ -50,9 +43,9 @@ impl<'p, B: BestOf<A>, A: Allocator + Copy> Model for Session<'p, B, A> {
 
     ghost Value = { Seen };
 
-    ghost view = { λ s. seen s.plan.now s.request s.tree s.pages.items s.searches (B.calls_of s.finder) };
+    ghost view = { λ s. seen s.asker s.tree s.pages.items s.searches };
 
-    ghost invariant = { λ s. IsSession s.plan.now s.request s.tree s.pages.items s.kept };
+    ghost invariant = { λ s. IsSession s.asker.asked s.tree s.pages.items };
 }
 
 impl<'p, B: BestOf<A>, A: Allocator + Copy> Session<'p, B, A> {
@@ -65,21 +58,22 @@ impl<'p, B: BestOf<A>, A: Allocator + Copy> Session<'p, B, A> {
         alloc: A,
         plan: &'p Plan<A>,
         request: Request,
-        mut finder: B,
+        finder: B,
     ) -> Result<Session<'p, B, A>, NoMemory>
         ensures { IfOk result (λ s. s ≡ record { plan = plan.now; request = request; state = state_at plan.now.plan request 0; former = []; searches = 1; calls = B.calls_of finder + 1 }) }
     {
         plan.tell_rules();
         request.tell_limits();
-        let mut kept = Kept::new(alloc);
-        let found = ask(&mut finder, &mut kept, plan, &request, &[], &[])?;
-        let tree = Tree::root(alloc, found)?;
-        Ok(Session {
+        let question = Question {
             alloc,
             plan,
             request,
-            finder,
-            kept,
+        };
+        let mut asker = Asker::new(question, finder);
+        let found = asker.ask(&[], &[])?;
+        let tree = Tree::root(alloc, found)?;
+        Ok(Session {
+            asker,
             tree,
             pages: Vec::new(alloc),
             searches: 1,
@@ -87,30 +81,20 @@ impl<'p, B: BestOf<A>, A: Allocator + Copy> Session<'p, B, A> {
     }
 
     /// Makes a session over a tree that no page has changed.
-    pub(crate) fn of_tree(
-        alloc: A,
-        plan: &'p Plan<A>,
-        request: Request,
-        finder: B,
-        tree: Tree<A>,
-    ) -> Session<'p, B, A>
-        requires rules { IsPlan plan.now.plan }
-        requires limits { IsRequest request }
-        requires sound { IsTree plan.now.plan request (shape_of tree) }
+    pub(crate) fn of_tree(asker: Asker<'p, B, A>, tree: Tree<A>) -> Session<'p, B, A>
+        requires rules { IsPlan asker.asked.plan.plan }
+        requires limits { IsRequest asker.asked.request }
+        requires sound { IsTree asker.asked.plan.plan asker.asked.request (shape_of tree) }
         requires fresh { tree.journal.items ≡ [] }
         requires index { tree.index.items ≡ (shape_of tree).index }
         requires room { IsRoomy tree }
-        ensures { result ≡ record { plan = plan.now; request = request; state = shown (shape_of tree); former = []; searches = 0; calls = B.calls_of finder } }
+        ensures { result ≡ record { plan = asker.entry.asked.plan; request = asker.entry.asked.request; state = shown (shape_of tree); former = []; searches = 0; calls = asker.entry.calls } }
     {
-        let kept = Kept::new(alloc);
+        let pages = Vec::new(asker.alloc());
         Session {
-            alloc,
-            plan,
-            request,
-            finder,
-            kept,
+            asker,
             tree,
-            pages: Vec::new(alloc),
+            pages,
             searches: 0,
         }
     }
@@ -137,7 +121,7 @@ impl<'p, B: BestOf<A>, A: Allocator + Copy> Session<'p, B, A> {
         ensures err { OnErr result (self.new ≡ record self.old { calls = self.new.calls }) }
         ensures free { (count ≡ 0) ⊎ (next_route self.old.plan.plan self.old.request self.old.state ≡ None) → IsOk result }
     {
-        let mut given = Vec::new(self.alloc);
+        let mut given = Vec::new(self.asker.alloc());
         if count == 0 || self.tree.is_empty() {
             self.searches = 0;
             return Ok(given);
@@ -146,17 +130,9 @@ impl<'p, B: BestOf<A>, A: Allocator + Copy> Session<'p, B, A> {
             return Err(NoMemory);
         };
         let start = self.tree.journal.len();
-        match self.tree.gather(
-            self.alloc,
-            self.plan,
-            &self.request,
-            &mut self.finder,
-            &mut self.kept,
-            count,
-            &mut given,
-        ) {
+        match self.tree.gather(&mut self.asker, count, &mut given) {
             Ok(searches) => {
-                self.tree.settle(self.alloc);
+                self.tree.settle(self.asker.alloc());
                 self.pages.push_reserved(start);
                 self.searches = searches;
                 Ok(given)
@@ -199,8 +175,7 @@ impl<'p, B: BestOf<A>, A: Allocator + Copy> Session<'p, B, A> {
         ensures calls { self.new.calls ≤ self.old.calls + length self.old.state.parts }
         ensures ok { IfOk result (λ yes. IsTrue yes ↔ (self.old.state ≡ state_at self.old.plan.plan self.old.request self.old.state.emitted)) }
     {
-        self.tree
-            .is_placed(self.plan, &self.request, &mut self.finder, &mut self.kept)
+        self.tree.is_placed(&mut self.asker)
     }
 
     /// Returns true if there is a page to take back: one that gave routes and wasn't taken back yet.
@@ -269,13 +244,13 @@ impl<'p, B: BestOf<A>, A: Allocator + Copy> Session<'p, B, A> {
     pub fn plan(&self) -> &'p Plan<A>
         ensures { result.now ≡ self.now.plan }
     {
-        self.plan
+        self.asker.plan()
     }
 
     /// The request.
     pub fn request(&self) -> &Request
         ensures { result.now ≡ self.now.request }
     {
-        &self.request
+        self.asker.request()
     }
 }

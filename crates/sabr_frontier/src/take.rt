@@ -3,7 +3,6 @@
 ghost use Rattle.std.specs.Prelude.{◌≡◌, ◌+◌, ◌<◌, length, vec_len, slice_get, Some, IsSome, IfOk, OnErr};
 ghost use Rattle.sabr_model.specs.Plan.{IsPlan};
 ghost use Rattle.sabr_model.specs.Record.{RouteRecord};
-ghost use Rattle.sabr_search.specs.Kept.{IsKept};
 ghost use Rattle.sabr_frontier.specs.Shape.{shape_of, route_at};
 ghost use Rattle.sabr_frontier.specs.Undo.{IsRoomy};
 ghost use Rattle.sabr_frontier.specs.Taking.{IsTaken};
@@ -11,10 +10,11 @@ ghost use Rattle.sabr_frontier.specs.Sound.{IsTree};
 ghost use Rattle.sabr_frontier.specs.Prepared.{IsReady};
 ghost use Rattle.sabr_frontier.specs.Winners.{CarriesSome};
 
+use crate::asker::Asker;
 use crate::divide::{copied, divide, numbers};
 use crate::tree::{Node, NodeId, Tree};
-use sabr_model::{NoMemory, Plan, Request, Route};
-use sabr_search::{BestOf, Kept};
+use sabr_model::{NoMemory, Route};
+use sabr_search::BestOf;
 use std::alloc::{Allocator, Global};
 
 /// What is known before the tree changes: a copy of the route, and the number of new nodes.
@@ -45,39 +45,30 @@ impl<A: Allocator + Copy> Tree<A> {
     /// first. Then come the searches, and a refused one leaves the parts as they were.
     pub fn take<B: BestOf<A>>(
         &mut self,
-        alloc: A,
-        plan: &Plan<A>,
-        request: &Request,
-        finder: &mut B,
-        kept: &mut Kept<A>,
+        asker: &mut Asker<'_, B, A>,
         given: &mut Vec<Route<A>, A>,
     ) -> Result<u64, NoMemory>
-        requires plan { IsPlan plan.now.plan }
-        requires tree { IsTree plan.now.plan request.now (shape_of self.old) }
+        requires plan { IsPlan asker.old.asked.plan.plan }
+        requires tree { IsTree asker.old.asked.plan.plan asker.old.asked.request (shape_of self.old) }
         requires waiting { CarriesSome self.old.nodes.items }
         requires room { IsRoomy self.old }
-        requires kept { IsKept plan.now request.now kept.old }
-        ensures ok { IfOk result (IsTaken plan.now.plan request.now (shape_of self.old) (shape_of self.new) given.old.items given.new.items) }
-        ensures called { IfOk result (λ n. B.calls_of finder.new ≡ B.calls_of finder.old + n) }
+        ensures ok { IfOk result (IsTaken asker.old.asked.plan.plan asker.old.asked.request (shape_of self.old) (shape_of self.new) given.old.items given.new.items) }
+        ensures called { IfOk result (λ n. asker.new.calls ≡ asker.old.calls + n) }
         ensures err { OnErr result (shape_of self.new ≡ shape_of self.old) }
         ensures index { self.new.index.items ≡ self.old.index.items }
-        ensures kept { IsKept plan.now request.now kept.new }
+        ensures same { asker.new.asked ≡ asker.old.asked }
         ensures room { IsRoomy self.new }
     {
         let Some(node) = self.least() else {
             unreachable!()
         };
-        let prepared = self.prepare(alloc, node)?;
+        let prepared = self.prepare(asker.alloc(), node)?;
         let Ok(()) = given.reserve(1) else {
             return Err(NoMemory);
         };
         self.reserve(prepared.count)?;
         let division = divide(
-            alloc,
-            plan,
-            request,
-            finder,
-            kept,
+            asker,
             &mut self.nodes,
             node,
             numbers(&prepared.route),

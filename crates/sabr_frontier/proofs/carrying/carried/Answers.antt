@@ -15,7 +15,7 @@ delivery-requires-clause-front g c =
 
 pub returns-in_default-delivery-clause-err : goal.returns-in_default-delivery-clause-err
 returns-in_default-delivery-clause-err g c =
-    let p = c.args.plan.now.plan in
-    let r = c.args.request.now in
+    let p = c.args.question.now.plan.now.plan in
+    let r = c.args.question.now.request in
     ap (λ o. option_map_or (in_part p r c.args.prefix.now c.args.excluded.now) (option_copied o) true) c.in-Some.is
     ∙ ap (λ b. b && goes_on c.args.prefix.now c.args.excluded.now c.in-Some.route.now) (fault_is_no_route p r c.in-Some.route.now c.in_default-delivery.field-0 c.in_default-delivery.ensures.fault)

@@ -3,7 +3,7 @@ use Rattle.std.specs.Cmp.{nat_cmp_total}
 use Rattle.std.specs.Ordering.{nat_cmp}
 use Rattle.sabr_frontier.specs.declared.tree.Node.{Node}
 use Rattle.sabr_frontier.specs.Rising.{Rises}
-use Rattle.sabr_frontier.specs.Best.{best_of}
+use Rattle.sabr_frontier.specs.Asking.{Asked, best_for}
 use Rattle.sabr_frontier.specs.Taking.{fresh_nodes}
 use Rattle.sabr_frontier.proofs.Ends.{get_there, there}
 use Rattle.sabr_frontier.proofs.Rising.{Rises-put_in}
@@ -41,14 +41,14 @@ returns-in-Ok-clause-found g c n stands =
     let s = c.args.route.now in
     let m = c.index.result.now in
     let node = excluded_there c.args.nodes.now.items c.exclude_next.new.nodes.items c.args.node.0 s n stands c.in_ok-exclude_next.ensures.ok m (get_there c.exclude_next.new.nodes.items c.args.node.0 m (omega arith) c.index.ensures) in
-    c.in-Ok.ensures.found ∙ ap (λ (k : Node g.row.A.Denot). best_of c.args.plan.now.plan c.args.request.now (take k.length s) k.excluded) node
+    c.in-Ok.ensures.found ∙ ap (λ (k : Node g.row.A.Denot). best_for c.args.asker.now.asked (take k.length s) k.excluded) node
 
 pub returns-in-Ok-clause-fresh : goal.returns-in-Ok-clause-fresh
 returns-in-Ok-clause-fresh g c n stands =
     let s = c.args.route.now in
     let m = c.index.result.now in
     let node = excluded_there c.args.nodes.now.items c.exclude_next.new.nodes.items c.args.node.0 s n stands c.in_ok-exclude_next.ensures.ok m (get_there c.exclude_next.new.nodes.items c.args.node.0 m (omega arith) c.index.ensures) in
-    c.in-Ok.ensures.fresh ∙ ap (λ (k : Node g.row.A.Denot). fresh_nodes {A = g.row.A.Denot} (best_of c.args.plan.now.plan c.args.request.now) c.args.leaf (take (k.length + 1) s) (drop (k.length + 1) s)) node
+    c.in-Ok.ensures.fresh ∙ ap (λ (k : Node g.row.A.Denot). fresh_nodes {A = g.row.A.Denot} (best_for c.args.asker.now.asked) c.args.leaf (take (k.length + 1) s) (drop (k.length + 1) s)) node
 
 pub returns-in-Err-clause-err : goal.returns-in-Err-clause-err
 returns-in-Err-clause-err g c =

@@ -4,6 +4,6 @@ use Rattle.sabr_frontier.proofs.judge.judge.Given as goal
 
 abbrev pub invariant-loop-number : goal.invariant-loop-number
 invariant-loop-number g l = record {
-  so_far : IsJudged l.plan.plan l.request (l.prefix, take l.number-index l.excluded) l.judged;
-  paths : AllGoOn l.plan.plan l.request (l.prefix, take l.number-index l.excluded);
+  so_far : IsJudged l.question.plan.now.plan l.question.request (l.prefix, take l.number-index l.excluded) l.judged;
+  paths : AllGoOn l.question.plan.now.plan l.question.request (l.prefix, take l.number-index l.excluded);
 }

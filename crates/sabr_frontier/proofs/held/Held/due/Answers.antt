@@ -20,7 +20,7 @@ returns-then-is g c =
     let same = c.is.ensures.same c.if-is.true ∙ ap (λ q. prefix_owed q o) c.as_slice.ensures.value in
     record {
       due = sym (same_is_due h c.args.prefix.now o last c.if-not-self.false same);
-      lead = subst (λ q. IsLead c.args.plan.now.plan c.args.request.now q o.lead) (sym same) ((c.requires c.if-not-self.false).leads o (is_member_last h.owed o last));
+      lead = subst (λ q. IsLead c.args.question.now.plan.now.plan c.args.question.now.request q o.lead) (sym same) ((c.requires c.if-not-self.false).leads o (is_member_last h.owed o last));
     }
 
 pub returns-clause-due : goal.returns-clause-due

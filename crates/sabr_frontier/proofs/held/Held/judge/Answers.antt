@@ -15,7 +15,7 @@ returns-clause-verdict g c =
       | else-not-is_empty-via-then-not-is_empty+else-is_empty w ↦ inr (some_number X (sym w.is_empty-then-not-is_empty.ensures ∙ w.if-is_empty.false))
       | else-not-is_empty-via-else-not-is_empty w ↦ inl (empty_list q (sym c.is_empty.ensures ∙ w.if-not-is_empty.false))
     ] in
-    verdict_from c.args.plan.now.plan c.args.request.now (holding_of c.args.self.now) (q, X) (sym c.requires.due ∙ ap is_some c.in-Some.is) busy c.judge.result c.judge.ensures.some c.judge.ensures.none
+    verdict_from c.args.question.now.plan.now.plan c.args.question.now.request (holding_of c.args.self.now) (q, X) (sym c.requires.due ∙ ap is_some c.in-Some.is) busy c.judge.result c.judge.ensures.some c.judge.ensures.none
 
 pub returns-in_default-clause-verdict : goal.returns-in_default-clause-verdict
 returns-in_default-clause-verdict g c due good = true≢false (sym due ∙ sym c.requires.due ∙ ap is_some c.in_default.is)

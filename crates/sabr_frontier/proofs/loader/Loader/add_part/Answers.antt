@@ -14,38 +14,38 @@ use Rattle.sabr_frontier.proofs.loader.Loader.add_part.Goals as goal
 pub returns-then-not-is_next-clause-refused : goal.returns-then-not-is_next-clause-refused
 returns-then-not-is_next-clause-refused g c =
     let s = c.self.inside in
-    let p = s.plan.now.plan in
+    let p = s.question.plan.now.plan in
     let parts = parts_in (holding_of s.held) in
     let t : PartState = record { prefix = c.args.prefix.now; excluded = c.args.excluded.now; carried = option_copied c.args.route } in
     subst (λ (v : Loaded). (f : LoadFault) → part_refusal v.plan.plan v.request v.parts t ≡ Some f → ◌≡◌ {A = Result (Unit {0}) LoadFault} (Err load.BadOrder) (Err f)) c.self.view_is
-    (λ f h. told p s.request parts t load.BadOrder f (order_refused p s.request parts t (sym c.is_next.ensures ∙ c.if-not-is_next.true)) h)
+    (λ f h. told p s.question.request parts t load.BadOrder f (order_refused p s.question.request parts t (sym c.is_next.ensures ∙ c.if-not-is_next.true)) h)
 
 pub returns-then-not-is_next-clause-accepted : goal.returns-then-not-is_next-clause-accepted
 returns-then-not-is_next-clause-accepted g c =
     let s = c.self.inside in
-    let p = s.plan.now.plan in
+    let p = s.question.plan.now.plan in
     let parts = parts_in (holding_of s.held) in
     let t : PartState = record { prefix = c.args.prefix.now; excluded = c.args.excluded.now; carried = option_copied c.args.route } in
     subst (λ (v : Loaded). part_refusal v.plan.plan v.request v.parts t ≡ None → load.BadOrder ≡ load.NoMemory) c.self.view_is
-    (λ h. accepted p s.request parts t load.BadOrder h (order_refused p s.request parts t (sym c.is_next.ensures ∙ c.if-not-is_next.true)))
+    (λ h. accepted p s.question.request parts t load.BadOrder h (order_refused p s.question.request parts t (sym c.is_next.ensures ∙ c.if-not-is_next.true)))
 
 pub returns-in-Err-clause-refused : goal.returns-in-Err-clause-refused
 returns-in-Err-clause-refused g c =
     let s = c.self.inside in
-    let p = s.plan.now.plan in
+    let p = s.question.plan.now.plan in
     let parts = parts_in (holding_of s.held) in
     let t : PartState = record { prefix = c.args.prefix.now; excluded = c.args.excluded.now; carried = option_copied c.args.route } in
     subst (λ (v : Loaded). (f : LoadFault) → part_refusal v.plan.plan v.request v.parts t ≡ Some f → ◌≡◌ {A = Result (Unit {0}) LoadFault} (Err c.in-Err.fault) (Err f)) c.self.view_is
-    (λ f h. carry_told p s.request parts t c.in-Err.fault (sym c.is_next.ensures ∙ c.if-not-is_next.false) c.in-Err.ensures.err f h)
+    (λ f h. carry_told p s.question.request parts t c.in-Err.fault (sym c.is_next.ensures ∙ c.if-not-is_next.false) c.in-Err.ensures.err f h)
 
 pub returns-in-Err-clause-accepted : goal.returns-in-Err-clause-accepted
 returns-in-Err-clause-accepted g c =
     let s = c.self.inside in
-    let p = s.plan.now.plan in
+    let p = s.question.plan.now.plan in
     let parts = parts_in (holding_of s.held) in
     let t : PartState = record { prefix = c.args.prefix.now; excluded = c.args.excluded.now; carried = option_copied c.args.route } in
     subst (λ (v : Loaded). part_refusal v.plan.plan v.request v.parts t ≡ None → c.in-Err.fault ≡ load.NoMemory) c.self.view_is
-    (λ h. carry_accepted p s.request parts t c.in-Err.fault (sym c.is_next.ensures ∙ c.if-not-is_next.false) c.in-Err.ensures.err h)
+    (λ h. carry_accepted p s.question.request parts t c.in-Err.fault (sym c.is_next.ensures ∙ c.if-not-is_next.false) c.in-Err.ensures.err h)
 
 pub invariant_of-self : goal.invariant_of-self
 invariant_of-self g c =
@@ -53,29 +53,29 @@ invariant_of-self g c =
     record {
       rules = c.self.invariant.rules;
       limits = c.self.invariant.limits;
-      held = subst (IsHeld s.plan.now.plan s.request) (sym c.in_default.ensures.err) c.self.invariant.held;
+      held = subst (IsHeld s.question.plan.now.plan s.question.request) (sym c.in_default.ensures.err) c.self.invariant.held;
     }
 
 pub returns-in_default-clause-refused : goal.returns-in_default-clause-refused
 returns-in_default-clause-refused g c =
     let s = c.self.inside in
-    let p = s.plan.now.plan in
+    let p = s.question.plan.now.plan in
     let parts = parts_in (holding_of s.held) in
     let t : PartState = record { prefix = c.args.prefix.now; excluded = c.args.excluded.now; carried = option_copied c.args.route } in
     subst (λ (v : Loaded). (f : LoadFault) → part_refusal v.plan.plan v.request v.parts t ≡ Some f → ◌≡◌ {A = Result (Unit {0}) LoadFault} (Err load.NoMemory) (Err f)) c.self.view_is
-    (λ f h. accepted p s.request parts t f (not_refused p s.request parts t (sym c.is_next.ensures ∙ c.if-not-is_next.false) c.in-Ok.ensures.may) h)
+    (λ f h. accepted p s.question.request parts t f (not_refused p s.question.request parts t (sym c.is_next.ensures ∙ c.if-not-is_next.false) c.in-Ok.ensures.may) h)
 
 pub invariant_of-self-2 : goal.invariant_of-self-2
 invariant_of-self-2 g c =
     let s = c.self.inside in
-    let p = s.plan.now.plan in
-    let r = s.request in
+    let p = s.question.plan.now.plan in
+    let r = s.question.request in
     let h = holding_of s.held in
     let parts = parts_in h in
     let q = c.args.prefix.now in
     let X = c.args.excluded.now in
     let next = and_parts (rise_strictly X) (comes_behind parts q) (sym c.is_next.ensures ∙ c.if-not-is_next.false) in
-    let w = c.in-Ok-take_in.ensures.ok in
+    let w = c.in-Ok-taken.ensures.ok in
     record {
       rules = c.self.invariant.rules;
       limits = c.self.invariant.limits;
@@ -85,22 +85,22 @@ invariant_of-self-2 g c =
 pub returns-clause-refused : goal.returns-clause-refused
 returns-clause-refused g c =
     let s = c.self.inside in
-    let p = s.plan.now.plan in
+    let p = s.question.plan.now.plan in
     let parts = parts_in (holding_of s.held) in
     let t : PartState = record { prefix = c.args.prefix.now; excluded = c.args.excluded.now; carried = option_copied c.args.route } in
     subst (λ (v : Loaded). (f : LoadFault) → part_refusal v.plan.plan v.request v.parts t ≡ Some f → ◌≡◌ {A = Result (Unit {0}) LoadFault} (Ok tt) (Err f)) c.self.view_is
-    (λ f h. accepted p s.request parts t f (not_refused p s.request parts t (sym c.is_next.ensures ∙ c.if-not-is_next.false) c.in-Ok.ensures.may) h)
+    (λ f h. accepted p s.question.request parts t f (not_refused p s.question.request parts t (sym c.is_next.ensures ∙ c.if-not-is_next.false) c.in-Ok.ensures.may) h)
 
 pub returns-clause-ok : goal.returns-clause-ok
 returns-clause-ok g c =
     let s = c.self.inside in
-    let p = s.plan.now.plan in
-    let r = s.request in
+    let p = s.question.plan.now.plan in
+    let r = s.question.request in
     let h = holding_of s.held in
     let q = c.args.prefix.now in
     let X = c.args.excluded.now in
     let t : PartState = record { prefix = q; excluded = X; carried = option_copied c.args.route } in
-    let w = c.in-Ok-take_in.ensures.ok in
+    let w = c.in-Ok-taken.ensures.ok in
     let parts = ap parts_in w.2 ∙ parts_then p r h c.self.invariant.held q X c.in-Ok.route (option_copied c.args.route) c.in-Ok.ensures.ok w.0 in
-    subst (λ (v : Loaded). loaded s.plan.now r c.take_in.new.self (g.B.BestOf.calls_of s.finder) ≡ with_part v t) c.self.view_is
-    (λ i. record { plan = s.plan.now; request = r; parts = parts i; calls = g.B.BestOf.calls_of s.finder })
+    subst (λ (v : Loaded). loaded s.question.plan.now r c.take_in-taken.new.self (g.B.BestOf.calls_of s.finder) ≡ with_part v t) c.self.view_is
+    (λ i. record { plan = s.question.plan.now; request = r; parts = parts i; calls = g.B.BestOf.calls_of s.finder })

@@ -1,7 +1,10 @@
 use Rattle.std.proofs.Common.{◌≡◌, [], ap, sym, subst, ◌∙◌}
+use Rattle.sabr_model.specs.Plan.{IsPlan}
+use Rattle.sabr_model.specs.Asking.{IsRequest}
+use Rattle.sabr_frontier.specs.Asking.{Asking}
 use Rattle.sabr_frontier.specs.Listing.{IsState}
 use Rattle.sabr_frontier.specs.Loading.{IsClosedState, IsCounted, Loaded, state_with}
-use Rattle.sabr_frontier.specs.Shape.{shown}
+use Rattle.sabr_frontier.specs.Shape.{shape_of, shown}
 use Rattle.sabr_frontier.specs.Sound.{IsTree}
 use Rattle.sabr_frontier.specs.Holding.{IsLastPlace, IsWrongLast, holding_of, loaded_tree}
 use Rattle.sabr_frontier.proofs.Answering.{paid_closed, unpaid_open}
@@ -13,13 +16,13 @@ pub returns-then-not-is_paid-clause-err : goal.returns-then-not-is_paid-clause-e
 returns-then-not-is_paid-clause-err g c =
     let s = c.self.inside in
     subst (λ (v : Loaded). IsClosedState v.plan.plan v.request (state_with v.parts c.args.emitted c.args.last.now) → ⊥) c.self.view_is
-    (unpaid_open s.plan.now.plan s.request (holding_of s.held) c.self.invariant.held (sym c.is_paid.ensures ∙ c.if-not-is_paid.true))
+    (unpaid_open s.question.plan.now.plan s.question.request (holding_of s.held) c.self.invariant.held (sym c.is_paid.ensures ∙ c.if-not-is_paid.true))
 
 pub returns-in_default-clause-err : goal.returns-in_default-clause-err
 returns-in_default-clause-err g c =
     let s = c.self.inside in
-    let p = s.plan.now.plan in
-    let r = s.request in
+    let p = s.question.plan.now.plan in
+    let r = s.question.request in
     let h = holding_of s.held in
     let emitted = c.args.emitted in
     let last = c.args.last.now in
@@ -31,8 +34,8 @@ returns-in_default-clause-err g c =
 pub returns-in_default-into_tree-clause-err : goal.returns-in_default-into_tree-clause-err
 returns-in_default-into_tree-clause-err g c =
     let s = c.self.inside in
-    let p = s.plan.now.plan in
-    let r = s.request in
+    let p = s.question.plan.now.plan in
+    let r = s.question.request in
     let h = holding_of s.held in
     let emitted = c.args.emitted in
     let last = c.args.last.now in
@@ -44,8 +47,8 @@ returns-in_default-into_tree-clause-err g c =
 pub into_tree-requires : goal.into_tree-requires
 into_tree-requires g c =
     let s = c.self.inside in
-    let p = s.plan.now.plan in
-    let r = s.request in
+    let p = s.question.plan.now.plan in
+    let r = s.question.request in
     let h = holding_of s.held in
     let emitted = c.args.emitted in
     let last = c.args.last.now in
@@ -53,37 +56,44 @@ into_tree-requires g c =
     let at = subst (λ xs. IsLastPlace xs emitted last c.in-Some.last) c.as_slice.ensures.value c.in-Some.ensures.some in
     tree_indexed p r (loaded_tree h c.in-Some.last) (loaded_is_tree p r h c.self.invariant.held paid emitted last c.in-Some.last at)
 
+pub of_tree-requires-clause-rules : goal.of_tree-requires-clause-rules
+of_tree-requires-clause-rules g c = subst (λ (a : Asking). IsPlan a.asked.plan.plan) (sym c.new.ensures) c.self.invariant.rules
+
+pub of_tree-requires-clause-limits : goal.of_tree-requires-clause-limits
+of_tree-requires-clause-limits g c = subst (λ (a : Asking). IsRequest a.asked.request) (sym c.new.ensures) c.self.invariant.limits
+
 pub of_tree-requires-clause-sound : goal.of_tree-requires-clause-sound
 of_tree-requires-clause-sound g c =
     let s = c.self.inside in
-    let p = s.plan.now.plan in
-    let r = s.request in
+    let p = s.question.plan.now.plan in
+    let r = s.question.request in
     let h = holding_of s.held in
     let emitted = c.args.emitted in
     let last = c.args.last.now in
     let paid = sym c.is_paid.ensures ∙ c.if-not-is_paid.false in
     let at = subst (λ xs. IsLastPlace xs emitted last c.in-Some.last) c.as_slice.ensures.value c.in-Some.ensures.some in
-    subst (IsTree p r) (sym c.in-Ok.ensures.shape) (loaded_is_tree p r h c.self.invariant.held paid emitted last c.in-Some.last at)
+    subst (λ (a : Asking). IsTree a.asked.plan.plan a.asked.request (shape_of c.in-Ok.tree)) (sym c.new.ensures)
+    (subst (IsTree p r) (sym c.in-Ok.ensures.shape) (loaded_is_tree p r h c.self.invariant.held paid emitted last c.in-Some.last at))
 
 pub returns-clause-ok : goal.returns-clause-ok
 returns-clause-ok g c =
     let s = c.self.inside in
-    let p = s.plan.now.plan in
-    let r = s.request in
+    let p = s.question.plan.now.plan in
+    let r = s.question.request in
     let h = holding_of s.held in
     let emitted = c.args.emitted in
     let last = c.args.last.now in
     let paid = sym c.is_paid.ensures ∙ c.if-not-is_paid.false in
     let at = subst (λ xs. IsLastPlace xs emitted last c.in-Some.last) c.as_slice.ensures.value c.in-Some.ensures.some in
     let state = ap shown c.in-Ok.ensures.shape ∙ shown_then p r h c.self.invariant.held paid emitted last c.in-Some.last at in
-    let told : c.of_tree.result ≡ record { plan = s.plan.now; request = r; state = state_with (Rattle.sabr_frontier.specs.Holding.parts_in h) emitted last; former = []; searches = 0; calls = g.B.BestOf.calls_of s.finder } = c.of_tree.ensures ∙ (λ i. record { plan = s.plan.now; request = r; state = state i; former = []; searches = 0; calls = g.B.BestOf.calls_of s.finder }) in
+    let told = c.of_tree.ensures ∙ (λ i. record { plan = (c.new.ensures i).asked.plan; request = (c.new.ensures i).asked.request; state = state i; former = []; searches = 0; calls = (c.new.ensures i).calls }) in
     subst (λ (v : Loaded). c.of_tree.result ≡ record { plan = v.plan; request = v.request; state = state_with v.parts emitted last; former = []; searches = 0; calls = v.calls }) c.self.view_is told
 
 pub returns-clause-formed : goal.returns-clause-formed
 returns-clause-formed g c =
     let s = c.self.inside in
-    let p = s.plan.now.plan in
-    let r = s.request in
+    let p = s.question.plan.now.plan in
+    let r = s.question.request in
     let h = holding_of s.held in
     let emitted = c.args.emitted in
     let last = c.args.last.now in

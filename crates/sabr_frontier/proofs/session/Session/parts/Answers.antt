@@ -11,5 +11,5 @@ returns g c =
     let s = c.self.inside in
     let t = shape_of s.tree in
     (λ i. map (told_at (c.as_slice-3.ensures.value i) (c.as_slice-2.ensures.value i)) ((c.as_slice.ensures.value ∙ c.self.invariant.index) i))
-    ∙ told_all s.plan.now.plan s.request t (sound_tree s.plan.now.plan s.request (length t.journal) t c.self.invariant.sound) t.index
+    ∙ told_all s.asker.asked.plan.plan s.asker.asked.request t (sound_tree s.asker.asked.plan.plan s.asker.asked.request (length t.journal) t c.self.invariant.sound) t.index
     ∙ ap (λ (v : Seen). map (told_part v.plan.plan v.request) v.state.parts) c.self.view_is

@@ -1,10 +1,10 @@
 use Rattle.std.proofs.Common.{◌≡◌, inl, inr, List, refl, sym, ap, subst, ◌∙◌, true≢false, arith, length, Some}
-use Rattle.std.specs.Prelude.{slice_get}
+use Rattle.std.specs.Prelude.{IsTrue, slice_get}
 use Rattle.std.specs.List.Sorted.{IsStrictlyIncreasing}
 use Rattle.std.proofs.lemmas.Bool.{cases_lt}
 use Rattle.sabr_model.specs.Route.{is_prefix}
 use Rattle.sabr_frontier.specs.declared.tree.Node.{Node}
-use Rattle.sabr_frontier.specs.Best.{best_of}
+use Rattle.sabr_frontier.specs.Asking.{Asked, best_for}
 use Rattle.sabr_frontier.specs.Shape.{shape_of, prefix_of}
 use Rattle.sabr_frontier.proofs.Ends.{get_there}
 use Rattle.sabr_frontier.proofs.Nodes.{get_within}
@@ -14,55 +14,56 @@ use Rattle.sabr_frontier.proofs.tree.Tree.carries_least.Goals as goal
 
 pub ask-requires-clause-fits : goal.ask-requires-clause-fits
 ask-requires-clause-fits g c =
-    let p = c.args.plan.now.plan in
-    let r = c.args.request.now in
+    let p = c.args.asker.now.asked.plan.plan in
+    let r = c.args.asker.now.asked.request in
     let t = shape_of c.args.self.now in
     let n = c.node-item.result in
     let here = subst (λ (xs : List (Node g.row.A.Denot)). slice_get xs c.loop-node.node-index ≡ Some n) c.deref-node-items.ensures.value (get_there c.deref-node-items.result.now c.loop-node.node-index n c.loop-node-test.true c.node-item.is) in
-    ap (is_prefix p r) (c.prefix-front.ensures ∙ ap (λ l. prefix_of l n) c.as_slice.ensures.value) ∙ front_is p r t c.requires.tree c.loop-node.node-index n here
+    subst (λ (a : Asked). IsTrue (is_prefix a.plan.plan a.request c.prefix-front.result.now)) (sym c.loop-node.invariant.same)
+    (ap (is_prefix p r) (c.prefix-front.ensures ∙ ap (λ l. prefix_of l n) c.as_slice.ensures.value) ∙ front_is p r t c.requires.tree c.loop-node.node-index n here)
 
 pub ask-requires-clause-rising : goal.ask-requires-clause-rising
 ask-requires-clause-rising g c =
     let t = shape_of c.args.self.now in
     let n = c.node-item.result in
     let here = subst (λ (xs : List (Node g.row.A.Denot)). slice_get xs c.loop-node.node-index ≡ Some n) c.deref-node-items.ensures.value (get_there c.deref-node-items.result.now c.loop-node.node-index n c.loop-node-test.true c.node-item.is) in
-    subst IsStrictlyIncreasing (sym c.as_slice-in-loop-node.ensures) (increasing n.excluded (excluded_rise c.args.plan.now.plan c.args.request.now t c.requires.tree c.loop-node.node-index n here))
+    subst IsStrictlyIncreasing (sym c.as_slice-in-loop-node.ensures) (increasing n.excluded (excluded_rise c.args.asker.now.asked.plan.plan c.args.asker.now.asked.request t c.requires.tree c.loop-node.node-index n here))
 
 pub returns-then-not-is_same-clause-least : goal.returns-then-not-is_same-clause-least
 returns-then-not-is_same-clause-least g c =
-    let p = c.args.plan.now.plan in
-    let r = c.args.request.now in
+    let p = c.args.asker.now.asked.plan.plan in
+    let r = c.args.asker.now.asked.request in
     let t = shape_of c.args.self.now in
     let n = c.node-item.result in
     let here = subst (λ (xs : List (Node g.row.A.Denot)). slice_get xs c.loop-node.node-index ≡ Some n) c.deref-node-items.ensures.value (get_there c.deref-node-items.result.now c.loop-node.node-index n c.loop-node-test.true c.node-item.is) in
     let front = c.prefix-front.ensures ∙ ap (λ l. prefix_of l n) c.as_slice.ensures.value in
-    let found = c.in_ok-found.ensures.best ∙ (λ i. best_of p r (front i) (c.as_slice-in-loop-node.ensures i)) in
+    let found = c.in_ok-found.ensures.best ∙ (λ i. best_for (c.loop-node.invariant.same i) (front i) (c.as_slice-in-loop-node.ensures i)) in
     ((λ h. absurd (true≢false (sym h))), (λ h. absurd (true≢false (sym (c.is_same.ensures.1 (found ∙ sym (least_best p r t c.requires.tree h c.loop-node.node-index n here))) ∙ c.if-not-is_same.true))))
 
 pub loop-node-preserved : goal.loop-node-preserved
 loop-node-preserved g c = record {
   least = λ i m l e.
-      let p = c.args.plan.now.plan in
-      let r = c.args.request.now in
+      let p = c.args.asker.now.asked.plan.plan in
+      let r = c.args.asker.now.asked.request in
       let n = c.node-item.result in
       let at = c.loop-node.node-index in
       let here = subst (λ (xs : List (Node g.row.A.Denot)). slice_get xs at ≡ Some n) c.deref-node-items.ensures.value (get_there c.deref-node-items.result.now at n c.loop-node-test.true c.node-item.is) in
       let front = c.prefix-front.ensures ∙ ap (λ z. prefix_of z n) c.as_slice.ensures.value in
-      let found = c.in_ok-found.ensures.best ∙ (λ j. best_of p r (front j) (c.as_slice-in-loop-node.ensures j)) in
+      let found = c.in_ok-found.ensures.best ∙ (λ j. best_for (c.loop-node.invariant.same j) (front j) (c.as_slice-in-loop-node.ensures j)) in
       elim (cases_lt i at) [
         | inl k ↦ c.loop-node.invariant.least i m k e
         | inr k ↦
             let at_end : at ≡ i = omega arith in
             let same : n ≡ m = let f : Some n ≡ Some m = sym here ∙ ap (slice_get c.args.self.now.nodes.items) at_end ∙ e in cc in
-            subst (λ (z : Node g.row.A.Denot). z.route ≡ best_of p r (prefix_of c.args.self.now.leaves.items z) z.excluded) same (sym (c.is_same.ensures.0 c.if-not-is_same.false) ∙ found)
+            subst (λ (z : Node g.row.A.Denot). z.route ≡ best_for c.args.asker.now.asked (prefix_of c.args.self.now.leaves.items z) z.excluded) same (sym (c.is_same.ensures.0 c.if-not-is_same.false) ∙ found)
       ];
   called = omega (arith, c.in_ok-found.ensures.called, c.loop-node.invariant.called);
-  kept = c.ask.ensures.kept;
+  same = c.ask.ensures.same ∙ c.loop-node.invariant.same;
 }
 
 pub returns-clause-least : goal.returns-clause-least
 returns-clause-least g c = (
-  (λ _. best_least c.args.plan.now.plan c.args.request.now (shape_of c.args.self.now) c.requires.tree (λ i n e.
+  (λ _. best_least c.args.asker.now.asked.plan.plan c.args.asker.now.asked.request (shape_of c.args.self.now) c.requires.tree (λ i n e.
       c.loop-node.invariant.least i n (let s = subst (λ (xs : List (Node g.row.A.Denot)). length xs ≡ length c.args.self.now.nodes.items) (sym c.deref-node-items.ensures.value) refl in let k = get_within c.args.self.now.nodes.items i n e in let z = c.loop-node-test.false in omega arith) e)),
   (λ _. refl),
 )

@@ -1,5 +1,9 @@
-use Rattle.std.proofs.Common.{◌≡◌, refl, ◌-◌, ◌+◌, suc, length, arith, ap, subst, ◌∙◌, inr, zero-add}
+use Rattle.std.proofs.Common.{◌≡◌, refl, ◌-◌, ◌+◌, suc, length, arith, ap, sym, subst, ◌∙◌, inr, zero-add}
+use Rattle.sabr_model.specs.Plan.{IsPlan}
+use Rattle.sabr_frontier.specs.Asking.{Asked}
 use Rattle.sabr_frontier.specs.Shape.{shape_of, shown}
+use Rattle.sabr_frontier.specs.Sound.{IsTree}
+use Rattle.sabr_frontier.specs.Taking.{IsTaken}
 use Rattle.sabr_frontier.proofs.Giving.{is_given}
 use Rattle.sabr_frontier.proofs.Pages.{IsOnTheWay, at_first, one_on, at_last, at_end, sound_tree, last_steps, counts_on, counts_idle, counts_none}
 use Rattle.sabr_frontier.specs.Listing.{searches_in}
@@ -7,49 +11,56 @@ use Rattle.sabr_frontier.proofs.tree.Tree.gather.Goals as goal
 
 pub loop-init : goal.loop-init
 loop-init g c = record {
-  way = at_first c.args.plan.now.plan c.args.request.now c.args.count (c.args.count - 0) (shape_of c.args.self.now) c.args.given.now.items (omega arith) c.requires.sound;
+  way = at_first c.args.asker.now.asked.plan.plan c.args.asker.now.asked.request c.args.count (c.args.count - 0) (shape_of c.args.self.now) c.args.given.now.items (omega arith) c.requires.sound;
   index = refl;
   room = c.requires.room;
-  sum = (let e : c.args.count - 0 ≡ c.args.count = omega arith in ap (λ n. 0 + searches_in c.args.plan.now.plan c.args.request.now n (shown (shape_of c.args.self.now))) e ∙ zero-add _);
+  sum = (let e : c.args.count - 0 ≡ c.args.count = omega arith in ap (λ n. 0 + searches_in c.args.asker.now.asked.plan.plan c.args.asker.now.asked.request n (shown (shape_of c.args.self.now))) e ∙ zero-add _);
   called = omega arith;
   few = omega arith;
-  kept = c.requires.kept;
+  same = refl;
 }
 
 pub returns-then-is_empty-clause-routes : goal.returns-then-is_empty-clause-routes
 returns-then-is_empty-clause-routes g c =
     let empty = c.is_empty.ensures.none c.if-is_empty.true in
-    (at_end c.args.plan.now.plan c.args.request.now c.requires.plan (shown (shape_of c.args.self.now)) c.args.count (shape_of c.args.self.now) c.args.given.now.items (c.args.count - c.loop.counter) (shape_of c.loop.self) c.loop.given.items empty c.loop.invariant.way).routes
+    (at_end c.args.asker.now.asked.plan.plan c.args.asker.now.asked.request c.requires.plan (shown (shape_of c.args.self.now)) c.args.count (shape_of c.args.self.now) c.args.given.now.items (c.args.count - c.loop.counter) (shape_of c.loop.self) c.loop.given.items empty c.loop.invariant.way).routes
 
 pub returns-then-is_empty-clause-state : goal.returns-then-is_empty-clause-state
 returns-then-is_empty-clause-state g c =
     let empty = c.is_empty.ensures.none c.if-is_empty.true in
-    (at_end c.args.plan.now.plan c.args.request.now c.requires.plan (shown (shape_of c.args.self.now)) c.args.count (shape_of c.args.self.now) c.args.given.now.items (c.args.count - c.loop.counter) (shape_of c.loop.self) c.loop.given.items empty c.loop.invariant.way).state
+    (at_end c.args.asker.now.asked.plan.plan c.args.asker.now.asked.request c.requires.plan (shown (shape_of c.args.self.now)) c.args.count (shape_of c.args.self.now) c.args.given.now.items (c.args.count - c.loop.counter) (shape_of c.loop.self) c.loop.given.items empty c.loop.invariant.way).state
 
 pub returns-then-is_empty-clause-entries : goal.returns-then-is_empty-clause-entries
 returns-then-is_empty-clause-entries g c =
     let empty = c.is_empty.ensures.none c.if-is_empty.true in
-    (at_end c.args.plan.now.plan c.args.request.now c.requires.plan (shown (shape_of c.args.self.now)) c.args.count (shape_of c.args.self.now) c.args.given.now.items (c.args.count - c.loop.counter) (shape_of c.loop.self) c.loop.given.items empty c.loop.invariant.way).entries
+    (at_end c.args.asker.now.asked.plan.plan c.args.asker.now.asked.request c.requires.plan (shown (shape_of c.args.self.now)) c.args.count (shape_of c.args.self.now) c.args.given.now.items (c.args.count - c.loop.counter) (shape_of c.loop.self) c.loop.given.items empty c.loop.invariant.way).entries
+
+pub take-requires-clause-plan : goal.take-requires-clause-plan
+take-requires-clause-plan g c = subst (λ (a : Asked). IsPlan a.plan.plan) (sym c.loop.invariant.same) c.requires.plan
 
 pub take-requires-clause-tree : goal.take-requires-clause-tree
-take-requires-clause-tree g c = sound_tree c.args.plan.now.plan c.args.request.now (length c.loop.self.journal.items) (shape_of c.loop.self) c.loop.invariant.way.sound
+take-requires-clause-tree g c =
+    subst (λ (a : Asked). IsTree a.plan.plan a.request (shape_of c.loop.self)) (sym c.loop.invariant.same)
+    (sound_tree c.args.asker.now.asked.plan.plan c.args.asker.now.asked.request (length c.loop.self.journal.items) (shape_of c.loop.self) c.loop.invariant.way.sound)
 
 pub overflow_add-searches : goal.overflow_add-searches
 overflow_add-searches g c =
-    let p = c.args.plan.now.plan in
-    let r = c.args.request.now in
+    let p = c.args.asker.now.asked.plan.plan in
+    let r = c.args.asker.now.asked.request in
     let t = shape_of c.loop.self in
-    let step = is_given p r c.requires.plan t (sound_tree p r (length t.journal) t c.loop.invariant.way.sound) _ _ _ _ c.in_ok-searches.ensures.ok in
+    let taken = subst (λ (a : Asked). IsTaken a.plan.plan a.request t (shape_of c.take.new.self) c.loop.given.items c.take.new.given.items c.in_ok-searches.field-0) c.loop.invariant.same c.in_ok-searches.ensures.ok in
+    let step = is_given p r c.requires.plan t (sound_tree p r (length t.journal) t c.loop.invariant.way.sound) _ _ _ _ taken in
     omega (arith, step.0.few, step.2, c.loop.invariant.few, c.requires.hops, c.requires.count, c.loop-test.true)
 
 pub loop-preserved : goal.loop-preserved
 loop-preserved g c =
-    let p = c.args.plan.now.plan in
-    let r = c.args.request.now in
+    let p = c.args.asker.now.asked.plan.plan in
+    let r = c.args.asker.now.asked.request in
     let t = shape_of c.loop.self in
     let first = shape_of c.args.self.now in
     let before = c.args.given.now.items in
-    let step = is_given p r c.requires.plan t (sound_tree p r (length t.journal) t c.loop.invariant.way.sound) _ _ _ _ c.in_ok-searches.ensures.ok in
+    let taken = subst (λ (a : Asked). IsTaken a.plan.plan a.request t (shape_of c.take.new.self) c.loop.given.items c.take.new.given.items c.in_ok-searches.field-0) c.loop.invariant.same c.in_ok-searches.ensures.ok in
+    let step = is_given p r c.requires.plan t (sound_tree p r (length t.journal) t c.loop.invariant.way.sound) _ _ _ _ taken in
     let u = shape_of c.take.new.self in
     let left : c.args.count - c.loop.counter ≡ suc (c.args.count - (c.loop.counter + 1)) = omega (arith, c.loop-test.true) in
     let way = subst (λ n. IsOnTheWay p r (shown first) c.args.count first before n t c.loop.given.items) left c.loop.invariant.way in
@@ -61,32 +72,32 @@ loop-preserved g c =
           (subst (λ n. c.loop.searches + searches_in p r n (shown t) ≡ searches_in p r c.args.count (shown first)) left c.loop.invariant.sum);
       called = omega (arith, c.in_ok-searches.ensures.called, c.loop.invariant.called);
       few = omega (arith, step.0.few, step.2, c.loop.invariant.few, c.requires.hops);
-      kept = c.take.ensures.kept;
+      same = c.take.ensures.same ∙ c.loop.invariant.same;
     }
 
 pub returns-clause-routes : goal.returns-clause-routes
 returns-clause-routes g c =
     let none : c.args.count - c.loop.counter ≡ 0 = omega (arith, c.loop-test.false) in
-    (at_last c.args.plan.now.plan c.args.request.now (shown (shape_of c.args.self.now)) c.args.count (shape_of c.args.self.now) c.args.given.now.items (c.args.count - c.loop.counter) (shape_of c.loop.self) c.loop.given.items (last_steps c.args.plan.now.plan c.args.request.now (shown (shape_of c.loop.self)) (c.args.count - c.loop.counter) none) c.loop.invariant.way).routes
+    (at_last c.args.asker.now.asked.plan.plan c.args.asker.now.asked.request (shown (shape_of c.args.self.now)) c.args.count (shape_of c.args.self.now) c.args.given.now.items (c.args.count - c.loop.counter) (shape_of c.loop.self) c.loop.given.items (last_steps c.args.asker.now.asked.plan.plan c.args.asker.now.asked.request (shown (shape_of c.loop.self)) (c.args.count - c.loop.counter) none) c.loop.invariant.way).routes
 
 pub returns-clause-state : goal.returns-clause-state
 returns-clause-state g c =
     let none : c.args.count - c.loop.counter ≡ 0 = omega (arith, c.loop-test.false) in
-    (at_last c.args.plan.now.plan c.args.request.now (shown (shape_of c.args.self.now)) c.args.count (shape_of c.args.self.now) c.args.given.now.items (c.args.count - c.loop.counter) (shape_of c.loop.self) c.loop.given.items (last_steps c.args.plan.now.plan c.args.request.now (shown (shape_of c.loop.self)) (c.args.count - c.loop.counter) none) c.loop.invariant.way).state
+    (at_last c.args.asker.now.asked.plan.plan c.args.asker.now.asked.request (shown (shape_of c.args.self.now)) c.args.count (shape_of c.args.self.now) c.args.given.now.items (c.args.count - c.loop.counter) (shape_of c.loop.self) c.loop.given.items (last_steps c.args.asker.now.asked.plan.plan c.args.asker.now.asked.request (shown (shape_of c.loop.self)) (c.args.count - c.loop.counter) none) c.loop.invariant.way).state
 
 pub returns-clause-entries : goal.returns-clause-entries
 returns-clause-entries g c =
     let none : c.args.count - c.loop.counter ≡ 0 = omega (arith, c.loop-test.false) in
-    (at_last c.args.plan.now.plan c.args.request.now (shown (shape_of c.args.self.now)) c.args.count (shape_of c.args.self.now) c.args.given.now.items (c.args.count - c.loop.counter) (shape_of c.loop.self) c.loop.given.items (last_steps c.args.plan.now.plan c.args.request.now (shown (shape_of c.loop.self)) (c.args.count - c.loop.counter) none) c.loop.invariant.way).entries
+    (at_last c.args.asker.now.asked.plan.plan c.args.asker.now.asked.request (shown (shape_of c.args.self.now)) c.args.count (shape_of c.args.self.now) c.args.given.now.items (c.args.count - c.loop.counter) (shape_of c.loop.self) c.loop.given.items (last_steps c.args.asker.now.asked.plan.plan c.args.asker.now.asked.request (shown (shape_of c.loop.self)) (c.args.count - c.loop.counter) none) c.loop.invariant.way).entries
 
 pub returns-then-is_empty-clause-searches : goal.returns-then-is_empty-clause-searches
 returns-then-is_empty-clause-searches g c =
     let empty = c.is_empty.ensures.none c.if-is_empty.true in
-    let still = counts_idle c.args.plan.now.plan c.args.request.now c.requires.plan (shape_of c.loop.self) c.loop.invariant.way.sound (c.args.count - c.loop.counter) (inr empty) in
+    let still = counts_idle c.args.asker.now.asked.plan.plan c.args.asker.now.asked.request c.requires.plan (shape_of c.loop.self) c.loop.invariant.way.sound (c.args.count - c.loop.counter) (inr empty) in
     omega (arith, still, c.loop.invariant.sum)
 
 pub returns-clause-searches : goal.returns-clause-searches
 returns-clause-searches g c =
     let none : c.args.count - c.loop.counter ≡ 0 = omega (arith, c.loop-test.false) in
-    let still = counts_none c.args.plan.now.plan c.args.request.now (shown (shape_of c.loop.self)) (c.args.count - c.loop.counter) none in
+    let still = counts_none c.args.asker.now.asked.plan.plan c.args.asker.now.asked.request (shown (shape_of c.loop.self)) (c.args.count - c.loop.counter) none in
     omega (arith, still, c.loop.invariant.sum)

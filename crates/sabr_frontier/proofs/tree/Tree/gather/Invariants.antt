@@ -1,5 +1,4 @@
 use Rattle.std.proofs.Common.{◌≡◌, ◌+◌, ◌-◌, ◌*◌, ◌≤◌}
-use Rattle.sabr_search.specs.Kept.{IsKept}
 use Rattle.sabr_frontier.specs.Listing.{searches_in}
 use Rattle.sabr_frontier.specs.Shape.{shape_of, shown}
 use Rattle.sabr_frontier.specs.Undo.{IsRoomy}
@@ -8,11 +7,11 @@ use Rattle.sabr_frontier.proofs.tree.Tree.gather.Given as goal
 
 abbrev pub invariant-loop : goal.invariant-loop
 invariant-loop g l = record {
-  way : IsOnTheWay l.plan.plan l.request (shown (shape_of l.fn.self)) l.count (shape_of l.fn.self) l.fn.given.items (l.count - l.counter) (shape_of l.self) l.given.items;
+  way : IsOnTheWay l.fn.asker.asked.plan.plan l.fn.asker.asked.request (shown (shape_of l.fn.self)) l.count (shape_of l.fn.self) l.fn.given.items (l.count - l.counter) (shape_of l.self) l.given.items;
   index : l.self.index.items ≡ l.fn.self.index.items;
   room : IsRoomy l.self;
-  sum : l.searches + searches_in l.plan.plan l.request (l.count - l.counter) (shown (shape_of l.self)) ≡ searches_in l.plan.plan l.request l.count (shown (shape_of l.fn.self));
-  called : g.B.BestOf.calls_of l.finder ≡ g.B.BestOf.calls_of l.fn.finder + l.searches;
+  sum : l.searches + searches_in l.fn.asker.asked.plan.plan l.fn.asker.asked.request (l.count - l.counter) (shown (shape_of l.self)) ≡ searches_in l.fn.asker.asked.plan.plan l.fn.asker.asked.request l.count (shown (shape_of l.fn.self));
+  called : l.asker.calls ≡ l.fn.asker.calls + l.searches;
   few : l.searches ≤ l.counter * 20000;
-  kept : IsKept l.plan l.request l.kept;
+  same : l.asker.asked ≡ l.fn.asker.asked;
 }

@@ -48,7 +48,7 @@ prepare-requires-clause-carries g c =
 pub prepare-requires-clause-longer : goal.prepare-requires-clause-longer
 prepare-requires-clause-longer g c n x a b =
     let t = shape_of c.args.self.now in
-    (can_exclude c.args.plan.now.plan c.args.request.now t c.requires.tree c.in-Some.node n x a b).longer
+    (can_exclude c.args.asker.now.asked.plan.plan c.args.asker.now.asked.request t c.requires.tree c.in-Some.node n x a b).longer
 
 pub divide-requires-clause-in_range : goal.divide-requires-clause-in_range
 divide-requires-clause-in_range g c =
@@ -60,8 +60,8 @@ divide-requires-clause-in_range g c =
 pub divide-requires-clause-route : goal.divide-requires-clause-route
 divide-requires-clause-route g c =
     let t = shape_of c.args.self.now in
-    let p = c.args.plan.now.plan in
-    let r = c.args.request.now in
+    let p = c.args.asker.now.asked.plan.plan in
+    let r = c.args.asker.now.asked.request in
     let node = c.in-Some.node in
     let w = standing t.nodes node c.in-Some.ensures.some in
     let ready = c.in_ok-prepared.ensures.ready w.0 w.1 w.2 w.3 in
@@ -71,8 +71,8 @@ divide-requires-clause-route g c =
 pub divide-requires-clause-next : goal.divide-requires-clause-next
 divide-requires-clause-next g c n stands =
     let t = shape_of c.args.self.now in
-    let p = c.args.plan.now.plan in
-    let r = c.args.request.now in
+    let p = c.args.asker.now.asked.plan.plan in
+    let r = c.args.asker.now.asked.request in
     let node = c.in-Some.node in
     let w = standing t.nodes node c.in-Some.ensures.some in
     let ready = c.in_ok-prepared.ensures.ready w.0 w.1 w.2 w.3 in
@@ -83,8 +83,8 @@ divide-requires-clause-next g c n stands =
 pub change-requires-clause-room : goal.change-requires-clause-room
 change-requires-clause-room g c =
     let t = shape_of c.args.self.now in
-    let p = c.args.plan.now.plan in
-    let r = c.args.request.now in
+    let p = c.args.asker.now.asked.plan.plan in
+    let r = c.args.asker.now.asked.request in
     let node = c.in-Some.node in
     let w = standing t.nodes node c.in-Some.ensures.some in
     let ready = c.in_ok-prepared.ensures.ready w.0 w.1 w.2 w.3 in
@@ -116,8 +116,8 @@ change-requires-clause-in_range g c =
 pub change-requires-clause-carries : goal.change-requires-clause-carries
 change-requires-clause-carries g c =
     let t = shape_of c.args.self.now in
-    let p = c.args.plan.now.plan in
-    let r = c.args.request.now in
+    let p = c.args.asker.now.asked.plan.plan in
+    let r = c.args.asker.now.asked.request in
     let node = c.in-Some.node in
     let w = standing t.nodes node c.in-Some.ensures.some in
     let ready = c.in_ok-prepared.ensures.ready w.0 w.1 w.2 w.3 in
@@ -144,8 +144,8 @@ change-requires-clause-roomy g c =
 pub returns-clause-ok : goal.returns-clause-ok
 returns-clause-ok g c =
     let t = shape_of c.args.self.now in
-    let p = c.args.plan.now.plan in
-    let r = c.args.request.now in
+    let p = c.args.asker.now.asked.plan.plan in
+    let r = c.args.asker.now.asked.request in
     let node = c.in-Some.node in
     let w = standing t.nodes node c.in-Some.ensures.some in
     let ready = c.in_ok-prepared.ensures.ready w.0 w.1 w.2 w.3 in
@@ -187,8 +187,8 @@ returns-clause-ok g c =
 pub returns-clause-called : goal.returns-clause-called
 returns-clause-called g c =
     let t = shape_of c.args.self.now in
-    let p = c.args.plan.now.plan in
-    let r = c.args.request.now in
+    let p = c.args.asker.now.asked.plan.plan in
+    let r = c.args.asker.now.asked.request in
     let node = c.in-Some.node in
     let w = standing t.nodes node c.in-Some.ensures.some in
     let ready = c.in_ok-prepared.ensures.ready w.0 w.1 w.2 w.3 in

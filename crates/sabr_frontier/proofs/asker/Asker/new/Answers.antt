@@ -1,0 +1,4 @@
+use Rattle.sabr_frontier.proofs.asker.Asker.new.Goals as goal
+
+pub invariant_of-result : goal.invariant_of-result
+invariant_of-result g c = c.new-kept.ensures c.args.question.plan.now c.args.question.request

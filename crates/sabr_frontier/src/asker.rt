@@ -1,0 +1,84 @@
+//! Asking a finder for the least routes of parts.
+
+ghost use Rattle.std.specs.Prelude.{◌≡◌, ◌+◌, IfOk, IsTrue};
+ghost use Rattle.std.specs.List.Sorted.{IsStrictlyIncreasing};
+ghost use Rattle.sabr_model.specs.Route.{is_prefix};
+ghost use Rattle.sabr_frontier.specs.Asking.{asked_of};
+ghost use Rattle.sabr_frontier.specs.Best.{IsBest};
+
+use crate::question::Question;
+use sabr_model::{NoMemory, Plan, Request, Route};
+use sabr_search::{BestOf, Kept, Part};
+use std::alloc::{Allocator, Global};
+use std::marker::Model;
+
+/// A finder with what it is asked for, and what is kept for its searches. Contracts see the plan, the request, and how
+/// often the finder was called.
+#[derive(Drop)]
+pub struct Asker<'p, B: BestOf<A>, A: Allocator + Copy = Global> {
+    /// The plan and the request, with the allocator of all that is made.
+    question: Question<'p, A>,
+    /// The finder of a part's least route.
+    finder: B,
+    /// What is kept for its searches.
+    kept: Kept<A>,
+}
+
+impl<'p, B: BestOf<A>, A: Allocator + Copy> Model for Asker<'p, B, A> {
+    ghost use Rattle.sabr_search.specs.Kept.{IsKept};
+    ghost use Rattle.sabr_frontier.specs.Asking.{Asking, asked_of};
+
+    ghost Value = { Asking };
+
+    ghost view = { λ a. record { asked = asked_of a.question; calls = B.calls_of a.finder } };
+
+    ghost invariant = { λ a. IsKept a.question.plan.now a.question.request a.kept };
+}
+
+impl<'p, B: BestOf<A>, A: Allocator + Copy> Asker<'p, B, A> {
+    /// Makes an asker that keeps nothing yet. It takes no memory.
+    pub fn new(question: Question<'p, A>, finder: B) -> Asker<'p, B, A>
+        ensures { result ≡ record { asked = asked_of question.entry; calls = B.calls_of finder } }
+    {
+        let kept = Kept::new(question.alloc());
+        Asker {
+            question,
+            finder,
+            kept,
+        }
+    }
+
+    /// The allocator of what is made.
+    pub fn alloc(&self) -> A {
+        self.question.alloc()
+    }
+
+    /// The plan.
+    pub fn plan(&self) -> &'p Plan<A>
+        ensures { result.now ≡ self.now.asked.plan }
+    {
+        self.question.plan
+    }
+
+    /// The request.
+    pub fn request(&self) -> &Request
+        ensures { result.now ≡ self.now.asked.request }
+    {
+        &self.question.request
+    }
+
+    /// Asks for the least route of a part whose excluded numbers rise.
+    #[tactic(auto, unfolding(crate::specs::Best::best_of))]
+    pub fn ask(&mut self, prefix: &[u32], excluded: &[u32]) -> Result<Option<Route<A>>, NoMemory>
+        requires fits { IsTrue (is_prefix self.old.asked.plan.plan self.old.asked.request prefix.now) }
+        requires rising { IsStrictlyIncreasing excluded.now }
+        ensures best { IfOk result (IsBest self.old.asked.plan.plan self.old.asked.request prefix.now excluded.now) }
+        ensures called { self.new.calls ≡ self.old.calls + 1 }
+        ensures same { self.new.asked ≡ self.old.asked }
+    {
+        let part = Part { prefix, excluded };
+        let question = &self.question;
+        self.finder
+            .best_rising(&mut self.kept, question.plan, &question.request, part)
+    }
+}

@@ -1,0 +1,22 @@
+//! What routes are asked for.
+
+use sabr_model::{Plan, Request};
+use std::alloc::{Allocator, Global};
+
+/// A plan, a request for its routes, and the allocator of what is made for them.
+#[derive(Drop)]
+pub struct Question<'p, A: Allocator + Copy = Global> {
+    /// The allocator.
+    pub alloc: A,
+    /// The plan whose routes are listed.
+    pub plan: &'p Plan<A>,
+    /// The request.
+    pub request: Request,
+}
+
+impl<'p, A: Allocator + Copy> Question<'p, A> {
+    /// The allocator.
+    pub fn alloc(&self) -> A {
+        self.alloc
+    }
+}
