@@ -1,10 +1,12 @@
 -- What an asker shows.
-use Rattle.std.specs.Prelude.{ℕ, List, Option}
+use Rattle.std.specs.Prelude.{ℕ, List, map, Option}
 use Rattle.sabr_model.specs.Plan.{TabledPlan}
 use Rattle.sabr_model.specs.Arrival.{RouteRequest}
-use Rattle.sabr_model.specs.Record.{RouteRecord}
+use Rattle.sabr_model.specs.Record.{RouteRecord, record_of}
 use Rattle.sabr_frontier.specs.declared.question.Question.{Question}
 use Rattle.sabr_frontier.specs.Best.{best_of}
+use Rattle.sabr_frontier.specs.State.{State}
+use Rattle.sabr_frontier.specs.Listing.{steps}
 
 -- a plan, and a request for its routes
 pub record Asked : Type 0 where
@@ -18,6 +20,14 @@ pub record Asking : Type 0 where
 
 abbrev pub asked_of : {A : Type 0} → Question A → Asked
 asked_of q = record { plan = q.plan.now; request = q.request }
+
+-- at most k steps from a state
+abbrev pub steps_for : Asked → ℕ → State → List (List ℕ) × State
+steps_for a k s = steps a.plan.plan a.request k s
+
+-- the records of routes
+abbrev pub records_for : Asked → List (List ℕ) → List RouteRecord
+records_for a routes = map (record_of a.plan.plan a.request) routes
 
 -- the record of the least route of a part
 abbrev pub best_for : Asked → List ℕ → List ℕ → Option RouteRecord

@@ -19,6 +19,7 @@ use Rattle.sabr_frontier.specs.Owing.{Owing, onward, IsGood, Owes}
 use Rattle.sabr_frontier.specs.Shape.{Shape, given_at, numbers_of}
 use Rattle.sabr_frontier.specs.Undo.{last_item, front}
 use Rattle.sabr_frontier.specs.Taking.{ids_from}
+use Rattle.sabr_frontier.specs.Asking.{Asked}
 use Rattle.sabr_frontier.specs.Leading.{AreOwed, AreSteps, prefix_owed, step_of}
 use Rattle.sabr_frontier.specs.Loading.{Loaded}
 
@@ -92,11 +93,27 @@ routes_of p r s = filter (is_route p r) (s ∷ [])
 abbrev pub onward_of : ContactPlan → RouteRequest → List ℕ → List (List ℕ)
 onward_of p r s = filter (λ q. not (is_route p r q)) (s ∷ [])
 
+-- the leaves, with the list if it is a route
+abbrev pub leaves_with : Asked → List RouteRecord → List ℕ → List RouteRecord
+leaves_with a leaves s = leaves ++ map (record_of a.plan.plan a.request) (routes_of a.plan.plan a.request s)
+
+-- the steps of a prefix, with one more number if that makes no route
+abbrev pub onward_with : Asked → List ℕ → List Owed → ℕ → List (List ℕ)
+onward_with a q os x = map (step_of q) os ++ onward_of a.plan.plan a.request (q ++ x ∷ [])
+
 -- where a pair's excluded numbers lead: the leaves and the prefixes that go on
 pub record IsJudged {A : Type 0} (p : ContactPlan) (r : RouteRequest) (e : List ℕ × List ℕ) (j : Judged A) : Type 0 where
   pub leaves_are : j.leaves.items ≡ map (record_of p r) (leaves_of (is_route p r) e)
   pub onward_are : map (step_of e.0) j.onward.items ≡ onward (is_route p r) (is_path p r) e
   pub steps : AreSteps p r e.0 j.onward.items
+
+-- if the first are steps of the prefix, so are the second
+abbrev pub AreStepsStill : Asked → List ℕ → List Owed → List Owed → Type 0
+AreStepsStill a q old new = AreSteps a.plan.plan a.request q old → AreSteps a.plan.plan a.request q new
+
+-- each excluded number makes a path, and this is where they lead
+abbrev pub GoesOnTo : {A : Type 0} → Asked → List ℕ × List ℕ → Judged A → Type 0
+GoesOnTo a e j = AllGoOn a.plan.plan a.request e × IsJudged a.plan.plan a.request e j
 
 -- the pair answers what is owed and is good, and this is where it leads; or there is no verdict, since it doesn't or
 -- isn't

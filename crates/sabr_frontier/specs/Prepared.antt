@@ -1,12 +1,12 @@
 -- What is ready before the tree changes, and the nodes while it does.
-use Rattle.std.specs.Prelude.{◌≡◌, ◌+◌, ◌-◌, ℕ, List, ◌++◌, length, Option, Some, slice_get, slice_index}
+use Rattle.std.specs.Prelude.{◌≡◌, ◌+◌, ◌-◌, ℕ, List, [], ◌∷◌, ◌++◌, length, Option, Some, slice_get, slice_index}
 use Rattle.sabr_model.specs.Record.{RouteRecord}
 use Rattle.sabr_frontier.specs.declared.tree.NodeId.{NodeId}
 use Rattle.sabr_frontier.specs.declared.tree.Node.{Node}
 use Rattle.sabr_frontier.specs.declared.take.Prepared.{Prepared}
-use Rattle.sabr_frontier.specs.Shape.{Shape}
+use Rattle.sabr_frontier.specs.Shape.{Shape, order_of}
 use Rattle.sabr_frontier.specs.Undo.{modify, without}
-use Rattle.sabr_frontier.specs.Taking.{wide_of}
+use Rattle.sabr_frontier.specs.Taking.{changed_by, wide_of}
 
 -- for the node n with the route x: a copy of x, and how many new nodes there will be
 pub record IsPrepared {A : Type 0} (n : Node A) (x : RouteRecord) (w : Prepared A) : Type 0 where
@@ -17,7 +17,7 @@ pub record IsPrepared {A : Type 0} (n : Node A) (x : RouteRecord) (w : Prepared 
 abbrev pub IsReady : {A : Type 0} → Shape A → NodeId → Prepared A → Type 0
 IsReady {A} t node w = (n : Node A) (x : RouteRecord) → slice_get t.nodes node.0 ≡ Some n → n.route ≡ Some x → IsPrepared n x w
 
--- the node with the number behind its prefix in s among those that it excludes, and without it
+-- the node with the number after its prefix in s among those that it excludes, and without it
 abbrev pub excluding : {A : Type 0} → List ℕ → Node A → Node A
 excluding s n = record n { excluded = wide_of n s }
 
@@ -31,3 +31,7 @@ carrying found n = record n { route = found }
 -- the nodes with what one of them carries then, and the new ones
 abbrev pub nodes_with : {A : Type 0} → List (Node A) → NodeId → Option RouteRecord → List (Node A) → List (Node A)
 nodes_with nodes node found fresh = modify (carrying found) nodes node.0 ++ fresh
+
+-- the tree with these nodes, once the node's route x is given
+abbrev pub given_by : {A : Type 0} → Shape A → NodeId → RouteRecord → Option RouteRecord → List (Node A) → Shape A
+given_by t node x found fresh = changed_by t node x (order_of (t.leaves ++ x ∷ []) (nodes_with t.nodes node found fresh)) (nodes_with t.nodes node found fresh)

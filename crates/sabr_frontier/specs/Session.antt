@@ -1,4 +1,4 @@
--- What a session shows, and what stands behind it.
+-- What a session shows, and what holds of it.
 use Rattle.std.specs.Prelude.{◌≡◌, ℕ, ◌-◌, ◌<◌, zero, suc, List, [], ◌∷◌, length, reverse, Option}
 use Rattle.std.specs.Option.{option_map}
 use Rattle.sabr_model.specs.Plan.{ContactPlan, TabledPlan, IsPlan}

@@ -28,7 +28,7 @@ pub record IsTree {A : Type 0} (p : ContactPlan) (r : RouteRequest) (t : Shape A
   pub records : (n : Node A) (x : RouteRecord) → Member n t.nodes → n.route ≡ Some x → x ≡ record_of p r x.contacts
   pub given : AreGiven p r t
 
--- the list goes on behind the node's prefix with a number that the node doesn't exclude
+-- the list goes on after the node's prefix with a number that the node doesn't exclude
 pub record CanExclude {A : Type 0} (n : Node A) (s : List ℕ) : Type 0 where
   pub longer : n.length < length s
   pub rises : Rises nat_cmp n.excluded

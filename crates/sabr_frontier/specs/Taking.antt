@@ -15,7 +15,7 @@ use Rattle.sabr_frontier.specs.Best.{best_of}
 
 -- ---- places in lists
 
--- x behind those in front that pass the test
+-- x after those in front that pass the test
 abbrev pub put_behind : {X : Type 0} → (X → Bool) → X → List X → List X
 put_behind test x [] = x ∷ []
 put_behind test x (y ∷ ys) = if test y then y ∷ put_behind test x ys else x ∷ y ∷ ys
@@ -35,6 +35,14 @@ with_block place block xs = take place xs ++ block ++ drop place xs
 abbrev pub fresh_nodes : {A : Type 0} → (List ℕ → List ℕ → Option RouteRecord) → ℕ → List ℕ → List ℕ → List (Node A)
 fresh_nodes best leaf q [] = []
 fresh_nodes best leaf q (y ∷ ys) = record { leaf = leaf; length = length q; excluded = y ∷ []; route = best q (y ∷ []) } ∷ fresh_nodes best leaf (q ++ y ∷ []) ys
+
+-- the node of a leaf for the first n numbers of s, with its next number excluded
+abbrev pub fresh_node : {A : Type 0} → (List ℕ → List ℕ → Option RouteRecord) → ℕ → List ℕ → ℕ → Node A
+fresh_node best leaf s n = record { leaf = leaf; length = n; excluded = slice_index s n ∷ []; route = best (take n s) (slice_index s n ∷ []) }
+
+-- those for the beginnings of s that are longer than the node's prefix
+abbrev pub fresh_after : {A : Type 0} → (List ℕ → List ℕ → Option RouteRecord) → ℕ → Node A → List ℕ → List (Node A)
+fresh_after best leaf n s = fresh_nodes best leaf (take (n.length + 1) s) (drop (n.length + 1) s)
 
 -- the node that carried the route, with one number more and what it carries then
 abbrev pub widened : {A : Type 0} → List ℕ → Option RouteRecord → Node A → Node A

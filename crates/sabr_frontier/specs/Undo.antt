@@ -62,7 +62,7 @@ abbrev pub undone_times : {A : Type 0} → ℕ → Shape A → Shape A
 undone_times zero t = t
 undone_times (suc n) t = undone_times n (undone t)
 
--- the route goes on behind the prefix of the node at this place
+-- the route goes on after the prefix of the node at this place
 abbrev pub IsLonger : {A : Type 0} → List (Node A) → ℕ → RouteRecord → Type 0
 IsLonger {A} nodes i r = (n : Node A) → (slice_index_or nodes i n).length < length r.contacts
 

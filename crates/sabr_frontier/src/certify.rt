@@ -64,10 +64,7 @@ impl<A: Allocator + Copy> Tree<A> {
     }
 
     /// Returns true if each part carries its least route: one search for each. It takes the memory of a search.
-    fn carries_least<B: BestOf<A>>(
-        &self,
-        asker: &mut Asker<'_, B, A>,
-    ) -> Result<bool, NoMemory>
+    fn carries_least<B: BestOf<A>>(&self, asker: &mut Asker<'_, B, A>) -> Result<bool, NoMemory>
         requires tree { IsTree asker.old.asked.plan.plan asker.old.asked.request (shape_of self.now) }
         ensures least { IfOk result (λ yes. IsTrue yes ↔ CarriesLeast asker.old.asked.plan.plan asker.old.asked.request (shown (shape_of self.now))) }
         ensures called { asker.new.calls ≤ asker.old.calls + length self.now.nodes.items }
@@ -85,10 +82,7 @@ impl<A: Allocator + Copy> Tree<A> {
 
     /// Returns true if the state is that of the place that it counts: no route given is greater than the last one, each
     /// carried route is, and each part carries its least route (law 5).
-    pub fn is_placed<B: BestOf<A>>(
-        &self,
-        asker: &mut Asker<'_, B, A>,
-    ) -> Result<bool, NoMemory>
+    pub fn is_placed<B: BestOf<A>>(&self, asker: &mut Asker<'_, B, A>) -> Result<bool, NoMemory>
         requires plan { IsPlan asker.old.asked.plan.plan }
         requires tree { IsTree asker.old.asked.plan.plan asker.old.asked.request (shape_of self.now) }
         requires room { IsRoomy self.now }

@@ -1,12 +1,11 @@
 //! Changing the tree when a route is given, without memory.
 
-ghost use Rattle.std.specs.Prelude.{◌≡◌, ◌<◌, [], ◌∷◌, ◌++◌, vec_len, vec_capacity, Some, IfSome, IfNone, IsSome, IsTrue, IsFalse, OnOk};
+ghost use Rattle.std.specs.Prelude.{◌≡◌, ◌<◌, vec_len, vec_capacity, Some, IfSome, IfNone, IsSome, IsTrue, IsFalse, OnOk};
 ghost use Rattle.sabr_model.specs.Record.{RouteRecord};
-ghost use Rattle.sabr_frontier.specs.Shape.{order_of, shape_of, route_at};
+ghost use Rattle.sabr_frontier.specs.Shape.{shape_of, route_at};
 ghost use Rattle.sabr_frontier.specs.Undo.{IsRoomy, modify};
 ghost use Rattle.sabr_frontier.specs.Winners.{CarriesNone, CarriesSome, IsFirst};
-ghost use Rattle.sabr_frontier.specs.Taking.{changed_by};
-ghost use Rattle.sabr_frontier.specs.Prepared.{carrying, nodes_with};
+ghost use Rattle.sabr_frontier.specs.Prepared.{carrying, given_by};
 ghost use Rattle.sabr_frontier.specs.Room.{HasRoom};
 
 use crate::divide::Division;
@@ -99,7 +98,7 @@ impl<A: Allocator + Copy> Tree<A> {
         requires in_range { node.0 < vec_len self.old.nodes }
         requires carries { IsSome (route_at self.old.nodes.items node) }
         requires room { HasRoom self.old (vec_len division.fresh) }
-        ensures shape { (x : RouteRecord) → route_at self.old.nodes.items node ≡ Some x → shape_of self.new ≡ changed_by (shape_of self.old) node x (order_of (self.old.leaves.items ++ x ∷ []) (nodes_with self.old.nodes.items node division.found division.fresh.items)) (nodes_with self.old.nodes.items node division.found division.fresh.items) }
+        ensures shape { (x : RouteRecord) → route_at self.old.nodes.items node ≡ Some x → shape_of self.new ≡ given_by (shape_of self.old) node x division.found division.fresh.items }
         ensures index { self.new.index.items ≡ self.old.index.items }
         ensures room { IsRoomy self.new }
     {

@@ -6,7 +6,7 @@ ghost use Rattle.sabr_model.specs.Route.{is_route};
 ghost use Rattle.sabr_frontier.specs.Asking.{best_for};
 ghost use Rattle.sabr_frontier.specs.Rising.{Rises};
 ghost use Rattle.sabr_frontier.specs.Undo.{modify};
-ghost use Rattle.sabr_frontier.specs.Taking.{fresh_nodes, wide_of};
+ghost use Rattle.sabr_frontier.specs.Taking.{fresh_after, fresh_node, fresh_nodes, wide_of};
 ghost use Rattle.sabr_frontier.specs.Sound.{CanExclude};
 ghost use Rattle.sabr_frontier.specs.Prepared.{excluding, including};
 
@@ -55,7 +55,7 @@ fn fresh_node<B: BestOf<A>, A: Allocator + Copy>(
 ) -> Result<Node<A>, NoMemory>
     requires route { IsTrue (is_route asker.old.asked.plan.plan asker.old.asked.request route.now) }
     requires longer { count < length route.now }
-    ensures node { IfOk result (λ n. n ≡ record { leaf = leaf; length = count; excluded = slice_index route.now count ∷ []; route = best_for asker.old.asked (take count route.now) (slice_index route.now count ∷ []) }) }
+    ensures node { IfOk result (λ n. n ≡ fresh_node (best_for asker.old.asked) leaf route.now count) }
     ensures called { OnOk result (asker.new.calls ≡ asker.old.calls + 1) }
     ensures same { asker.new.asked ≡ asker.old.asked }
 {
@@ -104,7 +104,7 @@ fn search<B: BestOf<A>, A: Allocator + Copy>(
     requires longer { node.now.length < length route.now }
     requires rising { Rises nat_cmp node.now.excluded }
     ensures found { IfOk result (λ w. w.found ≡ best_for asker.old.asked (take node.now.length route.now) node.now.excluded) }
-    ensures fresh { IfOk result (λ w. w.fresh.items ≡ fresh_nodes (best_for asker.old.asked) leaf (take (node.now.length + 1) route.now) (drop (node.now.length + 1) route.now)) }
+    ensures fresh { IfOk result (λ w. w.fresh.items ≡ fresh_after (best_for asker.old.asked) leaf node.now route.now) }
     ensures called { IfOk result (λ w. asker.new.calls ≡ asker.old.calls + (length w.fresh.items + 1)) }
     ensures same { asker.new.asked ≡ asker.old.asked }
 {
@@ -160,7 +160,7 @@ pub fn divide<B: BestOf<A>, A: Allocator + Copy>(
     requires next { (n : Node A) → slice_get nodes.old.items node.0 ≡ Some n → CanExclude n route.now }
     ensures ok { OnOk result (nodes.new.items ≡ modify (excluding route.now) nodes.old.items node.0) }
     ensures found { IfOk result (λ w. (n : Node A) → slice_get nodes.old.items node.0 ≡ Some n → w.found ≡ best_for asker.old.asked (take n.length route.now) (wide_of n route.now)) }
-    ensures fresh { IfOk result (λ w. (n : Node A) → slice_get nodes.old.items node.0 ≡ Some n → w.fresh.items ≡ fresh_nodes (best_for asker.old.asked) leaf (take (n.length + 1) route.now) (drop (n.length + 1) route.now)) }
+    ensures fresh { IfOk result (λ w. (n : Node A) → slice_get nodes.old.items node.0 ≡ Some n → w.fresh.items ≡ fresh_after (best_for asker.old.asked) leaf n route.now) }
     ensures called { IfOk result (λ w. asker.new.calls ≡ asker.old.calls + (length w.fresh.items + 1)) }
     ensures same { asker.new.asked ≡ asker.old.asked }
     ensures err { OnErr result (nodes.new.items ≡ nodes.old.items) }

@@ -1,10 +1,10 @@
 //! Giving several routes, one after another.
 
-ghost use Rattle.std.specs.Prelude.{◌≡◌, ℕ, ◌+◌, ◌*◌, ◌≤◌, ◌++◌, map, length, IfOk, OnOk};
+ghost use Rattle.std.specs.Prelude.{◌≡◌, ℕ, ◌+◌, ◌*◌, ◌≤◌, ◌++◌, length, IfOk, OnOk};
 ghost use Rattle.sabr_model.specs.Plan.{IsPlan};
-ghost use Rattle.sabr_model.specs.Record.{record_of};
 ghost use Rattle.sabr_model.specs.Asking.{most_hops};
-ghost use Rattle.sabr_frontier.specs.Listing.{most_routes, searches_in, steps};
+ghost use Rattle.sabr_frontier.specs.Asking.{records_for, steps_for};
+ghost use Rattle.sabr_frontier.specs.Listing.{most_routes, searches_in};
 ghost use Rattle.sabr_frontier.specs.Shape.{shape_of, shown};
 ghost use Rattle.sabr_frontier.specs.Undo.{IsRoomy};
 ghost use Rattle.sabr_frontier.specs.Session.{IsSound, tree_before};
@@ -29,9 +29,9 @@ impl<A: Allocator + Copy> Tree<A> {
         requires count { count ≤ most_routes }
         requires sound { IsSound asker.old.asked.plan.plan asker.old.asked.request (shape_of self.old) }
         requires room { IsRoomy self.old }
-        ensures routes { OnOk result (given.new.items ≡ given.old.items ++ map (record_of asker.old.asked.plan.plan asker.old.asked.request) (steps asker.old.asked.plan.plan asker.old.asked.request count (shown (shape_of self.old))).0) }
-        ensures state { OnOk result (shown (shape_of self.new) ≡ (steps asker.old.asked.plan.plan asker.old.asked.request count (shown (shape_of self.old))).1) }
-        ensures entries { OnOk result (length self.new.journal.items ≡ length self.old.journal.items + length (steps asker.old.asked.plan.plan asker.old.asked.request count (shown (shape_of self.old))).0) }
+        ensures routes { OnOk result (given.new.items ≡ given.old.items ++ records_for asker.old.asked (steps_for asker.old.asked count (shown (shape_of self.old))).0) }
+        ensures state { OnOk result (shown (shape_of self.new) ≡ (steps_for asker.old.asked count (shown (shape_of self.old))).1) }
+        ensures entries { OnOk result (length self.new.journal.items ≡ length self.old.journal.items + length (steps_for asker.old.asked count (shown (shape_of self.old))).0) }
         ensures searches { IfOk result (λ n. n ≡ searches_in asker.old.asked.plan.plan asker.old.asked.request count (shown (shape_of self.old))) }
         ensures called { IfOk result (λ n. asker.new.calls ≡ asker.old.calls + n) }
         ensures sound { IsSound asker.old.asked.plan.plan asker.old.asked.request (shape_of self.new) }

@@ -2,9 +2,9 @@
 
 ghost use Rattle.std.specs.Prelude.{◌≡◌, true, ◌∷◌, ◌++◌, [], map, IfOk, IfSome, IfNone};
 ghost use Rattle.sabr_model.specs.Route.{is_path};
-ghost use Rattle.sabr_model.specs.Record.{record_of};
-ghost use Rattle.sabr_frontier.specs.Leading.{AreSteps, IsLead, step_of};
-ghost use Rattle.sabr_frontier.specs.Holding.{AllGoOn, IsJudged, onward_of, routes_of};
+ghost use Rattle.sabr_frontier.specs.Asking.{asked_of};
+ghost use Rattle.sabr_frontier.specs.Leading.{IsLead, step_of};
+ghost use Rattle.sabr_frontier.specs.Holding.{AllGoOn, AreStepsStill, GoesOnTo, leaves_with, onward_with};
 
 use crate::leading::{Lead, Owed};
 use crate::question::Question;
@@ -57,9 +57,9 @@ impl<A: Allocator + Copy> Judged<A> {
     ) -> Result<bool, NoMemory>
         requires { IsLead question.now.plan.now.plan question.now.request prefix.now lead }
         ensures path { IfOk result (λ is. is ≡ is_path question.now.plan.now.plan question.now.request (prefix.now ++ number ∷ [])) }
-        ensures leaves { IfOk result (λ is. is ≡ true → self.new.leaves.items ≡ self.old.leaves.items ++ map (record_of question.now.plan.now.plan question.now.request) (routes_of question.now.plan.now.plan question.now.request (prefix.now ++ number ∷ []))) }
-        ensures onward { IfOk result (λ is. is ≡ true → map (step_of prefix.now) self.new.onward.items ≡ map (step_of prefix.now) self.old.onward.items ++ onward_of question.now.plan.now.plan question.now.request (prefix.now ++ number ∷ [])) }
-        ensures steps { IfOk result (λ _. AreSteps question.now.plan.now.plan question.now.request prefix.now self.old.onward.items → AreSteps question.now.plan.now.plan question.now.request prefix.now self.new.onward.items) }
+        ensures leaves { IfOk result (λ is. is ≡ true → self.new.leaves.items ≡ leaves_with (asked_of question.now) self.old.leaves.items (prefix.now ++ number ∷ [])) }
+        ensures onward { IfOk result (λ is. is ≡ true → map (step_of prefix.now) self.new.onward.items ≡ onward_with (asked_of question.now) prefix.now self.old.onward.items number) }
+        ensures steps { IfOk result (λ _. AreStepsStill (asked_of question.now) prefix.now self.old.onward.items self.new.onward.items) }
     {
         let Some(lead) = lead.extended(question.plan, &question.request, prefix, number) else {
             return Ok(false);
@@ -94,7 +94,7 @@ pub fn judge<A: Allocator + Copy>(
     mut judged: Judged<A>,
 ) -> Result<Option<Judged<A>>, NoMemory>
     requires { IsLead question.now.plan.now.plan question.now.request prefix.now lead }
-    ensures some { IfOk result (λ o. IfSome o (λ j. AllGoOn question.now.plan.now.plan question.now.request (prefix.now, excluded.now) × IsJudged question.now.plan.now.plan question.now.request (prefix.now, excluded.now) j)) }
+    ensures some { IfOk result (λ o. IfSome o (GoesOnTo (asked_of question.now) (prefix.now, excluded.now))) }
     ensures none { IfOk result (λ o. IfNone o (AllGoOn question.now.plan.now.plan question.now.request (prefix.now, excluded.now) → ⊥)) }
 {
     judged.leaves.clear();

@@ -91,7 +91,9 @@ impl<'p, B: BestOf<A>, A: Allocator + Copy> Loader<'p, B, A> {
             Ok(route) => route,
             Err(fault) => return Err(fault),
         };
-        let taken = self.held.take_in(&self.question, prefix, excluded, due, route);
+        let taken = self
+            .held
+            .take_in(&self.question, prefix, excluded, due, route);
         let Ok(()) = taken else {
             return Err(LoadFault::NoMemory);
         };
