@@ -1,5 +1,5 @@
 #!/usr/bin/env python3
-"""Times session texts: the writing, reading and verifying of them, beside the listing of their routes.
+"""Times the writing, reading and verifying of session texts, and the listing of their routes.
 
 Each run writes, or reads, a text ten times. The least of the ten times is printed, and after it the first, which includes
 the first use of code and memory.
@@ -10,7 +10,7 @@ the first use of code and memory.
 PROGRAM is crates/bench/out/bench if not given. The nodes and the time are those of the plan's
 line `# ask FROM TO TIME`, of --from, --to and --at, or of a file of questions: a list in JSON of objects with the words
 `plan` (a path, from that file's folder), `from`, `to` and `at`; these plans come after the others. Status 1: a run
-failed, a text was read as another number of routes, or one wasn't verified.
+failed, a text was read with another count of routes, or one wasn't verified.
 """
 import argparse
 import os

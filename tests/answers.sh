@@ -12,7 +12,7 @@ trap 'rm -rf "$room"' EXIT
 
 day=2030/01/01
 cat >"$room/names" <<'NAMES'
-# who is who
+# the names of the nodes
 31 lander
 22 relay, high
 NAMES
@@ -63,7 +63,7 @@ status 1" "$(from_a --after $day-00:00:50 --by $day-00:00:40)"
 expect 'no route' 'none: there is no route
 status 1' "$(answered latest --plan examples/a.txt --from 9 --to 3 --by $day-23:00:00)"
 
-# Where light takes no time, the deadline itself is in time.
+# If light takes no time, the deadline itself is in time.
 printf '@ %s\na range +0 +100 1 2 0\na contact +0 +100 1 2 1\n' $day-00:00:00 >"$room/near.txt"
 expect 'the deadline itself' "latest $day-00:00:50
 1 delivery $day-00:00:50 hops 1 entry 2 until $day-00:01:40 contacts 1" \

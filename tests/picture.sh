@@ -228,7 +228,7 @@ expect 'a full disk' '5 timeline: No space left on device' "$? $told"
 told=$(tools/timeline "${plan[@]}" 2>&1 >&-)
 expect 'no standard output' '5 timeline: standard output is closed' "$? $told"
 
-# Nobody reads on: more is to be written than a pipe holds.
+# The reader is gone, and more is to be written than a pipe holds.
 seq 1000 | sed 's/.*/a contact 2030\/01\/01-00:00:00 2030\/01\/01-01:00:00 & 1001 5/' >"$room/many.txt"
 tools/timeline --plan "$room/many.txt" 2>"$room/told" | head -n 1 >"$room/said"
 expect 'a closed pipe' '' "$(cat "$room/told")"

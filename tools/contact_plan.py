@@ -1,6 +1,6 @@
 """What the tools share: times, plans, the routes that the program prints, running the program, and names of nodes.
 
-A tool begins so, since no compiled module may be left beside the tools:
+Each tool begins as follows, so that Python leaves no compiled module beside the tools:
 
     import sys
     sys.dont_write_bytecode = True
@@ -32,7 +32,7 @@ WORDS_STATUS, PLAN_STATUS, FILE_STATUS, START_STATUS = 2, 3, 5, 125  # as the pr
 
 
 class Refused(Exception):
-    """A tool can't do what it was asked for: the message, None if it was printed already, and the tool's status."""
+    """A tool can't do what it was asked to do. The message is None if it was printed already."""
 
     def __init__(self, message, status=1):
         super().__init__(message)
