@@ -1,4 +1,4 @@
-//! Times the text of a session: the writing, reading and verifying of it, after the listing of its routes.
+//! Times the writing, reading and verifying of a session's text, after its routes were listed.
 
 ghost use Rattle.std.specs.Prelude.{◌≡◌};
 ghost use Rattle.sabr_plan.specs.Canonical.{digest_of};
@@ -17,7 +17,7 @@ use std::time::Clock;
 /// How often a text is written, or read, after the first time.
 const AGAIN: u32 = 9;
 
-/// The nanoseconds of a call that was made again and again: the first time has the first use of code and memory in it.
+/// The nanoseconds of a repeated call. The first time includes the first use of code and memory.
 #[derive(Clone, Copy)]
 pub struct Times {
     /// The first time.
@@ -35,7 +35,7 @@ impl Times {
         }
     }
 
-    /// Takes one time more.
+    /// Adds a time.
     fn and(self, again: u64) -> Times {
         Times {
             first: self.first,
@@ -80,7 +80,7 @@ fn write_once<R: Files + Clock + AllocGlobal>(
     Some(watch.nanoseconds())
 }
 
-/// Lists the first routes, and writes their session to a new file, and then over itself again and again.
+/// Lists the first routes, writes their session to a new file, and then overwrites it again and again.
 fn written<R: Files + Clock + AllocGlobal>(
     rt: &R,
     plan: &Plan,

@@ -35,7 +35,7 @@ pub struct Timed<'s, R: Clock, B> {
 }
 
 impl<'s, R: Clock, B> Timed<'s, R, B> {
-    /// Makes the finder, with what its searches take added to `searches`.
+    /// Wraps a finder. What its searches take is added to `searches`.
     pub fn new(
         watch: &'s Watch<'s, R>,
         searches: &'s Cell<Searches>,

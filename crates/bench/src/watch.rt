@@ -2,7 +2,7 @@
 
 use std::time::{Clock, Instant};
 
-/// Time since it was made.
+/// A clock's time since it was started.
 #[derive(Drop)]
 pub struct Watch<'r, R: Clock> {
     clock: &'r R,
@@ -10,7 +10,7 @@ pub struct Watch<'r, R: Clock> {
 }
 
 impl<'r, R: Clock> Watch<'r, R> {
-    /// Makes a watch that begins now.
+    /// Starts a watch.
     pub fn new(clock: &'r R) -> Watch<'r, R> {
         Watch {
             clock,

@@ -1,6 +1,6 @@
 //! An allocator, a reader and a writer that fail where a test wants it.
 //!
-//! A [`Ration`] hands each request for memory on, counts it, and can refuse one of them. A collection of any crate
+//! A [`Ration`] passes each request for memory on, counts it, and can refuse one of them. A collection of any crate
 //! takes a `&Ration` where it would take `Global`. A test lets a call run once with nothing refused, asks how many
 //! requests it made, and then runs it once for each of them refused:
 //!
@@ -14,8 +14,8 @@
 //! }
 //! ```
 //!
-//! Each `allocate` is a request, and so is each `grow` or `shrink` of a block that is there. Giving a block back is
-//! none, and is never refused. Only the chosen request is refused; those after it are handed on again.
+//! Each `allocate` is a request, and so is each `grow` or `shrink` of a block. Freeing a block is none, and is never
+//! refused. Only the chosen request is refused; those after it are passed on again.
 //!
 //! A [`PieceReader`] returns its bytes in pieces of a chosen size and then ends or fails. A [`LimitedWriter`] takes
 //! bytes in pieces up to a limit and fails beyond it.

@@ -4,7 +4,7 @@ use crate::tally::{Tally, is_refused};
 use std::alloc::{AllocError, Allocator, Global};
 use std::cell::Cell;
 
-/// An allocator that hands requests on to an inner one, counts them, and can refuse one of them.
+/// An allocator that passes requests on to an inner one, counts them, and can refuse one of them.
 ///
 /// Collections take a `&Ration`, which is `Copy` and an allocator as well. A `Ration` stays in one thread.
 pub struct Ration<B: Allocator = Global> {
@@ -13,7 +13,7 @@ pub struct Ration<B: Allocator = Global> {
 }
 
 impl<B: Allocator> Ration<B> {
-    /// Makes an allocator that refuses its request of this number, counted from 1. It refuses none for 0.
+    /// Creates an allocator that refuses the request of this number, counted from 1. For 0 it refuses none.
     pub fn new(inner: B, refused: u64) -> Ration<B> {
         Ration {
             inner,
@@ -21,7 +21,7 @@ impl<B: Allocator> Ration<B> {
         }
     }
 
-    /// Begins to count again, and refuses the request of this number, counted from 1. It refuses none for 0.
+    /// Starts to count anew, and refuses the request of this number, counted from 1. For 0 it refuses none.
     pub fn refuse(&self, refused: u64) {
         self.tally.set(Tally { made: 0, refused });
     }

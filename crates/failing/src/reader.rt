@@ -28,7 +28,7 @@ pub struct PieceReader<'a> {
 }
 
 impl<'a> PieceReader<'a> {
-    /// Makes a reader of these bytes, `piece` of them at a time.
+    /// Creates a reader that returns these bytes, `piece` of them at a time.
     pub fn new(bytes: &'a [u8], piece: usize, end: End) -> PieceReader<'a>
         requires { 0 < piece }
         ensures bytes { result.bytes.now ≡ bytes.now }
@@ -42,7 +42,7 @@ impl<'a> PieceReader<'a> {
         }
     }
 
-    /// Makes a reader that returns the first `limit` bytes and then fails.
+    /// Creates a reader that returns the first `limit` bytes and then fails.
     pub fn failing_after(bytes: &'a [u8], limit: usize, piece: usize) -> PieceReader<'a>
         requires limit { limit ≤ length bytes.now }
         requires piece { 0 < piece }

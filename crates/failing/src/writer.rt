@@ -8,7 +8,7 @@ use std::alloc::{Allocator, Global};
 /// A writer that takes bytes in pieces of at most a chosen size, up to a limit, and fails beyond it. It keeps what it
 /// took.
 ///
-/// It fails, too, if no memory is left for the bytes.
+/// It also fails if there is no memory for the bytes.
 #[derive(Drop)]
 pub struct LimitedWriter<A: Allocator + Copy = Global> {
     /// What it took.
@@ -26,7 +26,7 @@ pub struct LimitedWriter<A: Allocator + Copy = Global> {
 }
 
 impl<A: Allocator + Copy> LimitedWriter<A> {
-    /// Makes a writer that takes up to `limit` bytes, `piece` at a time, and whose `flush` succeeds.
+    /// Creates a writer that takes up to `limit` bytes, `piece` at a time, and whose `flush` succeeds.
     pub fn new(alloc: A, limit: usize, piece: usize) -> LimitedWriter<A>
         ensures held { result.held.items ≡ [] }
         ensures failures { result.failures.count ≡ 0 }
@@ -41,7 +41,7 @@ impl<A: Allocator + Copy> LimitedWriter<A> {
         }
     }
 
-    /// Makes such a writer whose `flush` fails.
+    /// Creates such a writer, whose `flush` fails.
     pub fn with_failing_flush(alloc: A, limit: usize, piece: usize) -> LimitedWriter<A>
         ensures held { result.held.items ≡ [] }
         ensures failures { result.failures.count ≡ 0 }

@@ -79,7 +79,7 @@ module _ {X : Type 0} where
   all_both P Q R gives [] a b = tt
   all_both P Q R gives (x ∷ xs) a b = (gives x a.0 b.0, all_both P Q R gives xs a.1 b.1)
 
--- `one` and `other` tell the same of x, unless x is w
+-- `one` and `other` agree on x, unless x is w
 abbrev pub AgreeBut : {X : Type 0} → (X → Bool) → (X → Bool) → X → X → Type 0
 AgreeBut one other w x = (x ≡ w) ⊎ (one x ≡ other x)
 

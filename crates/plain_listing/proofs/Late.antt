@@ -52,7 +52,7 @@ module _ {X : Type 0} (cmp : X → X → Ordering) (total : IsTotalOrder cmp) (o
       let itself : cmp w w ≡ Less = ap (cmp w) (sym same) ∙ above in
       absurd (never_both w itself itself)
 
-  -- where the tests agree up to w, and w is the last of the first k, the first k are the same
+  -- if the tests agree up to w, and w is the last of the first k, the first k are the same
   pub same_first : (xs : List X) (k : ℕ) → IsStrictlySortedBy cmp xs → AllByRecursion (AgreeOrAbove cmp one other w) xs → slice_get (filter one xs) k ≡ Some w
       → take (suc k) (filter one xs) ≡ take (suc k) (filter other xs)
   unfolding IsStrictlySortedBy

@@ -83,7 +83,7 @@ module _ (q : List ℕ) (P : List ℕ → Type 0) where
           (cases_lt k (n + 1)))
           (cases_lt k low)
 
-  -- back after the lists that take a number, where none of them is left
+  -- back after the lists that take a number, if none of them is left
   pub passed_back : (m low : ℕ) → ((k : ℕ) (u : List ℕ) → P (q ++ m ∷ k ∷ u) → low ≤ k → ⊥)
       → (s : List ℕ) → P s → numbers_before s (q ++ m ∷ low ∷ []) ≡ numbers_before s (q ++ (m + 1) ∷ [])
   passed_back m low none = by_rest m (m + 1) (low ∷ []) [] same

@@ -51,7 +51,7 @@ above_all low (x ∷ xs) k h i =
 abbrev pub next_from : ℕ → List ℕ → Option ℕ
 next_from low xs = find (λ n. leb low n) xs
 
--- where none is found, each number is less than low
+-- if none is found, each number is less than low
 pub next_none : (low : ℕ) (xs : List ℕ) (k : ℕ) → next_from low xs ≡ None → IsIn k xs → k < low
 next_none low [] k e i = absurd i
 next_none low (x ∷ xs) k e i =

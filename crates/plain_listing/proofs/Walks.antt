@@ -53,7 +53,7 @@ last_kept limit (x ∷ xs) time h =
     ] refl parts.1
 
 module _ (p : ContactPlan) (r : RouteRequest) (good : IsPlan p) where
-  -- where a route goes on, the node at the way's end sends the contact
+  -- if a route goes on, the node at the way's end sends the contact
   goes_on_sent : (hops : List Hop) → IsWay p r hops → (k : ℕ) (u : List ℕ) → IsTrue (is_route p r (numbers_of hops ++ k ∷ u)) → IsIn k (sent_by p.contacts (last_stop r hops).node)
   goes_on_sent hops way k u route =
       let hop = hop_facts p r (numbers_of hops) k (beginning_goes_on p r (numbers_of hops) k u route) in
@@ -73,7 +73,7 @@ module _ (p : ContactPlan) (r : RouteRequest) (good : IsPlan p) where
         least = λ k u route from. next.least k (goes_on_sent hops way k u route) from;
       }
 
-  -- where the node sends no further number, no route goes on
+  -- if the node sends no further number, no route goes on
   pub over_is : (hops : List Hop) (low : ℕ) → IsWay p r hops → next_from low (sent_by p.contacts (last_stop r hops).node) ≡ None → IsOver p r (numbers_of hops) low
   over_is hops low way e k u route from =
       let less = next_none low (sent_by p.contacts (last_stop r hops).node) k e (goes_on_sent hops way k u route) in absurd (omega arith)
@@ -227,12 +227,12 @@ move_to p r limit hops low further there next least kept more move e f g =
     (subst (λ x. IsMove p r limit hops low further (Some x) more) (sym f)
     (subst (λ x. IsMove p r limit hops low further (Some next) x) (sym g) move))
 
--- an option by a test, where it is there and where it isn't
+-- an option by a test, if it is there
 pub some_where : {X : Type 0} (b : Bool) (x y : X) → cond b (Some x) None ≡ Some y → (b ≡ true) × (y ≡ x)
 some_where true x y e = (refl, cc)
 some_where false x y e = absurd cc
 
--- and where it is not
+-- and if it isn't
 pub none_where : {X : Type 0} (b : Bool) (x : X) → cond b (Some x) None ≡ None → b ≡ false
 none_where true x e = absurd cc
 none_where false x e = refl

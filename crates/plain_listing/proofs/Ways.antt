@@ -25,7 +25,7 @@ by_last (x ∷ xs) =
     (λ some. (x ∷ some.0, some.1, ap (λ ys. x ∷ ys) some.2))
     (by_last xs))
 
--- two lists with a last element are equal only where these and what is before them are
+-- two lists with a last element are equal only if these and the lists before them are
 pub same_push : {X : Type 0} (xs ys : List X) (x y : X) → xs ++ x ∷ [] ≡ ys ++ y ∷ [] → (xs ≡ ys) × (x ≡ y)
 same_push [] [] x y e = (refl, cc)
 same_push [] (w ∷ []) x y e = absurd cc

@@ -21,7 +21,7 @@ pub struct Kept<A: Allocator + Copy> {
 }
 
 impl<A: Allocator + Copy> Kept<A> {
-    /// Makes a list without routes.
+    /// Creates an empty list.
     pub fn new(alloc: A, limit: usize) -> Kept<A>
         ensures limit { result.limit ≡ limit }
         ensures routes { result.routes.items ≡ [] }
@@ -33,7 +33,7 @@ impl<A: Allocator + Copy> Kept<A> {
         }
     }
 
-    /// Returns whether no route that is delivered from this time on would be kept.
+    /// Returns true if no route that is delivered at this time or later would be kept.
     pub fn is_past(&self, time: u64) -> bool
         ensures { result ≡ is_past self.now.limit self.now.routes.items time }
     {

@@ -41,7 +41,7 @@ fn take_hop<A: Allocator + Copy>(
     Ok(hop.number + 1)
 }
 
-/// Makes one move. Returns the least number to try next, or `None` after the last way.
+/// Moves on once. Returns the least number to try next, or `None` after the last way.
 pub fn step<A: Allocator + Copy>(
     plan: &Plan<A>,
     request: &Request,

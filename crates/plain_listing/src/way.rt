@@ -22,21 +22,21 @@ pub fn end_of(request: &Request, hops: &[Hop]) -> Reached
     }
 }
 
-/// Returns whether the node is one of these.
+/// Returns true if the node is one of these.
 fn is_among(nodes: &[u64], node: u64) -> bool
     ensures { result ≡ has node nodes.now }
 {
     nodes.iter().any(|n| node == *n)
 }
 
-/// Returns whether a hop arrives at the node.
+/// Returns true if a hop arrives at the node.
 fn is_passed(hops: &[Hop], node: u64) -> bool
     ensures { result ≡ is_passed hops.now node }
 {
     hops.iter().any(|hop| node == hop.stop.node)
 }
 
-/// Returns whether the way may go on to the node, within the limits and to no node twice.
+/// Returns true if the way may go on to the node, within the limits and to no node twice.
 fn may_visit(request: &Request, hops: &[Hop], node: u64) -> bool
     ensures { result ≡ may_visit request.now hops.now node }
 {
@@ -45,7 +45,7 @@ fn may_visit(request: &Request, hops: &[Hop], node: u64) -> bool
         && !is_among(request.avoided(), node)
 }
 
-/// Makes the hop over a contact. `None` if no route may begin with the way and then this contact.
+/// Returns the hop over a contact, or `None` if no route may begin with the way and then this contact.
 pub fn hop_over<A: Allocator + Copy>(
     plan: &Plan<A>,
     request: &Request,
@@ -71,7 +71,7 @@ pub fn hop_over<A: Allocator + Copy>(
     })
 }
 
-/// Makes the route over the hops.
+/// Returns the route over the hops.
 pub fn route_over<A: Allocator + Copy>(
     alloc: A,
     plan: &Plan<A>,

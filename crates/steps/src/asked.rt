@@ -5,7 +5,7 @@ use crate::words::{Words, number, small_number};
 use sabr_model::{Request, RequestError};
 use std::alloc::Global;
 
-/// The values of a request, whether it is a good one or not.
+/// The values of a request, which may be refused.
 #[derive(Clone, Copy)]
 pub struct Asked {
     from: u64,
@@ -52,7 +52,7 @@ impl Asked {
         Some(asked)
     }
 
-    /// Makes the request.
+    /// Returns the request, or why it is refused.
     pub fn request(&self) -> Result<Request, RequestError> {
         let avoided = &self.avoided[..self.avoids.min(17)];
         Request::new(self.from, self.to, self.at, self.margin_ppm)?.with_limits(
@@ -61,7 +61,7 @@ impl Asked {
         )
     }
 
-    /// What comes of the request.
+    /// The answer of the step `ask`.
     pub fn answer(&self, alloc: Global) -> Option<String> {
         match self.request() {
             Ok(_) => done(alloc),

@@ -67,7 +67,7 @@ impl<'t> Desk<'t> {
         let _ = self.said.push_str("\n");
     }
 
-    /// Does a step that needs no plan; none if it is another.
+    /// Does a step that needs no plan. `None` if it is another step.
     pub fn step(&mut self, name: &str, words: &mut Words<'_>) -> Option<String> {
         match name {
             "refuse" => {
@@ -118,7 +118,7 @@ impl<'t> Desk<'t> {
     }
 }
 
-/// Takes bytes, in hexadecimal digits; no word stands for no bytes.
+/// Takes bytes, in hexadecimal digits. A missing word stands for no bytes.
 pub fn decoded(alloc: Global, words: &mut Words<'_>) -> Option<Vec<u8>> {
     hex::decode(alloc, words.next().unwrap_or("")).ok()
 }

@@ -4,7 +4,7 @@ use crate::words::{Words, number};
 use failing::{End, LimitedWriter, PieceReader};
 use std::alloc::Global;
 
-/// A text that is given so many bytes at a time, up to a limit, and what comes then.
+/// A text that is given in pieces, up to a limit, and what comes after the limit.
 #[derive(Drop)]
 pub struct Given {
     text: Vec<u8>,
@@ -24,7 +24,7 @@ impl Given {
         }
     }
 
-    /// Takes another text; it is given in the same way.
+    /// Replaces the text, which is given in the same way.
     pub fn set_text(&mut self, text: Vec<u8>) {
         self.text = text;
     }

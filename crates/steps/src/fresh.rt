@@ -1,11 +1,11 @@
-//! Finders that are made without a word more.
+//! Finders that are created without arguments.
 
 use sabr_search::{BestOf, Layered, Settled};
 use std::alloc::Allocator;
 
-/// A finder that is made without a word more.
+/// A finder that is created without arguments.
 pub trait Fresh<A: Allocator + Copy>: BestOf<A> {
-    /// Makes a finder that was not asked yet.
+    /// Creates a finder that was never asked.
     fn fresh(alloc: A) -> Self;
 }
 

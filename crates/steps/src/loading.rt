@@ -69,7 +69,7 @@ pub fn fed<'p, A: Allocator + Copy, B: BestOf<A>>(
     None
 }
 
-/// Feeds a piece, or tells how many bytes are held.
+/// Feeds a piece, or answers how many bytes are held.
 fn feed_step<A: Allocator + Copy, B: BestOf<A>>(
     feed: &mut SessionFeed<'_, B, A>,
     desk: &mut Desk<'_>,

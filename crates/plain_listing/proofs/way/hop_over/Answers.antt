@@ -12,7 +12,7 @@ use Rattle.plain_listing.proofs.way.hop_over.Goals as goal
 use Rattle.plain_listing.proofs.way.hop_over.Goals.{then-contact-end-via-then-contact-end, then-contact-end-via-else-contact-end+then-not-may_visit}
 use Rattle.sabr_model.proofs.Follows.{ends_in_time}
 
--- the answer where the way and the number begin no route
+-- the answer if the way and the number begin no route
 none_where : (b : _) (h : Hop) → b ≡ false → None ≡ cond b (Some h) None
 none_where b h e = ap (λ t. cond t (Some h) None) (sym e)
 
