@@ -38,19 +38,31 @@ fn begin<R: Files>(
     }
 }
 
+/// What a page is listed with, whatever it begins with.
+#[derive(Drop)]
+struct Page<'a, F, O, E> {
+    plan: &'a mut Device<F>,
+    count: u32,
+    out: &'a mut O,
+    err: &'a mut E,
+}
+
 /// Lists a page over opened files.
 fn list_over<F: io::Read + Drop, O: Write, S: Write, E: Write>(
     alloc: Global,
-    plan: &mut Device<F>,
+    page: Page<'_, F, O, E>,
     beginning: Beginning<F>,
-    count: u32,
-    out: &mut O,
     keep: bool,
     session: &mut S,
-    err: &mut E,
 ) -> Status
-    requires { IsCount count }
+    requires { IsCount page.count }
 {
+    let Page {
+        plan,
+        count,
+        out,
+        err,
+    } = page;
     match beginning {
         Beginning::Request(request) => {
             run_first(alloc, plan, request, count, out, keep, session, err)
@@ -77,31 +89,18 @@ pub fn list<R: Files + AllocGlobal, O: Write, E: Write>(
     let count = values.count.unwrap();
     let mut plan = open_plan(rt, words)?;
     let beginning = begin(rt, words, values.request)?;
-    let Some(path) = session_out(words) else {
-        let mut nowhere = Device::new(io::sink());
-        let status = list_over(
-            alloc,
-            &mut plan,
-            beginning,
-            count,
-            out,
-            false,
-            &mut nowhere,
-            err,
-        );
-        return Ok(status);
-    };
-    let mut session = make_session(rt, path)?;
-    let status = list_over(
-        alloc,
-        &mut plan,
-        beginning,
+    let page = Page {
+        plan: &mut plan,
         count,
         out,
-        true,
-        &mut session,
         err,
-    );
+    };
+    let Some(path) = session_out(words) else {
+        let mut nowhere = Device::new(io::sink());
+        return Ok(list_over(alloc, page, beginning, false, &mut nowhere));
+    };
+    let mut session = make_session(rt, path)?;
+    let status = list_over(alloc, page, beginning, true, &mut session);
     remove_unless_done(rt, path, status);
     Ok(status)
 }

@@ -53,7 +53,7 @@ pub fn session_out<'a>(words: &ArgMatches<'a>) -> Option<&'a str> {
     words.get_str(SESSION_OUT)
 }
 
-/// Makes the file of a new session. A file that exists stays as it is.
+/// Creates the file of a new session. A file that exists stays as it is.
 ///
 /// # Errors
 ///

@@ -54,9 +54,7 @@ impl<'a> PieceReader<'a> {
 }
 
 impl<'a> Read for PieceReader<'a> {
-    ghost remaining = { λ reader. Some reader.bytes.now };
-
-    ghost failures = { λ reader. reader.failures.count };
+    ghost input = { λ reader. record { remaining = Some reader.bytes.now; failures = reader.failures.count } };
 
     fn read(&mut self, buf: &mut [u8]) -> Result<usize, Failed> {
         if self.bytes.is_empty() && self.end == End::Fails {

@@ -67,11 +67,7 @@ impl<A: Allocator + Copy> LimitedWriter<A> {
 }
 
 impl<A: Allocator + Copy> Write for LimitedWriter<A> {
-    ghost contents = { λ writer. Some writer.held.items };
-
-    ghost failures = { λ writer. writer.failures.count };
-
-    ghost flushed = { λ writer. writer.is_flushed };
+    ghost output = { λ writer. record { contents = Some writer.held.items; failures = writer.failures.count; flushed = writer.is_flushed } };
 
     fn write(&mut self, buf: &[u8]) -> Result<usize, Failed> {
         self.is_flushed = false;

@@ -1,6 +1,22 @@
--- Which calls of a device are failures, and what a call that writes a text leaves.
+-- What a contract sees of a reader and of a writer, which calls are failures, and what a call that writes a text leaves.
 use Rattle.std.specs.Prelude.{◌≡◌, ℕ, ◌+◌, Bool, IsTrue, List, [], ◌∷◌, ◌++◌, Result, Ok, Err, Option, cond, eqb}
 use Rattle.std.specs.Io.KnownBytes.{Appends}
+
+-- what a contract sees of a reader
+pub record Input : Type 0 where
+  -- the bytes that are left, if the reader knows them
+  pub remaining : Option (List ℕ)
+  -- how often it has failed
+  pub failures : ℕ
+
+-- what a contract sees of a writer
+pub record Output : Type 0 where
+  -- the bytes that were taken, if the writer knows them
+  pub contents : Option (List ℕ)
+  -- how often it has failed
+  pub failures : ℕ
+  -- whether all bytes that were taken were flushed: known after a flush that succeeded, until the next call
+  pub flushed : Bool
 
 -- 1 for an error, 0 for success
 abbrev pub call_faults : {A E : Type 0} → Result A E → ℕ
@@ -22,18 +38,18 @@ abbrev pub AppendsBeginning : Option (List ℕ) → Option (List ℕ) → List �
 AppendsBeginning old new text = (front : List ℕ) × ((back : List ℕ) × (text ≡ front ++ back)) × Appends old new front
 
 -- all of the text was taken, and nothing failed
-abbrev pub Written : Option (List ℕ) → ℕ → List ℕ → Option (List ℕ) → ℕ → Type 0
-Written old before text new after = Appends old new text × (after ≡ before)
+abbrev pub Written : Output → List ℕ → Output → Type 0
+Written old text new = Appends old.contents new.contents text × (new.failures ≡ old.failures)
 
 -- all of the text was taken, nothing failed, and all was flushed after it
-abbrev pub WrittenAndFlushed : Option (List ℕ) → ℕ → List ℕ → Option (List ℕ) → ℕ → Bool → Type 0
-WrittenAndFlushed old before text new after flushed = Written old before text new after × IsTrue flushed
+abbrev pub WrittenAndFlushed : Output → List ℕ → Output → Type 0
+WrittenAndFlushed old text new = Written old text new × IsTrue new.flushed
 
 -- a beginning of the text was taken, and there is one more failure
-abbrev pub WrittenInPart : Option (List ℕ) → ℕ → List ℕ → Option (List ℕ) → ℕ → Type 0
-WrittenInPart old before text new after = AppendsBeginning old new text × (after ≡ before + 1)
+abbrev pub WrittenInPart : Output → List ℕ → Output → Type 0
+WrittenInPart old text new = AppendsBeginning old.contents new.contents text × (new.failures ≡ old.failures + 1)
 
 -- what a call that writes a text leaves: all of the text if it returns Ok, and else a beginning of it and the failure
-abbrev pub WritesText : {A E : Type 0} → Option (List ℕ) → ℕ → List ℕ → Result A E → Option (List ℕ) → ℕ → Type 0
-WritesText old before text (Ok _) new after = Written old before text new after
-WritesText old before text (Err _) new after = WrittenInPart old before text new after
+abbrev pub WritesText : {A E : Type 0} → Output → List ℕ → Result A E → Output → Type 0
+WritesText old text (Ok _) new = Written old text new
+WritesText old text (Err _) new = WrittenInPart old text new

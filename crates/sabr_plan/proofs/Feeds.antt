@@ -4,7 +4,7 @@ use Rattle.sabr_plan.specs.declared.fault.PlanFault.{PlanFault}
 use Rattle.sabr_plan.specs.declared.fault.PlanKind.TheVariants as kind
 use Rattle.sabr_plan.specs.Steps.{and_then}
 use Rattle.sabr_plan.specs.Words.{is_one_line}
-use Rattle.sabr_plan.specs.Reading.{read_line, broken_line}
+use Rattle.sabr_plan.specs.Reading.{most_line_bytes, read_line, broken_line}
 use Rattle.sabr_plan.specs.Feeding.{Fed, outcome, IsFed, weight}
 use Rattle.sabr_plan.proofs.Outcomes.{outcome-line, outcome-held, outcome-refused}
 
@@ -26,11 +26,11 @@ module _ (first : Fed) (piece : List ℕ) (s : Fed) (rest : List ℕ) (same : (m
         line_ends more ended ∙ rw e (ap (λ t. outcome t (back ++ more) ended) made)
 
     -- which is more than it was
-    pub line_grows : (new : Fed) → new.lines ≡ s.lines + 1 → new.held ≡ [] → length s.held + length front ≤ 255 → weight first + length piece ≤ weight s + length rest → weight first + length piece ≤ weight new + length back
+    pub line_grows : (new : Fed) → new.lines ≡ s.lines + 1 → new.held ≡ [] → length s.held + length front ≤ most_line_bytes → weight first + length piece ≤ weight s + length rest → weight first + length piece ≤ weight new + length back
     line_grows new lines none short grows =
         omega (arith, lines, ap length none, ap length parted, length-append front (10 ∷ back))
 
-  -- what is behind the last LF is held, or refused
+  -- what comes after the last LF is held, or refused
   pub rest_held : {U : Type 0} (new : Fed) (r : Result U PlanFault) → is_one_line rest ≡ true → OnOk r (new ≡ record { lines = s.lines; reading = s.reading; held = s.held ++ rest }) → IfErr r (λ f. (f ≡ broken_line (s.lines + 1) (s.held ++ rest)) × (f.kind ≢ kind.Read)) → IsFed first piece r new
   rest_held new (Ok u) one ok err = λ more ended. same more ended ∙ outcome-held s rest more ended ∙ ap (λ t. outcome t more ended) (sym ok)
   rest_held new (Err f) one ok err =

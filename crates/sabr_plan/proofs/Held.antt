@@ -10,7 +10,7 @@ use Rattle.sabr_plan.specs.declared.fault.PlanKind.TheVariants as kind
 use Rattle.sabr_plan.specs.Words.{is_one_line}
 use Rattle.sabr_plan.specs.Leaving.{Leaves}
 use Rattle.sabr_plan.specs.Feeding.{Fed}
-use Rattle.sabr_plan.specs.Reading.{Reading, judged, limited, broken_line}
+use Rattle.sabr_plan.specs.Reading.{Reading, most_line_bytes, most_lines, judged, limited, broken_line}
 
 pub one_line-append : (a b : List ℕ) → is_one_line a ≡ true → is_one_line b ≡ true → is_one_line (a ++ b) ≡ true
 one_line-append a b h k = rw (list_all-append (λ x. not (eqb x 10)) a b, h, k) refl
@@ -32,22 +32,22 @@ one_line_before xs end h none =
     none k within (sym (ap (λ b. eqb b 10) (get_or-take end xs k 0 within)) ∙ e))
 
 -- what is held is within the limits, so the reader's failure after it is what is reported
-pub broken_held : (lines : ℕ) (held : List ℕ) → lines ≤ 1000000 → length held ≤ 255 * (1000000 - lines) → length held ≤ 255 → broken_line (lines + 1) held ≡ record { line = lines + 1; kind = kind.Read }
+pub broken_held : (lines : ℕ) (held : List ℕ) → lines ≤ most_lines → length held ≤ most_line_bytes * (most_lines - lines) → length held ≤ most_line_bytes → broken_line (lines + 1) held ≡ record { line = lines + 1; kind = kind.Read }
 broken_held lines held within room limit =
     let at_n : PlanKind → PlanFault = λ k. record { line = lines + 1; kind = k } in
-    let few : ltb 255 (length held) ≡ false = le-ltb 255 (length held) (omega arith) in
-    elim (cases_lt lines 1000000) [
-      | inl more ↦ rw (le-ltb 1000000 (lines + 1) (omega arith), few) refl
-      | inr full ↦ rw (le-ltb 0 (length held) (omega arith), and-false (ltb 1000000 (lines + 1)), few) refl
+    let few : ltb most_line_bytes (length held) ≡ false = le-ltb most_line_bytes (length held) (omega arith) in
+    elim (cases_lt lines most_lines) [
+      | inl more ↦ rw (le-ltb most_lines (lines + 1) (omega arith), few) refl
+      | inr full ↦ rw (le-ltb 0 (length held) (omega arith), and-false (ltb most_lines (lines + 1)), few) refl
     ]
 
 -- a line within the limits is read
-pub limited-judged : (n : ℕ) (r : Reading) (line : List ℕ) → n ≤ 1000000 → length line ≤ 255 → limited n r line ≡ judged r line
+pub limited-judged : (n : ℕ) (r : Reading) (line : List ℕ) → n ≤ most_lines → length line ≤ most_line_bytes → limited n r line ≡ judged r line
 unfolding limited
-limited-judged n r line few short = rw (le-ltb 1000000 n few, le-ltb 255 (length line) short) refl
+limited-judged n r line few short = rw (le-ltb most_lines n few, le-ltb most_line_bytes (length line) short) refl
 
 -- also when all of it is held
-pub held_judged : {U : Type 0} (s new : Fed) (back : List ℕ) (r : Result U PlanKind) (after : Reading) → new ≡ record { lines = s.lines; reading = s.reading; held = s.held ++ back } → s.lines < 1000000 → length new.held ≤ 255 → Leaves (judged new.reading new.held) r after → Leaves (limited (s.lines + 1) s.reading (s.held ++ back)) r after
+pub held_judged : {U : Type 0} (s new : Fed) (back : List ℕ) (r : Result U PlanKind) (after : Reading) → new ≡ record { lines = s.lines; reading = s.reading; held = s.held ++ back } → s.lines < most_lines → length new.held ≤ most_line_bytes → Leaves (judged new.reading new.held) r after → Leaves (limited (s.lines + 1) s.reading (s.held ++ back)) r after
 held_judged s new back r after e few short is =
     let held : new.held ≡ s.held ++ back = ap (λ (s : Fed). s.held) e in
     let reading : new.reading ≡ s.reading = ap (λ (s : Fed). s.reading) e in

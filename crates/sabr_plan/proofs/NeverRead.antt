@@ -3,6 +3,7 @@ use Rattle.std.proofs.Common.{◌≡◌, ◌≢◌, ℕ, ◌+◌, Bool, true, fa
 use Rattle.std.specs.Prelude.{nat_lt, nat_le, not, codes, if◌then◌else◌}
 use Rattle.std.specs.List.{list_all}
 use Rattle.std.specs.Str.{bytes_eq}
+use Rattle.sabr_model.specs.Devices.{Input}
 use Rattle.sabr_model.specs.Plan.{ContactPlan, TabledPlan, last_time}
 use Rattle.sabr_model.specs.declared.fault.AddFault.{AddFault}
 use Rattle.sabr_model.specs.declared.fault.AddFault.TheVariants as add
@@ -18,7 +19,7 @@ use Rattle.sabr_plan.specs.Words.{words_of, is_comment, is_plain, has_bytes, lin
 use Rattle.sabr_plan.specs.Times.{time_of}
 use Rattle.sabr_plan.specs.Operands.{relative_of, after_reference, absolute_time, time_at, node_of, value_of, lesser_kind, both_of}
 use Rattle.sabr_plan.specs.Commands.{addition_of, deletion_of, target_of, targeted, reference_of, command_of, line_command}
-use Rattle.sabr_plan.specs.Reading.{Reading, nothing_read, kind_of, changed, obeyed, judged, at_line, limited, read_line, read_lines, ended_line, last_line, plan_of}
+use Rattle.sabr_plan.specs.Reading.{Reading, most_line_bytes, most_lines, nothing_read, kind_of, changed, obeyed, judged, at_line, limited, read_line, read_lines, ended_line, last_line, plan_of}
 use Rattle.sabr_plan.specs.PlanRead.{ReadsPlan}
 
 -- no refusal says that the reader failed
@@ -138,7 +139,7 @@ obeyed_not r (Delete Range d) = changed_not _ r.reference _
 limited_not : (n : ℕ) (r : Reading) (line : List ℕ) → NotRead (limited n r line)
 unfolding limited judged
 limited_not n r line =
-    if_not (nat_lt 1000000 n) _ _ (λ e. cc) (if_not (nat_lt 255 (length line)) _ _ (λ e. cc) (then_not (line_command r.reference line) (obeyed r) (line_not r.reference line) (obeyed_not r)))
+    if_not (nat_lt most_lines n) _ _ (λ e. cc) (if_not (nat_lt most_line_bytes (length line)) _ _ (λ e. cc) (then_not (line_command r.reference line) (obeyed r) (line_not r.reference line) (obeyed_not r)))
 
 -- the same of a refusal that names a line
 abbrev NotReadAt : {A : Type 0} → Result A PlanFault → Type 0
@@ -184,9 +185,9 @@ pub ended_not_read : (bytes : List ℕ) (f : PlanFault) → plan_of bytes true �
 ended_not_read bytes f e = rw e at (text_not bytes)
 
 -- `Read` comes only if the reader failed
-pub read_failed : (old : Option (List ℕ)) (before : ℕ) (answer : Result TabledPlan PlanFault) (new : Option (List ℕ)) (after : ℕ) → ReadsPlan old before answer new after → IfErr answer (λ f. f.kind ≡ kind.Read → after ≡ before + 1)
-read_failed old before (Ok p) new after reads = tt
-read_failed old before (Err f) new after reads = λ e.
+pub read_failed : (old : Input) (answer : Result TabledPlan PlanFault) (new : Input) → ReadsPlan old answer new → IfErr answer (λ f. f.kind ≡ kind.Read → new.failures ≡ old.failures + 1)
+read_failed old (Ok p) new reads = tt
+read_failed old (Err f) new reads = λ e.
     elim reads.told [
       | inl (end, fine, inl memory) ↦ absurd (no_memory (sym memory ∙ e))
       | inl (end, fine, inr refused) ↦ absurd (ended_not_read reads.given f refused e)

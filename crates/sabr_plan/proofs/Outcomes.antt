@@ -10,7 +10,7 @@ use Rattle.sabr_plan.specs.declared.fault.PlanKind.{PlanKind}
 use Rattle.sabr_plan.specs.declared.fault.PlanKind.TheVariants as kind
 use Rattle.sabr_plan.specs.Steps.{and_then}
 use Rattle.sabr_plan.specs.Words.{TextLines, is_one_line, has_bytes, lines_of}
-use Rattle.sabr_plan.specs.Reading.{Reading, nothing_read, judged, limited, read_line, read_lines, broken_line, last_line, plan_of}
+use Rattle.sabr_plan.specs.Reading.{Reading, most_line_bytes, most_lines, nothing_read, judged, limited, read_line, read_lines, broken_line, last_line, plan_of}
 use Rattle.sabr_plan.specs.Feeding.{Fed, nothing_fed, outcome}
 use Rattle.sabr_plan.proofs.Lines.{in_front, lines_of-front, lines_of-one, lines_of-line}
 
@@ -81,23 +81,23 @@ choose false some true longer judgement p q other = rw (q refl) refl
 choose false some false longer judgement p q other = absurd (other refl)
 
 -- the empty line is not long
-short : (front : List ℕ) → has_bytes front ≡ false → ltb 255 (length front) ≡ false
-short front none = let h = ltb-false 0 (length front) none in le-ltb 255 (length front) (omega arith)
+short : (front : List ℕ) → has_bytes front ≡ false → ltb most_line_bytes (length front) ≡ false
+short front none = let h = ltb-false 0 (length front) none in le-ltb most_line_bytes (length front) (omega arith)
 
 -- a line that is too long stays too long
-longer : (front back : List ℕ) → ltb 255 (length front) ≡ true → ltb 255 (length (front ++ back)) ≡ true
-longer front back long = let h = ltb-true 255 (length front) long in lt-ltb 255 (length (front ++ back)) (omega (arith, length-append front back))
+longer : (front back : List ℕ) → ltb most_line_bytes (length front) ≡ true → ltb most_line_bytes (length (front ++ back)) ≡ true
+longer front back long = let h = ltb-true most_line_bytes (length front) long in lt-ltb most_line_bytes (length (front ++ back)) (omega (arith, length-append front back))
 
 refused_line : (n : ℕ) (r : Reading) (front back : List ℕ) → (broken_line n front).kind ≢ kind.Read → limited n r (front ++ back) ≡ Err (broken_line n front).kind
 unfolding limited
-refused_line n r front back other = choose (ltb 1000000 n) (has_bytes front) (ltb 255 (length front)) (ltb 255 (length (front ++ back))) (judged r (front ++ back)) (short front) (longer front back) other
+refused_line n r front back other = choose (ltb most_lines n) (has_bytes front) (ltb most_line_bytes (length front)) (ltb most_line_bytes (length (front ++ back))) (judged r (front ++ back)) (short front) (longer front back) other
 
 -- bytes that are refused are not empty
 some_front : (n : ℕ) (front : List ℕ) → (broken_line n front).kind ≢ kind.Read → has_bytes front ≡ true
 some_front n front other =
     (elim (has_bytes front) as (λ b. has_bytes front ≡ b → b ≡ true) [
       | true ↦ λ e. refl
-      | false ↦ λ e. absurd (other (rw (e, short front e, and-false (ltb 1000000 n)) refl))
+      | false ↦ λ e. absurd (other (rw (e, short front e, and-false (ltb most_lines n)) refl))
     ]) refl
 
 some_more : (front back : List ℕ) → has_bytes front ≡ true → has_bytes (front ++ back) ≡ true
@@ -112,7 +112,7 @@ still_broken : (n : ℕ) (front back : List ℕ) → (broken_line n front).kind 
 still_broken n front back other =
     let some = some_front n front other in
     let more = some_more front back some in
-    let same = still (ltb 1000000 n) (ltb 255 (length front)) (ltb 255 (length (front ++ back))) (longer front back) (rw some at other) in
+    let same = still (ltb most_lines n) (ltb most_line_bytes (length front)) (ltb most_line_bytes (length (front ++ back))) (longer front back) (rw some at other) in
     let at_n : PlanKind → PlanFault = λ k. record { line = n; kind = k } in
     rw (some, more) (ap at_n same)
 

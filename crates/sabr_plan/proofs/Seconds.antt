@@ -9,7 +9,7 @@ use Rattle.jiff_core.proofs.SignedLemmas.{signed_arith}
 use Rattle.jiff_core.proofs.CalendarLemmas.{days_in_month_bounds}
 use Rattle.sabr_plan.specs.declared.time.TimeFields.{TimeFields}
 use Rattle.sabr_model.specs.Plan.{last_time}
-use Rattle.sabr_plan.specs.Times.{CalendarDay, day_after_epoch, fields_of, time_text_of, second_named, time_of}
+use Rattle.sabr_plan.specs.Times.{CalendarDay, day_after_epoch, fields_of, last_spelled, time_text_of, second_named, time_of}
 use Rattle.sabr_plan.specs.TimeShape.{has_shape, fields_at, HasWidth}
 use Rattle.sabr_plan.proofs.Days.{day_after_epoch_is}
 use Rattle.sabr_plan.proofs.Spelling.{spelled_has_shape, fields_at-spelled}
@@ -23,7 +23,7 @@ day_after_epoch_injective m n h k e =
     omega (arith, signed_arith)
 
 -- the fields of a second up to the year 9999 fit their widths
-pub fields_of_width : (t : ℕ) → t ≤ 253402300799 → HasWidth (fields_of t)
+pub fields_of_width : (t : ℕ) → t ≤ last_spelled → HasWidth (fields_of t)
 unfolding fields_of
 fields_of_width t h =
     let is = day_after_epoch_is (t / 86400) (omega arith) in
@@ -74,7 +74,7 @@ fields_clock t f e =
     subst P e (omega arith, omega arith, omega arith)
 
 -- two seconds with the same fields are the same
-pub fields_of_injective : (t u : ℕ) → t ≤ 253402300799 → u ≤ 253402300799 → fields_of t ≡ fields_of u → t ≡ u
+pub fields_of_injective : (t u : ℕ) → t ≤ last_spelled → u ≤ last_spelled → fields_of t ≡ fields_of u → t ≡ u
 fields_of_injective t u h k e =
     let day : day_after_epoch (t / 86400) ≡ day_after_epoch (u / 86400) = sym (day_of-fields_of t) ∙ ap day_of e ∙ day_of-fields_of u in
     let same : t / 86400 ≡ u / 86400 = day_after_epoch_injective _ _ (omega arith) (omega arith) day in
@@ -82,7 +82,7 @@ fields_of_injective t u h k e =
     omega arith
 
 -- a time's text has the shape
-pub text_has_shape : (t : ℕ) → t ≤ 253402300799 → has_shape (time_text_of t) ≡ true
+pub text_has_shape : (t : ℕ) → t ≤ last_spelled → has_shape (time_text_of t) ≡ true
 unfolding time_text_of
 text_has_shape t h = spelled_has_shape (fields_of t) (fields_of_width t h)
 
@@ -99,21 +99,21 @@ second_named-fields_at : (word : List ℕ) → second_named word ≡ named_by (f
 unfolding second_named named_by
 second_named-fields_at word = refl
 
-named_by-fields_of : (t : ℕ) → t ≤ 253402300799 → named_by (fields_of t) ≡ t
+named_by-fields_of : (t : ℕ) → t ≤ last_spelled → named_by (fields_of t) ≡ t
 unfolding named_by fields_of
 named_by-fields_of t h =
     let is = (day_after_epoch_is (t / 86400) (omega arith)).number in
     rw is (omega arith)
 
 -- the digits of a time's text name its second
-pub second_named-text : (t : ℕ) → t ≤ 253402300799 → second_named (time_text_of t) ≡ t
+pub second_named-text : (t : ℕ) → t ≤ last_spelled → second_named (time_text_of t) ≡ t
 second_named-text t h = second_named-fields_at (time_text_of t) ∙ ap named_by (fields_at-text t) ∙ named_by-fields_of t h
 
 -- the time of a text
 pub time_of-text : (t : ℕ) → t ≤ last_time → time_of (time_text_of t) ≡ Some t
 unfolding time_of
 time_of-text t h =
-    let within : t ≤ 253402300799 = omega arith in
+    let within : t ≤ last_spelled = omega arith in
     rw (second_named-text t within, le-leb t last_time h, (bytes_eq-Decides (time_text_of t) (time_text_of t)).1 refl) refl
 
 -- a word that has a time is its text

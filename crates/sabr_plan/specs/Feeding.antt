@@ -3,11 +3,11 @@ use Rattle.std.specs.Prelude.{◌≡◌, ℕ, ◌+◌, ◌*◌, Bool, List, [], 
 use Rattle.sabr_model.specs.Plan.{ContactPlan, TabledPlan}
 use Rattle.sabr_plan.specs.Steps.{and_then}
 use Rattle.sabr_plan.specs.Words.{lines_of}
-use Rattle.sabr_plan.specs.Reading.{Reading, nothing_read, read_lines, last_line}
+use Rattle.sabr_plan.specs.Reading.{Reading, most_lines, nothing_read, read_lines, last_line}
 use Rattle.sabr_plan.specs.declared.fault.PlanFault.{PlanFault}
 use Rattle.sabr_plan.specs.declared.fault.PlanKind.TheVariants.{NoMemory}
 
--- how many lines LF has ended, what they leave, and the bytes of the line behind them
+-- how many lines LF has ended, what they leave, and the bytes of the line after them
 pub record Fed : Type 0 where
   pub lines : ℕ
   pub reading : Reading
@@ -17,13 +17,13 @@ pub record Fed : Type 0 where
 abbrev pub nothing_fed : Fed
 nothing_fed = record { lines = 0; reading = nothing_read; held = [] }
 
--- what comes of a text, with these bytes behind what was fed
+-- what comes of a text, with these bytes after what was fed
 unfoldable pub outcome : Fed → List ℕ → Bool → Result ContactPlan PlanFault
 outcome s bytes ended =
     let text = lines_of (s.held ++ bytes) in
     and_then (read_lines (s.lines + 1) s.reading text.ended) (last_line ended (s.lines + 1 + length text.ended) text.open_line)
 
--- a piece was fed: whatever comes behind it, the text comes to the same
+-- a piece was fed: whatever follows it, the text comes to the same
 abbrev pub IsFed : {U : Type 0} → Fed → List ℕ → Result U PlanFault → Fed → Type 0
 IsFed old piece (Ok _) new = (more : List ℕ) (ended : Bool) → outcome old (piece ++ more) ended ≡ outcome new more ended
 IsFed old piece (Err f) new = (f.kind ≡ NoMemory) ⊎ ((more : List ℕ) (ended : Bool) → outcome old (piece ++ more) ended ≡ Err f)
@@ -31,6 +31,10 @@ IsFed old piece (Err f) new = (f.kind ≡ NoMemory) ⊎ ((more : List ℕ) (ende
 -- it grows with each byte
 abbrev pub weight : Fed → ℕ
 weight s = 256 * s.lines + length s.held
+
+-- that of the most lines, with no byte after them
+abbrev pub most_weight : ℕ
+most_weight = 256 * most_lines
 
 -- the plan, its refusal, or one for want of memory
 abbrev pub Answers : Result ContactPlan PlanFault → Result TabledPlan PlanFault → Type 0

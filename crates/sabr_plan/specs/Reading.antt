@@ -67,9 +67,17 @@ abbrev pub at_line : {A : Type 0} → ℕ → Result A PlanKind → Result A Pla
 at_line n (Ok x) = Ok x
 at_line n (Err k) = Err (record { line = n; kind = k })
 
--- line n is read if its number is at most 1000000 and it has at most 255 bytes
+-- the most lines of a text
+abbrev pub most_lines : ℕ
+most_lines = 1000000
+
+-- the most bytes of a line without its LF
+abbrev pub most_line_bytes : ℕ
+most_line_bytes = 255
+
+-- line n is read if it is one of so many, and has at most so many bytes
 unfoldable pub limited : ℕ → Reading → List ℕ → Result Reading PlanKind
-limited n r line = if nat_lt 1000000 n then Err kind.TooMany else if nat_lt 255 (length line) then Err kind.LineTooLong else judged r line
+limited n r line = if nat_lt most_lines n then Err kind.TooMany else if nat_lt most_line_bytes (length line) then Err kind.LineTooLong else judged r line
 
 -- line n
 abbrev pub read_line : ℕ → Reading → List ℕ → Result Reading PlanFault
@@ -88,7 +96,7 @@ ended_line n r line = if has_bytes line then read_line n r line else Ok r
 abbrev pub broken_line : ℕ → List ℕ → PlanFault
 broken_line n line = record {
   line = n;
-  kind = if nat_lt 1000000 n && has_bytes line then kind.TooMany else if nat_lt 255 (length line) then kind.LineTooLong else kind.Read;
+  kind = if nat_lt most_lines n && has_bytes line then kind.TooMany else if nat_lt most_line_bytes (length line) then kind.LineTooLong else kind.Read;
 }
 
 -- the text after the last LF

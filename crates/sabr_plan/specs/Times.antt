@@ -42,7 +42,11 @@ spelled f =
     two_digits (f.year / 100) ++ two_digits (f.year % 100) ++ 47 ∷ two_digits f.month ++ 47 ∷ two_digits f.day
     ++ 45 ∷ two_digits f.hour ++ 58 ∷ two_digits f.minute ++ 58 ∷ two_digits f.second
 
--- the spelling of a second, up to 253402300799, the last of the year 9999
+-- the last second that has a spelling, the last of the year 9999
+abbrev pub last_spelled : ℕ
+last_spelled = 253402300799
+
+-- the spelling of a second, up to that one
 unfoldable pub time_text_of : ℕ → List ℕ
 time_text_of t = spelled (fields_of t)
 

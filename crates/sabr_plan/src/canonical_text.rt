@@ -26,7 +26,7 @@ pub fn canonical<W: Write, A: Allocator + Copy>(
     plan: &Plan<A>,
     writer: &mut W,
 ) -> Result<(), WriteFault>
-    ensures { WritesText (W.contents writer.old) (W.failures writer.old) (canonical_text plan.now.plan) result (W.contents writer.new) (W.failures writer.new) }
+    ensures { WritesText (W.output writer.old) (canonical_text plan.now.plan) result (W.output writer.new) }
 {
     write_text(writer, FIRST_LINE)?;
     write_contacts(plan.contacts(), writer)?;
@@ -36,7 +36,7 @@ pub fn canonical<W: Write, A: Allocator + Copy>(
 
 /// Writes the lines of contacts.
 fn write_contacts<W: Write>(contacts: &[Contact], writer: &mut W) -> Result<(), WriteFault>
-    ensures { WritesText (W.contents writer.old) (W.failures writer.old) (flat_map contact_line contacts.now) result (W.contents writer.new) (W.failures writer.new) }
+    ensures { WritesText (W.output writer.old) (flat_map contact_line contacts.now) result (W.output writer.new) }
 {
     for contact in contacts {
         write_text(writer, RecordLine::of_contact(contact).as_bytes())?;
@@ -46,7 +46,7 @@ fn write_contacts<W: Write>(contacts: &[Contact], writer: &mut W) -> Result<(), 
 
 /// Writes the lines of ranges.
 fn write_ranges<W: Write>(ranges: &[Range], writer: &mut W) -> Result<(), WriteFault>
-    ensures { WritesText (W.contents writer.old) (W.failures writer.old) (flat_map range_line ranges.now) result (W.contents writer.new) (W.failures writer.new) }
+    ensures { WritesText (W.output writer.old) (flat_map range_line ranges.now) result (W.output writer.new) }
 {
     for range in ranges {
         write_text(writer, RecordLine::of_range(range).as_bytes())?;

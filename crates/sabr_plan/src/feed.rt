@@ -13,11 +13,11 @@ use sabr_model::{NoMemory, Plan};
 use std::alloc::Allocator;
 use std::marker::Model;
 
-/// The greatest number of bytes of a line without its LF.
-const LINE_LIMIT: usize = 255;
+/// The most bytes of a line without its LF.
+const MOST_LINE_BYTES: usize = 255;
 
-/// The greatest number of lines.
-const LINES_LIMIT: u32 = 1000000;
+/// The most lines of a text.
+const MOST_LINES: u32 = 1000000;
 
 /// The plan that the lines so far make, how many there are, and the bytes of the line after them.
 #[derive(Drop)]
@@ -27,19 +27,20 @@ pub struct PlanFeed<A: Allocator + Copy> {
     /// The plan that they make.
     reading: PlanReading<A>,
     /// The bytes of the line after them.
-    held: ArrayVec<u8, LINE_LIMIT>,
+    held: ArrayVec<u8, MOST_LINE_BYTES>,
 }
 
 impl<A: Allocator + Copy> Model for PlanFeed<A> {
     ghost use Rattle.std.specs.Prelude.{◌≤◌, ◌-◌, ◌*◌, length, IsTrue};
     ghost use Rattle.sabr_plan.specs.Words.{is_one_line};
+    ghost use Rattle.sabr_plan.specs.Reading.{most_line_bytes, most_lines};
     ghost use Rattle.sabr_plan.specs.Feeding.{Fed};
 
     ghost Value = { Fed };
 
     ghost view = { λ f. record { lines = f.lines; reading = f.reading; held = f.held.items } };
 
-    ghost invariant = { λ f. (f.lines ≤ 1000000) × (length f.held.items ≤ 255 * (1000000 - f.lines)) × (length f.held.items ≤ 255) × IsTrue (is_one_line f.held.items) };
+    ghost invariant = { λ f. (f.lines ≤ most_lines) × (length f.held.items ≤ most_line_bytes * (most_lines - f.lines)) × (length f.held.items ≤ most_line_bytes) × IsTrue (is_one_line f.held.items) };
 }
 
 /// Returns the place of the first LF.
@@ -50,8 +51,8 @@ pub fn line_end(text: &[u8]) -> Option<usize>
 }
 
 impl<A: Allocator + Copy> PlanFeed<A> {
-    ghost use Rattle.sabr_plan.specs.Reading.{judged, at_line, limited, read_line, ended_line, broken_line};
-    ghost use Rattle.sabr_plan.specs.Feeding.{Fed, nothing_fed, outcome, IsFed, weight, Answers};
+    ghost use Rattle.sabr_plan.specs.Reading.{most_line_bytes, most_lines, judged, at_line, limited, read_line, ended_line, broken_line};
+    ghost use Rattle.sabr_plan.specs.Feeding.{Fed, nothing_fed, outcome, IsFed, weight, most_weight, Answers};
 
     /// Starts before the first piece.
     pub fn new(alloc: A) -> PlanFeed<A>
@@ -68,7 +69,7 @@ impl<A: Allocator + Copy> PlanFeed<A> {
     pub fn feed(&mut self, piece: &[u8]) -> Result<(), PlanFault>
         ensures fed { IsFed self.old piece.now result self.new }
         ensures grows { OnOk result (weight self.old + length piece.now ≤ weight self.new) }
-        ensures bound { OnOk result (weight self.new ≤ 256000000) }
+        ensures bound { OnOk result (weight self.new ≤ most_weight) }
     {
         let mut rest = piece;
         while let Some(end) = line_end(rest) {
@@ -134,7 +135,7 @@ impl<A: Allocator + Copy> PlanFeed<A> {
         requires { IsTrue (is_one_line back.now) }
         ensures value { LeavesAt (read_line (self.old.lines + 1) self.old.reading (self.old.held ++ back.now)) result self.new.reading }
         ensures rest { OnOk result ((self.new.lines ≡ self.old.lines + 1) × (self.new.held ≡ [])) }
-        ensures fits { OnOk result (length self.old.held + length back.now ≤ 255) }
+        ensures fits { OnOk result (length self.old.held + length back.now ≤ most_line_bytes) }
         ensures held { IsTrue (is_one_line self.old.held) }
     {
         let line = self.lines + 1;
@@ -153,12 +154,12 @@ impl<A: Allocator + Copy> PlanFeed<A> {
         requires { IsTrue (is_one_line back.now) }
         ensures value { Leaves (limited (self.old.lines + 1) self.old.reading (self.old.held ++ back.now)) result self.new.reading }
         ensures lines { self.new.lines ≡ self.old.lines }
-        ensures fits { OnOk result ((self.old.lines < 1000000) × (length self.old.held + length back.now ≤ 255)) }
+        ensures fits { OnOk result ((self.old.lines < most_lines) × (length self.old.held + length back.now ≤ most_line_bytes)) }
     {
-        if self.lines >= LINES_LIMIT {
+        if self.lines >= MOST_LINES {
             return Err(PlanKind::TooMany);
         }
-        if back.len() > LINE_LIMIT - self.held.len() {
+        if back.len() > MOST_LINE_BYTES - self.held.len() {
             return Err(PlanKind::LineTooLong);
         }
         if self.held.is_empty() {
@@ -170,8 +171,8 @@ impl<A: Allocator + Copy> PlanFeed<A> {
 
     /// Holds more bytes of a line.
     fn append(&mut self, bytes: &[u8])
-        requires room { length self.old.held + length bytes.now ≤ 255 }
-        requires lines { self.old.lines < 1000000 }
+        requires room { length self.old.held + length bytes.now ≤ most_line_bytes }
+        requires lines { self.old.lines < most_lines }
         requires line { IsTrue (is_one_line bytes.now) }
         ensures { self.new ≡ record { lines = self.old.lines; reading = self.old.reading; held = self.old.held ++ bytes.now } }
     {
@@ -184,7 +185,7 @@ impl<A: Allocator + Copy> PlanFeed<A> {
     fn hold(&mut self, bytes: &[u8]) -> Result<(), PlanFault>
         requires { IsTrue (is_one_line bytes.now) }
         ensures ok { OnOk result (self.new ≡ record { lines = self.old.lines; reading = self.old.reading; held = self.old.held ++ bytes.now }) }
-        ensures bound { OnOk result (weight self.new ≤ 256000000) }
+        ensures bound { OnOk result (weight self.new ≤ most_weight) }
         ensures held { IsTrue (is_one_line self.old.held) }
         ensures err { IfErr result (λ f. (f ≡ broken_line (self.old.lines + 1) (self.old.held ++ bytes.now)) × (f.kind ≢ kind.Read)) }
     {
@@ -192,13 +193,13 @@ impl<A: Allocator + Copy> PlanFeed<A> {
         if bytes.is_empty() {
             return Ok(());
         }
-        if self.lines >= LINES_LIMIT {
+        if self.lines >= MOST_LINES {
             return Err(PlanFault {
                 line,
                 kind: PlanKind::TooMany,
             });
         }
-        if bytes.len() > LINE_LIMIT - self.held.len() {
+        if bytes.len() > MOST_LINE_BYTES - self.held.len() {
             return Err(PlanFault {
                 line,
                 kind: PlanKind::LineTooLong,

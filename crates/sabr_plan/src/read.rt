@@ -22,8 +22,8 @@ pub fn read_plan<R: Read, A: Allocator + Copy>(
     alloc: A,
     reader: &mut R,
 ) -> Result<Plan<A>, PlanFault>
-    ensures read { ReadsPlan (R.remaining reader.old) (R.failures reader.old) result (R.remaining reader.new) (R.failures reader.new) }
-    ensures failed { IfErr result (λ f. f.kind ≡ kind.Read → R.failures reader.new ≡ R.failures reader.old + 1) }
+    ensures read { ReadsPlan (R.input reader.old) result (R.input reader.new) }
+    ensures failed { IfErr result (λ f. f.kind ≡ kind.Read → (R.input reader.new).failures ≡ (R.input reader.old).failures + 1) }
 {
     let mut buffer = [0u8; 8192];
     let mut feed = PlanFeed::new(alloc);

@@ -24,7 +24,7 @@ impl Model for RecordLine {
 impl RecordLine {
     ghost use Rattle.sabr_plan.specs.Canonical.{contact_line, range_line};
 
-    /// Makes the line of a contact, with its LF.
+    /// Returns the line of a contact, with its LF.
     #[tactic(auto, unfolding(crate::specs::Canonical::contact_line))]
     pub fn of_contact(contact: &Contact) -> RecordLine
         ensures { result ≡ contact_line contact.now }
@@ -40,7 +40,7 @@ impl RecordLine {
         line
     }
 
-    /// Makes the line of a range, with its LF.
+    /// Returns the line of a range, with its LF.
     #[tactic(auto, unfolding(crate::specs::Canonical::range_line))]
     pub fn of_range(range: &Range) -> RecordLine
         ensures { result ≡ range_line range.now }
@@ -62,7 +62,7 @@ impl RecordLine {
         self.bytes.as_slice()
     }
 
-    /// Makes a line that begins with a letter.
+    /// Returns a line that begins with a letter.
     fn new(letter: u8) -> RecordLine
         ensures { result ≡ letter ∷ [] }
     {

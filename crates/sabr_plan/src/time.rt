@@ -2,7 +2,7 @@
 
 ghost use Rattle.std.specs.Prelude.{◌≡◌, ℕ, ◌<◌, ◌≤◌, ◌+◌, ◌≢◌, Some, IfSome, IsNone, IsTrue, length, slice_index};
 ghost use Rattle.sabr_model.specs.Plan.{last_time};
-ghost use Rattle.sabr_plan.specs.Times.{day_after_epoch, pair_at, spelled, fields_of, time_text_of, time_of};
+ghost use Rattle.sabr_plan.specs.Times.{day_after_epoch, pair_at, spelled, fields_of, last_spelled, time_text_of, time_of};
 ghost use Rattle.sabr_plan.specs.TimeShape.{is_pair, has_shape, fields_at, HasWidth};
 
 use jiff::civil::Date;
@@ -30,7 +30,7 @@ pub struct TimeFields {
 
 /// Returns the calendar and clock fields of a second.
 fn fields_of(second: u64) -> TimeFields
-    requires { second ≤ 253402300799 }
+    requires { second ≤ last_spelled }
     ensures { result ≡ fields_of second }
 {
     let days = second / 86400;
@@ -159,7 +159,7 @@ fn digit(value: u8) -> u8
 /// 253402300799, the last of the year 9999.
 #[tactic(auto, using(crate::proofs::Seconds::fields_of_width), unfolding(crate::specs::Times::time_text_of))]
 pub fn time_text(second: u64) -> [u8; 19]
-    requires { second ≤ 253402300799 }
+    requires { second ≤ last_spelled }
     ensures { result ≡ time_text_of second }
 {
     spelled(fields_of(second))

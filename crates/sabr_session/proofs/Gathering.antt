@@ -1,72 +1,71 @@
 -- Texts that are put into a buffer in turn, and handed to its writer at the end.
-use Rattle.std.proofs.Common.{◌≡◌, ℕ, List, [], ◌++◌, Result, Ok, Err, ap, ◌∙◌, sym, append_assoc, append-nil, Option, refl}
+use Rattle.std.proofs.Common.{◌≡◌, ℕ, List, [], ◌++◌, Result, Ok, Err, ap, ◌∙◌, sym, append_assoc, append-nil, refl}
 use Rattle.std.specs.Borrow.{MutBor}
 use Rattle.std.specs.Result.{IsErrAnd}
-use Rattle.sabr_model.specs.Devices.{WritesText}
-use Rattle.sabr_model.proofs.WrittenTexts.{Written-nil, Written-append}
+use Rattle.sabr_model.specs.Devices.{Output, WritesText}
+use Rattle.sabr_model.proofs.WrittenTexts.{Written-nil, Written-append, WrittenInPart-after, WrittenInPart-more}
 use Rattle.sabr_session.specs.declared.writing.text_buffer.TextBuffer.{TextBuffer}
 use Rattle.sabr_session.specs.Gathering.{IsEmptyBefore, HasPut, StopsIn, Puts, Sends}
-use Rattle.sabr_plan.proofs.CanonicalLines.{in_part_after, in_part_more}
 
 -- the bytes held, and two texts: separated after the first text's part that was written
 split_at : (h i sent xs ys : List ℕ) → h ++ xs ≡ sent ++ i → h ++ (xs ++ ys) ≡ sent ++ (i ++ ys)
 split_at h i sent xs ys e = sym (append_assoc h xs ys) ∙ ap (λ zs. zs ++ ys) e ∙ append_assoc sent i ys
 
-module _ {W : Type 0} {contents : W → Option (List ℕ)} {failures : W → ℕ} where
+module _ {W : Type 0} {output : W → Output} where
   -- no text changes nothing
-  pub HasPut-nil : (a : TextBuffer W) → HasPut contents failures a [] a
-  HasPut-nil a = record { same_writer = refl; sent = []; left = append-nil a.held.items; written = Written-nil (contents a.writer.now) (failures a.writer.now) }
+  pub HasPut-nil : (a : TextBuffer W) → HasPut output a [] a
+  HasPut-nil a = record { same_writer = refl; sent = []; left = append-nil a.held.items; written = Written-nil (output a.writer.now) }
 
   -- two texts put in turn are the joined text put
-  pub HasPut-append : {a b c : TextBuffer W} (xs ys : List ℕ) → HasPut contents failures a xs b → HasPut contents failures b ys c → HasPut contents failures a (xs ++ ys) c
+  pub HasPut-append : {a b c : TextBuffer W} (xs ys : List ℕ) → HasPut output a xs b → HasPut output b ys c → HasPut output a (xs ++ ys) c
   HasPut-append {a} {b} {c} xs ys p q =
       record {
         same_writer = q.same_writer ∙ p.same_writer;
         sent = p.sent ++ q.sent;
         left = split_at a.held.items b.held.items p.sent xs ys p.left ∙ ap (λ zs. p.sent ++ zs) q.left ∙ sym (append_assoc p.sent q.sent c.held.items);
-        written = Written-append _ _ _ _ _ _ p.sent q.sent p.written q.written;
+        written = Written-append (output a.writer.now) (output b.writer.now) (output c.writer.now) p.sent q.sent p.written q.written;
       }
 
   -- the writer failed, after a text was put
   pub StopsIn-after : {a b c : TextBuffer W} (xs ys : List ℕ)
-      → HasPut contents failures a xs b → StopsIn contents failures b (b.held.items ++ ys) c → StopsIn contents failures a (a.held.items ++ (xs ++ ys)) c
+      → HasPut output a xs b → StopsIn output b (b.held.items ++ ys) c → StopsIn output a (a.held.items ++ (xs ++ ys)) c
   StopsIn-after {a} {b} {c} xs ys p q =
       record {
         same_writer = q.same_writer ∙ p.same_writer;
-        stopped = rw (split_at a.held.items b.held.items p.sent xs ys p.left) (in_part_after _ _ _ _ _ _ p.sent (b.held.items ++ ys) p.written q.stopped);
+        stopped = rw (split_at a.held.items b.held.items p.sent xs ys p.left) (WrittenInPart-after (output a.writer.now) (output b.writer.now) (output c.writer.now) p.sent (b.held.items ++ ys) p.written q.stopped);
       }
 
   -- the writer failed, with more to come
-  StopsIn-more : {a c : TextBuffer W} (bytes more : List ℕ) → StopsIn contents failures a bytes c → StopsIn contents failures a (bytes ++ more) c
-  StopsIn-more {a} {c} bytes more p = record { same_writer = p.same_writer; stopped = in_part_more _ _ _ _ bytes more p.stopped }
+  StopsIn-more : {a c : TextBuffer W} (bytes more : List ℕ) → StopsIn output a bytes c → StopsIn output a (bytes ++ more) c
+  StopsIn-more {a} {c} bytes more p = record { same_writer = p.same_writer; stopped = WrittenInPart-more (output a.writer.now) (output c.writer.now) bytes more p.stopped }
 
   -- the writer failed, with another text to come
-  pub StopsIn-before : {a c : TextBuffer W} (xs ys : List ℕ) → StopsIn contents failures a (a.held.items ++ xs) c → StopsIn contents failures a (a.held.items ++ (xs ++ ys)) c
+  pub StopsIn-before : {a c : TextBuffer W} (xs ys : List ℕ) → StopsIn output a (a.held.items ++ xs) c → StopsIn output a (a.held.items ++ (xs ++ ys)) c
   StopsIn-before {a} xs ys p = rw (← append_assoc a.held.items xs ys) (StopsIn-more (a.held.items ++ xs) ys p)
 
   -- the first text was put, and then the second is, or the writer fails
   pub Puts-after : {A E : Type 0} {a b : TextBuffer W} (c : TextBuffer W) (xs ys : List ℕ) (r : Result A E)
-      → HasPut contents failures a xs b → Puts contents failures b ys r c → Puts contents failures a (xs ++ ys) r c
+      → HasPut output a xs b → Puts output b ys r c → Puts output a (xs ++ ys) r c
   Puts-after c xs ys (Ok _) p q = HasPut-append xs ys p q
   Puts-after c xs ys (Err _) p q = StopsIn-after xs ys p q
 
   -- the writer failed in the first text
   pub Puts-stopped : {A E : Type 0} (P : E → Type 0) {a c : TextBuffer W} (xs ys : List ℕ) (r : Result A E)
-      → IsErrAnd r P → StopsIn contents failures a (a.held.items ++ xs) c → Puts contents failures a (xs ++ ys) r c
+      → IsErrAnd r P → StopsIn output a (a.held.items ++ xs) c → Puts output a (xs ++ ys) r c
   Puts-stopped P xs ys (Ok _) bad p = absurd bad
   Puts-stopped P xs ys (Err _) is p = StopsIn-before xs ys p
 
   -- the writer failed in the bytes held before
   pub Puts-unheld : {A E : Type 0} (P : E → Type 0) {a c : TextBuffer W} (xs : List ℕ) (r : Result A E)
-      → IsErrAnd r P → StopsIn contents failures a a.held.items c → Puts contents failures a xs r c
+      → IsErrAnd r P → StopsIn output a a.held.items c → Puts output a xs r c
   Puts-unheld P xs (Ok _) bad p = absurd bad
   Puts-unheld P {a} xs (Err _) is p = StopsIn-more a.held.items xs p
 
   -- the bytes held are written, and then the text goes straight to the writer
   pub Puts-through : {A E : Type 0} {a b : TextBuffer W} (c : TextBuffer W) (xs : List ℕ) (r : Result A E)
-      → HasPut contents failures a [] b → b.held.items ≡ [] → c.writer.ghost_name ≡ b.writer.ghost_name → c.held.items ≡ []
-      → WritesText (contents b.writer.now) (failures b.writer.now) xs r (contents c.writer.now) (failures c.writer.now)
-      → Puts contents failures a xs r c
+      → HasPut output a [] b → b.held.items ≡ [] → c.writer.ghost_name ≡ b.writer.ghost_name → c.held.items ≡ []
+      → WritesText (output b.writer.now) xs r (output c.writer.now)
+      → Puts output a xs r c
   Puts-through {b = b} c xs (Ok _) p empty same still q =
       HasPut-append {b = b} {c = c} [] xs p (record { same_writer = same; sent = xs; left = ap (λ zs. zs ++ xs) empty ∙ sym (append-nil xs) ∙ ap (λ zs. xs ++ zs) (sym still); written = q })
   Puts-through {b = b} c xs (Err _) p empty same still q = StopsIn-after {b = b} {c = c} [] xs p (record { same_writer = same; stopped = rw empty q })
@@ -74,8 +73,8 @@ module _ {W : Type 0} {contents : W → Option (List ℕ)} {failures : W → ℕ
   -- a text is put into an empty buffer, and the writer failed in it; x is what the writer ends as
   pub WritesText-stopped : {A E : Type 0} (P : E → Type 0) {w : MutBor W} {a c : TextBuffer W} (x : W) (xs : List ℕ) (r : Result A E)
       → IsEmptyBefore w a → (w.ghost_name ≡ c.writer.ghost_name → x ≡ c.writer.now)
-      → IsErrAnd r P → StopsIn contents failures a (a.held.items ++ xs) c
-      → WritesText (contents w.now) (failures w.now) xs r (contents x) (failures x)
+      → IsErrAnd r P → StopsIn output a (a.held.items ++ xs) c
+      → WritesText (output w.now) xs r (output x)
   WritesText-stopped P x xs (Ok _) new ends bad p = absurd bad
   WritesText-stopped P x xs (Err _) new ends is p =
       rw (ends (sym (p.same_writer ∙ new.same_writer))) (rw (new.empty, new.unchanged) at p.stopped)
@@ -83,8 +82,8 @@ module _ {W : Type 0} {contents : W → Option (List ℕ)} {failures : W → ℕ
   -- a text was put into an empty buffer, and is handed over
   pub WritesText-sent : {A E : Type 0} {w : MutBor W} {a b : TextBuffer W} (c : TextBuffer W) (x : W) (xs : List ℕ) (r : Result A E)
       → IsEmptyBefore w a → (w.ghost_name ≡ c.writer.ghost_name → x ≡ c.writer.now)
-      → HasPut contents failures a xs b → Sends contents failures b r c
-      → WritesText (contents w.now) (failures w.now) xs r (contents x) (failures x)
+      → HasPut output a xs b → Sends output b r c
+      → WritesText (output w.now) xs r (output x)
   WritesText-sent {a = a} c x xs (Ok _) new ends p q =
       let t = HasPut-append {c = c} xs [] p q.0 in
       let all : t.sent ≡ xs = sym (append-nil t.sent) ∙ ap (λ zs. t.sent ++ zs) (sym q.1) ∙ sym t.left ∙ ap (λ zs. zs ++ (xs ++ [])) new.empty ∙ append-nil xs in

@@ -1,8 +1,9 @@
 -- Pieces and lines that are put into a text one after the other.
-use Rattle.std.proofs.Common.{◌≡◌, ℕ, ◌+◌, ◌<◌, List, [], ◌∷◌, ◌++◌, Bor, map, length, get_or, take, drop, refl, sym, ap, ◌∙◌, append_assoc, append-nil, add-one, drop-cons, Option, Result}
+use Rattle.std.proofs.Common.{◌≡◌, ℕ, ◌+◌, ◌<◌, List, [], ◌∷◌, ◌++◌, Bor, map, length, get_or, take, drop, refl, sym, ap, ◌∙◌, append_assoc, append-nil, add-one, drop-cons, Result}
 use Rattle.std.specs.List.{concat, flat_map}
 use Rattle.std.proofs.lemmas.List.{take_more, take-append-drop}
 use Rattle.std.specs.Result.{IsErrAnd}
+use Rattle.sabr_model.specs.Devices.{Output}
 use Rattle.sabr_plan.proofs.CanonicalLines.{flat_map-parted}
 use Rattle.sabr_session.specs.Gathering.{HasPut, StopsIn, Puts}
 use Rattle.sabr_session.specs.declared.writing.text_buffer.TextBuffer.{TextBuffer}
@@ -39,15 +40,15 @@ lines-at line all ys n x e h =
     ∙ ap (λ zs. flat_map line zs ++ (line (get_or all n x) ++ rest)) (sym e)
     ∙ ap (λ y. flat_map line ys ++ (line y ++ rest)) (sym h.1)
 
-module _ {W : Type 0} {contents : W → Option (List ℕ)} {failures : W → ℕ} where
+module _ {W : Type 0} {output : W → Output} where
   -- one more piece is put
   pub HasPut-piece : {a b c : TextBuffer W} (xs : List (Bor (List ℕ))) (place : ℕ) (d : Bor (List ℕ)) → place < length xs
-      → HasPut contents failures a (joined (take place xs)) b → HasPut contents failures b (get_or xs place d).now c → HasPut contents failures a (joined (take (place + 1) xs)) c
+      → HasPut output a (joined (take place xs)) b → HasPut output b (get_or xs place d).now c → HasPut output a (joined (take (place + 1) xs)) c
   HasPut-piece xs place d l p q = rw (joined-more xs place d l) (HasPut-append (joined (take place xs)) (get_or xs place d).now p q)
 
   -- the writer failed in one of the pieces
   pub Puts-in_piece : {A E : Type 0} (P : E → Type 0) {a b c : TextBuffer W} (xs : List (Bor (List ℕ))) (place : ℕ) (d : Bor (List ℕ)) (r : Result A E) → place < length xs
-      → IsErrAnd r P → HasPut contents failures a (joined (take place xs)) b → StopsIn contents failures b (b.held.items ++ (get_or xs place d).now) c → Puts contents failures a (joined xs) r c
+      → IsErrAnd r P → HasPut output a (joined (take place xs)) b → StopsIn output b (b.held.items ++ (get_or xs place d).now) c → Puts output a (joined xs) r c
   Puts-in_piece P {c = c} xs place d r l is p q =
       rw (joined-at xs place d l)
       (Puts-after c (joined (take place xs)) ((get_or xs place d).now ++ joined (drop (place + 1) xs)) r p

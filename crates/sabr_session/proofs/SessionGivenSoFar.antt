@@ -1,6 +1,7 @@
 -- What reading a session text leaves, call by call.
-use Rattle.std.proofs.Common.{◌≡◌, ◌≢◌, ℕ, ◌+◌, Bool, true, false, List, [], ◌++◌, ◌⊎◌, inl, inr, sym, ap, ◌∙◌, refl, append_assoc, Option, Result, Ok, Err, IfOk, IfErr}
+use Rattle.std.proofs.Common.{◌≡◌, ◌≢◌, ℕ, ◌+◌, Bool, true, false, List, [], ◌++◌, ◌⊎◌, inl, inr, sym, ap, ◌∙◌, refl, append_assoc, Result, Ok, Err, IfOk, IfErr}
 use Rattle.std.specs.Io.KnownBytes.{Consumes, IsAtEnd}
+use Rattle.sabr_model.specs.Devices.{Input}
 use Rattle.sabr_model.specs.Plan.{TabledPlan}
 use Rattle.sabr_plan.specs.Canonical.{digest_of}
 use Rattle.sabr_plan.proofs.Consumed.{Consumes-append, Consumes-nil}
@@ -14,24 +15,24 @@ use Rattle.sabr_session.proofs.SessionOutcomes.{said_of-outcome, outcome-read}
 use Rattle.sabr_session.proofs.NeverRead.{text_not_read}
 
 -- these bytes were read of a text over the plan that wasn't refused, and whatever comes after them, it comes to the same
-pub record HasGiven (plan : TabledPlan) (calls : ℕ) (old new : Option (List ℕ)) (t : OpenText) : Type 0 where
+pub record HasGiven (plan : TabledPlan) (calls : ℕ) (old new : Input) (t : OpenText) : Type 0 where
   pub given : List ℕ
-  pub consumed : Consumes old new given
+  pub consumed : Consumes old.remaining new.remaining given
   pub over : t.plan ≡ plan
   pub counted : t.calls ≡ calls
   pub same : (more : List ℕ) (ended : Bool) → said_over plan (given ++ more) ended ≡ outcome_of t more ended
   pub fine : outcome_of t [] false ≡ Err fault.Read
 
 -- the text that a feed holds is such
-abbrev pub HasFed : TabledPlan → ℕ → Option (List ℕ) → Option (List ℕ) → Result OpenText SessionFault → Type 0
+abbrev pub HasFed : TabledPlan → ℕ → Input → Input → Result OpenText SessionFault → Type 0
 HasFed plan calls old new (Ok t) = HasGiven plan calls old new t
 HasFed plan calls old new (Err f) = ⊥
 
 -- nothing was read at first
-pub nothing_given : (plan : TabledPlan) (calls : ℕ) (old : Option (List ℕ)) (feed : Result OpenText SessionFault) → feed ≡ Ok (opened_over plan calls) → HasFed plan calls old old feed
+pub nothing_given : (plan : TabledPlan) (calls : ℕ) (old : Input) (feed : Result OpenText SessionFault) → feed ≡ Ok (opened_over plan calls) → HasFed plan calls old old feed
 nothing_given plan calls old feed is = rw is (record {
   given = [];
-  consumed = Consumes-nil old;
+  consumed = Consumes-nil old.remaining;
   over = refl;
   counted = refl;
   same = λ more ended. said_of-outcome plan.plan (digest_of plan.plan) more ended;
@@ -39,13 +40,13 @@ nothing_given plan calls old feed is = rw is (record {
 })
 
 -- one more piece
-pub piece_given : {U : Type 0} (plan : TabledPlan) (calls : ℕ) (old mid new : Option (List ℕ)) (feed next : Result OpenText SessionFault) (piece : List ℕ) (u : U)
-    → HasFed plan calls old mid feed → Consumes mid new piece → IsFed {U = U} feed piece (Ok u) next → HasFed plan calls old new next
+pub piece_given : {U : Type 0} (plan : TabledPlan) (calls : ℕ) (old mid new : Input) (feed next : Result OpenText SessionFault) (piece : List ℕ) (u : U)
+    → HasFed plan calls old mid feed → Consumes mid.remaining new.remaining piece → IsFed {U = U} feed piece (Ok u) next → HasFed plan calls old new next
 piece_given plan calls old mid new (Err f) next piece u was consumed fed = absurd was
 piece_given plan calls old mid new (Ok t) (Err f) piece u was consumed fed = absurd fed
 piece_given plan calls old mid new (Ok t) (Ok s) piece u was consumed fed = record {
   given = was.given ++ piece;
-  consumed = Consumes-append old mid new was.given piece was.consumed consumed;
+  consumed = Consumes-append old.remaining mid.remaining new.remaining was.given piece was.consumed consumed;
   over = fed.plan ∙ was.over;
   counted = fed.calls ∙ was.counted;
   same = λ more ended. ap (λ bytes. said_over plan bytes ended) (append_assoc was.given piece more) ∙ was.same (piece ++ more) ended ∙ fed.same more ended;
@@ -53,12 +54,12 @@ piece_given plan calls old mid new (Ok t) (Ok s) piece u was consumed fed = reco
 }
 
 -- a piece is refused
-pub piece_refused : (plan : TabledPlan) (calls : ℕ) (old mid new : Option (List ℕ)) (feed next : Result OpenText SessionFault) (piece : List ℕ) (before after : ℕ) (f : SessionFault)
-    → HasFed plan calls old mid feed → Consumes mid new piece → after ≡ before → IsFed {U = Unit {0}} feed piece (Err f) next → ReadsSession plan old before (Err f) new after
-piece_refused plan calls old mid new (Err g) next piece before after f was consumed fine fed = absurd was
-piece_refused plan calls old mid new (Ok t) next piece before after f was consumed fine fed = record {
+pub piece_refused : (plan : TabledPlan) (calls : ℕ) (old mid new : Input) (feed next : Result OpenText SessionFault) (piece : List ℕ) (f : SessionFault)
+    → HasFed plan calls old mid feed → Consumes mid.remaining new.remaining piece → new.failures ≡ old.failures → IsFed {U = Unit {0}} feed piece (Err f) next → ReadsSession plan old (Err f) new
+piece_refused plan calls old mid new (Err g) next piece f was consumed fine fed = absurd was
+piece_refused plan calls old mid new (Ok t) next piece f was consumed fine fed = record {
   given = was.given ++ piece;
-  consumed = Consumes-append old mid new was.given piece was.consumed consumed;
+  consumed = Consumes-append old.remaining mid.remaining new.remaining was.given piece was.consumed consumed;
   told = inr (inr (fine, for_good fed.1));
 }
   where
@@ -68,26 +69,26 @@ piece_refused plan calls old mid new (Ok t) next piece before after f was consum
         inr (other, λ more ended. ap (λ bytes. said_over plan bytes ended) (append_assoc was.given piece more) ∙ was.same (piece ++ more) ended ∙ refused more ended)
 
 -- the reader ended
-pub reader_ended : (plan : TabledPlan) (calls : ℕ) (old mid new : Option (List ℕ)) (feed : Result OpenText SessionFault) (before after : ℕ) (answer : Result Seen SessionFault)
-    → HasFed plan calls old mid feed → Consumes mid new [] → IsAtEnd new → after ≡ before → IsFinished feed answer → ReadsSession plan old before answer new after
-reader_ended plan calls old mid new (Err f) before after answer was consumed end fine finished = absurd was
-reader_ended plan calls old mid new (Ok t) before after answer was consumed end fine finished = record {
+pub reader_ended : (plan : TabledPlan) (calls : ℕ) (old mid new : Input) (feed : Result OpenText SessionFault) (answer : Result Seen SessionFault)
+    → HasFed plan calls old mid feed → Consumes mid.remaining new.remaining [] → IsAtEnd new.remaining → new.failures ≡ old.failures → IsFinished feed answer → ReadsSession plan old answer new
+reader_ended plan calls old mid new (Err f) answer was consumed end fine finished = absurd was
+reader_ended plan calls old mid new (Ok t) answer was consumed end fine finished = record {
   given = was.given ++ [];
-  consumed = Consumes-append old mid new was.given [] was.consumed consumed;
+  consumed = Consumes-append old.remaining mid.remaining new.remaining was.given [] was.consumed consumed;
   told = inl (end, fine, rw (was.same [] true, ← was.over) finished);
 }
 
 -- and the session's finder was called as often as the one handed in
-pub calls_kept : (plan : TabledPlan) (calls : ℕ) (old new : Option (List ℕ)) (feed : Result OpenText SessionFault) (answer : Result Seen SessionFault)
+pub calls_kept : (plan : TabledPlan) (calls : ℕ) (old new : Input) (feed : Result OpenText SessionFault) (answer : Result Seen SessionFault)
     → HasFed plan calls old new feed → IfOk feed (λ t. IfOk answer (λ s. s.calls ≡ t.calls)) → IfOk answer (λ s. s.calls ≡ calls)
 calls_kept plan calls old new (Err f) answer was told = absurd was
 calls_kept plan calls old new (Ok t) (Err f) was told = tt
 calls_kept plan calls old new (Ok t) (Ok s) was told = told ∙ was.counted
 
 -- the fault of a session is Read only if its reader failed
-pub read_failed : (plan : TabledPlan) (old : Option (List ℕ)) (before : ℕ) (answer : Result Seen SessionFault) (new : Option (List ℕ)) (after : ℕ) → ReadsSession plan old before answer new after → IfErr answer (λ f. f ≡ fault.Read → after ≡ before + 1)
-read_failed plan old before (Ok s) new after reads = tt
-read_failed plan old before (Err f) new after reads = λ e.
+pub read_failed : (plan : TabledPlan) (old : Input) (answer : Result Seen SessionFault) (new : Input) → ReadsSession plan old answer new → IfErr answer (λ f. f ≡ fault.Read → new.failures ≡ old.failures + 1)
+read_failed plan old (Ok s) new reads = tt
+read_failed plan old (Err f) new reads = λ e.
     elim reads.told [
       | inl (end, fine, inl memory) ↦ absurd (no_memory (sym memory ∙ e))
       | inl (end, fine, inr from) ↦ absurd (not_from reads.given e (said_over plan reads.given true) refl from)

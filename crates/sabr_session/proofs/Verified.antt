@@ -1,5 +1,6 @@
 -- The texts of places are those that are read as a state of their place.
-use Rattle.std.proofs.Common.{◌≡◌, ℕ, ◌+◌, arith, Bool, true, false, ◌⊎◌, inl, inr, ◌↔◌, List, ◌++◌, refl, sym, subst, ap, ◌∙◌, Option, Result, Ok, Err}
+use Rattle.std.proofs.Common.{◌≡◌, ℕ, ◌+◌, arith, Bool, true, false, ◌⊎◌, inl, inr, ◌↔◌, List, ◌++◌, refl, sym, subst, ap, ◌∙◌, Result, Ok, Err}
+use Rattle.sabr_model.specs.Devices.{Input}
 use Rattle.sabr_model.specs.Plan.{ContactPlan, TabledPlan, IsPlan}
 use Rattle.sabr_model.specs.Arrival.{RouteRequest}
 use Rattle.sabr_model.specs.Asking.{IsRequest}
@@ -86,13 +87,13 @@ module _ (p : ContactPlan) (good : IsPlan p) where
       refused t formed (inl a) = a.1 formed.closed
       refused t formed (inr b) = b.2 formed
 
-module _ (plan : TabledPlan) (good : IsPlan plan.plan) (old : Option (List ℕ)) (before : ℕ) (new : Option (List ℕ)) (after : ℕ) where
+module _ (plan : TabledPlan) (good : IsPlan plan.plan) (old new : Input) where
   -- a session was read, and certified
-  pub session_verified : (s : Seen) → ReadsSession plan old before (Ok s) new after → IsRequest s.request → (said_yes : Bool) → (said_yes ≡ true ↔ s.state ≡ state_at s.plan.plan s.request s.state.emitted) → VerifiesText plan.plan old before (Ok said_yes) new after
+  pub session_verified : (s : Seen) → ReadsSession plan old (Ok s) new → IsRequest s.request → (said_yes : Bool) → (said_yes ≡ true ↔ s.state ≡ state_at s.plan.plan s.request s.state.emitted) → VerifiesText plan.plan old (Ok said_yes) new
   session_verified s h asked said_yes placed = record { given = h.given; consumed = h.consumed; told = by_end h.told }
     where
-      by_end : EndsText plan h.given before (Ok s) new after ⊎ (BreaksText plan h.given before (Ok s) after ⊎ RefusesText plan h.given before (Ok s) after)
-          → EndsVerified plan.plan h.given before (Ok said_yes) new after ⊎ (BreaksVerified plan.plan h.given before (Ok said_yes) after ⊎ RefusesVerified plan.plan h.given before (Ok said_yes) after)
+      by_end : EndsText plan old h.given (Ok s) new ⊎ (BreaksText plan old h.given (Ok s) new ⊎ RefusesText plan old h.given (Ok s) new)
+          → EndsVerified plan.plan old h.given (Ok said_yes) new ⊎ (BreaksVerified plan.plan old h.given (Ok said_yes) new ⊎ RefusesVerified plan.plan old h.given (Ok said_yes) new)
       by_end (inr (inl bad)) = absurd bad
       by_end (inr (inr bad)) = absurd bad
       by_end (inl e) =
@@ -108,11 +109,11 @@ module _ (plan : TabledPlan) (good : IsPlan plan.plan) (old : Option (List ℕ))
           )
 
   -- reading was refused
-  pub fault_verified : (f : SessionFault) → ReadsSession plan old before (Err f) new after → (f ≡ Read → ⊥) → (f ≡ NoMemory → ⊥) → VerifiesText plan.plan old before (Ok false) new after
+  pub fault_verified : (f : SessionFault) → ReadsSession plan old (Err f) new → (f ≡ Read → ⊥) → (f ≡ NoMemory → ⊥) → VerifiesText plan.plan old (Ok false) new
   fault_verified f h other known = record { given = h.given; consumed = h.consumed; told = by_end h.told }
     where
-      by_end : EndsText plan h.given before (Err f) new after ⊎ (BreaksText plan h.given before (Err f) after ⊎ RefusesText plan h.given before (Err f) after)
-          → EndsVerified plan.plan h.given before (Ok false) new after ⊎ (BreaksVerified plan.plan h.given before (Ok false) after ⊎ RefusesVerified plan.plan h.given before (Ok false) after)
+      by_end : EndsText plan old h.given (Err f) new ⊎ (BreaksText plan old h.given (Err f) new ⊎ RefusesText plan old h.given (Err f) new)
+          → EndsVerified plan.plan old h.given (Ok false) new ⊎ (BreaksVerified plan.plan old h.given (Ok false) new ⊎ RefusesVerified plan.plan old h.given (Ok false) new)
       by_end (inl e) = elim e.2 [
         | inl memory ↦ absurd (known memory)
         | inr told ↦ inl (e.0, e.1, ((λ t. absurd cc), (λ x. absurd (place_accepted plan.plan good h.given f x told))))
@@ -124,14 +125,14 @@ module _ (plan : TabledPlan) (good : IsPlan plan.plan) (old : Option (List ℕ))
       ]
 
   -- the reader failed
-  pub break_verified : (f : SessionFault) → ReadsSession plan old before (Err f) new after → f ≡ Read → VerifiesText plan.plan old before (Err Read) new after
+  pub break_verified : (f : SessionFault) → ReadsSession plan old (Err f) new → f ≡ Read → VerifiesText plan.plan old (Err Read) new
   break_verified f h is = record { given = h.given; consumed = h.consumed; told = by_end h.told }
     where
-      by_end : EndsText plan h.given before (Err f) new after ⊎ (BreaksText plan h.given before (Err f) after ⊎ RefusesText plan h.given before (Err f) after)
-          → EndsVerified plan.plan h.given before (Err Read) new after ⊎ (BreaksVerified plan.plan h.given before (Err Read) after ⊎ RefusesVerified plan.plan h.given before (Err Read) after)
+      by_end : EndsText plan old h.given (Err f) new ⊎ (BreaksText plan old h.given (Err f) new ⊎ RefusesText plan old h.given (Err f) new)
+          → EndsVerified plan.plan old h.given (Err Read) new ⊎ (BreaksVerified plan.plan old h.given (Err Read) new ⊎ RefusesVerified plan.plan old h.given (Err Read) new)
       by_end (inl e) =
-          let failed : after ≡ before + 1 = read_failed plan old before (Err f) new after h is in
-          let fine : after ≡ before = e.1 in
+          let failed : new.failures ≡ old.failures + 1 = read_failed plan old (Err f) new h is in
+          let fine : new.failures ≡ old.failures = e.1 in
           absurd (omega (arith, failed, fine))
       by_end (inr (inl e)) = inr (inl (e.0, refl, e.2 ∙ ap Err is))
       by_end (inr (inr e)) = elim e.1 [

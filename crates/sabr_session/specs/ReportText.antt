@@ -2,12 +2,12 @@
 use Rattle.std.specs.Prelude.{ℕ, ◌+◌, ◌≤◌, Bool, List, [], ◌∷◌, ◌++◌, length, decimal, codes, if◌then◌else◌}
 use Rattle.std.specs.List.{concat}
 use Rattle.sabr_model.specs.Record.{RouteRecord}
-use Rattle.sabr_plan.specs.Times.{time_text_of}
+use Rattle.sabr_plan.specs.Times.{last_spelled, time_text_of}
 use Rattle.sabr_session.specs.SpacedNumbers.{spaced_by}
 
 -- both times of a route can be spelled, since they lie before the end of year 9999
 abbrev pub HasSpelledTimes : RouteRecord → Type 0
-HasSpelledTimes r = (r.delivery ≤ 253402300799) × (r.until ≤ 253402300799)
+HasSpelledTimes r = (r.delivery ≤ last_spelled) × (r.until ≤ last_spelled)
 
 -- a route's line up to the numbers of its contacts, in pieces
 abbrev pub told_pieces : RouteRecord → List (List ℕ)

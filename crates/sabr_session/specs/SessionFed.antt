@@ -69,9 +69,21 @@ IsFed (Ok t) piece (Err f) new = (new ≡ Err f) × IsRefusedPiece t piece f
 IsFed (Err g) piece (Ok _) new = ⊥
 IsFed (Err g) piece (Err f) new = (f ≡ g) × (new ≡ Err g)
 
+-- the most lines of a text: six before the parts, at most 2 ^ 64 - 1 parts, and `end`
+abbrev pub most_lines : ℕ
+most_lines = 18446744073709551622
+
+-- the bytes of a longest line, with its LF
+abbrev pub line_weight : ℕ
+line_weight = 660009
+
 -- it grows with each byte
 abbrev pub weight : OpenText → ℕ
-weight t = 660009 * t.fed.lines + length t.fed.held
+weight t = line_weight * t.fed.lines + length t.fed.held
+
+-- no text reaches it
+abbrev pub weight_bound : ℕ
+weight_bound = line_weight * (most_lines + 1)
 
 abbrev pub weight_of : Result OpenText SessionFault → ℕ
 weight_of (Ok t) = weight t

@@ -1,6 +1,7 @@
 -- What reading a session text leaves.
-use Rattle.std.specs.Prelude.{◌≡◌, ◌≢◌, ℕ, ◌+◌, Bool, true, false, List, ◌++◌, Result, Ok, Err, Option, ◌⊎◌}
+use Rattle.std.specs.Prelude.{◌≡◌, ◌≢◌, ℕ, ◌+◌, Bool, true, false, List, ◌++◌, Result, Ok, Err, ◌⊎◌}
 use Rattle.std.specs.Io.KnownBytes.{Consumes, IsAtEnd}
+use Rattle.sabr_model.specs.Devices.{Input}
 use Rattle.sabr_model.specs.Plan.{TabledPlan}
 use Rattle.sabr_plan.specs.Canonical.{digest_of}
 use Rattle.sabr_frontier.specs.Session.{Seen}
@@ -14,22 +15,22 @@ abbrev pub said_over : TabledPlan → List ℕ → Bool → Result Said SessionF
 said_over plan bytes ended = said_of plan.plan (digest_of plan.plan) bytes ended
 
 -- the reader ended after these bytes, and they are the text
-abbrev pub EndsText : TabledPlan → List ℕ → ℕ → Result Seen SessionFault → Option (List ℕ) → ℕ → Type 0
-EndsText plan given before answer new after = IsAtEnd new × (after ≡ before) × IsSessionFrom plan (said_over plan given true) answer
+abbrev pub EndsText : TabledPlan → Input → List ℕ → Result Seen SessionFault → Input → Type 0
+EndsText plan old given answer new = IsAtEnd new.remaining × (new.failures ≡ old.failures) × IsSessionFrom plan (said_over plan given true) answer
 
 -- the reader failed after these bytes, which have no fault
-abbrev pub BreaksText : TabledPlan → List ℕ → ℕ → Result Seen SessionFault → ℕ → Type 0
-BreaksText plan given before (Ok s) after = ⊥
-BreaksText plan given before (Err f) after = (after ≡ before + 1) × (f ≡ Read) × (said_over plan given false ≡ Err f)
+abbrev pub BreaksText : TabledPlan → Input → List ℕ → Result Seen SessionFault → Input → Type 0
+BreaksText plan old given (Ok s) new = ⊥
+BreaksText plan old given (Err f) new = (new.failures ≡ old.failures + 1) × (f ≡ Read) × (said_over plan given false ≡ Err f)
 
 -- these bytes are refused whatever follows them, or memory was
-abbrev pub RefusesText : TabledPlan → List ℕ → ℕ → Result Seen SessionFault → ℕ → Type 0
-RefusesText plan given before (Ok s) after = ⊥
-RefusesText plan given before (Err f) after =
-    (after ≡ before) × ((f ≡ NoMemory) ⊎ ((f ≢ Read) × ((more : List ℕ) (ended : Bool) → said_over plan (given ++ more) ended ≡ Err f)))
+abbrev pub RefusesText : TabledPlan → Input → List ℕ → Result Seen SessionFault → Input → Type 0
+RefusesText plan old given (Ok s) new = ⊥
+RefusesText plan old given (Err f) new =
+    (new.failures ≡ old.failures) × ((f ≡ NoMemory) ⊎ ((f ≢ Read) × ((more : List ℕ) (ended : Bool) → said_over plan (given ++ more) ended ≡ Err f)))
 
 -- these bytes were read, and the answer is that of their text
-pub record ReadsSession (plan : TabledPlan) (old : Option (List ℕ)) (before : ℕ) (answer : Result Seen SessionFault) (new : Option (List ℕ)) (after : ℕ) : Type 0 where
+pub record ReadsSession (plan : TabledPlan) (old : Input) (answer : Result Seen SessionFault) (new : Input) : Type 0 where
   pub given : List ℕ
-  pub consumed : Consumes old new given
-  pub told : EndsText plan given before answer new after ⊎ (BreaksText plan given before answer after ⊎ RefusesText plan given before answer after)
+  pub consumed : Consumes old.remaining new.remaining given
+  pub told : EndsText plan old given answer new ⊎ (BreaksText plan old given answer new ⊎ RefusesText plan old given answer new)

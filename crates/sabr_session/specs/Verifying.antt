@@ -1,6 +1,7 @@
 -- Which bytes are the text of a place in the list of all routes, and what verifying a text leaves.
-use Rattle.std.specs.Prelude.{◌≡◌, ◌≢◌, ℕ, ◌+◌, ◌≤◌, Bool, false, IsTrue, ◌↔◌, ◌⊎◌, List, ◌++◌, length, Option, Result, Ok, Err}
+use Rattle.std.specs.Prelude.{◌≡◌, ◌≢◌, ℕ, ◌+◌, ◌≤◌, Bool, false, IsTrue, ◌↔◌, ◌⊎◌, List, ◌++◌, length, Result, Ok, Err}
 use Rattle.std.specs.Io.KnownBytes.{Consumes, IsAtEnd}
+use Rattle.sabr_model.specs.Devices.{Input}
 use Rattle.sabr_model.specs.Plan.{ContactPlan}
 use Rattle.sabr_model.specs.Arrival.{RouteRequest}
 use Rattle.sabr_model.specs.Asking.{IsRequest}
@@ -22,13 +23,13 @@ pub record IsSessionText (p : ContactPlan) (bytes : List ℕ) : Type 0 where
   pub spelled : (bytes ≡ session_text p request place) ⊎ (IsUnlimited request × (bytes ≡ old_session_text p request place))
 
 -- the reader ended after these bytes: yes exactly if they are such a text, or memory was refused
-abbrev pub EndsVerified : ContactPlan → List ℕ → ℕ → Result Bool SessionFault → Option (List ℕ) → ℕ → Type 0
-EndsVerified p given before (Ok placed) new after = IsAtEnd new × (after ≡ before) × (IsTrue placed ↔ IsSessionText p given)
-EndsVerified p given before (Err f) new after = (after ≡ before) × (f ≡ NoMemory)
+abbrev pub EndsVerified : ContactPlan → Input → List ℕ → Result Bool SessionFault → Input → Type 0
+EndsVerified p old given (Ok placed) new = IsAtEnd new.remaining × (new.failures ≡ old.failures) × (IsTrue placed ↔ IsSessionText p given)
+EndsVerified p old given (Err f) new = (new.failures ≡ old.failures) × (f ≡ NoMemory)
 
 -- the reader failed after these bytes, which have no fault
-abbrev pub BreaksVerified : ContactPlan → List ℕ → ℕ → Result Bool SessionFault → ℕ → Type 0
-BreaksVerified p given before answer after = (after ≡ before + 1) × (answer ≡ Err Read) × (said_of p (digest_of p) given false ≡ Err Read)
+abbrev pub BreaksVerified : ContactPlan → Input → List ℕ → Result Bool SessionFault → Input → Type 0
+BreaksVerified p old given answer new = (new.failures ≡ old.failures + 1) × (answer ≡ Err Read) × (said_of p (digest_of p) given false ≡ Err Read)
 
 -- these bytes have a fault, whatever follows them
 pub record HasFault (p : ContactPlan) (given : List ℕ) : Type 0 where
@@ -37,12 +38,12 @@ pub record HasFault (p : ContactPlan) (given : List ℕ) : Type 0 where
   pub told : (more : List ℕ) (ended : Bool) → said_of p (digest_of p) (given ++ more) ended ≡ Err fault
 
 -- these bytes have a fault, and begin no such text, or memory was refused
-abbrev pub RefusesVerified : ContactPlan → List ℕ → ℕ → Result Bool SessionFault → ℕ → Type 0
-RefusesVerified p given before (Ok placed) after = (after ≡ before) × (placed ≡ false) × HasFault p given × ((more : List ℕ) → IsSessionText p (given ++ more) → ⊥)
-RefusesVerified p given before (Err f) after = (after ≡ before) × (f ≡ NoMemory)
+abbrev pub RefusesVerified : ContactPlan → Input → List ℕ → Result Bool SessionFault → Input → Type 0
+RefusesVerified p old given (Ok placed) new = (new.failures ≡ old.failures) × (placed ≡ false) × HasFault p given × ((more : List ℕ) → IsSessionText p (given ++ more) → ⊥)
+RefusesVerified p old given (Err f) new = (new.failures ≡ old.failures) × (f ≡ NoMemory)
 
 -- these bytes were read, and the answer is that to their text
-pub record VerifiesText (p : ContactPlan) (old : Option (List ℕ)) (before : ℕ) (answer : Result Bool SessionFault) (new : Option (List ℕ)) (after : ℕ) : Type 0 where
+pub record VerifiesText (p : ContactPlan) (old : Input) (answer : Result Bool SessionFault) (new : Input) : Type 0 where
   pub given : List ℕ
-  pub consumed : Consumes old new given
-  pub told : EndsVerified p given before answer new after ⊎ (BreaksVerified p given before answer after ⊎ RefusesVerified p given before answer after)
+  pub consumed : Consumes old.remaining new.remaining given
+  pub told : EndsVerified p old given answer new ⊎ (BreaksVerified p old given answer new ⊎ RefusesVerified p old given answer new)

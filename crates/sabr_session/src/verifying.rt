@@ -29,7 +29,7 @@ pub fn verify<R: Read, B: BestOf<A>, A: Allocator + Copy>(
     finder: B,
 ) -> Result<bool, SessionFault>
     requires { digest.now ≡ digest_of plan.now.plan }
-    ensures { VerifiesText plan.now.plan (R.remaining reader.old) (R.failures reader.old) result (R.remaining reader.new) (R.failures reader.new) }
+    ensures { VerifiesText plan.now.plan (R.input reader.old) result (R.input reader.new) }
 {
     plan.tell_rules();
     match read_session(alloc, reader, plan, digest, finder) {

@@ -1,6 +1,7 @@
 -- A next run over the session text of a place writes the page from there on.
 use Rattle.std.proofs.Common.{◌≡◌, ℕ, ◌+◌, Bool, true, List, ◌++◌, length, map, append-nil, refl, sym, ap, subst, ◌∙◌, ◌⊎◌, inl, inr, Option, Some, None, Result, Ok, Err}
 use Rattle.std.specs.Io.KnownBytes.{Consumes, IsAtEnd}
+use Rattle.sabr_model.specs.Devices.{Input, Output}
 use Rattle.sabr_model.specs.Plan.{TabledPlan, IsPlan}
 use Rattle.sabr_model.specs.Arrival.{RouteRequest}
 use Rattle.sabr_model.specs.Listing.{page_of}
@@ -21,7 +22,6 @@ use Rattle.sabr_session.proofs.OneAnswer.{answers_once}
 use Rattle.commands.specs.declared.failure.Failure.{Failure}
 use Rattle.commands.specs.declared.failure.Failure.TheVariants as failure
 use Rattle.commands.specs.texts.Messages.{failure_of_session}
-use Rattle.commands.specs.runs.Runs.{Untouched}
 use Rattle.commands.specs.runs.SessionRuns.{WritesNextPage, WritesPage, next_report, report_behind, kept_text, place_of}
 use Rattle.commands.specs.runs.NextPage.{report_from, text_after, NextGoesOn}
 use Rattle.commands.proofs.RunLemmas.RunsFollow.{next_within, text_begins}
@@ -54,19 +54,19 @@ module _ (p : TabledPlan) (bytes : List ℕ) (good : IsPlan p.plan) (text : IsSe
   all_read : (given : List ℕ) (answer : Result (RouteRequest × State) SessionFault) → given ≡ bytes → ComesTo p.plan (said_over p given true) answer → answer ≡ Ok place
   all_read given answer all is = one_place answer (subst (λ b. IsSessionOf p.plan (digest_of p.plan) b true answer) all is)
 
-  is_read_to : (before : ℕ) (told : Result Seen SessionFault) (left : Option (List ℕ)) (after : ℕ) → ReadsSession p (Some bytes) before told left after → IsReadTo before (place_of told) after
-  is_read_to before (Ok s) left after h = elim h.told [
-    | inl (end, fine, from) ↦ let is = all_read h.given (Ok (s.request, s.state)) (none_more bytes h.given left h.consumed end) from.1 in cc
+  is_read_to : (reader : Input) (told : Result Seen SessionFault) (reader₁ : Input) → reader.remaining ≡ Some bytes → ReadsSession p reader told reader₁ → IsReadTo reader.failures (place_of told) reader₁.failures
+  is_read_to reader (Ok s) reader₁ has h = elim h.told [
+    | inl (end, fine, from) ↦ let is = all_read h.given (Ok (s.request, s.state)) (none_more bytes h.given reader₁.remaining (rw has at h.consumed) end) from.1 in cc
     | inr (inl broken) ↦ absurd broken
     | inr (inr refused) ↦ absurd refused
   ]
-  is_read_to before (Err f) left after h = elim h.told [
+  is_read_to reader (Err f) reader₁ has h = elim h.told [
     | inl (end, fine, inl memory) ↦ inl memory
-    | inl (end, fine, inr is) ↦ let other = all_read h.given (Err f) (none_more bytes h.given left h.consumed end) is in absurd cc
+    | inl (end, fine, inr is) ↦ let other = all_read h.given (Err f) (none_more bytes h.given reader₁.remaining (rw has at h.consumed) end) is in absurd cc
     | inr (inl (failed, is, broken)) ↦ inr (is, failed)
     | inr (inr (fine, inl memory)) ↦ inl memory
     | inr (inr (fine, inr (not_read, refused))) ↦
-        let more = some_more bytes h.given left h.consumed in
+        let more = some_more bytes h.given reader₁.remaining (rw has at h.consumed) in
         let is : ComesTo p.plan (said_over p (h.given ++ more.0) true) (Err f) = subst (λ (o : Result Said SessionFault). ComesTo p.plan o (Err f)) (sym (refused more.0 true)) refl in
         let other = all_read (h.given ++ more.0) (Err f) more.1 is in
         absurd cc
@@ -87,17 +87,16 @@ module _ (p : TabledPlan) (bytes : List ℕ) (good : IsPlan p.plan) (text : IsSe
   text_is : (keep : Bool) (count : ℕ) → kept_text keep p.plan place.0 (steps p.plan place.0 count place.1).1 ≡ text_after keep p.plan text.request text.place count
   text_is keep count = ap (λ (w : List (List ℕ) × State). kept_text keep p.plan text.request w.1) (page_is count)
 
-  module _ (keep : Bool) (count : ℕ) (end : Result (Unit {0}) Failure) (old : Option (List ℕ)) (before : ℕ) (new : Option (List ℕ)) (after : ℕ) (flushed : Bool)
-      (old₁ : Option (List ℕ)) (before₁ : ℕ) (new₁ : Option (List ℕ)) (after₁ : ℕ) (flushed₁ : Bool) where
+  module _ (keep : Bool) (count : ℕ) (end : Result (Unit {0}) Failure) (old new old₁ new₁ : Output) where
     abbrev Leaves : List ℕ → List ℕ → Result (Unit {0}) Failure → Type 0
-    Leaves report kept end = WritesPage keep report kept end old before new after flushed old₁ before₁ new₁ after₁ flushed₁
+    Leaves report kept end = WritesPage keep report kept end old new old₁ new₁
 
     abbrev Runs : Result (RouteRequest × State) SessionFault → Type 0
-    Runs answer = WritesNextPage (Ok p) answer keep count end old before new after flushed old₁ before₁ new₁ after₁ flushed₁
+    Runs answer = WritesNextPage (Ok p) answer keep count end old new old₁ new₁
 
     by_answer : (faults faults_then : ℕ) (answer : Result (RouteRequest × State) SessionFault) → IsReadTo faults answer faults_then → Runs answer
         → Leaves (report_from p.plan text.request text.place count) (text_after keep p.plan text.request text.place count) end
-        ⊎ ((faults_then ≡ faults + 1) × (end ≡ Err failure.SessionRead) × Untouched old before new after × Untouched old₁ before₁ new₁ after₁)
+        ⊎ ((faults_then ≡ faults + 1) × (end ≡ Err failure.SessionRead) × (new ≡ old) × (new₁ ≡ old₁))
     by_answer faults faults_then (Ok x) is run =
         let from : Leaves (next_report p.plan place.0 place.1 count) (kept_text keep p.plan place.0 (steps p.plan place.0 count place.1).1) end = subst (λ (w : RouteRequest × State). Runs (Ok w)) is run in
         let reported = subst (λ (r : List ℕ). Leaves r (kept_text keep p.plan place.0 (steps p.plan place.0 count place.1).1) end) (report_is count) from in
@@ -111,5 +110,5 @@ module _ (p : TabledPlan) (bytes : List ℕ) (good : IsPlan p.plan) (text : IsSe
 
 -- every next run over such a text goes on from its place
 pub next_goes_on : NextGoesOn
-next_goes_on p bytes good text faults told left faults_then reads keep count end old before new after flushed old₁ before₁ new₁ after₁ flushed₁ =
-    by_answer p bytes good text keep count end old before new after flushed old₁ before₁ new₁ after₁ flushed₁ faults faults_then (place_of told) (is_read_to p bytes good text faults told left faults_then reads)
+next_goes_on p bytes good text reader told reader₁ has reads keep count end old new old₁ new₁ =
+    by_answer p bytes good text keep count end old new old₁ new₁ reader.failures reader₁.failures (place_of told) (is_read_to p bytes good text reader told reader₁ has reads)

@@ -1,10 +1,10 @@
 -- What a page leaves on its two writers, from what each step of writing it left.
-use Rattle.std.proofs.Common.{◌≡◌, ℕ, ◌+◌, Bool, List, [], Option, Result, Ok, Err, map, refl, sym, ap, ◌∙◌, append-nil, inl, inr}
+use Rattle.std.proofs.Common.{◌≡◌, ℕ, ◌+◌, Bool, List, [], Result, Ok, Err, map, refl, sym, ap, ◌∙◌, append-nil, inl, inr}
 use Rattle.std.specs.Prelude.{is_some, IsTrue}
 use Rattle.std.specs.Result.{IsErrAnd}
 use Rattle.std.specs.Io.KnownBytes.{Keeps}
 use Rattle.std.proofs.KnownBytes.{Appends-kept}
-use Rattle.sabr_model.specs.Devices.{Written, WrittenAndFlushed, WrittenInPart}
+use Rattle.sabr_model.specs.Devices.{Output, Written, WrittenAndFlushed, WrittenInPart}
 use Rattle.sabr_model.specs.Record.{RouteRecord, record_of}
 use Rattle.sabr_frontier.specs.Listing.{steps, next_route}
 use Rattle.sabr_frontier.specs.Session.{Seen}
@@ -16,8 +16,8 @@ use Rattle.commands.specs.declared.failure.Failure.TheVariants as failure
 use Rattle.commands.specs.runs.SessionRuns.{next_report, WritesPage}
 
 -- a text was written, and then its flush failed
-pub flush_failed : (a b c : Option (List ℕ)) (k m n : ℕ) (text : List ℕ) → Written a k text b m → Keeps b c → n ≡ m + 1 → WrittenInPart a k text c n
-flush_failed a b c k m n text p q e = ((text, ([], sym (append-nil text)), Appends-kept a b c text p.0 q), e ∙ ap (λ j. j + 1) p.1)
+pub flush_failed : (a b c : Output) (text : List ℕ) → Written a text b → Keeps b.contents c.contents → c.failures ≡ b.failures + 1 → WrittenInPart a text c
+flush_failed a b c text p q e = ((text, ([], sym (append-nil text)), Appends-kept a.contents b.contents c.contents text p.0 q), e ∙ ap (λ j. j + 1) p.1)
 
 -- the report of a page, from the session before it and the session after it
 pub report_of_page : (before behind : Seen) (k : ℕ) (routes : List RouteRecord) (rank : ℕ) (more : Bool)
@@ -36,14 +36,13 @@ pub text_behind : (before behind : Seen) (k : ℕ) → behind.plan ≡ before.pl
 text_behind before behind k plan request state = rw (plan, request, state) refl
 
 -- the report's writer failed: nothing is left on the session's
-pub report_failed : (keep : Bool) (report text : List ℕ) (end : Result (Unit {0}) Failure) (a c : Option (List ℕ)) (k n : ℕ) (f : Bool) (b : Option (List ℕ)) (m : ℕ) (g : Bool)
-    → IsErrAnd end (λ e. e ≡ failure.Write) → WrittenInPart a k report c n → WritesPage keep report text end a k c n f b m b m g
-report_failed keep report text (Ok _) a c k n f b m g bad h = absurd bad
-report_failed keep report text (Err e) a c k n f b m g is h = rw is (inl (h, (refl, refl)))
+pub report_failed : (keep : Bool) (report text : List ℕ) (end : Result (Unit {0}) Failure) (a c b : Output)
+    → IsErrAnd end (λ e. e ≡ failure.Write) → WrittenInPart a report c → WritesPage keep report text end a c b b
+report_failed keep report text (Ok _) a c b bad h = absurd bad
+report_failed keep report text (Err e) a c b is h = rw is (inl (h, refl))
 
 -- the session's writer failed, after the report
-pub session_failed : (keep : Bool) (report text : List ℕ) (end : Result (Unit {0}) Failure) (a c : Option (List ℕ)) (k n : ℕ) (f : Bool) (b d : Option (List ℕ)) (m j : ℕ) (g : Bool)
-    → IsErrAnd end (λ e. e ≡ failure.Write) → IsTrue keep → WrittenAndFlushed a k report c n f → WrittenInPart b m text d j
-    → WritesPage keep report text end a k c n f b m d j g
-session_failed keep report text (Ok _) a c k n f b d m j g bad kept h i = absurd bad
-session_failed keep report text (Err e) a c k n f b d m j g is kept h i = rw is (inr (kept, h, i))
+pub session_failed : (keep : Bool) (report text : List ℕ) (end : Result (Unit {0}) Failure) (a c b d : Output)
+    → IsErrAnd end (λ e. e ≡ failure.Write) → IsTrue keep → WrittenAndFlushed a report c → WrittenInPart b text d → WritesPage keep report text end a c b d
+session_failed keep report text (Ok _) a c b d bad kept h i = absurd bad
+session_failed keep report text (Err e) a c b d is kept h i = rw is (inr (kept, h, i))

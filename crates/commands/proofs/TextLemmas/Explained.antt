@@ -20,6 +20,7 @@ use Rattle.sabr_model.specs.Fault.{contact_fault, fault_at, fault_or, first_faul
 use Rattle.sabr_model.proofs.Paths.{beginning_is_path, hop_facts, arrival_after_push}
 use Rattle.sabr_model.proofs.Prefixes.{empty_is_path}
 use Rattle.sabr_model.proofs.Faults.{hop_is_good, good_is_path, path_is_good, route_has_no_fault, fault_is_no_route}
+use Rattle.sabr_plan.specs.Times.{last_spelled}
 use Rattle.sabr_session.specs.ReportText.{route_line}
 use Rattle.commands.specs.texts.Explanation.{hop_line, line_behind, hop_lines, fault_line, ending_line}
 use Rattle.commands.specs.texts.Followed.{hops_before, Follows}
@@ -215,10 +216,10 @@ ending_of_route p r s d route there =
 
 -- the delivery of a route and its termination time can be spelled
 pub ends_in_spelled_time : (p : ContactPlan) (r : RouteRequest) (s : List ℕ) (d : ℕ) → IsPlan p → IsRequest r → arrival_after p r r.at s ≡ Some d
-    → (d ≤ 253402300799) × (until_of p s ≤ 253402300799)
+    → (d ≤ last_spelled) × (until_of p s ≤ last_spelled)
 ends_in_spelled_time p r s d rules limits there =
     let spelled = record_spelled p r s rules limits in
-    (subst (λ o. unwrap_or o 0 ≤ 253402300799) there spelled.0, spelled.1)
+    (subst (λ o. unwrap_or o 0 ≤ last_spelled) there spelled.0, spelled.1)
 
 -- following answers whether the list is a route
 pub answered : (p : ContactPlan) (r : RouteRequest) (s : List ℕ) (o : Result ℕ HopFault) → Follows p r s o → is_ok o ≡ is_route p r s

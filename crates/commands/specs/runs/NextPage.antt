@@ -1,5 +1,6 @@
 -- What a run `next` leaves over the session text of a place of the listing.
-use Rattle.std.specs.Prelude.{◌≡◌, ℕ, ◌+◌, nat_lt, Bool, ◌⊎◌, List, [], length, map, Option, Some, Result, Ok, Err, if◌then◌else◌}
+use Rattle.std.specs.Prelude.{◌≡◌, ℕ, ◌+◌, nat_lt, Bool, ◌⊎◌, List, [], length, map, Some, Result, Ok, Err, if◌then◌else◌}
+use Rattle.sabr_model.specs.Devices.{Input, Output}
 use Rattle.sabr_model.specs.Plan.{ContactPlan, TabledPlan, IsPlan}
 use Rattle.sabr_model.specs.Arrival.{RouteRequest}
 use Rattle.sabr_model.specs.Listing.{routes, page_of}
@@ -11,7 +12,6 @@ use Rattle.sabr_session.specs.Verifying.{IsSessionText}
 use Rattle.sabr_session.specs.declared.session_fault.SessionFault.{SessionFault}
 use Rattle.commands.specs.declared.failure.Failure.{Failure}
 use Rattle.commands.specs.declared.failure.Failure.TheVariants as failure
-use Rattle.commands.specs.runs.Runs.{Untouched}
 use Rattle.commands.specs.runs.SessionRuns.{ReadsOldSession, WritesNextPage, WritesPage, place_of}
 
 -- the report of the page from place i on: ranked from i + 1, and whether the listing goes on after it
@@ -27,13 +27,10 @@ text_after keep p r i count = if keep then session_text p r (i + length (page_of
 -- that lists that page; or the reader failed, and nothing is written
 abbrev pub GoesOnFrom : TabledPlan → RouteRequest → ℕ → List ℕ → Type 0
 GoesOnFrom p r i bytes =
-    (faults : ℕ) (told : Result Seen SessionFault) (left : Option (List ℕ)) (faults_then : ℕ) → ReadsOldSession (Ok p) (Some bytes) faults told left faults_then
-    → (keep : Bool) (count : ℕ) (end : Result (Unit {0}) Failure)
-    (old : Option (List ℕ)) (before : ℕ) (new : Option (List ℕ)) (after : ℕ) (flushed : Bool)
-    (old₁ : Option (List ℕ)) (before₁ : ℕ) (new₁ : Option (List ℕ)) (after₁ : ℕ) (flushed₁ : Bool)
-    → WritesNextPage (Ok p) (place_of told) keep count end old before new after flushed old₁ before₁ new₁ after₁ flushed₁
-    → WritesPage keep (report_from p.plan r i count) (text_after keep p.plan r i count) end old before new after flushed old₁ before₁ new₁ after₁ flushed₁
-    ⊎ ((faults_then ≡ faults + 1) × (end ≡ Err failure.SessionRead) × Untouched old before new after × Untouched old₁ before₁ new₁ after₁)
+    (reader : Input) (told : Result Seen SessionFault) (reader₁ : Input) → reader.remaining ≡ Some bytes → ReadsOldSession (Ok p) reader told reader₁
+    → (keep : Bool) (count : ℕ) (end : Result (Unit {0}) Failure) (old new old₁ new₁ : Output) → WritesNextPage (Ok p) (place_of told) keep count end old new old₁ new₁
+    → WritesPage keep (report_from p.plan r i count) (text_after keep p.plan r i count) end old new old₁ new₁
+    ⊎ ((reader₁.failures ≡ reader.failures + 1) × (end ≡ Err failure.SessionRead) × (new ≡ old) × (new₁ ≡ old₁))
 
 -- over every accepted plan, from every session text of a place
 abbrev pub NextGoesOn : Type 0

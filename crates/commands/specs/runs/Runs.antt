@@ -1,5 +1,6 @@
 -- What a run leaves on its writers, over the plan that reading gave.
-use Rattle.std.specs.Prelude.{◌≡◌, ℕ, nat_lt, Bool, List, Result, Ok, Err, Option, map, length, if◌then◌else◌}
+use Rattle.std.specs.Prelude.{◌≡◌, ℕ, nat_lt, Bool, List, Result, Ok, Err, map, length, if◌then◌else◌}
+use Rattle.sabr_model.specs.Devices.{Output}
 use Rattle.sabr_model.specs.Plan.{ContactPlan}
 use Rattle.sabr_model.specs.Arrival.{RouteRequest}
 use Rattle.sabr_model.specs.Listing.{routes, page_of}
@@ -14,10 +15,6 @@ use Rattle.commands.specs.texts.Messages.{message_text, status_of, TellsText}
 abbrev pub first_report : ContactPlan → RouteRequest → ℕ → List ℕ
 first_report p r count = report_text (map (record_of p r) (page_of p r 0 count)) 1 (nat_lt count (length (routes p r)))
 
--- nothing was written, and nothing failed
-abbrev pub Untouched : Option (List ℕ) → ℕ → Option (List ℕ) → ℕ → Type 0
-Untouched old before new after = (new ≡ old) × (after ≡ before)
-
 -- the status of a run that ended so
 abbrev pub status_at : Result (Unit {0}) Failure → Status
 status_at (Ok _) = status.Done
@@ -29,6 +26,6 @@ status_of_answer (Ok answer) = if answer then status.Done else status.No
 status_of_answer (Err f) = status_of f
 
 -- no message for a run that did what was asked of it, and else that of its failure
-abbrev pub TellsEnd : {A : Type 0} → Result A Failure → Option (List ℕ) → ℕ → Option (List ℕ) → ℕ → Type 0
-TellsEnd (Ok _) old before new after = Untouched old before new after
-TellsEnd (Err f) old before new after = TellsText old before (message_text f) new after
+abbrev pub TellsEnd : {A : Type 0} → Result A Failure → Output → Output → Type 0
+TellsEnd (Ok _) old new = new ≡ old
+TellsEnd (Err f) old new = TellsText old (message_text f) new

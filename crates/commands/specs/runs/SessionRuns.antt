@@ -1,10 +1,10 @@
 -- What a run leaves on its writers that keeps a session, goes on from one, or verifies one.
-use Rattle.std.specs.Prelude.{◌≡◌, ℕ, ◌+◌, ◌⊎◌, Bool, is_some, IsTrue, List, [], Result, Ok, Err, Option, map, length, codes, if◌then◌else◌}
+use Rattle.std.specs.Prelude.{◌≡◌, ℕ, ◌+◌, ◌⊎◌, Bool, is_some, IsTrue, List, [], Result, Ok, Err, map, length, codes, if◌then◌else◌}
 use Rattle.sabr_model.specs.Plan.{ContactPlan, TabledPlan}
 use Rattle.sabr_model.specs.Arrival.{RouteRequest}
 use Rattle.sabr_model.specs.Listing.{page_of}
 use Rattle.sabr_model.specs.Record.{record_of}
-use Rattle.sabr_model.specs.Devices.{Written, WrittenAndFlushed, WrittenInPart}
+use Rattle.sabr_model.specs.Devices.{Input, Output, Written, WrittenAndFlushed, WrittenInPart}
 use Rattle.sabr_plan.specs.declared.fault.PlanFault.{PlanFault}
 use Rattle.sabr_frontier.specs.State.{State}
 use Rattle.sabr_frontier.specs.Session.{Seen}
@@ -18,7 +18,7 @@ use Rattle.sabr_session.specs.declared.session_fault.SessionFault.{SessionFault}
 use Rattle.commands.specs.declared.failure.Failure.{Failure}
 use Rattle.commands.specs.declared.failure.Failure.TheVariants as failure
 use Rattle.commands.specs.texts.Messages.{failure_of_plan, failure_of_session}
-use Rattle.commands.specs.runs.Runs.{Untouched, first_report}
+use Rattle.commands.specs.runs.Runs.{first_report}
 
 -- the report of a page that begins after so many routes, and whether a route is left after it
 abbrev pub report_behind : ContactPlan → RouteRequest → ℕ → List (List ℕ) × State → List ℕ
@@ -35,26 +35,23 @@ kept_text keep p r s = if keep then text_of (digest_of p) r s else []
 -- what a page leaves on `out` and on the session's writer: both texts, whole and flushed; or, if one of them failed,
 -- a beginning of the report and no session, or the report, whole and flushed, and a beginning of the session; or nothing
 -- if memory was refused
-abbrev pub WritesPage : Bool → List ℕ → List ℕ → Result (Unit {0}) Failure
-    → Option (List ℕ) → ℕ → Option (List ℕ) → ℕ → Bool → Option (List ℕ) → ℕ → Option (List ℕ) → ℕ → Bool → Type 0
-WritesPage keep report text (Ok _) old before new after flushed old₁ before₁ new₁ after₁ flushed₁ =
-    WrittenAndFlushed old before report new after flushed × Written old₁ before₁ text new₁ after₁ × (IsTrue keep → IsTrue flushed₁)
-WritesPage keep report text (Err failure.Write) old before new after flushed old₁ before₁ new₁ after₁ flushed₁ =
-    (WrittenInPart old before report new after × Untouched old₁ before₁ new₁ after₁)
-    ⊎ (IsTrue keep × WrittenAndFlushed old before report new after flushed × WrittenInPart old₁ before₁ text new₁ after₁)
-WritesPage keep report text (Err failure.NoMemory) old before new after flushed old₁ before₁ new₁ after₁ flushed₁ =
-    Untouched old before new after × Untouched old₁ before₁ new₁ after₁
-WritesPage keep report text (Err _) old before new after flushed old₁ before₁ new₁ after₁ flushed₁ = ⊥
+abbrev pub WritesPage : Bool → List ℕ → List ℕ → Result (Unit {0}) Failure → Output → Output → Output → Output → Type 0
+WritesPage keep report text (Ok _) old new old₁ new₁ =
+    WrittenAndFlushed old report new × Written old₁ text new₁ × (IsTrue keep → IsTrue new₁.flushed)
+WritesPage keep report text (Err failure.Write) old new old₁ new₁ =
+    (WrittenInPart old report new × (new₁ ≡ old₁))
+    ⊎ (IsTrue keep × WrittenAndFlushed old report new × WrittenInPart old₁ text new₁)
+WritesPage keep report text (Err failure.NoMemory) old new old₁ new₁ =
+    (new ≡ old) × (new₁ ≡ old₁)
+WritesPage keep report text (Err _) old new old₁ new₁ = ⊥
 
 -- what a first run leaves over what reading gave: over a plan the report of the first page and the session of the place
 -- that it reaches; nothing if the plan was refused
-abbrev pub WritesFirstPage : Result TabledPlan PlanFault → RouteRequest → Bool → ℕ → Result (Unit {0}) Failure
-    → Option (List ℕ) → ℕ → Option (List ℕ) → ℕ → Bool → Option (List ℕ) → ℕ → Option (List ℕ) → ℕ → Bool → Type 0
-WritesFirstPage (Err fault) r keep count end old before new after flushed old₁ before₁ new₁ after₁ flushed₁ =
-    (end ≡ Err (failure_of_plan fault)) × Untouched old before new after × Untouched old₁ before₁ new₁ after₁
-WritesFirstPage (Ok p) r keep count end old before new after flushed old₁ before₁ new₁ after₁ flushed₁ =
-    WritesPage keep (first_report p.plan r count) (kept_text keep p.plan r (state_at p.plan r (length (page_of p.plan r 0 count)))) end
-    old before new after flushed old₁ before₁ new₁ after₁ flushed₁
+abbrev pub WritesFirstPage : Result TabledPlan PlanFault → RouteRequest → Bool → ℕ → Result (Unit {0}) Failure → Output → Output → Output → Output → Type 0
+WritesFirstPage (Err fault) r keep count end old new old₁ new₁ =
+    (end ≡ Err (failure_of_plan fault)) × (new ≡ old) × (new₁ ≡ old₁)
+WritesFirstPage (Ok p) r keep count end old new old₁ new₁ =
+    WritesPage keep (first_report p.plan r count) (kept_text keep p.plan r (state_at p.plan r (length (page_of p.plan r 0 count)))) end old new old₁ new₁
 
 -- the request and the state of an old session
 abbrev pub place_of : Result Seen SessionFault → Result (RouteRequest × State) SessionFault
@@ -63,21 +60,19 @@ place_of (Err fault) = Err fault
 
 -- an old session is read over what reading the plan gave: if the plan was refused it isn't, and nothing is asked of
 -- the answer
-abbrev pub ReadsOldSession : Result TabledPlan PlanFault → Option (List ℕ) → ℕ → Result Seen SessionFault → Option (List ℕ) → ℕ → Type 0
-ReadsOldSession (Err fault) old before answer new after = Untouched old before new after
-ReadsOldSession (Ok p) old before answer new after = ReadsSession p old before answer new after
+abbrev pub ReadsOldSession : Result TabledPlan PlanFault → Input → Result Seen SessionFault → Input → Type 0
+ReadsOldSession (Err fault) old answer new = new ≡ old
+ReadsOldSession (Ok p) old answer new = ReadsSession p old answer new
 
 -- what a next run leaves over what reading the plan and then the session gave: the report of the steps from that
 -- session's state, and the session of the state that they reach; nothing if either was refused, the plan first
-abbrev pub WritesNextPage : Result TabledPlan PlanFault → Result (RouteRequest × State) SessionFault → Bool → ℕ → Result (Unit {0}) Failure
-    → Option (List ℕ) → ℕ → Option (List ℕ) → ℕ → Bool → Option (List ℕ) → ℕ → Option (List ℕ) → ℕ → Bool → Type 0
-WritesNextPage (Err fault) session keep count end old before new after flushed old₁ before₁ new₁ after₁ flushed₁ =
-    (end ≡ Err (failure_of_plan fault)) × Untouched old before new after × Untouched old₁ before₁ new₁ after₁
-WritesNextPage (Ok p) (Err fault) keep count end old before new after flushed old₁ before₁ new₁ after₁ flushed₁ =
-    (end ≡ Err (failure_of_session fault)) × Untouched old before new after × Untouched old₁ before₁ new₁ after₁
-WritesNextPage (Ok p) (Ok s) keep count end old before new after flushed old₁ before₁ new₁ after₁ flushed₁ =
-    WritesPage keep (next_report p.plan s.0 s.1 count) (kept_text keep p.plan s.0 (steps p.plan s.0 count s.1).1) end
-    old before new after flushed old₁ before₁ new₁ after₁ flushed₁
+abbrev pub WritesNextPage : Result TabledPlan PlanFault → Result (RouteRequest × State) SessionFault → Bool → ℕ → Result (Unit {0}) Failure → Output → Output → Output → Output → Type 0
+WritesNextPage (Err fault) session keep count end old new old₁ new₁ =
+    (end ≡ Err (failure_of_plan fault)) × (new ≡ old) × (new₁ ≡ old₁)
+WritesNextPage (Ok p) (Err fault) keep count end old new old₁ new₁ =
+    (end ≡ Err (failure_of_session fault)) × (new ≡ old) × (new₁ ≡ old₁)
+WritesNextPage (Ok p) (Ok s) keep count end old new old₁ new₁ =
+    WritesPage keep (next_report p.plan s.0 s.1 count) (kept_text keep p.plan s.0 (steps p.plan s.0 count s.1).1) end old new old₁ new₁
 
 -- an answer as a line
 abbrev pub answer_line : Bool → List ℕ
@@ -85,21 +80,20 @@ answer_line answer = if answer then codes "yes\n" else codes "no\n"
 
 -- what is written of a session that was verified: the answer as a line, whole and flushed, or a beginning of it if the
 -- writer failed; nothing if the session's reader failed or memory was refused
-abbrev pub WritesVerified : Result Bool SessionFault → Result Bool Failure → Option (List ℕ) → ℕ → Option (List ℕ) → ℕ → Bool → Type 0
-WritesVerified (Err fault) end old before new after flushed = (end ≡ Err (failure_of_session fault)) × Untouched old before new after
-WritesVerified (Ok answer) (Ok told) old before new after flushed = (told ≡ answer) × WrittenAndFlushed old before (answer_line answer) new after flushed
-WritesVerified (Ok answer) (Err failure.Write) old before new after flushed = WrittenInPart old before (answer_line answer) new after
-WritesVerified (Ok answer) (Err _) old before new after flushed = ⊥
+abbrev pub WritesVerified : Result Bool SessionFault → Result Bool Failure → Output → Output → Type 0
+WritesVerified (Err fault) end old new = (end ≡ Err (failure_of_session fault)) × (new ≡ old)
+WritesVerified (Ok answer) (Ok told) old new = (told ≡ answer) × WrittenAndFlushed old (answer_line answer) new
+WritesVerified (Ok answer) (Err failure.Write) old new = WrittenInPart old (answer_line answer) new
+WritesVerified (Ok answer) (Err _) old new = ⊥
 
 -- an old session is verified over what reading the plan gave: if the plan was refused it isn't read, and nothing is
 -- asked of the answer
-abbrev pub VerifiesOldSession : Result TabledPlan PlanFault → Option (List ℕ) → ℕ → Result Bool SessionFault → Option (List ℕ) → ℕ → Type 0
-VerifiesOldSession (Err fault) old before answer new after = Untouched old before new after
-VerifiesOldSession (Ok p) old before answer new after = VerifiesText p.plan old before answer new after
+abbrev pub VerifiesOldSession : Result TabledPlan PlanFault → Input → Result Bool SessionFault → Input → Type 0
+VerifiesOldSession (Err fault) old answer new = new ≡ old
+VerifiesOldSession (Ok p) old answer new = VerifiesText p.plan old answer new
 
 -- what a verifying run leaves over what reading the plan and then verifying the session gave: nothing if the plan
 -- was refused
-abbrev pub WritesAnswer : Result TabledPlan PlanFault → Result Bool SessionFault → Result Bool Failure
-    → Option (List ℕ) → ℕ → Option (List ℕ) → ℕ → Bool → Type 0
-WritesAnswer (Err fault) verified end old before new after flushed = (end ≡ Err (failure_of_plan fault)) × Untouched old before new after
-WritesAnswer (Ok p) verified end old before new after flushed = WritesVerified verified end old before new after flushed
+abbrev pub WritesAnswer : Result TabledPlan PlanFault → Result Bool SessionFault → Result Bool Failure → Output → Output → Type 0
+WritesAnswer (Err fault) verified end old new = (end ≡ Err (failure_of_plan fault)) × (new ≡ old)
+WritesAnswer (Ok p) verified end old new = WritesVerified verified end old new

@@ -1,18 +1,17 @@
 -- The text of a check: what a plan holds, and its digest.
-use Rattle.std.specs.Prelude.{◌≡◌, ℕ, Bool, List, [], ◌∷◌, ◌++◌, codes, decimal, length, Result, Ok, Err, Option, is_none}
+use Rattle.std.specs.Prelude.{◌≡◌, ℕ, Bool, List, [], ◌∷◌, ◌++◌, codes, decimal, length, Result, Ok, Err, is_none}
 use Rattle.std.specs.List.{concat, filter}
 use Rattle.hex.specs.Hex.{encode_lower}
 use Rattle.sabr_model.specs.declared.contact.Contact.{Contact}
 use Rattle.sabr_model.specs.Plan.{ContactPlan, TabledPlan}
 use Rattle.sabr_model.specs.Light.{light_of}
 use Rattle.sabr_model.specs.Table.{node_count}
-use Rattle.sabr_model.specs.Devices.{WrittenAndFlushed, WrittenInPart}
+use Rattle.sabr_model.specs.Devices.{Output, WrittenAndFlushed, WrittenInPart}
 use Rattle.sabr_plan.specs.declared.fault.PlanFault.{PlanFault}
 use Rattle.sabr_plan.specs.Canonical.{digest_of}
 use Rattle.commands.specs.declared.failure.Failure.{Failure}
 use Rattle.commands.specs.declared.failure.Failure.TheVariants as failure
 use Rattle.commands.specs.texts.Messages.{failure_of_plan}
-use Rattle.commands.specs.runs.Runs.{Untouched}
 
 -- the standing contacts that have no light time at their start
 abbrev pub without_light : ContactPlan → List Contact
@@ -32,9 +31,8 @@ check_text p = counts_text p ++ codes "digest " ++ encode_lower (digest_of p) ++
 
 -- what a check writes over what reading gave: over a plan its text, whole and flushed, or a beginning of it if the
 -- writer failed, and it takes no memory; nothing if the plan was refused
-abbrev pub WritesCheck : Result TabledPlan PlanFault → Result (Unit {0}) Failure
-    → Option (List ℕ) → ℕ → Option (List ℕ) → ℕ → Bool → Type 0
-WritesCheck (Err fault) end old before new after flushed = (end ≡ Err (failure_of_plan fault)) × Untouched old before new after
-WritesCheck (Ok p) (Ok _) old before new after flushed = WrittenAndFlushed old before (check_text p.plan) new after flushed
-WritesCheck (Ok p) (Err failure.Write) old before new after flushed = WrittenInPart old before (check_text p.plan) new after
-WritesCheck (Ok p) (Err _) old before new after flushed = ⊥
+abbrev pub WritesCheck : Result TabledPlan PlanFault → Result (Unit {0}) Failure → Output → Output → Type 0
+WritesCheck (Err fault) end old new = (end ≡ Err (failure_of_plan fault)) × (new ≡ old)
+WritesCheck (Ok p) (Ok _) old new = WrittenAndFlushed old (check_text p.plan) new
+WritesCheck (Ok p) (Err failure.Write) old new = WrittenInPart old (check_text p.plan) new
+WritesCheck (Ok p) (Err _) old new = ⊥

@@ -11,14 +11,13 @@ use Rattle.sabr_model.specs.Arrival.{RouteRequest}
 use Rattle.sabr_model.specs.Route.{delivery_of, is_route}
 use Rattle.sabr_model.specs.Record.{record_of}
 use Rattle.sabr_model.specs.Fault.{fault_at, fault_of}
-use Rattle.sabr_model.specs.Devices.{WrittenAndFlushed, WrittenInPart}
+use Rattle.sabr_model.specs.Devices.{Output, WrittenAndFlushed, WrittenInPart}
 use Rattle.sabr_plan.specs.Times.{time_text_of}
 use Rattle.sabr_plan.specs.declared.fault.PlanFault.{PlanFault}
 use Rattle.sabr_session.specs.ReportText.{route_line}
 use Rattle.commands.specs.declared.failure.Failure.{Failure}
 use Rattle.commands.specs.declared.failure.Failure.TheVariants as failure
 use Rattle.commands.specs.texts.Messages.{failure_of_plan}
-use Rattle.commands.specs.runs.Runs.{Untouched}
 
 -- a hop as a line: its place, its contact, and the times of sending and of arrival
 abbrev pub hop_line : ℕ → Contact → ℕ → ℕ → List ℕ
@@ -70,9 +69,8 @@ explanation_text p r s = hop_lines p r [] s ++ ending_line p r s
 -- what an explanation writes over what reading gave: over a plan its text, whole and flushed, and the answer is
 -- whether the list is a route; or a beginning of it if the writer failed, and it takes no memory; nothing if
 -- the plan was refused
-abbrev pub WritesExplanation : Result TabledPlan PlanFault → RouteRequest → List ℕ → Result Bool Failure
-    → Option (List ℕ) → ℕ → Option (List ℕ) → ℕ → Bool → Type 0
-WritesExplanation (Err fault) r s end old before new after flushed = (end ≡ Err (failure_of_plan fault)) × Untouched old before new after
-WritesExplanation (Ok p) r s (Ok answer) old before new after flushed = (answer ≡ is_route p.plan r s) × WrittenAndFlushed old before (explanation_text p.plan r s) new after flushed
-WritesExplanation (Ok p) r s (Err failure.Write) old before new after flushed = WrittenInPart old before (explanation_text p.plan r s) new after
-WritesExplanation (Ok p) r s (Err _) old before new after flushed = ⊥
+abbrev pub WritesExplanation : Result TabledPlan PlanFault → RouteRequest → List ℕ → Result Bool Failure → Output → Output → Type 0
+WritesExplanation (Err fault) r s end old new = (end ≡ Err (failure_of_plan fault)) × (new ≡ old)
+WritesExplanation (Ok p) r s (Ok answer) old new = (answer ≡ is_route p.plan r s) × WrittenAndFlushed old (explanation_text p.plan r s) new
+WritesExplanation (Ok p) r s (Err failure.Write) old new = WrittenInPart old (explanation_text p.plan r s) new
+WritesExplanation (Ok p) r s (Err _) old new = ⊥

@@ -2,7 +2,7 @@
 use Rattle.std.specs.Prelude.{ℕ, ◌⊎◌, List, [], ◌∷◌, Option, Some, None, decimal, codes}
 use Rattle.std.specs.List.{concat}
 use Rattle.std.specs.Option.{option_map_or}
-use Rattle.sabr_model.specs.Devices.{Written, WrittenInPart}
+use Rattle.sabr_model.specs.Devices.{Output, Written, WrittenInPart}
 use Rattle.sabr_plan.specs.declared.fault.PlanKind.{PlanKind}
 use Rattle.sabr_plan.specs.declared.fault.PlanKind.TheVariants.{LineTooLong, BadByte, UnknownCommand, WrongOperands, BadTime, NoReference, BadNode, BadNumber, EmptyWindow, SelfPair, DuplicateContact, RangeOverlap, TooMany, Read, NoMemory, NothingToDelete}
 use Rattle.sabr_plan.specs.declared.fault.PlanFault.{PlanFault}
@@ -124,5 +124,5 @@ number_of status.Io = 5
 number_of status.Memory = 6
 
 -- the text was taken, or a beginning of it by a writer that failed
-abbrev pub TellsText : Option (List ℕ) → ℕ → List ℕ → Option (List ℕ) → ℕ → Type 0
-TellsText old before text new after = Written old before text new after ⊎ WrittenInPart old before text new after
+abbrev pub TellsText : Output → List ℕ → Output → Type 0
+TellsText old text new = Written old text new ⊎ WrittenInPart old text new

@@ -9,6 +9,7 @@ use Rattle.sabr_model.specs.Plan.{IsNode, last_time}
 use Rattle.sabr_model.specs.Arrival.{RouteRequest}
 use Rattle.sabr_model.specs.Asking.{may_avoid, unlimited, with_limits, most_margin, most_hops}
 use Rattle.sabr_plan.specs.Times.{time_of}
+use Rattle.sabr_frontier.specs.Listing.{most_routes}
 use Rattle.commands.specs.declared.words.value_name.ValueName.{ValueName}
 use Rattle.commands.specs.declared.words.value_name.ValueName.TheVariants.{From, To, At, MarginPpm, MaxHops, Avoid, Count, Contacts}
 use Rattle.commands.specs.declared.command.CommandName.{CommandName}
@@ -137,10 +138,6 @@ where_asked asked value = if asked then and_then value (λ a. Ok (Some a)) else 
 -- the words of a request, if the command has one
 abbrev pub words_where_asked : CommandName → Found → Result (Option RequestValues) ValueFault
 words_where_asked name found = where_asked (has_request name) (request_words found)
-
--- the most routes of a page
-abbrev pub most_routes : ℕ
-most_routes = 10000
 
 -- a number of routes that a page may have
 abbrev pub IsCount : ℕ → Type 0

@@ -15,7 +15,7 @@ pub fn write_verified<O: Write>(
     verified: Result<bool, SessionFault>,
     out: &mut O,
 ) -> Result<bool, Failure>
-    ensures { WritesVerified verified result (O.contents out.old) (O.failures out.old) (O.contents out.new) (O.failures out.new) (O.flushed out.new) }
+    ensures { WritesVerified verified result (O.output out.old) (O.output out.new) }
 {
     let answer = verified?;
     if answer {

@@ -18,7 +18,7 @@ use std::alloc::Allocator;
 
 /// Writes and flushes the text of a check.
 fn write_check<O: Write, A: Allocator + Copy>(plan: &Plan<A>, out: &mut O) -> Result<(), Failure>
-    ensures { WritesCheck (Ok plan.now) result (O.contents out.old) (O.failures out.old) (O.contents out.new) (O.failures out.new) (O.flushed out.new) }
+    ensures { WritesCheck (Ok plan.now) result (O.output out.old) (O.output out.new) }
 {
     write_check_text(plan, out)?;
     let Ok(()) = out.flush() else {
@@ -34,8 +34,8 @@ fn read_and_write_check<P: Read, O: Write, A: Allocator + Copy>(
     out: &mut O,
 ) -> Result<(), Failure>
     ensures { (planned : Result TabledPlan PlanFault)
-        × ReadsPlan (P.remaining plan.old) (P.failures plan.old) planned (P.remaining plan.new) (P.failures plan.new)
-        × WritesCheck planned result (O.contents out.old) (O.failures out.old) (O.contents out.new) (O.failures out.new) (O.flushed out.new) }
+        × ReadsPlan (P.input plan.old) planned (P.input plan.new)
+        × WritesCheck planned result (O.output out.old) (O.output out.new) }
 {
     let plan = read_plan(alloc, plan)?;
     write_check(&plan, out)
@@ -55,9 +55,9 @@ pub fn run_check<P: Read, O: Write, E: Write, A: Allocator + Copy>(
     err: &mut E,
 ) -> Status
     ensures { (planned : Result TabledPlan PlanFault) × ((end : Result (Unit {0}) Failure)
-        × ReadsPlan (P.remaining plan.old) (P.failures plan.old) planned (P.remaining plan.new) (P.failures plan.new)
-        × WritesCheck planned end (O.contents out.old) (O.failures out.old) (O.contents out.new) (O.failures out.new) (O.flushed out.new)
-        × TellsEnd end (E.contents err.old) (E.failures err.old) (E.contents err.new) (E.failures err.new)
+        × ReadsPlan (P.input plan.old) planned (P.input plan.new)
+        × WritesCheck planned end (O.output out.old) (O.output out.new)
+        × TellsEnd end (E.output err.old) (E.output err.new)
         × (result ≡ status_at end)) }
 {
     let end = read_and_write_check(alloc, plan, out);

@@ -23,7 +23,7 @@ fn explain<O: Write, A: Allocator + Copy>(
     contacts: &[u32],
     out: &mut O,
 ) -> Result<bool, Failure>
-    ensures { WritesExplanation (Ok plan.now) request.now contacts.now result (O.contents out.old) (O.failures out.old) (O.contents out.new) (O.failures out.new) (O.flushed out.new) }
+    ensures { WritesExplanation (Ok plan.now) request.now contacts.now result (O.output out.old) (O.output out.new) }
 {
     let is_route = write_explanation(plan, request, contacts, out)?;
     let Ok(()) = out.flush() else {
@@ -41,8 +41,8 @@ fn read_and_explain<P: Read, O: Write, A: Allocator + Copy>(
     out: &mut O,
 ) -> Result<bool, Failure>
     ensures { (planned : Result TabledPlan PlanFault)
-        × ReadsPlan (P.remaining plan.old) (P.failures plan.old) planned (P.remaining plan.new) (P.failures plan.new)
-        × WritesExplanation planned request.now contacts.now result (O.contents out.old) (O.failures out.old) (O.contents out.new) (O.failures out.new) (O.flushed out.new) }
+        × ReadsPlan (P.input plan.old) planned (P.input plan.new)
+        × WritesExplanation planned request.now contacts.now result (O.output out.old) (O.output out.new) }
 {
     let plan = read_plan(alloc, plan)?;
     explain(&plan, request, contacts, out)
@@ -65,9 +65,9 @@ pub fn run_explain<P: Read, O: Write, E: Write, A: Allocator + Copy>(
     err: &mut E,
 ) -> Status
     ensures { (planned : Result TabledPlan PlanFault) × ((end : Result Bool Failure)
-        × ReadsPlan (P.remaining plan.old) (P.failures plan.old) planned (P.remaining plan.new) (P.failures plan.new)
-        × WritesExplanation planned request contacts.now end (O.contents out.old) (O.failures out.old) (O.contents out.new) (O.failures out.new) (O.flushed out.new)
-        × TellsEnd end (E.contents err.old) (E.failures err.old) (E.contents err.new) (E.failures err.new)
+        × ReadsPlan (P.input plan.old) planned (P.input plan.new)
+        × WritesExplanation planned request contacts.now end (O.output out.old) (O.output out.new)
+        × TellsEnd end (E.output err.old) (E.output err.new)
         × (result ≡ status_of_answer end)) }
 {
     let end = read_and_explain(alloc, plan, &request, contacts, out);

@@ -4,9 +4,10 @@ ghost use Rattle.std.specs.Prelude.{◌≡◌, ◌≤◌, Result};
 ghost use Rattle.sabr_model.specs.Plan.{TabledPlan};
 ghost use Rattle.sabr_plan.specs.PlanRead.{ReadsPlan};
 ghost use Rattle.sabr_plan.specs.declared.fault.PlanFault.{PlanFault};
+ghost use Rattle.sabr_frontier.specs.Listing.{most_routes};
 ghost use Rattle.commands.specs.declared.failure.Failure.{Failure};
 ghost use Rattle.commands.specs.runs.Runs.{TellsEnd, status_at};
-ghost use Rattle.commands.specs.words.Values.{IsCount, most_routes};
+ghost use Rattle.commands.specs.words.Values.{IsCount};
 ghost use Rattle.commands.specs.runs.SessionRuns.{WritesFirstPage};
 
 use crate::failure::Failure;
@@ -32,10 +33,8 @@ fn write_first<P: Read, O: Write, S: Write, A: Allocator + Copy>(
 ) -> Result<(), Failure>
     requires { count ≤ most_routes }
     ensures { (planned : Result TabledPlan PlanFault)
-        × ReadsPlan (P.remaining plan.old) (P.failures plan.old) planned (P.remaining plan.new) (P.failures plan.new)
-        × WritesFirstPage planned request keep count result
-        (O.contents out.old) (O.failures out.old) (O.contents out.new) (O.failures out.new) (O.flushed out.new)
-        (S.contents session.old) (S.failures session.old) (S.contents session.new) (S.failures session.new) (S.flushed session.new) }
+        × ReadsPlan (P.input plan.old) planned (P.input plan.new)
+        × WritesFirstPage planned request keep count result (O.output out.old) (O.output out.new) (S.output session.old) (S.output session.new) }
 {
     let plan = read_searched_plan(alloc, plan)?;
     plan.tell_rules();
@@ -65,11 +64,9 @@ pub fn run_first<P: Read, O: Write, S: Write, E: Write, A: Allocator + Copy>(
 ) -> Status
     requires { IsCount count }
     ensures { (planned : Result TabledPlan PlanFault) × ((end : Result (Unit {0}) Failure)
-        × ReadsPlan (P.remaining plan.old) (P.failures plan.old) planned (P.remaining plan.new) (P.failures plan.new)
-        × WritesFirstPage planned request keep count end
-        (O.contents out.old) (O.failures out.old) (O.contents out.new) (O.failures out.new) (O.flushed out.new)
-        (S.contents session.old) (S.failures session.old) (S.contents session.new) (S.failures session.new) (S.flushed session.new)
-        × TellsEnd end (E.contents err.old) (E.failures err.old) (E.contents err.new) (E.failures err.new)
+        × ReadsPlan (P.input plan.old) planned (P.input plan.new)
+        × WritesFirstPage planned request keep count end (O.output out.old) (O.output out.new) (S.output session.old) (S.output session.new)
+        × TellsEnd end (E.output err.old) (E.output err.new)
         × (result ≡ status_at end)) }
 {
     let end = write_first(alloc, plan, request, count, out, keep, session);

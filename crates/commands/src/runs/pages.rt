@@ -3,10 +3,10 @@
 ghost use Rattle.std.specs.Prelude.{◌≡◌, ℕ, ◌+◌, ◌^◌, ◌<◌, ◌≤◌, All, Ok, IfOk, IfSome, IsTrue, is_some, length};
 ghost use Rattle.sabr_model.specs.Devices.{WritesText};
 ghost use Rattle.sabr_plan.specs.Canonical.{digest_of};
+ghost use Rattle.sabr_frontier.specs.Listing.{most_routes};
 ghost use Rattle.sabr_session.specs.ReportText.{HasSpelledTimes, report_text};
 ghost use Rattle.sabr_session.specs.SessionText.{text_of_session};
 ghost use Rattle.commands.specs.runs.SessionRuns.{WritesNextPage};
-ghost use Rattle.commands.specs.words.Values.{most_routes};
 
 use crate::failure::Failure;
 use sabr_frontier::Session;
@@ -24,8 +24,8 @@ fn send_report<O: Write, A: Allocator + Copy>(
 ) -> Result<(), WriteFault>
     requires ranks { first_rank + length routes.now < 2 ^ 128 }
     requires times { All HasSpelledTimes routes.now }
-    ensures text { WritesText (O.contents out.old) (O.failures out.old) (report_text routes.now first_rank more) result (O.contents out.new) (O.failures out.new) }
-    ensures flushed { IfOk result (λ _. IsTrue (O.flushed out.new)) }
+    ensures text { WritesText (O.output out.old) (report_text routes.now first_rank more) result (O.output out.new) }
+    ensures flushed { IfOk result (λ _. IsTrue (O.output out.new).flushed) }
 {
     write_report(routes, first_rank, more, out)?;
     let Ok(()) = out.flush() else {
@@ -41,8 +41,8 @@ fn send_session<S: Write, B: BestOf<A>, A: Allocator + Copy>(
     session: &mut S,
 ) -> Result<(), WriteFault>
     requires { digest.now ≡ digest_of listing.now.plan.plan }
-    ensures text { WritesText (S.contents session.old) (S.failures session.old) (text_of_session listing.now) result (S.contents session.new) (S.failures session.new) }
-    ensures flushed { IfOk result (λ _. IsTrue (S.flushed session.new)) }
+    ensures text { WritesText (S.output session.old) (text_of_session listing.now) result (S.output session.new) }
+    ensures flushed { IfOk result (λ _. IsTrue (S.output session.new).flushed) }
 {
     write_session(listing, digest, session)?;
     let Ok(()) = session.flush() else {
@@ -69,9 +69,7 @@ pub fn write_page<O: Write, S: Write, B: BestOf<A>, A: Allocator + Copy>(
 ) -> Result<(), Failure>
     requires count { count ≤ most_routes }
     requires digest { IfSome keep (λ digest. digest ≡ digest_of listing.plan.plan) }
-    ensures { WritesNextPage (Ok listing.entry.plan) (Ok (listing.entry.request, listing.entry.state)) (is_some keep) count result
-        (O.contents out.old) (O.failures out.old) (O.contents out.new) (O.failures out.new) (O.flushed out.new)
-        (S.contents session.old) (S.failures session.old) (S.contents session.new) (S.failures session.new) (S.flushed session.new) }
+    ensures { WritesNextPage (Ok listing.entry.plan) (Ok (listing.entry.request, listing.entry.state)) (is_some keep) count result (O.output out.old) (O.output out.new) (S.output session.old) (S.output session.new) }
 {
     listing.plan().tell_rules();
     listing.request().tell_limits();

@@ -16,7 +16,7 @@ pub fn read_searched_plan<P: Read, A: Allocator + Copy>(
     alloc: A,
     reader: &mut P,
 ) -> Result<Plan<A>, PlanFault>
-    ensures { ReadsPlan (P.remaining reader.old) (P.failures reader.old) result (P.remaining reader.new) (P.failures reader.new) }
+    ensures { ReadsPlan (P.input reader.old) result (P.input reader.new) }
 {
     let mut plan = read_plan(alloc, reader)?;
     let _ = plan.make_ready();

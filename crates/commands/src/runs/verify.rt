@@ -28,9 +28,9 @@ fn read_and_verify<P: Read, I: Read, O: Write, A: Allocator + Copy>(
     out: &mut O,
 ) -> Result<bool, Failure>
     ensures { (planned : Result TabledPlan PlanFault) × ((verified : Result Bool SessionFault)
-        × ReadsPlan (P.remaining plan.old) (P.failures plan.old) planned (P.remaining plan.new) (P.failures plan.new)
-        × VerifiesOldSession planned (I.remaining old.old) (I.failures old.old) verified (I.remaining old.new) (I.failures old.new)
-        × WritesAnswer planned verified result (O.contents out.old) (O.failures out.old) (O.contents out.new) (O.failures out.new) (O.flushed out.new)) }
+        × ReadsPlan (P.input plan.old) planned (P.input plan.new)
+        × VerifiesOldSession planned (I.input old.old) verified (I.input old.new)
+        × WritesAnswer planned verified result (O.output out.old) (O.output out.new)) }
 {
     let plan = read_searched_plan(alloc, plan)?;
     let verified = verify(alloc, old, &plan, &digest(&plan), Settled::new(alloc));
@@ -53,10 +53,10 @@ pub fn run_verify<P: Read, I: Read, O: Write, E: Write, A: Allocator + Copy>(
     err: &mut E,
 ) -> Status
     ensures { (planned : Result TabledPlan PlanFault) × ((verified : Result Bool SessionFault) × ((end : Result Bool Failure)
-        × ReadsPlan (P.remaining plan.old) (P.failures plan.old) planned (P.remaining plan.new) (P.failures plan.new)
-        × VerifiesOldSession planned (I.remaining old.old) (I.failures old.old) verified (I.remaining old.new) (I.failures old.new)
-        × WritesAnswer planned verified end (O.contents out.old) (O.failures out.old) (O.contents out.new) (O.failures out.new) (O.flushed out.new)
-        × TellsEnd end (E.contents err.old) (E.failures err.old) (E.contents err.new) (E.failures err.new)
+        × ReadsPlan (P.input plan.old) planned (P.input plan.new)
+        × VerifiesOldSession planned (I.input old.old) verified (I.input old.new)
+        × WritesAnswer planned verified end (O.output out.old) (O.output out.new)
+        × TellsEnd end (E.output err.old) (E.output err.new)
         × (result ≡ status_of_answer end))) }
 {
     let end = read_and_verify(alloc, plan, old, out);

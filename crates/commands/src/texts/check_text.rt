@@ -26,7 +26,7 @@ fn write_counts<W: Write, A: Allocator + Copy>(
     plan: &Plan<A>,
     writer: &mut W,
 ) -> Result<(), WriteFault>
-    ensures { WritesText (W.contents writer.old) (W.failures writer.old) (counts_text plan.now.plan) result (W.contents writer.new) (W.failures writer.new) }
+    ensures { WritesText (W.output writer.old) (counts_text plan.now.plan) result (W.output writer.new) }
 {
     let mut contacts = Buffer::new();
     let mut ranges = Buffer::new();
@@ -60,7 +60,7 @@ pub fn write_check_text<W: Write, A: Allocator + Copy>(
     plan: &Plan<A>,
     writer: &mut W,
 ) -> Result<(), WriteFault>
-    ensures { WritesText (W.contents writer.old) (W.failures writer.old) (check_text plan.now.plan) result (W.contents writer.new) (W.failures writer.new) }
+    ensures { WritesText (W.output writer.old) (check_text plan.now.plan) result (W.output writer.new) }
 {
     let digits = digest_text(&digest(plan));
     write_counts(plan, writer)?;

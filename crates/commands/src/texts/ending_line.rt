@@ -17,7 +17,7 @@ fn put_refusal<W: Write>(
     place: usize,
     kind: &[u8],
 ) -> Result<(), WriteFault>
-    ensures { Puts W.contents W.failures text.old (refused_at place kind.now) result text.new }
+    ensures { Puts W.output text.old (refused_at place kind.now) result text.new }
 {
     let mut digits = Buffer::new();
     let pieces: [&[u8]; 5] = [
@@ -32,7 +32,7 @@ fn put_refusal<W: Write>(
 
 /// Puts the line of a fault.
 fn put_fault<W: Write>(text: &mut TextBuffer<'_, W>, fault: HopFault) -> Result<(), WriteFault>
-    ensures { Puts W.contents W.failures text.old (fault_line fault) result text.new }
+    ensures { Puts W.output text.old (fault_line fault) result text.new }
 {
     match fault {
         HopFault::Empty => text.put(b"refused: Empty\n"),
@@ -63,7 +63,7 @@ pub fn put_ending<W: Write, A: Allocator + Copy>(
     requires rules { IsPlan plan.now.plan }
     requires limits { IsRequest request.now }
     requires outcome { Follows plan.now.plan request.now contacts.now outcome }
-    ensures { Puts W.contents W.failures text.old (ending_line plan.now.plan request.now contacts.now) result text.new }
+    ensures { Puts W.output text.old (ending_line plan.now.plan request.now contacts.now) result text.new }
 {
     match outcome {
         Ok(delivery) => {

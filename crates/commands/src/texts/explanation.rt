@@ -59,7 +59,7 @@ pub fn write_explanation<W: Write, A: Allocator + Copy>(
     contacts: &[u32],
     writer: &mut W,
 ) -> Result<bool, WriteFault>
-    ensures text { WritesText (W.contents writer.old) (W.failures writer.old) (explanation_text plan.now.plan request.now contacts.now) result (W.contents writer.new) (W.failures writer.new) }
+    ensures text { WritesText (W.output writer.old) (explanation_text plan.now.plan request.now contacts.now) result (W.output writer.new) }
     ensures route { IfOk result (λ answer. answer ≡ is_route plan.now.plan request.now contacts.now) }
 {
     plan.tell_rules();

@@ -5,6 +5,7 @@ ghost use Rattle.sabr_model.specs.Plan.{IsPlan};
 ghost use Rattle.sabr_model.specs.Asking.{IsRequest};
 ghost use Rattle.sabr_model.specs.Arrival.{arrival_after};
 ghost use Rattle.sabr_model.specs.Route.{is_path};
+ghost use Rattle.sabr_plan.specs.Times.{last_spelled};
 ghost use Rattle.sabr_session.specs.Gathering.{Puts};
 ghost use Rattle.commands.specs.texts.Explanation.{hop_line, line_behind, hop_lines};
 
@@ -22,8 +23,8 @@ fn put_hop_line<W: Write>(
     sent: u64,
     arrived: u64,
 ) -> Result<(), WriteFault>
-    requires { (sent ≤ 253402300799) × (arrived ≤ 253402300799) }
-    ensures { Puts W.contents W.failures text.old (hop_line place contact.now sent arrived) result text.new }
+    requires { (sent ≤ last_spelled) × (arrived ≤ last_spelled) }
+    ensures { Puts W.output text.old (hop_line place contact.now sent arrived) result text.new }
 {
     let mut hop = Buffer::new();
     let mut number = Buffer::new();
@@ -63,7 +64,7 @@ fn put_hop<W: Write, A: Allocator + Copy>(
     requires place { length front.now + 1 < 2 ^ 64 }
     requires path { IsTrue (is_path plan.now.plan request.now (front.now ++ number ∷ [])) }
     requires at { arrival_after plan.now.plan request.now request.now.at front.now ≡ Some at }
-    ensures line { Puts W.contents W.failures text.old (line_behind plan.now.plan request.now front.now number) result text.new }
+    ensures line { Puts W.output text.old (line_behind plan.now.plan request.now front.now number) result text.new }
     ensures arrived { IfOk result (λ t. arrival_after plan.now.plan request.now request.now.at (front.now ++ number ∷ []) ≡ Some t) }
 {
     let Some(contact) = plan.contact(number) else {
@@ -96,7 +97,7 @@ pub fn put_hops<W: Write, A: Allocator + Copy>(
     requires rules { IsPlan plan.now.plan }
     requires limits { IsRequest request.now }
     requires path { IsTrue (is_path plan.now.plan request.now hops.now) }
-    ensures { Puts W.contents W.failures text.old (hop_lines plan.now.plan request.now [] hops.now) result text.new }
+    ensures { Puts W.output text.old (hop_lines plan.now.plan request.now [] hops.now) result text.new }
 {
     let mut at = request.at();
     for (i, number) in hops.iter().enumerate() {

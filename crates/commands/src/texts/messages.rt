@@ -42,7 +42,7 @@ fn kind_text(kind: PlanKind) -> &'static str
 ///
 /// [`WriteFault`] if the writer failed. Then a beginning of the texts was written.
 pub fn write_texts<W: Write>(writer: &mut W, texts: &[&str]) -> Result<(), WriteFault>
-    ensures { WritesText (W.contents writer.old) (W.failures writer.old) (concat (map (λ t. t.now) texts.now)) result (W.contents writer.new) (W.failures writer.new) }
+    ensures { WritesText (W.output writer.old) (concat (map (λ t. t.now) texts.now)) result (W.output writer.new) }
 {
     for text in texts {
         write_text(writer, text.as_bytes())?;
@@ -52,7 +52,7 @@ pub fn write_texts<W: Write>(writer: &mut W, texts: &[&str]) -> Result<(), Write
 
 /// Writes the message of a bad line of a plan.
 fn write_plan_line<W: Write>(writer: &mut W, fault: PlanFault) -> Result<(), WriteFault>
-    ensures { WritesText (W.contents writer.old) (W.failures writer.old) (message_text (Failure.PlanLine fault)) result (W.contents writer.new) (W.failures writer.new) }
+    ensures { WritesText (W.output writer.old) (message_text (Failure.PlanLine fault)) result (W.output writer.new) }
 {
     let mut buffer = Buffer::new();
     let line = buffer.format(fault.line);
@@ -89,7 +89,7 @@ fn session_line(fault: SessionFault) -> Option<u128>
 
 /// Writes the message of a refused session.
 fn write_session_fault<W: Write>(writer: &mut W, fault: SessionFault) -> Result<(), WriteFault>
-    ensures { WritesText (W.contents writer.old) (W.failures writer.old) (session_message fault) result (W.contents writer.new) (W.failures writer.new) }
+    ensures { WritesText (W.output writer.old) (session_message fault) result (W.output writer.new) }
 {
     let kind = session_kind_text(fault);
     let Some(number) = session_line(fault) else {
@@ -102,7 +102,7 @@ fn write_session_fault<W: Write>(writer: &mut W, fault: SessionFault) -> Result<
 
 /// Writes a failure's message.
 fn write_message<W: Write>(writer: &mut W, failure: Failure) -> Result<(), WriteFault>
-    ensures { WritesText (W.contents writer.old) (W.failures writer.old) (message_text failure) result (W.contents writer.new) (W.failures writer.new) }
+    ensures { WritesText (W.output writer.old) (message_text failure) result (W.output writer.new) }
 {
     match failure {
         Failure::BadValue(name) => write_texts(writer, &["cgrlist: bad --", name.text(), "\n"]),
@@ -126,7 +126,7 @@ fn write_message<W: Write>(writer: &mut W, failure: Failure) -> Result<(), Write
 /// and the status is the same.
 pub fn tell<W: Write>(writer: &mut W, failure: Failure) -> Status
     ensures status { result ≡ status_of failure }
-    ensures message { TellsText (W.contents writer.old) (W.failures writer.old) (message_text failure) (W.contents writer.new) (W.failures writer.new) }
+    ensures message { TellsText (W.output writer.old) (message_text failure) (W.output writer.new) }
 {
     let _ = write_message(writer, failure);
     failure.status()

@@ -8,7 +8,7 @@ use std::alloc::{AllocError, Global};
 /// The version of the program, as `--version` shows it.
 const VERSION: &str = "0.1.0";
 
-/// Makes a word with a value: what its value looks like, and what it is.
+/// A word with a value: what its value looks like, and what it is.
 fn option<'a>(alloc: Global, name: &'a str, form: &'a str, help: &'a str) -> Arg<'a> {
     Arg::new(alloc, name)
         .long(name)
@@ -17,72 +17,72 @@ fn option<'a>(alloc: Global, name: &'a str, form: &'a str, help: &'a str) -> Arg
         .help(help)
 }
 
-/// Makes a word that is required.
+/// A word that is required.
 fn required<'a>(alloc: Global, name: &'a str, form: &'a str, help: &'a str) -> Arg<'a> {
     option(alloc, name, form, help).required(true)
 }
 
-/// Makes the word for the plan.
+/// The word for the plan.
 fn plan<'a>(alloc: Global) -> Arg<'a> {
     required(alloc, PLAN, "FILE", "The contact plan")
 }
 
-/// Makes the word for the source.
+/// The word for the source.
 fn from<'a>(alloc: Global) -> Arg<'a> {
     let help = "Source: a node, 1 to 18446744073709551615";
     required(alloc, "from", "NODE", help)
 }
 
-/// Makes the word for the destination.
+/// The word for the destination.
 fn to<'a>(alloc: Global) -> Arg<'a> {
     let help = "Destination: another node, 1 to 18446744073709551615";
     required(alloc, "to", "NODE", help)
 }
 
-/// Makes the word for the time at which the bundle is at the source.
+/// The word for the time at which the bundle is at the source.
 fn at<'a>(alloc: Global) -> Arg<'a> {
     let help = "When the bundle is at the source, UTC: years 1970 to 9998";
     required(alloc, "at", "yyyy/mm/dd-hh:mm:ss", help)
 }
 
-/// Makes the word for the margin.
+/// The word for the margin.
 fn margin_ppm<'a>(alloc: Global) -> Arg<'a> {
     let help =
         "Margin on each light time, in parts in a million of it, rounded up to seconds: 0 to 1000000; 0 if not given";
     option(alloc, "margin-ppm", "PPM", help)
 }
 
-/// Makes the word for the limit on hops.
+/// The word for the limit on hops.
 fn max_hops<'a>(alloc: Global) -> Arg<'a> {
     let help = "Routes of at most so many contacts: 1 to 20000; 20000 if not given";
     option(alloc, "max-hops", "HOPS", help)
 }
 
-/// Makes the word for the nodes to avoid.
+/// The word for the nodes to avoid.
 fn avoid<'a>(alloc: Global) -> Arg<'a> {
     let help =
         "Nodes that no route passes: 1 to 16, rising, neither source nor destination among them";
     option(alloc, "avoid", "NODE,NODE..", help)
 }
 
-/// Makes the word for the count of routes.
+/// The word for the count of routes.
 fn count<'a>(alloc: Global) -> Arg<'a> {
     required(alloc, "count", "COUNT", "How many routes: 1 to 10000")
 }
 
-/// Makes the word for the old session.
+/// The word for the old session.
 fn session<'a>(alloc: Global) -> Arg<'a> {
     let help = "The session that a page left, written by --session-out";
     required(alloc, SESSION, "FILE", help)
 }
 
-/// Makes the word for the new session.
+/// The word for the new session.
 fn session_out<'a>(alloc: Global) -> Arg<'a> {
     let help = "Where to leave the session behind the page: a file that isn't there";
     option(alloc, SESSION_OUT, "FILE", help)
 }
 
-/// Makes the word for the contacts.
+/// The word for the contacts.
 fn contacts<'a>(alloc: Global) -> Arg<'a> {
     let help = "Contacts in the order in which they are taken: numbers from 1 to 4294967295";
     required(alloc, "contacts", "NUMBER,NUMBER..", help)
@@ -104,7 +104,7 @@ fn with_page<'a>(alloc: Global, command: Command<'a>) -> Result<Command<'a>, All
     command.arg(count(alloc))?.arg(session_out(alloc))
 }
 
-/// Makes a command of the command line as it is declared.
+/// A command of the command line, as it is declared.
 fn subcommand<'a>(alloc: Global, command: CommandName) -> Result<Command<'a>, AllocError> {
     let declared = command.declared();
     let mut made = Command::new(alloc, declared.name)
@@ -126,7 +126,7 @@ fn subcommand<'a>(alloc: Global, command: CommandName) -> Result<Command<'a>, Al
     Ok(made)
 }
 
-/// Makes the command line, with all commands.
+/// The command line, with all commands.
 fn program<'a>(alloc: Global) -> Result<Command<'a>, AllocError> {
     let mut program = Command::new(alloc, "cgrlist")
         .about("Lists every feasible route of a contact plan from one node to another, best first")

@@ -127,7 +127,7 @@ pub fn request_words(matches: &ArgMatches<'_>) -> Result<RequestValues, ValueFau
     with_limit_words(from, to, at, margin_ppm, matches)
 }
 
-/// Makes the request of these words.
+/// Returns the request of these words.
 ///
 /// # Errors
 ///

@@ -82,7 +82,7 @@ fn contacts_where_asked<A: Allocator + Copy>(
     contacts_listed(alloc, text)?.ok_or(bad)
 }
 
-/// Makes the request of the words, if there are any.
+/// Returns the request of the words, if there are any.
 #[tactic(auto, unfolding(crate::specs::words::Values::request_where_asked))]
 fn request_where_asked(words: &Option<RequestValues>) -> Result<Option<Request>, ValueFault>
     requires { IfSome words.now IsInRange }

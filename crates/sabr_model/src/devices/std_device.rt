@@ -31,9 +31,7 @@ impl<T> Device<T> {
 }
 
 impl<T: io::Read> Read for Device<T> {
-    ghost remaining = { λ d. T.remaining d.inner };
-
-    ghost failures = { λ d. d.failures.count };
+    ghost input = { λ d. record { remaining = T.remaining d.inner; failures = d.failures.count } };
 
     fn read(&mut self, buf: &mut [u8]) -> Result<usize, Failed> {
         match self.inner.read(buf) {
@@ -47,11 +45,7 @@ impl<T: io::Read> Read for Device<T> {
 }
 
 impl<T: io::Write> Write for Device<T> {
-    ghost contents = { λ d. T.contents d.inner };
-
-    ghost failures = { λ d. d.failures.count };
-
-    ghost flushed = { λ d. d.mark.flushed };
+    ghost output = { λ d. record { contents = T.contents d.inner; failures = d.failures.count; flushed = d.mark.flushed } };
 
     fn write(&mut self, buf: &[u8]) -> Result<usize, Failed> {
         self.mark = FlushMark::pending();

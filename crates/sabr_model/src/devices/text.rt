@@ -10,7 +10,7 @@ pub struct WriteFault;
 
 /// Writes the whole text. Fails at the writer's first failure. It doesn't flush.
 pub fn write_text<W: Write>(writer: &mut W, text: &[u8]) -> Result<(), WriteFault>
-    ensures { WritesText (W.contents writer.old) (W.failures writer.old) text.now result (W.contents writer.new) (W.failures writer.new) }
+    ensures { WritesText (W.output writer.old) text.now result (W.output writer.new) }
 {
     let mut at = 0;
     while at < text.len() {

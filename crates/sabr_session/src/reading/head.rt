@@ -48,7 +48,7 @@ fn is_digest_of(digits: &[u8], digest: &[u8; 32]) -> bool
     digits == digest_text(digest).as_slice()
 }
 
-/// Makes the request of these values.
+/// Returns the request of these values.
 fn asked(values: &RequestValues) -> Result<Request, SessionFault>
     ensures { MatchResult result (λ r. asked values.now ≡ Ok r) (λ f. asked values.now ≡ Err f) }
 {
@@ -62,7 +62,7 @@ fn asked(values: &RequestValues) -> Result<Request, SessionFault>
 }
 
 impl<A: Allocator + Copy> Head<A> {
-    /// Makes a head before any line is read.
+    /// Returns a head before any line is read.
     pub(crate) fn new(alloc: A) -> Head<A>
         ensures { result ≡ nothing_said }
     {

@@ -30,7 +30,7 @@ impl<A: Allocator + Copy> Model for HeldLine<A> {
 }
 
 impl<A: Allocator + Copy> HeldLine<A> {
-    /// Makes an empty line. It takes no memory.
+    /// Returns an empty line. It takes no memory.
     pub(crate) fn new(alloc: A) -> HeldLine<A>
         ensures { result ≡ [] }
     {

@@ -2,7 +2,7 @@
 
 ghost use Rattle.std.specs.Prelude.{◌≡◌, ◌+◌, ◌≤◌, nat_lt, true, Ok, IfOk, OnOk, OnErr};
 ghost use Rattle.sabr_session.specs.SessionRead.{is_behind, line_said, other_said};
-ghost use Rattle.sabr_session.specs.SessionFed.{opened_over, IsSessionFrom};
+ghost use Rattle.sabr_session.specs.SessionFed.{most_lines, opened_over, IsSessionFrom};
 ghost use Rattle.sabr_session.specs.SessionLeaving.{Leaves};
 ghost use Rattle.sabr_session.specs.SessionStage.{said_with};
 
@@ -35,14 +35,14 @@ pub(crate) struct LinesRead<'p, B: BestOf<A>, A: Allocator + Copy> {
 
 impl<'p, B: BestOf<A>, A: Allocator + Copy> Model for LinesRead<'p, B, A> {
     ghost use Rattle.std.specs.Prelude.{◌≡◌, ◌≤◌, nat_lt, []};
-    ghost use Rattle.sabr_session.specs.SessionFed.{OpenText};
+    ghost use Rattle.sabr_session.specs.SessionFed.{OpenText, most_lines};
     ghost use Rattle.sabr_session.specs.SessionStage.{said_with};
 
     ghost Value = { OpenText };
 
     ghost view = { λ l. record { plan = l.stage.plan; calls = l.stage.calls; fed = record { lines = l.lines; said = said_with l.head l.stage; held = [] } } };
 
-    ghost invariant = { λ l. (l.stage.has_request ≡ nat_lt 2 l.lines) × (l.lines ≤ 18446744073709551622) };
+    ghost invariant = { λ l. (l.stage.has_request ≡ nat_lt 2 l.lines) × (l.lines ≤ most_lines) };
 }
 
 /// Reads the line of this number, for a plan of this digest.
@@ -60,7 +60,7 @@ fn read_said<'p, B: BestOf<A>, A: Allocator + Copy>(
     ensures plan { stage.new.plan ≡ stage.old.plan }
     ensures calls { stage.new.calls ≡ stage.old.calls }
     ensures request { OnOk result (stage.new.has_request ≡ nat_lt 2 number) }
-    ensures limit { OnOk result (number ≤ 18446744073709551622) }
+    ensures limit { OnOk result (number ≤ most_lines) }
     ensures head { OnErr result (head.new ≡ head.old) }
     ensures stage { OnErr result (stage.new ≡ stage.old) }
 {
@@ -97,7 +97,7 @@ fn read_other<'p, B: BestOf<A>, A: Allocator + Copy>(
     ensures plan { stage.new.plan ≡ stage.old.plan }
     ensures calls { stage.new.calls ≡ stage.old.calls }
     ensures request { stage.new.has_request ≡ true }
-    ensures limit { OnOk result (number ≤ 18446744073709551622) }
+    ensures limit { OnOk result (number ≤ most_lines) }
     ensures stage { OnErr result (stage.new ≡ stage.old) }
 {
     let end = OTHER_LINES + u128::from(head.count());
@@ -112,7 +112,7 @@ fn read_other<'p, B: BestOf<A>, A: Allocator + Copy>(
 }
 
 impl<'p, B: BestOf<A>, A: Allocator + Copy> LinesRead<'p, B, A> {
-    /// Makes a text before any line is read.
+    /// Returns a text before any line is read.
     pub(crate) fn new(alloc: A, plan: &'p Plan<A>, finder: B) -> LinesRead<'p, B, A>
         ensures { result ≡ opened_over plan.now (B.calls_of finder) }
     {
@@ -127,7 +127,7 @@ impl<'p, B: BestOf<A>, A: Allocator + Copy> LinesRead<'p, B, A> {
     /// The number of the next line.
     pub(crate) fn next_number(&self) -> u128
         ensures value { result ≡ self.now.fed.lines + 1 }
-        ensures limit { result ≤ 18446744073709551623 }
+        ensures limit { result ≤ most_lines + 1 }
     {
         self.lines + 1
     }
@@ -159,7 +159,7 @@ impl<'p, B: BestOf<A>, A: Allocator + Copy> LinesRead<'p, B, A> {
         Ok(())
     }
 
-    /// Makes the session of all lines, after `end`.
+    /// Returns the session of all lines, after `end`.
     pub(crate) fn into_session(self) -> Result<Session<'p, B, A>, SessionFault>
         requires { is_behind (self.fed.lines + 1) self.fed.said ≡ true }
         ensures from { IsSessionFrom self.entry.plan (Ok self.entry.fed.said) result }

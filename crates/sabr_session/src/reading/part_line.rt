@@ -30,7 +30,7 @@ impl<A: Allocator + Copy> Model for PartLine<A> {
 }
 
 impl<A: Allocator + Copy> PartLine<A> {
-    /// Makes three empty lists. It takes no memory.
+    /// Returns three empty lists. It takes no memory.
     pub(crate) fn new(alloc: A) -> PartLine<A>
         ensures { result ≡ record { prefix = []; excluded = []; carried = None } }
     {

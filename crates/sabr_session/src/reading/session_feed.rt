@@ -1,10 +1,10 @@
 //! A session text that is read in pieces.
 
-ghost use Rattle.std.specs.Prelude.{◌≡◌, ◌+◌, ◌*◌, ◌<◌, ◌≤◌, length, Ok, MatchResult, IfOk, OnOk};
+ghost use Rattle.std.specs.Prelude.{◌≡◌, ◌+◌, ◌<◌, ◌≤◌, length, Ok, MatchResult, IfOk, OnOk};
 ghost use Rattle.sabr_plan.specs.Canonical.{digest_of};
 ghost use Rattle.sabr_frontier.specs.Listing.{IsState};
 ghost use Rattle.sabr_session.specs.SessionRead.{most_bytes};
-ghost use Rattle.sabr_session.specs.SessionFed.{IsFed, IsFinished, opened_over, weight_of};
+ghost use Rattle.sabr_session.specs.SessionFed.{IsFed, IsFinished, opened_over, weight_of, weight_bound};
 
 use crate::reading::text_so_far::TextSoFar;
 use crate::session_fault::SessionFault;
@@ -33,7 +33,7 @@ impl<'p, B: BestOf<A>, A: Allocator + Copy> Model for SessionFeed<'p, B, A> {
 }
 
 impl<'p, B: BestOf<A>, A: Allocator + Copy> SessionFeed<'p, B, A> {
-    /// Makes a feed before its first piece. The digest is that of the plan. It takes no memory.
+    /// Returns a feed before its first piece. The digest is that of the plan. It takes no memory.
     pub fn new(alloc: A, plan: &'p Plan<A>, digest: &[u8; 32], finder: B) -> SessionFeed<'p, B, A>
         requires { digest.now ≡ digest_of plan.now.plan }
         ensures { result ≡ Ok (opened_over plan.now (B.calls_of finder)) }
@@ -58,7 +58,7 @@ impl<'p, B: BestOf<A>, A: Allocator + Copy> SessionFeed<'p, B, A> {
     pub fn feed(&mut self, piece: &[u8]) -> Result<(), SessionFault>
         ensures fed { IsFed self.old piece.now result self.new }
         ensures grows { OnOk result (weight_of self.old + length piece.now ≤ weight_of self.new) }
-        ensures bound { OnOk result (weight_of self.new < 660009 * 18446744073709551623) }
+        ensures bound { OnOk result (weight_of self.new < weight_bound) }
     {
         let fault = match &mut self.text {
             Ok(text) => match text.take_in(piece) {

@@ -35,8 +35,8 @@ pub fn read_session<'p, R: Read, B: BestOf<A>, A: Allocator + Copy>(
     finder: B,
 ) -> Result<Session<'p, B, A>, SessionFault>
     requires { digest.now ≡ digest_of plan.now.plan }
-    ensures read { ReadsSession plan.now (R.remaining reader.old) (R.failures reader.old) result (R.remaining reader.new) (R.failures reader.new) }
-    ensures failed { IfErr result (λ f. f ≡ fault.Read → R.failures reader.new ≡ R.failures reader.old + 1) }
+    ensures read { ReadsSession plan.now (R.input reader.old) result (R.input reader.new) }
+    ensures failed { IfErr result (λ f. f ≡ fault.Read → (R.input reader.new).failures ≡ (R.input reader.old).failures + 1) }
     ensures calls { IfOk result (λ s. s.calls ≡ B.calls_of finder) }
     ensures formed { IfOk result (λ s. IsState s.plan.plan s.request s.state) }
 {

@@ -40,7 +40,7 @@ impl<'p, B: BestOf<A>, A: Allocator + Copy> Model for Stage<'p, B, A> {
 }
 
 impl<'p, B: BestOf<A>, A: Allocator + Copy> Stage<'p, B, A> {
-    /// Makes a stage without a request.
+    /// Returns a stage without a request.
     pub(crate) fn new(alloc: A, plan: &'p Plan<A>, finder: B) -> Stage<'p, B, A>
         ensures { result ≡ staged plan.now (Some (B.calls_of finder)) None }
     {
@@ -103,7 +103,7 @@ impl<'p, B: BestOf<A>, A: Allocator + Copy> Stage<'p, B, A> {
         }
     }
 
-    /// Makes the session of the parts.
+    /// Returns the session of the parts.
     pub(crate) fn into_session(
         self,
         emitted: u128,

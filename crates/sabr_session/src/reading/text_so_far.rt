@@ -1,10 +1,10 @@
 //! A session text that hasn't been refused yet.
 
-ghost use Rattle.std.specs.Prelude.{◌≡◌, ◌+◌, ◌*◌, ◌<◌, ◌≤◌, [], ◌++◌, length, true, false, IsTrue, IfOk, IfErr, OnOk, OnErr};
+ghost use Rattle.std.specs.Prelude.{◌≡◌, ◌+◌, ◌<◌, ◌≤◌, [], ◌++◌, length, true, false, IsTrue, IfOk, IfErr, OnOk, OnErr};
 ghost use Rattle.sabr_plan.specs.Canonical.{digest_of};
 ghost use Rattle.sabr_plan.specs.Words.{is_one_line};
 ghost use Rattle.sabr_session.specs.SessionRead.{misspelled, most_bytes, read_line};
-ghost use Rattle.sabr_session.specs.SessionFed.{GoesOn, IsRefusedFront, IsRefusedPiece, IsSessionFrom, is_bad_front, opened_over, outcome_of, weight};
+ghost use Rattle.sabr_session.specs.SessionFed.{GoesOn, IsRefusedFront, IsRefusedPiece, IsSessionFrom, is_bad_front, opened_over, outcome_of, weight, weight_bound};
 ghost use Rattle.sabr_session.specs.SessionLeaving.{Leaves};
 
 use crate::reading::held_line::{HeldLine, MOST_BYTES};
@@ -51,7 +51,7 @@ fn misspelled(number: u128) -> SessionFault
 }
 
 impl<'p, B: BestOf<A>, A: Allocator + Copy> TextSoFar<'p, B, A> {
-    /// Makes an empty text. It takes no memory.
+    /// Returns an empty text. It takes no memory.
     pub(crate) fn new(
         alloc: A,
         plan: &'p Plan<A>,
@@ -81,7 +81,7 @@ impl<'p, B: BestOf<A>, A: Allocator + Copy> TextSoFar<'p, B, A> {
         ensures ok { OnOk result (GoesOn self.old piece.now self.new) }
         ensures err { IfErr result (IsRefusedPiece self.old piece.now) }
         ensures grows { OnOk result (weight self.old + length piece.now ≤ weight self.new) }
-        ensures bound { OnOk result (weight self.new < 660009 * 18446744073709551623) }
+        ensures bound { OnOk result (weight self.new < weight_bound) }
     {
         let mut rest = piece;
         while let Some(end) = line_end(rest) {
@@ -121,7 +121,7 @@ impl<'p, B: BestOf<A>, A: Allocator + Copy> TextSoFar<'p, B, A> {
     fn hold(&mut self, bytes: &[u8]) -> Result<(), SessionFault>
         requires { IsTrue (is_one_line bytes.now) }
         ensures ok { OnOk result (self.new ≡ record self.old { fed = record self.old.fed { held = self.old.fed.held ++ bytes.now } }) }
-        ensures bound { OnOk result (weight self.new < 660009 * 18446744073709551623) }
+        ensures bound { OnOk result (weight self.new < weight_bound) }
         ensures held { IsTrue (is_one_line self.old.fed.held) }
         ensures fine { OnOk result (is_bad_front (self.old.fed.lines + 1) self.old.fed.said (self.old.fed.held ++ bytes.now) ≡ false) }
         ensures err { IfErr result (IsRefusedFront self.old bytes.now) }

@@ -19,7 +19,7 @@ pub fn put_pieces<W: Write>(
     text: &mut TextBuffer<'_, W>,
     pieces: &[&[u8]],
 ) -> Result<(), WriteFault>
-    ensures { Puts W.contents W.failures text.old (concat (map (λ t. t.now) pieces.now)) result text.new }
+    ensures { Puts W.output text.old (concat (map (λ t. t.now) pieces.now)) result text.new }
 {
     for piece in pieces {
         text.put(piece)?;
@@ -33,7 +33,7 @@ pub(crate) fn put_list<W: Write, N: Integer>(
     label: &[u8],
     numbers: &[N],
 ) -> Result<(), WriteFault>
-    ensures { Puts W.contents W.failures text.old (label.now ++ listed_by N.text numbers.now) result text.new }
+    ensures { Puts W.output text.old (label.now ++ listed_by N.text numbers.now) result text.new }
 {
     match numbers.split_first() {
         Some((first, others)) => {

@@ -13,7 +13,7 @@ pub(crate) fn put_digits<W: Write, N: Integer>(
     text: &mut TextBuffer<'_, W>,
     number: N,
 ) -> Result<(), WriteFault>
-    ensures { Puts W.contents W.failures text.old (N.text number) result text.new }
+    ensures { Puts W.output text.old (N.text number) result text.new }
 {
     let mut digits = Buffer::new();
     text.put(digits.format(number).as_bytes())
@@ -25,7 +25,7 @@ pub(crate) fn put_number<W: Write, N: Integer>(
     label: &[u8],
     number: N,
 ) -> Result<(), WriteFault>
-    ensures { Puts W.contents W.failures text.old (label.now ++ N.text number) result text.new }
+    ensures { Puts W.output text.old (label.now ++ N.text number) result text.new }
 {
     text.put(label)?;
     put_digits(text, number)
@@ -36,7 +36,7 @@ pub(crate) fn put_numbers<W: Write, N: Integer>(
     text: &mut TextBuffer<'_, W>,
     numbers: &[N],
 ) -> Result<(), WriteFault>
-    ensures { Puts W.contents W.failures text.old (spaced_by N.text numbers.now) result text.new }
+    ensures { Puts W.output text.old (spaced_by N.text numbers.now) result text.new }
 {
     for number in numbers {
         put_number(text, b" ", *number)?;

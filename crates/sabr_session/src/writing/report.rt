@@ -3,6 +3,7 @@
 ghost use Rattle.std.specs.Prelude.{◌≡◌, ℕ, ◌+◌, ◌^◌, ◌<◌, ◌≤◌, All, length};
 ghost use Rattle.std.specs.List.{concat};
 ghost use Rattle.sabr_model.specs.Devices.{WritesText};
+ghost use Rattle.sabr_plan.specs.Times.{last_spelled};
 ghost use Rattle.sabr_session.specs.Gathering.{Puts};
 ghost use Rattle.sabr_session.specs.ReportText.{HasSpelledTimes, told_pieces, route_line, report_line, report_lines, last_line, report_text};
 
@@ -29,7 +30,7 @@ pub fn write_report<W: Write, A: Allocator + Copy>(
 ) -> Result<(), WriteFault>
     requires ranks { first_rank + length routes.now < 2 ^ 128 }
     requires times { All HasSpelledTimes routes.now }
-    ensures { WritesText (W.contents writer.old) (W.failures writer.old) (report_text routes.now first_rank more) result (W.contents writer.new) (W.failures writer.new) }
+    ensures { WritesText (W.output writer.old) (report_text routes.now first_rank more) result (W.output writer.new) }
 {
     let mut text = TextBuffer::new(writer);
     put_lines(&mut text, routes, first_rank)?;
@@ -49,7 +50,7 @@ pub fn write_route<W: Write, A: Allocator + Copy>(
     writer: &mut W,
 ) -> Result<(), WriteFault>
     requires { HasSpelledTimes route.now }
-    ensures { WritesText (W.contents writer.old) (W.failures writer.old) (route_line route.now) result (W.contents writer.new) (W.failures writer.new) }
+    ensures { WritesText (W.output writer.old) (route_line route.now) result (W.output writer.new) }
 {
     let mut text = TextBuffer::new(writer);
     put_route(&mut text, route)?;
@@ -64,7 +65,7 @@ fn put_lines<W: Write, A: Allocator + Copy>(
 ) -> Result<(), WriteFault>
     requires ranks { first_rank + length routes.now < 2 ^ 128 }
     requires times { All HasSpelledTimes routes.now }
-    ensures { Puts W.contents W.failures text.old (report_lines first_rank routes.now) result text.new }
+    ensures { Puts W.output text.old (report_lines first_rank routes.now) result text.new }
 {
     let mut rank = first_rank;
     for route in routes {
@@ -81,7 +82,7 @@ fn put_line<W: Write, A: Allocator + Copy>(
     route: &Route<A>,
 ) -> Result<(), WriteFault>
     requires { HasSpelledTimes route.now }
-    ensures { Puts W.contents W.failures text.old (report_line rank route.now) result text.new }
+    ensures { Puts W.output text.old (report_line rank route.now) result text.new }
 {
     put_digits(text, rank)?;
     text.put(b" ")?;
@@ -94,7 +95,7 @@ fn put_route<W: Write, A: Allocator + Copy>(
     route: &Route<A>,
 ) -> Result<(), WriteFault>
     requires { HasSpelledTimes route.now }
-    ensures { Puts W.contents W.failures text.old (route_line route.now) result text.new }
+    ensures { Puts W.output text.old (route_line route.now) result text.new }
 {
     let contacts = route.contacts.as_slice();
     put_route_line(text, contacts, route.delivery, route.until, route.entry)
@@ -113,8 +114,8 @@ pub fn put_route_line<W: Write>(
     until: u64,
     entry: u64,
 ) -> Result<(), WriteFault>
-    requires { (delivery ≤ 253402300799) × (until ≤ 253402300799) }
-    ensures { Puts W.contents W.failures text.old (route_line (record { contacts = contacts.now; delivery = delivery; until = until; entry = entry })) result text.new }
+    requires { (delivery ≤ last_spelled) × (until ≤ last_spelled) }
+    ensures { Puts W.output text.old (route_line (record { contacts = contacts.now; delivery = delivery; until = until; entry = entry })) result text.new }
 {
     put_told(text, contacts, delivery, until, entry)?;
     put_numbers(text, contacts)?;
@@ -129,8 +130,8 @@ fn put_told<W: Write>(
     until: u64,
     entry: u64,
 ) -> Result<(), WriteFault>
-    requires { (delivery ≤ 253402300799) × (until ≤ 253402300799) }
-    ensures { Puts W.contents W.failures text.old (concat (told_pieces (record { contacts = contacts.now; delivery = delivery; until = until; entry = entry }))) result text.new }
+    requires { (delivery ≤ last_spelled) × (until ≤ last_spelled) }
+    ensures { Puts W.output text.old (concat (told_pieces (record { contacts = contacts.now; delivery = delivery; until = until; entry = entry }))) result text.new }
 {
     let mut hops = Buffer::new();
     let mut node = Buffer::new();
@@ -152,7 +153,7 @@ fn put_told<W: Write>(
 
 /// Puts `more` if the listing goes on, and else `end`.
 fn put_last_line<W: Write>(text: &mut TextBuffer<'_, W>, more: bool) -> Result<(), WriteFault>
-    ensures { Puts W.contents W.failures text.old (last_line more) result text.new }
+    ensures { Puts W.output text.old (last_line more) result text.new }
 {
     if more {
         text.put(b"more\n")

@@ -37,7 +37,7 @@ pub fn write_session<W: Write, B: BestOf<A>, A: Allocator + Copy>(
 ) -> Result<(), WriteFault>
     requires { digest.now ≡ digest_of session.now.plan.plan }
     ensures there { HasText session.now.state }
-    ensures text { WritesText (W.contents writer.old) (W.failures writer.old) (text_of_session session.now) result (W.contents writer.new) (W.failures writer.new) }
+    ensures text { WritesText (W.output writer.old) (text_of_session session.now) result (W.output writer.new) }
 {
     tell_count(session);
     let mut text = TextBuffer::new(writer);
@@ -58,7 +58,7 @@ fn put_session<W: Write, B: BestOf<A>, A: Allocator + Copy>(
     session: &Session<'_, B, A>,
     digest: &[u8; 32],
 ) -> Result<(), WriteFault>
-    ensures { Puts W.contents W.failures text.old (text_of digest.now session.now.request session.now.state) result text.new }
+    ensures { Puts W.output text.old (text_of digest.now session.now.request session.now.state) result text.new }
 {
     text.put(b"cgr-session 2\n")?;
     put_digest(text, digest)?;
@@ -68,7 +68,7 @@ fn put_session<W: Write, B: BestOf<A>, A: Allocator + Copy>(
 
 /// Puts the line of the digest.
 fn put_digest<W: Write>(text: &mut TextBuffer<'_, W>, digest: &[u8; 32]) -> Result<(), WriteFault>
-    ensures { Puts W.contents W.failures text.old (plan_line digest.now) result text.new }
+    ensures { Puts W.output text.old (plan_line digest.now) result text.new }
 {
     let digits = digest_text(digest);
     let pieces: [&[u8]; 3] = [b"plan ", &digits, b"\n"];
@@ -77,7 +77,7 @@ fn put_digest<W: Write>(text: &mut TextBuffer<'_, W>, digest: &[u8; 32]) -> Resu
 
 /// Puts the line of the request.
 fn put_request<W: Write>(text: &mut TextBuffer<'_, W>, request: &Request) -> Result<(), WriteFault>
-    ensures { Puts W.contents W.failures text.old (request_line request.now) result text.new }
+    ensures { Puts W.output text.old (request_line request.now) result text.new }
 {
     put_asked(text, request)?;
     put_list(text, b" / ", request.avoided())?;
@@ -86,7 +86,7 @@ fn put_request<W: Write>(text: &mut TextBuffer<'_, W>, request: &Request) -> Res
 
 /// Puts the values of the request, except for the avoided nodes.
 fn put_asked<W: Write>(text: &mut TextBuffer<'_, W>, request: &Request) -> Result<(), WriteFault>
-    ensures { Puts W.contents W.failures text.old (concat (asked_pieces request.now)) result text.new }
+    ensures { Puts W.output text.old (concat (asked_pieces request.now)) result text.new }
 {
     let mut from = Buffer::new();
     let mut to = Buffer::new();
@@ -113,7 +113,7 @@ fn put_state<W: Write, B: BestOf<A>, A: Allocator + Copy>(
     text: &mut TextBuffer<'_, W>,
     session: &Session<'_, B, A>,
 ) -> Result<(), WriteFault>
-    ensures { Puts W.contents W.failures text.old (state_lines session.now.state) result text.new }
+    ensures { Puts W.output text.old (state_lines session.now.state) result text.new }
 {
     put_counts(text, session)?;
     put_parts(text, session.parts())?;
@@ -125,7 +125,7 @@ fn put_counts<W: Write, B: BestOf<A>, A: Allocator + Copy>(
     text: &mut TextBuffer<'_, W>,
     session: &Session<'_, B, A>,
 ) -> Result<(), WriteFault>
-    ensures { Puts W.contents W.failures text.old (concat (counts_pieces session.now.state)) result text.new }
+    ensures { Puts W.output text.old (concat (counts_pieces session.now.state)) result text.new }
 {
     put_number(text, b"emitted ", session.emitted())?;
     put_list(text, b"\nlast ", session.last())?;
@@ -138,7 +138,7 @@ fn put_parts<W: Write, A: Allocator + Copy>(
     text: &mut TextBuffer<'_, W>,
     parts: Parts<'_, A>,
 ) -> Result<(), WriteFault>
-    ensures { Puts W.contents W.failures text.old (flat_map told_line (told_left parts.entry)) result text.new }
+    ensures { Puts W.output text.old (flat_map told_line (told_left parts.entry)) result text.new }
 {
     for part in parts {
         put_part(text, &part)?;
@@ -151,7 +151,7 @@ fn put_part<W: Write, A: Allocator + Copy>(
     text: &mut TextBuffer<'_, W>,
     part: &PartView<'_, A>,
 ) -> Result<(), WriteFault>
-    ensures { Puts W.contents W.failures text.old (told_line (told_of part.now)) result text.new }
+    ensures { Puts W.output text.old (told_line (told_of part.now)) result text.new }
 {
     put_list(text, b"part ", part.prefix)?;
     put_list(text, b" / ", part.excluded)?;

@@ -16,7 +16,7 @@ pub struct TextBuffer<'w, W> {
 }
 
 impl<'w, W: Write> TextBuffer<'w, W> {
-    /// Makes a buffer that holds no bytes yet.
+    /// Returns a buffer that holds no bytes yet.
     pub fn new(writer: &'w mut W) -> TextBuffer<'w, W>
         ensures { IsEmptyBefore writer.entry result }
     {
@@ -33,7 +33,7 @@ impl<'w, W: Write> TextBuffer<'w, W> {
     ///
     /// [`WriteFault`] if the writer failed. Then a beginning of the bytes held and the text was written.
     pub fn put(&mut self, text: &[u8]) -> Result<(), WriteFault>
-        ensures { Puts W.contents W.failures self.old text.now result self.new }
+        ensures { Puts W.output self.old text.now result self.new }
     {
         if text.len() > CAPACITY - self.held.len() {
             self.send()?;
@@ -53,7 +53,7 @@ impl<'w, W: Write> TextBuffer<'w, W> {
     ///
     /// [`WriteFault`] if the writer failed. Then a beginning of them was written.
     pub fn send(&mut self) -> Result<(), WriteFault>
-        ensures { Sends W.contents W.failures self.old result self.new }
+        ensures { Sends W.output self.old result self.new }
     {
         write_text(self.writer, self.held.as_slice())?;
         self.held.clear();

@@ -8,4 +8,7 @@ pub returns-in_err-write_text : goal.returns-in_err-write_text
 returns-in_err-write_text g c =
     let p = err_from_is_err_and c.from_residual.result c.from_residual.ensures.1 in
     let part = rw c.as_bytes.ensures at c.in_err-write_text.ensures in
-    rw p.1 (stopped_at contact_line c.args.contacts.now c.loop-contact.contact-index _ c.loop-contact-test.true c.of_contact.result c.of_contact.ensures _ _ _ _ _ _ c.loop-contact.invariant part)
+    let shown = g.W.Write.output in
+    rw p.1
+    (stopped_at contact_line c.args.contacts.now c.loop-contact.contact-index _ c.loop-contact-test.true c.of_contact.result c.of_contact.ensures
+    (shown c.args.writer.now) (shown c.loop-contact.writer) (shown c.write_text.new.writer) c.loop-contact.invariant part)

@@ -8,4 +8,7 @@ pub returns-in_err-write_text : goal.returns-in_err-write_text
 returns-in_err-write_text g c =
     let p = err_from_is_err_and c.from_residual.result c.from_residual.ensures.1 in
     let part = rw c.as_bytes.ensures at c.in_err-write_text.ensures in
-    rw p.1 (stopped_at range_line c.args.ranges.now c.loop-range.range-index _ c.loop-range-test.true c.of_range.result c.of_range.ensures _ _ _ _ _ _ c.loop-range.invariant part)
+    let shown = g.W.Write.output in
+    rw p.1
+    (stopped_at range_line c.args.ranges.now c.loop-range.range-index _ c.loop-range-test.true c.of_range.result c.of_range.ensures
+    (shown c.args.writer.now) (shown c.loop-range.writer) (shown c.write_text.new.writer) c.loop-range.invariant part)

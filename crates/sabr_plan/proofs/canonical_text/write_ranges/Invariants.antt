@@ -5,5 +5,4 @@ use Rattle.sabr_plan.specs.Canonical.{range_line}
 use Rattle.sabr_plan.proofs.canonical_text.write_ranges.Given as goal
 
 abbrev pub invariant-loop-range : goal.invariant-loop-range
-invariant-loop-range g l =
-    Written (g.W.Write.contents l.initial.writer) (g.W.Write.failures l.initial.writer) (flat_map range_line (take l.range-index l.ranges)) (g.W.Write.contents l.writer) (g.W.Write.failures l.writer)
+invariant-loop-range g l = Written (g.W.Write.output l.initial.writer) (flat_map range_line (take l.range-index l.ranges)) (g.W.Write.output l.writer)

@@ -11,7 +11,7 @@ loop-feed-init g c = record { read = nothing_was_read _ c.new-feed.result c.new-
 pub returns-in-Ok-eq0-clause-read : goal.returns-in-Ok-eq0-clause-read
 returns-in-Ok-eq0-clause-read g c =
     let h = c.in-Ok-eq0.ensures in
-    text_ended _ _ _ c.loop-feed.feed _ _ c.finish.result c.loop-feed.invariant.read (rw c.in-Ok-eq0.field-0-test at h.bytes.0) (h.bytes.1 c.in-Ok-eq0.field-0-test (omega (arith, c.read.auto.buf))) (omega (arith, h.count, c.loop-feed.invariant.fine)) c.finish.ensures
+    text_ended _ _ _ c.loop-feed.feed c.finish.result c.loop-feed.invariant.read (rw c.in-Ok-eq0.field-0-test at h.bytes.0) (h.bytes.1 c.in-Ok-eq0.field-0-test (omega (arith, c.read.auto.buf))) (omega (arith, h.count, c.loop-feed.invariant.fine)) c.finish.ensures
 
 pub loop-feed-preserved : goal.loop-feed-preserved
 loop-feed-preserved g c =
@@ -25,10 +25,10 @@ pub returns-in_err-feed-in-Ok-clause-read : goal.returns-in_err-feed-in-Ok-claus
 returns-in_err-feed-in-Ok-clause-read g c =
     let p = err_from_is_err_and c.from_residual.result c.from_residual.ensures.1 in
     let h = c.in-Ok.ensures in
-    rw (p.1, p.2) (piece_refused _ _ _ c.loop-feed.feed _ _ _ c.in_err-feed-in-Ok.field-0.0 c.loop-feed.invariant.read h.bytes.0 (omega (arith, h.count, c.loop-feed.invariant.fine)) c.in_err-feed-in-Ok.ensures.fed)
+    rw (p.1, p.2) (piece_refused _ _ _ c.loop-feed.feed _ c.in_err-feed-in-Ok.field-0.0 c.loop-feed.invariant.read h.bytes.0 (omega (arith, h.count, c.loop-feed.invariant.fine)) c.in_err-feed-in-Ok.ensures.fed)
 
 pub returns-in-Ok-eq0-clause-failed : goal.returns-in-Ok-eq0-clause-failed
-returns-in-Ok-eq0-clause-failed g c = read_failed _ _ c.finish.result _ _ (returns-in-Ok-eq0-clause-read g c)
+returns-in-Ok-eq0-clause-failed g c = read_failed _ c.finish.result _ (returns-in-Ok-eq0-clause-read g c)
 
 pub returns-in_err-feed-in-Ok-clause-failed : goal.returns-in_err-feed-in-Ok-clause-failed
-returns-in_err-feed-in-Ok-clause-failed g c = read_failed _ _ c.from_residual.result _ _ (returns-in_err-feed-in-Ok-clause-read g c)
+returns-in_err-feed-in-Ok-clause-failed g c = read_failed _ c.from_residual.result _ (returns-in_err-feed-in-Ok-clause-read g c)

@@ -12,16 +12,16 @@ use Rattle.commands.proofs.runs.next.write_next.Goals.{then-keep, else-keep}
 pub returns-in_err-plan : goal.returns-in_err-plan
 returns-in_err-plan g c =
     let (failure, is, told) = err_from_is_err_and c.from_residual.result c.from_residual.ensures.1 in
-    (Err c.in_err-plan.field-0.0, (Err NoMemory, c.in_err-plan.ensures {u = tt}, (refl, refl), (is ∙ ap Err told, (refl, refl), (refl, refl))))
+    (Err c.in_err-plan.field-0.0, (Err NoMemory, c.in_err-plan.ensures {u = tt}, refl, (is ∙ ap Err told, refl, refl)))
 
 pub returns-in_err-listing : goal.returns-in_err-listing
 returns-in_err-listing g c =
     let (failure, is, told) = err_from_is_err_and c.from_residual-in_err-listing.result c.from_residual-in_err-listing.ensures.1 in
-    (Ok c.in_ok-plan.plan, (Err c.in_err-listing.field-0.0, c.in_ok-plan.ensures, c.in_err-listing.ensures.read, (is ∙ ap Err told, (refl, refl), (refl, refl))))
+    (Ok c.in_ok-plan.plan, (Err c.in_err-listing.field-0.0, c.in_ok-plan.ensures, c.in_err-listing.ensures.read, (is ∙ ap Err told, refl, refl)))
 
 pub write_page-requires-clause-digest : goal.write_page-requires-clause-digest
 write_page-requires-clause-digest g c =
-    let over = is_over_plan _ _ _ _ _ _ (c.in_ok-listing.ensures {u = tt}).read in
+    let over = is_over_plan _ _ _ _ (c.in_ok-listing.ensures {u = tt}).read in
     let same = c.digest-digest.ensures ∙ ap (λ (p : TabledPlan). digest_of p.plan) (sym over) in
     elim c.if-keep.branch [
       | then-keep w ↦ rw w.keep-is same
@@ -30,7 +30,7 @@ write_page-requires-clause-digest g c =
 
 pub returns : goal.returns
 returns g c =
-    let over = is_over_plan _ _ _ _ _ _ (c.in_ok-listing.ensures {u = tt}).read in
+    let over = is_over_plan _ _ _ _ (c.in_ok-listing.ensures {u = tt}).read in
     let keeps : is_some c.if-keep.keep ≡ c.args.keep = elim c.if-keep.branch [
       | then-keep w ↦ ap is_some w.keep-is ∙ sym w.if-keep.true
       | else-keep w ↦ ap is_some w.keep-is ∙ sym w.if-keep.false

@@ -20,14 +20,14 @@ pub returns-in_err-send_report : goal.returns-in_err-send_report
 returns-in_err-send_report g c =
     let paged = c.in_ok-routes.ensures {u = tt} in
     let report = report_of_page c.args.listing c.page.new.self c.args.count _ _ _ (c.as_slice.ensures.value ∙ paged.routes) c.emitted-first_rank.ensures.count c.more.ensures paged.plan paged.request paged.state in
-    report_failed _ _ _ _ _ _ _ _ _ _ _ _ c.from_residual-in_err-send_report.ensures.1 (rw report at (c.in_err-send_report.ensures).text)
+    report_failed _ _ _ _ _ _ _ c.from_residual-in_err-send_report.ensures.1 (rw report at (c.in_err-send_report.ensures).text)
 
 pub returns-in_default : goal.returns-in_default
 returns-in_default g c =
     let paged = c.in_ok-routes.ensures {u = tt} in
     let report = report_of_page c.args.listing c.page.new.self c.args.count _ _ _ (c.as_slice.ensures.value ∙ paged.routes) c.emitted-first_rank.ensures.count c.more.ensures paged.plan paged.request paged.state in
     let sent = c.in_ok-send_report.ensures in
-    rw c.in_default.is ((rw report at sent.text, sent.flushed), Written-nil _ _, λ kept. absurd cc)
+    rw c.in_default.is ((rw report at sent.text, sent.flushed), Written-nil (g.S.Write.output c.args.session.now), λ kept. absurd cc)
 
 pub returns-in_err-send_session : goal.returns-in_err-send_session
 returns-in_err-send_session g c =
@@ -36,4 +36,4 @@ returns-in_err-send_session g c =
     let sent = c.in_ok-send_report.ensures in
     let text = text_behind c.args.listing c.page.new.self c.args.count paged.plan paged.request paged.state in
     rw c.in-Some.is
-    (session_failed true _ _ _ _ _ _ _ _ _ _ _ _ _ c.from_residual-in_err-send_session.ensures.1 refl (rw report at sent.text, sent.flushed) (rw text at (c.in_err-send_session.ensures).text))
+    (session_failed true _ _ _ _ _ _ _ c.from_residual-in_err-send_session.ensures.1 refl (rw report at sent.text, sent.flushed) (rw text at (c.in_err-send_session.ensures).text))

@@ -13,7 +13,8 @@ returns-in_err-write_counts g c =
     let p = err_from_is_err_and c.from_residual.result c.from_residual.ensures.1 in
     let plan = c.args.plan.now.plan in
     let digits : List ℕ = encode_lower (digest_of plan) in
-    rw p.1 (stopped_in_one _ _ _ _ (counts_text plan) (codes "digest ") digits (codes "\n") c.in_err-write_counts.ensures)
+    let shown = g.W.Write.output in
+    rw p.1 (stopped_in_one (shown c.args.writer.now) (shown c.write_counts.new.writer) (counts_text plan) (codes "digest ") digits (codes "\n") c.in_err-write_counts.ensures)
 
 pub returns-in_err-write_text : goal.returns-in_err-write_text
 unfolding check_text
@@ -22,7 +23,8 @@ returns-in_err-write_text g c =
     let p = err_from_is_err_and r.result r.ensures.1 in
     let plan = c.args.plan.now.plan in
     let digits : List ℕ = encode_lower (digest_of plan) in
-    rw p.1 (stopped_in_two _ _ _ _ (counts_text plan) (codes "digest ") digits (codes "\n") _ _ c.in_ok-write_counts.ensures c.in_err-write_text.ensures)
+    let shown = g.W.Write.output in
+    rw p.1 (stopped_in_two (shown c.args.writer.now) (shown c.write_text.new.writer) (counts_text plan) (codes "digest ") digits (codes "\n") (shown c.write_counts.new.writer) c.in_ok-write_counts.ensures c.in_err-write_text.ensures)
 
 pub returns-in_err-write_text-2 : goal.returns-in_err-write_text-2
 unfolding check_text
@@ -31,13 +33,15 @@ returns-in_err-write_text-2 g c =
     let p = err_from_is_err_and r.result r.ensures.1 in
     let plan = c.args.plan.now.plan in
     let digits : List ℕ = encode_lower (digest_of plan) in
+    let shown = g.W.Write.output in
     let h = rw (c.digest_text-digits.ensures, c.digest.ensures) at c.in_err-write_text-2.ensures in
-    rw p.1 (stopped_in_three _ _ _ _ (counts_text plan) (codes "digest ") digits (codes "\n") _ _ c.in_ok-write_counts.ensures _ _ c.in_ok-write_text.ensures h)
+    rw p.1 (stopped_in_three (shown c.args.writer.now) (shown c.write_text-2.new.writer) (counts_text plan) (codes "digest ") digits (codes "\n") (shown c.write_counts.new.writer) c.in_ok-write_counts.ensures (shown c.write_text.new.writer) c.in_ok-write_text.ensures h)
 
 pub returns : goal.returns
 unfolding check_text
 returns g c =
     let plan = c.args.plan.now.plan in
     let digits : List ℕ = encode_lower (digest_of plan) in
+    let shown = g.W.Write.output in
     let third = rw (c.digest_text-digits.ensures, c.digest.ensures) at c.in_ok-write_text-2.ensures in
-    at_last _ _ _ _ (counts_text plan) (codes "digest ") digits (codes "\n") _ _ c.in_ok-write_counts.ensures _ _ c.in_ok-write_text.ensures _ _ c.write_text-3.result third c.write_text-3.ensures
+    at_last (shown c.args.writer.now) (shown c.write_text-3.new.writer) (counts_text plan) (codes "digest ") digits (codes "\n") (shown c.write_counts.new.writer) c.in_ok-write_counts.ensures (shown c.write_text.new.writer) c.in_ok-write_text.ensures (shown c.write_text-2.new.writer) c.write_text-3.result third c.write_text-3.ensures

@@ -8,5 +8,5 @@ use Rattle.commands.proofs.texts.hop_lines.put_hops.Given as goal
 abbrev pub invariant-loop-i : goal.invariant-loop-i
 invariant-loop-i g l = record {
   arrived : arrival_after l.plan.plan l.request l.request.at (take l.i l.hops) ≡ Some l.at;
-  gathered : HasPut g.W.Write.contents g.W.Write.failures l.fn.text (hop_lines l.plan.plan l.request [] (take l.i l.hops)) l.text;
+  gathered : HasPut g.W.Write.output l.fn.text (hop_lines l.plan.plan l.request [] (take l.i l.hops)) l.text;
 }

@@ -4,6 +4,4 @@ use Rattle.sabr_model.specs.Devices.{Written}
 use Rattle.commands.proofs.texts.messages.write_texts.Given as goal
 
 abbrev pub invariant-loop-text : goal.invariant-loop-text
-invariant-loop-text g l =
-    Written (g.W.Write.contents l.initial.writer) (g.W.Write.failures l.initial.writer) (concat (map (λ t. t.now) (take l.text-index l.texts)))
-    (g.W.Write.contents l.writer) (g.W.Write.failures l.writer)
+invariant-loop-text g l = Written (g.W.Write.output l.initial.writer) (concat (map (λ t. t.now) (take l.text-index l.texts))) (g.W.Write.output l.writer)

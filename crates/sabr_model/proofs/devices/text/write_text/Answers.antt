@@ -48,5 +48,5 @@ returns-then-taken-eq0 g c =
         (drop c.loop-at.at text, sym (take-append-drop c.loop-at.at text)),
         Appends-kept _ _ _ _ c.loop-at.invariant.written (Keeps-nil _ _ (rw none at h.bytes)),
       ),
-      h.count ∙ ap (λ k. g.W.Write.failures c.loop-at.writer + k) (stalls _ _ none (rw (rest text c.loop-at.at) (omega (arith, length-drop {A = ℕ}, c.loop-at-test.true)))) ∙ ap (λ k. k + 1) c.loop-at.invariant.fine,
+      h.count ∙ ap (λ k. (g.W.Write.output c.loop-at.writer).failures + k) (stalls _ _ none (rw (rest text c.loop-at.at) (omega (arith, length-drop {A = ℕ}, c.loop-at-test.true)))) ∙ ap (λ k. k + 1) c.loop-at.invariant.fine,
     )

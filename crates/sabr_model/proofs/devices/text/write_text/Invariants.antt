@@ -5,8 +5,8 @@ use Rattle.sabr_model.proofs.devices.text.write_text.Given as goal
 abbrev pub invariant-loop-at : goal.invariant-loop-at
 invariant-loop-at g l = record {
   in_range : l.at ≤ length l.text;
-  written : Appends (g.W.Write.contents l.initial.writer) (g.W.Write.contents l.writer) (take l.at l.text);
-  fine : g.W.Write.failures l.writer ≡ g.W.Write.failures l.initial.writer;
+  written : Appends (g.W.Write.output l.initial.writer).contents (g.W.Write.output l.writer).contents (take l.at l.text);
+  fine : (g.W.Write.output l.writer).failures ≡ (g.W.Write.output l.initial.writer).failures;
 }
 
 abbrev pub decreases-loop-at : goal.decreases-loop-at

@@ -1,4 +1,4 @@
--- Each LF of a piece ends a line, and what is behind the last is held.
+-- Each LF of a piece ends a line, and what comes after the last is held.
 use Rattle.std.proofs.Common.{◌≡◌, ◌-◌, length, take, drop, refl, arith, true, length-drop}
 use Rattle.std.proofs.lemmas.List.{take_all}
 use Rattle.std.proofs.lemmas.Result.{err_from_is_err_and}

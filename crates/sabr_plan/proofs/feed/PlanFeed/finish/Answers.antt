@@ -1,4 +1,4 @@
--- The text ends behind what is held.
+-- The text ends after what is held.
 use Rattle.std.proofs.Common.{◌≡◌, ◌+◌, sym, ap, ◌∙◌, true, inl, inr, [], Ok, Err, ◌⊎◌}
 use Rattle.std.proofs.lemmas.Result.{err_from_is_err_and}
 use Rattle.sabr_model.specs.Plan.{ContactPlan}

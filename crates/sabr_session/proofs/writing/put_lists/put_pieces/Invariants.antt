@@ -4,4 +4,4 @@ use Rattle.sabr_session.proofs.Pieces.{joined}
 use Rattle.sabr_session.proofs.writing.put_lists.put_pieces.Given as goal
 
 abbrev pub invariant-loop-piece : goal.invariant-loop-piece
-invariant-loop-piece g l = HasPut g.W.Write.contents g.W.Write.failures l.fn.text (joined (take l.piece-index l.pieces)) l.text
+invariant-loop-piece g l = HasPut g.W.Write.output l.fn.text (joined (take l.piece-index l.pieces)) l.text

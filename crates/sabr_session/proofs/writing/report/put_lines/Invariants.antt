@@ -6,5 +6,5 @@ use Rattle.sabr_session.proofs.writing.report.put_lines.Given as goal
 abbrev pub invariant-loop-route : goal.invariant-loop-route
 invariant-loop-route g l = record {
   counted : l.rank ≡ l.fn.first_rank + l.route-index;
-  gathered : HasPut g.W.Write.contents g.W.Write.failures l.fn.text (report_lines l.fn.first_rank (take l.route-index l.routes)) l.text;
+  gathered : HasPut g.W.Write.output l.fn.text (report_lines l.fn.first_rank (take l.route-index l.routes)) l.text;
 }

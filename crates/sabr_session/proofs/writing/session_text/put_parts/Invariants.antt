@@ -6,4 +6,4 @@ use Rattle.sabr_session.specs.SessionPieces.{told_line}
 use Rattle.sabr_session.proofs.writing.session_text.put_parts.Given as goal
 
 abbrev pub invariant-loop-part : goal.invariant-loop-part
-invariant-loop-part g l = HasPut g.W.Write.contents g.W.Write.failures l.fn.text (flat_map told_line (map told_of l.yielded)) l.text
+invariant-loop-part g l = HasPut g.W.Write.output l.fn.text (flat_map told_line (map told_of l.yielded)) l.text
