@@ -11,7 +11,7 @@ use sabr_model::Write;
 use std::rt::Files;
 
 /// A command of the program.
-#[derive(Clone, Copy, Debug, PartialEq, Eq)]
+#[derive(Clone, Copy)]
 pub enum CommandName {
     /// Lists the first routes of a plan.
     First,

@@ -11,7 +11,7 @@ use sabr_plan::{PlanFault, PlanKind};
 use sabr_session::SessionFault;
 
 /// Why a run ended early. Each has a message and a status.
-#[derive(Clone, Copy, Debug, PartialEq, Eq)]
+#[derive(Clone, Copy)]
 pub enum Failure {
     /// A value of the command line is missing, misspelled, or out of its range.
     BadValue(ValueName),

@@ -18,7 +18,7 @@ use sabr_search::BestOf;
 use std::alloc::{Allocator, Global};
 
 /// What a part carries after its route was given, and the new parts.
-#[derive(Debug, Drop)]
+#[derive(Drop)]
 pub struct Division<A: Allocator + Copy = Global> {
     pub found: Option<Route<A>>,
     pub fresh: Vec<Node<A>, A>,

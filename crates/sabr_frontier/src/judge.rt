@@ -12,7 +12,7 @@ use sabr_model::{NoMemory, Route};
 use std::alloc::{Allocator, Global};
 
 /// The routes that a prefix makes with its excluded numbers, and its steps over those that make no route and go on.
-#[derive(Debug, Drop)]
+#[derive(Drop)]
 pub struct Judged<A: Allocator + Copy = Global> {
     pub leaves: Vec<Route<A>, A>,
     pub onward: Vec<Owed, A>,

@@ -8,14 +8,14 @@ use sabr_model::{Plan, Reached, Request, Told, follow_hop};
 use std::alloc::Allocator;
 
 /// Where a path leads, and what its record says besides its numbers and its delivery.
-#[derive(Clone, Copy, Debug, PartialEq, Eq)]
+#[derive(Clone, Copy)]
 pub struct Lead {
     pub here: Reached,
     pub told: Told,
 }
 
 /// A prefix that has to come as a part: it begins as the last part's prefix.
-#[derive(Clone, Copy, Debug, PartialEq, Eq)]
+#[derive(Clone, Copy)]
 pub struct Owed {
     /// The number of contacts at the front that it shares with the last part's prefix.
     pub length: usize,

@@ -18,7 +18,7 @@ use sabr_search::BestOf;
 use std::alloc::{Allocator, Global};
 
 /// What is known before the tree changes: a copy of the route, and the number of new nodes.
-#[derive(Debug, Drop)]
+#[derive(Drop)]
 pub struct Prepared<A: Allocator + Copy = Global> {
     pub route: Route<A>,
     pub count: usize,

@@ -5,11 +5,11 @@ use sabr_model::Route;
 use std::alloc::{Allocator, Global};
 
 /// Which node: its place among the nodes.
-#[derive(Clone, Copy, Debug, PartialEq, Eq)]
+#[derive(Clone, Copy)]
 pub struct NodeId(pub usize);
 
 /// A part. Its prefix is the first `length` numbers of the route given as number `leaf`, counted from 0.
-#[derive(Debug, Drop)]
+#[derive(Drop)]
 pub struct Node<A: Allocator + Copy = Global> {
     /// The route given that the prefix begins, counted from 0.
     pub leaf: usize,
@@ -23,7 +23,7 @@ pub struct Node<A: Allocator + Copy = Global> {
 
 /// What taking one route back needs: the node that carried it, how many nodes there were before, and which route was
 /// the last.
-#[derive(Clone, Copy, Debug, PartialEq, Eq)]
+#[derive(Clone, Copy)]
 pub struct Entry {
     pub node: NodeId,
     pub nodes: usize,
@@ -32,7 +32,7 @@ pub struct Entry {
 
 /// The nodes; their numbers in order of prefix, without those of the page that is made; the winners among them; the
 /// routes given; the last of them; and an entry for each route that can be taken back.
-#[derive(Debug, Drop)]
+#[derive(Drop)]
 pub struct Tree<A: Allocator + Copy = Global> {
     /// The parts, in the order in which they were made.
     pub nodes: Vec<Node<A>, A>,

@@ -10,14 +10,14 @@ use crate::swift_line::swift_addition;
 use crate::words::{five_words, is_comment, is_plain, is_word, next_word, one_word, three_words};
 
 /// What a command adds or deletes.
-#[derive(Clone, Copy, Debug, PartialEq, Eq)]
+#[derive(Clone, Copy)]
 pub enum Target {
     Contact,
     Range,
 }
 
 /// The operands of `a contact` and `a range`: times in seconds, two nodes, and a rate or a light time.
-#[derive(Clone, Copy, Debug, PartialEq, Eq)]
+#[derive(Clone, Copy)]
 pub struct Addition {
     /// The first second.
     pub start: u64,
@@ -32,7 +32,7 @@ pub struct Addition {
 }
 
 /// The operands of `d contact` and `d range`.
-#[derive(Clone, Copy, Debug, PartialEq, Eq)]
+#[derive(Clone, Copy)]
 pub struct Deletion {
     pub start: u64,
     pub first: u64,
@@ -40,7 +40,7 @@ pub struct Deletion {
 }
 
 /// The command in a line.
-#[derive(Clone, Copy, Debug, PartialEq, Eq)]
+#[derive(Clone, Copy)]
 pub enum Command {
     Nothing,
     SetReference(u64),

@@ -12,7 +12,7 @@ use sabr_model::LAST_TIME;
 const DAYS_BEFORE_EPOCH: u32 = 4371587;
 
 /// A date of the Gregorian calendar, and the time of day.
-#[derive(Clone, Copy, Debug, PartialEq, Eq)]
+#[derive(Clone, Copy)]
 pub struct TimeFields {
     /// The year.
     pub year: u16,

@@ -265,6 +265,28 @@ impl<A: Allocator + Copy> Rungs<A> {
         }
     }
 
+    /// Raises the floor to the deadline of a table, if the table's floors show that nothing delivers before it.
+    fn raise_floor(&mut self, task: &Task<'_, A>, place: usize)
+        requires task { IsTask task.now }
+        requires behind { (prefix : List ℕ) × IsBehind task.now prefix }
+        requires kept { AreRungs (tabled_of task.now) task.now.request self.old }
+        requires place { place < length self.old.rungs.items }
+        requires inside { (k : ℕ) (s : Standing) → slice_get self.old.first.items k ≡ Some s → s.node < length task.now.table }
+        requires first { AreFirstSteps task.now self.old.first.items }
+        requires floor { IsNoneBefore task.now self.old.floor }
+        ensures rungs { self.new.rungs ≡ self.old.rungs }
+        ensures first { self.new.first ≡ self.old.first }
+        ensures floor { IsNoneBefore task.now self.new.floor }
+    {
+        let _task = task;
+        let rung = &self.rungs[place];
+        let deadline = rung.deadline;
+        if deadline <= self.floor || !rung.comes_no_sooner(&self.first) {
+            return;
+        }
+        self.floor = deadline;
+    }
+
     /// Returns the least route after the prefix, if none delivers before the deadline of a table: it is read off the
     /// table, or else found by a short try backward from the goal. Raises the floor.
     fn answer_at(
@@ -295,7 +317,7 @@ impl<A: Allocator + Copy> Rungs<A> {
         ensures counted { IfOk result (λ o. hops_told o ≤ looks.new.count) }
         ensures some { IfOk result (λ o. IfSome o (IsFound task.now prefix.now max_hops)) }
     {
-        self.raise_floor(layers, task, looks, most, place)?;
+        self.raise_floor(task, place);
         let rung = &self.rungs[place];
         if self.floor != rung.deadline {
             return Ok(None);

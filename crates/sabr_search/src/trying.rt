@@ -1,12 +1,10 @@
-//! Short tries backward from the goal. They show that nothing delivers before some second, or what is after a table's
-//! dead end.
+//! Short tries backward from the goal, after a table's dead end.
 
 ghost use Rattle.std.specs.Prelude.{◌≡◌, ℕ, List, ◌+◌, ◌-◌, ◌*◌, ◌^◌, ◌≤◌, ◌<◌, Some, IfOk, IfSome, OnOk, OnErr, length, slice_get};
-ghost use Rattle.sabr_search.specs.Task.{IsTask, IsBehind};
+ghost use Rattle.sabr_search.specs.Task.{IsTask};
 ghost use Rattle.sabr_search.specs.Late.{AreArrivals};
-ghost use Rattle.sabr_search.specs.Kept.{AreRungs};
 ghost use Rattle.sabr_search.specs.Told.{hops_told};
-ghost use Rattle.sabr_search.specs.Following.{tabled_of, AreFirstSteps, IsNoneBefore, IsFound};
+ghost use Rattle.sabr_search.specs.Following.{AreFirstSteps, IsNoneBefore, IsFound};
 
 use crate::layers::{Best, Layers, NEVER};
 use crate::looks::Looks;
@@ -44,52 +42,6 @@ impl<A: Allocator + Copy> Rungs<A> {
         let soonest = soonest_of(&self.first);
         self.since.clear();
         self.since.resize(task.shut().len(), soonest)?;
-        Ok(())
-    }
-
-    /// Raises the floor to the deadline of a table, if nothing delivers before it: by the table's floors, or else if a
-    /// few looks backward from the goal show it.
-    pub fn raise_floor(
-        &mut self,
-        layers: &mut Layers<A>,
-        task: &Task<'_, A>,
-        looks: &mut Looks,
-        most: u64,
-        place: usize,
-    ) -> Result<(), NoMemory>
-        requires task { IsTask task.now }
-        requires behind { (prefix : List ℕ) × IsBehind task.now prefix }
-        requires few { looks.old.count ≤ most }
-        requires most { most ≤ 2 ^ 60 }
-        requires kept { AreRungs (tabled_of task.now) task.now.request self.old }
-        requires place { place < length self.old.rungs.items }
-        requires inside { (k : ℕ) (s : Standing) → slice_get self.old.first.items k ≡ Some s → s.node < length task.now.table }
-        requires first { AreFirstSteps task.now self.old.first.items }
-        requires floor { IsNoneBefore task.now self.old.floor }
-        ensures looks { looks.new.count ≤ most }
-        ensures rungs { self.new.rungs ≡ self.old.rungs }
-        ensures first { self.new.first ≡ self.old.first }
-        ensures floor { IsNoneBefore task.now self.new.floor }
-    {
-        let rung = &self.rungs[place];
-        let deadline = rung.deadline;
-        if deadline <= self.floor || deadline == NEVER {
-            return Ok(());
-        }
-        if rung.comes_no_sooner(&self.first) {
-            self.floor = deadline;
-            return Ok(());
-        }
-        self.begin_back(task)?;
-        let before = Best {
-            delivery: deadline - 1,
-            hops: task.shut().len(),
-        };
-        let end = most.min(looks.count + TRY);
-        let met = layers.make_back(task, looks, &self.since, before, end)?;
-        if met.is_none() && layers.have_ended() {
-            self.floor = deadline;
-        }
         Ok(())
     }
 

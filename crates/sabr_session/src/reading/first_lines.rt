@@ -15,7 +15,7 @@ use std::alloc::Allocator;
 const DIGEST_DIGITS: usize = 64;
 
 /// The version of a session text.
-#[derive(Clone, Copy, Debug, PartialEq, Eq)]
+#[derive(Clone, Copy)]
 pub(crate) enum Version {
     /// Version 1, for requests without limits.
     One,
