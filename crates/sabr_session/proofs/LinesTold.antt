@@ -1,12 +1,12 @@
 -- Lines that are read are the spelling of what they say.
 use Rattle.std.proofs.Common.{◌≡◌, ℕ, ◌≤◌, Bool, true, false, cond, ◌||◌, List, [], ◌∷◌, ◌++◌, length, take, drop, refl, sym, subst, ap, ◌∙◌, append_assoc, decimal, codes, Option, Some, None, Ok, Err, is_some, unwrap_or}
-use Rattle.std.specs.Option.{option_and_then}
+use Rattle.std.specs.Option.{option_map, option_and_then}
 use Rattle.std.specs.Str.{bytes_eq}
 use Rattle.std.proofs.lemmas.List.{take-append-drop}
 use Rattle.std.proofs.lemmas.Slice.Eq.{bytes_eq-Decides}
 use Rattle.hex.specs.Hex.{encode_lower}
 use Rattle.sabr_model.specs.Arrival.{RouteRequest}
-use Rattle.sabr_model.specs.Asking.{request_refusal, limit_refusal, unlimited, with_limits}
+use Rattle.sabr_model.specs.Asking.{most_hops, request_refusal, limit_refusal, unlimited, with_limits}
 use Rattle.sabr_plan.specs.Times.{time_text_of, time_of}
 use Rattle.sabr_plan.proofs.Seconds.{time_of_tells}
 use Rattle.sabr_frontier.specs.State.{PartState}
@@ -67,22 +67,22 @@ digest_told h s t line e =
     (named ∙ ap (λ (d : List ℕ). codes "plan " ++ d) same.0, same.1)
 
 -- the first four words of a request
-record FourTold (from to time margin : List ℕ) (hops : ℕ) (avoid : List ℕ) (v : RequestValues) : Type 0 where
+record FourTold (from to time margin : List ℕ) (v : RequestValues) : Type 0 where
   pub from_is : from ≡ decimal v.from
   pub to_is : to ≡ decimal v.to
   pub time_is : time ≡ time_text_of v.at
   pub margin_is : margin ≡ decimal v.margin_ppm
-  pub hops_are : v.max_hops ≡ hops
-  pub avoid_is : v.avoid ≡ avoid
+  pub hops_are : v.max_hops ≡ most_hops
+  pub avoid_is : v.avoid ≡ []
 
-four_told : (from to time margin : List ℕ) (hops : ℕ) (avoid : List ℕ) (v : RequestValues) → four_of from to time margin hops avoid ≡ Some v → FourTold from to time margin hops avoid v
-four_told from to time margin hops avoid v e =
-    let values : ℕ → ℕ → ℕ → ℕ → RequestValues = λ f t s m. record { from = f; to = t; at = s; margin_ppm = m; max_hops = hops; avoid = avoid } in
+four_told : (from to time margin : List ℕ) (v : RequestValues) → four_of from to time margin ≡ Some v → FourTold from to time margin v
+four_told from to time margin v e =
+    let values : ℕ → ℕ → ℕ → ℕ → RequestValues = λ f t s m. record { from = f; to = t; at = s; margin_ppm = m; max_hops = most_hops; avoid = [] } in
     let f = and_then_some _ (number_within 0 18446744073709551615 from) v e in
     let t = and_then_some _ (number_within 0 18446744073709551615 to) v f.2 in
     let s = and_then_some _ (time_of time) v t.2 in
     let m = map_some (values f.0 t.0 s.0) (number_within 0 4294967295 margin) v s.2 in
-    let told : FourTold from to time margin hops avoid (values f.0 t.0 s.0 m.0) = record {
+    let told : FourTold from to time margin (values f.0 t.0 s.0 m.0) = record {
       from_is = number_told 0 18446744073709551615 from f.0 f.1;
       to_is = number_told 0 18446744073709551615 to t.0 t.1;
       time_is = (time_of_tells time s.0 s.1).0;
@@ -90,7 +90,7 @@ four_told from to time margin hops avoid v e =
       hops_are = refl;
       avoid_is = refl;
     } in
-    subst (λ (w : RequestValues). FourTold from to time margin hops avoid w) m.2 told
+    subst (λ (w : RequestValues). FourTold from to time margin w) m.2 told
 
 -- the values of a request's line, in each version
 abbrev pub values_text : Version → RequestValues → List ℕ
@@ -110,8 +110,13 @@ unlimited_told (from ∷ to ∷ []) v e = absurd cc
 unlimited_told (from ∷ to ∷ time ∷ []) v e = absurd cc
 unlimited_told (from ∷ to ∷ time ∷ margin ∷ word ∷ more) v e = absurd cc
 unlimited_told (from ∷ to ∷ time ∷ margin ∷ []) v e =
-    let h = four_told from to time margin 20000 [] v e in
+    let h = four_told from to time margin v e in
     (rw (h.from_is, h.to_is, h.time_is, h.margin_is) refl, (h.hops_are, h.avoid_is))
+
+limits_told : (from to time margin hops slash : List ℕ) (nodes : List (List ℕ)) (w : RequestValues) (most : ℕ) (avoid : List ℕ) → FourTold from to time margin w
+    → hops ≡ decimal most → slash ≡ codes "/" → joined (slash ∷ nodes) ≡ slash ++ 32 ∷ joined nodes → joined nodes ≡ list_text avoid
+    → joined (from ∷ to ∷ time ∷ margin ∷ hops ∷ slash ∷ nodes) ≡ values_text Two (record w { max_hops = most; avoid = avoid })
+limits_told from to time margin hops slash nodes w most avoid h limit stroke rest listed = rw (rest, h.from_is, h.to_is, h.time_is, h.margin_is, limit, stroke, listed) refl
 
 limited_told : (words : List (List ℕ)) (v : RequestValues) → limited_of words ≡ Some v → joined words ≡ values_text Two v
 limited_told [] v e = absurd cc
@@ -122,21 +127,25 @@ limited_told (from ∷ to ∷ time ∷ margin ∷ []) v e = absurd cc
 limited_told (from ∷ to ∷ time ∷ margin ∷ hops ∷ []) v e = absurd cc
 limited_told (from ∷ to ∷ time ∷ margin ∷ hops ∷ slash ∷ nodes) v e = by_slash (is_slash slash) refl e
   where
+    limited : List ℕ → ℕ → Option RequestValues
+    limited ns h = option_map (λ (w : RequestValues). record w { max_hops = h; avoid = ns }) (four_of from to time margin)
+
     found : Option RequestValues
-    found = option_and_then (λ (ns : List ℕ). option_and_then (λ (h : ℕ). four_of from to time margin h ns) (number_within 0 4294967295 hops)) (nodes_of nodes)
+    found = option_and_then (λ (ns : List ℕ). option_and_then (limited ns) (number_within 0 4294967295 hops)) (nodes_of nodes)
 
     by_slash : (b : Bool) → is_slash slash ≡ b → cond b found None ≡ Some v → joined (from ∷ to ∷ time ∷ margin ∷ hops ∷ slash ∷ nodes) ≡ values_text Two v
     by_slash false is e = absurd cc
     by_slash true is e =
-        let n = and_then_some (λ (ns : List ℕ). option_and_then (λ (h : ℕ). four_of from to time margin h ns) (number_within 0 4294967295 hops)) (nodes_of nodes) v e in
-        let k = and_then_some (λ (h : ℕ). four_of from to time margin h n.0) (number_within 0 4294967295 hops) v n.2 in
-        let h = four_told from to time margin k.0 n.0 v k.2 in
+        let n = and_then_some (λ (ns : List ℕ). option_and_then (limited ns) (number_within 0 4294967295 hops)) (nodes_of nodes) v e in
+        let k = and_then_some (limited n.0) (number_within 0 4294967295 hops) v n.2 in
+        let w = map_some (λ (w : RequestValues). record w { max_hops = k.0; avoid = n.0 }) (four_of from to time margin) v k.2 in
+        let h = four_told from to time margin w.0 w.1 in
         let stroke : slash ≡ codes "/" = (bytes_eq-Decides slash (codes "/")).0 is in
-        let limit : hops ≡ decimal v.max_hops = number_told 0 4294967295 hops k.0 k.1 ∙ ap decimal (sym h.hops_are) in
-        let listed : joined nodes ≡ list_text v.avoid = list_told 16 0 18446744073709551615 nodes n.0 n.1 ∙ ap list_text (sym h.avoid_is) in
+        let limit : hops ≡ decimal k.0 = number_told 0 4294967295 hops k.0 k.1 in
+        let listed : joined nodes ≡ list_text n.0 = list_told 16 0 18446744073709551615 nodes n.0 n.1 in
         let some = list_has_word 16 0 18446744073709551615 nodes n.0 n.1 in
         let rest : joined (slash ∷ nodes) ≡ slash ++ 32 ∷ joined nodes = rw some.2 refl in
-        rw (rest, h.from_is, h.to_is, h.time_is, h.margin_is, limit, stroke, listed) refl
+        limits_told from to time margin hops slash nodes w.0 k.0 n.0 h limit stroke rest listed ∙ ap (values_text Two) w.2
 
 -- the line of the request
 pub request_told : (version : Version) (line : List ℕ) (v : RequestValues) → request_of version line ≡ Some v → (line ≡ codes "request " ++ values_text version v) × IsOfVersion version v

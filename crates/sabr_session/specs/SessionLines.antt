@@ -36,23 +36,24 @@ is_digest text = (length text == 64) && list_all is_digest_digit text
 unfoldable pub digest_named : List ℕ → Option (List ℕ)
 digest_named line = option_and_then (λ text. if is_digest text then Some text else None) (behind_label (codes "plan ") line)
 
--- the values of these words, if each has one
-abbrev pub four_of : List ℕ → List ℕ → List ℕ → List ℕ → ℕ → List ℕ → Option RequestValues
-four_of from to time margin hops avoid =
+-- the values of these words, if each has one, with the most hops and no node to avoid
+abbrev pub four_of : List ℕ → List ℕ → List ℕ → List ℕ → Option RequestValues
+four_of from to time margin =
     option_and_then (λ f. option_and_then (λ t. option_and_then (λ s. option_map (λ m.
-    record { from = f; to = t; at = s; margin_ppm = m; max_hops = hops; avoid = avoid })
+    record { from = f; to = t; at = s; margin_ppm = m; max_hops = most_hops; avoid = [] })
     (number_within 0 4294967295 margin)) (time_of time)) (number_within 0 18446744073709551615 to)) (number_within 0 18446744073709551615 from)
 
 -- `FROM TO AT PPM`
 abbrev pub unlimited_of : List (List ℕ) → Option RequestValues
-unlimited_of (from ∷ to ∷ time ∷ margin ∷ []) = four_of from to time margin most_hops []
+unlimited_of (from ∷ to ∷ time ∷ margin ∷ []) = four_of from to time margin
 unlimited_of _ = None
 
 -- `FROM TO AT PPM HOPS / NODES`
 abbrev pub limited_of : List (List ℕ) → Option RequestValues
 limited_of (from ∷ to ∷ time ∷ margin ∷ hops ∷ slash ∷ nodes) =
     if is_slash slash then
-    option_and_then (λ ns. option_and_then (λ h. four_of from to time margin h ns) (number_within 0 4294967295 hops)) (nodes_of nodes)
+    option_and_then (λ ns. option_and_then (λ h. option_map (λ (v : RequestValues). record v { max_hops = h; avoid = ns }) (four_of from to time margin))
+    (number_within 0 4294967295 hops)) (nodes_of nodes)
     else None
 limited_of _ = None
 

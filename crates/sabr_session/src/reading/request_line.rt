@@ -25,16 +25,9 @@ fn four_words(text: &[u8]) -> Option<(&[u8], &[u8], &[u8], &[u8], Option<&[u8]>)
     Some((one, two, three, four, rest))
 }
 
-/// Reads these words as the values of a request.
-fn four_of(
-    from: &[u8],
-    to: &[u8],
-    time: &[u8],
-    margin: &[u8],
-    max_hops: u32,
-    avoid: NodeList,
-) -> Option<RequestValues>
-    ensures { result ≡ four_of from.now to.now time.now margin.now max_hops avoid }
+/// Reads these words as the values of a request without limits.
+fn four_of(from: &[u8], to: &[u8], time: &[u8], margin: &[u8]) -> Option<RequestValues>
+    ensures { result ≡ four_of from.now to.now time.now margin.now }
 {
     let from = number_within(from, 0, u64::MAX)?;
     let to = number_within(to, 0, u64::MAX)?;
@@ -45,8 +38,8 @@ fn four_of(
         to,
         at,
         margin_ppm,
-        max_hops,
-        avoid,
+        max_hops: MOST_HOPS,
+        avoid: NodeList::new(),
     })
 }
 
@@ -58,7 +51,7 @@ fn unlimited_of(text: &[u8]) -> Option<RequestValues>
     if let Some(_behind) = rest {
         return None;
     }
-    four_of(from, to, time, margin, MOST_HOPS, NodeList::new())
+    four_of(from, to, time, margin)
 }
 
 /// Reads `FROM TO AT PPM HOPS / NODES`.
@@ -73,7 +66,12 @@ fn limited_of(text: &[u8]) -> Option<RequestValues>
     }
     let avoid = nodes_of(rest?)?;
     let max_hops = number_within(hops, 0, MOST_VALUE)? as u32;
-    four_of(from, to, time, margin, max_hops, avoid)
+    let values = four_of(from, to, time, margin)?;
+    Some(RequestValues {
+        max_hops,
+        avoid,
+        ..values
+    })
 }
 
 /// Reads the line of a request, in this version.
