@@ -67,7 +67,7 @@ module _ {X : Type 0} where
   pub member_dropped : (k : ℕ) (e : X) (xs : List X) → Member e (drop k xs) → Member e xs
   member_dropped k e xs m = subst (Member e) (take-append-drop k xs) (Member-append_right e (take k xs) (drop k xs) m)
 
-  -- pairs of what stands before a place and what stands behind it
+  -- pairs of what stands before a place and what stands after it
   pub pair_across : (Q : X → X → Type 0) (F M : List X) (a b : X) → InPairs Q (F ++ M) → Member a F → Member b M → Q a b
   pair_across Q [] M a b h m k = absurd m
   pair_across Q (x ∷ F) M a b h (inl e) k = subst (λ z. Q z b) (sym e) (h.0 b (Member-append_right b F M k))

@@ -36,7 +36,7 @@ weight s = 256 * s.lines + length s.held
 abbrev pub most_weight : ℕ
 most_weight = 256 * most_lines
 
--- the plan, its refusal, or one for want of memory
+-- the plan, its refusal, or that of memory
 abbrev pub Answers : Result ContactPlan PlanFault → Result TabledPlan PlanFault → Type 0
 Answers wanted (Ok p) = wanted ≡ Ok p.plan
 Answers wanted (Err f) = (f.kind ≡ NoMemory) ⊎ (wanted ≡ Err f)

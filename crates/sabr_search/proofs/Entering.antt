@@ -142,7 +142,7 @@ no_destination p r table nodes out (n ∷ s) route =
     let place = nodes.receivers m.0 m.1 m.2 in
     both_ways (has r.destination table) out (has_place table place.0 r.destination (place.1 ∙ ap Some m.3))
 
--- ---- the task behind a prefix
+-- ---- the task after a prefix
 
 early_after : (p : ContactPlan) (r : RouteRequest) → IsPlan p → r.margin ≤ 1000000 → (a : ℕ) (s : List ℕ) (b t e : ℕ) → chain_end p a s ≡ Some b → t ≤ latest_arrival → arrival_after p r t s ≡ Some e → e ≤ latest_arrival
 early_after p r good margin a [] b t e chain le after = let same : t ≡ e = cc (after) in omega arith

@@ -53,7 +53,7 @@ module _ (task : SearchTask) (is : IsTask task) (prefix : List ℕ) (behind : Is
   leads_goes [] u t v e way = way
   leads_goes (n ∷ ns) u t v e way = (way.0, way.1, goes_of n u t way.0 way.1 way.2, leads_goes ns way.0 way.1 v e way.3)
 
-  -- behind a step a way of the part is one over the whole graph
+  -- after a step a way of the part is one over the whole graph
   pub way_on : (n u t w b : ℕ) (ns : List ℕ) (e : ℕ) → Takes task n u t w b → Leads (Takes task) w b ns task.goal e → IsWayOn (tabled_of task) task.request w b ns e
   way_on n u t w b ns e step way =
       let goes = goes_of n u t w b step in

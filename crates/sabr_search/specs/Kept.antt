@@ -42,7 +42,7 @@ pub record IsWayOn (p : TabledPlan) (r : RouteRequest) (v t : ℕ) (ns : List �
 abbrev pub IsFloor : TabledPlan → RouteRequest → ℕ → List ℕ → Type 0
 IsFloor p r deadline before = (ns : List ℕ) (v t e : ℕ) → IsWayOn p r v t ns e → e < deadline → t < slice_index before v
 
--- for each way on that delivers by the deadline there is one of the dues: of its node, and no more hops, behind its beginning
+-- for each way on that delivers by the deadline there is one of the dues: of its node, of no more hops, and after its beginning
 abbrev pub AreDues : TabledPlan → RouteRequest → ℕ → List Due → Type 0
 AreDues p r deadline dues = (ns : List ℕ) (v t e : ℕ) → IsWayOn p r v t ns e → e ≤ deadline → (k : ℕ) × (d : Due) × (slice_get dues k ≡ Some d) × (d.node ≡ v) × (d.hops ≤ length ns) × (t < d.late)
 
@@ -57,7 +57,7 @@ pub record IsWithin (s : Span) (k : ℕ) (d : Due) : Type 0 where
 abbrev pub AreSpans : List Due → List Span → Type 0
 AreSpans dues spans = (k : ℕ) (d : Due) (s : Span) → slice_get dues k ≡ Some d → slice_get spans d.node ≡ Some s → IsWithin s k d
 
--- what is kept for one deadline; behind every arrival it has no dues
+-- what is kept for one deadline; after every arrival it has no dues
 pub record IsRung {A : Type 0} (p : TabledPlan) (r : RouteRequest) (rung : Rung A) : Type 0 where
   pub floors : length rung.before.items ≡ length p.table
   pub places : length rung.spans.items ≡ length p.table
@@ -83,7 +83,7 @@ pub record HasPlaces {A : Type 0} (first : List Standing) (rung : Rung A) : Type
 abbrev pub HavePlaces : {A : Type 0} → Rungs A → Type 0
 HavePlaces kept = All (HasPlaces kept.first.items) kept.rungs.items
 
--- a table of a deadline behind every arrival, for which none of the first steps is in time
+-- a table of a deadline after every arrival, for which none of the first steps is in time
 pub record ShowsNone {A : Type 0} (kept : Rungs A) : Type 0 where
   pub place : ℕ
   pub rung : Rung A

@@ -35,7 +35,7 @@ const MOST_EXCLUDED: usize = 64;
 const MOST_PREFIX: usize = 64;
 
 /// The answers to so many wide questions must have answered as many, or `REST` go by. With 64 a page of 300 routes over relays
-/// took 14 hundredths more looks than without wide questions, since fewer are answered there; over satellites all are.
+/// took 14 percent more looks than without wide questions, since fewer are answered there; over satellites all are.
 const ASKED: u32 = 16;
 
 /// So many wide questions go by before one is asked again. Taken from a native prototype, not varied.

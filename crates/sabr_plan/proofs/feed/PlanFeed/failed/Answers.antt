@@ -1,4 +1,4 @@
--- Behind what is held, the reader's failure is told.
+-- After what is held, the reader's failure is reported.
 use Rattle.std.proofs.Common.{ap, ◌∙◌, Err, false}
 use Rattle.sabr_plan.specs.Feeding.{Fed}
 use Rattle.sabr_plan.proofs.Held.{broken_held}
