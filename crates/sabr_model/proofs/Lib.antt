@@ -22,15 +22,9 @@ pub mod Gathers
 pub mod LastRanges
 pub mod RangeChains
 pub mod GatheredOpenings
-pub mod ReadyLemmas
+pub mod KnownLemmas
 pub mod Stretches
 pub mod Different
-pub mod LinkLemmas
-pub mod Chains
-pub mod Grouping
-pub mod ContactOrders
-pub mod SenderLemmas
-pub mod Heads
 pub mod PlanLemmas
 pub mod Rises
 mod CountWalks
@@ -43,4 +37,3 @@ pub mod Follows
 pub mod Marks
 mod Tellings
 pub mod RowPlans
-pub mod InRows

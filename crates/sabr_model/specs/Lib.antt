@@ -2,12 +2,7 @@ pub mod Order
 pub mod Plan
 pub mod Table
 pub mod Tabled
-pub mod Links
-pub mod Linking
-pub mod Outgoing
-pub mod Incoming
-pub mod Grouping
-pub mod Ready
+pub mod Known
 pub mod Stretches
 pub mod Adding
 pub mod Gathering

@@ -1,4 +1,4 @@
--- What is looked up once while a plan is made ready: the ends of its contacts, and where the ranges of each node stand.
+-- What is looked up once while a plan is made: the ends of its contacts, and where the ranges of each node stand.
 use Rattle.std.specs.Prelude.{◌≡◌, ℕ, ◌<◌, ◌≤◌, List, length, slice_get, slice_index_or}
 use Rattle.std.specs.declared.option.Option.TheVariants.{Some}
 use Rattle.sabr_model.specs.declared.contact.Contact.{Contact}

@@ -8,19 +8,16 @@ pub mod ends;
 mod gathered;
 mod gathered_contacts;
 mod gathered_ranges;
-mod grouping;
 mod known_openings;
 mod latest_ranges;
 mod light;
-mod linked;
+mod lights;
 mod merging;
 mod nodes;
-mod order;
 mod ordered_ranges;
 pub mod places;
 mod range_chains;
 mod ranges;
-mod ready;
 mod refusals;
 mod stretches;
 mod views;
@@ -28,16 +25,13 @@ mod views;
 ghost use Rattle.std.specs.Prelude.{◌≡◌, []};
 
 use crate::contact::{Contact, Range};
-use crate::hop::Hop;
 use crate::node_table::NodeTable;
 use crate::openings::Openings;
 pub use arriving::arrive;
-use ends::Ends;
+pub use ends::Ends;
 pub use gathered_contacts::GatheredContacts;
 pub use gathered_ranges::GatheredRanges;
 use indexmap::IndexMap;
-use linked::IncomingLinks;
-pub use linked::{NodeLinks, Outgoing, Senders};
 use std::alloc::{Allocator, Global};
 use std::marker::Model;
 
@@ -58,30 +52,24 @@ pub struct Plan<A: Allocator + Copy = Global> {
     greatest: u32,
     /// The sender, receiver and start of contacts, as far as they are kept; no two contacts have all three in common.
     openings: Openings<A>,
-    /// For each contact what a search reads of it, if the plan is ready.
-    hops: Vec<Hop, A>,
     /// For the first contacts the indexes of their nodes.
     ends: Vec<Ends, A>,
-    /// For each node its links, if the plan is ready.
-    linked: Vec<NodeLinks<A>, A>,
-    /// For each node the links that lead to it, if the plan is ready.
-    incoming: IncomingLinks<A>,
-    /// Whether hops and links are made and up to date.
-    ready: bool,
+    /// For the first contacts their light times.
+    lights: Vec<Option<u32>, A>,
 }
 
 impl<A: Allocator + Copy> Model for Plan<A> {
     ghost use Rattle.indexmap.specs.IndexMap.{keys};
     ghost use Rattle.sabr_model.specs.Plan.{TabledPlan, IsPlan};
     ghost use Rattle.sabr_model.specs.Table.{IsTableOf};
-    ghost use Rattle.sabr_model.specs.Ready.{IsReady};
+    ghost use Rattle.sabr_model.specs.Known.{IsKnown};
     ghost use Rattle.sabr_model.specs.Gathering.{KnowsOpenings};
 
     ghost Value = { TabledPlan };
 
     ghost view = { λ a. record { plan = record { contacts = a.contacts.items; ranges = a.ranges.items; greatest = a.greatest }; table = keys a.table } };
 
-    ghost invariant = { λ a. IsPlan (record { contacts = a.contacts.items; ranges = a.ranges.items; greatest = a.greatest }) × IsTableOf a.contacts.items a.table × IsReady a.ready (record { plan = record { contacts = a.contacts.items; ranges = a.ranges.items; greatest = a.greatest }; table = keys a.table }) a.hops.items a.ends.items a.linked.items a.incoming.starts.items a.incoming.named.items a.incoming.heads.items × KnowsOpenings a.openings.kept a.openings.set.keys a.contacts.items };
+    ghost invariant = { λ a. IsPlan (record { contacts = a.contacts.items; ranges = a.ranges.items; greatest = a.greatest }) × IsTableOf a.contacts.items a.table × IsKnown (record { plan = record { contacts = a.contacts.items; ranges = a.ranges.items; greatest = a.greatest }; table = keys a.table }) a.ends.items a.lights.items × KnowsOpenings a.openings.kept a.openings.set.keys a.contacts.items };
 }
 
 impl<A: Allocator + Copy> Plan<A> {
@@ -96,11 +84,8 @@ impl<A: Allocator + Copy> Plan<A> {
             table: IndexMap::new(alloc),
             greatest: 0,
             openings: Openings::new(alloc),
-            hops: Vec::new(alloc),
             ends: Vec::new(alloc),
-            linked: Vec::new(alloc),
-            incoming: IncomingLinks::new(alloc),
-            ready: false,
+            lights: Vec::new(alloc),
         }
     }
 }

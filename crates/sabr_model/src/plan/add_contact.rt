@@ -49,8 +49,8 @@ impl<A: Allocator + Copy> Plan<A> {
         ensures ok { OnOk result (self.new.plan ≡ with_contact self.old.plan (next_contact self.old.plan from to start end rate)) }
         ensures err { OnErr result (self.new ≡ self.old) }
     {
-        self.ready = false;
         self.ends.clear();
+        self.lights.clear();
         let number = self.greatest + 1;
         let contact = Contact {
             number,

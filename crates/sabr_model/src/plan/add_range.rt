@@ -35,7 +35,7 @@ impl<A: Allocator + Copy> Plan<A> {
         ensures ok { OnOk result (self.new ≡ record { plan = with_range self.old.plan range; table = self.old.table }) }
         ensures err { OnErr result (self.new ≡ self.old) }
     {
-        self.ready = false;
+        self.lights.clear();
         let place = ranges_until(&self.ranges, range.one, range.other, range.start);
         self.ranges.insert(place, range)?;
         Ok(())

@@ -32,8 +32,8 @@ impl<A: Allocator + Copy> Plan<A> {
             return Err(AddFault::NothingToDelete);
         };
         let contact = *contact;
-        self.ready = false;
         self.ends.clear();
+        self.lights.clear();
         forget_contact(&mut self.table, &self.contacts, &contact);
         self.openings.forget(from, to, start);
         self.contacts.retain(|c| !(c.number == contact.number));
@@ -56,7 +56,7 @@ impl<A: Allocator + Copy> Plan<A> {
         if !has_range(&self.ranges, one, other, start) {
             return Err(AddFault::NothingToDelete);
         }
-        self.ready = false;
+        self.lights.clear();
         self.ranges.retain(|r| !(one == r.one && other == r.other && start == r.start));
         Ok(())
     }

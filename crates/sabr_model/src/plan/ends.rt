@@ -1,14 +1,14 @@
 //! The ends of contacts, as indexes in the table of nodes.
 
-ghost use Rattle.std.specs.Prelude.{◌≡◌, ◌<◌, ℕ, Some, IsTrue, IfOk, length, slice_get, slice_index_or};
+ghost use Rattle.std.specs.Prelude.{◌≡◌, ◌<◌, Some, IsTrue, length, slice_get, slice_index_or};
 ghost use Rattle.indexmap.specs.IndexMap.{keys};
-ghost use Rattle.sabr_model.specs.declared.contact.Contact.{Contact};
 ghost use Rattle.sabr_model.specs.Plan.{has};
-ghost use Rattle.sabr_model.specs.Stretches.{AreEndsOf, AreEnds};
+ghost use Rattle.sabr_model.specs.Known.{BeginEnds};
 
+use super::Plan;
 use crate::contact::Contact;
 use crate::node_table::NodeTable;
-use std::alloc::{AllocError, Allocator};
+use std::alloc::Allocator;
 
 /// The indexes of a contact's sender and receiver in the table of nodes.
 #[derive(Clone, Copy)]
@@ -17,38 +17,29 @@ pub struct Ends {
     pub to: usize,
 }
 
-/// Returns the ends of each contact.
-pub fn ends_of_contacts<A: Allocator + Copy>(
-    alloc: A,
-    contacts: &[Contact],
-    table: &NodeTable<A>,
-) -> Result<Vec<Ends, A>, AllocError>
-    requires from { (k : ℕ) (d : Contact) → k < length contacts.now → IsTrue (has (slice_index_or contacts.now k d).from (keys table.now)) }
-    requires to { (k : ℕ) (d : Contact) → k < length contacts.now → IsTrue (has (slice_index_or contacts.now k d).to (keys table.now)) }
-    ensures { IfOk result (λ v. AreEnds (keys table.now) contacts.now v.items) }
-{
-    let mut ends = Vec::new(alloc);
-    ends.reserve(contacts.len())?;
-    for contact in contacts {
-        ends.push(ends_of_contact(contact, table))?;
+impl<A: Allocator + Copy> Plan<A> {
+    /// The ends of the first contacts by number, as far as the plan keeps them: of all or of none.
+    pub fn known_ends(&self) -> &[Ends]
+        ensures { BeginEnds self.now.table self.now.plan.contacts result.now }
+    {
+        &self.ends
     }
-    Ok(ends)
-}
 
-/// Returns the ends of a contact whose nodes are in the table.
-fn ends_of_contact<A: Allocator + Copy>(contact: &Contact, table: &NodeTable<A>) -> Ends
-    requires from { IsTrue (has contact.now.from (keys table.now)) }
-    requires to { IsTrue (has contact.now.to (keys table.now)) }
-    ensures { AreEndsOf (keys table.now) contact.now result }
-{
-    Ends {
-        from: index_of(table, contact.from),
-        to: index_of(table, contact.to),
+    /// Returns the index of the receiver of the contact at a place.
+    pub(super) fn receiver_at(&self, place: usize, contact: &Contact) -> usize
+        requires within { place < length self.now.plan.contacts }
+        requires there { contact.now ≡ slice_index_or self.now.plan.contacts place contact.now }
+        ensures { slice_get self.now.table result ≡ Some contact.now.to }
+    {
+        match self.ends.get(place) {
+            Some(ends) => ends.to,
+            None => index_of(&self.table, contact.to),
+        }
     }
 }
 
 /// Returns the index of a node of the table.
-pub fn index_of<A: Allocator + Copy>(table: &NodeTable<A>, node: u64) -> usize
+fn index_of<A: Allocator + Copy>(table: &NodeTable<A>, node: u64) -> usize
     requires { IsTrue (has node (keys table.now)) }
     ensures { slice_get (keys table.now) result ≡ Some node }
 {

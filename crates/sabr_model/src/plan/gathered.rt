@@ -5,7 +5,7 @@ ghost use Rattle.std.specs.Prelude.{◌≡◌, IfOk};
 use super::Plan;
 use super::gathered_contacts::GatheredContacts;
 use super::gathered_ranges::GatheredRanges;
-use super::linked::IncomingLinks;
+use super::lights::lights_of;
 use crate::fault::NoMemory;
 use crate::node_table::table_of;
 use crate::openings::Openings;
@@ -25,6 +25,7 @@ impl<A: Allocator + Copy> Plan<A> {
         let (contacts, greatest) = contacts.into_contacts();
         let ranges = ranges.into_ranges()?;
         let (table, ends) = table_of(alloc, &contacts)?;
+        let lights = lights_of(alloc, &contacts, &ranges, &ends, &table)?;
         Ok(Plan {
             alloc,
             contacts,
@@ -32,11 +33,8 @@ impl<A: Allocator + Copy> Plan<A> {
             table,
             greatest,
             openings: Openings::without_set(alloc),
-            hops: Vec::new(alloc),
             ends,
-            linked: Vec::new(alloc),
-            incoming: IncomingLinks::new(alloc),
-            ready: false,
+            lights,
         })
     }
 }

@@ -4,12 +4,10 @@ ghost use Rattle.std.specs.Prelude.{◌≡◌, ◌<◌, ◌≤◌, [], Some, Non
 ghost use Rattle.sabr_model.specs.Plan.{IsPlan, contact_named, most_light};
 ghost use Rattle.sabr_model.specs.Light.{light_of};
 ghost use Rattle.sabr_model.specs.RangeOrder.{IsRangeList};
-ghost use Rattle.sabr_model.specs.Stretches.{IsStretchAmong};
 
 use super::Plan;
 use super::places::place_of_number;
 use super::ranges::light_in_force;
-use super::stretches::{Stretch, light_in_stretch};
 use crate::contact::{Contact, Range};
 use std::alloc::Allocator;
 
@@ -26,7 +24,7 @@ impl<A: Allocator + Copy> Plan<A> {
         light_of_contact(&self.ranges, contact)
     }
 
-    /// Returns the standing contact with this number, and its light time. It reads no range if the plan is ready.
+    /// Returns the standing contact with this number, and its light time. It reads no range if the plan keeps light times.
     pub(crate) fn contact_with_light(&self, number: u32) -> Option<(&Contact, Option<u32>)>
         ensures contact { MatchOption result (contact_named self.now.plan number ≡ None) (λ x. contact_named self.now.plan number ≡ Some x.0.now) }
         ensures light { IfSome result (λ x. x.1 ≡ light_of self.now.plan x.0.now) }
@@ -38,15 +36,14 @@ impl<A: Allocator + Copy> Plan<A> {
     }
 
     /// Returns the light time of the contact at a place.
-    fn light_at(&self, place: usize, contact: &Contact) -> Option<u32>
+    pub(super) fn light_at(&self, place: usize, contact: &Contact) -> Option<u32>
         requires within { place < length self.now.plan.contacts }
         requires there { contact.now ≡ slice_index_or self.now.plan.contacts place contact.now }
         ensures { result ≡ light_of self.now.plan contact.now }
     {
-        if self.ready {
-            self.hops[place].light
-        } else {
-            light_of_contact(&self.ranges, contact)
+        match self.lights.get(place) {
+            Some(light) => *light,
+            None => light_of_contact(&self.ranges, contact),
         }
     }
 }
@@ -62,40 +59,5 @@ pub fn light_of_contact(ranges: &[Range], contact: &Contact) -> Option<u32>
             light_in_force(ranges, contact.to, contact.from, contact.start)
         }
         None => None,
-    }
-}
-
-/// Guesses where the ranges stand that are in force for the next contact of a link: those written from its sender, and
-/// those written from its receiver.
-#[derive(Clone, Copy)]
-pub struct LightGuess {
-    pub ahead: usize,
-    pub back: usize,
-}
-
-/// Returns the light time that these ranges state for a contact, and guesses for the next contact of its link, made with
-/// those from the one before. The ranges from its sender and from its receiver are in these stretches.
-pub fn light_in_stretches(
-    ranges: &[Range],
-    of_sender: Stretch,
-    of_receiver: Stretch,
-    contact: &Contact,
-    guess: LightGuess,
-) -> (Option<u32>, LightGuess)
-    requires ranges { IsRangeList ranges.now }
-    requires sender { IsStretchAmong ranges.now (length ranges.now) contact.now.from of_sender }
-    requires receiver { IsStretchAmong ranges.now (length ranges.now) contact.now.to of_receiver }
-    ensures { result.0 ≡ light_of (record { contacts = []; ranges = ranges.now; greatest = 0 }) contact.now }
-{
-    let (from, to, start) = (contact.from, contact.to, contact.start);
-    let (light, ahead) = light_in_stretch(ranges, of_sender, from, to, start, guess.ahead);
-    let back = guess.back;
-    match light {
-        Some(light) => (Some(light), LightGuess { ahead, back }),
-        None if from > to => {
-            let (light, back) = light_in_stretch(ranges, of_receiver, to, from, start, back);
-            (light, LightGuess { ahead, back })
-        }
-        None => (None, LightGuess { ahead, back }),
     }
 }

@@ -7,8 +7,6 @@ ghost use Rattle.sabr_model.specs.Tabled.{IsTabled, IsHopNamed};
 
 use super::Plan;
 use super::places::place_of_number;
-use super::ready::hop_of_contact;
-use crate::contact::Contact;
 use crate::hop::Hop;
 use std::alloc::Allocator;
 
@@ -39,46 +37,18 @@ impl<A: Allocator + Copy> Plan<A> {
         self.table.get_index_of(&node)
     }
 
-    /// Returns the node at an index of the table.
-    pub fn node(&self, index: usize) -> u64
-        requires { index < length self.now.table }
-        ensures { slice_get self.now.table index ≡ Some result }
-    {
-        match self.table.get_index(index) {
-            Some((node, _)) => *node,
-            None => 0,
-        }
-    }
-
-    /// Returns the index of a standing contact's receiver.
-    pub fn receiver(&self, contact: &Contact) -> usize
-        requires { contact_named self.now.plan contact.now.number ≡ Some contact.now }
-        ensures { slice_get self.now.table result ≡ Some contact.now.to }
-    {
-        self.table.get_index_of(&contact.to).unwrap_or(0)
-    }
-
-    /// The rising numbers of the standing contacts that the node at an index of the table sends.
-    pub(crate) fn from_index(&self, index: usize) -> &[u32]
-        requires { index < length self.now.table }
-        ensures { (node : ℕ) → slice_get self.now.table index ≡ Some node → result.now ≡ sent_by self.now.plan.contacts node }
-    {
-        match self.table.get_index(index) {
-            Some((_, numbers)) => numbers,
-            None => &[],
-        }
-    }
-
-    /// Returns the standing contact with this number, as a search reads it. This is O(1) if no contact was deleted and
-    /// the plan is ready.
+    /// Returns the standing contact with this number, as a search reads it. This is O(1) for a plan that was read and
+    /// not changed since.
     pub fn hop(&self, number: u32) -> Option<Hop>
         ensures { MatchOption result (contact_named self.now.plan number ≡ None) (IsHopNamed self.now number) }
     {
         let place = place_of_number(&self.contacts, number)?;
-        if self.ready {
-            Some(self.hops[place])
-        } else {
-            Some(hop_of_contact(&self.contacts[place], &self.ranges, &self.table))
-        }
+        let contact = &self.contacts[place];
+        Some(Hop {
+            start: contact.start,
+            end: contact.end,
+            receiver: self.receiver_at(place, contact),
+            light: self.light_at(place, contact),
+        })
     }
 }

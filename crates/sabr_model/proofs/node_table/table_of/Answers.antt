@@ -5,7 +5,7 @@ use Rattle.indexmap.specs.IndexMap.{keys}
 use Rattle.sabr_model.specs.declared.contact.Contact.{Contact}
 use Rattle.sabr_model.specs.Table.{IsTableOf}
 use Rattle.sabr_model.specs.Stretches.{AreEndsOf}
-use Rattle.sabr_model.proofs.ReadyLemmas.{beside_more, ends_kept_at, take_enough}
+use Rattle.sabr_model.proofs.KnownLemmas.{beside_more, ends_kept_at, take_enough}
 use Rattle.sabr_model.proofs.TableLemmas.{IsTableOf-push}
 use Rattle.sabr_model.proofs.node_table.table_of.Goals as goal
 

@@ -5,7 +5,7 @@ use Rattle.sabr_model.specs.Plan.{ContactPlan, TabledPlan, opens}
 use Rattle.sabr_model.specs.Adding.{without_contact}
 use Rattle.sabr_model.specs.Gathering.{openings_of}
 use Rattle.sabr_model.proofs.Deletions.{found_by_number, without_opening, IsPlan-fewer_contacts}
-use Rattle.sabr_model.proofs.ReadyLemmas.{no_ends, not_ready}
+use Rattle.sabr_model.proofs.KnownLemmas.{nothing_known}
 use Rattle.sabr_model.proofs.plan.Plan.delete_contact.Goals as goal
 
 pub forget_contact-requires : goal.forget_contact-requires
@@ -23,10 +23,10 @@ pub invariant_of-self : goal.invariant_of-self
 invariant_of-self g c =
     let p : ContactPlan = record { contacts = c.self.inside.contacts.items; ranges = c.self.inside.ranges.items; greatest = c.self.inside.greatest } in
     let kept = filter_same _ (λ (d : Contact). not (eqb d.number c.in-Some.contact.now.number)) _ (λ d b f' k. search rules) _ _ c.retain.ensures.filtered in
-    rw (kept, c.clear.ensures.items) (
+    rw (kept, c.clear.ensures.items, c.clear-2.ensures.items) (
       IsPlan-fewer_contacts p (λ d. not (eqb d.number c.in-Some.contact.now.number)) c.self.invariant.0,
       rw c.deref-2.ensures.value at c.forget_contact.ensures,
-      not_ready _ _ _ (no_ends _ _),
+      nothing_known _,
       λ e.
           let cs = c.self.inside.contacts.items in
           let found : find (opens c.args.from c.args.to c.args.start) cs ≡ Some c.in-Some.contact.now = ap (find (opens c.args.from c.args.to c.args.start)) (sym c.deref.ensures.value) ∙ sym c.in-Some.ensures in

@@ -7,4 +7,4 @@ use Rattle.sabr_model.proofs.plan.Plan.light_at.Goals as goal
 pub light_of_contact-requires : goal.light_of_contact-requires
 light_of_contact-requires g c =
     let p : ContactPlan = record { contacts = c.self.inside.contacts.items; ranges = c.self.inside.ranges.items; greatest = c.self.inside.greatest } in
-    subst IsRangeList (sym c.deref.ensures.value) (range_list p c.self.invariant.0)
+    subst IsRangeList (sym c.deref-in-None.ensures.value) (range_list p c.self.invariant.0)

@@ -1,0 +1,5 @@
+pub mod Links
+pub mod Linking
+pub mod Incoming
+pub mod Grouping
+pub mod Index

@@ -1,0 +1,92 @@
+//! How the links of each node are built.
+
+ghost use Rattle.std.specs.Prelude.{◌≡◌, ℕ, IfOk, MatchOption, length};
+ghost use Rattle.sabr_index.specs.Grouping.{AreByNode};
+ghost use Rattle.sabr_index.specs.Links.{AreLinksOf};
+ghost use Rattle.sabr_index.specs.Linking.{AreSent, HasNoLight, IsContactPass, IsBounded, AreBounded, ArePassesOf, AreLinked};
+
+use crate::bounds::order_passes;
+use crate::link::{NodeLinks, Pass};
+use crate::order::ContactOrder;
+use crate::rows::links_over;
+use sabr_model::Plan;
+use std::alloc::{AllocError, Allocator};
+
+/// Makes the links of each node of the table.
+pub fn link_nodes<A: Allocator + Copy>(
+    alloc: A,
+    plan: &Plan<A>,
+    order: &ContactOrder<A>,
+) -> Result<Vec<NodeLinks<A>, A>, AllocError>
+    requires as_many { length order.now.numbers.items ≡ length order.now.senders }
+    requires by_node { AreByNode plan.now.plan plan.now.table order.now.numbers.items order.now.senders }
+    ensures linked { IfOk result (λ v. AreLinked plan.now v.items) }
+    ensures as_many { IfOk result (λ v. length v.items ≡ length plan.now.table) }
+{
+    let mut linked = Vec::new(alloc);
+    let mut numbers = Vec::new(alloc);
+    let count = plan.nodes();
+    linked.reserve(count)?;
+    for index in 0..count {
+        numbers.clear();
+        order
+            .senders
+            .push_values(index, &order.numbers, &mut numbers)?;
+        let node = links_of_numbers(alloc, plan, &numbers)?;
+        linked.push(node)?;
+    }
+    Ok(linked)
+}
+
+/// Makes the links over the contacts of these numbers.
+fn links_of_numbers<A: Allocator + Copy>(
+    alloc: A,
+    plan: &Plan<A>,
+    numbers: &[u32],
+) -> Result<NodeLinks<A>, AllocError>
+    ensures { IfOk result (λ s. (node : ℕ) → AreSent plan.now.plan node numbers.now → AreLinksOf plan.now node s.links.items s.passes.items) }
+{
+    let mut passes = passes_of(alloc, plan, numbers)?;
+    order_passes(&mut passes);
+    let links = links_over(alloc, &passes)?;
+    Ok(NodeLinks { links, passes })
+}
+
+/// Makes the passes of those contacts of these numbers that have a light time.
+fn passes_of<A: Allocator + Copy>(
+    alloc: A,
+    plan: &Plan<A>,
+    numbers: &[u32],
+) -> Result<Vec<Pass, A>, AllocError>
+    ensures are { IfOk result (λ v. ArePassesOf plan.now numbers.now v.items) }
+    ensures bounded { IfOk result (λ v. AreBounded v.items) }
+{
+    let mut passes = Vec::new(alloc);
+    passes.reserve(numbers.len())?;
+    for number in numbers {
+        if let Some(pass) = pass_of(plan, *number) {
+            passes.push(pass)?;
+        }
+    }
+    Ok(passes)
+}
+
+/// Makes the pass of the contact of a number, bounded by itself alone, or none if it has no light time.
+fn pass_of<A: Allocator + Copy>(plan: &Plan<A>, number: u32) -> Option<Pass>
+    ensures { MatchOption result (HasNoLight plan.now number) (λ x. (x.number ≡ number) × IsContactPass plan.now x × IsBounded x) }
+{
+    let hop = plan.hop(number)?;
+    let light = hop.light?;
+    Some(Pass {
+        number,
+        receiver: hop.receiver,
+        light,
+        start: hop.start,
+        end: hop.end,
+        latest_end: hop.end,
+        least_light_before: light,
+        least_light_behind: light,
+        least_number_behind: number,
+        in_row_behind: 0,
+    })
+}

@@ -1,0 +1,49 @@
+//! The ends of contacts, where the plan doesn't keep them.
+
+ghost use Rattle.std.specs.Prelude.{◌≡◌, Some, IsTrue, IfOk, slice_get};
+ghost use Rattle.sabr_model.specs.Plan.{has};
+ghost use Rattle.sabr_model.specs.Stretches.{AreEnds, AreEndsOf};
+ghost use Rattle.sabr_model.specs.Tabled.{IsTabled};
+
+use sabr_model::{Contact, Ends, Plan};
+use std::alloc::{AllocError, Allocator};
+
+/// Looks up the ends of each contact.
+pub fn ends_of_contacts<A: Allocator + Copy>(
+    alloc: A,
+    plan: &Plan<A>,
+) -> Result<Vec<Ends, A>, AllocError>
+    requires { IsTabled plan.now }
+    ensures { IfOk result (λ v. AreEnds plan.now.table plan.now.plan.contacts v.items) }
+{
+    let mut ends = Vec::new(alloc);
+    let contacts = plan.contacts();
+    ends.reserve(contacts.len())?;
+    for contact in contacts {
+        ends.push(ends_of_contact(plan, contact))?;
+    }
+    Ok(ends)
+}
+
+/// Looks up the ends of a contact whose nodes are in the table.
+fn ends_of_contact<A: Allocator + Copy>(plan: &Plan<A>, contact: &Contact) -> Ends
+    requires from { IsTrue (has contact.now.from plan.now.table) }
+    requires to { IsTrue (has contact.now.to plan.now.table) }
+    ensures { AreEndsOf plan.now.table contact.now result }
+{
+    Ends {
+        from: index_of(plan, contact.from),
+        to: index_of(plan, contact.to),
+    }
+}
+
+/// Returns the index of a node of the table.
+fn index_of<A: Allocator + Copy>(plan: &Plan<A>, node: u64) -> usize
+    requires { IsTrue (has node plan.now.table) }
+    ensures { slice_get plan.now.table result ≡ Some node }
+{
+    match plan.node_index(node) {
+        Some(index) => index,
+        None => unreachable!(),
+    }
+}

@@ -1,0 +1,84 @@
+//! A node's contacts as a search reads them: link by link, and by start on each link.
+
+use std::alloc::Allocator;
+
+/// A standing contact with a light time, among the contacts of one link in order of their starts. With it are bounds on
+/// the contacts before and after it, so that a search can skip most of them.
+#[derive(Clone, Copy)]
+pub struct Pass {
+    /// The contact's number.
+    pub number: u32,
+    /// The index of its receiver in the table of nodes.
+    pub receiver: usize,
+    /// The one-way light time in seconds that is in force at its start.
+    pub light: u32,
+    /// The first second at which the contact can be used.
+    pub start: u64,
+    /// The first second at which the contact can no longer be used.
+    pub end: u64,
+    /// The greatest end of this contact and those before it on the link.
+    pub latest_end: u64,
+    /// The least light time of this contact and those before it on the link.
+    pub least_light_before: u32,
+    /// The least light time of this contact and those after it on the link.
+    pub least_light_behind: u32,
+    /// The least number of this contact and those after it on the link.
+    pub least_number_behind: u32,
+    /// A number of contacts after this one whose numbers surely follow its own one by one, if the link has that many.
+    pub in_row_behind: u32,
+}
+
+/// Bounds that hold for each pass of a link, so that a search can skip the whole link.
+#[derive(Clone, Copy)]
+pub struct LinkBounds {
+    /// A second by which each pass has ended.
+    pub latest_end: u64,
+    /// A light time in seconds that no pass is below.
+    pub least_light: u32,
+    /// A second before which nothing arrives over any pass.
+    pub soonest: u64,
+}
+
+/// The contacts from one node to another: a range of places among the node's passes, with bounds for all of them.
+#[derive(Clone, Copy)]
+pub struct Link {
+    /// The index of the receiver in the table of nodes.
+    pub receiver: usize,
+    /// The place of the link's first pass.
+    pub first: usize,
+    /// The place after the link's last pass.
+    pub end: usize,
+    /// The bounds that hold for each of its passes.
+    pub bounds: LinkBounds,
+}
+
+/// What an index keeps of one node: its links, and the passes that they lie over, one link after another.
+#[derive(Drop)]
+pub struct NodeLinks<A: Allocator + Copy> {
+    pub links: Vec<Link, A>,
+    pub passes: Vec<Pass, A>,
+}
+
+/// The links of one node, and the passes that they lie over, one link after another.
+#[derive(Clone, Copy)]
+pub struct Links<'a> {
+    pub links: &'a [Link],
+    pub passes: &'a [Pass],
+}
+
+/// What is compared before a link to a node is read: the index of its sender in the table of nodes, and bounds for all of
+/// its passes.
+#[derive(Clone, Copy)]
+pub struct SenderHead {
+    pub node: usize,
+    pub bounds: LinkBounds,
+}
+
+/// A link as its receiver sees it: the index of its sender in the table of nodes, its passes by start, and bounds for
+/// all of them.
+#[derive(Clone, Copy)]
+pub struct Sender<'a> {
+    pub node: usize,
+    pub passes: &'a [Pass],
+    pub bounds: LinkBounds,
+}

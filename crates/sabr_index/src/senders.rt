@@ -1,0 +1,174 @@
+//! The links to a node, as a search reads them that goes backward from the goal.
+
+ghost use Rattle.std.specs.Prelude.{◌≡◌, ◌<◌, [], Some, length, slice_get};
+ghost use Rattle.sabr_index.specs.Links.{AreWithin};
+ghost use Rattle.sabr_index.specs.Incoming.{links_named, passes_over, passes_at, passes_named, bounds_at, head_named, no_bounds, LiesOver, LieOver, AllLieOver, AreHeads, IsHeadAt};
+
+use crate::link::{Link, LinkBounds, NodeLinks, Pass, Sender, SenderHead};
+use std::alloc::{Allocator, Global};
+use std::marker::Model;
+
+/// A link by the index of its sender in the table of nodes, and its place among the sender's links.
+#[derive(Clone, Copy)]
+pub struct Incoming {
+    pub sender: u32,
+    pub link: u32,
+}
+
+/// The links to one node, each with its sender.
+#[derive(Drop)]
+pub struct Senders<'a, A: Allocator + Copy = Global> {
+    incoming: &'a [Incoming],
+    heads: &'a [SenderHead],
+    linked: &'a [NodeLinks<A>],
+}
+
+impl<'a, A: Allocator + Copy> Model for Senders<'a, A> {
+    ghost use Rattle.std.specs.Prelude.{List};
+    ghost use Rattle.sabr_index.specs.Links.{SentLink};
+    ghost use Rattle.sabr_index.specs.Incoming.{AllLieOver, AreHeads, links_named};
+
+    ghost Value = { List SentLink };
+
+    ghost view = { λ a. links_named a.linked.now a.incoming.now };
+
+    ghost invariant = { λ a. AllLieOver a.linked.now × AreHeads a.linked.now a.incoming.now a.heads.now };
+}
+
+impl<'a, A: Allocator + Copy> Senders<'a, A> {
+    /// Makes the list of the links that are named, among those of all nodes, each with its head.
+    pub fn over(
+        incoming: &'a [Incoming],
+        heads: &'a [SenderHead],
+        linked: &'a [NodeLinks<A>],
+    ) -> Senders<'a, A>
+        requires lie { AllLieOver linked.now }
+        requires heads { AreHeads linked.now incoming.now heads.now }
+        ensures { result ≡ links_named linked.now incoming.now }
+    {
+        Senders {
+            incoming,
+            heads,
+            linked,
+        }
+    }
+
+    /// How many links lead to the node.
+    pub fn len(&self) -> usize
+        ensures { result ≡ length self.now }
+    {
+        self.incoming.len()
+    }
+
+    /// What is compared before the link at a place is read.
+    #[inline(always)]
+    pub fn head(&self, place: usize) -> SenderHead
+        requires { place < length self.now }
+        ensures { IsHeadAt self.now place result }
+    {
+        match self.heads.get(place) {
+            Some(head) => *head,
+            None => SenderHead {
+                node: 0,
+                bounds: no_bounds(),
+            },
+        }
+    }
+
+    /// The link at a place.
+    pub fn at(&self, place: usize) -> Sender<'a>
+        requires { place < length self.now }
+        ensures link { slice_get self.now place ≡ Some (record { sender = result.node; passes = result.passes.now }) }
+        ensures bounds { AreWithin result.bounds result.passes.now }
+    {
+        match self.incoming.get(place) {
+            Some(named) => sender_named(self.linked, *named),
+            None => no_passes(0),
+        }
+    }
+}
+
+/// The link that is named.
+fn sender_named<A: Allocator + Copy>(linked: &[NodeLinks<A>], named: Incoming) -> Sender<'_>
+    requires { AllLieOver linked.now }
+    ensures sender { result.node ≡ named.sender }
+    ensures passes { result.passes.now ≡ passes_named linked.now named }
+    ensures bounds { AreWithin result.bounds result.passes.now }
+{
+    match linked.get(named.sender as usize) {
+        Some(node) => sender_at(node, named),
+        None => no_passes(named.sender as usize),
+    }
+}
+
+/// The link that is named, among those of its sender.
+fn sender_at<A: Allocator + Copy>(node: &NodeLinks<A>, named: Incoming) -> Sender<'_>
+    requires { LieOver node.now }
+    ensures sender { result.node ≡ named.sender }
+    ensures passes { result.passes.now ≡ passes_at node.now named.link }
+    ensures bounds { AreWithin result.bounds result.passes.now }
+{
+    match node.links.get(named.link as usize) {
+        Some(link) => Sender {
+            node: named.sender as usize,
+            passes: passes_over(&node.passes, link),
+            bounds: link.bounds,
+        },
+        None => no_passes(named.sender as usize),
+    }
+}
+
+/// The sender and the bounds of the link that is named.
+pub fn head_named<A: Allocator + Copy>(linked: &[NodeLinks<A>], named: Incoming) -> SenderHead
+    ensures { result ≡ head_named linked.now named }
+{
+    SenderHead {
+        node: named.sender as usize,
+        bounds: match linked.get(named.sender as usize) {
+            Some(node) => bounds_at(node, named.link),
+            None => no_bounds(),
+        },
+    }
+}
+
+/// The bounds of the link at a place among a node's links.
+fn bounds_at<A: Allocator + Copy>(node: &NodeLinks<A>, place: u32) -> LinkBounds
+    ensures { result ≡ bounds_at node.now place }
+{
+    match node.links.get(place as usize) {
+        Some(link) => link.bounds,
+        None => no_bounds(),
+    }
+}
+
+/// Bounds of no passes.
+fn no_bounds() -> LinkBounds
+    ensures { result ≡ no_bounds }
+{
+    LinkBounds {
+        latest_end: 0,
+        least_light: 0,
+        soonest: 0,
+    }
+}
+
+/// A link from a node without passes.
+fn no_passes<'a>(node: usize) -> Sender<'a>
+    ensures sender { result.node ≡ node }
+    ensures passes { result.passes.now ≡ [] }
+    ensures bounds { AreWithin result.bounds result.passes.now }
+{
+    Sender {
+        node,
+        passes: &[],
+        bounds: no_bounds(),
+    }
+}
+
+/// The passes of a link.
+fn passes_over<'a>(passes: &'a [Pass], link: &Link) -> &'a [Pass]
+    requires { LiesOver passes.now link.now }
+    ensures { result.now ≡ passes_over passes.now link.now }
+{
+    &passes[link.first..link.end]
+}

@@ -1,0 +1,10 @@
+use Rattle.std.proofs.Common.{List, sym, subst}
+use Rattle.sabr_model.specs.declared.plan.ends.Ends.{Ends}
+use Rattle.sabr_model.specs.Plan.{TabledPlan}
+use Rattle.sabr_model.specs.Known.{BeginEnds}
+use Rattle.sabr_model.proofs.plan.Plan.known_ends.Goals as goal
+
+pub returns : goal.returns
+returns g c =
+    subst (λ (es : List Ends). BeginEnds c.args.self.now.table c.args.self.now.plan.contacts es) (sym c.deref.ensures.value)
+    (subst (λ (q : TabledPlan). BeginEnds q.table q.plan.contacts c.self.inside.ends.items) c.self.view_is c.self.invariant.2.ends)

@@ -1,9 +1,0 @@
-use Rattle.std.proofs.Common.{◌≡◌, length}
-use Rattle.sabr_model.specs.Linking.{AreLinked}
-use Rattle.sabr_model.proofs.plan.linked.building.link_nodes.Given as goal
-
-abbrev pub invariant-loop-index : goal.invariant-loop-index
-invariant-loop-index g l = record {
-  as_many : length l.linked.items ≡ l.index;
-  linked : AreLinked l.plan l.linked.items;
-}
