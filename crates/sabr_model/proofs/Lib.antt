@@ -18,10 +18,7 @@ pub mod RangeLemmas
 pub mod Tabled
 pub mod TableSteps
 pub mod RangeKeys
-pub mod Gathers
-pub mod LastRanges
-pub mod RangeChains
-pub mod GatheredOpenings
+pub mod OpeningLemmas
 pub mod KnownLemmas
 pub mod Stretches
 pub mod Different

@@ -5,8 +5,7 @@ pub mod Tabled
 pub mod Known
 pub mod Stretches
 pub mod Adding
-pub mod Gathering
-pub mod RangeChains
+pub mod Openings
 pub mod Light
 pub mod RangeOrder
 pub mod Arrival

@@ -31,7 +31,10 @@ pub use laws::{candidates_hold_each_once, faults_tell_routes, law1, law2, law3};
 pub use limits::{LAST_TIME, MOST_AVOIDED, MOST_HOPS, MOST_LIGHT, MOST_MARGIN, MOST_RECORDS};
 pub use node_list::NodeList;
 pub use numbers::Numbers;
-pub use plan::{Ends, GatheredContacts, GatheredRanges, Plan, arrive};
+pub use opening::Opening;
+pub use plan::{
+    Ends, Plan, arrive, comes_by, contact_of_opening, has_range, overlap, overlaps_some, refusal,
+};
 pub use request::Request;
 pub use request_values::RequestValues;
 pub use route::Route;

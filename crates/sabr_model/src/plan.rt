@@ -5,18 +5,11 @@ mod add_range;
 mod arriving;
 mod delete;
 pub mod ends;
-mod gathered;
-mod gathered_contacts;
-mod gathered_ranges;
-mod known_openings;
-mod latest_ranges;
 mod light;
 mod lights;
-mod merging;
 mod nodes;
-mod ordered_ranges;
+mod parts;
 pub mod places;
-mod range_chains;
 mod ranges;
 mod refusals;
 mod stretches;
@@ -28,10 +21,11 @@ use crate::contact::{Contact, Range};
 use crate::node_table::NodeTable;
 use crate::openings::Openings;
 pub use arriving::arrive;
+pub use delete::contact_of_opening;
 pub use ends::Ends;
-pub use gathered_contacts::GatheredContacts;
-pub use gathered_ranges::GatheredRanges;
 use indexmap::IndexMap;
+pub use ranges::{comes_by, has_range, overlap, overlaps_some};
+pub use refusals::refusal;
 use std::alloc::{Allocator, Global};
 use std::marker::Model;
 
@@ -63,7 +57,7 @@ impl<A: Allocator + Copy> Model for Plan<A> {
     ghost use Rattle.sabr_model.specs.Plan.{TabledPlan, IsPlan};
     ghost use Rattle.sabr_model.specs.Table.{IsTableOf};
     ghost use Rattle.sabr_model.specs.Known.{IsKnown};
-    ghost use Rattle.sabr_model.specs.Gathering.{KnowsOpenings};
+    ghost use Rattle.sabr_model.specs.Openings.{KnowsOpenings};
 
     ghost Value = { TabledPlan };
 

@@ -9,7 +9,8 @@ ghost use Rattle.sabr_plan.specs.declared.command.Target.TheVariants as target;
 
 use crate::command::{Addition, Command, Deletion, Target, line_command};
 use crate::fault::PlanKind;
-use sabr_model::{AddFault, GatheredContacts, GatheredRanges, NoMemory, Plan};
+use sabr_gathering::{GatheredContacts, GatheredRanges, gathered_plan};
+use sabr_model::{AddFault, NoMemory, Plan};
 use std::alloc::Allocator;
 use std::marker::Model;
 
@@ -74,7 +75,7 @@ impl<A: Allocator + Copy> PlanReading<A> {
             ranges,
             reference: _,
         } = self;
-        Plan::gathered(alloc, contacts, ranges)
+        gathered_plan(alloc, contacts, ranges)
     }
 
     /// Reads a line without its LF, and does what it says.

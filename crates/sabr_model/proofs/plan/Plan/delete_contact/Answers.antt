@@ -3,7 +3,7 @@ use Rattle.std.proofs.lemmas.Fn.{filter_same}
 use Rattle.sabr_model.specs.declared.contact.Contact.{Contact}
 use Rattle.sabr_model.specs.Plan.{ContactPlan, TabledPlan, opens}
 use Rattle.sabr_model.specs.Adding.{without_contact}
-use Rattle.sabr_model.specs.Gathering.{openings_of}
+use Rattle.sabr_model.specs.Openings.{openings_of}
 use Rattle.sabr_model.proofs.Deletions.{found_by_number, without_opening, IsPlan-fewer_contacts}
 use Rattle.sabr_model.proofs.KnownLemmas.{nothing_known}
 use Rattle.sabr_model.proofs.plan.Plan.delete_contact.Goals as goal

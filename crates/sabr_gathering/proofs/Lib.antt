@@ -1,0 +1,4 @@
+pub mod Gathers
+pub mod LastRanges
+pub mod ChainedRanges
+pub mod GatheredOpenings

@@ -1,0 +1,26 @@
+-- The contact goes, and its opening.
+use Rattle.std.proofs.Common.{◌∙◌, ap, not, rules, List}
+use Rattle.std.proofs.lemmas.Fn.{filter_same}
+use Rattle.sabr_model.specs.declared.contact.Contact.{Contact}
+use Rattle.sabr_model.specs.Plan.{ContactPlan, opens}
+use Rattle.sabr_model.specs.Adding.{without_contact}
+use Rattle.sabr_gathering.specs.Gathering.{plan_of_contacts}
+use Rattle.sabr_model.proofs.Deletions.{IsPlan-fewer_contacts}
+use Rattle.sabr_gathering.proofs.gathered_contacts.GatheredContacts.delete.Goals as goal
+
+pub invariant_of-self : goal.invariant_of-self
+invariant_of-self g c =
+    let from = c.args.from in
+    let to = c.args.to in
+    let start = c.args.start in
+    let cs = c.self.inside.contacts.items in
+    let kept = filter_same _ (λ (d : Contact). not (opens from to start d)) _ (λ d b f' k. search rules) _ _ c.retain.ensures.filtered in
+    rw kept (IsPlan-fewer_contacts (plan_of_contacts cs c.self.inside.greatest) (λ d. not (opens from to start d)) c.self.invariant.0, c.forget.ensures cs c.self.invariant.1)
+
+pub returns-clause-ok : goal.returns-clause-ok
+returns-clause-ok g c =
+    let from = c.args.from in
+    let to = c.args.to in
+    let start = c.args.start in
+    let kept = filter_same _ (λ (d : Contact). not (opens from to start d)) _ (λ d b f' k. search rules) _ _ c.retain.ensures.filtered in
+    ap (λ (xs : List Contact). plan_of_contacts xs c.self.inside.greatest) kept ∙ ap (λ (q : ContactPlan). without_contact q from to start) c.self.view_is

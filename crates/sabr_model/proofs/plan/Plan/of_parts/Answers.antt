@@ -1,0 +1,32 @@
+use Rattle.std.proofs.Common.{List, subst, sym}
+use Rattle.std.proofs.lemmas.Bool.{both_ways}
+use Rattle.indexmap.specs.IndexMap.{keys}
+use Rattle.sabr_model.specs.declared.contact.Contact.{Contact}
+use Rattle.sabr_model.specs.declared.contact.Range.{Range}
+use Rattle.sabr_model.specs.Plan.{ContactPlan}
+use Rattle.sabr_model.specs.RangeOrder.{IsRangeList}
+use Rattle.sabr_model.specs.Table.{IsTableOf}
+use Rattle.sabr_model.specs.Stretches.{AreEnds}
+use Rattle.sabr_model.specs.Known.{BeginLights}
+use Rattle.sabr_model.proofs.RangeKeys.{range_list}
+use Rattle.sabr_model.proofs.KnownLemmas.{all_ends}
+use Rattle.sabr_model.proofs.plan.Plan.of_parts.Goals as goal
+
+pub lights_of-requires-clause-ranges : goal.lights_of-requires-clause-ranges
+lights_of-requires-clause-ranges g c =
+    let p : ContactPlan = record { contacts = c.args.contacts.items; ranges = c.args.ranges.items; greatest = c.args.greatest } in
+    subst IsRangeList (sym c.deref-3.ensures.value) (range_list p c.requires)
+
+pub invariant_of-result : goal.invariant_of-result
+invariant_of-result g c =
+    let lent = c.deref.ensures.value in
+    let table = c.in_ok-table.table in
+    let lights = c.in_ok-lights.lights.items in (
+      c.requires,
+      subst (λ (cs : List Contact). IsTableOf cs table) lent c.in_ok-table.ensures.table,
+      record {
+        ends = all_ends (keys table) _ _ (subst (λ (cs : List Contact). AreEnds (keys table) cs c.in_ok-table.ends.items) lent c.in_ok-table.ensures.ends);
+        lights = subst (λ (rs : List Range). BeginLights rs c.args.contacts.items lights) c.deref-3.ensures.value (subst (λ (cs : List Contact). BeginLights c.deref-3.result.now cs lights) c.deref-2.ensures.value (c.in_ok-lights.ensures {u = tt}).each);
+      },
+      λ e. absurd (both_ways _ c.without_set.ensures e),
+    )

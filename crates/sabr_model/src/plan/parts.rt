@@ -1,0 +1,41 @@
+//! A plan that is made of all its contacts and ranges.
+
+ghost use Rattle.std.specs.Prelude.{◌≡◌, IfOk};
+ghost use Rattle.sabr_model.specs.Plan.{IsPlan};
+
+use super::Plan;
+use super::lights::lights_of;
+use crate::contact::{Contact, Range};
+use crate::fault::NoMemory;
+use crate::node_table::table_of;
+use crate::openings::Openings;
+use std::alloc::Allocator;
+
+impl<A: Allocator + Copy> Plan<A> {
+    /// Makes the plan of these contacts and ranges, where `greatest` is the greatest number ever assigned, or returns
+    /// `NoMemory` if memory for its tables is refused.
+    ///
+    /// It takes some steps for each contact and range.
+    pub fn of_parts(
+        alloc: A,
+        contacts: Vec<Contact, A>,
+        ranges: Vec<Range, A>,
+        greatest: u32,
+    ) -> Result<Plan<A>, NoMemory>
+        requires { IsPlan (record { contacts = contacts.items; ranges = ranges.items; greatest = greatest }) }
+        ensures { IfOk result (λ p. p.plan ≡ record { contacts = contacts.items; ranges = ranges.items; greatest = greatest }) }
+    {
+        let (table, ends) = table_of(alloc, &contacts)?;
+        let lights = lights_of(alloc, &contacts, &ranges, &ends, &table)?;
+        Ok(Plan {
+            alloc,
+            contacts,
+            ranges,
+            table,
+            greatest,
+            openings: Openings::without_set(alloc),
+            ends,
+            lights,
+        })
+    }
+}
