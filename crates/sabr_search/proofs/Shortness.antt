@@ -10,7 +10,7 @@ use Rattle.sabr_model.specs.Tabled.{IsTabled}
 use Rattle.sabr_model.specs.Route.{chain_end, receivers}
 use Rattle.sabr_model.proofs.Begins.{receivers-append, chain_end-append}
 use Rattle.sabr_search.specs.Ways.{Leads}
-use Rattle.sabr_search.specs.Task.{SearchTask, Takes, IsBehind}
+use Rattle.sabr_search.specs.Task.{SearchTask, Takes, IsBehind, most_nodes}
 use Rattle.sabr_search.proofs.Prefixes.{IsPrefix}
 use Rattle.sabr_search.proofs.Bridge.{IsChain, chain_of_way}
 use Rattle.sabr_search.proofs.PartWays.{way_differs}
@@ -40,7 +40,7 @@ ends_size : (cs : List Contact) → length (ends_of cs) ≡ 2 * length cs
 ends_size [] = refl
 ends_size (c ∷ cs) = omega (arith, ends_size cs)
 
--- a plan has at most 40000 nodes
-pub nodes_few : (p : TabledPlan) → IsPlan p.plan → IsTabled p → length p.table ≤ 40000
+-- a plan has at most so many nodes
+pub nodes_few : (p : TabledPlan) → IsPlan p.plan → IsTabled p → length p.table ≤ most_nodes
 nodes_few p good tabled =
     omega (arith, few_different p.table (ends_of p.plan.contacts) tabled.once (λ q h. sym (tabled.nodes q) ∙ h), ends_size p.plan.contacts, contacts_few p.plan good)

@@ -3,6 +3,7 @@ use Rattle.std.specs.Prelude.{◌≡◌, ◌≢◌, ℕ, ◌+◌, ◌≤◌, ◌
 use Rattle.std.specs.declared.option.Option.TheVariants.{Some}
 use Rattle.sabr_search.specs.declared.layers.Reached.{Reached}
 use Rattle.sabr_search.specs.declared.layers.Best.{Best}
+use Rattle.sabr_search.specs.declared.layers.Layers.{Layers}
 use Rattle.sabr_search.specs.Layers.{Admits, IsTable, AreExact}
 use Rattle.sabr_search.specs.Task.{SearchTask, Takes, never}
 use Rattle.sabr_search.specs.Lists.{IsPlaced}
@@ -22,6 +23,10 @@ pub record ArePointed (task : SearchTask) (hop : ℕ) (bounds place : List ℕ) 
 abbrev pub IsInTime : SearchTask → Best → List ℕ → List Reached → ℕ → ℕ → ℕ → Type 0
 IsInTime task best bounds reached hop w b = Admits (Entry bounds reached) task.goal best.hops best.delivery hop w b
 
+-- a step from node u at t leads to where it is in time
+abbrev pub LeavesInTime : SearchTask → Best → List ℕ → List Reached → ℕ → ℕ → ℕ → Type 0
+LeavesInTime task best bounds reached hop u t = (n : ℕ) × (w : ℕ) × (b : ℕ) × Takes task n u t w b × IsInTime task best bounds reached hop w b
+
 -- layers whose deadlines are set from layer `hop` on
 pub record AreTimed (task : SearchTask) (best : Best) (hop : ℕ) (bounds place : List ℕ) (reached : List Reached) : Type 0 where
   pub flags : length place ≡ length task.table
@@ -38,3 +43,11 @@ pub record AreTimed (task : SearchTask) (best : Best) (hop : ℕ) (bounds place 
   pub exact : AreExact (Takes task) (Entry bounds reached) task.start task.at task.goal best.hops best.delivery
   pub tables : (h : ℕ) → hop ≤ h → h < best.hops → IsTable (Takes task) (Entry bounds reached) task.goal best.hops best.delivery h
   pub early : best.delivery < never
+
+-- layers whose deadlines are set for some search now have `place` name the entries of layer `hop`
+abbrev pub ArePointedAt : {A : Type 0} → ℕ → Layers A → Layers A → Type 0
+ArePointedAt hop old new = (task : SearchTask) (best : Best) (from : ℕ) → hop ≤ best.hops → AreTimed task best from old.bounds.items old.place.items old.reached.items → ArePointed task hop new.bounds.items new.place.items new.reached.items
+
+-- layers whose deadlines are set for some search stay so
+abbrev pub StayTimed : {A : Type 0} → Layers A → Layers A → Type 0
+StayTimed old new = (task : SearchTask) (best : Best) (from : ℕ) → AreTimed task best from old.bounds.items old.place.items old.reached.items → AreTimed task best from new.bounds.items new.place.items new.reached.items

@@ -57,6 +57,10 @@ pub record IsWithin (s : Span) (k : ℕ) (d : Due) : Type 0 where
 abbrev pub AreSpans : List Due → List Span → Type 0
 AreSpans dues spans = (k : ℕ) (d : Due) (s : Span) → slice_get dues k ≡ Some d → slice_get spans d.node ≡ Some s → IsWithin s k d
 
+-- each due that lets a way on through from one of these steps has at least so many hops
+abbrev pub NeedHops : List Standing → List Due → ℕ → Type 0
+NeedHops first dues hops = (i k : ℕ) (s : Standing) (d : Due) → slice_get first i ≡ Some s → slice_get dues k ≡ Some d → d.node ≡ s.node → s.at < d.late → hops ≤ d.hops
+
 -- what is kept for one deadline; after every arrival it has no dues
 pub record IsRung {A : Type 0} (p : TabledPlan) (r : RouteRequest) (rung : Rung A) : Type 0 where
   pub floors : length rung.before.items ≡ length p.table

@@ -1,6 +1,6 @@
 -- Layers made backward from the goal: for each node, the first second that is too late so far; and the entries, layer
 -- by layer, the goal's first.
-use Rattle.std.specs.Prelude.{◌≡◌, ◌≢◌, ◌⊎◌, ℕ, ◌+◌, ◌≤◌, ◌<◌, min, List, [], ◌∷◌, ◌++◌, length, false, slice_get, slice_set, slice_index, slice_index_or}
+use Rattle.std.specs.Prelude.{◌≡◌, ◌≢◌, ◌⊎◌, ℕ, ◌+◌, ◌≤◌, ◌<◌, min, List, [], ◌∷◌, ◌++◌, length, reverse, false, slice_get, slice_set, slice_index, slice_index_or}
 use Rattle.std.specs.declared.option.Option.TheVariants.{Some}
 use Rattle.sabr_search.specs.declared.layers.Reached.{Reached}
 use Rattle.sabr_search.specs.Ways.{Leads}
@@ -46,6 +46,14 @@ pub record AreLate (task : SearchTask) (since : List ℕ) (d first begin : ℕ) 
   pub once : (p : ℕ) (e : Reached) → begin ≤ p → slice_get reached p ≡ Some e → slice_index place e.node ≡ p
   pub sound : (p : ℕ) (e : Reached) (t : ℕ) → begin ≤ p → slice_get reached p ≡ Some e → t < e.deadline → (n : ℕ) × (w : ℕ) × (b : ℕ) × Takes task n e.node t w b × InTimeFor reached first begin w b
 
+-- the same while the layer after layer `left` is made, by where the layers begin
+abbrev pub AreLateAfter : SearchTask → List ℕ → ℕ → List ℕ → ℕ → List ℕ → List ℕ → List Reached → Type 0
+AreLateAfter task since d ends left late place reached = AreLate task since d (slice_index ends left) (slice_index ends (left + 1)) late place reached
+
+-- a step from the start is in time for an entry of layer `left`
+abbrev pub StartsInTime : SearchTask → List ℕ → ℕ → List Reached → Type 0
+StartsInTime task ends left reached = (n : ℕ) × (w : ℕ) × (b : ℕ) × Takes task n task.start task.at w b × InTimeFor reached (slice_index ends left) (slice_index ends (left + 1)) w b
+
 -- node u is too late from x on: its entry in the layer that begins at `begin` says so, or a new one does
 abbrev pub IsNotedLate : List ℕ → List Reached → ℕ → ℕ → ℕ → ℕ → List ℕ → List Reached → Type 0
 IsNotedLate place reached begin u a x place' reached' =
@@ -57,6 +65,10 @@ IsNotedLate place reached begin u a x place' reached' =
 abbrev pub IsToldLate : SearchTask → List ℕ → ℕ → List ℕ → ℕ → ℕ → Type 0
 IsToldLate task since d late u t = (u ≡ task.start → task.at ≤ t → ⊥) × (slice_index_or task.shut u false ≡ false → u ≢ task.goal → soonest since d u ≤ t → t < slice_index late u)
 
+-- so it is for each step over these passes from node u that arrives before a second
+abbrev pub IsToldOver : SearchTask → List ℕ → ℕ → List ℕ → ℕ → List Pass → ℕ → Type 0
+IsToldOver task since d late u passes before = (n t w b : ℕ) → HasNumber passes n → Takes task n u t w b → b < before → IsToldLate task since d late u t
+
 -- so it is for each step over a link with this head that arrives before a second
 abbrev pub IsToldByHead : SearchTask → List ℕ → ℕ → List ℕ → SenderHead → ℕ → Type 0
 IsToldByHead task since d late head before =
@@ -65,6 +77,10 @@ IsToldByHead task since d late head before =
 -- that holds for each step to an entry at the places from `first` to before `begin`
 abbrev pub AreTold : SearchTask → List ℕ → ℕ → List Reached → ℕ → ℕ → List ℕ → Type 0
 AreTold task since d reached first begin late = (p : ℕ) (e : Reached) (n u t b : ℕ) → first ≤ p → p < begin → slice_get reached p ≡ Some e → Takes task n u t e.node b → b < e.deadline → IsToldLate task since d late u t
+
+-- that holds for each step to an entry of layer `left`
+abbrev pub IsLayerTold : SearchTask → List ℕ → ℕ → List ℕ → ℕ → List Reached → List ℕ → Type 0
+IsLayerTold task since d ends left reached late = AreTold task since d reached (slice_index ends left) (slice_index ends (left + 1)) late
 
 -- the same by the layers up to the one after j
 abbrev pub IsToldBy : SearchTask → List ℕ → ℕ → Entries → ℕ → ℕ → ℕ → Type 0
@@ -86,6 +102,14 @@ pub record AreLateLayers (task : SearchTask) (since : List ℕ) (d left : ℕ) (
 -- the last layer is empty
 abbrev pub IsEnded : List ℕ → Type 0
 IsEnded ends = (left : ℕ) × (length ends ≡ left + 2) × (slice_index ends left ≡ slice_index ends (left + 1))
+
+-- if the last layer is empty, all layers up to it are made
+abbrev pub AreMadeIfEnded : SearchTask → List ℕ → ℕ → List ℕ → List ℕ → List Reached → Type 0
+AreMadeIfEnded task since d ends late reached = IsEnded ends → (left : ℕ) × (place : List ℕ) × AreLateLayers task since d left ends late place reached
+
+-- the entries in reverse order: the start takes the goal's place and also stands first
+abbrev pub turned_round : SearchTask → List Reached → List Reached
+turned_round task reached = reverse (slice_set reached 0 (record { node = task.start; arrival = task.at; deadline = 0 }) ++ record { node = task.start; arrival = task.at; deadline = 0 } ∷ [])
 
 -- the start is in time for an entry of the last layer
 pub record IsMet (task : SearchTask) (left : ℕ) (ends : List ℕ) (reached : List Reached) : Type 0 where

@@ -1,6 +1,7 @@
 -- The lists that keep hop layers: for each node the least arrival so far and the place of an entry, and the entries.
-use Rattle.std.specs.Prelude.{◌≡◌, ◌≢◌, ℕ, ◌≤◌, ◌<◌, ◌⊎◌, List, length, map, take, drop, Bool, true, false, slice_get, slice_index, slice_index_or}
+use Rattle.std.specs.Prelude.{◌≡◌, ◌≢◌, ℕ, ◌+◌, ◌≤◌, ◌<◌, ◌⊎◌, List, length, map, take, drop, Bool, true, false, slice_get, slice_index, slice_index_or}
 use Rattle.sabr_search.specs.declared.layers.Reached.{Reached}
+use Rattle.sabr_search.specs.declared.layers.Layers.{Layers}
 use Rattle.std.specs.declared.option.Option.TheVariants.{Some}
 use Rattle.sabr_search.specs.Task.{SearchTask, Takes, never}
 
@@ -14,6 +15,10 @@ pub record IsLinked (shut : List Bool) (arrival place : List ℕ) (reached : Lis
   pub as_many : length place ≡ length arrival
   pub node : (k : ℕ) (d : Reached) → k < length arrival → slice_index_or shut k false ≡ false → slice_index arrival k < never → (slice_index_or reached (slice_index place k) d).node ≡ k
   pub time : (k : ℕ) (d : Reached) → k < length arrival → slice_index_or shut k false ≡ false → slice_index arrival k < never → (slice_index_or reached (slice_index place k) d).arrival ≡ slice_index arrival k
+
+-- whatever nodes were shut, the open ones that are reached still have such entries
+abbrev pub StayLinked : {A : Type 0} → Layers A → Layers A → Type 0
+StayLinked old new = (shut : List Bool) → IsLinked shut old.arrival.items old.place.items old.reached.items → IsLinked shut new.arrival.items new.place.items new.reached.items
 
 -- the layer that begins at `begin` has each node once
 pub record IsLayer (begin : ℕ) (place : List ℕ) (reached : List Reached) : Type 0 where
@@ -63,6 +68,10 @@ pub record IsLowered (shut : List Bool) (goal at begin : ℕ) (Given : Arrivals)
   pub adds : AddsGiven reached0 reached Given
   pub found : (best ≡ best0) ⊎ Given goal best
 
+-- so it is for the layers of a search
+abbrev pub AreLowered : {A : Type 0} → SearchTask → ℕ → Arrivals → Layers A → ℕ → Layers A → ℕ → Type 0
+AreLowered task begin Given old best0 new best = IsLowered task.shut task.goal task.at begin Given old.arrival.items old.reached.items best0 new.arrival.items new.place.items new.reached.items best
+
 -- what arrives at node w at b is no news: it comes no earlier than the best delivery, or the node is reached by then
 abbrev pub IsKnown : ℕ → List ℕ → ℕ → ℕ → ℕ → Type 0
 IsKnown goal arrival best w b = (best ≤ b) ⊎ ((w ≢ goal) × (slice_index arrival w ≤ b))
@@ -77,9 +86,17 @@ pub record AreSources (task : SearchTask) (reached : List Reached) (first begin 
   pub since : (p : ℕ) (e : Reached) → slice_get reached p ≡ Some e → task.at ≤ e.arrival
   pub apart : (p q : ℕ) (e f : Reached) → first ≤ p → first ≤ q → p < begin → q < begin → slice_get reached p ≡ Some e → slice_get reached q ≡ Some f → e.node ≡ f.node → p ≡ q
 
+-- a contact that is taken at node u at t arrives there then
+abbrev pub GivenAt : SearchTask → ℕ → ℕ → Arrivals
+GivenAt task u t w x = (n : ℕ) × Takes task n u t w x
+
 -- a contact of an entry from `first` to before `begin` arrives there then
 abbrev pub GivenFrom : SearchTask → List Reached → ℕ → ℕ → Arrivals
 GivenFrom task reached first begin w x = (p : ℕ) × (e : Reached) × (n : ℕ) × (first ≤ p) × (p < begin) × (slice_get reached p ≡ Some e) × Takes task n e.node e.arrival w x
+
+-- a contact of an entry of layer `hop` arrives there then
+abbrev pub GivenByLayer : {A : Type 0} → SearchTask → Layers A → ℕ → Arrivals
+GivenByLayer task made hop = GivenFrom task made.reached.items (slice_index made.bounds.items hop) (slice_index made.bounds.items (hop + 1))
 
 -- what the contacts of these entries bring is known
 abbrev pub IsKnownFrom : SearchTask → List Reached → ℕ → ℕ → List ℕ → ℕ → Type 0

@@ -1,5 +1,5 @@
 -- The least numbers from the front, and the least way of a search.
-use Rattle.std.specs.Prelude.{◌≡◌, ℕ, ◌≤◌, ◌<◌, List, length}
+use Rattle.std.specs.Prelude.{◌≡◌, ℕ, ◌≤◌, ◌<◌, List, length, false, slice_index_or}
 use Rattle.std.specs.declared.option.Option.{Option}
 use Rattle.std.specs.declared.option.Option.TheVariants.{Some, None}
 use Rattle.sabr_search.specs.declared.layers.Reached.{Reached}
@@ -14,6 +14,10 @@ use Rattle.sabr_search.specs.Deadlines.{IsInTime}
 abbrev pub IsAtMost : Option Step → ℕ → Type 0
 IsAtMost None n = ⊥
 IsAtMost (Some s) n = s.number ≤ n
+
+-- a step from node u at t that arrives at node w before a second, if that node is open
+abbrev pub IsStepOver : SearchTask → ℕ → ℕ → ℕ → ℕ → Step → Type 0
+IsStepOver task u t w before s = (s.node ≡ w) × (s.at < before) × (slice_index_or task.shut w false ≡ false → Takes task s.number u t w s.at)
 
 -- a step in time from node u at t, with the least number
 pub record IsLeastStep (task : SearchTask) (best : Best) (bounds : List ℕ) (reached : List Reached) (hop u t : ℕ) (s : Step) : Type 0 where

@@ -2,7 +2,7 @@
 use Rattle.std.specs.Prelude.{◌≡◌, ℕ, ◌-◌, ◌^◌, ◌≤◌, ◌<◌, Bool, true, false, ◌||◌, List, ◌∷◌, length, slice_get, slice_index_or}
 use Rattle.std.specs.declared.option.Option.TheVariants.{Some}
 use Rattle.sabr_model.specs.declared.contact.Contact.{Contact}
-use Rattle.sabr_model.specs.Plan.{ContactPlan, IsPlan, contact_named, has}
+use Rattle.sabr_model.specs.Plan.{ContactPlan, TabledPlan, IsPlan, contact_named, has}
 use Rattle.sabr_model.specs.Arrival.{RouteRequest, arrival, arrival_after}
 use Rattle.sabr_model.specs.Route.{chain_end, receivers}
 
@@ -17,6 +17,14 @@ pub record SearchTask : Type 0 where
   pub start : ℕ
   pub goal : ℕ
   pub at : ℕ
+
+-- the question over a plan with its table
+abbrev pub task_of : TabledPlan → RouteRequest → List Bool → List ℕ → ℕ → ℕ → ℕ → SearchTask
+task_of p r shut excluded start at goal = record { plan = p.plan; request = r; table = p.table; shut = shut; excluded = excluded; start = start; goal = goal; at = at }
+
+-- a plan has no more nodes
+abbrev pub most_nodes : ℕ
+most_nodes = 40000
 
 -- the table has the sender and the receiver of each standing contact, and no node twice
 pub record HasNodes (p : ContactPlan) (table : List ℕ) : Type 0 where

@@ -3,11 +3,12 @@
 ghost use Rattle.std.specs.Prelude.{◌≡◌, ◌++◌, ℕ, List, ◌+◌, ◌*◌, ◌-◌, ◌^◌, ◌≤◌, ◌<◌, Some, IfOk, IfSome, IfNone, OnErr, length};
 ghost use Rattle.sabr_search.specs.Ways.{Leads};
 ghost use Rattle.sabr_search.specs.Task.{IsTask, Takes, never};
-ghost use Rattle.sabr_search.specs.Picks.{IsLeastWay, IsPicked};
+ghost use Rattle.sabr_search.specs.Picks.{IsPicked};
 ghost use Rattle.sabr_search.specs.Deadlines.{AreTimed};
 ghost use Rattle.sabr_search.specs.Late.{AreArrivals, IsEnded};
 ghost use Rattle.sabr_search.specs.Following.{IsNoneBefore};
-ghost use Rattle.sabr_search.specs.Told.{hops_told, IsTold};
+ghost use Rattle.sabr_search.specs.Answers.{IsLeastAfter};
+ghost use Rattle.sabr_search.specs.Told.{hops_told, looks_by, IsTold};
 
 use crate::layers::{Best, Layers, Limits};
 use crate::looks::Looks;
@@ -32,10 +33,10 @@ impl<A: Allocator + Copy> Layers<A> {
         requires ceiling { limits.ceiling ≤ never }
         requires lower { (ns : List ℕ) (e : ℕ) → Leads (Takes task.now) task.now.start task.now.at ns task.now.goal e → limits.lower ≤ e }
         ensures none { IfOk result (λ o. IfNone o ((ns : List ℕ) (e : ℕ) → length ns ≤ limits.hops → Leads (Takes task.now) task.now.start task.now.at ns task.now.goal e → limits.ceiling ≤ e)) }
-        ensures some { IfOk result (λ o. IfSome o (λ route. (s : List ℕ) × (route.contacts ≡ prefix.now ++ s) × IsLeastWay task.now limits.hops limits.ceiling s route.delivery × IsTold task.now.plan route)) }
+        ensures some { IfOk result (λ o. IfSome o (IsLeastAfter task.now prefix.now limits.hops limits.ceiling)) }
         ensures err_looks { OnErr result (looks.new.count ≤ looks.old.count + 3 * (limits.hops * length task.now.plan.contacts)) }
         ensures ok_looks { IfOk result (λ o. looks.new.count ≤ looks.old.count + 3 * (limits.hops * length task.now.plan.contacts) + hops_told o) }
-        ensures stopped { IfOk result (λ o. IfSome o (λ route. route.delivery ≤ limits.lower → looks.new.count + length task.now.plan.contacts ≤ looks.old.count + 3 * ((length route.contacts - length prefix.now) * length task.now.plan.contacts) + length route.contacts)) }
+        ensures stopped { IfOk result (λ o. IfSome o (λ route. route.delivery ≤ limits.lower → looks.new.count + length task.now.plan.contacts ≤ looks.old.count + looks_by task.now.plan prefix.now route)) }
         ensures counted { IfOk result (λ o. hops_told o ≤ looks.new.count) }
     {
         let best = self.make(task, looks, limits)?;
@@ -95,7 +96,7 @@ impl<A: Allocator + Copy> Layers<A> {
         requires early { first.delivery < never }
         requires arrivals { AreArrivals task.now arrival.now first.delivery }
         requires least { (ns : List ℕ) (e : ℕ) → Leads (Takes task.now) task.now.start task.now.at ns task.now.goal e → first.delivery ≤ e }
-        ensures some { IfOk result (λ o. IfSome o (λ route. (s : List ℕ) × (route.contacts ≡ prefix.now ++ s) × IsLeastWay task.now first.hops (first.delivery + 1) s route.delivery × IsTold task.now.plan route)) }
+        ensures some { IfOk result (λ o. IfSome o (IsLeastAfter task.now prefix.now first.hops (first.delivery + 1))) }
         ensures ended { IfOk result (λ o. IfNone o (IsEnded self.new.ends.items → IsNoneBefore task.now (first.delivery + 1))) }
         ensures refused { OnErr result (looks.new.count ≤ most + first.hops * length task.now.plan.contacts) }
         ensures looks { IfOk result (λ o. looks.new.count ≤ most + (hops_told o - length prefix.now) * length task.now.plan.contacts + hops_told o) }
@@ -131,10 +132,10 @@ impl<A: Allocator + Copy> Layers<A> {
         requires arrivals { AreArrivals task.now arrival.now first.delivery }
         requires least { (ns : List ℕ) (e : ℕ) → Leads (Takes task.now) task.now.start task.now.at ns task.now.goal e → first.delivery ≤ e }
         ensures none { IfOk result (λ o. IfNone o ((ns : List ℕ) (e : ℕ) → length ns ≤ limits.hops → Leads (Takes task.now) task.now.start task.now.at ns task.now.goal e → limits.ceiling ≤ e)) }
-        ensures some { IfOk result (λ o. IfSome o (λ route. (s : List ℕ) × (route.contacts ≡ prefix.now ++ s) × IsLeastWay task.now limits.hops limits.ceiling s route.delivery × IsTold task.now.plan route)) }
+        ensures some { IfOk result (λ o. IfSome o (IsLeastAfter task.now prefix.now limits.hops limits.ceiling)) }
         ensures err_looks { OnErr result (looks.new.count ≤ 3 * length task.now.plan.contacts + 3 * (limits.hops * length task.now.plan.contacts)) }
         ensures ok_looks { IfOk result (λ o. looks.new.count ≤ 3 * length task.now.plan.contacts + 3 * (limits.hops * length task.now.plan.contacts) + hops_told o) }
-        ensures stopped { IfOk result (λ o. IfSome o (λ route. route.delivery ≤ limits.lower → looks.new.count ≤ 2 * length task.now.plan.contacts + 3 * ((length route.contacts - length prefix.now) * length task.now.plan.contacts) + length route.contacts)) }
+        ensures stopped { IfOk result (λ o. IfSome o (λ route. route.delivery ≤ limits.lower → looks.new.count ≤ 2 * length task.now.plan.contacts + looks_by task.now.plan prefix.now route)) }
         ensures counted { IfOk result (λ o. hops_told o ≤ looks.new.count) }
     {
         if limits.hops != first.hops {

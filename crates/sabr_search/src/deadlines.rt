@@ -4,7 +4,7 @@ ghost use Rattle.std.specs.Prelude.{◌≡◌, ◌≢◌, ◌↔◌, ℕ, ◌+�
 ghost use Rattle.sabr_search.specs.declared.layers.Best.{Best};
 ghost use Rattle.sabr_search.specs.Task.{SearchTask, IsTask, Takes, never};
 ghost use Rattle.sabr_search.specs.Steps.{degree};
-ghost use Rattle.sabr_search.specs.Deadlines.{ArePointed, IsInTime, AreTimed};
+ghost use Rattle.sabr_search.specs.Deadlines.{ArePointed, ArePointedAt, IsInTime, LeavesInTime, AreTimed, StayTimed};
 
 use crate::layers::{Best, Layers, Reached};
 use crate::looks::Looks;
@@ -21,8 +21,8 @@ impl<A: Allocator + Copy> Layers<A> {
         ensures bounds { self.new.bounds ≡ self.old.bounds }
         ensures reached { self.new.reached ≡ self.old.reached }
         ensures arrival { self.new.arrival ≡ self.old.arrival }
-        ensures pointed { (task : SearchTask) (best : Best) (from : ℕ) → hop ≤ best.hops → AreTimed task best from self.old.bounds.items self.old.place.items self.old.reached.items → ArePointed task hop self.new.bounds.items self.new.place.items self.new.reached.items }
-        ensures timed { (task : SearchTask) (best : Best) (from : ℕ) → AreTimed task best from self.old.bounds.items self.old.place.items self.old.reached.items → AreTimed task best from self.new.bounds.items self.new.place.items self.new.reached.items }
+        ensures pointed { ArePointedAt hop self.old self.new }
+        ensures timed { StayTimed self.old self.new }
     {
         let first = self.bounds[hop];
         let end = self.bounds[hop + 1];
@@ -72,7 +72,7 @@ impl<A: Allocator + Copy> Layers<A> {
         requires node { from.node < length task.now.table }
         requires other { from.node ≢ task.now.start }
         ensures looks { looks.new.count ≤ looks.old.count + degree task.now from.node }
-        ensures sound { IfOk result (λ latest. (t : ℕ) → t < latest → (n : ℕ) × (w : ℕ) × (b : ℕ) × Takes task.now n from.node t w b × IsInTime task.now best self.now.bounds.items self.now.reached.items hop w b) }
+        ensures sound { IfOk result (λ latest. (t : ℕ) → t < latest → LeavesInTime task.now best self.now.bounds.items self.now.reached.items hop from.node t) }
         ensures full { IfOk result (λ latest. (t n w b : ℕ) → from.arrival ≤ t → Takes task.now n from.node t w b → IsInTime task.now best self.now.bounds.items self.now.reached.items hop w b → t < latest) }
     {
         let outgoing = task.links(from.node)?;

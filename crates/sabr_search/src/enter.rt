@@ -5,8 +5,8 @@ ghost use Rattle.sabr_model.specs.Plan.{IsPlan, has};
 ghost use Rattle.sabr_model.specs.Table.{node_count};
 ghost use Rattle.sabr_model.specs.Tabled.{IsTabled};
 ghost use Rattle.sabr_model.specs.Route.{is_route, is_prefix};
-ghost use Rattle.sabr_search.specs.Task.{HasNodes, IsTask, IsBehind};
-ghost use Rattle.sabr_search.specs.Entering.{AreShut, IsPassed};
+ghost use Rattle.sabr_search.specs.Task.{HasNodes};
+ghost use Rattle.sabr_search.specs.Entering.{AreShut, IsPassed, IsEntered};
 
 use crate::looks::Looks;
 use crate::pick::Standing;
@@ -88,9 +88,7 @@ pub fn enter<A: Allocator + Copy>(
     ensures nodes { length plan.now.table ≡ node_count plan.now.plan.contacts }
     ensures looks { looks.new.count ≤ looks.old.count + length prefix.now }
     ensures none { IfOk result (λ o. IfNone o ((s : List ℕ) → IsTrue (is_route plan.now.plan request.now s) → ⊥)) }
-    ensures some { IfOk result (λ o. IfSome o (λ found. (excluded : List ℕ) →
-        IsTask (record { plan = plan.now.plan; request = request.now; table = plan.now.table; shut = shut.new; excluded = excluded; start = found.0.node; goal = found.1; at = found.0.at })
-        × IsBehind (record { plan = plan.now.plan; request = request.now; table = plan.now.table; shut = shut.new; excluded = excluded; start = found.0.node; goal = found.1; at = found.0.at }) prefix.now)) }
+    ensures some { IfOk result (λ o. IfSome o (λ found. IsEntered plan.now request.now prefix.now shut.new found.0.node found.0.at found.1)) }
 {
     plan.tell_rules();
     shut.open_all(plan.nodes())?;

@@ -1,10 +1,10 @@
 //! Hop layers made backward from the goal, once the first delivery is known. For each number of hops they hold the
 //! nodes from which that many hops lead to the goal by then, starting later than fewer hops can.
 
-ghost use Rattle.std.specs.Prelude.{◌≡◌, ℕ, ◌+◌, ◌^◌, ◌≤◌, ◌<◌, min, take, length, true, false, IsTrue, slice_get, slice_index, slice_index_or, slice_set, Some, None, OnOk, IfOk, IfSome, IfNone, List, [], ◌∷◌, ◌++◌, ◌-◌, replicate, reverse};
+ghost use Rattle.std.specs.Prelude.{◌≡◌, ℕ, ◌+◌, ◌^◌, ◌≤◌, ◌<◌, min, take, length, true, false, IsTrue, slice_get, slice_index, slice_index_or, slice_set, Some, None, OnOk, IfOk, IfSome, IfNone, List, [], ◌∷◌, ◌-◌, replicate};
 ghost use Rattle.sabr_search.specs.Task.{IsTask, Takes, never};
 ghost use Rattle.sabr_search.specs.Linked.{IsLinkWithin, HasNumber};
-ghost use Rattle.sabr_search.specs.Late.{soonest, InTimeFor, AreLate, IsNotedLate, IsToldLate, IsToldByHead, AreTold, AreArrivals, AreLateLayers, IsMet, IsEnded};
+ghost use Rattle.sabr_search.specs.Late.{soonest, InTimeFor, AreLateAfter, StartsInTime, IsNotedLate, IsToldLate, IsToldOver, IsToldByHead, IsLayerTold, AreArrivals, AreLateLayers, AreMadeIfEnded, turned_round, IsMet, IsEnded};
 ghost use Rattle.sabr_search.specs.Following.{IsNoneBefore};
 ghost use Rattle.sabr_search.specs.Ways.{Leads};
 ghost use Rattle.sabr_search.specs.Deadlines.{AreTimed};
@@ -126,14 +126,14 @@ impl<A: Allocator + Copy> Layers<A> {
         requires arrivals { length arrival.now ≡ length task.now.table }
         requires few { looks.old.count + length from.passes.now ≤ 2 ^ 62 }
         requires given { (b : ℕ) → b < before → InTimeFor self.old.reached.items (slice_index self.old.ends.items left) (slice_index self.old.ends.items (left + 1)) to b }
-        requires lists { AreLate task.now arrival.now delivery (slice_index self.old.ends.items left) (slice_index self.old.ends.items (left + 1)) self.old.late.items self.old.place.items self.old.reached.items }
+        requires lists { AreLateAfter task.now arrival.now delivery self.old.ends.items left self.old.late.items self.old.place.items self.old.reached.items }
         ensures ends { self.new.ends ≡ self.old.ends }
         ensures looks { looks.new.count ≤ looks.old.count + length from.entry.passes.now }
-        ensures lists { OnOk result (AreLate task.now arrival.now delivery (slice_index self.old.ends.items left) (slice_index self.old.ends.items (left + 1)) self.new.late.items self.new.place.items self.new.reached.items) }
+        ensures lists { OnOk result (AreLateAfter task.now arrival.now delivery self.old.ends.items left self.new.late.items self.new.place.items self.new.reached.items) }
         ensures kept { OnOk result (take (slice_index self.old.ends.items (left + 1)) self.new.reached.items ≡ take (slice_index self.old.ends.items (left + 1)) self.old.reached.items) }
         ensures rises { OnOk result ((k : ℕ) → slice_index self.old.late.items k ≤ slice_index self.new.late.items k) }
         ensures met { IfOk result (λ met. IsTrue met → (n : ℕ) × (b : ℕ) × Takes task.now n task.now.start task.now.at to b × (b < before)) }
-        ensures told { IfOk result (λ met. met ≡ false → (n t w b : ℕ) → HasNumber from.entry.passes.now n → Takes task.now n from.entry.node t w b → b < before → IsToldLate task.now arrival.now delivery self.new.late.items from.entry.node t) }
+        ensures told { IfOk result (λ met. met ≡ false → IsToldOver task.now arrival.now delivery self.new.late.items from.entry.node from.entry.passes.now before) }
     {
         if from.node == task.start() {
             let met = task.starts_in_time(looks, from, to, before);
@@ -190,10 +190,10 @@ impl<A: Allocator + Copy> Layers<A> {
         requires few { looks.old.count ≤ most }
         requires most { most ≤ 2 ^ 62 }
         requires given { (b : ℕ) → b < to.deadline → InTimeFor self.old.reached.items (slice_index self.old.ends.items left) (slice_index self.old.ends.items (left + 1)) to.node b }
-        requires lists { AreLate task.now arrival.now delivery (slice_index self.old.ends.items left) (slice_index self.old.ends.items (left + 1)) self.old.late.items self.old.place.items self.old.reached.items }
+        requires lists { AreLateAfter task.now arrival.now delivery self.old.ends.items left self.old.late.items self.old.place.items self.old.reached.items }
         ensures ends { self.new.ends ≡ self.old.ends }
         ensures looks { looks.new.count ≤ most }
-        ensures lists { OnOk result (AreLate task.now arrival.now delivery (slice_index self.old.ends.items left) (slice_index self.old.ends.items (left + 1)) self.new.late.items self.new.place.items self.new.reached.items) }
+        ensures lists { OnOk result (AreLateAfter task.now arrival.now delivery self.old.ends.items left self.new.late.items self.new.place.items self.new.reached.items) }
         ensures kept { OnOk result (take (slice_index self.old.ends.items (left + 1)) self.new.reached.items ≡ take (slice_index self.old.ends.items (left + 1)) self.old.reached.items) }
         ensures rises { OnOk result ((k : ℕ) → slice_index self.old.late.items k ≤ slice_index self.new.late.items k) }
         ensures met { IfOk result (λ o. o ≡ Some true → (n : ℕ) × (b : ℕ) × Takes task.now n task.now.start task.now.at to.node b × (b < to.deadline)) }
@@ -245,13 +245,13 @@ impl<A: Allocator + Copy> Layers<A> {
         requires most { most ≤ 2 ^ 62 }
         requires bounded { left + 1 < length self.old.ends.items }
         requires goal { IfSome (slice_get self.old.reached.items 0) (λ e. e.node ≡ task.now.goal) }
-        requires lists { AreLate task.now arrival.now delivery (slice_index self.old.ends.items left) (slice_index self.old.ends.items (left + 1)) self.old.late.items self.old.place.items self.old.reached.items }
+        requires lists { AreLateAfter task.now arrival.now delivery self.old.ends.items left self.old.late.items self.old.place.items self.old.reached.items }
         ensures ends { self.new.ends ≡ self.old.ends }
         ensures looks { looks.new.count ≤ most }
-        ensures lists { OnOk result (AreLate task.now arrival.now delivery (slice_index self.old.ends.items left) (slice_index self.old.ends.items (left + 1)) self.new.late.items self.new.place.items self.new.reached.items) }
+        ensures lists { OnOk result (AreLateAfter task.now arrival.now delivery self.old.ends.items left self.new.late.items self.new.place.items self.new.reached.items) }
         ensures kept { OnOk result (take (slice_index self.old.ends.items (left + 1)) self.new.reached.items ≡ take (slice_index self.old.ends.items (left + 1)) self.old.reached.items) }
-        ensures met { IfOk result (λ o. o ≡ Some true → (n : ℕ) × (w : ℕ) × (b : ℕ) × Takes task.now n task.now.start task.now.at w b × InTimeFor self.old.reached.items (slice_index self.old.ends.items left) (slice_index self.old.ends.items (left + 1)) w b) }
-        ensures told { IfOk result (λ o. o ≡ Some false → AreTold task.now arrival.now delivery self.old.reached.items (slice_index self.old.ends.items left) (slice_index self.old.ends.items (left + 1)) self.new.late.items) }
+        ensures met { IfOk result (λ o. o ≡ Some true → StartsInTime task.now self.old.ends.items left self.old.reached.items) }
+        ensures told { IfOk result (λ o. o ≡ Some false → IsLayerTold task.now arrival.now delivery self.old.ends.items left self.old.reached.items self.new.late.items) }
     {
         let first = self.ends[left];
         let begin = self.ends[left + 1];
@@ -313,7 +313,7 @@ impl<A: Allocator + Copy> Layers<A> {
         ensures within { IfOk result (λ o. IfSome o (λ left. left < first.hops)) }
         ensures made { IfOk result (λ o. IfSome o (λ left. (late place : List ℕ) × AreLateLayers task.now arrival.now first.delivery left self.new.ends.items late place self.new.reached.items)) }
         ensures met { IfOk result (λ o. IfSome o (λ left. IsMet task.now left self.new.ends.items self.new.reached.items)) }
-        ensures all { IfOk result (λ o. IfNone o (IsEnded self.new.ends.items → (left : ℕ) × (place : List ℕ) × AreLateLayers task.now arrival.now first.delivery left self.new.ends.items self.new.late.items place self.new.reached.items)) }
+        ensures all { IfOk result (λ o. IfNone o (AreMadeIfEnded task.now arrival.now first.delivery self.new.ends.items self.new.late.items self.new.reached.items)) }
         ensures ended { IfOk result (λ o. IfNone o (IsEnded self.new.ends.items → IsNoneBefore task.now (first.delivery + 1))) }
     {
         self.first_back(task, first.delivery)?;
@@ -352,7 +352,7 @@ impl<A: Allocator + Copy> Layers<A> {
     fn turn_entries(&mut self, task: &Task<'_, A>) -> Result<(), NoMemory>
         requires some { 0 < length self.old.reached.items }
         ensures ends { self.new.ends ≡ self.old.ends }
-        ensures reached { OnOk result (self.new.reached.items ≡ reverse (slice_set self.old.reached.items 0 (record { node = task.now.start; arrival = task.now.at; deadline = 0 }) ++ record { node = task.now.start; arrival = task.now.at; deadline = 0 } ∷ [])) }
+        ensures reached { OnOk result (self.new.reached.items ≡ turned_round task.now self.old.reached.items) }
         ensures place { OnOk result (self.new.place.items ≡ replicate (length task.now.shut) 0) }
     {
         let start = Reached {

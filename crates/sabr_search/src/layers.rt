@@ -1,10 +1,10 @@
 //! Hop layers, made forward: for each number of hops, the nodes that it reaches earlier, and when.
 
-ghost use Rattle.std.specs.Prelude.{◌≡◌, ◌≢◌, min, ℕ, Bool, List, [], ◌∷◌, ◌+◌, ◌*◌, ◌^◌, ◌≤◌, ◌<◌, length, take, slice_set, slice_index, OnOk, IfOk};
+ghost use Rattle.std.specs.Prelude.{◌≡◌, ◌≢◌, min, ℕ, List, [], ◌∷◌, ◌+◌, ◌*◌, ◌^◌, ◌≤◌, ◌<◌, length, take, slice_set, slice_index, OnOk, IfOk};
 ghost use Rattle.sabr_search.specs.Task.{IsTask, Takes};
 ghost use Rattle.sabr_search.specs.Steps.{degree};
 ghost use Rattle.sabr_search.specs.Linked.{IsLinkWithin, HasNumber};
-ghost use Rattle.sabr_search.specs.Lists.{IsPlaced, IsLinked, IsLayer, AddsOnly, AreFresh, AreLists, IsLowered, IsKnown, AreSources, GivenFrom, IsKnownFrom};
+ghost use Rattle.sabr_search.specs.Lists.{IsPlaced, StayLinked, IsLayer, AddsOnly, AreFresh, AreLists, AreLowered, IsKnown, AreSources, GivenAt, GivenByLayer, IsKnownFrom};
 ghost use Rattle.sabr_search.specs.Ways.{Leads};
 ghost use Rattle.sabr_search.specs.Made.{AreOpened, AreLayers};
 
@@ -119,7 +119,7 @@ impl<A: Allocator + Copy> Layers<A> {
         ensures bounds { self.new.bounds ≡ self.old.bounds }
         ensures arrivals { OnOk result (self.new.arrival.items ≡ slice_set self.old.arrival.items node arrival) }
         ensures placed { OnOk result (IsPlaced self.new.place.items self.new.reached.items) }
-        ensures linked { OnOk result ((shut : List Bool) → IsLinked shut self.old.arrival.items self.old.place.items self.old.reached.items → IsLinked shut self.new.arrival.items self.new.place.items self.new.reached.items) }
+        ensures linked { OnOk result (StayLinked self.old self.new) }
         ensures layer { OnOk result (IsLayer begin self.new.place.items self.new.reached.items) }
         ensures fresh { OnOk result (AreFresh self.new.reached.items) }
         ensures before { OnOk result (take begin self.new.reached.items ≡ take begin self.old.reached.items) }
@@ -161,7 +161,7 @@ impl<A: Allocator + Copy> Layers<A> {
         requires lists { AreLists task.now.shut task.now.goal task.now.at begin self.old.arrival.items self.old.place.items self.old.reached.items }
         ensures bounds { self.new.bounds ≡ self.old.bounds }
         ensures looks { looks.new.count ≤ looks.old.count + length passes.now }
-        ensures lowered { IfOk result (λ b. IsLowered task.now.shut task.now.goal task.now.at begin (λ w x. (n : ℕ) × Takes task.now n from.node from.arrival w x) self.old.arrival.items self.old.reached.items best self.new.arrival.items self.new.place.items self.new.reached.items b) }
+        ensures lowered { IfOk result (λ b. AreLowered task.now begin (GivenAt task.now from.node from.arrival) self.old best self.new b) }
         ensures known { IfOk result (λ b. (n w x : ℕ) → HasNumber passes.now n → Takes task.now n from.node from.arrival w x → IsKnown task.now.goal self.new.arrival.items b w x) }
     {
         let to = link.receiver;
@@ -195,7 +195,7 @@ impl<A: Allocator + Copy> Layers<A> {
         requires lists { AreLists task.now.shut task.now.goal task.now.at begin self.old.arrival.items self.old.place.items self.old.reached.items }
         ensures bounds { self.new.bounds ≡ self.old.bounds }
         ensures looks { looks.new.count ≤ looks.old.count + degree task.now from.node }
-        ensures lowered { IfOk result (λ b. IsLowered task.now.shut task.now.goal task.now.at begin (λ w x. (n : ℕ) × Takes task.now n from.node from.arrival w x) self.old.arrival.items self.old.reached.items best self.new.arrival.items self.new.place.items self.new.reached.items b) }
+        ensures lowered { IfOk result (λ b. AreLowered task.now begin (GivenAt task.now from.node from.arrival) self.old best self.new b) }
         ensures known { IfOk result (λ b. (n w x : ℕ) → Takes task.now n from.node from.arrival w x → IsKnown task.now.goal self.new.arrival.items b w x) }
     {
         let outgoing = task.links(from.node)?;
@@ -225,7 +225,7 @@ impl<A: Allocator + Copy> Layers<A> {
         requires lists { AreLists task.now.shut task.now.goal task.now.at (slice_index self.old.bounds.items (hop + 1)) self.old.arrival.items self.old.place.items self.old.reached.items }
         ensures bounds { self.new.bounds ≡ self.old.bounds }
         ensures looks { looks.new.count ≤ looks.old.count + length task.now.plan.contacts }
-        ensures lowered { IfOk result (λ b. IsLowered task.now.shut task.now.goal task.now.at (slice_index self.old.bounds.items (hop + 1)) (GivenFrom task.now self.old.reached.items (slice_index self.old.bounds.items hop) (slice_index self.old.bounds.items (hop + 1))) self.old.arrival.items self.old.reached.items best self.new.arrival.items self.new.place.items self.new.reached.items b) }
+        ensures lowered { IfOk result (λ b. AreLowered task.now (slice_index self.old.bounds.items (hop + 1)) (GivenByLayer task.now self.old hop) self.old best self.new b) }
         ensures known { IfOk result (λ b. IsKnownFrom task.now self.old.reached.items (slice_index self.old.bounds.items hop) (slice_index self.old.bounds.items (hop + 1)) self.new.arrival.items b) }
     {
         let mut least = best;

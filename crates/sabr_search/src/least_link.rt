@@ -1,8 +1,8 @@
 //! The least number of a link that arrives in time.
 
-ghost use Rattle.std.specs.Prelude.{◌≡◌, ◌⊎◌, ℕ, ◌+◌, ◌^◌, ◌≤◌, ◌<◌, Some, IfSome, false, length, slice_index_or};
+ghost use Rattle.std.specs.Prelude.{◌≡◌, ◌⊎◌, ℕ, ◌+◌, ◌^◌, ◌≤◌, ◌<◌, IfSome, length};
 ghost use Rattle.sabr_search.specs.Task.{IsTask, Takes};
-ghost use Rattle.sabr_search.specs.Picks.{IsAtMost};
+ghost use Rattle.sabr_search.specs.Picks.{IsAtMost, IsStepOver};
 ghost use Rattle.sabr_search.specs.Linked.{IsLinkWithin, HasNumber};
 
 use crate::finger::Finger;
@@ -33,7 +33,7 @@ impl<'a, A: Allocator + Copy> Task<'a, A> {
         ensures looks { looks.new.count ≤ looks.old.count + length passes.now }
         ensures some_looks { (result ≡ least) ⊎ (looks.old.count < looks.new.count) }
         ensures lower { (n : ℕ) → IsAtMost least n → IsAtMost result n }
-        ensures sound { (result ≡ least) ⊎ IfSome result (λ s. (s.node ≡ link.now.receiver) × (s.at < before) × (slice_index_or self.now.shut link.now.receiver false ≡ false → Takes self.now s.number node at link.now.receiver s.at)) }
+        ensures sound { (result ≡ least) ⊎ IfSome result (IsStepOver self.now node at link.now.receiver before) }
         ensures full { (n w b : ℕ) → HasNumber passes.now n → Takes self.now n node at w b → b < before → IsAtMost result n }
     {
         if rules_out(link.bounds, at, before) {

@@ -1,7 +1,7 @@
 //! The table of one deadline: for each node, how late a way on to the destination can begin.
 
 ghost use Rattle.std.specs.Prelude.{◌≡◌, ℕ, ◌≤◌, ◌<◌, IsTrue, Some, length, slice_get, slice_index};
-ghost use Rattle.sabr_search.specs.Kept.{AreSpans};
+ghost use Rattle.sabr_search.specs.Kept.{AreSpans, NeedHops};
 
 use crate::pick::Standing;
 use std::alloc::Allocator;
@@ -86,7 +86,7 @@ impl<A: Allocator + Copy> Rung<A> {
     pub fn least_hops(&self, first: &[Standing]) -> usize
         requires inside { (k : ℕ) (s : Standing) → slice_get first.now k ≡ Some s → s.node < length self.now.spans.items }
         requires spans { AreSpans self.now.dues.items self.now.spans.items }
-        ensures { (i k : ℕ) (s : Standing) (d : Due) → slice_get first.now i ≡ Some s → slice_get self.now.dues.items k ≡ Some d → d.node ≡ s.node → s.at < d.late → result ≤ d.hops }
+        ensures { NeedHops first.now self.now.dues.items result }
     {
         let mut least = usize::MAX;
         for place in 0..first.len() {

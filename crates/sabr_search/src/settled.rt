@@ -4,10 +4,9 @@ ghost use Rattle.std.specs.Prelude.{◌≡◌, ◌⊎◌, ◌≤◌, ◌<◌, �
 ghost use Rattle.std.specs.List.Sorted.{IsStrictlyIncreasing};
 ghost use Rattle.sabr_model.specs.Route.{is_prefix};
 ghost use Rattle.sabr_model.specs.Table.{node_count};
-ghost use Rattle.sabr_model.specs.Asking.{most_hops};
 ghost use Rattle.sabr_search.specs.Part.{IsLeast};
-ghost use Rattle.sabr_search.specs.Task.{IsTask, IsBehind};
-ghost use Rattle.sabr_search.specs.Told.{hops_told};
+ghost use Rattle.sabr_search.specs.Task.{IsTask, IsBehind, most_nodes};
+ghost use Rattle.sabr_search.specs.Told.{hops_told, IsCut};
 ghost use Rattle.sabr_search.specs.Kept.{IsKept, AreRungs};
 ghost use Rattle.sabr_search.specs.Answers.{IsAnswered};
 ghost use Rattle.sabr_search.specs.Following.{tabled_of};
@@ -42,12 +41,12 @@ fn least_route<A: Allocator + Copy>(
     requires behind { IsBehind task.now prefix.now }
     requires fits { IsTrue (is_prefix task.now.plan task.now.request prefix.now) }
     requires hops { max_hops ≡ task.now.request.max_hops }
-    requires nodes { length task.now.table ≤ 40000 }
+    requires nodes { length task.now.table ≤ most_nodes }
     requires few { looks.old.count ≤ 2 * length task.now.plan.contacts }
     ensures answered { IfOk result (IsAnswered task.now prefix.now (max_hops - length prefix.now)) }
     ensures bound { looks.new.count ≤ (3 * length task.now.table + 1) * length task.now.plan.contacts }
     ensures counted { IfOk result (λ answer. hops_told answer ≤ looks.new.count) }
-    ensures cut { IfOk result (λ answer. max_hops ≡ most_hops → looks.new.count ≤ (3 * (hops_told answer - length prefix.now) + 3) * length task.now.plan.contacts) }
+    ensures cut { IfOk result (IsCut task.now.plan max_hops prefix.now looks.new.count) }
     ensures longer { IfOk result (λ answer. IfSome answer (λ route. length prefix.now < length route.contacts)) }
 {
     let first = settling.run(task, looks)?;
@@ -72,7 +71,7 @@ fn told_wide<A: Allocator + Copy>(
 ) -> Result<Option<Option<Route<A>>>, NoMemory>
     requires task { IsTask task.now }
     requires goal { slice_get task.now.table task.now.goal ≡ Some task.now.request.destination }
-    requires nodes { length task.now.table ≤ 40000 }
+    requires nodes { length task.now.table ≤ most_nodes }
     requires few { looks.old.count ≤ 2 * length task.now.plan.contacts }
     requires many { length prefix.now + left < 2 ^ 32 }
     requires kept { IsKept (tabled_of task.now) task.now.request kept.old }
@@ -113,14 +112,14 @@ fn least_searched<A: Allocator + Copy>(
     requires behind { IsBehind task.now prefix.now }
     requires fits { IsTrue (is_prefix task.now.plan task.now.request prefix.now) }
     requires hops { max_hops ≡ task.now.request.max_hops }
-    requires nodes { length task.now.table ≤ 40000 }
+    requires nodes { length task.now.table ≤ most_nodes }
     requires few { looks.old.count ≤ 2 * length task.now.plan.contacts }
     requires kept { IsKept (tabled_of task.now) task.now.request kept.old }
     ensures kept { IsKept (tabled_of task.now) task.now.request kept.new }
     ensures answered { IfOk result (IsAnswered task.now prefix.now (max_hops - length prefix.now)) }
     ensures bound { looks.new.count ≤ (3 * length task.now.table + 1) * length task.now.plan.contacts }
     ensures counted { IfOk result (λ answer. hops_told answer ≤ looks.new.count) }
-    ensures cut { IfOk result (λ answer. max_hops ≡ most_hops → looks.new.count ≤ (3 * (hops_told answer - length prefix.now) + 3) * length task.now.plan.contacts) }
+    ensures cut { IfOk result (IsCut task.now.plan max_hops prefix.now looks.new.count) }
     ensures longer { IfOk result (λ answer. IfSome answer (λ route. length prefix.now < length route.contacts)) }
 {
     let most = task.two_passes();
@@ -156,14 +155,14 @@ fn least_beside<A: Allocator + Copy>(
     requires behind { IsBehind task.now prefix.now }
     requires fits { IsTrue (is_prefix task.now.plan task.now.request prefix.now) }
     requires hops { max_hops ≡ task.now.request.max_hops }
-    requires nodes { length task.now.table ≤ 40000 }
+    requires nodes { length task.now.table ≤ most_nodes }
     requires few { looks.old.count ≤ length prefix.now }
     requires kept { IsKept (tabled_of task.now) task.now.request kept.old }
     ensures kept { IsKept (tabled_of task.now) task.now.request kept.new }
     ensures least { IfOk result (IsLeast task.now.plan task.now.request prefix.now task.now.excluded) }
     ensures bound { looks.new.count ≤ (3 * length task.now.table + 1) * length task.now.plan.contacts }
     ensures counted { IfOk result (λ answer. hops_told answer ≤ looks.new.count) }
-    ensures cut { IfOk result (λ answer. max_hops ≡ most_hops → looks.new.count ≤ (3 * (hops_told answer - length prefix.now) + 3) * length task.now.plan.contacts) }
+    ensures cut { IfOk result (IsCut task.now.plan max_hops prefix.now looks.new.count) }
     ensures longer { IfOk result (λ answer. IfSome answer (λ route. length prefix.now < length route.contacts)) }
 {
     let most = task.two_passes();
@@ -260,7 +259,7 @@ impl<A: Allocator + Copy> Settled<A> {
         ensures counted { IfOk result (λ answer. hops_told answer ≤ self.new.looks.count) }
         ensures called { self.new.calls.count ≡ self.old.calls.count + 1 }
         ensures kept { IsKept plan.now request.now kept.new }
-        ensures cut { IfOk result (λ answer. request.now.max_hops ≡ most_hops → self.new.looks.count ≤ (3 * (hops_told answer - length part.entry.prefix.now) + 3) * length plan.now.plan.contacts) }
+        ensures cut { IfOk result (IsCut plan.now.plan request.now.max_hops part.entry.prefix.now self.new.looks.count) }
         ensures longer { IfOk result (λ answer. IfSome answer (λ route. length part.entry.prefix.now < length route.contacts)) }
     {
         self.calls.add();
@@ -313,7 +312,7 @@ impl<A: Allocator + Copy> Settled<A> {
         ensures counted { IfOk result (λ answer. hops_told answer ≤ self.new.looks.count) }
         ensures called { self.new.calls.count ≡ self.old.calls.count + 1 }
         ensures kept { IsKept plan.now request.now kept.new }
-        ensures cut { IfOk result (λ answer. request.now.max_hops ≡ most_hops → self.new.looks.count ≤ (3 * (hops_told answer - length part.entry.prefix.now) + 3) * length plan.now.plan.contacts) }
+        ensures cut { IfOk result (IsCut plan.now.plan request.now.max_hops part.entry.prefix.now self.new.looks.count) }
     {
         let answer = self.find(kept, plan, request, part, in_order)?;
         learn(
@@ -344,7 +343,7 @@ impl<A: Allocator + Copy> BestOf<A> for Settled<A> {
         ensures bound { self.new.looks.count ≤ (3 * node_count plan.now.plan.contacts + 1) * length plan.now.plan.contacts }
         ensures counted { IfOk result (λ answer. hops_told answer ≤ self.new.looks.count) }
         ensures called { self.new.calls.count ≡ self.old.calls.count + 1 }
-        ensures cut { IfOk result (λ answer. request.now.max_hops ≡ most_hops → self.new.looks.count ≤ (3 * (hops_told answer - length part.entry.prefix.now) + 3) * length plan.now.plan.contacts) }
+        ensures cut { IfOk result (IsCut plan.now.plan request.now.max_hops part.entry.prefix.now self.new.looks.count) }
     {
         let mut kept = Kept::new(self.alloc);
         self.find(&mut kept, plan, request, part, rises(part.excluded))
@@ -364,7 +363,7 @@ impl<A: Allocator + Copy> BestOf<A> for Settled<A> {
         ensures counted { IfOk result (λ answer. hops_told answer ≤ self.new.looks.count) }
         ensures called { self.new.calls.count ≡ self.old.calls.count + 1 }
         ensures kept { IsKept plan.now request.now kept.new }
-        ensures cut { IfOk result (λ answer. request.now.max_hops ≡ most_hops → self.new.looks.count ≤ (3 * (hops_told answer - length part.entry.prefix.now) + 3) * length plan.now.plan.contacts) }
+        ensures cut { IfOk result (IsCut plan.now.plan request.now.max_hops part.entry.prefix.now self.new.looks.count) }
     {
         self.find_beside(kept, plan, request, part, rises(part.excluded))
     }
@@ -384,7 +383,7 @@ impl<A: Allocator + Copy> BestOf<A> for Settled<A> {
         ensures counted { IfOk result (λ answer. hops_told answer ≤ self.new.looks.count) }
         ensures called { self.new.calls.count ≡ self.old.calls.count + 1 }
         ensures kept { IsKept plan.now request.now kept.new }
-        ensures cut { IfOk result (λ answer. request.now.max_hops ≡ most_hops → self.new.looks.count ≤ (3 * (hops_told answer - length part.entry.prefix.now) + 3) * length plan.now.plan.contacts) }
+        ensures cut { IfOk result (IsCut plan.now.plan request.now.max_hops part.entry.prefix.now self.new.looks.count) }
     {
         self.find_beside(kept, plan, request, part, true)
     }

@@ -7,7 +7,7 @@ ghost use Rattle.sabr_model.specs.Plan.{has, most_light};
 ghost use Rattle.sabr_model.specs.Route.{until_of, entry_of};
 ghost use Rattle.sabr_model.specs.Outgoing.{links_in, passes_in};
 ghost use Rattle.sabr_model.specs.Hops.{hop_arrival, IsSmall};
-ghost use Rattle.sabr_search.specs.Task.{IsTask};
+ghost use Rattle.sabr_search.specs.Task.{IsTask, task_of};
 ghost use Rattle.sabr_search.specs.Answers.{narrowed};
 ghost use Rattle.sabr_search.specs.KeptAnswers.{AreListed, Arrives};
 ghost use Rattle.sabr_search.specs.Linked.{AreLinksAt, AreSendersAt};
@@ -66,7 +66,7 @@ impl<'a, A: Allocator + Copy> Task<'a, A> {
         goal: usize,
     ) -> Task<'a, A>
         requires { IsTrue in_order → IsStrictlyIncreasing excluded.now }
-        ensures { result ≡ record { plan = plan.now.plan; request = request.now; table = plan.now.table; shut = shut.now; excluded = excluded.now; start = standing.node; goal = goal; at = standing.at } }
+        ensures { result ≡ task_of plan.now request.now shut.now excluded.now standing.node standing.at goal }
     {
         Task {
             plan,

@@ -1,7 +1,7 @@
 //! Wide questions: they shut fewer nodes than the question of a part, so that their answers serve other parts, too.
 
 ghost use Rattle.std.specs.Prelude.{◌≡◌, ◌≤◌, ◌<◌, ◌+◌, ◌^◌, IfOk, IfSome, OnOk, length};
-ghost use Rattle.sabr_search.specs.Task.{IsTask};
+ghost use Rattle.sabr_search.specs.Task.{IsTask, most_nodes};
 ghost use Rattle.sabr_search.specs.KeptAnswers.{IsFoundWay};
 ghost use Rattle.sabr_search.specs.WideTasks.{ShutsFewer};
 
@@ -49,7 +49,7 @@ pub fn way_within<A: Allocator + Copy>(
     left: usize,
 ) -> Result<Option<FoundWay<A>>, NoMemory>
     requires task { IsTask task.now }
-    requires nodes { length task.now.table ≤ 40000 }
+    requires nodes { length task.now.table ≤ most_nodes }
     requires few { looks.old.count ≤ most }
     requires most { most ≤ 2 ^ 60 }
     ensures looks { looks.new.count ≤ most }
