@@ -11,7 +11,7 @@ use Rattle.sabr_search.specs.Ways.{Leads}
 use Rattle.sabr_search.specs.Answers.{IsAnswered}
 use Rattle.sabr_search.specs.Task.{SearchTask, Takes, IsTask, IsBehind}
 use Rattle.sabr_search.specs.Picks.{IsLeastWay}
-use Rattle.sabr_search.specs.Told.{IsTold, IsCut, hops_told, looks_by}
+use Rattle.sabr_search.specs.Told.{IsTold, IsCut, IsStopped, hops_told}
 use Rattle.sabr_search.specs.Settling.{IsFirstWay}
 use Rattle.sabr_search.specs.Limits.{AreLimits}
 use Rattle.sabr_search.proofs.Prefixes.{IsPrefix}
@@ -64,7 +64,7 @@ module _ (task : SearchTask) (is : IsTask task) (prefix : List ℕ) (behind : Is
 
   -- so the looks are bounded by the layers, one for each hop of the answer
   pub cut_told : {E : Type 0} (old new : ℕ) (result : Result (Option RouteRecord) E) → IfOk result (λ o. IfNone o IsNothing) → IfOk result (λ o. IfSome o IsRouteFound) →
-      IfOk result (λ o. IfSome o (λ route. route.delivery ≤ limits.lower → new ≤ old + looks_by task.plan prefix route)) → old ≤ 2 * length task.plan.contacts →
+      IfOk result (λ o. IfSome o (IsStopped task.plan prefix limits.lower old new)) → old ≤ 2 * length task.plan.contacts →
       IfOk result (IsCut task.plan task.request.max_hops prefix new)
   cut_told old new (Err e) none told stopped few = tt
   cut_told old new (Ok None) none told stopped few = λ most. absurd (nothing_wide most none)

@@ -7,12 +7,12 @@ use Rattle.std.proofs.lemmas.List.Sums.{sum_by-cons}
 use Rattle.std.proofs.lemmas.Option.{slice_get_within}
 use Rattle.std.proofs.Math.Nat.{mul-le-mul}
 use Rattle.sabr_model.specs.declared.contact.Contact.{Contact}
-use Rattle.sabr_model.specs.declared.link.Pass.{Pass}
-use Rattle.sabr_model.specs.declared.link.Link.{Link}
+use Rattle.sabr_index.specs.declared.link.Pass.{Pass}
+use Rattle.sabr_index.specs.declared.link.Link.{Link}
 use Rattle.sabr_model.specs.Arrival.{cost}
 use Rattle.sabr_model.specs.Plan.{contact_named}
 use Rattle.sabr_model.specs.Table.{sent_by}
-use Rattle.sabr_model.specs.Links.{AreLinksOf, IsLinkOf, IsPassOf, SentLink, AreLinksTo}
+use Rattle.sabr_index.specs.Links.{AreLinksOf, IsLinkOf, IsPassOf, SentLink, AreLinksTo}
 use Rattle.sabr_search.specs.Task.{SearchTask, IsTask}
 use Rattle.sabr_search.specs.Steps.{place_in}
 use Rattle.sabr_search.specs.Linked.{IsPassAt, IsLinkAt, passes_of, AreLinksAt, AreSendersAt}

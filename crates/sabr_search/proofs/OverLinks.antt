@@ -14,10 +14,10 @@ use Rattle.std.proofs.lemmas.Option.{slice_get-get_or}
 use Rattle.std.proofs.lemmas.Bool.{both_ways}
 use Rattle.sabr_model.specs.declared.contact.Contact.{Contact}
 use Rattle.sabr_model.specs.declared.hop.Hop.{Hop}
-use Rattle.sabr_model.specs.declared.link.Pass.{Pass}
-use Rattle.sabr_model.specs.declared.link.Link.{Link}
-use Rattle.sabr_model.specs.declared.link.LinkBounds.{LinkBounds}
-use Rattle.sabr_model.specs.Links.{AreWithin}
+use Rattle.sabr_index.specs.declared.link.Pass.{Pass}
+use Rattle.sabr_index.specs.declared.link.Link.{Link}
+use Rattle.sabr_index.specs.declared.link.LinkBounds.{LinkBounds}
+use Rattle.sabr_index.specs.Links.{AreWithin}
 use Rattle.std.proofs.lemmas.List.{length-take, length-drop}
 use Rattle.sabr_model.specs.Arrival.{cost}
 use Rattle.sabr_model.specs.Light.{light_of}

@@ -7,8 +7,8 @@ use Rattle.sabr_search.specs.Ways.{Leads}
 use Rattle.sabr_search.specs.Layers.{Entries}
 use Rattle.sabr_search.specs.Task.{SearchTask, Takes}
 use Rattle.sabr_search.specs.Linked.{IsLinkWithin, HasNumber}
-use Rattle.sabr_model.specs.declared.link.Pass.{Pass}
-use Rattle.sabr_model.specs.declared.link.SenderHead.{SenderHead}
+use Rattle.sabr_index.specs.declared.link.Pass.{Pass}
+use Rattle.sabr_index.specs.declared.link.SenderHead.{SenderHead}
 use Rattle.sabr_search.specs.Made.{Entry}
 
 -- the earliest second at which any way can be at a node: the least arrival that was found, or when the search stopped

@@ -2,12 +2,12 @@
 use Rattle.std.specs.Prelude.{◌≡◌, ℕ, ◌+◌, ◌-◌, ◌<◌, ◌≤◌, List, length, take, drop, slice_get}
 use Rattle.std.specs.declared.option.Option.TheVariants.{Some}
 use Rattle.sabr_model.specs.declared.contact.Contact.{Contact}
-use Rattle.sabr_model.specs.declared.link.Pass.{Pass}
-use Rattle.sabr_model.specs.declared.link.Link.{Link}
-use Rattle.sabr_model.specs.declared.link.LinkBounds.{LinkBounds}
+use Rattle.sabr_index.specs.declared.link.Pass.{Pass}
+use Rattle.sabr_index.specs.declared.link.Link.{Link}
+use Rattle.sabr_index.specs.declared.link.LinkBounds.{LinkBounds}
 use Rattle.sabr_model.specs.Plan.{contact_named}
 use Rattle.sabr_model.specs.Light.{light_of}
-use Rattle.sabr_model.specs.Links.{IsBefore, IsInRow, AreWithin, SentLink}
+use Rattle.sabr_index.specs.Links.{IsBefore, IsInRow, AreWithin, SentLink}
 use Rattle.sabr_search.specs.Task.{SearchTask, Takes}
 use Rattle.sabr_search.specs.Steps.{degree}
 

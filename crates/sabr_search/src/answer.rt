@@ -8,7 +8,7 @@ ghost use Rattle.sabr_search.specs.Deadlines.{AreTimed};
 ghost use Rattle.sabr_search.specs.Late.{AreArrivals, IsEnded};
 ghost use Rattle.sabr_search.specs.Following.{IsNoneBefore};
 ghost use Rattle.sabr_search.specs.Answers.{IsLeastAfter};
-ghost use Rattle.sabr_search.specs.Told.{hops_told, looks_by, IsTold};
+ghost use Rattle.sabr_search.specs.Told.{hops_told, IsStopped, IsTold};
 
 use crate::layers::{Best, Layers, Limits};
 use crate::looks::Looks;
@@ -36,14 +36,14 @@ impl<A: Allocator + Copy> Layers<A> {
         ensures some { IfOk result (λ o. IfSome o (IsLeastAfter task.now prefix.now limits.hops limits.ceiling)) }
         ensures err_looks { OnErr result (looks.new.count ≤ looks.old.count + 3 * (limits.hops * length task.now.plan.contacts)) }
         ensures ok_looks { IfOk result (λ o. looks.new.count ≤ looks.old.count + 3 * (limits.hops * length task.now.plan.contacts) + hops_told o) }
-        ensures stopped { IfOk result (λ o. IfSome o (λ route. route.delivery ≤ limits.lower → looks.new.count + length task.now.plan.contacts ≤ looks.old.count + looks_by task.now.plan prefix.now route)) }
+        ensures stopped { IfOk result (λ o. IfSome o (IsStopped task.now.plan prefix.now limits.lower looks.old.count (looks.new.count + length task.now.plan.contacts))) }
         ensures counted { IfOk result (λ o. hops_told o ≤ looks.new.count) }
     {
         let best = self.make(task, looks, limits)?;
         if best.hops == 0 {
             return Ok(None);
         }
-        self.set_deadlines(task, looks, best)?;
+        self.set_deadlines(task, looks, best);
         let route = self.finish(alloc, task, looks, best, prefix)?;
         Ok(Some(route))
     }
@@ -135,7 +135,7 @@ impl<A: Allocator + Copy> Layers<A> {
         ensures some { IfOk result (λ o. IfSome o (IsLeastAfter task.now prefix.now limits.hops limits.ceiling)) }
         ensures err_looks { OnErr result (looks.new.count ≤ 3 * length task.now.plan.contacts + 3 * (limits.hops * length task.now.plan.contacts)) }
         ensures ok_looks { IfOk result (λ o. looks.new.count ≤ 3 * length task.now.plan.contacts + 3 * (limits.hops * length task.now.plan.contacts) + hops_told o) }
-        ensures stopped { IfOk result (λ o. IfSome o (λ route. route.delivery ≤ limits.lower → looks.new.count ≤ 2 * length task.now.plan.contacts + looks_by task.now.plan prefix.now route)) }
+        ensures stopped { IfOk result (λ o. IfSome o (IsStopped task.now.plan prefix.now limits.lower (2 * length task.now.plan.contacts) looks.new.count)) }
         ensures counted { IfOk result (λ o. hops_told o ≤ looks.new.count) }
     {
         if limits.hops != first.hops {

@@ -10,6 +10,7 @@ ghost use Rattle.sabr_search.specs.Told.{hops_told};
 
 use crate::kept::Kept;
 use crate::part::Part;
+use sabr_index::Index;
 use sabr_model::{NoMemory, Plan, Request, Route};
 use std::alloc::Allocator;
 
@@ -41,7 +42,7 @@ pub trait BestOf<A: Allocator + Copy>: Drop {
         ensures counted { IfOk result (λ answer. hops_told answer ≤ looks_of self.new) }
         ensures called { calls_of self.new ≡ calls_of self.old + 1 };
 
-    /// Does the same, with what is kept for the searches of this plan and request.
+    /// Does the same with an index of the plan, and with what is kept for the searches of this plan and request.
     ///
     /// The answer doesn't depend on what is kept. The call counts as one of `best`.
     ///
@@ -51,20 +52,20 @@ pub trait BestOf<A: Allocator + Copy>: Drop {
     fn best_beside(
         &mut self,
         kept: &mut Kept<A>,
-        plan: &Plan<A>,
+        index: &Index<'_, A>,
         request: &Request,
         part: Part<'_>,
     ) -> Result<Option<Route<A>>, NoMemory>
-        requires fits { IsTrue (is_prefix plan.now.plan request.now part.prefix.now) }
-        requires kept { IsKept plan.now request.now kept.old }
-        ensures least { IfOk result (IsLeast plan.now.plan request.now part.entry.prefix.now part.entry.excluded.now) }
-        ensures bound { looks_of self.new ≤ (3 * node_count plan.now.plan.contacts + 1) * length plan.now.plan.contacts }
+        requires fits { IsTrue (is_prefix index.now.plan request.now part.prefix.now) }
+        requires kept { IsKept index.now request.now kept.old }
+        ensures least { IfOk result (IsLeast index.now.plan request.now part.entry.prefix.now part.entry.excluded.now) }
+        ensures bound { looks_of self.new ≤ (3 * node_count index.now.plan.contacts + 1) * length index.now.plan.contacts }
         ensures counted { IfOk result (λ answer. hops_told answer ≤ looks_of self.new) }
         ensures called { calls_of self.new ≡ calls_of self.old + 1 }
-        ensures kept { IsKept plan.now request.now kept.new }
+        ensures kept { IsKept index.now request.now kept.new }
     {
         let _kept = kept;
-        self.best(plan, request, part)
+        self.best(index.plan(), request, part)
     }
 
     /// Does the same for a part whose excluded numbers rise, so that nobody has to go over them to know it.
@@ -75,20 +76,20 @@ pub trait BestOf<A: Allocator + Copy>: Drop {
     fn best_rising(
         &mut self,
         kept: &mut Kept<A>,
-        plan: &Plan<A>,
+        index: &Index<'_, A>,
         request: &Request,
         part: Part<'_>,
     ) -> Result<Option<Route<A>>, NoMemory>
-        requires fits { IsTrue (is_prefix plan.now.plan request.now part.prefix.now) }
+        requires fits { IsTrue (is_prefix index.now.plan request.now part.prefix.now) }
         requires rising { IsStrictlyIncreasing part.excluded.now }
-        requires kept { IsKept plan.now request.now kept.old }
-        ensures least { IfOk result (IsLeast plan.now.plan request.now part.entry.prefix.now part.entry.excluded.now) }
-        ensures bound { looks_of self.new ≤ (3 * node_count plan.now.plan.contacts + 1) * length plan.now.plan.contacts }
+        requires kept { IsKept index.now request.now kept.old }
+        ensures least { IfOk result (IsLeast index.now.plan request.now part.entry.prefix.now part.entry.excluded.now) }
+        ensures bound { looks_of self.new ≤ (3 * node_count index.now.plan.contacts + 1) * length index.now.plan.contacts }
         ensures counted { IfOk result (λ answer. hops_told answer ≤ looks_of self.new) }
         ensures called { calls_of self.new ≡ calls_of self.old + 1 }
-        ensures kept { IsKept plan.now request.now kept.new }
+        ensures kept { IsKept index.now request.now kept.new }
     {
-        self.best_beside(kept, plan, request, part)
+        self.best_beside(kept, index, request, part)
     }
 
     /// How many times the last call of `best` read a contact's record; 0 before the first call.

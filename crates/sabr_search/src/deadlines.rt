@@ -1,6 +1,6 @@
 //! Deadlines, set backward: for each layer and node, the first second that is too late for the rest.
 
-ghost use Rattle.std.specs.Prelude.{◌≡◌, ◌≢◌, ◌↔◌, ℕ, ◌+◌, ◌-◌, ◌*◌, ◌^◌, ◌≤◌, ◌<◌, IfOk, OnOk, length};
+ghost use Rattle.std.specs.Prelude.{◌≡◌, ◌≢◌, ◌↔◌, ℕ, ◌+◌, ◌-◌, ◌*◌, ◌^◌, ◌≤◌, ◌<◌, length};
 ghost use Rattle.sabr_search.specs.declared.layers.Best.{Best};
 ghost use Rattle.sabr_search.specs.Task.{SearchTask, IsTask, Takes, never};
 ghost use Rattle.sabr_search.specs.Steps.{degree};
@@ -10,7 +10,6 @@ use crate::layers::{Best, Layers, Reached};
 use crate::looks::Looks;
 use crate::over_link::link_passes;
 use crate::task::Task;
-use sabr_model::NoMemory;
 use std::alloc::Allocator;
 
 impl<A: Allocator + Copy> Layers<A> {
@@ -62,7 +61,7 @@ impl<A: Allocator + Copy> Layers<A> {
         best: Best,
         hop: usize,
         from: Reached,
-    ) -> Result<u64, NoMemory>
+    ) -> u64
         requires task { IsTask task.now }
         requires few { looks.old.count + degree task.now from.node ≤ 2 ^ 62 }
         requires pointed { ArePointed task.now hop self.now.bounds.items self.now.place.items self.now.reached.items }
@@ -72,11 +71,10 @@ impl<A: Allocator + Copy> Layers<A> {
         requires node { from.node < length task.now.table }
         requires other { from.node ≢ task.now.start }
         ensures looks { looks.new.count ≤ looks.old.count + degree task.now from.node }
-        ensures sound { IfOk result (λ latest. (t : ℕ) → t < latest → LeavesInTime task.now best self.now.bounds.items self.now.reached.items hop from.node t) }
-        ensures full { IfOk result (λ latest. (t n w b : ℕ) → from.arrival ≤ t → Takes task.now n from.node t w b → IsInTime task.now best self.now.bounds.items self.now.reached.items hop w b → t < latest) }
+        ensures sound { (t : ℕ) → t < result → LeavesInTime task.now best self.now.bounds.items self.now.reached.items hop from.node t }
+        ensures full { (t n w b : ℕ) → from.arrival ≤ t → Takes task.now n from.node t w b → IsInTime task.now best self.now.bounds.items self.now.reached.items hop w b → t < result }
     {
-        let outgoing = task.links(from.node)?;
-        let links = outgoing.all();
+        let links = task.links(from.node);
         let mut latest = 0;
         for link in links.links {
             let passes = link_passes(links, link);
@@ -92,17 +90,11 @@ impl<A: Allocator + Copy> Layers<A> {
                 latest,
             );
         }
-        Ok(latest)
+        latest
     }
 
     /// Sets the deadlines of layer `hop` from those of the next layer.
-    fn set_layer(
-        &mut self,
-        task: &Task<'_, A>,
-        looks: &mut Looks,
-        best: Best,
-        hop: usize,
-    ) -> Result<(), NoMemory>
+    fn set_layer(&mut self, task: &Task<'_, A>, looks: &mut Looks, best: Best, hop: usize)
         requires task { IsTask task.now }
         requires few { looks.old.count + length task.now.plan.contacts ≤ 2 ^ 62 }
         requires pointed { ArePointed task.now (hop + 1) self.old.bounds.items self.old.place.items self.old.reached.items }
@@ -110,36 +102,29 @@ impl<A: Allocator + Copy> Layers<A> {
         requires later { 0 < hop }
         requires hop { hop < best.hops }
         ensures looks { looks.new.count ≤ looks.old.count + length task.now.plan.contacts }
-        ensures timed { OnOk result (AreTimed task.now best hop self.new.bounds.items self.new.place.items self.new.reached.items) }
+        ensures timed { AreTimed task.now best hop self.new.bounds.items self.new.place.items self.new.reached.items }
     {
         let first = self.bounds[hop];
         let end = self.bounds[hop + 1];
         for place in first..end {
             let from = self.reached[place];
-            let latest = self.latest(task, looks, best, hop + 1, from)?;
+            let latest = self.latest(task, looks, best, hop + 1, from);
             self.reached[place].deadline = latest;
         }
-        Ok(())
     }
 
     /// Sets the deadlines of all layers between the start and the goal, backward.
-    pub fn set_deadlines(
-        &mut self,
-        task: &Task<'_, A>,
-        looks: &mut Looks,
-        best: Best,
-    ) -> Result<(), NoMemory>
+    pub fn set_deadlines(&mut self, task: &Task<'_, A>, looks: &mut Looks, best: Best)
         requires task { IsTask task.now }
         requires few { looks.old.count + best.hops * length task.now.plan.contacts ≤ 2 ^ 62 }
         requires some { 0 < best.hops }
         requires timed { AreTimed task.now best best.hops self.old.bounds.items self.old.place.items self.old.reached.items }
         ensures looks { looks.new.count ≤ looks.old.count + (best.hops - 1) * length task.now.plan.contacts }
-        ensures timed { OnOk result (AreTimed task.now best 1 self.new.bounds.items self.new.place.items self.new.reached.items) }
+        ensures timed { AreTimed task.now best 1 self.new.bounds.items self.new.place.items self.new.reached.items }
     {
         for hop in (1..best.hops).rev() {
             self.point_at(hop + 1);
-            self.set_layer(task, looks, best, hop)?;
+            self.set_layer(task, looks, best, hop);
         }
-        Ok(())
     }
 }

@@ -52,8 +52,7 @@ impl<'a, A: Allocator + Copy> Task<'a, A> {
         ensures whole { IfOk result (λ all. IsTrue all → (n w b : ℕ) → Takes self.now n from.node from.at w b → ComesTo first.new.items w b) }
     {
         first.clear();
-        let outgoing = self.links(from.node)?;
-        let links = outgoing.all();
+        let links = self.links(from.node);
         for link in links.links {
             let passes = link_passes(links, link);
             if passes.len() as u64 > most - looks.count {
@@ -112,7 +111,7 @@ impl<'a, A: Allocator + Copy> Task<'a, A> {
         rung: &Rung<A>,
         from: Standing,
         rest: usize,
-    ) -> Result<Option<Step>, NoMemory>
+    ) -> Option<Step>
         requires task { IsTask self.now }
         requires few { looks.old.count ≤ most }
         requires most { most ≤ 2 ^ 62 }
@@ -120,10 +119,9 @@ impl<'a, A: Allocator + Copy> Task<'a, A> {
         requires places { length rung.now.spans.items ≡ length self.now.table }
         requires spans { AreSpans rung.now.dues.items rung.now.spans.items }
         ensures looks { looks.new.count ≤ most }
-        ensures some { IfOk result (λ o. IfSome o (IsLeastDue self.now rung.now.dues.items rest from.node from.at)) }
+        ensures some { IfSome result (IsLeastDue self.now rung.now.dues.items rest from.node from.at) }
     {
-        let outgoing = self.links(from.node)?;
-        let links = outgoing.all();
+        let links = self.links(from.node);
         let mut least: Option<Step> = None;
         for link in links.links {
             if self.shut()[link.receiver] {
@@ -135,11 +133,11 @@ impl<'a, A: Allocator + Copy> Task<'a, A> {
             }
             let passes = link_passes(links, link);
             if passes.len() as u64 > most - looks.count {
-                return Ok(None);
+                return None;
             }
             least = self.least_over(looks, from.node, link, passes, from.at, before, least);
         }
-        Ok(least)
+        least
     }
 
     /// Returns the least numbers after the prefix that lead from the start to the goal by the deadline of a table, with
@@ -170,7 +168,7 @@ impl<'a, A: Allocator + Copy> Task<'a, A> {
             at: self.at(),
         };
         for hop in 0..hops {
-            let least = self.least_due(looks, most, rung, from, hops - 1 - hop)?;
+            let least = self.least_due(looks, most, rung, from, hops - 1 - hop);
             let Some(step) = least else {
                 return Ok(None);
             };

@@ -13,7 +13,8 @@ use crate::layers::{Best, Layers, Reached};
 use crate::looks::Looks;
 use crate::over_link::rules_out;
 use crate::task::Task;
-use sabr_model::{NoMemory, Sender, SenderHead};
+use sabr_index::{Sender, SenderHead};
+use sabr_model::NoMemory;
 use std::alloc::Allocator;
 
 /// Returns the earliest second at which any way can be at a node. This is its least arrival, or the first delivery, at
@@ -171,7 +172,7 @@ impl<A: Allocator + Copy> Layers<A> {
     }
 
     /// Takes every link to the node of an entry of layer `left`. Returns whether the start is in time for it; none if
-    /// the plan isn't ready, or if more than `most` looks might be needed.
+    /// more than `most` looks might be needed.
     fn take_senders(
         &mut self,
         task: &Task<'_, A>,
@@ -199,9 +200,7 @@ impl<A: Allocator + Copy> Layers<A> {
         ensures met { IfOk result (λ o. o ≡ Some true → (n : ℕ) × (b : ℕ) × Takes task.now n task.now.start task.now.at to.node b × (b < to.deadline)) }
         ensures told { IfOk result (λ o. o ≡ Some false → (n u t b : ℕ) → Takes task.now n u t to.node b → b < to.deadline → IsToldLate task.now arrival.now delivery self.new.late.items u t) }
     {
-        let Some(senders) = task.senders(to.node) else {
-            return Ok(None);
-        };
+        let senders = task.senders(to.node);
         for place in 0..senders.len() {
             let head = senders.head(place);
             if self.is_told(task, arrival, delivery, head, to.deadline) {
@@ -294,8 +293,8 @@ impl<A: Allocator + Copy> Layers<A> {
     }
 
     /// Makes layers backward from the goal until the start is in time for one. Returns how many hops that layer is from
-    /// the goal. None if the start is in time for none of `first.hops` layers, if a layer is empty, if the plan isn't
-    /// ready, or if more than `most` looks might be needed.
+    /// the goal. None if the start is in time for none of `first.hops` layers, if a layer is empty, or if more than
+    /// `most` looks might be needed.
     pub fn make_back(
         &mut self,
         task: &Task<'_, A>,
@@ -392,8 +391,7 @@ impl<A: Allocator + Copy> Layers<A> {
     }
 
     /// Makes layers with deadlines for the first delivery, backward from the goal. Returns the delivery and the hops.
-    /// None if no way of at most `first.hops` hops delivers then, if the plan isn't ready, or if more than `most` looks
-    /// might be needed.
+    /// None if no way of at most `first.hops` hops delivers then, or if more than `most` looks might be needed.
     pub fn from_goal(
         &mut self,
         task: &Task<'_, A>,

@@ -1,15 +1,21 @@
 //! A finder by hop layers.
 
-ghost use Rattle.std.specs.Prelude.{◌≡◌};
+ghost use Rattle.std.specs.Prelude.{◌≡◌, ◌+◌, ◌*◌, ◌≤◌, IfOk, IsTrue, length};
+ghost use Rattle.sabr_model.specs.Route.{is_prefix};
+ghost use Rattle.sabr_model.specs.Table.{node_count};
+ghost use Rattle.sabr_search.specs.Part.{IsLeast};
+ghost use Rattle.sabr_search.specs.Told.{hops_told};
 
 use crate::best::BestOf;
 use crate::enter::enter;
 use crate::finger::rises;
+use crate::kept::Kept;
 use crate::layers::{Layers, Limits, NEVER};
 use crate::looks::Looks;
 use crate::part::Part;
 use crate::shut::Shut;
 use crate::task::Task;
+use sabr_index::Index;
 use sabr_model::{GhostCount, NoMemory, Plan, Request, Route};
 use std::alloc::{Allocator, Global};
 
@@ -44,21 +50,31 @@ impl<A: Allocator + Copy> Layered<A> {
             calls: GhostCount::new(),
         }
     }
-}
 
-impl<A: Allocator + Copy> BestOf<A> for Layered<A> {
-    ghost looks_of = { λ f. f.looks.count };
-
-    ghost calls_of = { λ f. f.calls.count };
-
-    fn best(
-        &mut self,
-        plan: &Plan<A>,
-        request: &Request,
-        part: Part<'_>,
-    ) -> Result<Option<Route<A>>, NoMemory> {
+    /// Counts a call, which has no looks yet.
+    fn begin(&mut self)
+        ensures looks { self.new.looks.count ≡ 0 }
+        ensures called { self.new.calls.count ≡ self.old.calls.count + 1 }
+    {
         self.calls.add();
         self.looks = Looks::new();
+    }
+
+    /// Finds the least route of a part.
+    fn find(
+        &mut self,
+        index: &Index<'_, A>,
+        request: &Request,
+        part: Part<'_>,
+    ) -> Result<Option<Route<A>>, NoMemory>
+        requires fits { IsTrue (is_prefix index.now.plan request.now part.prefix.now) }
+        ensures least { IfOk result (IsLeast index.now.plan request.now part.entry.prefix.now part.entry.excluded.now) }
+        ensures bound { self.new.looks.count ≤ (3 * node_count index.now.plan.contacts + 1) * length index.now.plan.contacts }
+        ensures counted { IfOk result (λ answer. hops_told answer ≤ self.new.looks.count) }
+        ensures called { self.new.calls.count ≡ self.old.calls.count + 1 }
+    {
+        self.begin();
+        let plan = index.plan();
         let Some((standing, goal)) = enter(
             &mut self.shut,
             &mut self.looks,
@@ -71,7 +87,7 @@ impl<A: Allocator + Copy> BestOf<A> for Layered<A> {
         };
         let in_order = rises(part.excluded);
         let task = Task::new(
-            plan,
+            index,
             request,
             &self.shut,
             part.excluded,
@@ -87,6 +103,36 @@ impl<A: Allocator + Copy> BestOf<A> for Layered<A> {
         };
         self.layers
             .answer(self.alloc, &task, &mut self.looks, part.prefix, limits)
+    }
+}
+
+impl<A: Allocator + Copy> BestOf<A> for Layered<A> {
+    ghost looks_of = { λ f. f.looks.count };
+
+    ghost calls_of = { λ f. f.calls.count };
+
+    fn best(
+        &mut self,
+        plan: &Plan<A>,
+        request: &Request,
+        part: Part<'_>,
+    ) -> Result<Option<Route<A>>, NoMemory> {
+        let Ok(index) = Index::new(self.alloc, plan) else {
+            self.begin();
+            return Err(NoMemory);
+        };
+        self.find(&index, request, part)
+    }
+
+    fn best_beside(
+        &mut self,
+        kept: &mut Kept<A>,
+        index: &Index<'_, A>,
+        request: &Request,
+        part: Part<'_>,
+    ) -> Result<Option<Route<A>>, NoMemory> {
+        let _kept = kept;
+        self.find(index, request, part)
     }
 
     fn looks(&self) -> u64 {

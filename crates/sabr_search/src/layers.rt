@@ -11,7 +11,8 @@ ghost use Rattle.sabr_search.specs.Made.{AreOpened, AreLayers};
 use crate::looks::Looks;
 use crate::over_link::link_passes;
 use crate::task::Task;
-use sabr_model::{Link, NoMemory, Pass};
+use sabr_index::{Link, Pass};
+use sabr_model::NoMemory;
 use std::alloc::Allocator;
 
 /// A node that a layer reaches, when, and the first second that is too late there for the rest.
@@ -198,8 +199,7 @@ impl<A: Allocator + Copy> Layers<A> {
         ensures lowered { IfOk result (λ b. AreLowered task.now begin (GivenAt task.now from.node from.arrival) self.old best self.new b) }
         ensures known { IfOk result (λ b. (n w x : ℕ) → Takes task.now n from.node from.arrival w x → IsKnown task.now.goal self.new.arrival.items b w x) }
     {
-        let outgoing = task.links(from.node)?;
-        let links = outgoing.all();
+        let links = task.links(from.node);
         let mut least = best;
         for link in links.links {
             let passes = link_passes(links, link);

@@ -14,7 +14,8 @@ use crate::pick::Standing;
 use crate::rung::{Due, Rung, Span};
 use crate::shut::Shut;
 use crate::task::Task;
-use sabr_model::{LAST_TIME, MOST_LIGHT, NoMemory, Plan, Request};
+use sabr_index::Index;
+use sabr_model::{LAST_TIME, MOST_LIGHT, NoMemory, Request};
 use std::alloc::Allocator;
 
 /// After every contact: nothing leaves then, and with the greatest light time and margin nothing arrives later.
@@ -22,7 +23,7 @@ pub const LATEST: u64 = LAST_TIME + 2 * MOST_LIGHT as u64;
 
 impl<A: Allocator + Copy> Layers<A> {
     /// Makes layers backward from the goal until one has no entry. Returns how many there are before that one. None if
-    /// the plan isn't ready, if the start is in time for one, or if more than `most` looks might be needed.
+    /// the start is in time for one, or if more than `most` looks might be needed.
     fn make_all(
         &mut self,
         task: &Task<'_, A>,
@@ -102,8 +103,8 @@ impl<A: Allocator + Copy> Layers<A> {
         Ok(dues)
     }
 
-    /// Returns the dues of a deadline, and no due for a deadline after every arrival. None if the plan isn't ready, or
-    /// if more than `most` looks might be needed.
+    /// Returns the dues of a deadline, and no due for a deadline after every arrival. None if more than `most` looks
+    /// might be needed.
     fn dues_by(
         &mut self,
         alloc: A,
@@ -131,7 +132,7 @@ impl<A: Allocator + Copy> Layers<A> {
         Ok(Some(dues))
     }
 
-    /// Returns the table of a deadline. None if the plan isn't ready, or if more than `most` looks might be needed.
+    /// Returns the table of a deadline. None if more than `most` looks might be needed.
     fn lay(
         &mut self,
         alloc: A,
@@ -215,13 +216,13 @@ fn spans_of<A: Allocator + Copy>(
     Ok(spans)
 }
 
-/// Returns the table of a deadline for a plan and a request. None if the request has no goal in the plan, if the plan
-/// isn't ready, or if more than `most` looks might be needed.
+/// Returns the table of a deadline for a plan and a request. None if the request has no goal in the plan, or if more
+/// than `most` looks might be needed.
 pub fn rung_for<A: Allocator + Copy>(
     alloc: A,
     layers: &mut Layers<A>,
     looks: &mut Looks,
-    plan: &Plan<A>,
+    index: &Index<'_, A>,
     request: &Request,
     deadline: u64,
     most: u64,
@@ -229,19 +230,19 @@ pub fn rung_for<A: Allocator + Copy>(
     requires few { looks.old.count ≤ most }
     requires most { most ≤ 2 ^ 62 }
     ensures looks { looks.new.count ≤ most }
-    ensures rung { IfOk result (λ o. IfSome o (IsRung plan.now request.now)) }
+    ensures rung { IfOk result (λ o. IfSome o (IsRung index.now request.now)) }
 {
     if deadline == 0 || deadline == NEVER {
         return Ok(None);
     }
     let mut shut = Shut::new(alloc);
-    let Some((standing, goal)) = enter(&mut shut, looks, plan, request, &[])? else {
+    let Some((standing, goal)) = enter(&mut shut, looks, index.plan(), request, &[])? else {
         return Ok(None);
     };
     let source = Standing {
         node: standing.node,
         at: LATEST,
     };
-    let task = Task::new(plan, request, &shut, &[], false, source, goal);
+    let task = Task::new(index, request, &shut, &[], false, source, goal);
     layers.lay(alloc, &task, looks, deadline, most)
 }

@@ -10,7 +10,7 @@ use crate::looks::Looks;
 use crate::over_link::{first_open, rules_out};
 use crate::pick::{Step, is_at_most};
 use crate::task::Task;
-use sabr_model::{Link, Pass};
+use sabr_index::{Link, Pass};
 use std::alloc::Allocator;
 
 impl<'a, A: Allocator + Copy> Task<'a, A> {

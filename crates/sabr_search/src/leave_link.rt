@@ -1,7 +1,7 @@
 //! The last second at which a link can be left in time, from its last passes backward.
 
 ghost use Rattle.std.specs.Prelude.{◌≡◌, ◌≢◌, ◌⊎◌, ℕ, ◌+◌, ◌^◌, ◌≤◌, ◌<◌, max, IsTrue, false, Some, length, slice_get, slice_index_or};
-ghost use Rattle.sabr_model.specs.declared.link.Pass.{Pass};
+ghost use Rattle.sabr_index.specs.declared.link.Pass.{Pass};
 ghost use Rattle.sabr_model.specs.Arrival.{cost};
 ghost use Rattle.sabr_model.specs.Plan.{most_light};
 ghost use Rattle.sabr_search.specs.Task.{IsTask, Takes};
@@ -10,7 +10,7 @@ ghost use Rattle.sabr_search.specs.Linked.{IsLinkWithin, AreInOrder, HasNumber};
 use crate::looks::Looks;
 use crate::over_link::rules_out;
 use crate::task::Task;
-use sabr_model::{LinkBounds, Pass};
+use sabr_index::{LinkBounds, Pass};
 use std::alloc::Allocator;
 
 /// Returns the number of passes of a link that start before `before`; these come first. A link's only pass is counted

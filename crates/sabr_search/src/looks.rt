@@ -25,8 +25,7 @@ impl Looks {
     /// Counts a look and passes on what leads to the record: the contact's number, or its pass.
     ///
     /// Searches read records only after this call, once for each use. The binary searches of a link compare keys and
-    /// bounds that the index keeps, and read no record. A plan that isn't ready makes the index of a node on demand.
-    /// That isn't counted, just as it isn't for a plan that is ready.
+    /// bounds that the index keeps, and read no record. Making the index isn't counted.
     pub fn look<T>(&mut self, contact: T) -> T
         requires few { self.old.count < 2 ^ 62 }
         ensures counted { self.new.count ≡ self.old.count + 1 }

@@ -1,7 +1,7 @@
 //! The arrival over a whole link: a binary search and a few looks instead of one look for each of its contacts.
 
 ghost use Rattle.std.specs.Prelude.{◌≡◌, ◌⊎◌, ℕ, ◌+◌, ◌^◌, ◌≤◌, ◌<◌, max, IsTrue, false, Some, length, slice_get, slice_index_or};
-ghost use Rattle.sabr_model.specs.declared.link.Pass.{Pass};
+ghost use Rattle.sabr_index.specs.declared.link.Pass.{Pass};
 ghost use Rattle.sabr_model.specs.Arrival.{cost};
 ghost use Rattle.sabr_model.specs.Hops.{IsSmall};
 ghost use Rattle.sabr_model.specs.Plan.{most_light};
@@ -12,7 +12,8 @@ ghost use Rattle.sabr_search.specs.Linked.{IsPassAt, IsLinkWithin, AreInOrder, H
 use crate::finger::Finger;
 use crate::looks::Looks;
 use crate::task::Task;
-use sabr_model::{Hop, Link, LinkBounds, Links, Pass};
+use sabr_index::{Link, LinkBounds, Links, Pass};
+use sabr_model::Hop;
 use std::alloc::Allocator;
 
 /// The passes of a link.

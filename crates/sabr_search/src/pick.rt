@@ -11,7 +11,8 @@ use crate::layers::{Best, Layers};
 use crate::looks::Looks;
 use crate::over_link::link_passes;
 use crate::task::Task;
-use sabr_model::{Links, NoMemory};
+use sabr_index::Links;
+use sabr_model::NoMemory;
 use std::alloc::Allocator;
 
 /// A node, and when the bundle is there.
@@ -103,8 +104,7 @@ impl<A: Allocator + Copy> Layers<A> {
         };
         for hop in 0..best.hops {
             self.point_at(hop + 1);
-            let outgoing = task.links(from.node)?;
-            let links = outgoing.all();
+            let links = task.links(from.node);
             if links.passes.len() as u64 > most - looks.count {
                 return Ok(None);
             }

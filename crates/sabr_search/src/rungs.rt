@@ -8,7 +8,8 @@ use crate::laying::{LATEST, rung_for};
 use crate::looks::Looks;
 use crate::pick::Standing;
 use crate::rung::Rung;
-use sabr_model::{Plan, Request};
+use sabr_index::Index;
+use sabr_model::Request;
 use std::alloc::{Allocator, Global};
 
 /// How many deliveries are counted at a time.
@@ -170,18 +171,18 @@ impl<A: Allocator + Copy> Rungs<A> {
         &mut self,
         layers: &mut Layers<A>,
         looks: &mut Looks,
-        plan: &Plan<A>,
+        index: &Index<'_, A>,
         request: &Request,
         deadline: u64,
         most: u64,
     )
-        requires kept { AreRungs plan.now request.now self.old }
+        requires kept { AreRungs index.now request.now self.old }
         requires few { looks.old.count ≤ most }
         requires most { most ≤ 2 ^ 62 }
-        ensures kept { AreRungs plan.now request.now self.new }
+        ensures kept { AreRungs index.now request.now self.new }
         ensures looks { looks.new.count ≤ most }
     {
-        let Ok(made) = rung_for(self.alloc, layers, looks, plan, request, deadline, most) else {
+        let Ok(made) = rung_for(self.alloc, layers, looks, index, request, deadline, most) else {
             return;
         };
         let Some(rung) = made else {
@@ -216,21 +217,21 @@ impl<A: Allocator + Copy> Rungs<A> {
         &mut self,
         layers: &mut Layers<A>,
         looks: &mut Looks,
-        plan: &Plan<A>,
+        index: &Index<'_, A>,
         request: &Request,
         delivery: u64,
         most: u64,
     )
-        requires kept { AreRungs plan.now request.now self.old }
+        requires kept { AreRungs index.now request.now self.old }
         requires few { looks.old.count ≤ most }
         requires most { most ≤ 2 ^ 62 }
-        ensures kept { AreRungs plan.now request.now self.new }
+        ensures kept { AreRungs index.now request.now self.new }
         ensures looks { looks.new.count ≤ most }
     {
         if !self.note(delivery) {
             return;
         }
-        self.keep(layers, looks, plan, request, delivery, most);
+        self.keep(layers, looks, index, request, delivery, most);
     }
 
     /// Keeps, after many parts had no route, what shows that a part has none, within `most` looks, unless a growth is
@@ -239,19 +240,19 @@ impl<A: Allocator + Copy> Rungs<A> {
         &mut self,
         layers: &mut Layers<A>,
         looks: &mut Looks,
-        plan: &Plan<A>,
+        index: &Index<'_, A>,
         request: &Request,
         most: u64,
     )
-        requires kept { AreRungs plan.now request.now self.old }
+        requires kept { AreRungs index.now request.now self.old }
         requires few { looks.old.count ≤ most }
         requires most { most ≤ 2 ^ 62 }
-        ensures kept { AreRungs plan.now request.now self.new }
+        ensures kept { AreRungs index.now request.now self.new }
         ensures looks { looks.new.count ≤ most }
     {
         if !self.takes_nones() {
             return;
         }
-        self.keep(layers, looks, plan, request, LATEST + 1, most);
+        self.keep(layers, looks, index, request, LATEST + 1, most);
     }
 }

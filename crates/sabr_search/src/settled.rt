@@ -24,6 +24,7 @@ use crate::settling::Settling;
 use crate::shut::Shut;
 use crate::task::Task;
 use crate::wide::{shut_few, way_within};
+use sabr_index::Index;
 use sabr_model::{GhostCount, NoMemory, Plan, Request, Route};
 use std::alloc::{Allocator, Global};
 
@@ -180,27 +181,27 @@ fn learn<A: Allocator + Copy>(
     layers: &mut Layers<A>,
     rungs: &mut Rungs<A>,
     looks: &mut Looks,
-    plan: &Plan<A>,
+    index: &Index<'_, A>,
     request: &Request,
     answer: &Option<Route<A>>,
 )
-    requires kept { AreRungs plan.now request.now rungs.old }
-    ensures kept { AreRungs plan.now request.now rungs.new }
+    requires kept { AreRungs index.now request.now rungs.old }
+    ensures kept { AreRungs index.now request.now rungs.new }
     ensures looked { looks.old.count ≤ looks.new.count }
     ensures none { IfNone answer.now (looks.new.count ≡ looks.old.count) }
-    ensures looks { (looks.new.count ≡ looks.old.count) ⊎ (looks.new.count ≤ 4 * length plan.now.plan.contacts) }
+    ensures looks { (looks.new.count ≡ looks.old.count) ⊎ (looks.new.count ≤ 4 * length index.now.plan.contacts) }
 {
     let Some(route) = answer else {
         rungs.count_none();
         return;
     };
-    let most = 2 * plan.contacts().len() as u64;
+    let most = 2 * index.plan().contacts().len() as u64;
     if looks.count > most {
         return;
     }
     let mut making = Looks::new();
-    rungs.learn(layers, &mut making, plan, request, route.delivery, most);
-    rungs.learn_none(layers, &mut making, plan, request, most);
+    rungs.learn(layers, &mut making, index, request, route.delivery, most);
+    rungs.learn_none(layers, &mut making, index, request, most);
     looks.count += making.count;
 }
 
@@ -241,33 +242,41 @@ impl<A: Allocator + Copy> Settled<A> {
         }
     }
 
+    /// Counts a call, which has no looks yet.
+    fn begin(&mut self)
+        ensures looks { self.new.looks.count ≡ 0 }
+        ensures called { self.new.calls.count ≡ self.old.calls.count + 1 }
+    {
+        self.calls.add();
+        self.looks = Looks::new();
+    }
+
     /// Finds the least route of a part, by what is kept or else by a search. `in_order` says that the excluded numbers
     /// are known to rise.
     fn find(
         &mut self,
         kept: &mut Kept<A>,
-        plan: &Plan<A>,
+        index: &Index<'_, A>,
         request: &Request,
         part: Part<'_>,
         in_order: bool,
     ) -> Result<Option<Route<A>>, NoMemory>
-        requires fits { IsTrue (is_prefix plan.now.plan request.now part.prefix.now) }
+        requires fits { IsTrue (is_prefix index.now.plan request.now part.prefix.now) }
         requires rising { IsTrue in_order → IsStrictlyIncreasing part.excluded.now }
-        requires kept { IsKept plan.now request.now kept.old }
-        ensures least { IfOk result (IsLeast plan.now.plan request.now part.entry.prefix.now part.entry.excluded.now) }
-        ensures bound { self.new.looks.count ≤ (3 * node_count plan.now.plan.contacts + 1) * length plan.now.plan.contacts }
+        requires kept { IsKept index.now request.now kept.old }
+        ensures least { IfOk result (IsLeast index.now.plan request.now part.entry.prefix.now part.entry.excluded.now) }
+        ensures bound { self.new.looks.count ≤ (3 * node_count index.now.plan.contacts + 1) * length index.now.plan.contacts }
         ensures counted { IfOk result (λ answer. hops_told answer ≤ self.new.looks.count) }
         ensures called { self.new.calls.count ≡ self.old.calls.count + 1 }
-        ensures kept { IsKept plan.now request.now kept.new }
-        ensures cut { IfOk result (IsCut plan.now.plan request.now.max_hops part.entry.prefix.now self.new.looks.count) }
+        ensures kept { IsKept index.now request.now kept.new }
+        ensures cut { IfOk result (IsCut index.now.plan request.now.max_hops part.entry.prefix.now self.new.looks.count) }
         ensures longer { IfOk result (λ answer. IfSome answer (λ route. length part.entry.prefix.now < length route.contacts)) }
     {
-        self.calls.add();
-        self.looks = Looks::new();
+        self.begin();
         let Some((standing, goal)) = enter(
             &mut self.shut,
             &mut self.looks,
-            plan,
+            index.plan(),
             request,
             part.prefix,
         )?
@@ -275,7 +284,7 @@ impl<A: Allocator + Copy> Settled<A> {
             return Ok(None);
         };
         let task = Task::new(
-            plan,
+            index,
             request,
             &self.shut,
             part.excluded,
@@ -299,27 +308,27 @@ impl<A: Allocator + Copy> Settled<A> {
     fn find_beside(
         &mut self,
         kept: &mut Kept<A>,
-        plan: &Plan<A>,
+        index: &Index<'_, A>,
         request: &Request,
         part: Part<'_>,
         in_order: bool,
     ) -> Result<Option<Route<A>>, NoMemory>
-        requires fits { IsTrue (is_prefix plan.now.plan request.now part.prefix.now) }
+        requires fits { IsTrue (is_prefix index.now.plan request.now part.prefix.now) }
         requires rising { IsTrue in_order → IsStrictlyIncreasing part.excluded.now }
-        requires kept { IsKept plan.now request.now kept.old }
-        ensures least { IfOk result (IsLeast plan.now.plan request.now part.entry.prefix.now part.entry.excluded.now) }
-        ensures bound { self.new.looks.count ≤ (3 * node_count plan.now.plan.contacts + 1) * length plan.now.plan.contacts }
+        requires kept { IsKept index.now request.now kept.old }
+        ensures least { IfOk result (IsLeast index.now.plan request.now part.entry.prefix.now part.entry.excluded.now) }
+        ensures bound { self.new.looks.count ≤ (3 * node_count index.now.plan.contacts + 1) * length index.now.plan.contacts }
         ensures counted { IfOk result (λ answer. hops_told answer ≤ self.new.looks.count) }
         ensures called { self.new.calls.count ≡ self.old.calls.count + 1 }
-        ensures kept { IsKept plan.now request.now kept.new }
-        ensures cut { IfOk result (IsCut plan.now.plan request.now.max_hops part.entry.prefix.now self.new.looks.count) }
+        ensures kept { IsKept index.now request.now kept.new }
+        ensures cut { IfOk result (IsCut index.now.plan request.now.max_hops part.entry.prefix.now self.new.looks.count) }
     {
-        let answer = self.find(kept, plan, request, part, in_order)?;
+        let answer = self.find(kept, index, request, part, in_order)?;
         learn(
             &mut self.layers,
             &mut kept.rungs,
             &mut self.looks,
-            plan,
+            index,
             request,
             &answer,
         );
@@ -345,47 +354,51 @@ impl<A: Allocator + Copy> BestOf<A> for Settled<A> {
         ensures called { self.new.calls.count ≡ self.old.calls.count + 1 }
         ensures cut { IfOk result (IsCut plan.now.plan request.now.max_hops part.entry.prefix.now self.new.looks.count) }
     {
+        let Ok(index) = Index::new(self.alloc, plan) else {
+            self.begin();
+            return Err(NoMemory);
+        };
         let mut kept = Kept::new(self.alloc);
-        self.find(&mut kept, plan, request, part, rises(part.excluded))
+        self.find(&mut kept, &index, request, part, rises(part.excluded))
     }
 
     fn best_beside(
         &mut self,
         kept: &mut Kept<A>,
-        plan: &Plan<A>,
+        index: &Index<'_, A>,
         request: &Request,
         part: Part<'_>,
     ) -> Result<Option<Route<A>>, NoMemory>
-        requires fits { IsTrue (is_prefix plan.now.plan request.now part.prefix.now) }
-        requires kept { IsKept plan.now request.now kept.old }
-        ensures least { IfOk result (IsLeast plan.now.plan request.now part.entry.prefix.now part.entry.excluded.now) }
-        ensures bound { self.new.looks.count ≤ (3 * node_count plan.now.plan.contacts + 1) * length plan.now.plan.contacts }
+        requires fits { IsTrue (is_prefix index.now.plan request.now part.prefix.now) }
+        requires kept { IsKept index.now request.now kept.old }
+        ensures least { IfOk result (IsLeast index.now.plan request.now part.entry.prefix.now part.entry.excluded.now) }
+        ensures bound { self.new.looks.count ≤ (3 * node_count index.now.plan.contacts + 1) * length index.now.plan.contacts }
         ensures counted { IfOk result (λ answer. hops_told answer ≤ self.new.looks.count) }
         ensures called { self.new.calls.count ≡ self.old.calls.count + 1 }
-        ensures kept { IsKept plan.now request.now kept.new }
-        ensures cut { IfOk result (IsCut plan.now.plan request.now.max_hops part.entry.prefix.now self.new.looks.count) }
+        ensures kept { IsKept index.now request.now kept.new }
+        ensures cut { IfOk result (IsCut index.now.plan request.now.max_hops part.entry.prefix.now self.new.looks.count) }
     {
-        self.find_beside(kept, plan, request, part, rises(part.excluded))
+        self.find_beside(kept, index, request, part, rises(part.excluded))
     }
 
     fn best_rising(
         &mut self,
         kept: &mut Kept<A>,
-        plan: &Plan<A>,
+        index: &Index<'_, A>,
         request: &Request,
         part: Part<'_>,
     ) -> Result<Option<Route<A>>, NoMemory>
-        requires fits { IsTrue (is_prefix plan.now.plan request.now part.prefix.now) }
+        requires fits { IsTrue (is_prefix index.now.plan request.now part.prefix.now) }
         requires rising { IsStrictlyIncreasing part.excluded.now }
-        requires kept { IsKept plan.now request.now kept.old }
-        ensures least { IfOk result (IsLeast plan.now.plan request.now part.entry.prefix.now part.entry.excluded.now) }
-        ensures bound { self.new.looks.count ≤ (3 * node_count plan.now.plan.contacts + 1) * length plan.now.plan.contacts }
+        requires kept { IsKept index.now request.now kept.old }
+        ensures least { IfOk result (IsLeast index.now.plan request.now part.entry.prefix.now part.entry.excluded.now) }
+        ensures bound { self.new.looks.count ≤ (3 * node_count index.now.plan.contacts + 1) * length index.now.plan.contacts }
         ensures counted { IfOk result (λ answer. hops_told answer ≤ self.new.looks.count) }
         ensures called { self.new.calls.count ≡ self.old.calls.count + 1 }
-        ensures kept { IsKept plan.now request.now kept.new }
-        ensures cut { IfOk result (IsCut plan.now.plan request.now.max_hops part.entry.prefix.now self.new.looks.count) }
+        ensures kept { IsKept index.now request.now kept.new }
+        ensures cut { IfOk result (IsCut index.now.plan request.now.max_hops part.entry.prefix.now self.new.looks.count) }
     {
-        self.find_beside(kept, plan, request, part, true)
+        self.find_beside(kept, index, request, part, true)
     }
 
     fn looks(&self) -> u64 {

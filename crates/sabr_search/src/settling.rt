@@ -14,7 +14,8 @@ use crate::looks::Looks;
 use crate::over_link::link_passes;
 use crate::queue::{Event, Queue};
 use crate::task::Task;
-use sabr_model::{Link, NoMemory, Pass};
+use sabr_index::{Link, Pass};
+use sabr_model::NoMemory;
 use std::alloc::Allocator;
 
 /// For each node, its least arrival so far and whether it is settled; and the waiting arrivals.
@@ -142,8 +143,7 @@ impl<A: Allocator + Copy> Settling<A> {
         ensures pushes { OnOk result (length self.new.queue + looks.old.count ≤ length self.old.queue + looks.new.count) }
     {
         self.settled[event.node] = true;
-        let outgoing = task.links(event.node)?;
-        let links = outgoing.all();
+        let links = task.links(event.node);
         let mut least = best;
         for link in links.links {
             let passes = link_passes(links, link);

@@ -1,11 +1,10 @@
 //! What a search asks, which doesn't change while it runs, and the arrival over one contact.
 
-ghost use Rattle.std.specs.Prelude.{◌≡◌, ℕ, ◌≤◌, ◌<◌, ◌+◌, ◌*◌, ◌^◌, Some, IfOk, IfSome, IfNone, IsTrue, false, true, length};
+ghost use Rattle.std.specs.Prelude.{◌≡◌, ℕ, ◌≤◌, ◌<◌, ◌+◌, ◌*◌, ◌^◌, Some, IfSome, IfNone, IsTrue, false, true, length};
 ghost use Rattle.std.specs.List.Sorted.{IsStrictlyIncreasing};
 ghost use Rattle.sabr_model.specs.Arrival.{cost};
 ghost use Rattle.sabr_model.specs.Plan.{has, most_light};
 ghost use Rattle.sabr_model.specs.Route.{until_of, entry_of};
-ghost use Rattle.sabr_model.specs.Outgoing.{links_in, passes_in};
 ghost use Rattle.sabr_model.specs.Hops.{hop_arrival, IsSmall};
 ghost use Rattle.sabr_search.specs.Task.{IsTask, task_of};
 ghost use Rattle.sabr_search.specs.Answers.{narrowed};
@@ -16,7 +15,8 @@ use crate::finger::Finger;
 use crate::looks::Looks;
 use crate::pick::Standing;
 use crate::shut::Shut;
-use sabr_model::{Hop, NoMemory, Outgoing, Pass, Plan, Request, Route, Senders, Told};
+use sabr_index::{Index, Links, Pass, Senders};
+use sabr_model::{Hop, Request, Route, Told};
 use std::alloc::Allocator;
 use std::marker::Model;
 
@@ -24,8 +24,8 @@ use std::marker::Model;
 /// excluded number first.
 #[derive(Drop)]
 pub struct Task<'a, A: Allocator + Copy> {
-    /// The plan that is searched.
-    plan: &'a Plan<A>,
+    /// The index of the plan that is searched.
+    index: &'a Index<'a, A>,
     /// The request.
     request: &'a Request,
     /// For each node, whether it is shut.
@@ -49,7 +49,7 @@ impl<'a, A: Allocator + Copy> Model for Task<'a, A> {
 
     ghost Value = { SearchTask };
 
-    ghost view = { λ a. record { plan = a.plan.now.plan; request = a.request.now; table = a.plan.now.table; shut = a.shut.now; excluded = a.excluded.now; start = a.start; goal = a.goal; at = a.at } };
+    ghost view = { λ a. record { plan = a.index.now.plan; request = a.request.now; table = a.index.now.table; shut = a.shut.now; excluded = a.excluded.now; start = a.start; goal = a.goal; at = a.at } };
 
     ghost invariant = { λ a. a.in_order ≡ true → IsStrictlyIncreasing a.excluded.now };
 }
@@ -57,7 +57,7 @@ impl<'a, A: Allocator + Copy> Model for Task<'a, A> {
 impl<'a, A: Allocator + Copy> Task<'a, A> {
     /// Makes a task from where the search stands. `in_order` says that the excluded numbers are known to rise.
     pub fn new(
-        plan: &'a Plan<A>,
+        index: &'a Index<'a, A>,
         request: &'a Request,
         shut: &'a Shut<A>,
         excluded: &'a [u32],
@@ -66,10 +66,10 @@ impl<'a, A: Allocator + Copy> Task<'a, A> {
         goal: usize,
     ) -> Task<'a, A>
         requires { IsTrue in_order → IsStrictlyIncreasing excluded.now }
-        ensures { result ≡ task_of plan.now request.now shut.now excluded.now standing.node standing.at goal }
+        ensures { result ≡ task_of index.now request.now shut.now excluded.now standing.node standing.at goal }
     {
         Task {
-            plan,
+            index,
             request,
             shut,
             excluded,
@@ -87,7 +87,7 @@ impl<'a, A: Allocator + Copy> Task<'a, A> {
         ensures { result ≡ narrowed self.now shut.now self.now.at }
     {
         Task {
-            plan: self.plan,
+            index: self.index,
             request: self.request,
             shut,
             excluded: self.excluded,
@@ -98,22 +98,22 @@ impl<'a, A: Allocator + Copy> Task<'a, A> {
         }
     }
 
-    /// Returns the links of a node; every step from there is on one. It takes memory if the plan isn't ready.
-    pub fn links(&self, node: usize) -> Result<Outgoing<'_, A>, NoMemory>
+    /// Returns the links of a node; every step from there is on one.
+    pub fn links(&self, node: usize) -> Links<'_>
         requires task { IsTask self.now }
         requires node { node < length self.now.table }
-        ensures { IfOk result (λ o. AreLinksAt self.now node (links_in o) (passes_in o)) }
+        ensures { AreLinksAt self.now node result.links.now result.passes.now }
     {
-        self.plan.outgoing(node)
+        self.index.links(node)
     }
 
-    /// Returns the links to a node; every step to there is on one. None if the plan isn't ready.
-    pub fn senders(&self, node: usize) -> Option<Senders<'_, A>>
+    /// Returns the links to a node; every step to there is on one.
+    pub fn senders(&self, node: usize) -> Senders<'_, A>
         requires task { IsTask self.now }
         requires node { node < length self.now.table }
-        ensures { IfSome result (λ s. AreSendersAt self.now node s) }
+        ensures { AreSendersAt self.now node result }
     {
-        self.plan.senders(node)
+        self.index.senders(node)
     }
 
     /// Returns the record of a route with this delivery: one look for each of its contacts.
@@ -122,7 +122,7 @@ impl<'a, A: Allocator + Copy> Task<'a, A> {
         ensures looks { looks.new.count ≡ looks.old.count + length contacts.items }
         ensures value { result ≡ record { contacts = contacts.items; delivery = delivery; until = until_of self.now.plan contacts.items; entry = entry_of self.now.plan contacts.items } }
     {
-        Told::of(self.plan, looks.look_all(&contacts)).route(contacts, delivery)
+        Told::of(self.index.plan(), looks.look_all(&contacts)).route(contacts, delivery)
     }
 
     /// The node at which the search starts.
@@ -175,7 +175,7 @@ impl<'a, A: Allocator + Copy> Task<'a, A> {
         ensures looks { looks.new.count ≡ looks.old.count + 1 }
         ensures some { IfSome result (Arrives self.now number at) }
     {
-        let hop = looks.hop(self.plan, number)?;
+        let hop = looks.hop(self.index.plan(), number)?;
         if self.shut.flags()[hop.receiver] {
             return None;
         }
@@ -191,7 +191,7 @@ impl<'a, A: Allocator + Copy> Task<'a, A> {
         ensures value { result ≡ length self.now.plan.contacts }
         ensures limit { result ≤ 2 ^ 60 }
     {
-        self.plan.contacts().len() as u64
+        self.index.plan().contacts().len() as u64
     }
 
     /// As many looks as two passes over all contacts take.

@@ -1,5 +1,5 @@
 use Rattle.std.proofs.Common.{inl, inr, length}
-use Rattle.sabr_model.proofs.LinkLemmas.{push_new, push_old, push_cases}
+use Rattle.sabr_model.proofs.Members.{push_new, push_old, push_cases}
 use Rattle.sabr_search.proofs.following.put_step.Goals as goal
 
 pub returns-clause-kept : goal.returns-clause-kept

@@ -2,7 +2,7 @@ use Rattle.std.proofs.Common.{ltb, slice_index_or, ap, rules, arith}
 use Rattle.std.proofs.lemmas.Bool.{ltb-false}
 use Rattle.std.proofs.lemmas.Option.{slice_get_within, get_or_from_slice_get}
 use Rattle.std.proofs.lemmas.List.Sorted.{IsPartitionPoint-from_clause, IsPartitionedBy-ltb}
-use Rattle.sabr_model.specs.declared.link.Pass.{Pass}
+use Rattle.sabr_index.specs.declared.link.Pass.{Pass}
 use Rattle.sabr_search.proofs.OverLinks.{starts_rise}
 use Rattle.sabr_search.proofs.leave_link.begun.Goals as goal
 

@@ -2,7 +2,7 @@ use Rattle.std.proofs.Common.{◌≡◌, leb, slice_index_or, ap, rules, arith}
 use Rattle.std.proofs.lemmas.Bool.{leb-true}
 use Rattle.std.proofs.lemmas.Option.{get_or_from_slice_get}
 use Rattle.std.proofs.lemmas.List.Sorted.{IsPartitionPoint-from_clause, IsPartitionedBy-leb}
-use Rattle.sabr_model.specs.declared.link.Pass.{Pass}
+use Rattle.sabr_index.specs.declared.link.Pass.{Pass}
 use Rattle.sabr_search.proofs.OverLinks.{ends_rise, end_within}
 use Rattle.sabr_search.proofs.over_link.first_open.Goals as goal
 

@@ -28,7 +28,7 @@ pub loop-link-preserved : goal.loop-link-preserved
 loop-link-preserved g c =
     let task = c.args.task.now in
     let own = c.args.self.now in
-    let l = slice_index_or c.all-links.result.links.now c.loop-link.link-index no_link in
+    let l = slice_index_or c.links-links.result.links.now c.loop-link.link-index no_link in
     let so_far = c.loop-link.invariant in
     let link = link_here _ _ _ _ so_far.links _ c.loop-link-test.true _ c.link_passes-passes.ensures in
     let left = c.leave_over-latest.ensures in
@@ -59,4 +59,4 @@ returns-clause-looks g c = omega (arith, c.loop-link.invariant.counted, c.loop-l
 pub returns-clause-full : goal.returns-clause-full
 returns-clause-full g c = λ t n w b after s admits.
     let on = c.loop-link.invariant.links.whole n t w b s in
-    c.loop-link.invariant.full on.0 on.1 t n w b (omega (arith, slice_get_within c.all-links.result.links.now on.0 on.1 on.2, c.loop-link-test.false)) on.2 on.3 after s admits
+    c.loop-link.invariant.full on.0 on.1 t n w b (omega (arith, slice_get_within c.links-links.result.links.now on.0 on.1 on.2, c.loop-link-test.false)) on.2 on.3 after s admits

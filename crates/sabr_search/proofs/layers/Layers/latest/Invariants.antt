@@ -1,5 +1,5 @@
 use Rattle.std.proofs.Common.{◌≡◌, ℕ, ◌+◌, ◌<◌, ◌≤◌, Some, length, slice_get}
-use Rattle.sabr_model.specs.declared.link.Link.{Link}
+use Rattle.sabr_index.specs.declared.link.Link.{Link}
 use Rattle.sabr_search.specs.Task.{Takes}
 use Rattle.sabr_search.specs.Deadlines.{IsInTime}
 use Rattle.sabr_search.specs.Linked.{HasNumber, AreLinksAt, passes_of}

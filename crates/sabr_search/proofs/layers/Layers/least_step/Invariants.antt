@@ -1,6 +1,6 @@
 use Rattle.std.proofs.Common.{◌≡◌, ℕ, ◌+◌, ◌<◌, ◌≤◌, Some, length, slice_get}
 use Rattle.std.specs.Prelude.{IfSome}
-use Rattle.sabr_model.specs.declared.link.Link.{Link}
+use Rattle.sabr_index.specs.declared.link.Link.{Link}
 use Rattle.sabr_search.specs.Task.{Takes}
 use Rattle.sabr_search.specs.Deadlines.{IsInTime}
 use Rattle.sabr_search.specs.Picks.{IsAtMost}

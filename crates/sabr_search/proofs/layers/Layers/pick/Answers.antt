@@ -1,8 +1,8 @@
 use Rattle.std.proofs.Common.{ℕ, List, ◌≤◌, ◌<◌, ◌+◌, ◌*◌, ◌++◌, [], ◌∷◌, length, ap, sym, ◌∙◌, arith}
 use Rattle.std.proofs.Math.Nat.{mul-le-mul_right}
 use Rattle.std.proofs.lemmas.Option.{slice_get_within}
-use Rattle.sabr_model.specs.declared.link.Pass.{Pass}
-use Rattle.sabr_model.specs.declared.link.Link.{Link}
+use Rattle.sabr_index.specs.declared.link.Pass.{Pass}
+use Rattle.sabr_index.specs.declared.link.Link.{Link}
 use Rattle.sabr_search.specs.Task.{SearchTask}
 use Rattle.sabr_search.specs.Linked.{AreLinksAt}
 use Rattle.sabr_search.specs.Picks.{IsLeastStep}
@@ -47,14 +47,14 @@ more hop hops contacts less =
 pub returns-in_err-push-clause-looks : goal.returns-in_err-push-clause-looks
 returns-in_err-push-clause-looks g c =
     let task = c.args.task.now in
-    let passes : length c.all-links.result.passes.now ≤ length task.plan.contacts = rw c.all-links.ensures.passes (few task _ _ _ c.in_ok-outgoing.ensures) in
+    let passes : length c.links-links.result.passes.now ≤ length task.plan.contacts = few task _ _ _ c.links-links.ensures in
     omega (arith, c.least_step-least.ensures.looks, c.loop-hop.invariant.counted, passes, more c.loop-hop.hop c.args.best.hops (length task.plan.contacts) c.loop-hop-test.true)
 
 pub loop-hop-preserved : goal.loop-hop-preserved
 loop-hop-preserved g c =
     let task = c.args.task.now in
     let so_far = c.loop-hop.invariant.chosen in
-    let passes : length c.all-links.result.passes.now ≤ length task.plan.contacts = rw c.all-links.ensures.passes (few task _ _ _ c.in_ok-outgoing.ensures) in
+    let passes : length c.links-links.result.passes.now ≤ length task.plan.contacts = few task _ _ _ c.links-links.ensures in
     let timed = c.point_at.ensures.timed c.args.task.now c.args.best 1 c.loop-hop.invariant.timed in
     let least : IsLeastStep task c.args.best _ _ (c.loop-hop.hop + 1) c.loop-hop.from.node c.loop-hop.from.at c.in-Some.step = rw c.in-Some.is at c.least_step-least.ensures.some in
     record {

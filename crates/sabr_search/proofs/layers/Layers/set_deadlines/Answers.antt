@@ -19,12 +19,6 @@ set_layer-requires-clause-few g c =
     let more : (c.args.best.hops - c.loop-hop.hop + 1) * contacts ≤ c.args.best.hops * contacts = mul-le-mul_right contacts (omega arith) in
     omega (arith, c.requires.few, c.loop-hop.invariant.counted, more)
 
-pub returns-in_err-set_layer-clause-looks : goal.returns-in_err-set_layer-clause-looks
-returns-in_err-set_layer-clause-looks g c =
-    let contacts = length c.args.task.now.plan.contacts in
-    let more : (c.args.best.hops - c.loop-hop.hop + 1) * contacts ≤ (c.args.best.hops - 1) * contacts = mul-le-mul_right contacts (omega arith) in
-    omega (arith, c.set_layer.ensures.looks, c.loop-hop.invariant.counted, more)
-
 pub returns-clause-looks : goal.returns-clause-looks
 returns-clause-looks g c =
     let contacts = length c.args.task.now.plan.contacts in

@@ -56,4 +56,4 @@ returns-clause-looks g c = omega (arith, c.loop-link.invariant.counted, c.loop-l
 pub returns-clause-known : goal.returns-clause-known
 returns-clause-known g c = λ n w x s.
     let on = c.loop-link.invariant.links.whole n c.args.from.arrival w x s in
-    c.loop-link.invariant.known on.0 on.1 n w x (omega (arith, slice_get_within c.all-links.result.links.now on.0 on.1 on.2, c.loop-link-test.false)) on.2 on.3 s
+    c.loop-link.invariant.known on.0 on.1 n w x (omega (arith, slice_get_within c.links-links.result.links.now on.0 on.1 on.2, c.loop-link-test.false)) on.2 on.3 s

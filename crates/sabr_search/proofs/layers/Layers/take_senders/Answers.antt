@@ -6,7 +6,7 @@ use Rattle.sabr_search.proofs.layers.Layers.take_senders.Goals as goal
 use Rattle.sabr_search.proofs.Bridge.{same_some}
 
 pub take_sender-requires-clause-link : goal.take_sender-requires-clause-link
-take_sender-requires-clause-link g c = (c.in-Some.ensures.each c.loop-place.place (record { sender = c.at-from.result.node; passes = c.at-from.result.passes.now }) c.at-from.ensures.link, c.at-from.ensures.bounds)
+take_sender-requires-clause-link g c = (c.senders-senders.ensures.each c.loop-place.place (record { sender = c.at-from.result.node; passes = c.at-from.result.passes.now }) c.at-from.ensures.link, c.at-from.ensures.bounds)
 
 pub take_sender-requires-clause-bounded : goal.take_sender-requires-clause-bounded
 take_sender-requires-clause-bounded g c = rw c.loop-place.invariant.ends c.requires.bounded
@@ -19,13 +19,13 @@ take_sender-requires-clause-given g c = λ b less.
     rw c.loop-place.invariant.ends (in_time_kept (slice_index c.args.self.now.ends.items c.args.left) (slice_index c.args.self.now.ends.items (c.args.left + 1)) c.loop-place.self.reached.items c.args.self.now.reached.items c.loop-place.invariant.kept c.args.to.node b (c.requires.given b less))
 
 pub is_told-requires-clause-node : goal.is_told-requires-clause-node
-is_told-requires-clause-node g c = c.in-Some.ensures.senders c.loop-place.place (record { sender = c.head-head.result.node; passes = c.head-head.ensures.0 }) c.head-head.ensures.1
+is_told-requires-clause-node g c = c.senders-senders.ensures.senders c.loop-place.place (record { sender = c.head-head.result.node; passes = c.head-head.ensures.0 }) c.head-head.ensures.1
 
 pub loop-place-preserved-then-is_told : goal.loop-place-preserved-then-is_told
 loop-place-preserved-then-is_told g c =
     let so_far = c.loop-place.invariant in
     let here = c.head-head.ensures in
-    let link = c.in-Some.ensures.each c.loop-place.place (record { sender = c.head-head.result.node; passes = here.0 }) here.1 in
+    let link = c.senders-senders.ensures.each c.loop-place.place (record { sender = c.head-head.result.node; passes = here.0 }) here.1 in
     record {
       ends = so_far.ends;
       counted = so_far.counted;
@@ -35,7 +35,7 @@ loop-place-preserved-then-is_told g c =
       told = λ j s n t w b less at has step by. elim (last_or_before j c.loop-place.place less) [
         | inl before ↦ so_far.told j s n t w b before at has step by
         | inr same ↦
-            (let is : s ≡ record { sender = c.head-head.result.node; passes = here.0 } = same_some (sym at ∙ ap (slice_get c.in-Some.senders) same ∙ here.1) in
+            (let is : s ≡ record { sender = c.head-head.result.node; passes = here.0 } = same_some (sym at ∙ ap (slice_get c.senders-senders.result) same ∙ here.1) in
             rw is (c.is_told.ensures c.if-is_told.true c.args.to.node here.0 n t w b (link, here.2) (rw is at has) (rw is at step) by))
       ];
     }
@@ -54,12 +54,12 @@ loop-place-preserved g c =
       told = λ j s n t w b less at has step by. elim (last_or_before j c.loop-place.place less) [
         | inl before ↦ told_rises task c.args.arrival.now c.args.delivery _ _ s.sender t one.rises (so_far.told j s n t w b before at has step by)
         | inr same ↦
-            (let is : s ≡ record { sender = c.at-from.result.node; passes = c.at-from.result.passes.now } = same_some (sym at ∙ ap (slice_get c.in-Some.senders) same ∙ c.at-from.ensures.link) in
+            (let is : s ≡ record { sender = c.at-from.result.node; passes = c.at-from.result.passes.now } = same_some (sym at ∙ ap (slice_get c.senders-senders.result) same ∙ c.at-from.ensures.link) in
             rw is (one.told c.if-met.false n t w b (rw is at has) (rw is at step) by))
       ];
     }
 
 pub returns-clause-told : goal.returns-clause-told
 returns-clause-told g c = λ same n u t b step by.
-    let on = c.in-Some.ensures.whole n u t b step in
-    rw (← on.3) (c.loop-place.invariant.told on.0 on.1 n t c.args.to.node b (omega (arith, slice_get_within c.in-Some.senders on.0 on.1 on.2, c.loop-place-test.false, c.len-place-end.ensures)) on.2 on.4 (rw (← on.3) at step) by)
+    let on = c.senders-senders.ensures.whole n u t b step in
+    rw (← on.3) (c.loop-place.invariant.told on.0 on.1 n t c.args.to.node b (omega (arith, slice_get_within c.senders-senders.result on.0 on.1 on.2, c.loop-place-test.false, c.len-place-end.ensures)) on.2 on.4 (rw (← on.3) at step) by)

@@ -1,5 +1,5 @@
 use Rattle.std.proofs.Common.{◌≡◌, ℕ, ◌+◌, ◌<◌, ◌≤◌, Some, take, slice_get, slice_index}
-use Rattle.sabr_model.specs.Links.{SentLink}
+use Rattle.sabr_index.specs.Links.{SentLink}
 use Rattle.sabr_search.specs.Task.{Takes}
 use Rattle.sabr_search.specs.Linked.{HasNumber}
 use Rattle.sabr_search.specs.Late.{AreLate, IsToldLate}

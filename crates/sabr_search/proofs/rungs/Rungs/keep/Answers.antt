@@ -7,7 +7,7 @@ use Rattle.sabr_search.proofs.rungs.Rungs.keep.Goals as goal
 
 pub returns-clause-kept : goal.returns-clause-kept
 returns-clause-kept g c =
-    let P = IsRung c.args.plan.now c.args.request.now in
+    let P = IsRung c.args.index.now c.args.request.now in
     let old = c.args.self.now.rungs.items in
     let rung = c.in-Some.rung in
     let k = c.place_for-place.result in

@@ -61,4 +61,4 @@ returns-clause-taken g c =
     taken_settled task _ u t _ c.args.best _ c.loop-link.least c.requires.reached c.requires.taken c.loop-link.invariant.fallen
     (λ n w x s.
     (let on = c.loop-link.invariant.links.whole n t w x s in
-    c.loop-link.invariant.known on.0 on.1 n w x (omega (arith, slice_get_within c.all-links.result.links.now on.0 on.1 on.2, c.loop-link-test.false)) on.2 on.3 s))
+    c.loop-link.invariant.known on.0 on.1 n w x (omega (arith, slice_get_within c.links-links.result.links.now on.0 on.1 on.2, c.loop-link-test.false)) on.2 on.3 s))

@@ -19,7 +19,7 @@ least_over-least-requires-clause-link g c = (link_here _ _ _ _ c.loop-link.invar
 pub loop-link-preserved-then-shut-link : goal.loop-link-preserved-then-shut-link
 loop-link-preserved-then-shut-link g c =
     let task = c.args.self.now in
-    let l = slice_index_or c.all-links.result.links.now c.loop-link.link-index no_link in
+    let l = slice_index_or c.links-links.result.links.now c.loop-link.link-index no_link in
     let so_far = c.loop-link.invariant in
     let link = link_by_place _ _ _ _ so_far.links _ c.loop-link-test.true in
     record {
@@ -57,7 +57,7 @@ loop-link-preserved-then-before-from g c =
 pub loop-link-preserved : goal.loop-link-preserved
 loop-link-preserved g c =
     let task = c.args.self.now in
-    let l = slice_index_or c.all-links.result.links.now c.loop-link.link-index no_link in
+    let l = slice_index_or c.links-links.result.links.now c.loop-link.link-index no_link in
     let so_far = c.loop-link.invariant in
     let link = link_here _ _ _ _ so_far.links _ c.loop-link-test.true _ c.link_passes-passes.ensures in
     let over = c.least_over-least.ensures in
@@ -84,4 +84,4 @@ returns-clause-some g c =
     due_found c.args.self.now c.args.rung.now.dues.items c.args.rest c.args.from.node t c.loop-link.least c.loop-link.invariant.chosen
     (λ n w b s through.
     (let on = c.loop-link.invariant.links.whole n t w b s in
-    c.loop-link.invariant.least on.0 on.1 n w b (omega (arith, slice_get_within c.all-links.result.links.now on.0 on.1 on.2, c.loop-link-test.false)) on.2 on.3 s through))
+    c.loop-link.invariant.least on.0 on.1 n w b (omega (arith, slice_get_within c.links-links.result.links.now on.0 on.1 on.2, c.loop-link-test.false)) on.2 on.3 s through))

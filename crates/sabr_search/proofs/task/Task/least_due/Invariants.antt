@@ -1,6 +1,6 @@
 use Rattle.std.proofs.Common.{◌≡◌, ℕ, ◌<◌, ◌≤◌, Some, slice_get}
 use Rattle.std.specs.Prelude.{IfSome}
-use Rattle.sabr_model.specs.declared.link.Link.{Link}
+use Rattle.sabr_index.specs.declared.link.Link.{Link}
 use Rattle.sabr_search.specs.Task.{Takes}
 use Rattle.sabr_search.specs.Picks.{IsAtMost}
 use Rattle.sabr_search.specs.Linked.{HasNumber, AreLinksAt, passes_of}

@@ -1,6 +1,6 @@
 use Rattle.std.proofs.Common.{◌≡◌, ◌⊎◌, ℕ, ◌+◌, ◌-◌, ◌<◌, ◌≤◌, Some, false, length, slice_get, slice_index_or}
 use Rattle.std.specs.Prelude.{IfSome}
-use Rattle.sabr_model.specs.declared.link.Pass.{Pass}
+use Rattle.sabr_index.specs.declared.link.Pass.{Pass}
 use Rattle.sabr_search.specs.Task.{Takes}
 use Rattle.sabr_search.specs.Picks.{IsAtMost}
 use Rattle.sabr_search.proofs.task.Task.least_over.Given as goal

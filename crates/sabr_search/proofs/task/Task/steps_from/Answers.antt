@@ -19,7 +19,7 @@ arrive_over-at-requires-clause-link g c = (link_here _ _ _ _ c.loop-link.invaria
 pub loop-link-preserved-then-shut-link : goal.loop-link-preserved-then-shut-link
 loop-link-preserved-then-shut-link g c =
     let task = c.args.self.now in
-    let l = slice_index_or c.all-links.result.links.now c.loop-link.link-index no_link in
+    let l = slice_index_or c.links-links.result.links.now c.loop-link.link-index no_link in
     let so_far = c.loop-link.invariant in
     let link = link_by_place _ _ _ _ so_far.links _ c.loop-link-test.true in
     record {
@@ -38,7 +38,7 @@ loop-link-preserved-then-shut-link g c =
 pub loop-link-preserved : goal.loop-link-preserved
 loop-link-preserved g c =
     let task = c.args.self.now in
-    let l = slice_index_or c.all-links.result.links.now c.loop-link.link-index no_link in
+    let l = slice_index_or c.links-links.result.links.now c.loop-link.link-index no_link in
     let so_far = c.loop-link.invariant in
     let link = link_here _ _ _ _ so_far.links _ c.loop-link-test.true _ c.link_passes-passes.ensures in
     record {
@@ -63,4 +63,4 @@ loop-link-preserved g c =
 pub returns-clause-whole : goal.returns-clause-whole
 returns-clause-whole g c = λ yes' n w b s.
     let on = c.loop-link.invariant.links.whole n c.args.from.at w b s in
-    c.loop-link.invariant.come on.0 on.1 n w b (omega (arith, slice_get_within c.all-links.result.links.now on.0 on.1 on.2, c.loop-link-test.false)) on.2 on.3 s
+    c.loop-link.invariant.come on.0 on.1 n w b (omega (arith, slice_get_within c.links-links.result.links.now on.0 on.1 on.2, c.loop-link-test.false)) on.2 on.3 s

@@ -21,9 +21,9 @@ loop-hop-preserved g c =
     let rung = c.args.rung.now in
     let hop = c.loop-hop.hop in
     let so_far = c.loop-hop.invariant.chosen in
-    let least : IsLeastDue task rung.dues.items (c.args.hops - 1 - hop) c.loop-hop.from.node c.loop-hop.from.at c.in-Some.step = rw c.in-Some.is at c.in_ok-least.ensures.some in
+    let least : IsLeastDue task rung.dues.items (c.args.hops - 1 - hop) c.loop-hop.from.node c.loop-hop.from.at c.in-Some.step = rw c.in-Some.is at c.least_due-least.ensures.some in
     record {
-      counted = c.least_due.ensures.looks;
+      counted = c.least_due-least.ensures.looks;
       node = slice_get_within task.table c.in-Some.step.node least.step.contact.to least.step.receiver;
       chosen = (
         so_far.0 ++ c.in-Some.step.number ∷ [],
