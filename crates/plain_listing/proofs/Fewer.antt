@@ -1,7 +1,7 @@
 -- Each move of a walk leaves fewer steps.
 use Rattle.std.proofs.Common.{◌≡◌, ℕ, zero, suc, ◌+◌, ◌*◌, ◌-◌, ◌<◌, ◌≤◌, List, [], ◌∷◌, ◌++◌, length, refl, ap, arith}
 use Rattle.std.proofs.Math.Nat.{mul-le-mul_left}
-use Rattle.plain_listing.specs.Steps.{whole, left_behind}
+use Rattle.plain_listing.specs.Steps.{whole, left_after}
 
 module _ (numbers : ℕ) where
   -- the steps of one number more
@@ -20,15 +20,15 @@ module _ (numbers : ℕ) where
   more_left x y w some lt = let h : w * (x + 1) ≤ w * y = mul-le-mul_left w (omega arith) in omega (arith, h)
 
   -- past a number
-  pub fewer_past : (k : ℕ) (s : List ℕ) (low next : ℕ) → length s ≤ k → low < next → next ≤ numbers → left_behind numbers k s next < left_behind numbers k s low
-  unfolding left_behind
+  pub fewer_past : (k : ℕ) (s : List ℕ) (low next : ℕ) → length s ≤ k → low < next → next ≤ numbers → left_after numbers k s next < left_after numbers k s low
+  unfolding left_after
   fewer_past k [] low next le lt within = let some = whole_some k in let h = more_left (numbers - next) (numbers - low) (whole numbers k) some (omega arith) in omega arith
   fewer_past zero (m ∷ s) low next le lt within = absurd (omega arith)
   fewer_past (suc k) (m ∷ s) low next le lt within = let h = fewer_past k s low next (omega arith) lt within in omega arith
 
   -- into the lists that take a number
-  pub fewer_into : (k : ℕ) (s : List ℕ) (low n : ℕ) → length s < k → low ≤ n → n < numbers → left_behind numbers k (s ++ n ∷ []) 0 < left_behind numbers k s low
-  unfolding left_behind
+  pub fewer_into : (k : ℕ) (s : List ℕ) (low n : ℕ) → length s < k → low ≤ n → n < numbers → left_after numbers k (s ++ n ∷ []) 0 < left_after numbers k s low
+  unfolding left_after
   fewer_into zero s low n le lt within = absurd (omega arith)
   fewer_into (suc k) [] low n le lt within =
       let some = whole_some (suc k) in
@@ -39,8 +39,8 @@ module _ (numbers : ℕ) where
   fewer_into (suc k) (m ∷ s) low n le lt within = let h = fewer_into k s low n (omega arith) lt within in omega arith
 
   -- and back
-  pub fewer_back : (k : ℕ) (s : List ℕ) (m low : ℕ) → length s < k → low < numbers → left_behind numbers k s (m + 1) < left_behind numbers k (s ++ m ∷ []) low
-  unfolding left_behind
+  pub fewer_back : (k : ℕ) (s : List ℕ) (m low : ℕ) → length s < k → low < numbers → left_after numbers k s (m + 1) < left_after numbers k (s ++ m ∷ []) low
+  unfolding left_after
   fewer_back zero s m low le within = absurd (omega arith)
   fewer_back (suc k) [] m low le within =
       let some = whole_some k in

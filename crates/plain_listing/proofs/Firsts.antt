@@ -18,10 +18,10 @@ take_again (suc k) [] = refl
 take_again (suc k) (x ∷ xs) = ap (λ ys. x ∷ ys) (take_again k xs)
 
 -- one further element before the k-th
-pub take_behind : {X : Type 0} (k : ℕ) (x : X) (xs : List X) → take k (x ∷ take k xs) ≡ take k (x ∷ xs)
-take_behind zero x xs = refl
-take_behind (suc k) x [] = refl
-take_behind (suc k) x (y ∷ xs) = ap (λ ys. x ∷ ys) (take_behind k y xs)
+pub take_after : {X : Type 0} (k : ℕ) (x : X) (xs : List X) → take k (x ∷ take k xs) ≡ take k (x ∷ xs)
+take_after zero x xs = refl
+take_after (suc k) x [] = refl
+take_after (suc k) x (y ∷ xs) = ap (λ ys. x ∷ ys) (take_after k y xs)
 
 module _ {X : Type 0} (cmp : X → X → Ordering) where
   -- what stands after the first k before a put stands after them afterwards
@@ -30,7 +30,7 @@ module _ {X : Type 0} (cmp : X → X → Ordering) where
   take-put_in (suc k) x [] = refl
   take-put_in (suc k) x (y ∷ ys) =
       elim (cmp x y) as (λ o. take (suc k) (elim o [ Less ↦ x ∷ y ∷ take k ys | Equal ↦ y ∷ take k ys | Greater ↦ y ∷ put_in cmp x (take k ys) ]) ≡ take (suc k) (elim o [ Less ↦ x ∷ y ∷ ys | Equal ↦ y ∷ ys | Greater ↦ y ∷ put_in cmp x ys ])) [
-        | Less ↦ ap (λ zs. x ∷ zs) (take_behind k y ys)
+        | Less ↦ ap (λ zs. x ∷ zs) (take_after k y ys)
         | Equal ↦ ap (λ zs. y ∷ zs) (take_again k ys)
         | Greater ↦ ap (λ zs. y ∷ zs) (take-put_in k x ys)
       ]
@@ -41,8 +41,8 @@ module _ {X : Type 0} (cmp : X → X → Ordering) where
   put_front x (y ∷ ys) all = ap (λ o. elim o [ Less ↦ x ∷ y ∷ ys | Equal ↦ y ∷ ys | Greater ↦ y ∷ put_in cmp x ys ]) all.0
 
   -- an element above the first goes after it
-  pub put_behind : (x y : X) (ys : List X) → cmp x y ≡ Greater → put_in cmp x (y ∷ ys) ≡ y ∷ put_in cmp x ys
-  put_behind x y ys e = ap (λ o. elim o [ Less ↦ x ∷ y ∷ ys | Equal ↦ y ∷ ys | Greater ↦ y ∷ put_in cmp x ys ]) e
+  pub put_after : (x y : X) (ys : List X) → cmp x y ≡ Greater → put_in cmp x (y ∷ ys) ≡ y ∷ put_in cmp x ys
+  put_after x y ys e = ap (λ o. elim o [ Less ↦ x ∷ y ∷ ys | Equal ↦ y ∷ ys | Greater ↦ y ∷ put_in cmp x ys ]) e
 
 -- a map that keeps the order
 pub map-put_in : {X Y : Type 0} (f : X → Y) (one : X → X → Ordering) (other : Y → Y → Ordering) → ((x y : X) → other (f x) (f y) ≡ one x y)
@@ -90,9 +90,9 @@ module _ {X : Type 0} (cmp : X → X → Ordering) (total : IsTotalOrder cmp) (o
   not_below_itself x e = let turned : cmp x x ≡ ordering_reverse (cmp x x) = total.antisymm x x in cc (e, ap ordering_reverse e)
 
   -- after w the tests agree
-  agree_behind : (y : X) → y ≡ w → (x : X) → cmp y x ≡ Less → AgreeBut one other w x → one x ≡ other x
-  agree_behind y e x below (inl same) = absurd (not_below_itself w (ap (λ z. cmp z w) (sym e) ∙ ap (cmp y) (sym same) ∙ below))
-  agree_behind y e x below (inr agree) = agree
+  agree_after : (y : X) → y ≡ w → (x : X) → cmp y x ≡ Less → AgreeBut one other w x → one x ≡ other x
+  agree_after y e x below (inl same) = absurd (not_below_itself w (ap (λ z. cmp z w) (sym e) ∙ ap (cmp y) (sym same) ∙ below))
+  agree_after y e x below (inr agree) = agree
 
   -- the first element is below w, which stands after it
   below_member : (y : X) (ys : List X) → AllByRecursion (λ z. cmp y z ≡ Less) ys → IsIn w ys → cmp y w ≡ Less
@@ -111,20 +111,20 @@ module _ {X : Type 0} (cmp : X → X → Ordering) (total : IsTotalOrder cmp) (o
   filter_one_more not_one is_other (y ∷ ys) sorted all (inl same) =
       let is_y : other y ≡ true = ap other (sym same) ∙ is_other in
       let not_y : one y ≡ false = ap one (sym same) ∙ not_one in
-      let agree : filter one ys ≡ filter other ys = filter_agrees one other ys (all_both (λ x. cmp y x ≡ Less) (AgreeBut one other w) (λ x. one x ≡ other x) (agree_behind y (sym same)) ys sorted.0 all.1) in
+      let agree : filter one ys ≡ filter other ys = filter_agrees one other ys (all_both (λ x. cmp y x ≡ Less) (AgreeBut one other w) (λ x. one x ≡ other x) (agree_after y (sym same)) ys sorted.0 all.1) in
       let below : AllByRecursion (λ z. cmp w z ≡ Less) (filter one ys) = all_filter (λ z. cmp w z ≡ Less) one ys (subst (λ v. AllByRecursion (λ z. cmp v z ≡ Less) ys) (sym same) sorted.0) in
       ap (λ b. cond b (y ∷ filter other ys) (filter other ys)) is_y
       ∙ ap (λ zs. y ∷ zs) (sym agree)
       ∙ ap (λ z. z ∷ filter one ys) (sym same)
       ∙ sym (put_front cmp w (filter one ys) below)
       ∙ ap (λ b. put_in cmp w (cond b (y ∷ filter one ys) (filter one ys))) (sym not_y)
-  filter_one_more not_one is_other (y ∷ ys) sorted all (inr behind) =
-      let below : cmp y w ≡ Less = below_member y ys sorted.0 behind in
+  filter_one_more not_one is_other (y ∷ ys) sorted all (inr after) =
+      let below : cmp y w ≡ Less = below_member y ys sorted.0 after in
       let above : cmp w y ≡ Greater = total.antisymm w y ∙ ap ordering_reverse below in
       let agree : one y ≡ other y = agree_before y below all.0 in
-      let rest : filter other ys ≡ put_in cmp w (filter one ys) = filter_one_more not_one is_other ys sorted.1 all.1 behind in
+      let rest : filter other ys ≡ put_in cmp w (filter one ys) = filter_one_more not_one is_other ys sorted.1 all.1 after in
       ap (λ b. cond b (y ∷ filter other ys) (filter other ys)) (sym agree)
       ∙ elim (one y) as (λ b. cond b (y ∷ filter other ys) (filter other ys) ≡ put_in cmp w (cond b (y ∷ filter one ys) (filter one ys))) [
-        | true ↦ ap (λ zs. y ∷ zs) rest ∙ sym (put_behind cmp w y (filter one ys) above)
+        | true ↦ ap (λ zs. y ∷ zs) rest ∙ sym (put_after cmp w y (filter one ys) above)
         | false ↦ rest
       ]

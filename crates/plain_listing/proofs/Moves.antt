@@ -26,7 +26,7 @@ use Rattle.plain_listing.specs.Before.{routes_before}
 use Rattle.plain_listing.specs.Walk.{first_before}
 use Rattle.plain_listing.proofs.Firsts.{AgreeBut, filter_agrees, filter_none, filter_whole, filter_one_more, take-put_in, map-put_in}
 use Rattle.plain_listing.proofs.Rising.{all_from_in, rising_take, rising_map}
-use Rattle.plain_listing.proofs.Places.{before_less, before_one, before-behind}
+use Rattle.plain_listing.proofs.Places.{before_less, before_one, before-after}
 use Rattle.plain_listing.proofs.Late.{AgreeOrAbove, same_first, arrival_after_later, key_less}
 use Rattle.plain_listing.proofs.Passed.{passed_number, passed_kind, passed_into, passed_back, none_before, all_before}
 
@@ -110,8 +110,8 @@ module _ (p : ContactPlan) (r : RouteRequest) (good : IsPlan p) where
       let earlier = routes_before p r (s ++ low ∷ []) in
       let further : routes_before p r (s ++ (n + 1) ∷ []) ≡ put_in (by_key p r) w earlier =
       filter_one_more (by_key p r) (key_total p r) (λ t. numbers_before t (s ++ low ∷ [])) (λ t. numbers_before t (s ++ (n + 1) ∷ [])) w
-      (before-behind s (n ∷ []) (low ∷ []) ∙ before_one n low [] next.from)
-      (before-behind s (n ∷ []) ((n + 1) ∷ []) ∙ before_less n (n + 1) [] [] (omega arith))
+      (before-after s (n ∷ []) (low ∷ []) ∙ before_one n low [] next.from)
+      (before-after s (n ∷ []) ((n + 1) ∷ []) ∙ before_less n (n + 1) [] [] (omega arith))
       (routes p r) rising_routes
       (all_weaker (AgreeBut (λ t. numbers_before t (s ++ low ∷ [])) (λ t. numbers_before t (s ++ (n + 1) ∷ [])) w)
       (passed_kind s (λ t. IsTrue (is_route p r t)) (λ t. t ≡ w) low n next.from

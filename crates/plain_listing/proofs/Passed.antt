@@ -4,7 +4,7 @@ use Rattle.std.specs.Prelude.{◌⊎◌}
 use Rattle.std.specs.Ordering.{is_lt}
 use Rattle.std.proofs.lemmas.Bool.{cases_lt, cases_eq}
 use Rattle.sabr_model.specs.Order.{numbers_before}
-use Rattle.plain_listing.proofs.Places.{begins_or_apart, before_less, before_greater, before_same, before_one, before-behind}
+use Rattle.plain_listing.proofs.Places.{begins_or_apart, before_less, before_greater, before_same, before_one, before-after}
 
 -- what comes before one list and not before the other begins with q
 module _ (q : List ℕ) (P : List ℕ → Type 0) where
@@ -14,9 +14,9 @@ module _ (q : List ℕ) (P : List ℕ → Type 0) where
   by_rest m n t v same s h =
       ⊎_elim
       (λ begins.
-      ap (λ w. numbers_before w (q ++ m ∷ t)) begins.1 ∙ before-behind q begins.0 (m ∷ t)
+      ap (λ w. numbers_before w (q ++ m ∷ t)) begins.1 ∙ before-after q begins.0 (m ∷ t)
       ∙ same begins.0 (subst P begins.1 h)
-      ∙ sym (ap (λ w. numbers_before w (q ++ n ∷ v)) begins.1 ∙ before-behind q begins.0 (n ∷ v)))
+      ∙ sym (ap (λ w. numbers_before w (q ++ n ∷ v)) begins.1 ∙ before-after q begins.0 (n ∷ v)))
       (λ apart. ap is_lt (apart m n t v))
       (begins_or_apart q s)
 
@@ -45,7 +45,7 @@ module _ (q : List ℕ) (P : List ℕ → Type 0) where
       (λ begins.
       ⊎_elim
       (λ here. inl (subst Q (sym begins.1) here))
-      (λ same. inr (ap (λ w. numbers_before w (q ++ low ∷ [])) begins.1 ∙ before-behind q begins.0 (low ∷ []) ∙ same ∙ sym (ap (λ w. numbers_before w (q ++ (n + 1) ∷ [])) begins.1 ∙ before-behind q begins.0 ((n + 1) ∷ []))))
+      (λ same. inr (ap (λ w. numbers_before w (q ++ low ∷ [])) begins.1 ∙ before-after q begins.0 (low ∷ []) ∙ same ∙ sym (ap (λ w. numbers_before w (q ++ (n + 1) ∷ [])) begins.1 ∙ before-after q begins.0 ((n + 1) ∷ []))))
       (cases begins.0 (subst P begins.1 h)))
       (λ apart. inr (ap is_lt (apart low (n + 1) [] [])))
       (begins_or_apart q s)

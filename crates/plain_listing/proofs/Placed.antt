@@ -11,7 +11,7 @@ use Rattle.std.proofs.lemmas.Map.Keys.{Less-from_sorted}
 use Rattle.std.specs.declared.cmp.Ordering.{Ordering}
 use Rattle.std.specs.declared.cmp.Ordering.TheVariants.{Less, Equal, Greater}
 use Rattle.sabr_model.specs.Order.{put_in}
-use Rattle.plain_listing.proofs.Firsts.{put_behind}
+use Rattle.plain_listing.proofs.Firsts.{put_after}
 
 module _ {X : Type 0} (cmp : X → X → Ordering) (total : IsTotalOrder cmp) where
   -- a comparison turned round
@@ -41,7 +41,7 @@ module _ {X : Type 0} (cmp : X → X → Ordering) (total : IsTotalOrder cmp) wh
   put_at x (y ∷ ys) zero h =
       ap (λ o. elim o [ Less ↦ x ∷ y ∷ ys | Equal ↦ y ∷ ys | Greater ↦ y ∷ put_in cmp x ys ]) (turned y x Greater (h.1 0 y (omega arith) (omega arith)))
   put_at x (y ∷ ys) (suc i) h =
-      put_behind cmp x y ys (turned y x Less (h.0 0 y (omega arith) (omega arith)))
+      put_after cmp x y ys (turned y x Less (h.0 0 y (omega arith) (omega arith)))
       ∙ ap (λ zs. y ∷ zs) (put_at x ys i (
         λ k d low high. h.0 (suc k) d (omega arith) (omega arith),
         λ k d low high. h.1 (suc k) d (omega arith) (omega arith),
@@ -55,7 +55,7 @@ module _ {X : Type 0} (cmp : X → X → Ordering) (total : IsTotalOrder cmp) wh
   put_tied x (y ∷ ys) (suc k) sorted lt h =
       let first : cmp y (get_or ys k y) ≡ Less = Less-from_sorted cmp (y ∷ ys) 0 (suc k) y sorted (omega arith) lt in
       let below : cmp y x ≡ Less = sym (alike_right total (get_or ys k y) x y (h y)) ∙ first in
-      put_behind cmp x y ys (turned y x Less below) ∙ ap (λ zs. y ∷ zs) (put_tied x ys k sorted.1 (omega arith) h)
+      put_after cmp x y ys (turned y x Less below) ∙ ap (λ zs. y ∷ zs) (put_tied x ys k sorted.1 (omega arith) h)
 
   -- after the last of as many elements as are kept nothing is put
   pub put_past : (x : X) (xs : List X) (i limit : ℕ) → IsPartitionPoint (λ y. cmp y x ≡ Less) (λ y. cmp y x ≡ Greater) xs i → i ≤ length xs → length xs ≤ limit → limit ≤ i

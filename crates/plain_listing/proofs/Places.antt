@@ -11,17 +11,17 @@ use Rattle.std.specs.declared.cmp.Ordering.TheVariants.{Less, Equal, Greater}
 use Rattle.sabr_model.specs.Order.{by_numbers, numbers_before}
 
 -- after the same beginning
-pub by_numbers-behind : (q s t : List ℕ) → by_numbers (q ++ s) (q ++ t) ≡ by_numbers s t
-by_numbers-behind [] s t = refl
-by_numbers-behind (n ∷ q) s t = ap (λ o. ordering_then o (by_numbers (q ++ s) (q ++ t))) (tied_itself nat_cmp_total n) ∙ by_numbers-behind q s t
+pub by_numbers-after : (q s t : List ℕ) → by_numbers (q ++ s) (q ++ t) ≡ by_numbers s t
+by_numbers-after [] s t = refl
+by_numbers-after (n ∷ q) s t = ap (λ o. ordering_then o (by_numbers (q ++ s) (q ++ t))) (tied_itself nat_cmp_total n) ∙ by_numbers-after q s t
 
 -- how s compares with every list that begins with q and is longer
 abbrev pub IsApart : List ℕ → List ℕ → Type 0
 IsApart q s = (m n : ℕ) (t v : List ℕ) → by_numbers s (q ++ m ∷ t) ≡ by_numbers s (q ++ n ∷ v)
 
 -- apart after the same number
-apart_behind : (k j : ℕ) (q s : List ℕ) → IsApart q s → IsApart (k ∷ q) (j ∷ s)
-apart_behind k j q s apart m n t v = ap (ordering_then (nat_cmp j k)) (apart m n t v)
+apart_after : (k j : ℕ) (q s : List ℕ) → IsApart q s → IsApart (k ∷ q) (j ∷ s)
+apart_after k j q s apart m n t v = ap (ordering_then (nat_cmp j k)) (apart m n t v)
 
 -- a list begins with another, or it compares in one way with all that begin with that other and are longer
 pub begins_or_apart : (q s : List ℕ) → ((u : List ℕ) × (s ≡ q ++ u)) ⊎ IsApart q s
@@ -32,7 +32,7 @@ begins_or_apart (k ∷ q) (j ∷ s) =
       | Less ↦ λ e. inr (λ m n t v. ap (λ o. ordering_then o (by_numbers s (q ++ m ∷ t))) e ∙ sym (ap (λ o. ordering_then o (by_numbers s (q ++ n ∷ v))) e))
       | Equal ↦ λ e.
           let same : j ≡ k = nat_cmp-IsAntisymmetric j k e in
-          ⊎_elim (λ u. inl (u.0, (let rest = u.1 in cc))) (λ apart. inr (apart_behind k j q s apart)) (begins_or_apart q s)
+          ⊎_elim (λ u. inl (u.0, (let rest = u.1 in cc))) (λ apart. inr (apart_after k j q s apart)) (begins_or_apart q s)
       | Greater ↦ λ e. inr (λ m n t v. ap (λ o. ordering_then o (by_numbers s (q ++ m ∷ t))) e ∙ sym (ap (λ o. ordering_then o (by_numbers s (q ++ n ∷ v))) e))
     ] refl
 
@@ -70,5 +70,5 @@ before_one k n u h =
     (cases_eq k n)
 
 -- after the same beginning the rest decides
-pub before-behind : (q s t : List ℕ) → numbers_before (q ++ s) (q ++ t) ≡ numbers_before s t
-before-behind q s t = ap is_lt (by_numbers-behind q s t)
+pub before-after : (q s t : List ℕ) → numbers_before (q ++ s) (q ++ t) ≡ numbers_before s t
+before-after q s t = ap is_lt (by_numbers-after q s t)

@@ -85,7 +85,7 @@ next_some bound low (x ∷ xs) n rises e =
           record {
             among = inr rest.among;
             from = rest.from;
-            least = λ k i from. ⊎_elim (λ e. absurd (both_ways (leb low x) w (le-leb low x (omega arith)))) (λ behind. rest.least k behind from) i;
+            least = λ k i from. ⊎_elim (λ e. absurd (both_ways (leb low x) w (le-leb low x (omega arith)))) (λ after. rest.least k after from) i;
           }
     ] refl e
 

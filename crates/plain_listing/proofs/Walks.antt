@@ -17,7 +17,7 @@ use Rattle.sabr_model.proofs.Paths.{hop_facts, path_facts, route_from_path, valu
 use Rattle.sabr_model.proofs.Prefixes.{beginning_goes_on, empty_is_path}
 use Rattle.plain_listing.specs.declared.hop.Hop.{Hop}
 use Rattle.plain_listing.specs.Way.{IsWay, numbers_of, hop_of, last_stop, record_over}
-use Rattle.plain_listing.specs.Steps.{left_behind, steps_left}
+use Rattle.plain_listing.specs.Steps.{left_after, steps_left}
 use Rattle.plain_listing.specs.Before.{routes_before}
 use Rattle.plain_listing.specs.Walk.{IsWalk, IsMove, first_before, is_past}
 use Rattle.plain_listing.proofs.Sent.{next_from, next_none, next_some, sent_rises, is_sent, sent_is_given, named_is_given}
@@ -108,7 +108,7 @@ module _ (p : ContactPlan) (r : RouteRequest) (good : IsPlan p) where
         let given = last_given front h e in
         let room = last.room in
         let fewer = fewer_back (p.greatest + 2) r.max_hops s h.number low room (let l = walk.least in omega arith) in
-        let fewer' = subst (λ w. left_behind (p.greatest + 2) r.max_hops s (h.number + 1) < left_behind (p.greatest + 2) r.max_hops w low) (sym numbers) fewer in
+        let fewer' = subst (λ w. left_after (p.greatest + 2) r.max_hops s (h.number + 1) < left_after (p.greatest + 2) r.max_hops w low) (sym numbers) fewer in
         record {
           stands = record {
             way = way;
@@ -205,7 +205,7 @@ module _ (p : ContactPlan) (r : RouteRequest) (good : IsPlan p) where
             let f = next.from in
             let g = next.given in
             let fewer = fewer_into (p.greatest + 2) r.max_hops s low n room f (omega arith) in
-            let fewer' = subst (λ w. left_behind (p.greatest + 2) r.max_hops w 0 < left_behind (p.greatest + 2) r.max_hops s low) (sym numbers) fewer in
+            let fewer' = subst (λ w. left_after (p.greatest + 2) r.max_hops w 0 < left_after (p.greatest + 2) r.max_hops s low) (sym numbers) fewer in
             let unfinished : is_route p r (s ++ n ∷ []) ≡ false =
             false_from_ne_true (is_route p r (s ++ n ∷ [])) (λ route. elsewhere (ap (λ o. unwrap_or o 0) (route_facts p r (s ++ n ∷ []) route).reaches)) in
             record {

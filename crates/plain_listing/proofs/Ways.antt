@@ -12,7 +12,7 @@ use Rattle.sabr_model.proofs.Begins.{receivers-cons}
 use Rattle.sabr_model.proofs.Paths.{IsHop, beginning_is_path, hop_facts, chain_end_push, arrival_after_push}
 use Rattle.sabr_model.specs.declared.following.Reached.{Reached}
 use Rattle.plain_listing.specs.declared.hop.Hop.{Hop}
-use Rattle.plain_listing.specs.Way.{stop_of, hop_of, hops_behind, numbers_of, nodes_of, IsWay, source_stop, last_stop, record_over}
+use Rattle.plain_listing.specs.Way.{stop_of, hop_of, hops_after, numbers_of, nodes_of, IsWay, source_stop, last_stop, record_over}
 
 -- ---- lists by their last element
 
@@ -52,10 +52,10 @@ numbers_push hops h = map-append (λ (x : Hop). x.number) hops (h ∷ [])
 
 module _ (p : ContactPlan) (r : RouteRequest) where
   -- the hops after one number more
-  hops_push : (front s : List ℕ) (n : ℕ) → hops_behind p r front (s ++ n ∷ []) ≡ hops_behind p r front s ++ hop_of p r (front ++ s) n ∷ []
+  hops_push : (front s : List ℕ) (n : ℕ) → hops_after p r front (s ++ n ∷ []) ≡ hops_after p r front s ++ hop_of p r (front ++ s) n ∷ []
   hops_push front [] n = ap (λ w. hop_of p r w n ∷ []) (sym (append-nil front))
   hops_push front (m ∷ s) n =
-      ap (λ hops. hop_of p r front m ∷ hops) (hops_push (front ++ m ∷ []) s n ∙ ap (λ w. hops_behind p r (front ++ m ∷ []) s ++ hop_of p r w n ∷ []) (append_assoc front (m ∷ []) s))
+      ap (λ hops. hop_of p r front m ∷ hops) (hops_push (front ++ m ∷ []) s n ∙ ap (λ w. hops_after p r (front ++ m ∷ []) s ++ hop_of p r w n ∷ []) (append_assoc front (m ∷ []) s))
 
   -- one hop more
   pub way_push : (hops : List Hop) (n : ℕ) → IsWay p r hops → IsTrue (is_path p r (numbers_of hops ++ n ∷ [])) → IsWay p r (hops ++ hop_of p r (numbers_of hops) n ∷ [])
@@ -65,7 +65,7 @@ module _ (p : ContactPlan) (r : RouteRequest) where
         told =
             ap (λ w. w ++ hop_of p r (numbers_of hops) n ∷ []) way.told
             ∙ sym (hops_push [] (numbers_of hops) n)
-            ∙ ap (hops_behind p r []) (sym numbers);
+            ∙ ap (hops_after p r []) (sym numbers);
         path = subst (λ w. IsTrue (is_path p r w)) (sym numbers) longer;
       }
 
@@ -73,8 +73,8 @@ module _ (p : ContactPlan) (r : RouteRequest) where
   pub way_pop : (hops : List Hop) (h : Hop) → IsWay p r (hops ++ h ∷ []) → IsWay p r hops × (h ≡ hop_of p r (numbers_of hops) h.number)
   way_pop hops h way =
       let numbers = numbers_push hops h in
-      let both = same_push hops (hops_behind p r [] (numbers_of hops)) h (hop_of p r (numbers_of hops) h.number)
-      (way.told ∙ ap (hops_behind p r []) numbers ∙ hops_push [] (numbers_of hops) h.number) in (
+      let both = same_push hops (hops_after p r [] (numbers_of hops)) h (hop_of p r (numbers_of hops) h.number)
+      (way.told ∙ ap (hops_after p r []) numbers ∙ hops_push [] (numbers_of hops) h.number) in (
         record {
           told = both.0;
           path = beginning_is_path p r (numbers_of hops) (h.number ∷ []) (subst (λ w. IsTrue (is_path p r w)) numbers way.path);
@@ -101,19 +101,19 @@ module _ (p : ContactPlan) (r : RouteRequest) where
       (by_last hops)
 
   -- the nodes of hops are the receivers of their contacts
-  nodes_behind : (front s : List ℕ) → IsTrue (is_path p r (front ++ s)) → nodes_of (hops_behind p r front s) ≡ receivers p s
-  nodes_behind front [] path = refl
-  nodes_behind front (n ∷ s) path =
+  nodes_after : (front s : List ℕ) → IsTrue (is_path p r (front ++ s)) → nodes_of (hops_after p r front s) ≡ receivers p s
+  nodes_after front [] path = refl
+  nodes_after front (n ∷ s) path =
       let longer : IsTrue (is_path p r ((front ++ n ∷ []) ++ s)) = subst (λ w. IsTrue (is_path p r w)) (sym (append_assoc front (n ∷ []) s)) path in
       let hop = hop_facts p r front n (beginning_is_path p r (front ++ n ∷ []) s longer) in
       let here : unwrap_or (chain_end p r.source (front ++ n ∷ [])) 0 ≡ hop.contact.to = ap (λ o. unwrap_or o 0) (chain_end_push p r.source front n hop.contact hop.named hop.sent) in
-      ap (λ x. x ∷ nodes_of (hops_behind p r (front ++ n ∷ []) s)) here
-      ∙ ap (λ w. hop.contact.to ∷ w) (nodes_behind (front ++ n ∷ []) s longer)
+      ap (λ x. x ∷ nodes_of (hops_after p r (front ++ n ∷ []) s)) here
+      ∙ ap (λ w. hop.contact.to ∷ w) (nodes_after (front ++ n ∷ []) s longer)
       ∙ sym (receivers-cons p n s hop.contact hop.named)
 
   -- the nodes of a way are the receivers of its contacts
   pub nodes_are : (hops : List Hop) → IsWay p r hops → nodes_of hops ≡ receivers p (numbers_of hops)
-  nodes_are hops way = ap nodes_of way.told ∙ nodes_behind [] (numbers_of hops) way.path
+  nodes_are hops way = ap nodes_of way.told ∙ nodes_after [] (numbers_of hops) way.path
 
   -- what a hop over a contact comes to
   pub hop_is : (hops : List Hop) (n : ℕ) (hop : IsHop p r (numbers_of hops) n)

@@ -13,12 +13,12 @@ whole numbers zero = 1
 whole numbers (suc k) = numbers * whole numbers k + 1
 
 -- the steps after the list s, among lists of at most k numbers, from the number `low` on
-unfoldable pub left_behind : ℕ → ℕ → List ℕ → ℕ → ℕ
-left_behind numbers k [] low = (numbers - low) * whole numbers k
-left_behind numbers zero (n ∷ s) low = 0
-left_behind numbers (suc k) (n ∷ s) low = (numbers - (n + 1)) * whole numbers (suc k) + left_behind numbers k s low
+unfoldable pub left_after : ℕ → ℕ → List ℕ → ℕ → ℕ
+left_after numbers k [] low = (numbers - low) * whole numbers k
+left_after numbers zero (n ∷ s) low = 0
+left_after numbers (suc k) (n ∷ s) low = (numbers - (n + 1)) * whole numbers (suc k) + left_after numbers k s low
 
 -- the steps of a walk that stands after these hops
 abbrev pub steps_left : ContactPlan → RouteRequest → List Hop → Option ℕ → ℕ
-steps_left p r hops (Some low) = left_behind (p.greatest + 2) r.max_hops (numbers_of hops) low + 1
+steps_left p r hops (Some low) = left_after (p.greatest + 2) r.max_hops (numbers_of hops) low + 1
 steps_left p r hops None = 0

@@ -13,6 +13,10 @@ use Rattle.plain_listing.specs.Before.{routes_before}
 use Rattle.plain_listing.specs.Way.{IsWay, numbers_of, record_over}
 use Rattle.plain_listing.specs.Steps.{steps_left}
 
+-- the greatest number of routes of a page
+abbrev pub most_routes : ℕ
+most_routes = 10000
+
 -- the records of the first of the routes before this place
 abbrev pub first_before : ContactPlan → RouteRequest → ℕ → List ℕ → List RouteRecord
 first_before p r limit place = take limit (map (record_of p r) (routes_before p r place))
@@ -31,6 +35,10 @@ pub record IsWalk (p : ContactPlan) (r : RouteRequest) (limit : ℕ) (hops : Lis
 abbrev pub Stands : ContactPlan → RouteRequest → ℕ → List Hop → Option ℕ → List RouteRecord → Type 0
 Stands p r limit hops (Some low) kept = IsWalk p r limit hops low kept
 Stands p r limit hops None kept = kept ≡ take limit (map (record_of p r) (routes p r))
+
+-- a hop comes to the destination
+abbrev pub IsLast : RouteRequest → Hop → Type 0
+IsLast r hop = hop.stop.node ≡ r.destination
 
 -- a hop that doesn't come to the destination stands after the others, and any number may come next
 abbrev pub GoesOn : List Hop → Hop → List Hop → ℕ → Type 0

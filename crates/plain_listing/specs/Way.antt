@@ -28,9 +28,9 @@ abbrev pub next_hop : ContactPlan → RouteRequest → List Hop → ℕ → Opti
 next_hop p r hops n = if is_path p r (numbers_of hops ++ n ∷ []) then Some (hop_of p r (numbers_of hops) n) else None
 
 -- the hops over the contacts of s after those of `front`
-abbrev pub hops_behind : ContactPlan → RouteRequest → List ℕ → List ℕ → List Hop
-hops_behind p r front [] = []
-hops_behind p r front (n ∷ s) = hop_of p r front n ∷ hops_behind p r (front ++ n ∷ []) s
+abbrev pub hops_after : ContactPlan → RouteRequest → List ℕ → List ℕ → List Hop
+hops_after p r front [] = []
+hops_after p r front (n ∷ s) = hop_of p r front n ∷ hops_after p r (front ++ n ∷ []) s
 
 -- the nodes at which the hops arrive
 abbrev pub nodes_of : List Hop → List ℕ
@@ -38,7 +38,7 @@ nodes_of hops = map (λ h. h.stop.node) hops
 
 -- the hops are those of their numbers, which can begin a route
 pub record IsWay (p : ContactPlan) (r : RouteRequest) (hops : List Hop) : Type 0 where
-  pub told : hops ≡ hops_behind p r [] (numbers_of hops)
+  pub told : hops ≡ hops_after p r [] (numbers_of hops)
   pub path : IsTrue (is_path p r (numbers_of hops))
 
 -- where a way without hops ends: at the source

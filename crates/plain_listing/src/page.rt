@@ -3,6 +3,7 @@
 ghost use Rattle.std.specs.Prelude.{◌≡◌, ◌≤◌, map, take, length, nat_lt, IfOk};
 ghost use Rattle.sabr_model.specs.Listing.{routes, page_of};
 ghost use Rattle.sabr_model.specs.Record.{record_of};
+ghost use Rattle.plain_listing.specs.Walk.{most_routes};
 
 use crate::hop::Hop;
 use crate::kept::Kept;
@@ -52,7 +53,7 @@ pub fn first_routes<A: Allocator + Copy>(
     request: &Request,
     count: u32,
 ) -> Result<Page<A>, NoMemory>
-    requires { count ≤ 10000 }
+    requires { count ≤ most_routes }
     ensures routes { IfOk result (λ page. page.routes.items ≡ map (record_of plan.now.plan request.now) (page_of plan.now.plan request.now 0 count)) }
     ensures more { IfOk result (λ page. page.more ≡ nat_lt count (length (routes plan.now.plan request.now))) }
 {

@@ -4,7 +4,7 @@ ghost use Rattle.std.specs.Prelude.{◌≡◌, ◌≢◌, ◌≤◌, length, IfO
 ghost use Rattle.std.specs.List.Sorted.{IsStrictlySortedBy};
 ghost use Rattle.sabr_model.specs.Plan.{IsPlan, most_records};
 ghost use Rattle.sabr_model.specs.Record.{by_record};
-ghost use Rattle.plain_listing.specs.Walk.{IsWalk, IsMove, GoesOn, Arrives};
+ghost use Rattle.plain_listing.specs.Walk.{IsWalk, IsMove, IsLast, GoesOn, Arrives};
 
 use crate::hop::Hop;
 use crate::kept::Kept;
@@ -28,8 +28,8 @@ fn take_hop<A: Allocator + Copy>(
     ensures limit { kept.new.limit ≡ kept.old.limit }
     ensures onward { IfOk result (λ next. hop.stop.node ≢ request.now.destination → GoesOn hops.old.items hop hops.new.items next) }
     ensures onward_kept { IfOk result (λ next. hop.stop.node ≢ request.now.destination → kept.new.routes.items ≡ kept.old.routes.items) }
-    ensures back { IfOk result (λ next. hop.stop.node ≡ request.now.destination → hops.new.items ≡ hops.old.items) }
-    ensures route { IfOk result (λ next. hop.stop.node ≡ request.now.destination → Arrives plan.now.plan request.now kept.old.limit hops.old.items hop next kept.old.routes.items kept.new.routes.items) }
+    ensures back { IfOk result (λ next. IsLast request.now hop → hops.new.items ≡ hops.old.items) }
+    ensures route { IfOk result (λ next. IsLast request.now hop → Arrives plan.now.plan request.now kept.old.limit hops.old.items hop next kept.old.routes.items kept.new.routes.items) }
 {
     hops.push(hop)?;
     if hop.stop.node != request.to() {

@@ -26,7 +26,7 @@ use Rattle.sabr_frontier.specs.State.{PartState, pair_of, Member, leaves_of}
 use Rattle.sabr_frontier.specs.Formed.{IsClosed, InOrder, Within}
 use Rattle.sabr_frontier.specs.Owing.{Owing, onward, IsGood, Owes}
 use Rattle.sabr_frontier.specs.Leading.{AreOwed, AreSteps, IsLead, prefix_owed, step_of}
-use Rattle.sabr_frontier.specs.Loading.{comes_behind, may_carry, rise_strictly}
+use Rattle.sabr_frontier.specs.Loading.{comes_after, may_carry, rise_strictly}
 use Rattle.sabr_frontier.specs.Shape.{numbers_of}
 use Rattle.sabr_frontier.specs.Undo.{last_item, front}
 use Rattle.sabr_frontier.specs.Holding.{Holding, AreLent, IsAnswered, IsHeld, IsJudged, IsVerdict, held_then, is_due, is_least, is_paid, node_for, nothing_held, owed_in, owing, pairs_in, part_for, parts_in, parts_of}
@@ -73,8 +73,8 @@ rises_more (y ∷ F) z x h l = (
   rises_more F z x h.1 l,
 )
 
-order_more : (parts : List PartState) (t : PartState) → InOrder (map pair_of parts) → rise_strictly t.excluded ≡ true → comes_behind parts t.prefix ≡ true → InOrder (map pair_of parts ++ pair_of t ∷ [])
-order_more parts t h strictly behind = record {
+order_more : (parts : List PartState) (t : PartState) → InOrder (map pair_of parts) → rise_strictly t.excluded ≡ true → comes_after parts t.prefix ≡ true → InOrder (map pair_of parts ++ pair_of t ∷ [])
+order_more parts t h strictly after = record {
   by_prefix = subst (Rises by_numbers) (sym (map-append (λ (e : List ℕ × List ℕ). e.0) (map pair_of parts) (pair_of t ∷ []))) rising;
   numbers = λ p X m. elim (Member-append_cases (p, X) (map pair_of parts) (pair_of t ∷ []) m) [
     | inl n ↦ h.numbers p X n
@@ -97,7 +97,7 @@ order_more parts t h strictly behind = record {
           let same : keys parts ≡ keys (front parts) ++ z.prefix ∷ [] = ap keys split ∙ keys_more (front parts) z in
           subst (λ (k : List (List ℕ)). Rises by_numbers (k ++ t.prefix ∷ [])) (sym same)
           (rises_more (keys (front parts)) z.prefix t.prefix (subst (Rises by_numbers) same h.by_prefix) (less_from_test (by_numbers z.prefix t.prefix) k))
-    ] refl behind
+    ] refl after
 
 -- ---- parts by prefix and node
 
@@ -389,9 +389,9 @@ module _ (p : ContactPlan) (r : RouteRequest) where
           let w = and_parts (route s) (goes_on q X s) (sym (ap (λ o. option_map_or (Rattle.sabr_model.specs.Parts.in_part p r q X) o true) k) ∙ may) in
           (w.0, goes_on_within q X s w.1)
 
-      module _ (strictly : rise_strictly X ≡ true) (behind : comes_behind (parts_in h) q ≡ true) (may : may_carry p r (record { prefix = q; excluded = X; carried = carried }) ≡ true) where
+      module _ (strictly : rise_strictly X ≡ true) (after : comes_after (parts_in h) q ≡ true) (may : may_carry p r (record { prefix = q; excluded = X; carried = carried }) ≡ true) where
         ordered : InOrder (map pair_of (parts_of (h.prefixes ++ q ∷ []) (h.nodes ++ n ∷ [])))
-        ordered = subst InOrder (sym pairs_more) (order_more (parts_in h) (part_for q n) held.order strictly behind)
+        ordered = subst InOrder (sym pairs_more) (order_more (parts_in h) (part_for q n) held.order strictly after)
 
         counted : length (h.prefixes ++ q ∷ []) ≡ length (h.nodes ++ n ∷ [])
         counted = omega (arith, held.paired, length-append h.prefixes (q ∷ []), length-append h.nodes (n ∷ []))

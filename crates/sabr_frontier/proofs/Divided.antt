@@ -224,8 +224,8 @@ module _ {A : Type 0} (p : ContactPlan) (r : RouteRequest) (t : Shape A) (is : I
   not_before : (a : NodeId) → IsBefore t.leaves t.nodes a node → a.0 ≡ node.0 → ⊥
   not_before a h e = Less-apart nat_list_cmp_total (part node).prefix (ap (λ (z : NodeId). by_numbers (part z).prefix (part node).prefix) (sym (same_node a node e)) ∙ h)
 
-  not_behind : (a : NodeId) → IsBefore t.leaves t.nodes node a → a.0 ≡ node.0 → ⊥
-  not_behind a h e = Less-apart nat_list_cmp_total (part node).prefix (ap (λ (z : NodeId). by_numbers (part node).prefix (part z).prefix) (sym (same_node a node e)) ∙ h)
+  not_after : (a : NodeId) → IsBefore t.leaves t.nodes node a → a.0 ≡ node.0 → ⊥
+  not_after a h e = Less-apart nat_list_cmp_total (part node).prefix (ap (λ (z : NodeId). by_numbers (part node).prefix (part z).prefix) (sym (same_node a node e)) ∙ h)
 
   order_is : InPairs (IsBefore t.leaves t.nodes) ((F ++ node ∷ M) ++ B)
   order_is = subst (InPairs (IsBefore t.leaves t.nodes)) index_is order
@@ -239,11 +239,11 @@ module _ {A : Type 0} (p : ContactPlan) (r : RouteRequest) (t : Shape A) (is : I
   other_M : (id : NodeId) → Member id M → Member id t.index × (id.0 ≡ node.0 → ⊥)
   other_M id m = (
     member_taken k id t.index (front_in id (Member-append_right id F (node ∷ M) (inr m))),
-    not_behind id ((pairs_back (IsBefore t.leaves t.nodes) F (node ∷ M) order_front).0 id m),
+    not_after id ((pairs_back (IsBefore t.leaves t.nodes) F (node ∷ M) order_front).0 id m),
   )
 
   other_B : (id : NodeId) → Member id B → Member id t.index × (id.0 ≡ node.0 → ⊥)
-  other_B id m = (member_dropped k id t.index m, not_behind id (pair_across (IsBefore t.leaves t.nodes) (F ++ node ∷ M) B node id order_is (Member-append_right node F (node ∷ M) (inl refl)) m))
+  other_B id m = (member_dropped k id t.index m, not_after id (pair_across (IsBefore t.leaves t.nodes) (F ++ node ∷ M) B node id order_is (Member-append_right node F (node ∷ M) (inl refl)) m))
 
   abbrev ids : List NodeId
   ids = ids_from (length t.nodes) (length new)
@@ -252,11 +252,11 @@ module _ {A : Type 0} (p : ContactPlan) (r : RouteRequest) (t : Shape A) (is : I
   new_parts =
       let base : List (Node A) = modify (widened wide found) t.nodes node.0 in
       let long : length t.nodes ≡ length base = sym (length-modify (widened wide found) t.nodes node.0) in
-      let behind : drop (n.length + 1) s ≡ rest = (cut p r t is node n x stands carries).2.behind in
+      let after : drop (n.length + 1) s ≡ rest = (cut p r t is node n x stands carries).2.after in
       let all : x.contacts ≡ q0 ++ drop (n.length + 1) s = sym (take-append-drop (n.length + 1) s) in
       ap (λ m. map part' (ids_from m (length new))) long
       ∙ fresh_parts p r leaves' (length t.leaves) x (get_at_end t.leaves [] x) base q0 (drop (n.length + 1) s) (length new) all refl
-      ∙ (λ i. fresh (is_route p r) (least_in p r) (q_is i) (behind i))
+      ∙ (λ i. fresh (is_route p r) (least_in p r) (q_is i) (after i))
 
   parts_then : map part' (with_block k ids t.index) ≡ (map part F ++ wide_part ∷ map part M) ++ (fresh (is_route p r) (least_in p r) (pre ++ y ∷ []) rest ++ map part B)
   parts_then =

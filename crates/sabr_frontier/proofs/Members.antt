@@ -66,8 +66,8 @@ module _ {K : Type 0} {R : K → K → Ordering} (o : IsTotalOrder R) where
   Below-member x y (z ∷ zs) b (inr h) = Below-member x y zs b.1 h
 
   module _ {X : Type 0} (key : X → K) where
-    behind : (x : X) (e : X) (xs : List X) → Below R (key x) (map key xs) → Member e xs → R (key x) (key e) ≡ Less
-    behind x e xs b h = Below-member (key x) (key e) (map key xs) b (Member-map key e xs h)
+    after : (x : X) (e : X) (xs : List X) → Below R (key x) (map key xs) → Member e xs → R (key x) (key e) ≡ Less
+    after x e xs b h = Below-member (key x) (key e) (map key xs) b (Member-map key e xs h)
 
     -- lists that rise by a key and have the same members are equal
     pub same_by_members : (xs ys : List X) → Rises R (map key xs) → Rises R (map key ys) → ((e : X) → Member e xs → Member e ys) → ((e : X) → Member e ys → Member e xs) → xs ≡ ys
@@ -79,10 +79,10 @@ module _ {K : Type 0} {R : K → K → Ordering} (o : IsTotalOrder R) where
           | inl e ↦ e
           | inr m ↦ elim (g y (inl refl)) [
             | inl e ↦ sym e
-            | inr n ↦ absurd (Less-apart (key x) (o.trans (key x) (key y) (key x) (behind x y xs a.0 n) (behind y x ys b.0 m)))
+            | inr n ↦ absurd (Less-apart (key x) (o.trans (key x) (key y) (key x) (after x y xs a.0 n) (after y x ys b.0 m)))
           ]
         ] in
         let below : Below R (key x) (map key ys) = subst (λ z. Below R (key z) (map key ys)) (sym same) b.0 in
         λ i. same i ∷ same_by_members xs ys a.1 b.1
-        (λ e m. elim (f e (inr m)) [ inl h ↦ absurd (Less-apart (key x) (ap (λ z. R (key x) (key z)) (same ∙ sym h) ∙ behind x e xs a.0 m)) | inr h ↦ h ])
-        (λ e m. elim (g e (inr m)) [ inl h ↦ absurd (Less-apart (key x) (ap (λ z. R (key x) (key z)) (sym h) ∙ behind x e ys below m)) | inr h ↦ h ]) i
+        (λ e m. elim (f e (inr m)) [ inl h ↦ absurd (Less-apart (key x) (ap (λ z. R (key x) (key z)) (same ∙ sym h) ∙ after x e xs a.0 m)) | inr h ↦ h ])
+        (λ e m. elim (g e (inr m)) [ inl h ↦ absurd (Less-apart (key x) (ap (λ z. R (key x) (key z)) (sym h) ∙ after x e ys below m)) | inr h ↦ h ]) i

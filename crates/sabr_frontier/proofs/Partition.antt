@@ -10,7 +10,7 @@ use Rattle.std.proofs.lemmas.Bool.{or_parts}
 use Rattle.sabr_model.specs.Order.{put_in}
 use Rattle.sabr_frontier.specs.Rising.{has, Below, Rises}
 use Rattle.sabr_frontier.specs.State.{Member}
-use Rattle.sabr_frontier.specs.Taking.{passing, put_behind}
+use Rattle.sabr_frontier.specs.Taking.{passing, put_past}
 use Rattle.sabr_frontier.specs.Queue.{InPairs}
 use Rattle.sabr_frontier.proofs.Rising.{true_or_false}
 
@@ -23,10 +23,10 @@ module _ {X : Type 0} (test : X → Bool) where
       ap suc (passing_is xs i (omega arith) ((λ k d low high. h.0 (suc k) d (omega arith) (omega arith)), (λ k d low high. h.1 (suc k) d (omega arith) (omega arith))))
       ∙ ap (λ b. cond b (suc (passing test xs)) 0) (sym (h.0 0 x (omega arith) (omega arith)))
 
-  pub put_behind_at : (x : X) (xs : List X) → insert xs (passing test xs) x ≡ put_behind test x xs
-  put_behind_at x [] = refl
-  put_behind_at x (y ∷ ys) = elim (test y) as (λ b. insert (y ∷ ys) (cond b (suc (passing test ys)) 0) x ≡ cond b (y ∷ put_behind test x ys) (x ∷ y ∷ ys)) [
-    | true ↦ ap (λ z. y ∷ z) (put_behind_at x ys)
+  pub put_past_at : (x : X) (xs : List X) → insert xs (passing test xs) x ≡ put_past test x xs
+  put_past_at x [] = refl
+  put_past_at x (y ∷ ys) = elim (test y) as (λ b. insert (y ∷ ys) (cond b (suc (passing test ys)) 0) x ≡ cond b (y ∷ put_past test x ys) (x ∷ y ∷ ys)) [
+    | true ↦ ap (λ z. y ∷ z) (put_past_at x ys)
     | false ↦ refl
   ]
 
@@ -92,12 +92,12 @@ pub earlier_number : (x a b : ℕ) → nat_cmp a b ≡ Less → ltb b x ≡ true
 earlier_number x a b e t = grind (arith, nat_tests)
 
 -- a number that isn't there is inserted after the lesser ones
-pub put_in_number : (x : ℕ) (xs : List ℕ) → has nat_cmp x xs ≡ false → put_in nat_cmp x xs ≡ put_behind (λ y. ltb y x) x xs
+pub put_in_number : (x : ℕ) (xs : List ℕ) → has nat_cmp x xs ≡ false → put_in nat_cmp x xs ≡ put_past (λ y. ltb y x) x xs
 put_in_number x [] h = refl
-put_in_number x (y ∷ ys) h = elim (nat_cmp x y) as (λ r. nat_cmp x y ≡ r → elim r [ Less ↦ x ∷ y ∷ ys | Equal ↦ y ∷ ys | Greater ↦ y ∷ put_in nat_cmp x ys ] ≡ cond (ltb y x) (y ∷ put_behind (λ y. ltb y x) x ys) (x ∷ y ∷ ys)) [
-  | Less ↦ λ e. ap (λ b. cond b (y ∷ put_behind (λ y. ltb y x) x ys) (x ∷ y ∷ ys)) (sym (less_number x y e))
+put_in_number x (y ∷ ys) h = elim (nat_cmp x y) as (λ r. nat_cmp x y ≡ r → elim r [ Less ↦ x ∷ y ∷ ys | Equal ↦ y ∷ ys | Greater ↦ y ∷ put_in nat_cmp x ys ] ≡ cond (ltb y x) (y ∷ put_past (λ y. ltb y x) x ys) (x ∷ y ∷ ys)) [
+  | Less ↦ λ e. ap (λ b. cond b (y ∷ put_past (λ y. ltb y x) x ys) (x ∷ y ∷ ys)) (sym (less_number x y e))
   | Equal ↦ λ e. absurd (true≢false (sym (ap is_eq e) ∙ (or_parts (is_eq (nat_cmp x y)) (has nat_cmp x ys) h).0))
-  | Greater ↦ λ e. ap (λ z. y ∷ z) (put_in_number x ys (or_parts (is_eq (nat_cmp x y)) (has nat_cmp x ys) h).1) ∙ ap (λ b. cond b (y ∷ put_behind (λ y. ltb y x) x ys) (x ∷ y ∷ ys)) (sym (greater_number x y e))
+  | Greater ↦ λ e. ap (λ z. y ∷ z) (put_in_number x ys (or_parts (is_eq (nat_cmp x y)) (has nat_cmp x ys) h).1) ∙ ap (λ b. cond b (y ∷ put_past (λ y. ltb y x) x ys) (x ∷ y ∷ ys)) (sym (greater_number x y e))
 ] refl
 
 -- numbers of which each is below all that follow rise

@@ -13,7 +13,7 @@ pub record IsCut (s q : List ℕ) (y : ℕ) (rest : List ℕ) (d : ℕ) : Type 0
   pub front : take d s ≡ q
   pub number : get_or s d 0 ≡ y
   pub more : take (d + 1) s ≡ q ++ y ∷ []
-  pub behind : drop (d + 1) s ≡ rest
+  pub after : drop (d + 1) s ≡ rest
   pub inside : d < length s
 
 cut_whole : (q : List ℕ) (y : ℕ) (rest : List ℕ) → (take (length q) (q ++ y ∷ rest) ≡ q) × (get_or (q ++ y ∷ rest) (length q) 0 ≡ y) × (take (suc (length q)) (q ++ y ∷ rest) ≡ q ++ y ∷ []) × (drop (suc (length q)) (q ++ y ∷ rest) ≡ rest)
@@ -28,7 +28,7 @@ cut_at s q y rest d e l =
       front = (λ i. take (sym l i) (e i)) ∙ w.0;
       number = (λ i. get_or (e i) (sym l i) 0) ∙ w.1;
       more = (λ i. take (sym next i) (e i)) ∙ w.2;
-      behind = (λ i. drop (sym next i) (e i)) ∙ w.3;
+      after = (λ i. drop (sym next i) (e i)) ∙ w.3;
       inside = omega (arith, ap length e, length-append q (y ∷ rest));
     }
 

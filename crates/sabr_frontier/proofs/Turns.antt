@@ -5,7 +5,7 @@ use Rattle.std.proofs.lemmas.List.{take-take, drop-take, drop-drop, drop_at, dro
 
 -- of the front of old, what stands from e on was moved by `by` already, and what stands from s up to there is moved next
 module _ {X : Type 0} (old ids ys : List X) (by s e : ℕ) (long : length ids ≡ length old) (within : e + by ≤ length old) (ordered : s ≤ e)
-    (front : take e ids ≡ take e old) (behind : drop (e + by) ids ≡ drop e (take (length old - by) old))
+    (front : take e ids ≡ take e old) (after : drop (e + by) ids ≡ drop e (take (length old - by) old))
     (copied : ys ≡ take by (mid_of s (e + by - s) ids) ++ take (length (mid_of s (e + by - s) ids) - by) (mid_of s (e + by - s) ids)) where
   abbrev pub k : ℕ
   k = e + by - s
@@ -37,8 +37,8 @@ module _ {X : Type 0} (old ids ys : List X) (by s e : ℕ) (long : length ids �
   abbrev pub whole : List X
   whole = take (length old - by) old
 
-  pub behind_moved : drop (s + by) (put_mid s k ids ys) ≡ drop s whole
-  behind_moved =
+  pub after_moved : drop (s + by) (put_mid s k ids ys) ≡ drop s whole
+  after_moved =
       let post = drop k (drop s ids) in
       let first : drop s (put_mid s k ids ys) ≡ ys ++ post = drop_at (take s ids) (ys ++ post) s (length-take-le s ids (omega (arith, long))) in
       let rest : drop by (ys ++ post) ≡ moved ++ post = ap (λ z. drop by (z ++ post)) copied ∙ ap (drop by) (append_assoc gap moved post) ∙ drop_at gap (moved ++ post) by gap_long in
@@ -46,6 +46,6 @@ module _ {X : Type 0} (old ids ys : List X) (by s e : ℕ) (long : length ids �
       let kept : take e old ≡ take e whole = sym (take-take e (length old - by) old (omega arith)) in
       let piece : moved ≡ drop s (take e whole) =
       ap (λ n. take n part) count ∙ take-take (e - s) k (drop s ids) (omega arith) ∙ sym (drop-take s (e - s) ids) ∙ ap (λ n. drop s (take n ids)) (omega arith) ∙ ap (drop s) (front ∙ kept) in
-      let end : post ≡ drop e whole = drop-drop k s ids ∙ ap (λ n. drop n ids) (omega arith) ∙ behind in
+      let end : post ≡ drop e whole = drop-drop k s ids ∙ ap (λ n. drop n ids) (omega arith) ∙ after in
       let short : s ≤ length (take e whole) = omega (arith, length-take-le e whole (omega (arith, length-take-le (length old - by) old (omega arith))), ordered) in
       sym (drop-drop by s (put_mid s k ids ys)) ∙ ap (drop by) first ∙ rest ∙ (λ i. piece i ++ end i) ∙ sym (drop-append-le s (take e whole) (drop e whole) short) ∙ ap (drop s) (take-append-drop e whole)

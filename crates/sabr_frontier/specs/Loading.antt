@@ -13,6 +13,7 @@ use Rattle.sabr_frontier.specs.Rising.{has}
 use Rattle.sabr_frontier.specs.State.{PartState, State, pair_of}
 use Rattle.sabr_frontier.specs.Formed.{IsClosed}
 use Rattle.sabr_frontier.specs.Listing.{IsState, leaves_in}
+use Rattle.sabr_frontier.specs.Session.{Seen}
 use Rattle.sabr_frontier.specs.Undo.{last_item}
 
 -- what callers see of a loader: the plan, the request, the parts so far, and how often the finder was called
@@ -30,8 +31,8 @@ rise_strictly [] = true
 rise_strictly (x ∷ xs) = rises_above x xs
 
 -- the prefix comes after that of the last part
-abbrev pub comes_behind : List PartState → List ℕ → Bool
-comes_behind parts q = option_map_or (λ t. numbers_before t.prefix q) (last_item parts) true
+abbrev pub comes_after : List PartState → List ℕ → Bool
+comes_after parts q = option_map_or (λ t. numbers_before t.prefix q) (last_item parts) true
 
 -- what the part carries, if anything, is a route of the part
 abbrev pub may_carry : ContactPlan → RouteRequest → PartState → Bool
@@ -40,7 +41,7 @@ may_carry p r t = option_map_or (in_part p r t.prefix t.excluded) t.carried true
 -- the reason why a part is refused after others, the first that holds
 abbrev pub part_refusal : ContactPlan → RouteRequest → List PartState → PartState → Option LoadFault
 part_refusal p r parts t =
-    if not (rise_strictly t.excluded && comes_behind parts t.prefix) then Some BadOrder
+    if not (rise_strictly t.excluded && comes_after parts t.prefix) then Some BadOrder
     else if not (may_carry p r t) then Some BadRoute
     else None
 
@@ -53,6 +54,10 @@ with_part l t = record l { parts = l.parts ++ t ∷ [] }
 -- the state of these parts
 abbrev pub state_with : List PartState → ℕ → List ℕ → State
 state_with parts emitted last = record { emitted = emitted; last = last; parts = parts }
+
+-- what callers see of the session over a loader's parts, after so many routes and this last one
+abbrev pub session_with : Loaded → ℕ → List ℕ → Seen
+session_with l emitted last = record { plan = l.plan; request = l.request; state = state_with l.parts emitted last; former = []; searches = 0; calls = l.calls }
 
 -- its pairs are closed
 abbrev pub IsClosedState : ContactPlan → RouteRequest → State → Type 0

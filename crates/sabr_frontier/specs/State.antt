@@ -10,6 +10,10 @@ pub record PartState : Type 0 where
   pub excluded : List ℕ
   pub carried : Option (List ℕ)
 
+-- the part of this prefix, these excluded numbers, and this route that it carries, if any
+abbrev pub part_with : List ℕ → List ℕ → Option (List ℕ) → PartState
+part_with prefix excluded carried = record { prefix = prefix; excluded = excluded; carried = carried }
+
 -- the number of routes that were given, the last of them (empty if there is none), and the parts, rising by prefix
 pub record State : Type 0 where
   pub emitted : ℕ

@@ -16,9 +16,9 @@ use Rattle.sabr_frontier.specs.Best.{best_of}
 -- ---- places in lists
 
 -- x after those in front that pass the test
-abbrev pub put_behind : {X : Type 0} → (X → Bool) → X → List X → List X
-put_behind test x [] = x ∷ []
-put_behind test x (y ∷ ys) = if test y then y ∷ put_behind test x ys else x ∷ y ∷ ys
+abbrev pub put_past : {X : Type 0} → (X → Bool) → X → List X → List X
+put_past test x [] = x ∷ []
+put_past test x (y ∷ ys) = if test y then y ∷ put_past test x ys else x ∷ y ∷ ys
 
 -- how many in front pass the test
 abbrev pub passing : {X : Type 0} → (X → Bool) → List X → ℕ

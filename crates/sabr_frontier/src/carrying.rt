@@ -10,6 +10,7 @@ ghost use Rattle.sabr_model.specs.Record.{record_of};
 ghost use Rattle.sabr_model.specs.Route.{is_route};
 ghost use Rattle.sabr_frontier.specs.Leading.{IsLead};
 ghost use Rattle.sabr_frontier.specs.Loading.{IsCarryFault, may_carry};
+ghost use Rattle.sabr_frontier.specs.State.{part_with};
 
 use crate::leading::Lead;
 use crate::load_fault::LoadFault;
@@ -74,8 +75,8 @@ pub fn carried<A: Allocator + Copy>(
 ) -> Result<Option<Route<A>>, LoadFault>
     requires { IfSome lead (IsLead question.now.plan.now.plan question.now.request prefix.now) }
     ensures ok { IfOk result (λ o. o ≡ option_map (record_of question.now.plan.now.plan question.now.request) (option_copied route.entry)) }
-    ensures may { OnOk result (may_carry question.now.plan.now.plan question.now.request (record { prefix = prefix.now; excluded = excluded.now; carried = option_copied route.entry }) ≡ true) }
-    ensures err { IfErr result (IsCarryFault (may_carry question.now.plan.now.plan question.now.request (record { prefix = prefix.now; excluded = excluded.now; carried = option_copied route.entry }))) }
+    ensures may { OnOk result (may_carry question.now.plan.now.plan question.now.request (part_with prefix.now excluded.now (option_copied route.entry)) ≡ true) }
+    ensures err { IfErr result (IsCarryFault (may_carry question.now.plan.now.plan question.now.request (part_with prefix.now excluded.now (option_copied route.entry)))) }
 {
     let Some(route) = route else {
         return Ok(None);

@@ -5,7 +5,7 @@ ghost use Rattle.std.specs.Option.{option_map_or};
 ghost use Rattle.sabr_model.specs.Order.{numbers_before};
 ghost use Rattle.sabr_frontier.specs.Shape.{shape_of};
 ghost use Rattle.sabr_frontier.specs.Undo.{IsIndexed, IsRoomy, front, last_item};
-ghost use Rattle.sabr_frontier.specs.Loading.{comes_behind, rise_strictly};
+ghost use Rattle.sabr_frontier.specs.Loading.{comes_after, rise_strictly};
 ghost use Rattle.sabr_frontier.specs.Leading.{AreOwed, IsLead};
 ghost use Rattle.sabr_frontier.specs.Holding.{HasPlaces, IsLastPlace, IsTakenIn, IsVerdict, IsWrongLast, held_then, holding_of, is_due, is_paid, last_prefix, loaded_tree, nothing_held, parts_in, with_node};
 
@@ -83,7 +83,7 @@ impl<A: Allocator + Copy> Held<A> {
     }
 
     /// Returns true if a prefix comes after the last.
-    fn comes_behind(&self, prefix: &[u32]) -> bool
+    fn comes_after(&self, prefix: &[u32]) -> bool
         ensures { result ≡ option_map_or (λ q. numbers_before q prefix.now) (last_prefix (holding_of self.now)) true }
     {
         self.nodes.is_empty() || self.last.as_slice().cmp(prefix) == Ordering::Less
@@ -94,12 +94,12 @@ impl<A: Allocator + Copy> Held<A> {
     pub fn is_next(&self, prefix: &[u32], excluded: &[u32]) -> bool
         requires paired { length self.now.prefixes.items ≡ length self.now.nodes.items }
         requires last { last_item self.now.prefixes.items ≡ last_prefix (holding_of self.now) }
-        ensures { result ≡ (rise_strictly excluded.now && comes_behind (parts_in (holding_of self.now)) prefix.now) }
+        ensures { result ≡ (rise_strictly excluded.now && comes_after (parts_in (holding_of self.now)) prefix.now) }
     {
         if !rise(excluded) {
             return false;
         }
-        self.comes_behind(prefix)
+        self.comes_after(prefix)
     }
 
     /// Returns where a prefix leads if it is the least that is owed, or none. The first that is owed is empty.

@@ -5,7 +5,8 @@ ghost use Rattle.std.specs.Option.{option_copied};
 ghost use Rattle.sabr_frontier.specs.declared.load_fault.LoadFault.{LoadFault};
 ghost use Rattle.sabr_frontier.specs.declared.load_fault.LoadFault.TheVariants as load;
 ghost use Rattle.sabr_frontier.specs.Listing.{IsState};
-ghost use Rattle.sabr_frontier.specs.Loading.{IsRefusedBy, part_refusal, state_with, with_part};
+ghost use Rattle.sabr_frontier.specs.Loading.{IsRefusedBy, part_refusal, session_with, state_with, with_part};
+ghost use Rattle.sabr_frontier.specs.State.{part_with};
 
 use crate::asker::Asker;
 use crate::carrying::carried;
@@ -78,9 +79,9 @@ impl<'p, B: BestOf<A>, A: Allocator + Copy> Loader<'p, B, A> {
         excluded: &[u32],
         route: Option<&[u32]>,
     ) -> Result<(), LoadFault>
-        ensures refused { (f : LoadFault) → part_refusal self.old.plan.plan self.old.request self.old.parts (record { prefix = prefix.now; excluded = excluded.now; carried = option_copied route.entry }) ≡ Some f → result ≡ Err f }
-        ensures accepted { part_refusal self.old.plan.plan self.old.request self.old.parts (record { prefix = prefix.now; excluded = excluded.now; carried = option_copied route.entry }) ≡ None → IsOkUnless result load.NoMemory }
-        ensures ok { OnOk result (self.new ≡ with_part self.old (record { prefix = prefix.now; excluded = excluded.now; carried = option_copied route.entry })) }
+        ensures refused { (f : LoadFault) → part_refusal self.old.plan.plan self.old.request self.old.parts (part_with prefix.now excluded.now (option_copied route.entry)) ≡ Some f → result ≡ Err f }
+        ensures accepted { part_refusal self.old.plan.plan self.old.request self.old.parts (part_with prefix.now excluded.now (option_copied route.entry)) ≡ None → IsOkUnless result load.NoMemory }
+        ensures ok { OnOk result (self.new ≡ with_part self.old (part_with prefix.now excluded.now (option_copied route.entry))) }
         ensures err { OnErr result (self.new ≡ self.old) }
     {
         if !self.held.is_next(prefix, excluded) {
@@ -109,7 +110,7 @@ impl<'p, B: BestOf<A>, A: Allocator + Copy> Loader<'p, B, A> {
     /// of their leaves, or `last` isn't one of them, or isn't empty if there is none. Else [`LoadFault::NoMemory`] if a
     /// growth was refused. The loader is dropped with its finder.
     pub fn finish(self, emitted: u128, last: &[u32]) -> Result<Session<'p, B, A>, LoadFault>
-        ensures ok { IfOk result (λ s. s ≡ record { plan = self.entry.plan; request = self.entry.request; state = state_with self.entry.parts emitted last.now; former = []; searches = 0; calls = self.entry.calls }) }
+        ensures ok { IfOk result (λ s. s ≡ session_with self.entry emitted last.now) }
         ensures formed { OnOk result (IsState self.entry.plan.plan self.entry.request (state_with self.entry.parts emitted last.now)) }
         ensures err { IfErr result (IsRefusedBy self.entry.plan.plan self.entry.request (state_with self.entry.parts emitted last.now)) }
     {

@@ -22,7 +22,7 @@ fn copy_up(ids: &mut [NodeId], by: usize, room: &mut [NodeId; 256])
 /// Moves all but the last `by` nodes of a list `by` places on. What stands in front of them then is left open.
 pub fn shift_up(ids: &mut [NodeId], by: usize)
     requires within { by ≤ length ids.old }
-    ensures behind { drop by ids.new ≡ take (length ids.old - by) ids.old }
+    ensures after { drop by ids.new ≡ take (length ids.old - by) ids.old }
     ensures len { length ids.new ≡ length ids.old }
 {
     let mut room = [NodeId(0); 256];

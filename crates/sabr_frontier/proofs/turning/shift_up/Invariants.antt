@@ -6,7 +6,7 @@ invariant-loop-end l = record {
   long : length l.ids ≡ length l.fn.ids;
   within : l.end + l.by ≤ length l.fn.ids;
   front : take l.end l.ids ≡ take l.end l.fn.ids;
-  behind : drop (l.end + l.by) l.ids ≡ drop l.end (take (length l.fn.ids - l.by) l.fn.ids);
+  after : drop (l.end + l.by) l.ids ≡ drop l.end (take (length l.fn.ids - l.by) l.fn.ids);
 }
 
 abbrev pub decreases-loop-end : goal.decreases-loop-end

@@ -4,7 +4,7 @@ use Rattle.std.specs.Prelude.{Result}
 use Rattle.std.specs.Option.{option_copied}
 use Rattle.sabr_frontier.specs.declared.load_fault.LoadFault.{LoadFault}
 use Rattle.sabr_frontier.specs.declared.load_fault.LoadFault.TheVariants as load
-use Rattle.sabr_frontier.specs.Loading.{Loaded, comes_behind, part_refusal, rise_strictly, with_part}
+use Rattle.sabr_frontier.specs.Loading.{Loaded, comes_after, part_refusal, rise_strictly, with_part}
 use Rattle.sabr_frontier.specs.State.{PartState}
 use Rattle.sabr_frontier.specs.Holding.{IsHeld, holding_of, loaded, parts_in}
 use Rattle.sabr_frontier.proofs.Answering.{held_more, parts_then}
@@ -74,7 +74,7 @@ invariant_of-self-2 g c =
     let parts = parts_in h in
     let q = c.args.prefix.now in
     let X = c.args.excluded.now in
-    let next = and_parts (rise_strictly X) (comes_behind parts q) (sym c.is_next.ensures ∙ c.if-not-is_next.false) in
+    let next = and_parts (rise_strictly X) (comes_after parts q) (sym c.is_next.ensures ∙ c.if-not-is_next.false) in
     let w = c.in-Ok-taken.ensures.ok in
     record {
       rules = c.self.invariant.rules;
