@@ -6,7 +6,7 @@ use Rattle.sabr_plan.proofs.Held.{one_line-append}
 use Rattle.sabr_plan.proofs.Lines.{lines_of-one, lines_of-line}
 use Rattle.sabr_session.specs.declared.session_fault.SessionFault.{SessionFault}
 use Rattle.sabr_session.specs.declared.session_fault.SessionFault.TheVariants as fault
-use Rattle.sabr_session.specs.SessionRead.{Said, misspelled, read_line, is_behind, last_line}
+use Rattle.sabr_session.specs.SessionRead.{Said, misspelled, read_line, is_after, last_line}
 use Rattle.sabr_frontier.specs.Session.{Seen}
 use Rattle.sabr_session.specs.SessionFed.{SessionFed, IsSessionFrom, OpenText, outcome, outcome_of, is_bad_front, GoesOn, IsRefusedPiece, weight}
 use Rattle.sabr_session.specs.SessionLeaving.{Leaves}
@@ -34,8 +34,8 @@ module _ (old : OpenText) (piece : List ℕ) (t : OpenText) (rest : List ℕ) (t
       inr (line_not_read _ _ _ _ _ f e, line_refused old.plan.plan (digest_of old.plan.plan) old.fed piece t.fed rest taken.same held front back one parted f e)
 
   -- what is open after it
-  open_behind : (front back : List ℕ) → is_one_line front ≡ true → rest ≡ front ++ 10 ∷ back → (lines_of (t.fed.held ++ rest)).open_line ≡ (lines_of back).open_line
-  open_behind front back one parted =
+  open_after : (front back : List ℕ) → is_one_line front ≡ true → rest ≡ front ++ 10 ∷ back → (lines_of (t.fed.held ++ rest)).open_line ≡ (lines_of back).open_line
+  open_after front back one parted =
       let line = t.fed.held ++ front in
       let whole : is_one_line line ≡ true = one_line-append t.fed.held front held one in
       let bytes : t.fed.held ++ rest ≡ line ++ 10 ∷ back = ap (λ (b : List ℕ). t.fed.held ++ b) parted ∙ sym (append_assoc t.fed.held front (10 ∷ back)) in
@@ -49,7 +49,7 @@ module _ (old : OpenText) (piece : List ℕ) (t : OpenText) (rest : List ℕ) (t
     plan = plan ∙ taken.plan;
     calls = calls ∙ taken.calls;
     same = line_read old.plan.plan (digest_of old.plan.plan) old.fed piece t.fed rest taken.same held front back one parted new.fed (rw (← taken.plan) is) lines none;
-    held = taken.held ∙ open_behind front back one parted ∙ ap (λ (b : List ℕ). (lines_of (b ++ back)).open_line) (sym none);
+    held = taken.held ∙ open_after front back one parted ∙ ap (λ (b : List ℕ). (lines_of (b ++ back)).open_line) (sym none);
     grows = omega (arith, taken.grows, lines, ap length none, ap length parted, length-append front (10 ∷ back));
   }
 
@@ -82,17 +82,17 @@ module _ (old : OpenText) (piece : List ℕ) (t : OpenText) (rest : List ℕ) (t
 
 module _ (s : OpenText) (one : is_one_line s.fed.held ≡ true) where
   -- a text that ends before the LF of `end` is refused
-  pub ended_early : (f : SessionFault) (answer : Result Seen SessionFault) → is_behind (s.fed.lines + 1) s.fed.said ≡ false → f ≡ misspelled (s.fed.lines + 1) → answer ≡ Err f → IsSessionFrom s.plan (outcome_of s [] true) answer
+  pub ended_early : (f : SessionFault) (answer : Result Seen SessionFault) → is_after (s.fed.lines + 1) s.fed.said ≡ false → f ≡ misspelled (s.fed.lines + 1) → answer ≡ Err f → IsSessionFrom s.plan (outcome_of s [] true) answer
   ended_early f answer before is told =
       let p = s.plan.plan in
       let end : last_line true (s.fed.lines + 1) s.fed.held s.fed.said ≡ Err (misspelled (s.fed.lines + 1)) = rw before refl in
       rw (told, is, outcome-end p (digest_of p) s.fed true one, end) (inr refl)
 
   -- after it the text says what its lines say
-  pub ended_well : (answer : Result Seen SessionFault) → is_behind (s.fed.lines + 1) s.fed.said ≡ true → (is_behind (s.fed.lines + 1) s.fed.said && has_bytes s.fed.held) ≡ false
+  pub ended_well : (answer : Result Seen SessionFault) → is_after (s.fed.lines + 1) s.fed.said ≡ true → (is_after (s.fed.lines + 1) s.fed.said && has_bytes s.fed.held) ≡ false
       → IsSessionFrom s.plan (Ok s.fed.said) answer → IsSessionFrom s.plan (outcome_of s [] true) answer
-  ended_well answer behind none from =
+  ended_well answer after none from =
       let p = s.plan.plan in
-      let empty : has_bytes s.fed.held ≡ false = rw behind at none in
-      let end : last_line true (s.fed.lines + 1) s.fed.held s.fed.said ≡ Ok s.fed.said = rw (behind, empty) refl in
+      let empty : has_bytes s.fed.held ≡ false = rw after at none in
+      let end : last_line true (s.fed.lines + 1) s.fed.held s.fed.said ≡ Ok s.fed.said = rw (after, empty) refl in
       rw (outcome-end p (digest_of p) s.fed true one, end) from

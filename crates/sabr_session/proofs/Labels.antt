@@ -3,7 +3,7 @@ use Rattle.std.proofs.Common.{◌≡◌, ℕ, ◌<◌, Bool, true, false, cond, 
 use Rattle.std.specs.Str.{bytes_eq}
 use Rattle.std.proofs.lemmas.Slice.Eq.{bytes_eq-Decides}
 use Rattle.std.specs.declared.option.Option.TheVariants.{Some, None}
-use Rattle.sabr_session.specs.SessionLines.{behind_label}
+use Rattle.sabr_session.specs.SessionLines.{after_label}
 
 short : (label text : List ℕ) → length text < length label → bytes_eq (take (length label) text) label ≡ false
 short label text h = by_test (bytes_eq (take (length label) text) label) refl
@@ -15,11 +15,11 @@ short label text h = by_test (bytes_eq (take (length label) text) label) refl
         absurd (omega (arith, ap length same, length-take (length label) text, h))
 
 -- a short text doesn't begin with the label
-pub label-short : (label text : List ℕ) → length text < length label → behind_label label text ≡ None
-unfolding behind_label
+pub label-short : (label text : List ℕ) → length text < length label → after_label label text ≡ None
+unfolding after_label
 label-short label text h = rw (short label text h) refl
 
 -- what the text begins with
-pub label-front : (label text front back : List ℕ) (b : Bool) → front ≡ take (length label) text → back ≡ drop (length label) text → bytes_eq front label ≡ b → behind_label label text ≡ cond b (Some back) None
-unfolding behind_label
+pub label-front : (label text front back : List ℕ) (b : Bool) → front ≡ take (length label) text → back ≡ drop (length label) text → bytes_eq front label ≡ b → after_label label text ≡ cond b (Some back) None
+unfolding after_label
 label-front label text front back b f d e = rw (← f, e, ← d) refl

@@ -14,7 +14,7 @@ use Rattle.sabr_session.specs.SpacedNumbers.{list_text}
 use Rattle.sabr_session.specs.SessionText.{part_line}
 use Rattle.sabr_session.specs.SessionWords.{words_of, contacts_of, nodes_of, is_slash, before_slash, after_slash}
 use Rattle.sabr_plan.specs.Numbers.{number_within}
-use Rattle.sabr_session.specs.SessionLines.{behind_label, header_of, is_digest, digest_named, four_of, unlimited_of, limited_of, values_of, request_of, emitted_of, last_listed, count_of, carried_of, lists_of, part_of, is_end}
+use Rattle.sabr_session.specs.SessionLines.{after_label, header_of, is_digest, digest_named, four_of, unlimited_of, limited_of, values_of, request_of, emitted_of, last_listed, count_of, carried_of, lists_of, part_of, is_end}
 use Rattle.sabr_session.specs.SessionRead.{Said, same_plan, spelled_at, asked, digest_said}
 use Rattle.sabr_session.specs.declared.reading.first_lines.Version.{Version}
 use Rattle.sabr_session.specs.declared.reading.first_lines.Version.TheVariants.{One, Two}
@@ -25,8 +25,8 @@ use Rattle.sabr_plan.proofs.SpelledNumbers.{number_within-range}
 use Rattle.sabr_session.proofs.WordsTold.{joined, words-joined, number_told, list_told, list_has_word, slash_joined}
 
 -- a line after its label
-pub label_told : (label line rest : List ℕ) → behind_label label line ≡ Some rest → line ≡ label ++ rest
-unfolding behind_label
+pub label_told : (label line rest : List ℕ) → after_label label line ≡ Some rest → line ≡ label ++ rest
+unfolding after_label
 label_told label line rest e =
     let h = test_some (bytes_eq (take (length label) line) label) (drop (length label) line) rest e in
     let front : take (length label) line ≡ label = (bytes_eq-Decides (take (length label) line) label).0 h.0 in
@@ -49,7 +49,7 @@ header_told line v e = by_tests (bytes_eq line (codes "cgr-session 2")) refl (by
 named_told : (line digits : List ℕ) → digest_named line ≡ Some digits → line ≡ codes "plan " ++ digits
 unfolding digest_named
 named_told line digits e =
-    let h = and_then_some (λ (text : List ℕ). cond (is_digest text) (Some text) None) (behind_label (codes "plan ") line) digits e in
+    let h = and_then_some (λ (text : List ℕ). cond (is_digest text) (Some text) None) (after_label (codes "plan ") line) digits e in
     label_told (codes "plan ") line h.0 h.1 ∙ ap (λ (t : List ℕ). codes "plan " ++ t) (test_some (is_digest h.0) h.0 digits h.2).1
 
 same_plan_told : (h : List ℕ) (s t : Said) (digits : List ℕ) → same_plan h s digits ≡ Ok t → (digits ≡ encode_lower h) × (t ≡ s)
@@ -151,7 +151,7 @@ limited_told (from ∷ to ∷ time ∷ margin ∷ hops ∷ slash ∷ nodes) v e 
 pub request_told : (version : Version) (line : List ℕ) (v : RequestValues) → request_of version line ≡ Some v → (line ≡ codes "request " ++ values_text version v) × IsOfVersion version v
 unfolding request_of
 request_told version line v e =
-    let h = and_then_some (λ (text : List ℕ). values_of version (words_of text)) (behind_label (codes "request ") line) v e in
+    let h = and_then_some (λ (text : List ℕ). values_of version (words_of text)) (after_label (codes "request ") line) v e in
     let told = by_version version (words_of h.0) h.2 in
     (label_told (codes "request ") line h.0 h.1 ∙ ap (λ (t : List ℕ). codes "request " ++ t) (sym (words-joined h.0) ∙ told.0), told.1)
   where
@@ -174,19 +174,19 @@ asked_told v r e = by_test (is_some (request_refusal v.from v.to v.at v.margin_p
 pub emitted_told : (line : List ℕ) (n : ℕ) → emitted_of line ≡ Some n → line ≡ codes "emitted " ++ decimal n
 unfolding emitted_of
 emitted_told line n e =
-    let h = and_then_some (number_within 0 340282366920938463463374607431768211455) (behind_label (codes "emitted ") line) n e in
+    let h = and_then_some (number_within 0 340282366920938463463374607431768211455) (after_label (codes "emitted ") line) n e in
     label_told (codes "emitted ") line h.0 h.1 ∙ ap (λ (t : List ℕ). codes "emitted " ++ t) (number_told 0 340282366920938463463374607431768211455 h.0 n h.2)
 
 pub last_told : (line ns : List ℕ) → last_listed line ≡ Some ns → line ≡ codes "last " ++ list_text ns
 unfolding last_listed
 last_told line ns e =
-    let h = and_then_some (λ (text : List ℕ). contacts_of (words_of text)) (behind_label (codes "last ") line) ns e in
+    let h = and_then_some (λ (text : List ℕ). contacts_of (words_of text)) (after_label (codes "last ") line) ns e in
     label_told (codes "last ") line h.0 h.1 ∙ ap (λ (t : List ℕ). codes "last " ++ t) (sym (words-joined h.0) ∙ list_told 20000 1 4294967295 (words_of h.0) ns h.2)
 
 pub count_told : (line : List ℕ) (n : ℕ) → count_of line ≡ Some n → (line ≡ codes "parts " ++ decimal n) × (n ≤ 18446744073709551615)
 unfolding count_of
 count_told line n e =
-    let h = and_then_some (number_within 0 18446744073709551615) (behind_label (codes "parts ") line) n e in (
+    let h = and_then_some (number_within 0 18446744073709551615) (after_label (codes "parts ") line) n e in (
       label_told (codes "parts ") line h.0 h.1 ∙ ap (λ (t : List ℕ). codes "parts " ++ t) (number_told 0 18446744073709551615 h.0 n h.2),
       (number_within-range 0 18446744073709551615 h.0 n h.2).1,
     )
@@ -224,7 +224,7 @@ lists_told words t e =
 pub part_told : (line : List ℕ) (t : PartState) → part_of line ≡ Some t → line ++ 10 ∷ [] ≡ part_line t
 unfolding part_of
 part_told line t e =
-    let h = and_then_some (λ (text : List ℕ). lists_of (words_of text)) (behind_label (codes "part ") line) t e in
+    let h = and_then_some (λ (text : List ℕ). lists_of (words_of text)) (after_label (codes "part ") line) t e in
     let told : line ≡ codes "part " ++ lists_text t = label_told (codes "part ") line h.0 h.1 ∙ ap (λ (u : List ℕ). codes "part " ++ u) (sym (words-joined h.0) ∙ lists_told (words_of h.0) t h.2) in
     ap (λ (u : List ℕ). u ++ 10 ∷ []) told ∙ simp append_assoc
 

@@ -12,7 +12,7 @@ use Rattle.sabr_plan.specs.Steps.{and_then, given_as}
 use Rattle.sabr_plan.specs.Words.{has_bytes, lines_of}
 use Rattle.sabr_frontier.specs.State.{PartState}
 use Rattle.sabr_session.specs.SessionLines.{header_of, digest_named, request_of, emitted_of, last_listed, count_of, part_of, is_end}
-use Rattle.sabr_session.specs.SessionRead.{Said, nothing_said, misspelled, spelled_at, same_plan, asked, rise_strictly, comes_behind, may_carry, placed, line_said, read_line, read_lines, is_behind, last_line, said_of}
+use Rattle.sabr_session.specs.SessionRead.{Said, nothing_said, misspelled, spelled_at, same_plan, asked, rise_strictly, comes_after, may_carry, placed, line_said, read_line, read_lines, is_after, last_line, said_of}
 use Rattle.sabr_model.specs.declared.request_values.RequestValues.{RequestValues}
 use Rattle.sabr_session.specs.declared.session_fault.SessionFault.{SessionFault}
 use Rattle.sabr_session.specs.declared.session_fault.SessionFault.TheVariants as fault
@@ -53,7 +53,7 @@ placed_not : (p : ContactPlan) (n : ℕ) (s : Said) (t : PartState) → NotRead 
 placed_not p n s t =
     let added : Result Said SessionFault = Ok (record s { parts = s.parts ++ t ∷ [] }) in
     let judged : Result Said SessionFault = if not (may_carry p s.request t) then Err (fault.BadRoute n) else added in
-    if_not (not (rise_strictly t.excluded && comes_behind s.parts t.prefix)) (Err (fault.BadLine n)) judged (λ e. cc) (if_not (not (may_carry p s.request t)) (Err (fault.BadRoute n)) added (λ e. cc) tt)
+    if_not (not (rise_strictly t.excluded && comes_after s.parts t.prefix)) (Err (fault.BadLine n)) judged (λ e. cc) (if_not (not (may_carry p s.request t)) (Err (fault.BadRoute n)) added (λ e. cc) tt)
 
 line_not : (p : ContactPlan) (h : List ℕ) (n : ℕ) (s : Said) (line : List ℕ) → NotRead (line_said p h n s line)
 unfolding line_said
@@ -77,7 +77,7 @@ lines_not p h n s (line ∷ lines) =
     then_not (read_line p h n s line) (λ s₁. read_lines p h (n + 1) s₁ lines) (read_line_not p h n s line) (λ s₁. lines_not p h (n + 1) s₁ lines)
 
 ended_not : (n : ℕ) (line : List ℕ) (s : Said) → NotRead (last_line true n line s)
-ended_not n line s = if_not (is_behind n s && not (has_bytes line)) (Ok s) (Err (misspelled n)) tt (misspelled_not n)
+ended_not n line s = if_not (is_after n s && not (has_bytes line)) (Ok s) (Err (misspelled n)) tt (misspelled_not n)
 
 text_not : (p : ContactPlan) (h bytes : List ℕ) → NotRead (said_of p h bytes true)
 unfolding said_of

@@ -17,22 +17,22 @@ bad_prefix ws e = rw e refl
 pub bad_excluded : (ws us : List (List ℕ)) (p : List ℕ) → contacts_of (before_slash ws) ≡ Some p → us ≡ after_slash ws
     → contacts_of (before_slash us) ≡ None → lists_of ws ≡ None
 unfolding lists_of
-bad_excluded ws us p e behind x = rw (e, ← behind, x) refl
+bad_excluded ws us p e after x = rw (e, ← after, x) refl
 
 bad_route : (ws us vs : List (List ℕ)) (p x : List ℕ) → contacts_of (before_slash ws) ≡ Some p → us ≡ after_slash ws
     → contacts_of (before_slash us) ≡ Some x → vs ≡ after_slash us → contacts_of vs ≡ None → lists_of ws ≡ None
 unfolding lists_of
-bad_route ws us vs p x e behind f beyond r = rw (e, ← behind, f, ← beyond, r) refl
+bad_route ws us vs p x e after f beyond r = rw (e, ← after, f, ← beyond, r) refl
 
 pub three_lists : (ws us vs : List (List ℕ)) (p x r : List ℕ) → contacts_of (before_slash ws) ≡ Some p → us ≡ after_slash ws
     → contacts_of (before_slash us) ≡ Some x → vs ≡ after_slash us → contacts_of vs ≡ Some r
     → lists_of ws ≡ Some (record { prefix = p; excluded = x; carried = carried_of r })
 unfolding lists_of
-three_lists ws us vs p x r e behind f beyond l = rw (e, ← behind, f, ← beyond, l) refl
+three_lists ws us vs p x r e after f beyond l = rw (e, ← after, f, ← beyond, l) refl
 
 -- the third list, if it is one
 pub third_list : (ws us vs : List (List ℕ)) (p x r : List ℕ) → contacts_of (before_slash ws) ≡ Some p → us ≡ after_slash ws
     → contacts_of (before_slash us) ≡ Some x → vs ≡ after_slash us → (found : Bool) → contacts_of vs ≡ (if found then Some r else None)
     → lists_of ws ≡ (if found then Some (record { prefix = p; excluded = x; carried = carried_of r }) else None)
-third_list ws us vs p x r e behind f beyond true l = three_lists ws us vs p x r e behind f beyond l
-third_list ws us vs p x r e behind f beyond false l = bad_route ws us vs p x e behind f beyond l
+third_list ws us vs p x r e after f beyond true l = three_lists ws us vs p x r e after f beyond l
+third_list ws us vs p x r e after f beyond false l = bad_route ws us vs p x e after f beyond l

@@ -18,8 +18,8 @@ SoFar plan bytes (Ok t) = (t.plan ≡ plan) × ((more : List ℕ) (ended : Bool)
 SoFar plan bytes (Err f) = (f ≡ fault.NoMemory) ⊎ ((f ≢ fault.Read) × ((more : List ℕ) (ended : Bool) → said_over plan (bytes ++ more) ended ≡ Err f))
 
 module _ (plan : TabledPlan) where
-  behind_all : (bytes : List ℕ) (ended : Bool) → said_over plan bytes ended ≡ said_over plan (bytes ++ []) ended
-  behind_all bytes ended = ap (λ b. said_over plan b ended) (sym (append-nil bytes))
+  after_all : (bytes : List ℕ) (ended : Bool) → said_over plan bytes ended ≡ said_over plan (bytes ++ []) ended
+  after_all bytes ended = ap (λ b. said_over plan b ended) (sym (append-nil bytes))
 
   regrouped : (bytes piece more : List ℕ) (ended : Bool) → said_over plan ((bytes ++ piece) ++ more) ended ≡ said_over plan (bytes ++ (piece ++ more)) ended
   regrouped bytes piece more ended = ap (λ b. said_over plan b ended) (append_assoc bytes piece more)
@@ -29,7 +29,7 @@ module _ (plan : TabledPlan) where
   piece_fed bytes piece (Ok t) (Ok s) (Ok u) so fed =
       let same : (more : List ℕ) (ended : Bool) → said_over plan ((bytes ++ piece) ++ more) ended ≡ outcome_of s more ended = λ more ended. regrouped bytes piece more ended ∙ so.1 (piece ++ more) ended ∙ fed.same more ended in
       let held : s.fed.held ≡ (lines_of (bytes ++ piece)).open_line = fed.held ∙ ap (λ b. (lines_of (b ++ piece)).open_line) so.2 ∙ sym (open_line-append bytes piece) in
-      ((fed.plan ∙ so.0, same, held), behind_all (bytes ++ piece) false ∙ same [] false ∙ fed.fine)
+      ((fed.plan ∙ so.0, same, held), after_all (bytes ++ piece) false ∙ same [] false ∙ fed.fine)
   piece_fed bytes piece (Ok t) (Err g) (Ok u) so fed = absurd fed
   piece_fed bytes piece (Ok t) (Ok s) (Err f) so fed = absurd cc
   piece_fed bytes piece (Ok t) (Err g) (Err f) so fed = by_refusal fed.1
@@ -39,7 +39,7 @@ module _ (plan : TabledPlan) where
       by_refusal (inr (other, refused)) =
           let same : g ≡ f = (let e = fed.0 in cc) in
           let all : (more : List ℕ) (ended : Bool) → said_over plan ((bytes ++ piece) ++ more) ended ≡ Err f = λ more ended. regrouped bytes piece more ended ∙ so.1 (piece ++ more) ended ∙ refused more ended in
-          (inr (rw same other, rw same all), inr (other, behind_all (bytes ++ piece) false ∙ all [] false))
+          (inr (rw same other, rw same all), inr (other, after_all (bytes ++ piece) false ∙ all [] false))
   piece_fed bytes piece (Err g) new (Ok u) so fed = absurd fed
   piece_fed bytes piece (Err g) (Ok s) (Err f) so fed = absurd cc
   piece_fed bytes piece (Err g) (Err e) (Err f) so fed = by_refusal so
@@ -49,7 +49,7 @@ module _ (plan : TabledPlan) where
       by_refusal (inr (other, refused)) =
           let same : e ≡ g = (let is = fed.1 in cc) in
           let all : (more : List ℕ) (ended : Bool) → said_over plan ((bytes ++ piece) ++ more) ended ≡ Err g = λ more ended. regrouped bytes piece more ended ∙ refused (piece ++ more) ended in
-          (inr (rw same other, rw same all), inr (rw fed.0 other, behind_all (bytes ++ piece) false ∙ rw fed.0 (all [] false)))
+          (inr (rw same other, rw same all), inr (rw fed.0 other, after_all (bytes ++ piece) false ∙ rw fed.0 (all [] false)))
 
   -- one piece after the other
   all_fed : (bytes : List ℕ) (fed : List (List ℕ × Result (Unit {0}) SessionFault)) (old new : Result OpenText SessionFault) → SoFar plan bytes old → AreFed old fed new → SoFar plan (bytes ++ bytes_of fed) new
@@ -64,9 +64,9 @@ module _ (plan : TabledPlan) where
 
   -- the end
   ended_so : (bytes : List ℕ) (old : Result OpenText SessionFault) (answer : Result Seen SessionFault) → SoFar plan bytes old → IsFinished old answer → IsSessionFrom plan (said_over plan bytes true) answer
-  ended_so bytes (Ok t) answer so finished = rw (behind_all bytes true, so.1 [] true, ← so.0) finished
+  ended_so bytes (Ok t) answer so finished = rw (after_all bytes true, so.1 [] true, ← so.0) finished
   ended_so bytes (Err f) answer (inl memory) finished = rw finished (inl memory)
-  ended_so bytes (Err f) answer (inr (other, refused)) finished = rw (finished, behind_all bytes true, refused [] true) (inr refl)
+  ended_so bytes (Err f) answer (inr (other, refused)) finished = rw (finished, after_all bytes true, refused [] true) (inr refl)
 
 nothing_held : [] ≡ (lines_of []).open_line
 unfolding lines_of

@@ -8,34 +8,34 @@ use Rattle.std.specs.declared.option.Option.TheVariants.{Some, None}
 use Rattle.sabr_session.specs.SessionWords.{all_of, counted}
 
 -- what the rest gives, after what was read
-abbrev pub behind : List ℕ → Option (List ℕ) → Option (List ℕ)
-behind so_far rest = option_map (λ tail. so_far ++ tail) rest
+abbrev pub with_front : List ℕ → Option (List ℕ) → Option (List ℕ)
+with_front so_far rest = option_map (λ tail. so_far ++ tail) rest
 
 -- nothing read yet
-pub behind-nil : (rest : Option (List ℕ)) → rest ≡ behind [] rest
-behind-nil None = refl
-behind-nil (Some ns) = refl
+pub with_front-nil : (rest : Option (List ℕ)) → rest ≡ with_front [] rest
+with_front-nil None = refl
+with_front-nil (Some ns) = refl
 
-next : (so_far : List ℕ) (n : ℕ) (rest : Option (List ℕ)) → behind so_far (option_map (λ ns. n ∷ ns) rest) ≡ behind (so_far ++ n ∷ []) rest
+next : (so_far : List ℕ) (n : ℕ) (rest : Option (List ℕ)) → with_front so_far (option_map (λ ns. n ∷ ns) rest) ≡ with_front (so_far ++ n ∷ []) rest
 next so_far n None = refl
 next so_far n (Some ns) = ap Some (sym (append_assoc so_far (n ∷ []) ns))
 
 -- a word with a value goes to what was read
-pub behind-on : (f : List ℕ → Option ℕ) (so_far : List ℕ) (whole : Option (List ℕ)) (ps qs : List (List ℕ)) (p : List ℕ) (n : ℕ)
-    → whole ≡ behind so_far (all_of (map f ps)) → ps ≡ p ∷ qs → f p ≡ Some n → whole ≡ behind (so_far ++ n ∷ []) (all_of (map f qs))
-behind-on f so_far whole ps qs p n w e is =
-    w ∙ ap (λ xs. behind so_far (all_of (map f xs))) e ∙ ap (λ v. behind so_far (all_of (v ∷ map f qs))) is ∙ next so_far n (all_of (map f qs))
+pub with_front-on : (f : List ℕ → Option ℕ) (so_far : List ℕ) (whole : Option (List ℕ)) (ps qs : List (List ℕ)) (p : List ℕ) (n : ℕ)
+    → whole ≡ with_front so_far (all_of (map f ps)) → ps ≡ p ∷ qs → f p ≡ Some n → whole ≡ with_front (so_far ++ n ∷ []) (all_of (map f qs))
+with_front-on f so_far whole ps qs p n w e is =
+    w ∙ ap (λ xs. with_front so_far (all_of (map f xs))) e ∙ ap (λ v. with_front so_far (all_of (v ∷ map f qs))) is ∙ next so_far n (all_of (map f qs))
 
 -- a word without a value
-pub behind-bad : (f : List ℕ → Option ℕ) (so_far : List ℕ) (whole : Option (List ℕ)) (ps qs : List (List ℕ)) (p : List ℕ)
-    → whole ≡ behind so_far (all_of (map f ps)) → ps ≡ p ∷ qs → f p ≡ None → whole ≡ None
-behind-bad f so_far whole ps qs p w e is =
-    w ∙ ap (λ xs. behind so_far (all_of (map f xs))) e ∙ ap (λ v. behind so_far (all_of (v ∷ map f qs))) is
+pub with_front-bad : (f : List ℕ → Option ℕ) (so_far : List ℕ) (whole : Option (List ℕ)) (ps qs : List (List ℕ)) (p : List ℕ)
+    → whole ≡ with_front so_far (all_of (map f ps)) → ps ≡ p ∷ qs → f p ≡ None → whole ≡ None
+with_front-bad f so_far whole ps qs p w e is =
+    w ∙ ap (λ xs. with_front so_far (all_of (map f xs))) e ∙ ap (λ v. with_front so_far (all_of (v ∷ map f qs))) is
 
 -- no word is left
-pub behind-end : (f : List ℕ → Option ℕ) (so_far : List ℕ) (whole : Option (List ℕ)) (ps : List (List ℕ))
-    → whole ≡ behind so_far (all_of (map f ps)) → ps ≡ [] → whole ≡ Some so_far
-behind-end f so_far whole ps w e = w ∙ ap (λ xs. behind so_far (all_of (map f xs))) e ∙ ap Some (append-nil so_far)
+pub with_front-end : (f : List ℕ → Option ℕ) (so_far : List ℕ) (whole : Option (List ℕ)) (ps : List (List ℕ))
+    → whole ≡ with_front so_far (all_of (map f ps)) → ps ≡ [] → whole ≡ Some so_far
+with_front-end f so_far whole ps w e = w ∙ ap (λ xs. with_front so_far (all_of (map f xs))) e ∙ ap Some (append-nil so_far)
 
 above : (a b : ℕ) → b < a → leb a b ≡ false
 above a b h = grind (arith, nat_tests)
@@ -43,7 +43,7 @@ above a b h = grind (arith, nat_tests)
 some : (a : ℕ) → 0 < a → ltb 0 a ≡ true
 some a h = grind (arith, nat_tests)
 
-full : (most : ℕ) (so_far : List ℕ) (n : ℕ) (rest : Option (List ℕ)) → length so_far ≡ most → counted most (behind (so_far ++ n ∷ []) rest) ≡ None
+full : (most : ℕ) (so_far : List ℕ) (n : ℕ) (rest : Option (List ℕ)) → length so_far ≡ most → counted most (with_front (so_far ++ n ∷ []) rest) ≡ None
 full most so_far n None h = refl
 full most so_far n (Some ns) h =
     let all : List ℕ = (so_far ++ n ∷ []) ++ ns in
@@ -52,9 +52,9 @@ full most so_far n (Some ns) h =
     ∙ ap (λ t. cond t (Some all) None) (and-false (ltb 0 (length all)))
 
 -- one more after the most
-pub behind-full : (f : List ℕ → Option ℕ) (most : ℕ) (so_far : List ℕ) (whole : Option (List ℕ)) (ps qs : List (List ℕ)) (p : List ℕ) (n : ℕ)
-    → whole ≡ behind so_far (all_of (map f ps)) → ps ≡ p ∷ qs → f p ≡ Some n → length so_far ≡ most → counted most whole ≡ None
-behind-full f most so_far whole ps qs p n w e is h = ap (counted most) (behind-on f so_far whole ps qs p n w e is) ∙ full most so_far n (all_of (map f qs)) h
+pub with_front-full : (f : List ℕ → Option ℕ) (most : ℕ) (so_far : List ℕ) (whole : Option (List ℕ)) (ps qs : List (List ℕ)) (p : List ℕ) (n : ℕ)
+    → whole ≡ with_front so_far (all_of (map f ps)) → ps ≡ p ∷ qs → f p ≡ Some n → length so_far ≡ most → counted most whole ≡ None
+with_front-full f most so_far whole ps qs p n w e is h = ap (counted most) (with_front-on f so_far whole ps qs p n w e is) ∙ full most so_far n (all_of (map f qs)) h
 
 -- one or more, and not too many
 pub counted-some : (most : ℕ) (found : Option (List ℕ)) (ns : List ℕ) → found ≡ Some ns → 0 < length ns → length ns ≤ most → counted most found ≡ Some ns

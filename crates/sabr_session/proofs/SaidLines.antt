@@ -9,7 +9,7 @@ use Rattle.sabr_model.specs.Arrival.{RouteRequest}
 use Rattle.sabr_frontier.specs.State.{PartState}
 use Rattle.sabr_plan.specs.Steps.{and_then, given_as}
 use Rattle.sabr_session.specs.SessionLines.{header_of, digest_named, request_of, emitted_of, last_listed, count_of, part_of}
-use Rattle.sabr_session.specs.SessionRead.{Said, nothing_said, spelled_at, same_plan, asked, rise_strictly, comes_behind, may_carry, header_said, digest_said, request_said, emitted_said, last_said, count_said, part_said, end_said, line_said, placed}
+use Rattle.sabr_session.specs.SessionRead.{Said, nothing_said, spelled_at, same_plan, asked, rise_strictly, comes_after, may_carry, header_said, digest_said, request_said, emitted_said, last_said, count_said, part_said, end_said, line_said, placed}
 use Rattle.sabr_session.specs.SessionStage.{Staged, said_with}
 use Rattle.sabr_session.specs.SessionLeaving.{Leaves}
 use Rattle.sabr_session.specs.declared.session_fault.SessionFault.{SessionFault}
@@ -56,7 +56,7 @@ placed_as : {U : Type 0} (p : ContactPlan) (n : ℕ) (s : Said) (a b : Staged) (
 placed_as p n s a b (Err e) (Ok u) left = absurd cc
 placed_as p n s a b E (Err e) (inl memory) = inl memory
 placed_as p n s a b (Err e) (Err e₁) (inr is) = inr cc
-placed_as {U = U} p n s a b (Ok t) r left = by_tests (not (rise_strictly t.excluded && comes_behind a.parts t.prefix)) (not (may_carry p a.request t)) r left
+placed_as {U = U} p n s a b (Ok t) r left = by_tests (not (rise_strictly t.excluded && comes_after a.parts t.prefix)) (not (may_carry p a.request t)) r left
   where
     by_tests : (out_of_order no_route : Bool) (r : Result U SessionFault)
         → Leaves (if out_of_order then Err (fault.BadLine n) else if no_route then Err (fault.BadRoute n) else Ok (record (said_with nothing_said a) { parts = a.parts ++ t ∷ [] })) r (said_with nothing_said b)
@@ -110,7 +110,7 @@ other_number n m less = grind (arith, nat_tests)
 -- a line after the first six
 pub other_line : (p : ContactPlan) (h : List ℕ) (n : ℕ) (s : Said) (line : List ℕ) → 7 ≤ n → line_said p h n s line ≡ (if nat_lt n (7 + s.count) then part_said p n s line else end_said n s line)
 unfolding line_said
-other_line p h n s line behind =
+other_line p h n s line after =
     rw (
       other_number n 1 (omega arith),
       other_number n 2 (omega arith),

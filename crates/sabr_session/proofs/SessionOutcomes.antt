@@ -10,7 +10,7 @@ use Rattle.sabr_plan.specs.Words.{TextLines, is_one_line, has_bytes, lines_of}
 use Rattle.sabr_plan.proofs.Lines.{in_front, lines_of-front, lines_of-one, lines_of-line}
 use Rattle.sabr_session.specs.declared.session_fault.SessionFault.{SessionFault}
 use Rattle.sabr_session.specs.declared.session_fault.SessionFault.TheVariants as fault
-use Rattle.sabr_session.specs.SessionRead.{Said, nothing_said, misspelled, line_said, read_line, read_lines, is_behind, last_line, said_of}
+use Rattle.sabr_session.specs.SessionRead.{Said, nothing_said, misspelled, line_said, read_line, read_lines, is_after, last_line, said_of}
 use Rattle.sabr_session.specs.SessionFed.{SessionFed, nothing_fed, outcome, is_bad_front}
 
 -- a step after two steps
@@ -80,7 +80,7 @@ module _ (p : ContactPlan) (h : List ℕ) where
   -- what is bad stays bad
   bad_more : (n : ℕ) (s : Said) (front back : List ℕ) → is_bad_front n s front ≡ true → is_bad_front n s (front ++ back) ≡ true
   bad_more n s front back bad =
-      by_length (is_behind n s) (has_bytes front) refl (ltb 660008 (length front)) refl bad
+      by_length (is_after n s) (has_bytes front) refl (ltb 660008 (length front)) refl bad
     where
       more : (m : ℕ) → ltb m (length front) ≡ true → ltb m (length (front ++ back)) ≡ true
       more m some = let k = ltb-true m (length front) some in lt-ltb m (length (front ++ back)) (omega (arith, length-append front back))
@@ -100,10 +100,10 @@ module _ (p : ContactPlan) (h : List ℕ) where
   not_before n m less = grind (arith, nat_tests)
 
   -- a line after `end` is refused
-  said_behind : (n : ℕ) (s : Said) (line : List ℕ) → is_behind n s ≡ true → line_said p h n s line ≡ Err (misspelled n)
+  said_after : (n : ℕ) (s : Said) (line : List ℕ) → is_after n s ≡ true → line_said p h n s line ≡ Err (misspelled n)
   unfolding line_said
-  said_behind n s line behind =
-      let far : 7 + s.count < n = ltb-true (7 + s.count) n behind in
+  said_after n s line beyond =
+      let far : 7 + s.count < n = ltb-true (7 + s.count) n beyond in
       rw (
         other_number n 1 (omega arith),
         other_number n 2 (omega arith),
@@ -117,20 +117,20 @@ module _ (p : ContactPlan) (h : List ℕ) where
 
   -- a line with a bad beginning is refused
   bad_line : (n : ℕ) (s : Said) (line : List ℕ) → is_bad_front n s line ≡ true → read_line p h n s line ≡ Err (misspelled n)
-  bad_line n s line bad = by_length (ltb 660008 (length line)) refl (is_behind n s) refl bad
+  bad_line n s line bad = by_length (ltb 660008 (length line)) refl (is_after n s) refl bad
     where
-      by_length : (long : Bool) → ltb 660008 (length line) ≡ long → (behind : Bool) → is_behind n s ≡ behind
-          → ((behind && has_bytes line) || long) ≡ true → (if long then Err (misspelled n) else line_said p h n s line) ≡ Err (misspelled n)
-      by_length true e behind is q = refl
-      by_length false e true is q = said_behind n s line is
+      by_length : (long : Bool) → ltb 660008 (length line) ≡ long → (beyond : Bool) → is_after n s ≡ beyond
+          → ((beyond && has_bytes line) || long) ≡ true → (if long then Err (misspelled n) else line_said p h n s line) ≡ Err (misspelled n)
+      by_length true e beyond is q = refl
+      by_length false e true is q = said_after n s line is
       by_length false e false is q = absurd cc
 
   -- and so is a last one
   bad_last : (n : ℕ) (s : Said) (line : List ℕ) (ended : Bool) → is_bad_front n s line ≡ true → last_line ended n line s ≡ Err (misspelled n)
-  bad_last n s line ended bad = by_length (is_behind n s) (has_bytes line) refl (ltb 660008 (length line)) refl ended bad
+  bad_last n s line ended bad = by_length (is_after n s) (has_bytes line) refl (ltb 660008 (length line)) refl ended bad
     where
-      by_length : (behind some : Bool) → has_bytes line ≡ some → (long : Bool) → ltb 660008 (length line) ≡ long → (ended : Bool) → ((behind && some) || long) ≡ true
-          → (if behind && not some then (if ended then Ok s else Err fault.Read) else if ended || behind || long then Err (misspelled n) else Err fault.Read) ≡ Err (misspelled n)
+      by_length : (beyond some : Bool) → has_bytes line ≡ some → (long : Bool) → ltb 660008 (length line) ≡ long → (ended : Bool) → ((beyond && some) || long) ≡ true
+          → (if beyond && not some then (if ended then Ok s else Err fault.Read) else if ended || beyond || long then Err (misspelled n) else Err fault.Read) ≡ Err (misspelled n)
       by_length true true e long is true q = refl
       by_length true true e long is false q = refl
       by_length true false e true is ended q =
@@ -163,10 +163,10 @@ module _ (p : ContactPlan) (h : List ℕ) where
 
   -- bytes that aren't, where the reader fails after them
   pub outcome-read : (s : SessionFed) → is_one_line s.held ≡ true → is_bad_front (s.lines + 1) s.said s.held ≡ false → outcome p h s [] false ≡ Err fault.Read
-  outcome-read s one good = outcome-end s false one ∙ by_bytes (is_behind (s.lines + 1) s.said) (has_bytes s.held) (ltb 660008 (length s.held)) good
+  outcome-read s one good = outcome-end s false one ∙ by_bytes (is_after (s.lines + 1) s.said) (has_bytes s.held) (ltb 660008 (length s.held)) good
     where
-      by_bytes : (behind some long : Bool) → ((behind && some) || long) ≡ false
-          → ◌≡◌ {A = Result Said SessionFault} (if behind && not some then Err fault.Read else if false || behind || long then Err (misspelled (s.lines + 1)) else Err fault.Read) (Err fault.Read)
+      by_bytes : (beyond some long : Bool) → ((beyond && some) || long) ≡ false
+          → ◌≡◌ {A = Result Said SessionFault} (if beyond && not some then Err fault.Read else if false || beyond || long then Err (misspelled (s.lines + 1)) else Err fault.Read) (Err fault.Read)
       by_bytes true false long q = refl
       by_bytes true true long q = absurd cc
       by_bytes false some true q = absurd cc

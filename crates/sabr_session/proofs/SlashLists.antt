@@ -56,16 +56,16 @@ unnumbered : (low high : ℕ) (ws : List (List ℕ)) → high < 1844674407370955
 unnumbered low high [] h e = absurd cc
 unnumbered low high (w ∷ ws) h e = by_first (is_slash w) refl (unnumbered low high ws h)
   where
-    behind_one : (o : Option ℕ) (os : List (Option ℕ)) → all_of os ≡ None → all_of (o ∷ os) ≡ None
-    behind_one None os none = refl
-    behind_one (Some n) os none = ap (λ f. option_map (λ ns. n ∷ ns) f) none
+    after_one : (o : Option ℕ) (os : List (Option ℕ)) → all_of os ≡ None → all_of (o ∷ os) ≡ None
+    after_one None os none = refl
+    after_one (Some n) os none = ap (λ f. option_map (λ ns. n ∷ ns) f) none
 
     by_first : (b : Bool) → is_slash w ≡ b → (list_any is_slash ws ≡ true → all_of (map (number_within low high) ws) ≡ None) → all_of (map (number_within low high) (w ∷ ws)) ≡ None
     by_first true is rest =
         let same : w ≡ codes "/" = (bytes_eq-Decides w (codes "/")).0 is in
         ap (λ v. all_of (number_within low high v ∷ map (number_within low high) ws)) same
         ∙ ap (λ o. all_of (o ∷ map (number_within low high) ws)) (no_number low high h)
-    by_first false is rest = behind_one (number_within low high w) (map (number_within low high) ws) (rest (sym (has-on w ws is) ∙ e))
+    by_first false is rest = after_one (number_within low high w) (map (number_within low high) ws) (rest (sym (has-on w ws is) ∙ e))
 
 -- a list with `/` in it is not `-`
 undashed : (ws : List (List ℕ)) → list_any is_slash ws ≡ true → is_dash ws ≡ false

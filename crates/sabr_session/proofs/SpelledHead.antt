@@ -15,7 +15,7 @@ use Rattle.sabr_session.specs.SpacedNumbers.{list_text}
 use Rattle.sabr_session.specs.SessionText.{IsUnlimited}
 use Rattle.sabr_session.specs.SessionWords.{words_of, nodes_of, contacts_of}
 use Rattle.sabr_plan.specs.Numbers.{number_within}
-use Rattle.sabr_session.specs.SessionLines.{digest_named, request_of, emitted_of, last_listed, count_of, behind_label}
+use Rattle.sabr_session.specs.SessionLines.{digest_named, request_of, emitted_of, last_listed, count_of, after_label}
 use Rattle.sabr_session.specs.SessionRead.{asked}
 use Rattle.sabr_session.specs.declared.reading.first_lines.Version.TheVariants.{One, Two}
 use Rattle.sabr_model.specs.declared.request_values.RequestValues.{RequestValues}
@@ -45,7 +45,7 @@ number-apart : (n : ℕ) (u : List ℕ) → n < 10 ^ 64 → words_of (decimal n 
 number-apart n u h = word-apart (decimal n) u (decimal_is_word n h)
 
 -- what stands after a label
-pub label-there : (label text : List ℕ) → behind_label label (label ++ text) ≡ Some text
+pub label-there : (label text : List ℕ) → after_label label (label ++ text) ≡ Some text
 label-there label text = label-front label (label ++ text) label text true (sym (take-append_seam label text)) (sym (drop-append_seam label text)) (same_text label label refl)
 
 -- ---- the lines of numbers and of the digest

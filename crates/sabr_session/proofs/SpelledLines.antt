@@ -28,10 +28,10 @@ lines_of-joined (line ∷ lines) h =
     ∙ ap (λ (t : TextLines). record { ended = line ∷ t.ended; open_line = t.open_line }) (lines_of-joined lines h.1)
 
 -- pieces and LF, before a text
-pub lf_behind : (xs : List (List ℕ)) (u : List ℕ) → concat (xs ++ codes "\n" ∷ []) ++ u ≡ concat xs ++ 10 ∷ u
-lf_behind [] u = refl
-lf_behind (x ∷ xs) u =
-    append_assoc x (concat (xs ++ codes "\n" ∷ [])) u ∙ ap (λ y. x ++ y) (lf_behind xs u) ∙ sym (append_assoc x (concat xs) (10 ∷ u))
+pub lf_after : (xs : List (List ℕ)) (u : List ℕ) → concat (xs ++ codes "\n" ∷ []) ++ u ≡ concat xs ++ 10 ∷ u
+lf_after [] u = refl
+lf_after (x ∷ xs) u =
+    append_assoc x (concat (xs ++ codes "\n" ∷ [])) u ∙ ap (λ y. x ++ y) (lf_after xs u) ∙ sym (append_assoc x (concat xs) (10 ∷ u))
 
 -- pieces without LF
 pub concat_line : (xs : List (List ℕ)) → AreLines xs → is_one_line (concat xs) ≡ true

@@ -15,7 +15,7 @@ use Rattle.sabr_frontier.proofs.Nodes.{last_split}
 use Rattle.sabr_session.specs.SpacedNumbers.{list_text}
 use Rattle.sabr_session.specs.SessionWords.{words_of, contacts_of}
 use Rattle.sabr_session.specs.SessionLines.{carried_of, part_of}
-use Rattle.sabr_session.specs.SessionRead.{Said, rise_strictly, comes_behind, may_carry, line_said, read_lines}
+use Rattle.sabr_session.specs.SessionRead.{Said, rise_strictly, comes_after, may_carry, line_said, read_lines}
 use Rattle.sabr_session.proofs.PartWords.{three_lists}
 use Rattle.sabr_session.proofs.SpelledWords.{list_words, other_number, words-apart, before-list, after-list}
 use Rattle.sabr_session.proofs.SpelledLines.{concat_line, length-concat, list_line, list_length}
@@ -59,14 +59,14 @@ pub part_read : (t : PartState) → PartIsTellable t → part_of (spelled_part t
 unfolding part_of
 part_read t h =
     let route : List ℕ = unwrap_or t.carried [] in
-    let behind : List (List ℕ) = list_words t.excluded ++ codes "/" ∷ list_words route in
-    let words : words_of (lists_text t.prefix t.excluded (list_text route)) ≡ list_words t.prefix ++ codes "/" ∷ behind =
+    let after : List (List ℕ) = list_words t.excluded ++ codes "/" ∷ list_words route in
+    let words : words_of (lists_text t.prefix t.excluded (list_text route)) ≡ list_words t.prefix ++ codes "/" ∷ after =
     list-apart t.prefix (list_text t.excluded ++ 32 ∷ (47 ∷ 32 ∷ list_text route)) h.prefix
     ∙ ap (λ ws. list_words t.prefix ++ codes "/" ∷ ws) (list-apart t.excluded (list_text route) h.excluded)
     ∙ ap (λ ws. list_words t.prefix ++ codes "/" ∷ (list_words t.excluded ++ codes "/" ∷ ws)) (contacts_words route h.route) in
-    let lists = three_lists (list_words t.prefix ++ codes "/" ∷ behind) behind (list_words route) t.prefix t.excluded route
-    (ap contacts_of (before-list 1 4294967295 (omega arith) t.prefix behind h.prefix.within) ∙ contacts_read t.prefix h.prefix)
-    (sym (after-list 1 4294967295 (omega arith) t.prefix behind h.prefix.within))
+    let lists = three_lists (list_words t.prefix ++ codes "/" ∷ after) after (list_words route) t.prefix t.excluded route
+    (ap contacts_of (before-list 1 4294967295 (omega arith) t.prefix after h.prefix.within) ∙ contacts_read t.prefix h.prefix)
+    (sym (after-list 1 4294967295 (omega arith) t.prefix after h.prefix.within))
     (ap contacts_of (before-list 1 4294967295 (omega arith) t.excluded (list_words route) h.excluded.within) ∙ contacts_read t.excluded h.excluded)
     (sym (after-list 1 4294967295 (omega arith) t.excluded (list_words route) h.excluded.within))
     (contacts_read route h.route) in
@@ -106,8 +106,8 @@ rises_back [] ys h = h
 rises_back (x ∷ xs) ys h = rises_back xs ys h.1
 
 -- where prefixes rise, each part comes after those before it
-behind-last : (before : List PartState) (t : PartState) (ts : List PartState) → Rises by_numbers (prefixes (before ++ t ∷ ts)) → comes_behind before t.prefix ≡ true
-behind-last before t ts up = elim (last_item before) as (λ o. last_item before ≡ o → option_map_or (λ (u : PartState). numbers_before u.prefix t.prefix) o true ≡ true) [
+after-last : (before : List PartState) (t : PartState) (ts : List PartState) → Rises by_numbers (prefixes (before ++ t ∷ ts)) → comes_after before t.prefix ≡ true
+after-last before t ts up = elim (last_item before) as (λ o. last_item before ≡ o → option_map_or (λ (u : PartState). numbers_before u.prefix t.prefix) o true ≡ true) [
   | None ↦ λ e. refl
   | Some u ↦ λ e.
       let parted : before ++ t ∷ ts ≡ front before ++ u ∷ t ∷ ts = ap (λ us. us ++ t ∷ ts) (last_split before u e) ∙ append_assoc (front before) (u ∷ []) (t ∷ ts) in
@@ -142,10 +142,10 @@ module _ (p : ContactPlan) (h : List ℕ) where
   read_on n s s₁ line lines short said = rw (not_before 660008 (length line) short, said) refl
 
   -- line n says a part
-  part_taken : (n : ℕ) (s : Said) (t : PartState) → 6 < n → n < 7 + s.count → IsPartOf p s.request t → comes_behind s.parts t.prefix ≡ true
+  part_taken : (n : ℕ) (s : Said) (t : PartState) → 6 < n → n < 7 + s.count → IsPartOf p s.request t → comes_after s.parts t.prefix ≡ true
       → line_said p h n s (spelled_part t) ≡ Ok (record s { parts = s.parts ++ t ∷ [] })
   unfolding line_said
-  part_taken n s t low high is behind =
+  part_taken n s t low high is after =
       rw (
         other_number n 1 (omega arith),
         other_number n 2 (omega arith),
@@ -156,7 +156,7 @@ module _ (p : ContactPlan) (h : List ℕ) where
         is_before n (7 + s.count) high,
         part_read t is.told,
         is.rising,
-        behind,
+        after,
         is.carries,
       ) refl
 
@@ -187,6 +187,6 @@ module _ (p : ContactPlan) (h : List ℕ) where
       let more : length (s.parts ++ t ∷ []) ≡ length s.parts + 1 = length-append s.parts (t ∷ []) in
       let joined : (s.parts ++ t ∷ []) ++ ts ≡ s.parts ++ t ∷ ts = append_assoc s.parts (t ∷ []) ts in
       read_on n s s₁ (spelled_part t) (map spelled_part ts ++ codes "end" ∷ []) (part_length t are.0.told)
-      (part_taken n s t (omega arith) (omega arith) are.0 (behind-last s.parts t ts up))
+      (part_taken n s t (omega arith) (omega arith) are.0 (after-last s.parts t ts up))
       ∙ parts_read (n + 1) s₁ ts (omega arith) (omega arith) are.1 (subst (λ us. Rises by_numbers (prefixes us)) (sym joined) up)
       ∙ ap (λ (us : List PartState). Ok (record s { parts = us })) joined

@@ -20,7 +20,7 @@ use Rattle.sabr_session.specs.declared.reading.first_lines.Version.{Version}
 use Rattle.sabr_session.specs.declared.reading.first_lines.Version.TheVariants.{One, Two}
 use Rattle.sabr_plan.proofs.SpelledNumbers.{same_text}
 use Rattle.sabr_session.proofs.SpelledWords.{decimal_is_word}
-use Rattle.sabr_session.proofs.SpelledLines.{joined, AreLines, lines_of-joined, lf_behind, concat_line, length-concat, word_line, list_line, list_length, nodes_length}
+use Rattle.sabr_session.proofs.SpelledLines.{joined, AreLines, lines_of-joined, lf_after, concat_line, length-concat, word_line, list_line, list_length, nodes_length}
 use Rattle.sabr_session.proofs.SpelledDigests.{digest_length, digest_word}
 use Rattle.sabr_session.proofs.SpelledHead.{accepted_nodes, accepted_few, time_word, digest_read, emitted_read, count_read, last_read, request_text, old_request_text, request_read, old_request_read, asked_is, old_asked_is}
 use Rattle.sabr_session.proofs.SpelledParts.{part_pieces, spelled_part, part_line_is, ArePartsOf, is_before, read_on, parts_read}
@@ -44,13 +44,13 @@ parts_joined [] = refl
 parts_joined (t ∷ ts) =
     append_assoc (part_line t) (flat_map part_line ts) (codes "end\n")
     ∙ ap (λ u. part_line t ++ u) (parts_joined ts)
-    ∙ lf_behind (part_pieces t) (joined (map spelled_part ts ++ codes "end" ∷ []))
+    ∙ lf_after (part_pieces t) (joined (map spelled_part ts ++ codes "end" ∷ []))
 
 state_joined : (s : State) → state_lines s ≡ joined (state_words s)
 state_joined s = ap (λ u. codes "emitted " ++ (decimal s.emitted ++ (codes "\nlast " ++ (list_text s.last ++ (codes "\nparts " ++ (decimal (length s.parts) ++ (codes "\n" ++ u))))))) (parts_joined s.parts)
 
 plan_joined : (h u : List ℕ) → plan_line h ++ u ≡ (codes "plan " ++ encode_lower h) ++ 10 ∷ u
-plan_joined h u = lf_behind (codes "plan " ∷ encode_lower h ∷ []) u ∙ ap (λ d. (codes "plan " ++ d) ++ 10 ∷ u) (append-nil (encode_lower h))
+plan_joined h u = lf_after (codes "plan " ∷ encode_lower h ∷ []) u ∙ ap (λ d. (codes "plan " ++ d) ++ 10 ∷ u) (append-nil (encode_lower h))
 
 -- the pieces of a request's line
 abbrev request_pieces : RouteRequest → List (List ℕ)
@@ -65,10 +65,10 @@ request_spelled : (r : RouteRequest) → concat (request_pieces r) ≡ codes "re
 request_spelled r = ap (λ u. codes "request " ++ (decimal r.source ++ 32 ∷ (decimal r.destination ++ 32 ∷ (time_text_of r.at ++ 32 ∷ (decimal r.margin ++ 32 ∷ (decimal r.max_hops ++ 32 ∷ (47 ∷ 32 ∷ u))))))) (append-nil (list_text r.avoided))
 
 request_joined : (r : RouteRequest) (u : List ℕ) → request_line r ++ u ≡ (codes "request " ++ request_text r) ++ 10 ∷ u
-request_joined r u = lf_behind (request_pieces r) u ∙ ap (λ line. line ++ 10 ∷ u) (request_spelled r)
+request_joined r u = lf_after (request_pieces r) u ∙ ap (λ line. line ++ 10 ∷ u) (request_spelled r)
 
 old_request_joined : (r : RouteRequest) (u : List ℕ) → old_request_line r ++ u ≡ (codes "request " ++ old_request_text r) ++ 10 ∷ u
-old_request_joined r u = lf_behind (old_request_pieces r) u
+old_request_joined r u = lf_after (old_request_pieces r) u
 
 text_joined : (h : List ℕ) (r : RouteRequest) (s : State) → text_of h r s ≡ joined (text_words (codes "cgr-session 2") h (request_text r) s)
 unfolding text_of
@@ -163,14 +163,14 @@ module _ (p : ContactPlan) (r : RouteRequest) (s : State) (told : IsRequest r) (
       let s₄ : Said = record { version = v; request = r; emitted = s.emitted; last_route = []; count = 0; parts = [] } in
       let s₅ : Said = record { version = v; request = r; emitted = s.emitted; last_route = s.last; count = 0; parts = [] } in
       let s₆ : Said = record { version = v; request = r; emitted = s.emitted; last_route = s.last; count = length s.parts; parts = [] } in
-      let behind : List (List ℕ) = map spelled_part s.parts ++ codes "end" ∷ [] in
+      let after : List (List ℕ) = map spelled_part s.parts ++ codes "end" ∷ [] in
       let number = number_length s.emitted state.given in
       let count = number_length (length s.parts) (omega (arith, text)) in
-      read_on p (digest_of p) 4 (asked_so v) s₄ (codes "emitted " ++ decimal s.emitted) ((codes "last " ++ list_text s.last) ∷ (codes "parts " ++ decimal (length s.parts)) ∷ behind)
+      read_on p (digest_of p) 4 (asked_so v) s₄ (codes "emitted " ++ decimal s.emitted) ((codes "last " ++ list_text s.last) ∷ (codes "parts " ++ decimal (length s.parts)) ∷ after)
       (omega (arith, number)) (rw (emitted_read s.emitted state.given) refl)
-      ∙ read_on p (digest_of p) 5 s₄ s₅ (codes "last " ++ list_text s.last) ((codes "parts " ++ decimal (length s.parts)) ∷ behind)
+      ∙ read_on p (digest_of p) 5 s₄ s₅ (codes "last " ++ list_text s.last) ((codes "parts " ++ decimal (length s.parts)) ∷ after)
       (omega (arith, list_short)) (rw (last_read s.last state.latest) refl)
-      ∙ read_on p (digest_of p) 6 s₅ s₆ (codes "parts " ++ decimal (length s.parts)) behind
+      ∙ read_on p (digest_of p) 6 s₅ s₆ (codes "parts " ++ decimal (length s.parts)) after
       (omega (arith, count)) (rw (count_read (length s.parts) text) refl)
       ∙ parts_read p (digest_of p) 7 s₆ s.parts refl (omega arith) state.each is.order.by_prefix
 
@@ -206,11 +206,11 @@ module _ (p : ContactPlan) (r : RouteRequest) (s : State) (told : IsRequest r) (
       let parted : lines_of bytes ≡ record { ended = lines; open_line = [] } = ap lines_of e ∙ lines_of-joined lines are in
       let count = length-append (map spelled_part s.parts) (codes "end" ∷ []) in
       let same = length-map s.parts spelled_part in
-      let behind : ltb (7 + length s.parts) (length lines + 1) ≡ true = is_before (7 + length s.parts) (length lines + 1) (omega (arith, count, same)) in
+      let after : ltb (7 + length s.parts) (length lines + 1) ≡ true = is_before (7 + length s.parts) (length lines + 1) (omega (arith, count, same)) in
       let said : said_of p (digest_of p) bytes true ≡ Ok (all_said v) =
       ap (λ (t : TextLines). and_then (read_lines p (digest_of p) 1 nothing_said t.ended) (last_line true (length t.ended + 1) t.open_line)) parted
       ∙ ap (λ said. and_then said (last_line true (length lines + 1) [])) read
-      ∙ rw behind refl in
+      ∙ rw after refl in
       subst (λ said. ComesTo p said (Ok (r, s))) (sym said) (refl, is)
 
   pub text_read : IsSessionOf p (digest_of p) (text_of (digest_of p) r s) true (Ok (r, s))

@@ -12,7 +12,7 @@ use Rattle.sabr_frontier.specs.State.{PartState, State}
 use Rattle.sabr_session.specs.SpacedNumbers.{list_text}
 use Rattle.sabr_session.specs.SessionText.{part_line, text_of, old_text_of, HasText, IsUnlimited}
 use Rattle.sabr_session.specs.SessionLines.{header_of, request_of, emitted_of, last_listed, count_of, part_of, is_end}
-use Rattle.sabr_session.specs.SessionRead.{Said, nothing_said, misspelled, spelled_at, rise_strictly, comes_behind, may_carry, placed, asked, part_said, end_said, line_said, read_line, read_lines, is_behind, last_line, said_of, state_of}
+use Rattle.sabr_session.specs.SessionRead.{Said, nothing_said, misspelled, spelled_at, rise_strictly, comes_after, may_carry, placed, asked, part_said, end_said, line_said, read_line, read_lines, is_after, last_line, said_of, state_of}
 use Rattle.sabr_session.specs.declared.reading.first_lines.Version.{Version}
 use Rattle.sabr_session.specs.declared.reading.first_lines.Version.TheVariants.{One, Two}
 use Rattle.sabr_model.specs.declared.request_values.RequestValues.{RequestValues}
@@ -72,7 +72,7 @@ module _ (p : ContactPlan) (h : List ℕ) where
     pub next : Said
     pub are : lines ≡ line ∷ rest
     pub said : line_said p h n s line ≡ Ok next
-    pub behind : read_lines p h (n + 1) next rest ≡ Ok t
+    pub after : read_lines p h (n + 1) next rest ≡ Ok t
     pub many : 7 + t.count < n + 1 + length rest
 
   -- the first of lines that are enough
@@ -81,7 +81,7 @@ module _ (p : ContactPlan) (h : List ℕ) where
   first_read n s t [] low e many = absurd (omega arith)
   first_read n s t (line ∷ lines) low e many =
       let k = and_then_ok (λ (s₁ : Said). read_lines p h (n + 1) s₁ lines) (read_line p h n s line) t e in
-      record { line = line; rest = lines; next = k.0; are = refl; said = line_ok n s k.0 line k.1; behind = k.2; many = omega arith }
+      record { line = line; rest = lines; next = k.0; are = refl; said = line_ok n s k.0 line k.1; after = k.2; many = omega arith }
 
   -- ---- the parts and the last line
 
@@ -92,7 +92,7 @@ module _ (p : ContactPlan) (h : List ℕ) where
     pub all : t ≡ record s { parts = s.parts ++ parts }
 
   placed_told : (n : ℕ) (s t : Said) (u : PartState) → placed p n s u ≡ Ok t → t ≡ record s { parts = s.parts ++ u ∷ [] }
-  placed_told n s t u e = by_tests (not (rise_strictly u.excluded && comes_behind s.parts u.prefix)) (not (may_carry p s.request u)) e
+  placed_told n s t u e = by_tests (not (rise_strictly u.excluded && comes_after s.parts u.prefix)) (not (may_carry p s.request u)) e
     where
       by_tests : (a b : Bool) → cond a (Err (fault.BadLine n)) (cond b (Err (fault.BadRoute n)) (Ok (record s { parts = s.parts ++ u ∷ [] }))) ≡ Ok t → t ≡ record s { parts = s.parts ++ u ∷ [] }
       by_tests true b e = absurd cc
@@ -147,10 +147,10 @@ module _ (p : ContactPlan) (h : List ℕ) where
       f ∙ ap (λ (x : Said). record x { parts = x.parts ++ us }) e ∙ ap (λ (ts : List PartState). record s { parts = ts }) (append_assoc s.parts (u ∷ []) us)
 
   -- no line is after it
-  nothing_behind : (n : ℕ) (s t : Said) (lines : List (List ℕ)) → 6 < n → 7 + s.count < n → read_lines p h n s lines ≡ Ok t → (lines ≡ []) × (t ≡ s)
+  nothing_after : (n : ℕ) (s t : Said) (lines : List (List ℕ)) → 6 < n → 7 + s.count < n → read_lines p h n s lines ≡ Ok t → (lines ≡ []) × (t ≡ s)
   unfolding read_lines
-  nothing_behind n s t [] low over e = let same : t ≡ s = cc in (refl, same)
-  nothing_behind n s t (line ∷ lines) low over e =
+  nothing_after n s t [] low over e = let same : t ≡ s = cc in (refl, same)
+  nothing_after n s t (line ∷ lines) low over e =
       let k = and_then_ok (λ (s₁ : Said). read_lines p h (n + 1) s₁ lines) (read_line p h n s line) t e in
       let bad = (end_line_told n s k.0 line low (omega arith) (line_ok n s k.0 line k.1)).0 in
       absurd (omega arith)
@@ -165,22 +165,22 @@ module _ (p : ContactPlan) (h : List ℕ) where
       by_number : (b : Bool) → ltb n (7 + s.count) ≡ b → (next : Said) → line_said p h n s line ≡ Ok next → read_lines p h (n + 1) next lines ≡ Ok t
           → ((next : Said) → n + 1 ≤ 7 + next.count → read_lines p h (n + 1) next lines ≡ Ok t → 7 + t.count < n + 1 + length lines → PartsTold (n + 1) next t lines)
           → PartsTold n s t (line ∷ lines)
-      by_number true is next said behind more =
+      by_number true is next said after more =
           let less = ltb-true n (7 + s.count) is in
           let u = part_line_told n s next line low less said in
           let same : next.count ≡ s.count = ap (λ (x : Said). x.count) u.2 in
-          let rest = more next (omega arith) behind (omega arith) in
+          let rest = more next (omega arith) after (omega arith) in
           record {
             parts = u.0 ∷ rest.parts;
             spelled = rw (u.1, rest.spelled) (sym (append_assoc (part_line u.0) (flat_map part_line rest.parts) (codes "end\n")));
             filled = (let f = rest.filled in omega (arith, same));
             all = one_more s next t u.0 rest.parts u.2 rest.all;
           }
-      by_number false is next said behind more =
+      by_number false is next said after more =
           let enough = ltb-false n (7 + s.count) is in
           let last = end_line_told n s next line low enough said in
           let same : next.count ≡ s.count = ap (λ (x : Said). x.count) last.2 in
-          let none = nothing_behind (n + 1) next t lines (omega arith) (let l = last.0 in omega arith) behind in
+          let none = nothing_after (n + 1) next t lines (omega arith) (let l = last.0 in omega arith) after in
           record {
             parts = [];
             spelled = rw (last.1, none.0) refl;
@@ -276,13 +276,13 @@ module _ (p : ContactPlan) (h : List ℕ) where
 
   -- after the last LF there is nothing
   open_told : (n : ℕ) (line : List ℕ) (s t : Said) → last_line true n line s ≡ Ok t → (7 + s.count < n) × (line ≡ []) × (t ≡ s)
-  open_told n line s t e = by_tests (is_behind n s) refl (has_bytes line) refl e
+  open_told n line s t e = by_tests (is_after n s) refl (has_bytes line) refl e
     where
       empty : (line : List ℕ) → has_bytes line ≡ false → line ≡ []
       empty [] e = refl
       empty (b ∷ line) e = let none = ltb-false 0 (length (b ∷ line)) e in absurd (omega arith)
 
-      by_tests : (a : Bool) → is_behind n s ≡ a → (b : Bool) → has_bytes line ≡ b
+      by_tests : (a : Bool) → is_after n s ≡ a → (b : Bool) → has_bytes line ≡ b
           → cond (a && not b) (Ok s) (Err (misspelled n)) ≡ Ok t → (7 + s.count < n) × (line ≡ []) × (t ≡ s)
       by_tests true is false none e = let same : t ≡ s = cc in (ltb-true (7 + s.count) n is, empty line none, same)
       by_tests true is true some e = absurd cc
@@ -305,22 +305,22 @@ module _ (p : ContactPlan) (h : List ℕ) where
       all_told bytes lines s t whole same e many =
           let f1 = first_read 1 nothing_said s lines (omega arith) e many in
           let l1 = header_line_told nothing_said f1.next f1.line f1.said in
-          let f2 = first_read 2 f1.next s f1.rest (omega arith) f1.behind f1.many in
+          let f2 = first_read 2 f1.next s f1.rest (omega arith) f1.after f1.many in
           let l2 = digest_line_told f1.next f2.next f2.line f2.said in
-          let f3 = first_read 3 f2.next s f2.rest (omega arith) f2.behind f2.many in
+          let f3 = first_read 3 f2.next s f2.rest (omega arith) f2.after f2.many in
           let l3 = request_line_told f2.next f3.next f3.line f3.said in
-          let f4 = first_read 4 f3.next s f3.rest (omega arith) f3.behind f3.many in
+          let f4 = first_read 4 f3.next s f3.rest (omega arith) f3.after f3.many in
           let l4 = emitted_line_told f3.next f4.next f4.line f4.said in
-          let f5 = first_read 5 f4.next s f4.rest (omega arith) f4.behind f4.many in
+          let f5 = first_read 5 f4.next s f4.rest (omega arith) f4.after f4.many in
           let l5 = last_line_told f4.next f5.next f5.line f5.said in
-          let f6 = first_read 6 f5.next s f5.rest (omega arith) f5.behind f5.many in
+          let f6 = first_read 6 f5.next s f5.rest (omega arith) f5.after f5.many in
           let l6 = count_line_told f5.next f6.next f6.line f6.said in
           let version : f2.next.version ≡ l1.0 = ap (λ (x : Said). x.version) (l2.1 ∙ l1.2) in
           let said : f6.next ≡ record { version = l1.0; request = request_with l3.0; emitted = l4.0; last_route = l5.0; count = l6.0; parts = [] }
           = l6.3 ∙ ap (λ (x : Said). record x { count = l6.0 }) (l5.2 ∙ ap (λ (x : Said). record x { last_route = l5.0 }) (l4.2 ∙ ap (λ (x : Said). record x { emitted = l4.0 })
           (l3.3 ∙ ap (λ (x : Said). record x { request = request_with l3.0 }) (l2.1 ∙ l1.2)))) in
           let count : f6.next.count ≡ l6.0 = ap (λ (x : Said). x.count) said in
-          let parts = parts_told 7 f6.next s f6.rest (omega arith) (omega arith) f6.behind f6.many in
+          let parts = parts_told 7 f6.next s f6.rest (omega arith) (omega arith) f6.after f6.many in
           let filled : l6.0 ≡ length parts.parts = (let f = parts.filled in omega arith) in
           let final : t ≡ record { version = l1.0; request = request_with l3.0; emitted = l4.0; last_route = l5.0; count = l6.0; parts = parts.parts }
           = same ∙ parts.all ∙ ap (λ (x : Said). record x { parts = x.parts ++ parts.parts }) said in

@@ -115,10 +115,10 @@ slash_parted (u ∷ us) v vs e = by_first (is_slash u) refl e (slash_parted us v
 -- two lists with `/` between them
 pub slash_joined : (words : List (List ℕ)) (x y : List ℕ) → contacts_of (before_slash words) ≡ Some x → (v : List ℕ) (vs : List (List ℕ)) → after_slash words ≡ v ∷ vs → joined (after_slash words) ≡ y
     → joined words ≡ list_text x ++ (codes " / " ++ y)
-slash_joined words x y first v vs behind e =
+slash_joined words x y first v vs after e =
     let w = list_has_word 20000 1 4294967295 (before_slash words) x first in
-    let whole : words ≡ (w.0 ∷ w.1) ++ codes "/" ∷ v ∷ vs = slash_parted words v vs behind ∙ ap (λ (ws : List (List ℕ)). ws ++ codes "/" ∷ v ∷ vs) w.2 in
+    let whole : words ≡ (w.0 ∷ w.1) ++ codes "/" ∷ v ∷ vs = slash_parted words v vs after ∙ ap (λ (ws : List (List ℕ)). ws ++ codes "/" ∷ v ∷ vs) w.2 in
     let front : joined (w.0 ∷ w.1) ≡ list_text x = ap joined (sym w.2) ∙ list_told 20000 1 4294967295 (before_slash words) x first in
-    let back : joined (v ∷ vs) ≡ y = ap joined (sym behind) ∙ e in
+    let back : joined (v ∷ vs) ≡ y = ap joined (sym after) ∙ e in
     ap joined whole ∙ joined-append w.0 w.1 (codes "/") (v ∷ vs) ∙ ap (λ (t : List ℕ). t ++ 32 ∷ 47 ∷ 32 ∷ joined (v ∷ vs)) front
     ∙ ap (λ (t : List ℕ). list_text x ++ 32 ∷ 47 ∷ 32 ∷ t) back

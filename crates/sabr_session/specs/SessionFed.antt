@@ -5,7 +5,7 @@ use Rattle.sabr_plan.specs.Canonical.{digest_of}
 use Rattle.sabr_plan.specs.Steps.{and_then}
 use Rattle.sabr_plan.specs.Words.{has_bytes, lines_of}
 use Rattle.sabr_frontier.specs.Session.{Seen}
-use Rattle.sabr_session.specs.SessionRead.{Said, nothing_said, read_lines, is_behind, last_line, most_bytes, misspelled, ComesTo}
+use Rattle.sabr_session.specs.SessionRead.{Said, nothing_said, read_lines, is_after, last_line, most_bytes, misspelled, ComesTo}
 use Rattle.sabr_session.specs.declared.session_fault.SessionFault.{SessionFault}
 use Rattle.sabr_session.specs.declared.session_fault.SessionFault.TheVariants.{Read, NoMemory}
 
@@ -27,7 +27,7 @@ outcome p h s bytes ended =
 
 -- the beginning of line n that is refused whatever follows it: it has too many bytes, or a byte after `end`
 abbrev pub is_bad_front : ℕ → Said → List ℕ → Bool
-is_bad_front n s front = (is_behind n s && has_bytes front) || nat_lt most_bytes (length front)
+is_bad_front n s front = (is_after n s && has_bytes front) || nat_lt most_bytes (length front)
 
 -- over a plan, what was fed of a text that wasn't refused, and how often the finder of its session was called
 pub record OpenText : Type 0 where

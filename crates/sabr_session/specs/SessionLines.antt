@@ -14,8 +14,8 @@ use Rattle.sabr_session.specs.declared.reading.first_lines.Version.TheVariants.{
 use Rattle.sabr_model.specs.declared.request_values.RequestValues.{RequestValues}
 
 -- what stands after the label, if the text begins with it
-unfoldable pub behind_label : List ℕ → List ℕ → Option (List ℕ)
-behind_label label text = if bytes_eq (take (length label) text) label then Some (drop (length label) text) else None
+unfoldable pub after_label : List ℕ → List ℕ → Option (List ℕ)
+after_label label text = if bytes_eq (take (length label) text) label then Some (drop (length label) text) else None
 
 -- `cgr-session 1` or `cgr-session 2`: the version
 abbrev pub header_of : List ℕ → Option Version
@@ -34,7 +34,7 @@ is_digest text = (length text == 64) && list_all is_digest_digit text
 
 -- `plan H`: H
 unfoldable pub digest_named : List ℕ → Option (List ℕ)
-digest_named line = option_and_then (λ text. if is_digest text then Some text else None) (behind_label (codes "plan ") line)
+digest_named line = option_and_then (λ text. if is_digest text then Some text else None) (after_label (codes "plan ") line)
 
 -- the values of these words, if each has one, with the most hops and no node to avoid
 abbrev pub four_of : List ℕ → List ℕ → List ℕ → List ℕ → Option RequestValues
@@ -64,19 +64,19 @@ values_of Two words = limited_of words
 
 -- `request` and these words
 unfoldable pub request_of : Version → List ℕ → Option RequestValues
-request_of version line = option_and_then (λ text. values_of version (words_of text)) (behind_label (codes "request ") line)
+request_of version line = option_and_then (λ text. values_of version (words_of text)) (after_label (codes "request ") line)
 
 -- `emitted N`
 unfoldable pub emitted_of : List ℕ → Option ℕ
-emitted_of line = option_and_then (number_within 0 340282366920938463463374607431768211455) (behind_label (codes "emitted ") line)
+emitted_of line = option_and_then (number_within 0 340282366920938463463374607431768211455) (after_label (codes "emitted ") line)
 
 -- `last LIST`
 unfoldable pub last_listed : List ℕ → Option (List ℕ)
-last_listed line = option_and_then (λ text. contacts_of (words_of text)) (behind_label (codes "last ") line)
+last_listed line = option_and_then (λ text. contacts_of (words_of text)) (after_label (codes "last ") line)
 
 -- `parts M`
 unfoldable pub count_of : List ℕ → Option ℕ
-count_of line = option_and_then (number_within 0 18446744073709551615) (behind_label (codes "parts ") line)
+count_of line = option_and_then (number_within 0 18446744073709551615) (after_label (codes "parts ") line)
 
 -- what the third list of a part carries: `-` is no route
 abbrev pub carried_of : List ℕ → Option (List ℕ)
@@ -93,7 +93,7 @@ lists_of words =
 
 -- `part LIST / LIST / LIST`
 unfoldable pub part_of : List ℕ → Option PartState
-part_of line = option_and_then (λ text. lists_of (words_of text)) (behind_label (codes "part ") line)
+part_of line = option_and_then (λ text. lists_of (words_of text)) (after_label (codes "part ") line)
 
 -- `end`
 abbrev pub is_end : List ℕ → Bool

@@ -3,12 +3,12 @@ use Rattle.std.specs.Prelude.{◌≡◌, ℕ, ◌≤◌, true, false, List, Opti
 use Rattle.std.specs.List.{list_any}
 use Rattle.std.specs.Option.{option_copied}
 use Rattle.sabr_model.specs.Plan.{most_records}
-use Rattle.sabr_session.specs.SessionWords.{words_behind, counted, is_dash, is_slash, before_slash, after_slash, contact_numbers, contacts_of}
+use Rattle.sabr_session.specs.SessionWords.{words_after, counted, is_dash, is_slash, before_slash, after_slash, contact_numbers, contacts_of}
 use Rattle.sabr_session.specs.declared.reading.contact_list.ListEnd.{ListEnd}
 
 -- whether a list among these words ends at `/`, and the words after that
 abbrev pub EndsAt : List (List ℕ) → ListEnd → Type 0
-EndsAt words e = (e.stopped ≡ list_any is_slash words) × (words_behind (option_copied e.rest) ≡ after_slash words)
+EndsAt words e = (e.stopped ≡ list_any is_slash words) × (words_after (option_copied e.rest) ≡ after_slash words)
 
 -- up to `/` there is `-` alone
 abbrev pub FindsDash : List (List ℕ) → Option ListEnd → Type 0

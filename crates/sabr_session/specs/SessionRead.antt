@@ -63,8 +63,8 @@ rise_strictly [] = true
 rise_strictly (x ∷ xs) = rises_above x xs
 
 -- the prefix comes after that of the last part
-abbrev pub comes_behind : List PartState → List ℕ → Bool
-comes_behind parts q = option_map_or (λ t. numbers_before t.prefix q) (last_item parts) true
+abbrev pub comes_after : List PartState → List ℕ → Bool
+comes_after parts q = option_map_or (λ t. numbers_before t.prefix q) (last_item parts) true
 
 -- what the part carries, if anything, is a route of the part
 abbrev pub may_carry : ContactPlan → RouteRequest → PartState → Bool
@@ -74,7 +74,7 @@ may_carry p r t = option_map_or (in_part p r t.prefix t.excluded) t.carried true
 -- carries is a route of it
 abbrev pub placed : ContactPlan → ℕ → Said → PartState → Result Said SessionFault
 placed p n s t =
-    if not (rise_strictly t.excluded && comes_behind s.parts t.prefix) then Err (BadLine n)
+    if not (rise_strictly t.excluded && comes_after s.parts t.prefix) then Err (BadLine n)
     else if not (may_carry p s.request t) then Err (BadRoute n)
     else Ok (record s { parts = s.parts ++ t ∷ [] })
 
@@ -134,15 +134,15 @@ read_lines p h n s [] = Ok s
 read_lines p h n s (line ∷ lines) = and_then (read_line p h n s line) (λ s₁. read_lines p h (n + 1) s₁ lines)
 
 -- line n is after `end`
-abbrev pub is_behind : ℕ → Said → Bool
-is_behind n s = nat_lt (7 + s.count) n
+abbrev pub is_after : ℕ → Said → Bool
+is_after n s = nat_lt (7 + s.count) n
 
 -- after the last LF these bytes of line n stand: the text may end, or its reader fail, after the LF of `end` alone;
 -- any byte there is a fault, and so is an unfinished line if the text ends or the line is too long
 abbrev pub last_line : Bool → ℕ → List ℕ → Said → Result Said SessionFault
 last_line ended n line s =
-    if is_behind n s && not (has_bytes line) then (if ended then Ok s else Err Read)
-    else if ended || is_behind n s || nat_lt most_bytes (length line) then Err (misspelled n)
+    if is_after n s && not (has_bytes line) then (if ended then Ok s else Err Read)
+    else if ended || is_after n s || nat_lt most_bytes (length line) then Err (misspelled n)
     else Err Read
 
 -- what all lines say, or the first fault in them; `ended` says whether the reader ended after these bytes, or failed

@@ -16,9 +16,9 @@ unfoldable pub words_of : List ℕ → List (List ℕ)
 words_of text = slice_split is_space text
 
 -- the words after a space, if there is one
-abbrev pub words_behind : Option (List ℕ) → List (List ℕ)
-words_behind None = []
-words_behind (Some text) = words_of text
+abbrev pub words_after : Option (List ℕ) → List (List ℕ)
+words_after None = []
+words_after (Some text) = words_of text
 
 -- the values of all, if each has one
 abbrev pub all_of : List (Option ℕ) → Option (List ℕ)
@@ -44,9 +44,13 @@ list_within most low high words = if is_dash words then Some [] else counted mos
 abbrev pub contact_numbers : List (List ℕ) → Option (List ℕ)
 contact_numbers words = all_of (map (number_within 1 4294967295) words)
 
--- the nodes that all the words are, one to 16 of them
+-- the greatest number of nodes that a request avoids
+abbrev pub most_avoided : ℕ
+most_avoided = 16
+
+-- the nodes that all the words are, one to as many as a request avoids
 abbrev pub node_numbers : List (List ℕ) → Option (List ℕ)
-node_numbers words = counted 16 (all_of (map (number_within 0 18446744073709551615) words))
+node_numbers words = counted most_avoided (all_of (map (number_within 0 18446744073709551615) words))
 
 -- a list of contact numbers
 abbrev pub contacts_of : List (List ℕ) → Option (List ℕ)
@@ -54,7 +58,7 @@ contacts_of words = list_within most_records 1 4294967295 words
 
 -- a list of nodes
 abbrev pub nodes_of : List (List ℕ) → Option (List ℕ)
-nodes_of words = list_within 16 0 18446744073709551615 words
+nodes_of words = list_within most_avoided 0 18446744073709551615 words
 
 -- the word `/`, which separates lists
 abbrev pub is_slash : List ℕ → Bool

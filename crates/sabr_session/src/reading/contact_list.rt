@@ -23,13 +23,13 @@ fn dash_to_slash(text: &[u8]) -> Option<ListEnd<'_>>
     if !is_word(word, b"-") {
         return None;
     }
-    let Some(behind) = others else {
+    let Some(after) = others else {
         return Some(ListEnd {
             stopped: false,
             rest: None,
         });
     };
-    let (next, rest) = first_word(behind);
+    let (next, rest) = first_word(after);
     if is_word(next, b"/") {
         Some(ListEnd {
             stopped: true,
@@ -50,8 +50,8 @@ fn numbers_to_slash<'a, A: Allocator + Copy>(
 {
     numbers.clear();
     let mut left = Some(text);
-    while let Some(behind) = left {
-        let (word, number, others) = first_number(behind);
+    while let Some(after) = left {
+        let (word, number, others) = first_number(after);
         let Some(number) = number else {
             if !is_word(word, b"/") {
                 return Ok(None);

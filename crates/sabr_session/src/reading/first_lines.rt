@@ -3,7 +3,7 @@
 ghost use Rattle.std.specs.Prelude.{◌≡◌, IfOk, length};
 ghost use Rattle.std.specs.List.{list_all};
 ghost use Rattle.std.specs.Option.{option_copied};
-ghost use Rattle.sabr_session.specs.SessionLines.{behind_label, header_of, is_digest_digit, is_digest, digest_named, emitted_of, last_listed, count_of, is_end};
+ghost use Rattle.sabr_session.specs.SessionLines.{after_label, header_of, is_digest_digit, is_digest, digest_named, emitted_of, last_listed, count_of, is_end};
 
 use crate::reading::contact_list::list_to_end;
 use crate::reading::count::count_within;
@@ -24,8 +24,8 @@ pub(crate) enum Version {
 }
 
 /// Returns what stands after the label, if the text begins with it.
-pub(crate) fn behind_label<'a>(label: &[u8], text: &'a [u8]) -> Option<&'a [u8]>
-    ensures { option_copied result ≡ behind_label label.now text.now }
+pub(crate) fn after_label<'a>(label: &[u8], text: &'a [u8]) -> Option<&'a [u8]>
+    ensures { option_copied result ≡ after_label label.now text.now }
 {
     if text.len() < label.len() {
         return None;
@@ -66,7 +66,7 @@ fn are_digest_digits(text: &[u8]) -> bool
 pub(crate) fn digest_named(line: &[u8]) -> Option<&[u8]>
     ensures { option_copied result ≡ digest_named line.now }
 {
-    let text = behind_label(b"plan ", line)?;
+    let text = after_label(b"plan ", line)?;
     if text.len() == DIGEST_DIGITS && are_digest_digits(text) {
         Some(text)
     } else {
@@ -79,7 +79,7 @@ pub(crate) fn digest_named(line: &[u8]) -> Option<&[u8]>
 pub(crate) fn emitted_of(line: &[u8]) -> Option<u128>
     ensures { result ≡ emitted_of line.now }
 {
-    let text = behind_label(b"emitted ", line)?;
+    let text = after_label(b"emitted ", line)?;
     count_within(text)
 }
 
@@ -91,7 +91,7 @@ pub(crate) fn last_listed<A: Allocator + Copy>(
 ) -> Result<Option<Numbers<A>>, NoMemory>
     ensures { IfOk result (λ found. found ≡ last_listed line.now) }
 {
-    let Some(text) = behind_label(b"last ", line) else {
+    let Some(text) = after_label(b"last ", line) else {
         return Ok(None);
     };
     let mut numbers = Vec::new(alloc);
@@ -107,7 +107,7 @@ pub(crate) fn last_listed<A: Allocator + Copy>(
 pub(crate) fn count_of(line: &[u8]) -> Option<u64>
     ensures { result ≡ count_of line.now }
 {
-    let text = behind_label(b"parts ", line)?;
+    let text = after_label(b"parts ", line)?;
     number_within(text, 0, u64::MAX)
 }
 

@@ -1,7 +1,7 @@
 //! The lines of a session text that LF has ended.
 
 ghost use Rattle.std.specs.Prelude.{◌≡◌, ◌+◌, ◌≤◌, nat_lt, true, Ok, IfOk, OnOk, OnErr};
-ghost use Rattle.sabr_session.specs.SessionRead.{is_behind, line_said, other_said};
+ghost use Rattle.sabr_session.specs.SessionRead.{is_after, line_said, other_said};
 ghost use Rattle.sabr_session.specs.SessionFed.{most_lines, opened_over, IsSessionFrom};
 ghost use Rattle.sabr_session.specs.SessionLeaving.{Leaves};
 ghost use Rattle.sabr_session.specs.SessionStage.{said_with};
@@ -134,7 +134,7 @@ impl<'p, B: BestOf<A>, A: Allocator + Copy> LinesRead<'p, B, A> {
 
     /// Returns whether `end` was read.
     pub(crate) fn has_end(&self) -> bool
-        ensures { result ≡ is_behind (self.now.fed.lines + 1) self.now.fed.said }
+        ensures { result ≡ is_after (self.now.fed.lines + 1) self.now.fed.said }
     {
         self.lines + 1 > OTHER_LINES + u128::from(self.head.count())
     }
@@ -161,7 +161,7 @@ impl<'p, B: BestOf<A>, A: Allocator + Copy> LinesRead<'p, B, A> {
 
     /// Returns the session of all lines, after `end`.
     pub(crate) fn into_session(self) -> Result<Session<'p, B, A>, SessionFault>
-        requires { is_behind (self.fed.lines + 1) self.fed.said ≡ true }
+        requires { is_after (self.fed.lines + 1) self.fed.said ≡ true }
         ensures from { IsSessionFrom self.entry.plan (Ok self.entry.fed.said) result }
         ensures calls { IfOk result (λ s. s.calls ≡ self.entry.calls) }
     {

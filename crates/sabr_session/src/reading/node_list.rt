@@ -13,8 +13,8 @@ fn numbers_listed(text: &[u8]) -> Option<NodeList>
 {
     let mut nodes = NodeList::new();
     let mut left = Some(text);
-    while let Some(behind) = left {
-        let (word, others) = first_word(behind);
+    while let Some(after) = left {
+        let (word, others) = first_word(after);
         nodes.push(number_within(word, 0, u64::MAX)?)?;
         left = others;
     }
@@ -27,7 +27,7 @@ fn is_dash(text: &[u8]) -> bool
 {
     let (word, others) = first_word(text);
     match others {
-        Some(_behind) => false,
+        Some(_after) => false,
         None => is_word(word, b"-"),
     }
 }

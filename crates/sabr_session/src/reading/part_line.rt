@@ -6,7 +6,7 @@ ghost use Rattle.sabr_session.specs.SessionWords.{words_of};
 ghost use Rattle.sabr_session.specs.SessionLines.{carried_of, lists_of, part_of};
 
 use crate::reading::contact_list::{list_to_end, list_to_slash};
-use crate::reading::first_lines::behind_label;
+use crate::reading::first_lines::after_label;
 use sabr_model::NoMemory;
 use std::alloc::Allocator;
 use std::marker::Model;
@@ -50,7 +50,7 @@ impl<A: Allocator + Copy> PartLine<A> {
     pub(crate) fn read(&mut self, line: &[u8]) -> Result<bool, NoMemory>
         ensures { IfOk result (λ found. part_of line.now ≡ (if found then Some self.new else None)) }
     {
-        let Some(text) = behind_label(b"part ", line) else {
+        let Some(text) = after_label(b"part ", line) else {
             return Ok(false);
         };
         self.read_lists(text)
@@ -63,16 +63,16 @@ impl<A: Allocator + Copy> PartLine<A> {
         let Some(prefix) = list_to_slash(&mut self.prefix, text)? else {
             return Ok(false);
         };
-        let Some(behind) = prefix.rest else {
+        let Some(after) = prefix.rest else {
             return Ok(false);
         };
-        let Some(excluded) = list_to_slash(&mut self.excluded, behind)? else {
+        let Some(excluded) = list_to_slash(&mut self.excluded, after)? else {
             return Ok(false);
         };
-        let Some(behind) = excluded.rest else {
+        let Some(after) = excluded.rest else {
             return Ok(false);
         };
-        list_to_end(&mut self.route, behind)
+        list_to_end(&mut self.route, after)
     }
 
     /// The numbers that each route of the part begins with.

@@ -2,10 +2,10 @@
 
 ghost use Rattle.std.specs.Prelude.{◌≡◌, ◌∷◌, ◌<◌, None, Some, length, MatchOption};
 ghost use Rattle.std.specs.Option.{option_copied};
-ghost use Rattle.sabr_session.specs.SessionWords.{words_of, words_behind};
+ghost use Rattle.sabr_session.specs.SessionWords.{words_of, words_after};
 ghost use Rattle.sabr_session.specs.SessionLines.{four_of, unlimited_of, limited_of, values_of, request_of};
 
-use crate::reading::first_lines::{Version, behind_label};
+use crate::reading::first_lines::{Version, after_label};
 use crate::reading::node_list::nodes_of;
 use crate::reading::words::{first_word, is_word};
 use sabr_model::{MOST_HOPS, NodeList, RequestValues};
@@ -16,7 +16,7 @@ const MOST_VALUE: u64 = 4294967295;
 
 /// Splits off the first four words, and returns what stands after them, too. `None` if there are fewer.
 fn four_words(text: &[u8]) -> Option<(&[u8], &[u8], &[u8], &[u8], Option<&[u8]>)>
-    ensures { MatchOption result (length (words_of text.now) < 4) (λ w. words_of text.now ≡ w.0.now ∷ w.1.now ∷ w.2.now ∷ w.3.now ∷ words_behind (option_copied w.4)) }
+    ensures { MatchOption result (length (words_of text.now) < 4) (λ w. words_of text.now ≡ w.0.now ∷ w.1.now ∷ w.2.now ∷ w.3.now ∷ words_after (option_copied w.4)) }
 {
     let (one, rest) = first_word(text);
     let (two, rest) = first_word(rest?);
@@ -48,7 +48,7 @@ fn unlimited_of(text: &[u8]) -> Option<RequestValues>
     ensures { result ≡ unlimited_of (words_of text.now) }
 {
     let (from, to, time, margin, rest) = four_words(text)?;
-    if let Some(_behind) = rest {
+    if let Some(_after) = rest {
         return None;
     }
     four_of(from, to, time, margin)
@@ -79,7 +79,7 @@ fn limited_of(text: &[u8]) -> Option<RequestValues>
 pub(crate) fn request_of(version: Version, line: &[u8]) -> Option<RequestValues>
     ensures { result ≡ request_of version line.now }
 {
-    let text = behind_label(b"request ", line)?;
+    let text = after_label(b"request ", line)?;
     match version {
         Version::One => unlimited_of(text),
         Version::Two => limited_of(text),

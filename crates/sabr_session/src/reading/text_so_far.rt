@@ -29,14 +29,14 @@ impl<'p, B: BestOf<A>, A: Allocator + Copy> Model for TextSoFar<'p, B, A> {
     ghost use Rattle.std.specs.Prelude.{◌≡◌, ◌+◌, ◌&&◌, false, IsTrue};
     ghost use Rattle.sabr_plan.specs.Canonical.{digest_of};
     ghost use Rattle.sabr_plan.specs.Words.{has_bytes, is_one_line};
-    ghost use Rattle.sabr_session.specs.SessionRead.{is_behind};
+    ghost use Rattle.sabr_session.specs.SessionRead.{is_after};
     ghost use Rattle.sabr_session.specs.SessionFed.{OpenText};
 
     ghost Value = { OpenText };
 
     ghost view = { λ t. record { plan = t.lines.plan; calls = t.lines.calls; fed = record { lines = t.lines.fed.lines; said = t.lines.fed.said; held = t.held } } };
 
-    ghost invariant = { λ t. (t.digest ≡ digest_of t.lines.plan.plan) × ((is_behind (t.lines.fed.lines + 1) t.lines.fed.said && has_bytes t.held) ≡ false) × IsTrue (is_one_line t.held) };
+    ghost invariant = { λ t. (t.digest ≡ digest_of t.lines.plan.plan) × ((is_after (t.lines.fed.lines + 1) t.lines.fed.said && has_bytes t.held) ≡ false) × IsTrue (is_one_line t.held) };
 }
 
 /// Returns the fault of a misspelled line of this number.

@@ -5,7 +5,7 @@ ghost use Rattle.std.specs.List.{position};
 ghost use Rattle.std.specs.Option.{option_copied};
 ghost use Rattle.std.specs.Str.{bytes_eq};
 ghost use Rattle.sabr_plan.specs.Numbers.{number_within};
-ghost use Rattle.sabr_session.specs.SessionWords.{is_space, words_of, words_behind};
+ghost use Rattle.sabr_session.specs.SessionWords.{is_space, words_of, words_after};
 
 use sabr_plan::{leading_number, number_within};
 
@@ -21,7 +21,7 @@ fn first_space(text: &[u8]) -> Option<usize>
 
 /// Splits off the first word. With it comes what stands after its space, if there is one.
 pub(crate) fn first_word(text: &[u8]) -> (&[u8], Option<&[u8]>)
-    ensures words { words_of text.now ≡ result.0.now ∷ words_behind (option_copied result.1) }
+    ensures words { words_of text.now ≡ result.0.now ∷ words_after (option_copied result.1) }
     ensures shorter { IfSome result.1 (λ rest. length rest.now < length text.now) }
 {
     match first_space(text) {
@@ -41,15 +41,15 @@ pub(crate) fn is_word(word: &[u8], text: &[u8]) -> bool
 /// number, and what stands after its space. `None` says nothing about the word.
 #[inline(always)]
 fn plain_number(text: &[u8]) -> Option<(&[u8], u64, Option<&[u8]>)>
-    ensures words { IfSome result (λ r. words_of text.now ≡ r.0.now ∷ words_behind (option_copied r.2)) }
+    ensures words { IfSome result (λ r. words_of text.now ≡ r.0.now ∷ words_after (option_copied r.2)) }
     ensures number { IfSome result (λ r. number_within 1 4294967295 r.0.now ≡ Some r.1) }
     ensures limit { IfSome result (λ r. r.1 ≤ 4294967295) }
 {
-    let (value, word, behind) = leading_number(text, 1, MOST_NUMBER)?;
-    if behind.is_empty() {
+    let (value, word, after) = leading_number(text, 1, MOST_NUMBER)?;
+    if after.is_empty() {
         return Some((word, value, None));
     }
-    let rest = behind.strip_prefix(b" ")?;
+    let rest = after.strip_prefix(b" ")?;
     Some((word, value, Some(rest)))
 }
 
@@ -57,7 +57,7 @@ fn plain_number(text: &[u8]) -> Option<(&[u8], u64, Option<&[u8]>)>
 /// there is one. A plainly spelled number is read in one pass.
 #[inline(always)]
 pub(crate) fn first_number(text: &[u8]) -> (&[u8], Option<u64>, Option<&[u8]>)
-    ensures words { words_of text.now ≡ result.0.now ∷ words_behind (option_copied result.2) }
+    ensures words { words_of text.now ≡ result.0.now ∷ words_after (option_copied result.2) }
     ensures number { result.1 ≡ number_within 1 4294967295 result.0.now }
     ensures limit { IfSome result.1 (λ n. n ≤ 4294967295) }
 {

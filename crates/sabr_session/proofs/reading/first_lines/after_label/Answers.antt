@@ -1,6 +1,6 @@
 use Rattle.std.proofs.Common.{sym, ◌∙◌, true, false}
 use Rattle.sabr_session.proofs.Labels.{label-short, label-front}
-use Rattle.sabr_session.proofs.reading.first_lines.behind_label.Goals as goal
+use Rattle.sabr_session.proofs.reading.first_lines.after_label.Goals as goal
 
 pub returns-then-text-label : goal.returns-then-text-label
 returns-then-text-label c = sym (label-short c.args.label.now c.args.text.now c.if-text-label.true)

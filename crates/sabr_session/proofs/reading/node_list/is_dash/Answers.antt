@@ -1,6 +1,6 @@
 use Rattle.std.proofs.Common.{◌≡◌, ℕ, ◌<◌, false, List, [], ◌∷◌, length, refl, sym, ap, ◌∙◌, arith}
 use Rattle.std.specs.Option.{option_copied}
-use Rattle.sabr_session.specs.SessionWords.{words_of, words_behind, is_dash}
+use Rattle.sabr_session.specs.SessionWords.{words_of, words_after, is_dash}
 use Rattle.sabr_session.proofs.SpacedWords.{some_word}
 use Rattle.sabr_session.proofs.reading.node_list.is_dash.Goals as goal
 
@@ -11,5 +11,5 @@ two w (v ∷ ws) some = refl
 
 pub returns-in-Some : goal.returns-in-Some
 returns-in-Some c =
-    let h = c.first_word.ensures.words ∙ ap (λ o. c.first_word.result.0.now ∷ words_behind (option_copied o)) c.in-Some.is in
-    rw h (sym (two c.first_word.result.0.now (words_of c.in-Some._behind.now) (some_word c.in-Some._behind.now)))
+    let h = c.first_word.ensures.words ∙ ap (λ o. c.first_word.result.0.now ∷ words_after (option_copied o)) c.in-Some.is in
+    rw h (sym (two c.first_word.result.0.now (words_of c.in-Some._after.now) (some_word c.in-Some._after.now)))

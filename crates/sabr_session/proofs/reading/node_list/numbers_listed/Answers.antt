@@ -1,5 +1,5 @@
 use Rattle.std.proofs.Common.{ap, arith, length}
-use Rattle.sabr_session.proofs.ReadNumbers.{behind-nil}
+use Rattle.sabr_session.proofs.ReadNumbers.{with_front-nil}
 use Rattle.sabr_session.proofs.SpacedWords.{some_word}
 use Rattle.sabr_session.proofs.reading.node_list.numbers_listed.Goals as goal
 
@@ -7,5 +7,5 @@ pub loop-left-init : goal.loop-left-init
 loop-left-init c = record {
   few = omega (arith, ap length c.new-nodes.ensures);
   some = λ e. absurd (omega (arith, ap length e, some_word c.args.text.now));
-  listed = rw c.new-nodes.ensures (behind-nil _);
+  listed = rw c.new-nodes.ensures (with_front-nil _);
 }

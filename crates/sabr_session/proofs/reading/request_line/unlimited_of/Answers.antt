@@ -1,7 +1,7 @@
 use Rattle.std.proofs.Common.{◌≡◌, ℕ, ◌<◌, List, [], ◌∷◌, length, refl, sym, ap, arith}
 use Rattle.std.specs.Option.{option_copied}
 use Rattle.std.specs.declared.option.Option.TheVariants.{None}
-use Rattle.sabr_session.specs.SessionWords.{words_of, words_behind}
+use Rattle.sabr_session.specs.SessionWords.{words_of, words_after}
 use Rattle.sabr_session.specs.SessionLines.{unlimited_of}
 use Rattle.sabr_session.proofs.SpacedWords.{some_word}
 use Rattle.sabr_session.proofs.reading.request_line.unlimited_of.Goals as goal
@@ -14,5 +14,5 @@ five a b c d (w ∷ ws) some = refl
 pub returns-in-Some : goal.returns-in-Some
 returns-in-Some c =
     let h = c.in_ok-from.ensures in
-    let behind = ap (λ o. words_behind (option_copied o)) c.in-Some.is in
-    rw (h, behind) (sym (five c.in_ok-from.from.now c.in_ok-from.to.now c.in_ok-from.time.now c.in_ok-from.margin.now (words_of c.in-Some._behind.now) (some_word c.in-Some._behind.now)))
+    let after = ap (λ o. words_after (option_copied o)) c.in-Some.is in
+    rw (h, after) (sym (five c.in_ok-from.from.now c.in_ok-from.to.now c.in_ok-from.time.now c.in_ok-from.margin.now (words_of c.in-Some._after.now) (some_word c.in-Some._after.now)))

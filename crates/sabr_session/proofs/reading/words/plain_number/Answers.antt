@@ -11,7 +11,7 @@ pub returns-then-is_empty-clause-words : goal.returns-then-is_empty-clause-words
 returns-then-is_empty-clause-words c =
     let d = c.in_ok-value.ensures in
     let word = c.in_ok-value.word.now in
-    let none = nil_from_length c.in_ok-value.behind.now (grind (arith, nat_tests)) in
+    let none = nil_from_length c.in_ok-value.after.now (grind (arith, nat_tests)) in
     ap words_of (d.parts ∙ ap (λ (t : List ℕ). word ++ t) none ∙ append-nil word) ∙ digits-alone word d.digits.1
 
 pub returns-clause-words : goal.returns-clause-words
@@ -19,5 +19,5 @@ returns-clause-words c =
     let d = c.in_ok-value.ensures in
     let word = c.in_ok-value.word.now in
     let rest = c.in_ok-rest.rest.now in
-    let space = behind_prefix c.in_ok-value.behind.now (32 ∷ []) rest c.in_ok-rest.ensures.cases.0 c.in_ok-rest.ensures.cases.1 in
+    let space = behind_prefix c.in_ok-value.after.now (32 ∷ []) rest c.in_ok-rest.ensures.cases.0 c.in_ok-rest.ensures.cases.1 in
     ap words_of (d.parts ∙ ap (λ (t : List ℕ). word ++ t) space) ∙ digits-ahead word rest d.digits.1
