@@ -1,6 +1,7 @@
 //! The steps that run a command over the plan's text and the session's text.
 
 ghost use Rattle.std.specs.Prelude.{◌≤◌, IfSome};
+ghost use Rattle.sabr_frontier.specs.Listing.{most_routes};
 
 use crate::answers::refused;
 use crate::desk::Desk;
@@ -90,7 +91,7 @@ fn status_of<A: Allocator + Copy>(
 
 /// Takes a count of routes, and whether the session is kept.
 fn count_of(words: &mut Words<'_>) -> Option<(u32, bool)>
-    ensures { IfSome result (λ asked. (1 ≤ asked.0) × (asked.0 ≤ 10000)) }
+    ensures { IfSome result (λ asked. (1 ≤ asked.0) × (asked.0 ≤ most_routes)) }
 {
     let count = small_number(words)?;
     let keeps = words.next() == Some("keep");

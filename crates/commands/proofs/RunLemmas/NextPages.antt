@@ -22,7 +22,7 @@ use Rattle.sabr_session.proofs.OneAnswer.{answers_once}
 use Rattle.commands.specs.declared.failure.Failure.{Failure}
 use Rattle.commands.specs.declared.failure.Failure.TheVariants as failure
 use Rattle.commands.specs.texts.Messages.{failure_of_session}
-use Rattle.commands.specs.runs.SessionRuns.{WritesNextPage, WritesPage, next_report, report_behind, kept_text, place_of}
+use Rattle.commands.specs.runs.SessionRuns.{WritesNextPage, WritesPage, next_report, report_after, kept_text, place_of}
 use Rattle.commands.specs.runs.NextPage.{report_from, text_after, NextGoesOn}
 use Rattle.commands.proofs.RunLemmas.RunsFollow.{next_within, text_begins}
 
@@ -79,8 +79,8 @@ module _ (p : TabledPlan) (bytes : List ℕ) (good : IsPlan p.plan) (text : IsSe
   report_is : (count : ℕ) → next_report p.plan place.0 place.1 count ≡ report_from p.plan text.request text.place count
   report_is count =
       let page = page_of p.plan text.request text.place count in
-      ap (λ n. report_behind p.plan text.request n (steps p.plan place.0 count place.1)) (emitted_at p.plan text.request text.place text.within)
-      ∙ ap (report_behind p.plan text.request text.place) (page_is count)
+      ap (λ n. report_after p.plan text.request n (steps p.plan place.0 count place.1)) (emitted_at p.plan text.request text.place text.within)
+      ∙ ap (report_after p.plan text.request text.place) (page_is count)
       ∙ ap (report_text (map (record_of p.plan text.request) page) (text.place + 1))
       ((steps_follow p.plan text.request good).carries (text.place + length page) (next_within p.plan text.request good text.accepted text.place count text.within))
 

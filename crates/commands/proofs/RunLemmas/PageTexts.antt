@@ -20,20 +20,20 @@ pub flush_failed : (a b c : Output) (text : List ℕ) → Written a text b → K
 flush_failed a b c text p q e = ((text, ([], sym (append-nil text)), Appends-kept a.contents b.contents c.contents text p.0 q), e ∙ ap (λ j. j + 1) p.1)
 
 -- the report of a page, from the session before it and the session after it
-pub report_of_page : (before behind : Seen) (k : ℕ) (routes : List RouteRecord) (rank : ℕ) (more : Bool)
+pub report_of_page : (before after : Seen) (k : ℕ) (routes : List RouteRecord) (rank : ℕ) (more : Bool)
     → routes ≡ map (record_of before.plan.plan before.request) (steps before.plan.plan before.request k before.state).0
-    → rank ≡ before.state.emitted → more ≡ is_some (next_route behind.plan.plan behind.request behind.state)
-    → behind.plan ≡ before.plan → behind.request ≡ before.request → behind.state ≡ (steps before.plan.plan before.request k before.state).1
+    → rank ≡ before.state.emitted → more ≡ is_some (next_route after.plan.plan after.request after.state)
+    → after.plan ≡ before.plan → after.request ≡ before.request → after.state ≡ (steps before.plan.plan before.request k before.state).1
     → report_text routes (rank + 1) more ≡ next_report before.plan.plan before.request before.state k
-report_of_page before behind k routes rank more given count goes_on plan request state =
+report_of_page before after k routes rank more given count goes_on plan request state =
     rw (given, count, goes_on, plan, request, state) refl
 
 -- the text of the session after a page
-pub text_behind : (before behind : Seen) (k : ℕ) → behind.plan ≡ before.plan → behind.request ≡ before.request
-    → behind.state ≡ (steps before.plan.plan before.request k before.state).1
-    → text_of (digest_of behind.plan.plan) behind.request behind.state
+pub text_of_page : (before after : Seen) (k : ℕ) → after.plan ≡ before.plan → after.request ≡ before.request
+    → after.state ≡ (steps before.plan.plan before.request k before.state).1
+    → text_of (digest_of after.plan.plan) after.request after.state
     ≡ text_of (digest_of before.plan.plan) before.request (steps before.plan.plan before.request k before.state).1
-text_behind before behind k plan request state = rw (plan, request, state) refl
+text_of_page before after k plan request state = rw (plan, request, state) refl
 
 -- the report's writer failed: nothing is left on the session's
 pub report_failed : (keep : Bool) (report text : List ℕ) (end : Result (Unit {0}) Failure) (a c b : Output)

@@ -80,11 +80,11 @@ module _ (p : ContactPlan) (r : RouteRequest) (good : IsPlan p) (accepted : IsRe
       (run.0, run.1 ∙ at ∙ ap (λ n. (r, state_at p r n)) count)
   stands i h (answered k ∷ es) given y x at (first, z, rest, led, on, joined) =
       let page : List (List ℕ) = page_of p r i k in
-      let behind : ℕ = i + length page in
+      let after : ℕ = i + length page in
       let same : first ≡ page = led.0 ∙ ap (λ (w : List (List ℕ) × State). w.0) (page_led i k x h at) in
-      let stood = stands behind (next_within i k h) es rest y z (led.1 ∙ place_led i k x h at) on in
+      let stood = stands after (next_within i k h) es rest y z (led.1 ∙ place_led i k x h at) on in
       let whole : length given ≡ length page + length rest = ap length joined ∙ length-append first rest ∙ ap (λ (l : List (List ℕ)). length l + length rest) same in
-      let count : behind + length rest ≡ i + length given = omega (arith, whole) in
+      let count : after + length rest ≡ i + length given = omega (arith, whole) in
       (joined ∙ ap (λ l. l ++ rest) same ∙ ap (λ l. page ++ l) stood.0 ∙ pages_joined i k (asked_for es), stood.1 ∙ ap (λ n. (r, state_at p r n)) count)
   stands i h (refused ∷ es) given y x at (first, z, rest, led, on, joined) =
       stays i es first rest given y led.0 joined (stands i h es rest y z (led.1 ∙ at) on)

@@ -11,7 +11,7 @@ use Rattle.sabr_frontier.specs.Listing.{state_at, steps, next_route}
 use Rattle.sabr_frontier.proofs.Lawful.{steps_follow}
 use Rattle.sabr_session.specs.ReportText.{report_text}
 use Rattle.commands.specs.runs.Runs.{first_report}
-use Rattle.commands.specs.runs.SessionRuns.{next_report, report_behind}
+use Rattle.commands.specs.runs.SessionRuns.{next_report, report_after}
 
 none_before : (n : ℕ) → 0 + n ≡ n
 none_before n = omega arith
@@ -33,8 +33,8 @@ taken (suc k) (x ∷ xs) = elim (taken k xs) [
 ]
 
 -- the list goes on after its first k members exactly if it has more than k
-behind : {X : Type 0} (k : ℕ) (xs : List X) → nat_lt (length (take k xs)) (length xs) ≡ nat_lt k (length xs)
-behind k xs = elim (taken k xs) [
+after : {X : Type 0} (k : ℕ) (xs : List X) → nat_lt (length (take k xs)) (length xs) ≡ nat_lt k (length xs)
+after k xs = elim (taken k xs) [
   | inl h ↦ ap (λ n. nat_lt n (length xs)) h.1
   | inr h ↦ let e = h.1 in let le = h.0 in rw e (grind (arith, nat_tests))
 ]
@@ -43,16 +43,16 @@ within : {X : Type 0} (k : ℕ) (xs : List X) → length (take k xs) ≤ length 
 within k xs = elim (taken k xs) [ inl h ↦ let e = h.1 in let lt = h.0 in omega arith | inr h ↦ let e = h.1 in omega arith ]
 
 -- a route is carried after the first page exactly if the list goes on
-more_behind : (p : ContactPlan) (r : RouteRequest) (k : ℕ) → IsPlan p
+more_after : (p : ContactPlan) (r : RouteRequest) (k : ℕ) → IsPlan p
     → is_some (next_route p r (state_at p r (length (page_of p r 0 k)))) ≡ nat_lt k (length (routes p r))
-more_behind p r k rules = (steps_follow p r rules).carries (length (take k (routes p r))) (within k (routes p r)) ∙ behind k (routes p r)
+more_after p r k rules = (steps_follow p r rules).carries (length (take k (routes p r))) (within k (routes p r)) ∙ after k (routes p r)
 
 -- the report of the steps from the first place is that of the first page
 pub first_report_is : (p : ContactPlan) (r : RouteRequest) (k : ℕ) → IsPlan p → next_report p r (state_at p r 0) k ≡ first_report p r k
 unfolding state_at
 first_report_is p r k rules =
-    ap (report_behind p r 0) (first_steps p r k rules)
-    ∙ ap (report_text (map (record_of p r) (page_of p r 0 k)) 1) (more_behind p r k rules)
+    ap (report_after p r 0) (first_steps p r k rules)
+    ∙ ap (report_text (map (record_of p r) (page_of p r 0 k)) 1) (more_after p r k rules)
 
 -- and they lead to the place that it reaches
 pub first_place : (p : ContactPlan) (r : RouteRequest) (k : ℕ) → IsPlan p → (steps p r k (state_at p r 0)).1 ≡ state_at p r (length (page_of p r 0 k))

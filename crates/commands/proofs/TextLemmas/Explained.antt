@@ -22,7 +22,7 @@ use Rattle.sabr_model.proofs.Prefixes.{empty_is_path}
 use Rattle.sabr_model.proofs.Faults.{hop_is_good, good_is_path, path_is_good, route_has_no_fault, fault_is_no_route}
 use Rattle.sabr_plan.specs.Times.{last_spelled}
 use Rattle.sabr_session.specs.ReportText.{route_line}
-use Rattle.commands.specs.texts.Explanation.{hop_line, line_behind, hop_lines, fault_line, ending_line}
+use Rattle.commands.specs.texts.Explanation.{hop_line, line_after, hop_lines, fault_line, ending_line}
 use Rattle.commands.specs.texts.Followed.{hops_before, Follows}
 use Rattle.commands.proofs.TextLemmas.SpelledTimes.{record_spelled}
 
@@ -39,9 +39,9 @@ hop_lines-append p r q [] t e = ap (λ w. hop_lines p r w t) (sym (append-nil q)
 hop_lines-append p r q (n ∷ s) t e =
     let both = no_fault_before (fault_at p r q n) (first_fault p r (q ++ n ∷ []) s) e in
     rw (both.0)
-    (ap (λ w. line_behind p r q n ++ w)
+    (ap (λ w. line_after p r q n ++ w)
     (hop_lines-append p r (q ++ n ∷ []) s t both.1 ∙ ap (λ w. hop_lines p r (q ++ n ∷ []) s ++ hop_lines p r w t) (append_assoc q (n ∷ []) s))
-    ∙ sym (append_assoc (line_behind p r q n) (hop_lines p r (q ++ n ∷ []) s) (hop_lines p r (q ++ n ∷ s) t)))
+    ∙ sym (append_assoc (line_after p r q n) (hop_lines p r (q ++ n ∷ []) s) (hop_lines p r (q ++ n ∷ s) t)))
 
 -- the hops up to one of them
 pub path_up_to : (p : ContactPlan) (r : RouteRequest) (s : List ℕ) (i d : ℕ) → IsTrue (is_path p r s) → i < length s
@@ -53,26 +53,26 @@ path_up_to p r s i d path h =
 
 -- the lines of a path up to one of its hops, the line of that hop, and those after it
 pub hop_lines-at : (p : ContactPlan) (r : RouteRequest) (s : List ℕ) (i d : ℕ) → IsTrue (is_path p r s) → i < length s
-    → hop_lines p r [] s ≡ hop_lines p r [] (take i s) ++ (line_behind p r (take i s) (get_or s i d) ++ hop_lines p r (take i s ++ get_or s i d ∷ []) (drop (suc i) s))
+    → hop_lines p r [] s ≡ hop_lines p r [] (take i s) ++ (line_after p r (take i s) (get_or s i d) ++ hop_lines p r (take i s ++ get_or s i d ∷ []) (drop (suc i) s))
 hop_lines-at p r s i d path h =
     let up = path_up_to p r s i d path h in
     let good = hop_is_good p r (take i s) (get_or s i d) (hop_facts p r (take i s) (get_or s i d) up) in
     let front = path_is_good p r [] (take i s) (beginning_is_path p r (take i s) (get_or s i d ∷ []) up) in
     ap (hop_lines p r []) (sym (take-append-drop i s) ∙ ap (λ w. take i s ++ w) (drop-cons s i d h))
     ∙ hop_lines-append p r [] (take i s) (get_or s i d ∷ drop (suc i) s) front
-    ∙ ap (λ o. hop_lines p r [] (take i s) ++ cond (is_none o) (line_behind p r (take i s) (get_or s i d) ++ hop_lines p r (take i s ++ get_or s i d ∷ []) (drop (suc i) s)) []) good
+    ∙ ap (λ o. hop_lines p r [] (take i s) ++ cond (is_none o) (line_after p r (take i s) (get_or s i d) ++ hop_lines p r (take i s ++ get_or s i d ∷ []) (drop (suc i) s)) []) good
 
 -- one more hop
 pub hop_lines-take : (p : ContactPlan) (r : RouteRequest) (s : List ℕ) (i d : ℕ) → IsTrue (is_path p r s) → i < length s
-    → hop_lines p r [] (take (suc i) s) ≡ hop_lines p r [] (take i s) ++ line_behind p r (take i s) (get_or s i d)
+    → hop_lines p r [] (take (suc i) s) ≡ hop_lines p r [] (take i s) ++ line_after p r (take i s) (get_or s i d)
 hop_lines-take p r s i d path h =
     let up = path_up_to p r s i d path h in
     let good = hop_is_good p r (take i s) (get_or s i d) (hop_facts p r (take i s) (get_or s i d) up) in
     let front = path_is_good p r [] (take i s) (beginning_is_path p r (take i s) (get_or s i d ∷ []) up) in
     ap (hop_lines p r []) (take-suc s i d h)
     ∙ hop_lines-append p r [] (take i s) (get_or s i d ∷ []) front
-    ∙ ap (λ o. hop_lines p r [] (take i s) ++ cond (is_none o) (line_behind p r (take i s) (get_or s i d) ++ []) []) good
-    ∙ ap (λ w. hop_lines p r [] (take i s) ++ w) (append-nil (line_behind p r (take i s) (get_or s i d)))
+    ∙ ap (λ o. hop_lines p r [] (take i s) ++ cond (is_none o) (line_after p r (take i s) (get_or s i d) ++ []) []) good
+    ∙ ap (λ w. hop_lines p r [] (take i s) ++ w) (append-nil (line_after p r (take i s) (get_or s i d)))
 
 -- ---- up to the first fault
 
@@ -131,7 +131,7 @@ stops_at_fault p r q (n ∷ s) g hops e = at (fault_at p r q n) refl (λ later. 
           record {
             within = omega arith;
             good = refl;
-            lines = ap (λ o. cond (is_none o) (line_behind p r q n ++ hop_lines p r (q ++ n ∷ []) s) []) is;
+            lines = ap (λ o. cond (is_none o) (line_after p r q n ++ hop_lines p r (q ++ n ∷ []) s) []) is;
           },
         )
     at None is later e =
@@ -141,7 +141,7 @@ stops_at_fault p r q (n ∷ s) g hops e = at (fault_at p r q n) refl (λ later. 
           record {
             within = let w = stops.within in omega arith;
             good = ap (λ o. fault_or o (first_fault p r (q ++ n ∷ []) (take k s))) is ∙ stops.good;
-            lines = ap (λ w. cond (is_none (fault_at p r q n)) (line_behind p r q n ++ w) []) stops.lines;
+            lines = ap (λ w. cond (is_none (fault_at p r q n)) (line_after p r q n ++ w) []) stops.lines;
           },
         )
 
@@ -183,9 +183,9 @@ stopped_is_path p r s k stops = good_is_path p r [] (take k s) (empty_is_path p 
 -- ---- one hop
 
 -- the line of a hop, by its contact and its times
-pub line_behind_is : (p : ContactPlan) (r : RouteRequest) (q : List ℕ) (n : ℕ) (c : Contact) (t u : ℕ) → contact_named p n ≡ Some c → arrival_after p r r.at q ≡ Some t → arrival p r t c ≡ Some u
-    → line_behind p r q n ≡ hop_line (length q + 1) c (max t c.start) u
-line_behind_is p r q n c t u named here there =
+pub line_after_is : (p : ContactPlan) (r : RouteRequest) (q : List ℕ) (n : ℕ) (c : Contact) (t u : ℕ) → contact_named p n ≡ Some c → arrival_after p r r.at q ≡ Some t → arrival p r t c ≡ Some u
+    → line_after p r q n ≡ hop_line (length q + 1) c (max t c.start) u
+line_after_is p r q n c t u named here there =
     ap (λ o. option_map_or (λ d. hop_line (length q + 1) d (max (delivery_of p r q) d.start) (delivery_of p r (q ++ n ∷ []))) o []) named
     ∙ ap (λ o. hop_line (length q + 1) c (max (unwrap_or o 0) c.start) (delivery_of p r (q ++ n ∷ []))) here
     ∙ ap (λ o. hop_line (length q + 1) c (max t c.start) (unwrap_or o 0)) (arrival_after_push p r r.at q n c t u named here there)

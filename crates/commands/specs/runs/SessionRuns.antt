@@ -21,12 +21,12 @@ use Rattle.commands.specs.texts.Messages.{failure_of_plan, failure_of_session}
 use Rattle.commands.specs.runs.Runs.{first_report}
 
 -- the report of a page that begins after so many routes, and whether a route is left after it
-abbrev pub report_behind : ContactPlan → RouteRequest → ℕ → List (List ℕ) × State → List ℕ
-report_behind p r given page = report_text (map (record_of p r) page.0) (given + 1) (is_some (next_route p r page.1))
+abbrev pub report_after : ContactPlan → RouteRequest → ℕ → List (List ℕ) × State → List ℕ
+report_after p r given page = report_text (map (record_of p r) page.0) (given + 1) (is_some (next_route p r page.1))
 
 -- the report of at most `count` steps from a state, ranked on from the routes that it counts as given
 abbrev pub next_report : ContactPlan → RouteRequest → State → ℕ → List ℕ
-next_report p r s count = report_behind p r s.emitted (steps p r count s)
+next_report p r s count = report_after p r s.emitted (steps p r count s)
 
 -- the text of a state if it is to be kept, and none if it isn't
 abbrev pub kept_text : Bool → ContactPlan → RouteRequest → State → List ℕ
@@ -73,6 +73,10 @@ WritesNextPage (Ok p) (Err fault) keep count end old new old₁ new₁ =
     (end ≡ Err (failure_of_session fault)) × (new ≡ old) × (new₁ ≡ old₁)
 WritesNextPage (Ok p) (Ok s) keep count end old new old₁ new₁ =
     WritesPage keep (next_report p.plan s.0 s.1 count) (kept_text keep p.plan s.0 (steps p.plan s.0 count s.1).1) end old new old₁ new₁
+
+-- what a page of a listing leaves: the report of its next steps, and the session of the state that they reach
+abbrev pub WritesPageOf : Seen → Bool → ℕ → Result (Unit {0}) Failure → Output → Output → Output → Output → Type 0
+WritesPageOf s keep count end old new old₁ new₁ = WritesNextPage (Ok s.plan) (Ok (s.request, s.state)) keep count end old new old₁ new₁
 
 -- an answer as a line
 abbrev pub answer_line : Bool → List ℕ

@@ -31,8 +31,8 @@ hop_line place c sent arrived = concat (
     )
 
 -- the line of a number that follows the list `front`: it is sent on arrival there, or as soon as its contact starts
-abbrev pub line_behind : ContactPlan → RouteRequest → List ℕ → ℕ → List ℕ
-line_behind p r front n =
+abbrev pub line_after : ContactPlan → RouteRequest → List ℕ → ℕ → List ℕ
+line_after p r front n =
     option_map_or (λ c. hop_line (length front + 1) c (max (delivery_of p r front) c.start) (delivery_of p r (front ++ n ∷ [])))
     (contact_named p n) []
 
@@ -40,7 +40,7 @@ line_behind p r front n =
 abbrev pub hop_lines : ContactPlan → RouteRequest → List ℕ → List ℕ → List ℕ
 hop_lines p r front [] = []
 hop_lines p r front (n ∷ s) =
-    if is_none (fault_at p r front n) then line_behind p r front n ++ hop_lines p r (front ++ n ∷ []) s else []
+    if is_none (fault_at p r front n) then line_after p r front n ++ hop_lines p r (front ++ n ∷ []) s else []
 
 -- the fault of a place, by its name
 abbrev pub refused_at : ℕ → List ℕ → List ℕ

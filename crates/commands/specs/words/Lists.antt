@@ -2,7 +2,7 @@
 use Rattle.std.specs.Prelude.{ℕ, ◌==◌, nat_le, List, [], length, option_and_then, map, if◌then◌else◌}
 use Rattle.std.specs.List.{slice_split}
 use Rattle.sabr_plan.specs.Numbers.{number_within}
-use Rattle.sabr_session.specs.SessionWords.{all_of}
+use Rattle.sabr_session.specs.SessionWords.{all_of, most_avoided}
 use Rattle.std.specs.declared.option.Option.{Option}
 use Rattle.std.specs.declared.option.Option.TheVariants.{Some, None}
 
@@ -11,15 +11,15 @@ abbrev pub pieces_of : List ℕ → List (List ℕ)
 pieces_of text = slice_split (λ b. b == 44) text
 
 -- the pieces of what stands after a comma, if there is one
-abbrev pub pieces_behind : Option (List ℕ) → List (List ℕ)
-pieces_behind None = []
-pieces_behind (Some text) = pieces_of text
+abbrev pub pieces_after : Option (List ℕ) → List (List ℕ)
+pieces_after None = []
+pieces_after (Some text) = pieces_of text
 
 -- the numbers that a text lists, separated by single commas, each within these bounds
 unfoldable pub numbers_within : ℕ → ℕ → List ℕ → Option (List ℕ)
 numbers_within low high text = all_of (map (number_within low high) (pieces_of text))
 
--- the nodes that a text lists, at most 16 of them
+-- the nodes that a text lists, at most as many as a request avoids
 unfoldable pub nodes_listed : List ℕ → Option (List ℕ)
 nodes_listed text =
-    option_and_then (λ nodes. if nat_le (length nodes) 16 then Some nodes else None) (numbers_within 1 18446744073709551615 text)
+    option_and_then (λ nodes. if nat_le (length nodes) most_avoided then Some nodes else None) (numbers_within 1 18446744073709551615 text)

@@ -14,6 +14,7 @@ use Rattle.commands.specs.declared.words.value_name.ValueName.{ValueName}
 use Rattle.commands.specs.declared.words.value_name.ValueName.TheVariants.{From, To, At, MarginPpm, MaxHops, Avoid, Count, Contacts}
 use Rattle.commands.specs.declared.command.CommandName.{CommandName}
 use Rattle.commands.specs.declared.command.CommandName.TheVariants as command
+use Rattle.commands.specs.declared.words.values.Values.{Values}
 use Rattle.commands.specs.declared.words.value_fault.ValueFault.{ValueFault}
 use Rattle.commands.specs.declared.words.value_fault.ValueFault.TheVariants.{Bad, SameNode, BadAvoid}
 use Rattle.sabr_model.specs.declared.request_values.RequestValues.{RequestValues}
@@ -130,6 +131,10 @@ pub record ValuesRead : Type 0 where
   pub request : Option RouteRequest
   pub count : Option ℕ
   pub contacts : List ℕ
+
+-- what the values of a command tell, without the memory that holds them
+abbrev pub told_values : {A : Type 0} → Values A → ValuesRead
+told_values v = record { request = v.request; count = v.count; contacts = v.contacts }
 
 -- something that a command has, or nothing
 abbrev pub where_asked : {A : Type 0} → Bool → Result A ValueFault → Result (Option A) ValueFault

@@ -1,12 +1,12 @@
 //! Writing a page: its report, and then the session after it, if that is kept.
 
-ghost use Rattle.std.specs.Prelude.{◌≡◌, ℕ, ◌+◌, ◌^◌, ◌<◌, ◌≤◌, All, Ok, IfOk, IfSome, IsTrue, is_some, length};
+ghost use Rattle.std.specs.Prelude.{◌≡◌, ℕ, ◌+◌, ◌^◌, ◌<◌, ◌≤◌, All, IfOk, IfSome, IsTrue, is_some, length};
 ghost use Rattle.sabr_model.specs.Devices.{WritesText};
 ghost use Rattle.sabr_plan.specs.Canonical.{digest_of};
 ghost use Rattle.sabr_frontier.specs.Listing.{most_routes};
 ghost use Rattle.sabr_session.specs.ReportText.{HasSpelledTimes, report_text};
 ghost use Rattle.sabr_session.specs.SessionText.{text_of_session};
-ghost use Rattle.commands.specs.runs.SessionRuns.{WritesNextPage};
+ghost use Rattle.commands.specs.runs.SessionRuns.{WritesPageOf};
 
 use crate::failure::Failure;
 use sabr_frontier::Session;
@@ -69,7 +69,7 @@ pub fn write_page<O: Write, S: Write, B: BestOf<A>, A: Allocator + Copy>(
 ) -> Result<(), Failure>
     requires count { count ≤ most_routes }
     requires digest { IfSome keep (λ digest. digest ≡ digest_of listing.plan.plan) }
-    ensures { WritesNextPage (Ok listing.entry.plan) (Ok (listing.entry.request, listing.entry.state)) (is_some keep) count result (O.output out.old) (O.output out.new) (S.output session.old) (S.output session.new) }
+    ensures { WritesPageOf listing.entry (is_some keep) count result (O.output out.old) (O.output out.new) (S.output session.old) (S.output session.new) }
 {
     listing.plan().tell_rules();
     listing.request().tell_limits();

@@ -7,7 +7,7 @@ ghost use Rattle.sabr_model.specs.Arrival.{arrival_after};
 ghost use Rattle.sabr_model.specs.Route.{is_path};
 ghost use Rattle.sabr_plan.specs.Times.{last_spelled};
 ghost use Rattle.sabr_session.specs.Gathering.{Puts};
-ghost use Rattle.commands.specs.texts.Explanation.{hop_line, line_behind, hop_lines};
+ghost use Rattle.commands.specs.texts.Explanation.{hop_line, line_after, hop_lines};
 
 use itoa::Buffer;
 use sabr_model::{Contact, Plan, Request, Write, WriteFault, arrive};
@@ -64,7 +64,7 @@ fn put_hop<W: Write, A: Allocator + Copy>(
     requires place { length front.now + 1 < 2 ^ 64 }
     requires path { IsTrue (is_path plan.now.plan request.now (front.now ++ number ∷ [])) }
     requires at { arrival_after plan.now.plan request.now request.now.at front.now ≡ Some at }
-    ensures line { Puts W.output text.old (line_behind plan.now.plan request.now front.now number) result text.new }
+    ensures line { Puts W.output text.old (line_after plan.now.plan request.now front.now number) result text.new }
     ensures arrived { IfOk result (λ t. arrival_after plan.now.plan request.now request.now.at (front.now ++ number ∷ []) ≡ Some t) }
 {
     let Some(contact) = plan.contact(number) else {

@@ -14,8 +14,8 @@ pub fn nodes_listed(text: &[u8]) -> Option<NodeList>
 {
     let mut nodes = NodeList::new();
     let mut rest = Some(text);
-    while let Some(behind) = rest {
-        let (piece, others) = first_piece(behind);
+    while let Some(after) = rest {
+        let (piece, others) = first_piece(after);
         let node = number_within(piece, 1, u64::MAX)?;
         nodes.push(node)?;
         rest = others;
@@ -36,8 +36,8 @@ pub fn contacts_listed<A: Allocator + Copy>(
 {
     let mut contacts = Vec::new(alloc);
     let mut rest = Some(text);
-    while let Some(behind) = rest {
-        let (piece, others) = first_piece(behind);
+    while let Some(after) = rest {
+        let (piece, others) = first_piece(after);
         let Some(number) = number_within(piece, 1, 4294967295) else {
             return Ok(None);
         };

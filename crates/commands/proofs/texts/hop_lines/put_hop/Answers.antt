@@ -7,7 +7,7 @@ use Rattle.sabr_model.specs.Arrival.{arrival}
 use Rattle.sabr_model.proofs.Follows.{ends_in_time}
 use Rattle.sabr_model.proofs.Paths.{arrival_after_push}
 use Rattle.commands.proofs.TextLemmas.SpelledTimes.{arrival_bound}
-use Rattle.commands.proofs.TextLemmas.Explained.{hop_of, line_behind_is, sent_before_end}
+use Rattle.commands.proofs.TextLemmas.Explained.{hop_of, line_after_is, sent_before_end}
 use Rattle.commands.proofs.texts.hop_lines.put_hop.Goals as goal
 
 pub unreachable-requires : goal.unreachable-requires
@@ -56,7 +56,7 @@ returns-in_err-put_hop_line-clause-line g c =
     let named : contact_named p c.args.number ≡ Some contact = search rules in
     let arrives : arrival p r c.args.at contact ≡ Some c.in-Some-arrive.arrived = search rules in
     let failed = err_from_is_err_and c.from_residual.result c.from_residual.ensures.1 in
-    rw (failed.1, line_behind_is p r c.args.front.now c.args.number contact c.args.at c.in-Some-arrive.arrived named c.requires.at arrives)
+    rw (failed.1, line_after_is p r c.args.front.now c.args.number contact c.args.at c.in-Some-arrive.arrived named c.requires.at arrives)
     (rw c.max.ensures at c.in_err-put_hop_line.ensures)
 
 pub returns-clause-line : goal.returns-clause-line
@@ -66,7 +66,7 @@ returns-clause-line g c =
     let contact : Contact = c.in-Some.contact.now in
     let named : contact_named p c.args.number ≡ Some contact = search rules in
     let arrives : arrival p r c.args.at contact ≡ Some c.in-Some-arrive.arrived = search rules in
-    rw (line_behind_is p r c.args.front.now c.args.number contact c.args.at c.in-Some-arrive.arrived named c.requires.at arrives)
+    rw (line_after_is p r c.args.front.now c.args.number contact c.args.at c.in-Some-arrive.arrived named c.requires.at arrives)
     (rw c.max.ensures at c.in_ok-put_hop_line.ensures)
 
 pub returns-clause-arrived : goal.returns-clause-arrived

@@ -1,7 +1,7 @@
 use Rattle.std.proofs.Common.{ℕ, List, [], ◌∷◌, ◌++◌, drop, suc, get_or, take, add-one, ap, ◌∙◌}
 use Rattle.std.proofs.lemmas.List.{take_more}
 use Rattle.sabr_model.specs.Arrival.{arrival_after}
-use Rattle.commands.specs.texts.Explanation.{line_behind, hop_lines}
+use Rattle.commands.specs.texts.Explanation.{line_after, hop_lines}
 use Rattle.sabr_session.proofs.Gathering.{HasPut-append, Puts-stopped, Puts-after}
 use Rattle.commands.proofs.TextLemmas.Explained.{path_up_to, hop_lines-at, hop_lines-take}
 use Rattle.commands.proofs.texts.hop_lines.put_hops.Goals as goal
@@ -17,8 +17,8 @@ returns-in_err-at g c =
     let i : ℕ = c.loop-i.i in
     let n : ℕ = get_or s i 0 in
     rw (hop_lines-at p r s i 0 c.requires.path c.loop-i-test.true)
-    (Puts-after _ (hop_lines p r [] (take i s)) (line_behind p r (take i s) n ++ hop_lines p r (take i s ++ n ∷ []) (drop (suc i) s)) _ c.loop-i.invariant.gathered
-    (Puts-stopped _ (line_behind p r (take i s) n) (hop_lines p r (take i s ++ n ∷ []) (drop (suc i) s)) c.from_residual.result c.from_residual.ensures.1 c.in_err-at.ensures.line))
+    (Puts-after _ (hop_lines p r [] (take i s)) (line_after p r (take i s) n ++ hop_lines p r (take i s ++ n ∷ []) (drop (suc i) s)) _ c.loop-i.invariant.gathered
+    (Puts-stopped _ (line_after p r (take i s) n) (hop_lines p r (take i s ++ n ∷ []) (drop (suc i) s)) c.from_residual.result c.from_residual.ensures.1 c.in_err-at.ensures.line))
 
 pub loop-i-preserved : goal.loop-i-preserved
 loop-i-preserved g c =

@@ -1,17 +1,17 @@
 use Rattle.std.proofs.Common.{◌≡◌, ◌≤◌, map, length}
 use Rattle.std.specs.Option.{option_copied}
-use Rattle.commands.specs.words.Lists.{pieces_of, pieces_behind}
+use Rattle.commands.specs.words.Lists.{pieces_of, pieces_after}
 use Rattle.sabr_session.specs.SessionWords.{all_of}
 use Rattle.sabr_plan.specs.Numbers.{number_within}
-use Rattle.sabr_session.proofs.ReadNumbers.{behind}
+use Rattle.sabr_session.proofs.ReadNumbers.{with_front}
 use Rattle.commands.proofs.words.lists.nodes_listed.Given as goal
 
 abbrev pub invariant-loop-rest : goal.invariant-loop-rest
 invariant-loop-rest l = record {
   few : length l.nodes ≤ 16;
   listed : all_of (map (number_within 1 18446744073709551615) (pieces_of l.text))
-      ≡ behind l.nodes (all_of (map (number_within 1 18446744073709551615) (pieces_behind (option_copied l.rest))));
+      ≡ with_front l.nodes (all_of (map (number_within 1 18446744073709551615) (pieces_after (option_copied l.rest))));
 }
 
 abbrev pub decreases-loop-rest : goal.decreases-loop-rest
-decreases-loop-rest l = length (pieces_behind (option_copied l.rest))
+decreases-loop-rest l = length (pieces_after (option_copied l.rest))
