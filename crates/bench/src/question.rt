@@ -5,12 +5,10 @@ use sabr_plan::{parse_time, read_plan};
 use std::fs;
 use std::rt::Files;
 
-/// Returns the plan of this file, ready for searches.
+/// Returns the plan of this file.
 pub fn plan_of<R: Files + AllocGlobal>(rt: &R, path: &str) -> Option<Plan> {
     let file = fs::open(rt, path).ok()?;
-    let mut plan = read_plan(rt.alloc(), &mut Device::new(file)).ok()?;
-    plan.make_ready().ok()?;
-    Some(plan)
+    read_plan(rt.alloc(), &mut Device::new(file)).ok()
 }
 
 /// Returns the request without limits that these words ask for.

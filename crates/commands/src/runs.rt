@@ -7,7 +7,6 @@ mod explain;
 mod first;
 mod next;
 mod pages;
-mod searched_plan;
 mod verify;
 
 pub use check::run_check;

@@ -1,6 +1,6 @@
 //! The steps that make a plan.
 
-use crate::answers::{bytes, done, no_memory, refused};
+use crate::answers::{bytes, done, refused};
 use crate::commands_called::{command_step, value_fault};
 use crate::desk::Desk;
 use crate::over_plan::steps_over;
@@ -51,10 +51,6 @@ fn plan_step<A: Allocator + Copy>(
             done(desk.alloc)
         }
         "read" => read(alloc, plan, desk),
-        "ready" => match plan.make_ready() {
-            Ok(()) => done(desk.alloc),
-            Err(_) => no_memory(desk.alloc),
-        },
         "contact" => numbered(desk.alloc, add_contact(plan, words)?),
         "range" => answered(desk.alloc, add_range(plan, words)?),
         "drop-contact" => numbered(desk.alloc, delete_contact(plan, words)?),

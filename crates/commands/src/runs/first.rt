@@ -13,11 +13,10 @@ ghost use Rattle.commands.specs.runs.SessionRuns.{WritesFirstPage};
 use crate::failure::Failure;
 use crate::runs::ending::tell_end;
 use crate::runs::pages::write_page;
-use crate::runs::searched_plan::read_searched_plan;
 use crate::status::Status;
 use sabr_frontier::Session;
 use sabr_model::{Read, Request, Write};
-use sabr_plan::digest;
+use sabr_plan::{digest, read_plan};
 use sabr_search::Settled;
 use std::alloc::Allocator;
 
@@ -36,7 +35,7 @@ fn write_first<P: Read, O: Write, S: Write, A: Allocator + Copy>(
         × ReadsPlan (P.input plan.old) planned (P.input plan.new)
         × WritesFirstPage planned request keep count result (O.output out.old) (O.output out.new) (S.output session.old) (S.output session.new) }
 {
-    let plan = read_searched_plan(alloc, plan)?;
+    let plan = read_plan(alloc, plan)?;
     plan.tell_rules();
     let listing = Session::start(alloc, &plan, request, Settled::new(alloc))?;
     let digest = if keep { Some(digest(&plan)) } else { None };

@@ -15,10 +15,9 @@ ghost use Rattle.commands.specs.runs.SessionRuns.{ReadsOldSession, WritesNextPag
 use crate::failure::Failure;
 use crate::runs::ending::tell_end;
 use crate::runs::pages::write_page;
-use crate::runs::searched_plan::read_searched_plan;
 use crate::status::Status;
 use sabr_model::{Read, Write};
-use sabr_plan::digest;
+use sabr_plan::{digest, read_plan};
 use sabr_search::Settled;
 use sabr_session::read_session;
 use std::alloc::Allocator;
@@ -39,7 +38,7 @@ fn write_next<P: Read, I: Read, O: Write, S: Write, A: Allocator + Copy>(
         × ReadsOldSession planned (I.input old.old) told (I.input old.new)
         × WritesNextPage planned (place_of told) keep count result (O.output out.old) (O.output out.new) (S.output session.old) (S.output session.new)) }
 {
-    let plan = read_searched_plan(alloc, plan)?;
+    let plan = read_plan(alloc, plan)?;
     let digest = digest(&plan);
     let listing = read_session(alloc, old, &plan, &digest, Settled::new(alloc))?;
     let keep = if keep { Some(digest) } else { None };

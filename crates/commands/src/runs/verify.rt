@@ -12,10 +12,9 @@ ghost use Rattle.commands.specs.runs.SessionRuns.{VerifiesOldSession, WritesAnsw
 use crate::failure::Failure;
 use crate::runs::answer::write_verified;
 use crate::runs::ending::tell_answer;
-use crate::runs::searched_plan::read_searched_plan;
 use crate::status::Status;
 use sabr_model::{Read, Write};
-use sabr_plan::digest;
+use sabr_plan::{digest, read_plan};
 use sabr_search::Settled;
 use sabr_session::verify;
 use std::alloc::Allocator;
@@ -32,7 +31,7 @@ fn read_and_verify<P: Read, I: Read, O: Write, A: Allocator + Copy>(
         × VerifiesOldSession planned (I.input old.old) verified (I.input old.new)
         × WritesAnswer planned verified result (O.output out.old) (O.output out.new)) }
 {
-    let plan = read_searched_plan(alloc, plan)?;
+    let plan = read_plan(alloc, plan)?;
     let verified = verify(alloc, old, &plan, &digest(&plan), Settled::new(alloc));
     write_verified(verified, out)
 }

@@ -8,7 +8,7 @@ use Rattle.commands.proofs.runs.first.write_first.Goals.{then-keep, else-keep}
 pub returns-in_err-listing : goal.returns-in_err-listing
 returns-in_err-listing g c =
     let (failure, is, told) = err_from_is_err_and c.from_residual-in_err-listing.result c.from_residual-in_err-listing.ensures.1 in
-    (Ok c.in_ok-plan.plan, c.in_ok-plan.ensures, rw (is, told) (refl, refl))
+    (Ok c.in_ok-plan.plan, c.in_ok-plan.ensures.read, rw (is, told) (refl, refl))
 
 pub returns : goal.returns
 returns g c =
@@ -21,6 +21,6 @@ returns g c =
     in
     let written = rw (c.in_ok-listing.ensures {u = tt}) at c.write_page.ensures in (
       Ok c.in_ok-plan.plan,
-      c.in_ok-plan.ensures,
+      c.in_ok-plan.ensures.read,
       rw (← keeps, ← first_report_is p r c.args.count c.tell_rules.ensures, ← first_place p r c.args.count c.tell_rules.ensures) written,
     )
