@@ -11,8 +11,7 @@ use std::alloc::Allocator;
 
 /// Reads the plan that a text spells, to the text's end or up to its first bad line.
 ///
-/// The text is that of ionrc(5), as far as this project's profile goes. It takes one pass over the text. The plan isn't
-/// made ready for searches ([`Plan::make_ready`]).
+/// The text is that of ionrc(5), as far as this project's profile goes. It takes one pass over the text.
 ///
 /// # Errors
 ///
