@@ -1,8 +1,9 @@
 //! A finder that adds up the time and the looks of its searches.
 
 use crate::watch::Watch;
+use sabr_index::Index;
 use sabr_model::{NoMemory, Plan, Request, Route};
-use sabr_search::{BestOf, Part};
+use sabr_search::{BestOf, Kept, Part};
 use std::alloc::Allocator;
 use std::cell::Cell;
 use std::time::Clock;
@@ -47,6 +48,17 @@ impl<'s, R: Clock, B> Timed<'s, R, B> {
             finder,
         }
     }
+
+    /// Adds a search that began at this time and took so many looks.
+    fn add(&self, begin: u64, looks: u64) {
+        let passed = self.watch.nanoseconds().saturating_sub(begin);
+        let before = self.searches.get();
+        self.searches.set(Searches {
+            count: before.count.saturating_add(1),
+            nanoseconds: before.nanoseconds.saturating_add(passed),
+            looks: before.looks.saturating_add(looks),
+        });
+    }
 }
 
 impl<'s, R: Clock, A: Allocator + Copy, B: BestOf<A>> BestOf<A> for Timed<'s, R, B> {
@@ -62,13 +74,20 @@ impl<'s, R: Clock, A: Allocator + Copy, B: BestOf<A>> BestOf<A> for Timed<'s, R,
     ) -> Result<Option<Route<A>>, NoMemory> {
         let begin = self.watch.nanoseconds();
         let answer = self.finder.best(plan, request, part);
-        let passed = self.watch.nanoseconds().saturating_sub(begin);
-        let before = self.searches.get();
-        self.searches.set(Searches {
-            count: before.count.saturating_add(1),
-            nanoseconds: before.nanoseconds.saturating_add(passed),
-            looks: before.looks.saturating_add(self.finder.looks()),
-        });
+        self.add(begin, self.finder.looks());
+        answer
+    }
+
+    fn best_rising(
+        &mut self,
+        kept: &mut Kept<A>,
+        index: &Index<'_, A>,
+        request: &Request,
+        part: Part<'_>,
+    ) -> Result<Option<Route<A>>, NoMemory> {
+        let begin = self.watch.nanoseconds();
+        let answer = self.finder.best_rising(kept, index, request, part);
+        self.add(begin, self.finder.looks());
         answer
     }
 

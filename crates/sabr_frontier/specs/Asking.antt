@@ -18,8 +18,11 @@ pub record Asking : Type 0 where
   pub asked : Asked
   pub calls : ℕ
 
+abbrev pub asked_over : TabledPlan → RouteRequest → Asked
+asked_over p r = record { plan = p; request = r }
+
 abbrev pub asked_of : {A : Type 0} → Question A → Asked
-asked_of q = record { plan = q.plan.now; request = q.request }
+asked_of q = asked_over q.plan.now q.request
 
 -- at most k steps from a state
 abbrev pub steps_for : Asked → ℕ → State → List (List ℕ) × State

@@ -7,6 +7,7 @@ ghost use Rattle.sabr_frontier.specs.Asking.{asked_of};
 ghost use Rattle.sabr_frontier.specs.Best.{IsBest};
 
 use crate::question::Question;
+use sabr_index::Index;
 use sabr_model::{NoMemory, Plan, Request, Route};
 use sabr_search::{BestOf, Kept, Part};
 use std::alloc::{Allocator, Global};
@@ -16,8 +17,12 @@ use std::marker::Model;
 /// often the finder was called.
 #[derive(Drop)]
 pub struct Asker<'p, B: BestOf<A>, A: Allocator + Copy = Global> {
-    /// The plan and the request, with the allocator of all that is made.
-    question: Question<'p, A>,
+    /// The allocator of all that is made.
+    alloc: A,
+    /// The index of the plan.
+    index: Index<'p, A>,
+    /// The request.
+    request: Request,
     /// The finder of a part's least route.
     finder: B,
     /// What is kept for its searches.
@@ -26,45 +31,53 @@ pub struct Asker<'p, B: BestOf<A>, A: Allocator + Copy = Global> {
 
 impl<'p, B: BestOf<A>, A: Allocator + Copy> Model for Asker<'p, B, A> {
     ghost use Rattle.sabr_search.specs.Kept.{IsKept};
-    ghost use Rattle.sabr_frontier.specs.Asking.{Asking, asked_of};
+    ghost use Rattle.sabr_frontier.specs.Asking.{Asking, asked_over};
 
     ghost Value = { Asking };
 
-    ghost view = { λ a. record { asked = asked_of a.question; calls = B.calls_of a.finder } };
+    ghost view = { λ a. record { asked = asked_over a.index a.request; calls = B.calls_of a.finder } };
 
-    ghost invariant = { λ a. IsKept a.question.plan.now a.question.request a.kept };
+    ghost invariant = { λ a. IsKept a.index a.request a.kept };
 }
 
 impl<'p, B: BestOf<A>, A: Allocator + Copy> Asker<'p, B, A> {
-    /// Makes an asker that keeps nothing yet. It takes no memory.
-    pub fn new(question: Question<'p, A>, finder: B) -> Asker<'p, B, A>
-        ensures { result ≡ record { asked = asked_of question.entry; calls = B.calls_of finder } }
+    /// Makes the plan's index, and an asker that keeps nothing yet.
+    ///
+    /// # Errors
+    ///
+    /// [`NoMemory`] if a growth was refused. The finder is dropped.
+    pub fn new(question: Question<'p, A>, finder: B) -> Result<Asker<'p, B, A>, NoMemory>
+        ensures { IfOk result (λ asker. asker ≡ record { asked = asked_of question.entry; calls = B.calls_of finder }) }
     {
-        let kept = Kept::new(question.alloc());
-        Asker {
-            question,
+        let alloc = question.alloc();
+        let index = Index::new(alloc, question.plan)?;
+        let kept = Kept::new(alloc);
+        Ok(Asker {
+            alloc,
+            index,
+            request: question.request,
             finder,
             kept,
-        }
+        })
     }
 
     /// The allocator of what is made.
     pub fn alloc(&self) -> A {
-        self.question.alloc()
+        self.alloc
     }
 
     /// The plan.
     pub fn plan(&self) -> &'p Plan<A>
         ensures { result.now ≡ self.now.asked.plan }
     {
-        self.question.plan
+        self.index.plan()
     }
 
     /// The request.
     pub fn request(&self) -> &Request
         ensures { result.now ≡ self.now.asked.request }
     {
-        &self.question.request
+        &self.request
     }
 
     /// Asks for the least route of a part whose excluded numbers rise.
@@ -77,8 +90,7 @@ impl<'p, B: BestOf<A>, A: Allocator + Copy> Asker<'p, B, A> {
         ensures same { self.new.asked ≡ self.old.asked }
     {
         let part = Part { prefix, excluded };
-        let question = &self.question;
         self.finder
-            .best_rising(&mut self.kept, question.plan, &question.request, part)
+            .best_rising(&mut self.kept, &self.index, &self.request, part)
     }
 }

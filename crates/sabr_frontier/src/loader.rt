@@ -102,7 +102,7 @@ impl<'p, B: BestOf<A>, A: Allocator + Copy> Loader<'p, B, A> {
     }
 
     /// Returns the session of the parts after `emitted` routes were given. `last` is the last of them, empty if there
-    /// is none. No page can be taken back, and no search was counted.
+    /// is none. No page can be taken back, and no search was counted. The plan's index is made after all checks.
     ///
     /// # Errors
     ///
@@ -123,6 +123,9 @@ impl<'p, B: BestOf<A>, A: Allocator + Copy> Loader<'p, B, A> {
         let Ok(tree) = self.held.into_tree(self.question.alloc(), last) else {
             return Err(LoadFault::NoMemory);
         };
-        Ok(Session::of_tree(Asker::new(self.question, self.finder), tree))
+        let Ok(asker) = Asker::new(self.question, self.finder) else {
+            return Err(LoadFault::NoMemory);
+        };
+        Ok(Session::of_tree(asker, tree))
     }
 }

@@ -49,7 +49,7 @@ impl<'p, B: BestOf<A>, A: Allocator + Copy> Model for Session<'p, B, A> {
 }
 
 impl<'p, B: BestOf<A>, A: Allocator + Copy> Session<'p, B, A> {
-    /// Starts a session: no route was given yet. It takes one search.
+    /// Starts a session: no route was given yet. It makes the plan's index, and takes one search.
     ///
     /// # Errors
     ///
@@ -69,7 +69,7 @@ impl<'p, B: BestOf<A>, A: Allocator + Copy> Session<'p, B, A> {
             plan,
             request,
         };
-        let mut asker = Asker::new(question, finder);
+        let mut asker = Asker::new(question, finder)?;
         let found = asker.ask(&[], &[])?;
         let tree = Tree::root(alloc, found)?;
         Ok(Session {

@@ -44,6 +44,19 @@ returns-in_default-into_tree-clause-err g c =
     subst (λ (v : Loaded). IsState v.plan.plan v.request (state_with v.parts emitted last)) c.self.view_is
     (formed_then p r h c.self.invariant.held paid emitted last c.in-Some.last at)
 
+pub returns-in_default-new-clause-err : goal.returns-in_default-new-clause-err
+returns-in_default-new-clause-err g c =
+    let s = c.self.inside in
+    let p = s.question.plan.now.plan in
+    let r = s.question.request in
+    let h = holding_of s.held in
+    let emitted = c.args.emitted in
+    let last = c.args.last.now in
+    let paid = sym c.is_paid.ensures ∙ c.if-not-is_paid.false in
+    let at = subst (λ xs. IsLastPlace xs emitted last c.in-Some.last) c.as_slice.ensures.value c.in-Some.ensures.some in
+    subst (λ (v : Loaded). IsState v.plan.plan v.request (state_with v.parts emitted last)) c.self.view_is
+    (formed_then p r h c.self.invariant.held paid emitted last c.in-Some.last at)
+
 pub into_tree-requires : goal.into_tree-requires
 into_tree-requires g c =
     let s = c.self.inside in
@@ -57,10 +70,10 @@ into_tree-requires g c =
     tree_indexed p r (loaded_tree h c.in-Some.last) (loaded_is_tree p r h c.self.invariant.held paid emitted last c.in-Some.last at)
 
 pub of_tree-requires-clause-rules : goal.of_tree-requires-clause-rules
-of_tree-requires-clause-rules g c = subst (λ (a : Asking). IsPlan a.asked.plan.plan) (sym c.new.ensures) c.self.invariant.rules
+of_tree-requires-clause-rules g c = subst (λ (a : Asking). IsPlan a.asked.plan.plan) (sym c.in-Ok-new.ensures) c.self.invariant.rules
 
 pub of_tree-requires-clause-limits : goal.of_tree-requires-clause-limits
-of_tree-requires-clause-limits g c = subst (λ (a : Asking). IsRequest a.asked.request) (sym c.new.ensures) c.self.invariant.limits
+of_tree-requires-clause-limits g c = subst (λ (a : Asking). IsRequest a.asked.request) (sym c.in-Ok-new.ensures) c.self.invariant.limits
 
 pub of_tree-requires-clause-sound : goal.of_tree-requires-clause-sound
 of_tree-requires-clause-sound g c =
@@ -72,7 +85,7 @@ of_tree-requires-clause-sound g c =
     let last = c.args.last.now in
     let paid = sym c.is_paid.ensures ∙ c.if-not-is_paid.false in
     let at = subst (λ xs. IsLastPlace xs emitted last c.in-Some.last) c.as_slice.ensures.value c.in-Some.ensures.some in
-    subst (λ (a : Asking). IsTree a.asked.plan.plan a.asked.request (shape_of c.in-Ok.tree)) (sym c.new.ensures)
+    subst (λ (a : Asking). IsTree a.asked.plan.plan a.asked.request (shape_of c.in-Ok.tree)) (sym c.in-Ok-new.ensures)
     (subst (IsTree p r) (sym c.in-Ok.ensures.shape) (loaded_is_tree p r h c.self.invariant.held paid emitted last c.in-Some.last at))
 
 pub returns-clause-ok : goal.returns-clause-ok
@@ -86,7 +99,7 @@ returns-clause-ok g c =
     let paid = sym c.is_paid.ensures ∙ c.if-not-is_paid.false in
     let at = subst (λ xs. IsLastPlace xs emitted last c.in-Some.last) c.as_slice.ensures.value c.in-Some.ensures.some in
     let state = ap shown c.in-Ok.ensures.shape ∙ shown_then p r h c.self.invariant.held paid emitted last c.in-Some.last at in
-    let told = c.of_tree.ensures ∙ (λ i. record { plan = (c.new.ensures i).asked.plan; request = (c.new.ensures i).asked.request; state = state i; former = []; searches = 0; calls = (c.new.ensures i).calls }) in
+    let told = c.of_tree.ensures ∙ (λ i. record { plan = (c.in-Ok-new.ensures i).asked.plan; request = (c.in-Ok-new.ensures i).asked.request; state = state i; former = []; searches = 0; calls = (c.in-Ok-new.ensures i).calls }) in
     subst (λ (v : Loaded). c.of_tree.result ≡ record { plan = v.plan; request = v.request; state = state_with v.parts emitted last; former = []; searches = 0; calls = v.calls }) c.self.view_is told
 
 pub returns-clause-formed : goal.returns-clause-formed
