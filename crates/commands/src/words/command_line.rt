@@ -78,7 +78,7 @@ fn session<'a>(alloc: Global) -> Arg<'a> {
 
 /// The word for the new session.
 fn session_out<'a>(alloc: Global) -> Arg<'a> {
-    let help = "Where to leave the session behind the page: a file that isn't there";
+    let help = "Where to leave the session after the page: a file that isn't there";
     option(alloc, SESSION_OUT, "FILE", help)
 }
 
