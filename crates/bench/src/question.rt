@@ -5,6 +5,28 @@ use sabr_plan::{parse_time, read_plan};
 use std::fs;
 use std::rt::Files;
 
+/// What is asked of a plan.
+#[derive(Drop)]
+pub struct Question {
+    /// The request, without limits.
+    pub request: Request,
+    /// How many routes are asked for.
+    pub count: u32,
+}
+
+impl Question {
+    /// Reads the words `FROM TO TIME COUNT`.
+    pub fn of(words: &[String]) -> Option<Question> {
+        let [from, to, at, count] = words else {
+            return None;
+        };
+        Some(Question {
+            request: request_of(from.as_str(), to.as_str(), at.as_str())?,
+            count: count.parse::<u32>().ok()?.min(10000),
+        })
+    }
+}
+
 /// Returns the plan of this file.
 pub fn plan_of<R: Files + AllocGlobal>(rt: &R, path: &str) -> Option<Plan> {
     let file = fs::open(rt, path).ok()?;
@@ -12,7 +34,7 @@ pub fn plan_of<R: Files + AllocGlobal>(rt: &R, path: &str) -> Option<Plan> {
 }
 
 /// Returns the request without limits that these words ask for.
-pub fn request_of(from: &str, to: &str, at: &str) -> Option<Request> {
+fn request_of(from: &str, to: &str, at: &str) -> Option<Request> {
     let at = parse_time(at.as_bytes())?;
     Request::new(from.parse().ok()?, to.parse().ok()?, at, 0).ok()
 }

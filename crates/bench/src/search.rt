@@ -1,10 +1,13 @@
 //! Times a first search and the searches of a page over a plan, and counts their looks.
 
-use crate::question::{plan_of, request_of};
+ghost use Rattle.std.specs.Prelude.{◌≤◌};
+ghost use Rattle.sabr_frontier.specs.Listing.{most_routes};
+
+use crate::question::{Question, plan_of};
 use crate::timed::{Searches, Timed};
 use crate::watch::Watch;
 use sabr_frontier::Session;
-use sabr_model::{Plan, Request};
+use sabr_model::Plan;
 use sabr_search::{BestOf, Layered, Settled};
 use std::alloc::Global;
 use std::cell::Cell;
@@ -24,21 +27,18 @@ pub struct SearchFigures {
     pub routes: usize,
 }
 
-/// Starts a session over a finder, and asks for one page of at most 10000 routes.
-fn measured<R: Clock + AllocGlobal, B: BestOf<Global>>(
-    rt: &R,
-    plan: &Plan,
-    request: Request,
+/// Asks a session for a page. The times and looks of its searches so far are those of the first search.
+fn paged<R: Clock, B: BestOf<Global>>(
+    session: &mut Session<'_, Timed<'_, R, B>>,
+    watch: &Watch<'_, R>,
+    searches: &Cell<Searches>,
     count: u32,
-    finder: B,
-) -> Option<SearchFigures> {
-    let watch = Watch::new(rt);
-    let searches = Cell::new(Searches::none());
-    let timed = Timed::new(&watch, &searches, finder);
-    let mut session = Session::start(rt.alloc(), plan, request, timed).ok()?;
+) -> Option<SearchFigures>
+    requires { count ≤ most_routes }
+{
     let first = searches.replace(Searches::none());
     let begin = watch.nanoseconds();
-    let routes = session.page(count.min(10000)).ok()?.len();
+    let routes = session.page(count).ok()?.len();
     Some(SearchFigures {
         first,
         page: searches.get(),
@@ -47,20 +47,42 @@ fn measured<R: Clock + AllocGlobal, B: BestOf<Global>>(
     })
 }
 
+/// Starts a session over a finder, and asks for one page.
+fn measured<R: Clock + AllocGlobal, B: BestOf<Global>>(
+    rt: &R,
+    plan: &Plan,
+    question: Question,
+    finder: B,
+) -> Option<SearchFigures> {
+    let watch = Watch::new(rt);
+    let searches = Cell::new(Searches::none());
+    let timed = Timed::new(&watch, &searches, finder);
+    let mut session = Session::start(rt.alloc(), plan, question.request, timed).ok()?;
+    paged(&mut session, &watch, &searches, question.count.min(10000))
+}
+
+/// Measures the finder of this name.
+fn measured_by<R: Clock + AllocGlobal>(
+    rt: &R,
+    plan: &Plan,
+    question: Question,
+    finder: &str,
+) -> Option<SearchFigures> {
+    match finder {
+        "layered" => measured(rt, plan, question, Layered::new(rt.alloc())),
+        "settled" => measured(rt, plan, question, Settled::new(rt.alloc())),
+        _ => None,
+    }
+}
+
 /// Reads the words `layered|settled PLAN FROM TO TIME COUNT`, and measures that finder.
 pub fn time_searches<R: Files + Clock + AllocGlobal>(
     rt: &R,
     words: &[String],
 ) -> Option<SearchFigures> {
-    let [finder, file, from, to, at, count] = words else {
-        return None;
-    };
-    let request = request_of(from.as_str(), to.as_str(), at.as_str())?;
-    let count = count.parse::<u32>().ok()?;
+    let (finder, words) = words.split_first()?;
+    let (file, words) = words.split_first()?;
+    let question = Question::of(words)?;
     let plan = plan_of(rt, file.as_str())?;
-    match finder.as_str() {
-        "layered" => measured(rt, &plan, request, count, Layered::new(rt.alloc())),
-        "settled" => measured(rt, &plan, request, count, Settled::new(rt.alloc())),
-        _ => None,
-    }
+    measured_by(rt, &plan, question, finder.as_str())
 }

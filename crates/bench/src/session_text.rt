@@ -3,13 +3,14 @@
 ghost use Rattle.std.specs.Prelude.{◌≡◌};
 ghost use Rattle.sabr_plan.specs.Canonical.{digest_of};
 
-use crate::question::{plan_of, request_of};
+use crate::question::{Question, plan_of};
 use crate::watch::Watch;
 use sabr_frontier::Session;
-use sabr_model::{Device, Plan, Request};
+use sabr_model::{Device, Plan, Read};
 use sabr_plan::digest;
 use sabr_search::Settled;
 use sabr_session::{read_session, verify, write_session};
+use std::alloc::Global;
 use std::fs::{self, OpenOptions};
 use std::rt::Files;
 use std::time::Clock;
@@ -80,29 +81,62 @@ fn write_once<R: Files + Clock + AllocGlobal>(
     Some(watch.nanoseconds())
 }
 
-/// Lists the first routes, writes their session to a new file, and then overwrites it again and again.
+/// Writes a session to a new file, and returns the nanoseconds.
+fn write_new<R: Files + Clock + AllocGlobal>(
+    rt: &R,
+    session: &Session<'_, Settled>,
+    digest: &[u8; 32],
+    path: &str,
+) -> Option<u64>
+    requires { digest.now ≡ digest_of session.now.plan.plan }
+{
+    write_once(rt, session, digest, fs::create(rt, path).ok()?)
+}
+
+/// Overwrites a session's file, and returns the nanoseconds.
+fn write_over<R: Files + Clock + AllocGlobal>(
+    rt: &R,
+    session: &Session<'_, Settled>,
+    digest: &[u8; 32],
+    path: &str,
+) -> Option<u64>
+    requires { digest.now ≡ digest_of session.now.plan.plan }
+{
+    let mut options = OpenOptions::new();
+    options.write(true);
+    write_once(rt, session, digest, options.open(rt, path).ok()?)
+}
+
+/// Writes a session to a new file, and then overwrites it again and again.
+fn write_again<R: Files + Clock + AllocGlobal>(
+    rt: &R,
+    session: &Session<'_, Settled>,
+    path: &str,
+) -> Option<Times> {
+    let digest = digest(session.plan());
+    let mut writing = Times::of(write_new(rt, session, &digest, path)?);
+    for _ in 0..AGAIN {
+        writing = writing.and(write_over(rt, session, &digest, path)?);
+    }
+    Some(writing)
+}
+
+/// Lists the first routes, and writes their session.
 fn written<R: Files + Clock + AllocGlobal>(
     rt: &R,
     plan: &Plan,
-    request: Request,
-    count: u32,
+    question: Question,
     path: &str,
 ) -> Option<TextFigures> {
     let watch = Watch::new(rt);
-    let mut session = Session::start(rt.alloc(), plan, request, Settled::new(rt.alloc())).ok()?;
-    let routes = session.page(count.min(10000)).ok()?.len();
+    let finder = Settled::new(rt.alloc());
+    let mut session = Session::start(rt.alloc(), plan, question.request, finder).ok()?;
+    let routes = session.page(question.count.min(10000)).ok()?.len();
     let listing = watch.nanoseconds();
-    let digest = digest(session.plan());
-    let mut writing = Times::of(write_once(rt, &session, &digest, fs::create(rt, path).ok()?)?);
-    let mut options = OpenOptions::new();
-    options.write(true);
-    for _ in 0..AGAIN {
-        writing = writing.and(write_once(rt, &session, &digest, options.open(rt, path).ok()?)?);
-    }
     Some(TextFigures::Written {
         routes,
         listing,
-        writing,
+        writing: write_again(rt, &session, path)?,
     })
 }
 
@@ -116,11 +150,22 @@ fn read_once<R: Files + Clock + AllocGlobal>(
     requires { digest.now ≡ digest_of plan.now.plan }
 {
     let mut reader = Device::new(fs::open(rt, path).ok()?);
-    let finder = Settled::new(rt.alloc());
     let watch = Watch::new(rt);
-    let session = read_session(rt.alloc(), &mut reader, plan, digest, finder).ok()?;
-    let reading = watch.nanoseconds();
-    Some((session.emitted(), reading))
+    let emitted = emitted_of(rt.alloc(), &mut reader, plan, digest)?;
+    Some((emitted, watch.nanoseconds()))
+}
+
+/// Reads a session, and returns its count of routes.
+fn emitted_of<D: Read>(
+    alloc: Global,
+    reader: &mut D,
+    plan: &Plan,
+    digest: &[u8; 32],
+) -> Option<u128>
+    requires { digest.now ≡ digest_of plan.now.plan }
+{
+    let session = read_session(alloc, reader, plan, digest, Settled::new(alloc)).ok()?;
+    Some(session.emitted())
 }
 
 /// Reads a session's file again and again.
@@ -157,21 +202,27 @@ fn verified<R: Files + Clock + AllocGlobal>(
 
 /// Reads the words `PLAN TEXT FROM TO TIME COUNT` or `read|verify PLAN TEXT`, and does what they say.
 pub fn time_text<R: Files + Clock + AllocGlobal>(rt: &R, words: &[String]) -> Option<TextFigures> {
-    match words {
-        [file, text, from, to, at, count] => {
-            let request = request_of(from.as_str(), to.as_str(), at.as_str())?;
-            let count = count.parse::<u32>().ok()?;
-            let plan = plan_of(rt, file.as_str())?;
-            written(rt, &plan, request, count, text.as_str())
-        }
-        [mode, file, text] => {
-            let plan = plan_of(rt, file.as_str())?;
-            match mode.as_str() {
-                "read" => read_back(rt, &plan, text.as_str()),
-                "verify" => verified(rt, &plan, text.as_str()),
-                _ => None,
-            }
-        }
+    if let [mode, file, text] = words {
+        return time_again(rt, mode.as_str(), file.as_str(), text.as_str());
+    }
+    let (file, words) = words.split_first()?;
+    let (text, words) = words.split_first()?;
+    let question = Question::of(words)?;
+    let plan = plan_of(rt, file.as_str())?;
+    written(rt, &plan, question, text.as_str())
+}
+
+/// Reads or verifies a session's file.
+fn time_again<R: Files + Clock + AllocGlobal>(
+    rt: &R,
+    mode: &str,
+    file: &str,
+    text: &str,
+) -> Option<TextFigures> {
+    let plan = plan_of(rt, file)?;
+    match mode {
+        "read" => read_back(rt, &plan, text),
+        "verify" => verified(rt, &plan, text),
         _ => None,
     }
 }

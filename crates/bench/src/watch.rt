@@ -3,7 +3,7 @@
 use std::time::{Clock, Instant};
 
 /// A clock's time since it was started.
-#[derive(Drop)]
+#[derive(Clone, Copy)]
 pub struct Watch<'r, R: Clock> {
     clock: &'r R,
     begin: Option<Instant>,

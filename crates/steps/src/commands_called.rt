@@ -65,28 +65,66 @@ fn status_of<A: Allocator + Copy>(
     words: &mut Words<'_>,
     writers: &mut Writers,
 ) -> Option<Status> {
-    let plan = &mut desk.plan.reader();
-    let old = &mut desk.session.reader();
-    let (out, kept, err) = (&mut writers.out, &mut writers.kept, &mut writers.err);
     match words.next()? {
-        "first" => {
-            let (count, keeps) = count_of(words)?;
-            let request = desk.asked.request().ok()?;
-            Some(run_first(alloc, plan, request, count, out, keeps, kept, err))
-        }
-        "next" => {
-            let (count, keeps) = count_of(words)?;
-            Some(run_next(alloc, plan, old, count, out, keeps, kept, err))
-        }
-        "verify" => Some(run_verify(alloc, plan, old, out, err)),
-        "check" => Some(run_check(alloc, plan, out, err)),
-        "explain" => {
-            let contacts = numbers(desk.alloc, words)?;
-            let request = desk.asked.request().ok()?;
-            Some(run_explain(alloc, plan, request, &contacts, out, err))
-        }
+        "first" => first(alloc, desk, words, writers),
+        "next" => next(alloc, desk, words, writers),
+        "verify" => Some(verify(alloc, desk, writers)),
+        "check" => Some(check(alloc, desk, writers)),
+        "explain" => explain(alloc, desk, words, writers),
         _ => None,
     }
+}
+
+fn first<A: Allocator + Copy>(
+    alloc: A,
+    desk: &Desk<'_>,
+    words: &mut Words<'_>,
+    writers: &mut Writers,
+) -> Option<Status> {
+    let (count, keeps) = count_of(words)?;
+    let request = desk.asked.request().ok()?;
+    let plan = &mut desk.plan.reader();
+    let (out, kept, err) = (&mut writers.out, &mut writers.kept, &mut writers.err);
+    Some(run_first(alloc, plan, request, count, out, keeps, kept, err))
+}
+
+fn next<A: Allocator + Copy>(
+    alloc: A,
+    desk: &Desk<'_>,
+    words: &mut Words<'_>,
+    writers: &mut Writers,
+) -> Option<Status> {
+    let (count, keeps) = count_of(words)?;
+    let (plan, old) = (&mut desk.plan.reader(), &mut desk.session.reader());
+    let (out, kept, err) = (&mut writers.out, &mut writers.kept, &mut writers.err);
+    Some(run_next(alloc, plan, old, count, out, keeps, kept, err))
+}
+
+fn verify<A: Allocator + Copy>(alloc: A, desk: &Desk<'_>, writers: &mut Writers) -> Status {
+    let (plan, old) = (&mut desk.plan.reader(), &mut desk.session.reader());
+    run_verify(alloc, plan, old, &mut writers.out, &mut writers.err)
+}
+
+fn check<A: Allocator + Copy>(alloc: A, desk: &Desk<'_>, writers: &mut Writers) -> Status {
+    run_check(
+        alloc,
+        &mut desk.plan.reader(),
+        &mut writers.out,
+        &mut writers.err,
+    )
+}
+
+fn explain<A: Allocator + Copy>(
+    alloc: A,
+    desk: &Desk<'_>,
+    words: &mut Words<'_>,
+    writers: &mut Writers,
+) -> Option<Status> {
+    let contacts = numbers(desk.alloc, words)?;
+    let request = desk.asked.request().ok()?;
+    let plan = &mut desk.plan.reader();
+    let (out, err) = (&mut writers.out, &mut writers.err);
+    Some(run_explain(alloc, plan, request, &contacts, out, err))
 }
 
 /// Takes a count of routes, and whether the session is kept.

@@ -70,23 +70,30 @@ impl<'t> Desk<'t> {
     /// Does a step that needs no plan. `None` if it is another step.
     pub fn step(&mut self, name: &str, words: &mut Words<'_>) -> Option<String> {
         match name {
-            "refuse" => {
-                self.ration.refuse(number(words)?);
-                done(self.alloc)
-            }
+            "refuse" => self.refuse(number(words)),
             "requests" => format!(in self.alloc; "{}", self.ration.requests()).ok(),
-            "ask" => {
-                self.asked = Asked::taken(words)?;
-                self.asked.answer(self.alloc)
-            }
-            "time" => self.time(number(words)?),
-            "parse" => self.parsed(words.next()?),
+            "ask" => self.ask(words),
+            "time" => self.time(number(words)),
+            "parse" => self.parsed(words.next()),
             _ => self.set(name, words),
         }
     }
 
+    /// Refuses a request for memory.
+    fn refuse(&self, request: Option<u64>) -> Option<String> {
+        self.ration.refuse(request?);
+        done(self.alloc)
+    }
+
+    /// Takes a request.
+    fn ask(&mut self, words: &mut Words<'_>) -> Option<String> {
+        self.asked = Asked::taken(words)?;
+        self.asked.answer(self.alloc)
+    }
+
     /// The spelling of a second.
-    fn time(&self, second: u64) -> Option<String> {
+    fn time(&self, second: Option<u64>) -> Option<String> {
+        let second = second?;
         if second > 253402300799 {
             return None;
         }
@@ -95,8 +102,8 @@ impl<'t> Desk<'t> {
     }
 
     /// The second of a spelling.
-    fn parsed(&self, text: &str) -> Option<String> {
-        match parse_time(text.as_bytes()) {
+    fn parsed(&self, text: Option<&str>) -> Option<String> {
+        match parse_time(text?.as_bytes()) {
             Some(second) => format!(in self.alloc; "{second}").ok(),
             None => String::from_str(self.alloc, "none").ok(),
         }
@@ -104,16 +111,17 @@ impl<'t> Desk<'t> {
 
     /// Takes a text, or the way in which a text is given or taken.
     fn set(&mut self, name: &str, words: &mut Words<'_>) -> Option<String> {
-        match name {
-            "plan-text" => self.plan.set_text(decoded(self.alloc, words)?),
-            "session-text" => self.session.set_text(decoded(self.alloc, words)?),
-            "plan-given" => self.plan.take_way(words)?,
-            "session-given" => self.session.take_way(words)?,
-            "out" => self.out = Room::taken(words)?,
-            "kept" => self.kept = Room::taken(words)?,
-            "err" => self.err = Room::taken(words)?,
-            _ => return None,
-        }
+        let taken = match name {
+            "plan-text" => self.plan.take_text(self.alloc, words),
+            "session-text" => self.session.take_text(self.alloc, words),
+            "plan-given" => self.plan.take_way(words),
+            "session-given" => self.session.take_way(words),
+            "out" => self.out.take(words),
+            "kept" => self.kept.take(words),
+            "err" => self.err.take(words),
+            _ => None,
+        };
+        taken?;
         done(self.alloc)
     }
 }

@@ -1,5 +1,6 @@
 //! The ways in which texts are given and taken.
 
+use crate::desk::decoded;
 use crate::words::{Words, number};
 use failing::{End, LimitedWriter, PieceReader};
 use std::alloc::Global;
@@ -27,6 +28,12 @@ impl Given {
     /// Replaces the text, which is given in the same way.
     pub fn set_text(&mut self, text: Vec<u8>) {
         self.text = text;
+    }
+
+    /// Takes the text from its hexadecimal digits. It is given in the same way.
+    pub fn take_text(&mut self, alloc: Global, words: &mut Words<'_>) -> Option<()> {
+        self.text = decoded(alloc, words)?;
+        Some(())
     }
 
     /// Takes how it is given: the bytes of a piece, the limit, and whether the reader then fails.
@@ -66,12 +73,11 @@ impl Room {
     }
 
     /// Takes the limit, the bytes of a piece, and whether the flush fails.
-    pub fn taken(words: &mut Words<'_>) -> Option<Room> {
-        Some(Room {
-            limit: number(words)? as usize,
-            piece: number(words)? as usize,
-            flush_fails: words.next() == Some("fails"),
-        })
+    pub fn take(&mut self, words: &mut Words<'_>) -> Option<()> {
+        self.limit = number(words)? as usize;
+        self.piece = number(words)? as usize;
+        self.flush_fails = words.next() == Some("fails");
+        Some(())
     }
 
     /// A writer with this room.

@@ -4,6 +4,7 @@ use crate::answers::{done, no_memory, refused, routes, yes_or_no};
 use crate::desk::Desk;
 use crate::fresh::Fresh;
 use crate::loading::{fed, loaded};
+use crate::sessions::session_step;
 use crate::words::{Words, small_number};
 use plain_listing::first_routes;
 use sabr_frontier::{Loader, Session};
@@ -35,9 +36,14 @@ impl<'p, B: Fresh<A>, A: Allocator + Copy> Held<'p, B, A> {
         self.plan
     }
 
-    /// The session.
-    pub fn session(&mut self) -> Option<&mut Session<'p, B, A>> {
-        self.session.as_mut()
+    /// Does a step of the session.
+    pub fn step(
+        &mut self,
+        desk: &mut Desk<'_>,
+        name: &str,
+        words: &mut Words<'_>,
+    ) -> Option<String> {
+        session_step(self.session.as_mut()?, desk, name, words)
     }
 
     /// Starts a session.

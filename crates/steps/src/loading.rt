@@ -77,11 +77,21 @@ fn feed_step<A: Allocator + Copy, B: BestOf<A>>(
     words: &mut Words<'_>,
 ) -> Option<String> {
     match name {
-        "piece" => match feed.feed(&decoded(desk.alloc, words)?) {
-            Ok(()) => done(desk.alloc),
-            Err(fault) => refused(desk.alloc, fault),
-        },
+        "piece" => feed_piece(feed, desk.alloc, words),
         "held" => format!(in desk.alloc; "{}", feed.held()).ok(),
         _ => desk.step(name, words),
+    }
+}
+
+/// Feeds a piece.
+fn feed_piece<A: Allocator + Copy, B: BestOf<A>>(
+    feed: &mut SessionFeed<'_, B, A>,
+    alloc: Global,
+    words: &mut Words<'_>,
+) -> Option<String> {
+    let piece = decoded(alloc, words)?;
+    match feed.feed(&piece) {
+        Ok(()) => done(alloc),
+        Err(fault) => refused(alloc, fault),
     }
 }

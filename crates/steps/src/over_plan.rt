@@ -5,7 +5,6 @@ use crate::desk::Desk;
 use crate::fresh::Fresh;
 use crate::held::Held;
 use crate::parts::part_step;
-use crate::sessions::session_step;
 use crate::words::Words;
 use sabr_model::Plan;
 use std::alloc::Allocator;
@@ -51,7 +50,7 @@ fn step<A: Allocator + Copy, B: Fresh<A>>(
         "plain" => held.plain(desk, words),
         "fits" | "best" | "looks" | "follow" => part_step(held.plan(), finder, desk, name, words),
         "page" | "back" | "certify" | "place" | "parts" | "write" | "keep" => {
-            session_step(held.session()?, desk, name, words)
+            held.step(desk, name, words)
         }
         _ => desk.step(name, words),
     }

@@ -17,34 +17,58 @@ pub fn part_step<A: Allocator + Copy, B: BestOf<A>>(
 ) -> Option<String> {
     let request = desk.asked.request().ok()?;
     match name {
-        "fits" => {
-            let prefix = numbers(desk.alloc, words)?;
-            let excluded = &[];
-            let part = Part {
-                prefix: &prefix,
-                excluded,
-            };
-            yes_or_no(desk.alloc, fits(plan, &request, part))
-        }
-        "best" => {
-            let prefix = numbers(desk.alloc, words)?;
-            let excluded = numbers(desk.alloc, words)?;
-            let part = Part {
-                prefix: &prefix,
-                excluded: &excluded,
-            };
-            best(finder, plan, &request, part, desk.alloc)
-        }
+        "fits" => fitting(plan, &request, desk.alloc, words),
+        "best" => best_named(finder, plan, &request, desk.alloc, words),
         "looks" => format!(in desk.alloc; "{}", finder.looks()).ok(),
-        "follow" => {
-            let contacts = numbers(desk.alloc, words)?;
-            match follow(plan, &request, &contacts) {
-                Ok(delivery) => format!(in desk.alloc; "{delivery}").ok(),
-                Err(fault) => refused(desk.alloc, fault),
-            }
-        }
+        "follow" => followed(plan, &request, desk.alloc, words),
         _ => None,
     }
+}
+
+/// Whether the prefix PREFIX fits.
+fn fitting<A: Allocator + Copy>(
+    plan: &Plan<A>,
+    request: &Request,
+    alloc: Global,
+    words: &mut Words<'_>,
+) -> Option<String> {
+    let prefix = numbers(alloc, words)?;
+    let part = Part {
+        prefix: &prefix,
+        excluded: &[],
+    };
+    yes_or_no(alloc, fits(plan, request, part))
+}
+
+/// The delivery of the contacts CONTACTS, or their fault.
+fn followed<A: Allocator + Copy>(
+    plan: &Plan<A>,
+    request: &Request,
+    alloc: Global,
+    words: &mut Words<'_>,
+) -> Option<String> {
+    let contacts = numbers(alloc, words)?;
+    match follow(plan, request, &contacts) {
+        Ok(delivery) => format!(in alloc; "{delivery}").ok(),
+        Err(fault) => refused(alloc, fault),
+    }
+}
+
+/// The least route of the part PREFIX / EXCLUDED.
+fn best_named<A: Allocator + Copy, B: BestOf<A>>(
+    finder: &mut B,
+    plan: &Plan<A>,
+    request: &Request,
+    alloc: Global,
+    words: &mut Words<'_>,
+) -> Option<String> {
+    let prefix = numbers(alloc, words)?;
+    let excluded = numbers(alloc, words)?;
+    let part = Part {
+        prefix: &prefix,
+        excluded: &excluded,
+    };
+    best(finder, plan, request, part, alloc)
 }
 
 /// The least route of a part.

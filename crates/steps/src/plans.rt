@@ -13,27 +13,54 @@ use std::alloc::{Allocator, Global};
 
 /// Takes all steps.
 pub fn perform<'r>(ration: &'r Ration, desk: &mut Desk<'_>) {
-    let mut plan = Plan::new(ration);
-    let mut settled = Settled::new(ration);
-    let mut layered = Layered::new(ration);
+    let mut made = Made {
+        plan: Plan::new(ration),
+        settled: Settled::new(ration),
+        layered: Layered::new(ration),
+    };
     for _ in 0..u64::MAX {
         let Some((name, mut words)) = desk.next() else {
             return;
         };
+        made.step(ration, desk, name, &mut words);
+    }
+}
+
+/// The plan, and a finder of each kind.
+#[derive(Drop)]
+struct Made<'r> {
+    plan: Plan<&'r Ration>,
+    settled: Settled<&'r Ration>,
+    layered: Layered<&'r Ration>,
+}
+
+impl<'r> Made<'r> {
+    /// Takes a step, and the steps over the plan that follow it.
+    fn step(&mut self, ration: &'r Ration, desk: &mut Desk<'_>, name: &str, words: &mut Words<'_>) {
         match name {
-            "fresh" => {
-                settled = Settled::new(ration);
-                layered = Layered::new(ration);
-                let made = done(desk.alloc);
-                desk.say(made);
-            }
-            "settled" => steps_over(ration, &plan, &mut settled, desk),
-            "layered" => steps_over(ration, &plan, &mut layered, desk),
+            "settled" => steps_over(ration, &self.plan, &mut self.settled, desk),
+            "layered" => steps_over(ration, &self.plan, &mut self.layered, desk),
             _ => {
-                let answer = plan_step(ration, &mut plan, desk, name, &mut words);
+                let answer = self.answer(ration, desk, name, words);
                 desk.say(answer);
             }
         }
+    }
+
+    /// Makes both finders anew, or does a step that needs none.
+    fn answer(
+        &mut self,
+        ration: &'r Ration,
+        desk: &mut Desk<'_>,
+        name: &str,
+        words: &mut Words<'_>,
+    ) -> Option<String> {
+        if name != "fresh" {
+            return plan_step(ration, &mut self.plan, desk, name, words);
+        }
+        self.settled = Settled::new(ration);
+        self.layered = Layered::new(ration);
+        done(desk.alloc)
     }
 }
 
@@ -46,21 +73,24 @@ fn plan_step<A: Allocator + Copy>(
     words: &mut Words<'_>,
 ) -> Option<String> {
     match name {
-        "new" => {
-            *plan = Plan::new(alloc);
-            done(desk.alloc)
-        }
+        "new" => renewed(alloc, plan, desk),
         "read" => read(alloc, plan, desk),
-        "contact" => numbered(desk.alloc, add_contact(plan, words)?),
-        "range" => answered(desk.alloc, add_range(plan, words)?),
-        "drop-contact" => numbered(desk.alloc, delete_contact(plan, words)?),
-        "drop-range" => answered(desk.alloc, delete_range(plan, words)?),
+        "contact" => numbered(desk.alloc, add_contact(plan, words)),
+        "range" => answered(desk.alloc, add_range(plan, words)),
+        "drop-contact" => numbered(desk.alloc, delete_contact(plan, words)),
+        "drop-range" => answered(desk.alloc, delete_range(plan, words)),
         "canonical" => canonical_text(plan, desk),
         "digest" => bytes(desk.alloc, &digest(plan)),
         "run" => command_step(alloc, desk, words),
         "value-fault" => value_fault(desk.alloc, words),
         _ => desk.step(name, words),
     }
+}
+
+/// Makes an empty plan.
+fn renewed<A: Allocator + Copy>(alloc: A, plan: &mut Plan<A>, desk: &Desk<'_>) -> Option<String> {
+    *plan = Plan::new(alloc);
+    done(desk.alloc)
 }
 
 /// Reads the plan's text.
@@ -88,15 +118,15 @@ pub fn held(alloc: Global, written: bool, held: &[u8]) -> Option<String> {
     format!(in alloc; "{word} {digits}").ok()
 }
 
-fn numbered(alloc: Global, answer: Result<u32, AddFault>) -> Option<String> {
-    match answer {
+fn numbered(alloc: Global, answer: Option<Result<u32, AddFault>>) -> Option<String> {
+    match answer? {
         Ok(number) => format!(in alloc; "{number}").ok(),
         Err(fault) => refused(alloc, fault),
     }
 }
 
-fn answered(alloc: Global, answer: Result<(), AddFault>) -> Option<String> {
-    match answer {
+fn answered(alloc: Global, answer: Option<Result<(), AddFault>>) -> Option<String> {
+    match answer? {
         Ok(()) => done(alloc),
         Err(fault) => refused(alloc, fault),
     }

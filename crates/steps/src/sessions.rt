@@ -18,22 +18,13 @@ pub fn session_step<A: Allocator + Copy, B: BestOf<A>>(
     words: &mut Words<'_>,
 ) -> Option<String> {
     match name {
-        "page" => page(session, desk.alloc, small_number(words)?),
+        "page" => page(session, desk.alloc, small_number(words)),
         "back" => yes_or_no(desk.alloc, session.back()),
-        "certify" => match session.certify() {
-            Ok(yes) => yes_or_no(desk.alloc, yes),
-            Err(_) => no_memory(desk.alloc),
-        },
+        "certify" => certified(session, desk.alloc),
         "place" => place(session, desk.alloc),
         "parts" => parts(session, desk.alloc),
         "write" => written(session, desk),
-        "keep" => {
-            let mut writer = desk.kept.writer(desk.alloc);
-            write_session(session, &digest(session.plan()), &mut writer).ok()?;
-            desk.session
-                .set_text(Vec::from_slice(desk.alloc, writer.held()).ok()?);
-            done(desk.alloc)
-        }
+        "keep" => kept(session, desk),
         _ => None,
     }
 }
@@ -42,12 +33,35 @@ pub fn session_step<A: Allocator + Copy, B: BestOf<A>>(
 fn page<A: Allocator + Copy, B: BestOf<A>>(
     session: &mut Session<'_, B, A>,
     alloc: Global,
-    count: u32,
+    count: Option<u32>,
 ) -> Option<String> {
-    match session.page(count.min(10000)) {
+    match session.page(count?.min(10000)) {
         Ok(given) => routes(alloc, given.as_slice()),
         Err(_) => no_memory(alloc),
     }
+}
+
+/// Whether the session is that of its place.
+fn certified<A: Allocator + Copy, B: BestOf<A>>(
+    session: &mut Session<'_, B, A>,
+    alloc: Global,
+) -> Option<String> {
+    match session.certify() {
+        Ok(yes) => yes_or_no(alloc, yes),
+        Err(_) => no_memory(alloc),
+    }
+}
+
+/// Writes the session's text, and keeps it as the text of a session to read.
+fn kept<A: Allocator + Copy, B: BestOf<A>>(
+    session: &Session<'_, B, A>,
+    desk: &mut Desk<'_>,
+) -> Option<String> {
+    let mut writer = desk.kept.writer(desk.alloc);
+    write_session(session, &digest(session.plan()), &mut writer).ok()?;
+    let text = Vec::from_slice(desk.alloc, writer.held()).ok()?;
+    desk.session.set_text(text);
+    done(desk.alloc)
 }
 
 /// What a session shows of its place: routes given, the last of them, whether there are more, parts, whether a page can be
