@@ -11,16 +11,12 @@ use Rattle.sabr_search.specs.declared.rung.Span.{Span}
 use Rattle.sabr_search.specs.Ways.{Leads}
 use Rattle.sabr_search.specs.Task.{SearchTask, Takes, IsTask, IsBehind}
 use Rattle.sabr_search.specs.Made.{Entry}
-use Rattle.sabr_search.specs.Late.{soonest}
 use Rattle.sabr_search.specs.Kept.{Goes, IsWayOn, IsFloor, AreDues, IsWithin}
 use Rattle.sabr_search.specs.Following.{tabled_of}
 use Rattle.sabr_search.specs.Laying.{IsWhole, AreAllLate, AreGathered}
 use Rattle.sabr_search.proofs.Ways.{Leads-later}
 use Rattle.sabr_search.proofs.Bridge.{takes_timely, same_some}
 use Rattle.sabr_search.proofs.Ended.{inside, late_way}
-
-soonest_zero : (since : List ℕ) (d u t : ℕ) → slice_index since u ≡ 0 → soonest since d u ≤ t
-soonest_zero since d u t zero_is = omega (arith, zero_is)
 
 module _ (task : SearchTask) (whole : IsWhole task) where
   takes_of : (n u t w b : ℕ) → Goes (tabled_of task) task.request n u t w b → Takes task n u t w b
@@ -46,7 +42,7 @@ module _ (task : SearchTask) (whole : IsWhole task) where
     entry_of_way ns v t e on le =
         let to : on.goal ≡ task.goal = whole.is.nodes.apart on.goal task.goal task.request.destination on.goal_is whole.goal_is in
         let way : Leads (Takes task) v t ns task.goal e = leads_takes ns v t task.goal e (subst (λ g. Leads (Goes (tabled_of task) task.request) v t ns g e) to on.way) in
-        late_way task whole.is all.since d left ends late all.place reached all.made all.last (λ (u s : ℕ). 0 ≤ s) (λ n u s w b at step. omega arith) (λ u s at. soonest_zero all.since d u s (all.zero u)) ns v t e
+        late_way task whole.is all.since d left ends late all.place reached all.made all.last (λ (u s : ℕ). 0 ≤ s) (λ n u s w b at step. omega arith) (λ u s at. omega (arith, all.zero u)) ns v t e
         (omega arith) (whole.shuts v on.open_node.node on.open_node.stands ∙ on.open_node.unshut) way le
 
     -- so the latest seconds are a floor, once the goal has its own

@@ -2,18 +2,20 @@
 use Rattle.std.proofs.Common.{◌≡◌, ℕ, zero, suc, ◌+◌, ◌-◌, ◌<◌, ◌≤◌, List, [], ◌∷◌, ◌++◌, length, map, take, drop, true, false, cond, ◌||◌, eqb, Some, slice_get, slice_index, slice_index_or, refl, ap, sym, ◌∙◌, ⊎_elim, arith, length-take, length-drop}
 use Rattle.std.specs.List.{count_by}
 use Rattle.std.proofs.lemmas.Bool.{eq-eqb, ne_eqb, cases_Bool, false_from_ne_true, cases_eq}
-use Rattle.std.proofs.lemmas.List.{take_more, drop-append-le, get_or-drop, get_or-take, map-append}
+use Rattle.std.proofs.lemmas.List.{take_more, drop-append-le, get_or-drop, get_or-take, length-map, map-append}
 use Rattle.std.proofs.lemmas.List.Folds.{list_any-append}
 use Rattle.std.proofs.lemmas.List.Sums.{sum_by-cons, count_by-le-length}
 use Rattle.std.proofs.lemmas.Option.{slice_get-get_or, slice_get_within, get_or_from_slice_get, slice_get_read}
 use Rattle.std.proofs.lemmas.List.Elements.{at_read}
+use Rattle.sabr_model.specs.declared.contact.Contact.{Contact}
 use Rattle.sabr_model.specs.Plan.{has}
 use Rattle.sabr_model.proofs.Members.{map_in, Contains-from_in}
 use Rattle.sabr_model.proofs.Listed.{in_from_has}
 use Rattle.sabr_search.specs.declared.layers.Reached.{Reached}
 use Rattle.sabr_search.specs.Task.{SearchTask}
-use Rattle.sabr_search.specs.Steps.{senders, degree, sent_by_all}
+use Rattle.sabr_search.specs.Steps.{place_in, senders, degree, sent_by_all, receivers, received, received_by_all}
 use Rattle.sabr_search.specs.Lists.{nodes_between, AreSources}
+use Rattle.sabr_search.specs.Deadlines.{IsApart}
 use Rattle.sabr_search.proofs.StepLists.{senders_length}
 
 -- lists that begin alike have the same elements there
@@ -70,18 +72,36 @@ entry_read reached reached0 begin place e before less within is =
     same_below begin reached reached0 before place e less (slice_get_read reached (length reached) place e refl (omega arith) is)
 
 -- the node of the next entry is not among those of the entries before it
-pub fresh_node : (task : SearchTask) (reached : List Reached) (first begin place : ℕ) (e : Reached) → AreSources task reached first begin → first ≤ place → place < begin → slice_get reached place ≡ Some e → has e.node (nodes_between reached first place) ≡ false
-fresh_node task reached first begin place e sources le less at =
+pub fresh_node : (reached : List Reached) (first begin place : ℕ) (e : Reached) →
+    ((p q : ℕ) (f g : Reached) → first ≤ p → first ≤ q → p < begin → q < begin → slice_get reached p ≡ Some f → slice_get reached q ≡ Some g → f.node ≡ g.node → p ≡ q) →
+    first ≤ place → place < begin → slice_get reached place ≡ Some e → has e.node (nodes_between reached first place) ≡ false
+fresh_node reached first begin place e apart le less at =
     false_from_ne_true (has e.node (nodes_between reached first place)) (λ h.
     (let m = between_at reached first place e.node h in
-    let same = sources.apart m.0 place m.1 e m.2 le (omega (arith, m.3)) less m.4 at m.5 in
+    let same = apart m.0 place m.1 e m.2 le (omega (arith, m.3)) less m.4 at m.5 in
     omega (arith, m.3)))
 
 -- so their contacts together are no more than those of the plan
 pub sent_next : (task : SearchTask) (reached : List Reached) (first begin place : ℕ) (e : Reached) → AreSources task reached first begin → first ≤ place → place < begin → slice_get reached place ≡ Some e →
     sent_by_all task (nodes_between reached first place) + degree task e.node ≡ sent_by_all task (nodes_between reached first (place + 1))
 sent_next task reached first begin place e sources le less at =
-    sym (ap (sent_by_all task) (between_more reached first place e le at) ∙ sent_more task (nodes_between reached first place) e.node (fresh_node task reached first begin place e sources le less at))
+    sym (ap (sent_by_all task) (between_more reached first place e le at) ∙ sent_more task (nodes_between reached first place) e.node (fresh_node reached first begin place e sources.apart le less at))
+
+-- and the contacts that they receive
+pub received_next : (task : SearchTask) (ends : List ℕ) (reached : List Reached) (left place : ℕ) (e : Reached) → IsApart ends reached left → slice_index ends left ≤ place → place < slice_index ends (left + 1) → slice_get reached place ≡ Some e →
+    received_by_all task (nodes_between reached (slice_index ends left) place) + received task e.node ≡ received_by_all task (nodes_between reached (slice_index ends left) (place + 1))
+received_next task ends reached left place e apart le less at =
+    sym (ap (received_by_all task) (between_more reached (slice_index ends left) place e le at)
+    ∙ count_more (nodes_between reached (slice_index ends left) place) (receivers task) e.node (fresh_node reached (slice_index ends left) (slice_index ends (left + 1)) place e apart le less at))
+
+pub received_at_most : (task : SearchTask) (nodes : List ℕ) → received_by_all task nodes ≤ length task.plan.contacts
+received_at_most task nodes = omega (arith, count_by-le-length (λ k. has k nodes) (receivers task), length-map task.plan.contacts (λ (c : Contact). place_in task.table c.to))
+
+-- so up to an entry they are no more than those of the plan
+pub received_within : (task : SearchTask) (ends : List ℕ) (reached : List Reached) (left place : ℕ) (e : Reached) → IsApart ends reached left → slice_index ends left ≤ place → place < slice_index ends (left + 1) → slice_get reached place ≡ Some e →
+    received_by_all task (nodes_between reached (slice_index ends left) place) + received task e.node ≤ length task.plan.contacts
+received_within task ends reached left place e apart le less at =
+    omega (arith, received_next task ends reached left place e apart le less at, received_at_most task (nodes_between reached (slice_index ends left) (place + 1)))
 
 -- what a `Vec` has at an index, at the usual default
 pub read_at : (xs : List ℕ) (i x : ℕ) → i < length xs → x ≡ slice_index_or xs i x → x ≡ slice_index xs i

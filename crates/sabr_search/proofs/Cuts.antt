@@ -8,10 +8,10 @@ use Rattle.sabr_model.specs.Record.{RouteRecord}
 use Rattle.sabr_search.specs.declared.layers.Best.{Best}
 use Rattle.sabr_search.specs.declared.layers.Limits.{Limits}
 use Rattle.sabr_search.specs.Ways.{Leads}
-use Rattle.sabr_search.specs.Answers.{IsAnswered}
+use Rattle.sabr_search.specs.Answers.{IsAnswered, IsLeastAfter}
 use Rattle.sabr_search.specs.Task.{SearchTask, Takes, IsTask, IsBehind}
 use Rattle.sabr_search.specs.Picks.{IsLeastWay}
-use Rattle.sabr_search.specs.Told.{IsTold, IsCut, IsStopped, hops_told}
+use Rattle.sabr_search.specs.Told.{IsTold, IsCut, hops_told}
 use Rattle.sabr_search.specs.Settling.{IsFirstWay}
 use Rattle.sabr_search.specs.Limits.{AreLimits}
 use Rattle.sabr_search.proofs.Prefixes.{IsPrefix}
@@ -48,27 +48,30 @@ module _ (task : SearchTask) (is : IsTask task) (prefix : List ℕ) (behind : Is
   told_short None told = omega arith
   told_short (Some route) told = omega (arith, ap length told.1, length-append prefix told.0, way_few task prefix behind facts told.0 route.delivery told.2.way told.2.fewest)
 
-  -- if the limit on hops is the greatest, some route is found
-  nothing_wide : task.request.max_hops ≡ 20000 → IsNothing → ⊥
-  nothing_wide most late = elim are.either [
-    | inl wide ↦ (let way = found.some some in omega (arith, late way.0 first.delivery (omega (arith, way.1, wide.hops)) way.2, wide.ceiling))
-    | inr narrow ↦ narrow.other most
+  -- layers forward are made only under a limit on hops
+  pub narrow_cut : {E : Type 0} (new : ℕ) (result : Result (Option RouteRecord) E) → (limits.hops ≡ first.hops → ⊥) → IfOk result (IsCut task.plan task.request.max_hops prefix new)
+  narrow_cut new (Err e) other = tt
+  narrow_cut new (Ok o) other = λ most. elim are.either [ inl wide ↦ absurd (other wide.hops) | inr narrow ↦ absurd (narrow.other most) ]
+
+  -- the least way of the first delivery is that within the limits, if they allow as many hops
+  pub wide_found : limits.hops ≡ first.hops → (route : RouteRecord) → IsLeastAfter task prefix first.hops (first.delivery + 1) route → IsRouteFound route
+  wide_found same route told = elim are.either [
+    | inl wide ↦ rw (wide.hops, wide.ceiling) told
+    | inr narrow ↦ absurd (omega (arith, narrow.fewer, same))
   ]
 
-  -- and it delivers no later than the first way
-  found_wide : task.request.max_hops ≡ 20000 → (route : RouteRecord) → IsRouteFound route → route.delivery ≤ limits.lower
-  found_wide most route told = elim are.either [
-    | inl wide ↦ omega (arith, told.2.below, wide.ceiling, are.lower)
-    | inr narrow ↦ absurd (narrow.other most)
-  ]
+  -- so the looks are bounded by the layers backward and the picks, one for each hop of the answer
+  pub wide_cut : (new : ℕ) (route : RouteRecord) → IsRouteFound route → new ≤ 3 * length task.plan.contacts + 2 * ((length route.contacts - length prefix) * length task.plan.contacts) + length route.contacts →
+      new ≤ (3 * (length route.contacts - length prefix) + 3) * length task.plan.contacts
+  wide_cut new route told few =
+      let some : 1 * length task.plan.contacts ≤ (length route.contacts - length prefix) * length task.plan.contacts = mul-le-mul_right (length task.plan.contacts) (omega (arith, ap length told.1, length-append prefix told.0, told.2.some)) in
+      omega (arith, few, some, told_short (Some route) told)
 
-  -- so the looks are bounded by the layers, one for each hop of the answer
-  pub cut_told : {E : Type 0} (old new : ℕ) (result : Result (Option RouteRecord) E) → IfOk result (λ o. IfNone o IsNothing) → IfOk result (λ o. IfSome o IsRouteFound) →
-      IfOk result (λ o. IfSome o (IsStopped task.plan prefix limits.lower old new)) → old ≤ 2 * length task.plan.contacts →
-      IfOk result (IsCut task.plan task.request.max_hops prefix new)
-  cut_told old new (Err e) none told stopped few = tt
-  cut_told old new (Ok None) none told stopped few = λ most. absurd (nothing_wide most none)
-  cut_told old new (Ok (Some route)) none told stopped few = λ most. omega (arith, stopped (found_wide most route told), few, told_short (Some route) told)
+  pub wide_bound : (new : ℕ) (route : RouteRecord) → IsRouteFound route → new ≤ 3 * length task.plan.contacts + 2 * ((length route.contacts - length prefix) * length task.plan.contacts) + length route.contacts →
+      new ≤ (3 * length task.table + 1) * length task.plan.contacts
+  wide_bound new route told few =
+      let within : (length route.contacts - length prefix) * length task.plan.contacts ≤ limits.hops * length task.plan.contacts = mul-le-mul_right (length task.plan.contacts) (omega (arith, ap length told.1, length-append prefix told.0, told.2.within)) in
+      omega (arith, few, within, layers_within, told_short (Some route) told)
 
   -- and always within those of a layer for each node but the start
   pub bound_told : {E : Type 0} (old new : ℕ) (result : Result (Option RouteRecord) E) → IfOk result (λ o. IfSome o IsRouteFound) →

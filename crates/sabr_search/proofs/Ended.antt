@@ -5,7 +5,7 @@ use Rattle.sabr_search.specs.declared.layers.Reached.{Reached}
 use Rattle.sabr_search.specs.Ways.{Leads}
 use Rattle.sabr_search.specs.Task.{SearchTask, Takes, IsTask}
 use Rattle.sabr_search.specs.Made.{Entry}
-use Rattle.sabr_search.specs.Late.{AreArrivals, AreLateLayers, IsEnded, soonest}
+use Rattle.sabr_search.specs.Late.{AreArrivals, AreLateLayers, IsEnded}
 use Rattle.sabr_search.specs.Following.{IsNoneBefore}
 use Rattle.sabr_search.proofs.Ways.{Leads-append, Leads-later}
 use Rattle.sabr_search.proofs.Bridge.{takes_timely}
@@ -27,7 +27,7 @@ module _ (task : SearchTask) (is : IsTask task) (since : List ℕ) (d left : ℕ
   goal_entry : Entry ends reached 0 task.goal made.goal_first.0 (d + 1)
   goal_entry = (0, omega (arith, made.first_end), omega (arith, made.second_end), made.goal_first.1)
 
-  module _ (On : ℕ → ℕ → Type 0) (onward : (n v t w b : ℕ) → On v t → Takes task n v t w b → On w b) (soon : (v t : ℕ) → On v t → soonest since d v ≤ t) where
+  module _ (On : ℕ → ℕ → Type 0) (onward : (n v t w b : ℕ) → On v t → Takes task n v t w b → On w b) (soon : (v t : ℕ) → On v t → slice_index since v ≤ t) where
     -- each way on by d has an entry, of no more hops, if none comes to a node before its soonest second
     pub late_way : (ns : List ℕ) (v t e : ℕ) → On v t → slice_index_or task.shut v false ≡ false → Leads (Takes task) v t ns task.goal e → e ≤ d →
         (j : ℕ) × (a : ℕ) × (x : ℕ) × (j ≤ length ns) × Entry ends reached j v a x × (t < x)
@@ -51,7 +51,7 @@ module _ (task : SearchTask) (is : IsTask task) (since : List ℕ) (d left : ℕ
       (on.0 ++ n ∷ [], omega (arith, length-append on.0 (n ∷ [])), Leads-append (Takes task) (takes_timely task is.nodes) on.0 (n ∷ []) task.start task.at v t w b on.2 (w, b, step, (refl, refl)))
 
   -- so none leads from the start to the goal by d
-  pub none_by : AreArrivals task since d → IsNoneBefore task (d + 1)
+  pub none_by : AreArrivals task since → IsNoneBefore task (d + 1)
   none_by arrivals [] e way = absurd (goal_other task is (sym way.0))
   none_by arrivals (n ∷ ns) e way = elim (cases_lt d e) [
     | inl later ↦ omega (arith, later)
@@ -63,7 +63,7 @@ module _ (task : SearchTask) (is : IsTask task) (since : List ℕ) (d left : ℕ
         absurd ((made.taken r.0 w r.1 r.2 n task.start task.at b (inside r.0 w r.1 r.2 r.4) r.4 r.5 step).0 refl (omega arith)))
   ]
 
-pub ended : (task : SearchTask) → IsTask task → (since : List ℕ) (d left : ℕ) (ends late place : List ℕ) (reached : List Reached) → AreLateLayers task since d left ends late place reached → AreArrivals task since d → IsEnded ends → IsNoneBefore task (d + 1)
+pub ended : (task : SearchTask) → IsTask task → (since : List ℕ) (d left : ℕ) (ends late place : List ℕ) (reached : List Reached) → AreLateLayers task since d left ends late place reached → AreArrivals task since → IsEnded ends → IsNoneBefore task (d + 1)
 ended task is since d left ends late place reached made arrivals empty =
     let same : empty.0 ≡ left = omega (arith, empty.1, made.many) in
     none_by task is since d left ends late place reached made (subst (λ k. slice_index ends k ≡ slice_index ends (k + 1)) same empty.2) arrivals

@@ -12,8 +12,7 @@ use Rattle.sabr_search.specs.Ways.{Leads}
 use Rattle.sabr_search.specs.Task.{SearchTask, Takes, IsTask}
 use Rattle.sabr_search.specs.Steps.{senders, degree}
 use Rattle.sabr_search.specs.Made.{AreOpened}
-use Rattle.sabr_search.specs.Settling.{sent_by_settled, IsQueue, AreSettling, IsFallen, AreSettledTaken, AreSettled, IsFirstWay}
-use Rattle.sabr_search.specs.Late.{AreArrivals}
+use Rattle.sabr_search.specs.Settling.{AreArrivalsBy, sent_by_settled, IsQueue, AreSettling, IsFallen, AreSettledTaken, AreSettled, IsFirstWay}
 use Rattle.sabr_search.proofs.Ways.{Leads-later}
 use Rattle.sabr_search.proofs.Settles.{settled_before}
 use Rattle.sabr_search.proofs.Counts.{settled_more}
@@ -128,7 +127,7 @@ module _ (task : SearchTask) (is : IsTask task) (settled : List Bool) (arrival :
         ]
       ]
 
-  pub arrivals_found : ((f : Event) → Contains queue f → best.delivery ≤ f.at) → AreArrivals task arrival best.delivery
+  pub arrivals_found : ((f : Event) → Contains queue f → best.delivery ≤ f.at) → AreArrivalsBy task arrival best.delivery
   arrivals_found stop = record {
     flags = omega (arith, was.flags, is.as_many);
     least = λ ns v t some way. elim (reached_by stop ns task.start task.at v t was.start_settled (omega (arith, was.start_reached)) way) [

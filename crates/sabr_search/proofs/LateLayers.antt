@@ -5,7 +5,7 @@ use Rattle.sabr_search.specs.declared.layers.Reached.{Reached}
 use Rattle.sabr_search.specs.Ways.{Leads}
 use Rattle.sabr_search.specs.Task.{SearchTask, Takes, IsTask}
 use Rattle.sabr_search.specs.Made.{Entry}
-use Rattle.sabr_search.specs.Late.{AreArrivals, AreLateLayers, IsMet}
+use Rattle.sabr_search.specs.Late.{AreArrivals, AreLateLayers, IsMet, IsNoneSooner}
 use Rattle.sabr_search.proofs.Ways.{Leads-append, Leads-later}
 use Rattle.sabr_search.proofs.Bridge.{takes_timely, same_some}
 use Rattle.sabr_search.proofs.FirstWays.{goal_other}
@@ -31,7 +31,7 @@ module _ (task : SearchTask) (is : IsTask task) (since : List ℕ) (d left : ℕ
       let on = rest h s.1 s.3 s.4 s.2 (omega arith) s.6 s.7 in
       (s.0 ∷ on.0, on.1, omega (arith, on.2), on.3, (s.1, s.2, s.5, on.4))
 
-  module _ (arrivals : AreArrivals task since d) where
+  module _ (arrivals : AreArrivals task since) where
     -- if a way leads on to the goal by d, its node has an entry in time, of no more hops
     pub whole : (ys xs : List ℕ) (v t e : ℕ) → 0 < length xs → Leads (Takes task) task.start task.at xs v t → Leads (Takes task) v t ys task.goal e → e ≤ d → length ys ≤ left →
         (j : ℕ) × (a : ℕ) × (x : ℕ) × (j ≤ length ys) × Entry ends reached j v a x × (t < x)
@@ -70,9 +70,9 @@ module _ (task : SearchTask) (is : IsTask task) (since : List ℕ) (d left : ℕ
         ]
 
   -- if the start is in time for the last layer, some way of one hop more comes by d
-  pub way_of : IsMet task left ends reached → ((ns : List ℕ) (e : ℕ) → Leads (Takes task) task.start task.at ns task.goal e → d ≤ e) → (ns : List ℕ) × (length ns ≡ left + 1) × Leads (Takes task) task.start task.at ns task.goal d
+  pub way_of : IsMet task left ends reached → IsNoneSooner task (left + 1) d → (ns : List ℕ) × (length ns ≡ left + 1) × Leads (Takes task) task.start task.at ns task.goal d
   way_of met least =
       let r = rest left met.w met.a met.x met.b (omega arith) met.entry met.in_time in
       let way : Leads (Takes task) task.start task.at (met.n ∷ r.0) task.goal r.1 = (met.w, met.b, met.step, r.4) in
-      let exact : r.1 ≡ d = omega (arith, r.3, least (met.n ∷ r.0) r.1 way) in
+      let exact : r.1 ≡ d = omega (arith, r.3, least (met.n ∷ r.0) r.1 (omega (arith, r.2)) way) in
       (met.n ∷ r.0, omega (arith, r.2), rw exact at way)

@@ -5,7 +5,7 @@ use Rattle.std.proofs.lemmas.Grind.{common_steps}
 use Rattle.std.proofs.lemmas.Option.{slice_get-get_or, slice_get_within}
 use Rattle.sabr_search.specs.declared.layers.Reached.{Reached}
 use Rattle.sabr_search.specs.Task.{SearchTask, Takes, IsTask}
-use Rattle.sabr_search.specs.Late.{soonest, InTimeFor, IsLateEntry, AreLate, IsNotedLate, IsToldLate}
+use Rattle.sabr_search.specs.Late.{InTimeFor, IsLateEntry, AreLate, IsNotedLate, IsToldLate}
 use Rattle.sabr_search.proofs.Backward.{get_set_here, get_set_other, set_other}
 use Rattle.sabr_search.proofs.Between.{same_below}
 use Rattle.sabr_search.proofs.Bridge.{takes_timely, same_some}
@@ -50,8 +50,8 @@ take_push (suc k) (x ∷ xs) y le = ap (λ zs. x ∷ zs) (take_push k xs y (omeg
 pub set_many : {X : Type 0} (xs : List X) (k : ℕ) (b : X) → length (slice_set xs k b) ≡ length xs
 set_many xs k b = grind (arith, common_steps)
 
-module _ (task : SearchTask) (since : List ℕ) (d first begin : ℕ) (late place : List ℕ) (reached : List Reached) (was : AreLate task since d first begin late place reached)
-    (u a x : ℕ) (inside : u < length task.table) (unshut : slice_index_or task.shut u false ≡ false) (other : u ≢ task.goal) (a_is : a ≡ soonest since d u) (later : slice_index late u < x)
+module _ (task : SearchTask) (since : List ℕ) (first begin : ℕ) (late place : List ℕ) (reached : List Reached) (was : AreLate task since first begin late place reached)
+    (u a x : ℕ) (inside : u < length task.table) (unshut : slice_index_or task.shut u false ≡ false) (other : u ≢ task.goal) (a_is : a ≡ slice_index since u) (later : slice_index late u < x)
     (sound : (t : ℕ) → t < x → (n : ℕ) × (w : ℕ) × (b : ℕ) × Takes task n u t w b × InTimeFor reached first begin w b) where
   abbrev f : Reached
   f = record { node = u; arrival = a; deadline = x }
@@ -65,10 +65,10 @@ module _ (task : SearchTask) (since : List ℕ) (d first begin : ℕ) (late plac
     | inr differs ↦ omega (arith, set_other late u k x differs)
   ]
 
-  old_entry : (e : Reached) → IsLateEntry task since d late e → IsLateEntry task since d (slice_set late u x) e
+  old_entry : (e : Reached) → IsLateEntry task since late e → IsLateEntry task since (slice_set late u x) e
   old_entry e is = record { inside = is.inside; unshut = is.unshut; other = is.other; soon = is.soon; by = omega (arith, is.by, late_rises e.node) }
 
-  new_entry : (e : Reached) → e ≡ record { node = u; arrival = a; deadline = x } → IsLateEntry task since d (slice_set late u x) e
+  new_entry : (e : Reached) → e ≡ record { node = u; arrival = a; deadline = x } → IsLateEntry task since (slice_set late u x) e
   new_entry e is = rw is (record { inside = inside; unshut = unshut; other = other; soon = a_is; by = omega (arith, now_late) })
 
   module _ (above : begin ≤ slice_index place u) where
@@ -91,7 +91,7 @@ module _ (task : SearchTask) (since : List ℕ) (d first begin : ℕ) (late plac
     in_time_changed : (w b : ℕ) → InTimeFor reached first begin w b → InTimeFor (slice_set reached (slice_index place u) (record { node = u; arrival = a; deadline = x })) first begin w b
     in_time_changed w b t = (t.0, t.1, t.2, t.3, get_set_other reached (slice_index place u) t.0 (record { node = u; arrival = a; deadline = x }) (λ same. omega (arith, same, t.3)) ∙ t.4, t.5, t.6)
 
-    pub changed_late : AreLate task since d first begin (slice_set late u x) place (slice_set reached (slice_index place u) (record { node = u; arrival = a; deadline = x }))
+    pub changed_late : AreLate task since first begin (slice_set late u x) place (slice_set reached (slice_index place u) (record { node = u; arrival = a; deadline = x }))
     changed_late = record {
       flags = was.flags;
       many = set_many late u x ∙ was.many;
@@ -152,7 +152,7 @@ module _ (task : SearchTask) (since : List ℕ) (d first begin : ℕ) (late plac
     place_here : slice_index (slice_set place u (length reached)) u ≡ length reached
     place_here = set_here place u (length reached) (omega (arith, was.flags))
 
-    pub pushed_late : AreLate task since d first begin (slice_set late u x) (slice_set place u (length reached)) (reached ++ record { node = u; arrival = a; deadline = x } ∷ [])
+    pub pushed_late : AreLate task since first begin (slice_set late u x) (slice_set place u (length reached)) (reached ++ record { node = u; arrival = a; deadline = x } ∷ [])
     pushed_late = record {
       flags = place_many;
       many = set_many late u x ∙ was.many;
@@ -210,7 +210,7 @@ module _ (task : SearchTask) (since : List ℕ) (d first begin : ℕ) (late plac
     }
 
   -- either way, what stood before the layer stays
-  pub late_noted : (place' : List ℕ) (reached' : List Reached) → IsNotedLate place reached begin u a x place' reached' → AreLate task since d first begin (slice_set late u x) place' reached' × (take begin reached' ≡ take begin reached)
+  pub late_noted : (place' : List ℕ) (reached' : List Reached) → IsNotedLate place reached begin u a x place' reached' → AreLate task since first begin (slice_set late u x) place' reached' × (take begin reached' ≡ take begin reached)
   late_noted place' reached' (inl here) = rw (here.1, here.2) (changed_late here.0, take_set begin reached (slice_index place u) f here.0)
   late_noted place' reached' (inr new) = rw (new.1, new.2) (pushed_late new.0, take_push begin reached f was.begins)
 
@@ -229,5 +229,5 @@ pub in_time_kept : (first begin : ℕ) (reached reached0 : List Reached) → tak
 in_time_kept first begin reached reached0 kept w b t = (t.0, t.1, t.2, t.3, same_below begin reached0 reached (sym kept) t.0 t.1 t.3 t.4, t.5, t.6)
 
 -- what the layers say of a step stays true
-pub told_rises : (task : SearchTask) (since : List ℕ) (d : ℕ) (late late1 : List ℕ) (u t : ℕ) → ((k : ℕ) → slice_index late k ≤ slice_index late1 k) → IsToldLate task since d late u t → IsToldLate task since d late1 u t
-told_rises task since d late late1 u t rises told = (told.0, λ unshut other soon. omega (arith, told.1 unshut other soon, rises u))
+pub told_rises : (task : SearchTask) (since late late1 : List ℕ) (u t : ℕ) → ((k : ℕ) → slice_index late k ≤ slice_index late1 k) → IsToldLate task since late u t → IsToldLate task since late1 u t
+told_rises task since late late1 u t rises told = (told.0, λ unshut other soon. omega (arith, told.1 unshut other soon, rises u))

@@ -13,16 +13,16 @@ use Rattle.sabr_search.proofs.Forward.{last_or_before}
 use Rattle.sabr_search.proofs.MadeLayers.{index_before, index_at, index_past, layer_of}
 
 -- an entry is the goal's, or one of another open node
-pub open_entry : (task : SearchTask) → IsTask task → (since : List ℕ) (d first begin : ℕ) (late place : List ℕ) (reached : List Reached) → AreLate task since d first begin late place reached →
+pub open_entry : (task : SearchTask) → IsTask task → (since : List ℕ) (first begin : ℕ) (late place : List ℕ) (reached : List Reached) → AreLate task since first begin late place reached →
     IfSome (slice_get reached 0) (λ e. e.node ≡ task.goal) → (p : ℕ) (e : Reached) → slice_get reached p ≡ Some e → (e.node < length task.table) × (slice_index_or task.shut e.node false ≡ false)
-open_entry task is since d first begin late place reached was goal_first zero e at =
+open_entry task is since first begin late place reached was goal_first zero e at =
     let same : e.node ≡ task.goal = rw at at goal_first in
     (omega (arith, is.goal_in), ap (λ k. slice_index_or task.shut k false) same ∙ is.goal_open)
-open_entry task is since d first begin late place reached was goal_first (suc p) e at = let one = was.each (suc p) e (omega arith) at in (one.inside, one.unshut)
+open_entry task is since first begin late place reached was goal_first (suc p) e at = let one = was.each (suc p) e (omega arith) at in (one.inside, one.unshut)
 
 -- there is nothing after the end of a list
-pub nothing_past : (task : SearchTask) (since : List ℕ) (d first begin first' begin' : ℕ) (late place : List ℕ) (reached : List Reached) → AreLate task since d first begin late place reached → begin' ≡ length reached → AreLate task since d first' begin' late place reached
-nothing_past task since d first begin first' begin' late place reached was all = record {
+pub nothing_past : (task : SearchTask) (since : List ℕ) (first begin first' begin' : ℕ) (late place : List ℕ) (reached : List Reached) → AreLate task since first begin late place reached → begin' ≡ length reached → AreLate task since first' begin' late place reached
+nothing_past task since first begin first' begin' late place reached was all = record {
   flags = was.flags;
   many = was.many;
   within = was.within;
@@ -38,9 +38,9 @@ nothing_past task since d first begin first' begin' late place reached was all =
 
 module _ (task : SearchTask) (is : IsTask task) (since : List ℕ) (d left : ℕ) (ends late place : List ℕ) (reached : List Reached) (made : AreLateLayers task since d left ends late place reached)
     (ends' late' place' : List ℕ) (reached' : List Reached)
-    (after : AreLate task since d (slice_index ends left) (slice_index ends (left + 1)) late' place' reached')
+    (after : AreLate task since (slice_index ends left) (slice_index ends (left + 1)) late' place' reached')
     (kept_all : take (slice_index ends (left + 1)) reached' ≡ take (slice_index ends (left + 1)) reached)
-    (told : AreTold task since d reached (slice_index ends left) (slice_index ends (left + 1)) late')
+    (told : AreTold task since reached (slice_index ends left) (slice_index ends (left + 1)) late')
     (ends_is : ends' ≡ ends ++ length reached' ∷ []) where
   end_before : (j : ℕ) → j ≤ left + 1 → slice_index ends' j ≡ slice_index ends j
   end_before j le = ap (λ xs. slice_index xs j) ends_is ∙ index_before ends (length reached') j (omega (arith, made.many))
@@ -132,7 +132,7 @@ module _ (task : SearchTask) (is : IsTask task) (since : List ℕ) (d left : ℕ
       let layer = layer_of ends' p (left + 1 + 1) (end_before 0 (omega arith) ∙ made.first_end) (omega (arith, last')) in
       (layer.0, on.0, slice_index late' v, omega (arith, layer.1), (p, layer.2, layer.3, on.1), by)
 
-  taken' : (j w a x n u t b : ℕ) → j < left + 1 → Entry ends' reached' j w a x → b < x → Takes task n u t w b → IsToldBy task since d (Entry ends' reached') j u t
+  taken' : (j w a x n u t b : ℕ) → j < left + 1 → Entry ends' reached' j w a x → b < x → Takes task n u t w b → IsToldBy task since (Entry ends' reached') j u t
   taken' j w a x n u t b less e by step = elim (last_or_before j left less) [
     | inl before ↦
         (let old = made.taken j w a x n u t b before (entry_was j w a x (omega arith) e) by step in (
@@ -149,7 +149,7 @@ module _ (task : SearchTask) (is : IsTask task) (since : List ℕ) (d left : ℕ
 
   pub late_next : AreLateLayers task since d (left + 1) ends' late' place' reached'
   late_next = record {
-    lists = nothing_past task since d (slice_index ends left) (slice_index ends (left + 1)) _ _ late' place' reached' after last';
+    lists = nothing_past task since (slice_index ends left) (slice_index ends (left + 1)) _ _ late' place' reached' after last';
     many = many';
     first_end = end_before 0 (omega arith) ∙ made.first_end;
     second_end = end_before 1 (omega arith) ∙ made.second_end;

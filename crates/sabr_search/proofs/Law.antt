@@ -185,7 +185,7 @@ prefix_looks p r prefix facts n looks le =
 
 -- what the searches of one call may count, in numbers that a machine holds
 pub looks_fit : (task : SearchTask) → IsTask task → (prefix : List ℕ) → IsPrefix task.plan task.request prefix → (most hops used : ℕ) → task.request.max_hops ≤ 20000 → hops ≤ task.request.max_hops → used ≤ length prefix + most * length task.plan.contacts → most ≤ 40000 →
-    used + 3 * (hops * length task.plan.contacts) + length prefix + hops ≤ 4611686018427387904
+    used + 3 * (hops * length task.plan.contacts) + length prefix + hops ≤ 2305843009213693952
 looks_fit task is prefix facts most hops used limit le few many =
     let c = length task.plan.contacts in
     let small = contacts_few task.plan is.plan in

@@ -25,7 +25,6 @@ pub mod FirstWays
 pub mod LateLayers
 pub mod LateLists
 pub mod LateMade
-pub mod Turned
 pub mod Shortness
 pub mod FirstLimits
 pub mod Cuts

@@ -1,6 +1,6 @@
 -- The links that a plan has for a node are those of a search, and what bounds their passes.
-use Rattle.std.proofs.Common.{◌≡◌, ℕ, ◌+◌, ◌-◌, ◌*◌, ◌≤◌, true, false, cond, eqb, List, [], ◌∷◌, length, map, slice_get, refl, sym, ap, ◌∙◌, arith}
-use Rattle.std.specs.List.{count_by, filter}
+use Rattle.std.proofs.Common.{◌≡◌, ℕ, ◌+◌, ◌-◌, ◌*◌, ◌≤◌, true, false, cond, eqb, List, [], ◌∷◌, length, map, take, slice_get, refl, sym, ap, ◌∙◌, arith}
+use Rattle.std.specs.List.{count_by, sum_by, filter}
 use Rattle.std.specs.declared.option.Option.TheVariants.{Some}
 use Rattle.std.proofs.lemmas.Bool.{eqb-true, eq-eqb}
 use Rattle.std.proofs.lemmas.List.Sums.{sum_by-cons}
@@ -11,25 +11,25 @@ use Rattle.sabr_index.specs.declared.link.Pass.{Pass}
 use Rattle.sabr_index.specs.declared.link.Link.{Link}
 use Rattle.sabr_model.specs.Arrival.{cost}
 use Rattle.sabr_model.specs.Plan.{contact_named}
-use Rattle.sabr_model.specs.Table.{sent_by}
 use Rattle.sabr_index.specs.Links.{AreLinksOf, IsLinkOf, IsPassOf, SentLink, AreLinksTo}
 use Rattle.sabr_search.specs.Task.{SearchTask, IsTask}
-use Rattle.sabr_search.specs.Steps.{place_in}
+use Rattle.sabr_search.specs.Steps.{place_in, received}
 use Rattle.sabr_search.specs.Linked.{IsPassAt, IsLinkAt, passes_of, AreLinksAt, AreSendersAt}
 use Rattle.sabr_search.proofs.Arrivals.{arrival_parts}
-use Rattle.sabr_search.proofs.StepLists.{place_is}
+use Rattle.sabr_search.proofs.StepLists.{place_is, sum_taken, sum_taken_le}
 use Rattle.sabr_model.proofs.Different.{part_has, part_at}
 use Rattle.sabr_search.proofs.Bridge.{same_some}
 
--- a node's contacts are as many as those of its place
-sent_few : (table : List ℕ) (u node : ℕ) → place_in table node ≡ u → (cs : List Contact) → length (sent_by cs node) ≤ count_by (λ k. eqb k u) (map (λ (c : Contact). place_in table c.from) cs)
-sent_few table u node here [] = omega arith
-sent_few table u node here (c ∷ cs) =
-    let more = sum_by-cons (λ (k : ℕ). cond (eqb k u) 1 0) (place_in table c.from) (map (λ (d : Contact). place_in table d.from) cs) in
-    let rest = sent_few table u node here cs in
-    elim (eqb node c.from) as (λ b. eqb node c.from ≡ b → length (map (λ (d : Contact). d.number) (cond b (c ∷ filter (λ (d : Contact). eqb node d.from) cs) (filter (λ (d : Contact). eqb node d.from) cs))) ≤ count_by (λ k. eqb k u) (map (λ (d : Contact). place_in table d.from) (c ∷ cs))) [
+-- a node's contacts, by their senders or by their receivers, are as many as those of its place
+ends_few : (end : Contact → ℕ) (table : List ℕ) (u node : ℕ) → place_in table node ≡ u → (cs : List Contact) →
+    length (map (λ (c : Contact). c.number) (filter (λ (c : Contact). eqb node (end c)) cs)) ≤ count_by (λ k. eqb k u) (map (λ (c : Contact). place_in table (end c)) cs)
+ends_few end table u node here [] = omega arith
+ends_few end table u node here (c ∷ cs) =
+    let more = sum_by-cons (λ (k : ℕ). cond (eqb k u) 1 0) (place_in table (end c)) (map (λ (d : Contact). place_in table (end d)) cs) in
+    let rest = ends_few end table u node here cs in
+    elim (eqb node (end c)) as (λ b. eqb node (end c) ≡ b → length (map (λ (d : Contact). d.number) (cond b (c ∷ filter (λ (d : Contact). eqb node (end d)) cs) (filter (λ (d : Contact). eqb node (end d)) cs))) ≤ count_by (λ k. eqb k u) (map (λ (d : Contact). place_in table (end d)) (c ∷ cs))) [
       | true ↦ λ e.
-          (let one : cond (eqb (place_in table c.from) u) 1 0 ≡ cond true 1 0 = ap (λ b. cond {A = ℕ} b 1 0) (eq-eqb (place_in table c.from) u (ap (place_in table) (sym (eqb-true node c.from e)) ∙ here)) in
+          (let one : cond (eqb (place_in table (end c)) u) 1 0 ≡ cond true 1 0 = ap (λ b. cond {A = ℕ} b 1 0) (eq-eqb (place_in table (end c)) u (ap (place_in table) (sym (eqb-true node (end c) e)) ∙ here)) in
           omega (arith, more, rest, one))
       | false ↦ λ e. omega (arith, more, rest)
     ] refl
@@ -82,7 +82,7 @@ module _ (task : SearchTask) (is : IsTask task) (u node : ℕ) (at : slice_get t
         let l = p.2 in
         let x = p.3 in
         (j, l, p.4, (k - l.first, x, part_has passes l.first l.end k x p.5 p.6 (of.each j l p.4).within p.7, p.8)));
-    few = omega (arith, of.few, sent_few task.table u node (place_is task.plan task.table is.nodes u node at) task.plan.contacts);
+    few = omega (arith, of.few, ends_few (λ (c : Contact). c.from) task.table u node (place_is task.plan task.table is.nodes u node at) task.plan.contacts);
   }
 
 -- what a plan says of the links to a node, of a search
@@ -108,8 +108,17 @@ senders_at task is w node here links of = record {
       let same : pass.contact ≡ s.contact = same_some (sym pass.named ∙ ap (contact_named task.plan) p.6 ∙ s.named) in
       let from : s.contact.from ≡ link.from = ap (λ (c : Contact). c.from) (sym same) ∙ pass.sender in
       (p.0, l, p.4, is.nodes.apart l.sender u link.from link.at (s.sender ∙ ap Some from), (k, x, p.5, p.6)));
+  few = omega (arith, of.few, ends_few (λ (c : Contact). c.to) task.table w node (place_is task.plan task.table is.nodes w node here) task.plan.contacts);
 }
 
 -- a lighter contact costs no more
 pub cost_rises : (margin l m : ℕ) → l ≤ m → cost margin l ≤ cost margin m
 cost_rises margin l m le = let product : l * margin ≤ m * margin = mul-le-mul le (omega arith) in omega (arith, product)
+
+-- the passes of the links to a node up to one of them
+pub passes_within : (task : SearchTask) (w : ℕ) (links : List SentLink) → AreSendersAt task w links → (k : ℕ) (s : SentLink) → slice_get links k ≡ Some s →
+    (sum_by (λ (x : SentLink). length x.passes) (take (k + 1) links) ≡ sum_by (λ (x : SentLink). length x.passes) (take k links) + length s.passes)
+    × (sum_by (λ (x : SentLink). length x.passes) (take k links) + length s.passes ≤ received task w)
+passes_within task w links are k s at =
+    let more = sum_taken (λ (x : SentLink). length x.passes) links k s at in
+    (more, omega (arith, more, are.few, sum_taken_le (λ (x : SentLink). length x.passes) links (k + 1)))

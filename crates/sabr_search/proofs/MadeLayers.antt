@@ -9,9 +9,10 @@ use Rattle.sabr_search.specs.Ways.{Leads}
 use Rattle.sabr_search.specs.Layers.{ReachedBy, IsTaken}
 use Rattle.sabr_search.specs.Task.{SearchTask, Takes, IsTask, never}
 use Rattle.sabr_search.specs.Lists.{AreLists, IsLowered, IsKnownFrom, GivenFrom, AreSources}
-use Rattle.sabr_search.specs.Made.{Entry, AreLayers}
+use Rattle.sabr_search.specs.Made.{Entry, AreLayers, IsBestWithin}
+use Rattle.sabr_search.specs.Late.{IsNoneSooner}
 use Rattle.sabr_search.proofs.Ways.{Leads-append, Leads-later}
-use Rattle.sabr_search.proofs.HopLayers.{none_sooner, layered_at, layered_more}
+use Rattle.sabr_search.proofs.HopLayers.{none_sooner}
 use Rattle.sabr_search.proofs.Between.{same_below}
 use Rattle.sabr_search.proofs.Forward.{last_or_before}
 use Rattle.sabr_search.proofs.Bridge.{takes_timely}
@@ -111,13 +112,6 @@ module _ (task : SearchTask) (is : IsTask task) (ceiling hop : ℕ) (bounds arri
         ])
   ]
 
-  -- the same, before the layer that is new
-  taken_before : IsTaken (Takes task) (Entry bounds' reached') hop best.delivery
-  taken_before j v a x n w b less e s = elim (made.taken j v a x n w b less (entry_was j v a x (omega arith) e) s) [
-    | inl late ↦ inl late
-    | inr r ↦ inr (r.0, r.1, r.2, r.3, r.4, entry_kept r.0 w r.1 r.2 r.5)
-  ]
-
   -- one step more
   way_on : (w x : ℕ) → GivenFrom task reached (slice_index bounds hop) (slice_index bounds (hop + 1)) w x → (ns : List ℕ) × (length ns ≡ hop + 1) × Leads (Takes task) task.start task.at ns w x
   way_on w x given =
@@ -172,23 +166,8 @@ module _ (task : SearchTask) (is : IsTask task) (ceiling hop : ℕ) (bounds arri
     | inr other ↦ omega (arith, bound_before j le, bound_before (j + 1) (omega arith), made.rising j (omega arith))
   ]
 
-  fresh' : (v a x : ℕ) → (h : ℕ) → Entry bounds' reached' h v a x → x ≡ 0
-  fresh' v a x h e =
-      let d : Reached = record { node = v; arrival = a; deadline = x } in
-      let read : slice_index_or reached' e.0 d ≡ d = get_or_from_slice_get reached' e.0 d d e.3 in
-      sym (ap (λ (y : Reached). y.deadline) read) ∙ lowered.lists.fresh e.0 d (slice_get_within reached' e.0 d e.3)
-
-  never_goal : (h a x : ℕ) → Entry bounds' reached' h task.goal a x → ⊥
-  never_goal h a x e =
-      let d : Reached = record { node = task.goal; arrival = a; deadline = x } in
-      let read : slice_index_or reached' e.0 d ≡ d = get_or_from_slice_get reached' e.0 d d e.3 in
-      lowered.lists.other e.0 d (slice_get_within reached' e.0 d e.3) (ap (λ (y : Reached). y.node) read)
-
   begins' : slice_get reached' 0 ≡ Some (record { node = task.start; arrival = task.at; deadline = 0 })
   begins' = kept 0 (record { node = task.start; arrival = task.at; deadline = 0 }) made.begins
-
-  first_entry : Entry bounds' reached' 0 task.start task.at 0
-  first_entry = (0, omega (arith, bound_before 0 (omega arith), made.first_bound), omega (arith, bound_before 1 (omega arith), made.second_bound), begins')
 
   lists' : AreLists task.shut task.goal task.at (slice_index bounds' (hop + 1 + 1)) arrival' place' reached'
   lists' = record {
@@ -197,7 +176,6 @@ module _ (task : SearchTask) (is : IsTask task) (ceiling hop : ℕ) (bounds arri
     placed = lowered.lists.placed;
     linked = lowered.lists.linked;
     layer = record { begins = omega (arith, last'); once = λ p d le less. absurd (omega (arith, last')) };
-    fresh = lowered.lists.fresh;
     inside = lowered.lists.inside;
     other = lowered.lists.other;
   }
@@ -221,7 +199,7 @@ module _ (task : SearchTask) (is : IsTask task) (ceiling hop : ℕ) (bounds arri
         omega arith,
         omega arith,
         omega arith,
-        layered_at (Takes task) (takes_timely task is.nodes) (Entry bounds' reached') task.start task.at task.goal 0 first_entry never_goal hop best.delivery delivery taken_before sooner real' (λ v a x e. fresh' v a x (hop + 1) e) (way_on task.goal delivery given),
+        way_on task.goal delivery given,
       )
     ];
   }
@@ -245,7 +223,7 @@ module _ (task : SearchTask) (is : IsTask task) (ceiling hop : ℕ) (bounds arri
         found.0,
         omega (arith, found.1),
         found.2,
-        layered_more (Takes task) (Entry bounds reached) (Entry bounds' reached') task.start task.at task.goal best.hops best.delivery found.3 (λ h v a x e. (x, entry_kept h v a x e)) real' (λ v a x e. fresh' v a x best.hops e),
+        found.3,
       )
     ];
   }
@@ -309,3 +287,11 @@ layers_next task is ceiling hop bounds arrival place reached best made bounds' a
     rw better.1 (layers_better task is ceiling hop bounds arrival place reached best made bounds' arrival' place' reached' delivery lowered known bounds_is better.0 (below_ceiling task ceiling hop bounds arrival place reached best made))
 layers_next task is ceiling hop bounds arrival place reached best made bounds' arrival' place' reached' delivery lowered known bounds_is best' (inr same) =
     rw same.1 (layers_same task is ceiling hop bounds arrival place reached best made bounds' arrival' place' reached' delivery lowered known bounds_is same.0)
+
+-- what is found within fewer hops is the best within more, if nothing is sooner there
+pub best_within : (task : SearchTask) (ceiling hop : ℕ) (bounds arrival place : List ℕ) (reached : List Reached) (best : Best) → AreLayers task ceiling hop bounds arrival place reached best →
+    (hops : ℕ) → hop ≤ hops → IsNoneSooner task hops best.delivery → IsBestWithin task hops ceiling best
+best_within task ceiling hop bounds arrival place reached best made hops within least = record {
+  least = least;
+  found = elim made.found [ inl none ↦ inl none | inr found ↦ inr (found.0, omega (arith, found.1), found.2, found.3) ];
+}

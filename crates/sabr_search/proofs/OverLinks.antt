@@ -5,11 +5,10 @@ use Rattle.std.specs.List.Sorted.{IsNonDecreasingBy}
 use Rattle.std.specs.declared.option.Option.{Option}
 use Rattle.std.specs.declared.option.Option.TheVariants.{None}
 use Rattle.sabr_search.specs.declared.layers.Reached.{Reached}
-use Rattle.sabr_search.specs.declared.layers.Best.{Best}
 use Rattle.sabr_search.specs.declared.pick.Step.{Step}
-use Rattle.sabr_search.specs.Deadlines.{IsInTime, AreTimed}
+use Rattle.sabr_search.specs.Late.{AreOpen}
+use Rattle.sabr_search.specs.Deadlines.{IsInTime}
 use Rattle.sabr_search.specs.Picks.{IsAtMost}
-use Rattle.sabr_search.proofs.Backward.{in_time_open}
 use Rattle.std.proofs.lemmas.Option.{slice_get-get_or}
 use Rattle.std.proofs.lemmas.Bool.{both_ways}
 use Rattle.sabr_model.specs.declared.contact.Contact.{Contact}
@@ -213,12 +212,11 @@ pub same_number : (passes : List Pass) (i k : ℕ) (x y : Pass) → slice_get pa
 same_number passes i k x y at_i at_k same = ap (λ (p : Pass). p.number) (same_some (sym at_i ∙ ap (slice_get passes) (sym same) ∙ at_k))
 
 -- a step over a link that arrives before its deadline is a step in time
-pub chosen_from : (task : SearchTask) → IsTask task → (best : Best) (hop : ℕ) (bounds place : List ℕ) (reached : List Reached) → AreTimed task best hop bounds place reached → 0 < hop → (u t to before : ℕ) →
-    ((b : ℕ) → b < before → IsInTime task best bounds reached hop to b) → (o : Option Step) →
+pub chosen_from : (task : SearchTask) (ends : List ℕ) (reached : List Reached) (hops : ℕ) → AreOpen task reached → (u t to before : ℕ) → ((b : ℕ) → b < before → IsInTime ends reached hops to b) → (o : Option Step) →
     IfSome o (λ s. (s.node ≡ to) × (s.at < before) × (slice_index_or task.shut to false ≡ false → Takes task s.number u t to s.at)) →
-    IfSome o (λ s. Takes task s.number u t s.node s.at × IsInTime task best bounds reached hop s.node s.at)
-chosen_from task is best hop bounds place reached timed some u t to before in_time None h = tt
-chosen_from task is best hop bounds place reached timed some u t to before in_time (Some s) h =
+    IfSome o (λ s. Takes task s.number u t s.node s.at × IsInTime ends reached hops s.node s.at)
+chosen_from task ends reached hops opens u t to before in_time None h = tt
+chosen_from task ends reached hops opens u t to before in_time (Some s) h =
     let admits = in_time s.at h.1 in
-    let step = h.2 (in_time_open task is best hop bounds place reached timed some to s.at admits) in
+    let step = h.2 (opens admits.2.0 (record { node = to; arrival = admits.0; deadline = admits.1 }) admits.2.3).1 in
     rw h.0 (step, admits)

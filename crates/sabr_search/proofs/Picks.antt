@@ -1,9 +1,7 @@
 use Rattle.std.proofs.Common.{◌≡◌, ◌⊎◌, inl, inr, ℕ, ◌+◌, ◌<◌, ◌≤◌, List, [], ◌∷◌, ◌++◌, length, refl, ap, arith, length-append}
 use Rattle.sabr_search.specs.Ways.{StepRelation, Leads, IsTimely}
-use Rattle.sabr_search.specs.Layers.{Entries, Admits, AreTables, AreExact}
 use Rattle.sabr_search.specs.Front.{IsNotAfter}
 use Rattle.sabr_search.proofs.Ways.{Leads-append, Leads-split, Leads-later, Leads-earlier, Leads-one}
-use Rattle.sabr_search.proofs.HopLayers.{admitted}
 
 le_cases : (i j : ℕ) → i ≤ j → (i < j) ⊎ (i ≡ j)
 le_cases i j h = grind arith
@@ -18,26 +16,17 @@ not_after_more (x ∷ xs) (y ∷ ys) n (inl lower) less least = inl lower
 not_after_more (x ∷ xs) (y ∷ ys) n (inr same) less least =
     inr (same.0, not_after_more xs ys n same.1 (omega (arith, less)) (λ z zs e. least z zs (rw (same.0, e) refl)))
 
-module _ (T : StepRelation) (timely : IsTimely T) (E : Entries) (start at goal r d : ℕ) (layers : AreExact T E start at goal r d) (tables : AreTables T E goal r d) where
-  -- the first contact of a rest in time is one that the deadlines admit
-  pub first_admitted : (chosen : List ℕ) (u t n : ℕ) (zs : List ℕ) (e : ℕ) → Leads T start at chosen u t → (on : Leads T u t (n ∷ zs) goal e) → e ≤ d → (length chosen + 1) + length zs ≡ r →
-      Admits E goal r d ((length chosen + 1)) on.0 on.1
-  first_admitted chosen u t n zs e there on late sum =
-      let next : Leads T start at (chosen ++ n ∷ []) on.0 on.1 = Leads-append T timely chosen (n ∷ []) start at u t on.0 on.1 there (on.0, on.1, on.2, (refl, refl)) in
-      let longer : length (chosen ++ n ∷ []) ≡ (length chosen + 1) = omega (arith, length-append chosen (n ∷ [])) in
-      rw longer at (admitted T timely E start at goal r d layers tables zs (chosen ++ n ∷ []) on.0 on.1 e next on.3 late (omega arith) (omega arith))
-
-  -- the least admitted number keeps the order with every way of that key
-  pub least_from_front : (chosen : List ℕ) (u t n : ℕ) → Leads T start at chosen u t →
-      ((y w b : ℕ) → T y u t w b → Admits E goal r d ((length chosen + 1)) w b → n ≤ y) →
-      (ys : List ℕ) (e : ℕ) → length ys ≡ r → length chosen < r → Leads T start at ys goal e → e ≤ d → IsNotAfter chosen ys → IsNotAfter (chosen ++ n ∷ []) ys
-  least_from_front chosen u t n there least ys e len less way late before =
-      not_after_more chosen ys n before (omega arith) (λ y zs same.
-      let parts = Leads-split T timely chosen (y ∷ zs) start at goal e (rw same at way) in
-      let one = Leads-one T timely chosen start at parts.0 parts.1 u t parts.2 there in
-      let on : Leads T u t (y ∷ zs) goal e = rw (one.0, one.1) at parts.3 in
-      let sum : (length chosen + 1) + length zs ≡ r = omega (arith, ap length same, length-append chosen (y ∷ zs), len) in
-      least y on.0 on.1 on.2 (first_admitted chosen u t y zs e there on late sum))
+-- the least number that a way in time can go on with keeps the order with every way of that key
+pub least_from_front : (T : StepRelation) → IsTimely T → (start at goal r d : ℕ) (chosen : List ℕ) (u t n : ℕ) → Leads T start at chosen u t →
+    ((y : ℕ) (zs : List ℕ) (e : ℕ) → Leads T u t (y ∷ zs) goal e → e ≤ d → (length chosen + 1) + length zs ≡ r → n ≤ y) →
+    (ys : List ℕ) (e : ℕ) → length ys ≡ r → length chosen < r → Leads T start at ys goal e → e ≤ d → IsNotAfter chosen ys → IsNotAfter (chosen ++ n ∷ []) ys
+least_from_front T timely start at goal r d chosen u t n there least ys e len less way late before =
+    not_after_more chosen ys n before (omega arith) (λ y zs same.
+    let parts = Leads-split T timely chosen (y ∷ zs) start at goal e (rw same at way) in
+    let one = Leads-one T timely chosen start at parts.0 parts.1 u t parts.2 there in
+    let on : Leads T u t (y ∷ zs) goal e = rw (one.0, one.1) at parts.3 in
+    let sum : (length chosen + 1) + length zs ≡ r = omega (arith, ap length same, length-append chosen (y ∷ zs), len) in
+    least y zs e on late sum)
 
 -- if fewer hops come later, a way with which the goal is reached by d comes to no node twice
 pub no_return : (T : StepRelation) → IsTimely T → (start at goal r d : ℕ) → ((ns : List ℕ) (e : ℕ) → length ns < r → Leads T start at ns goal e → d < e) →

@@ -1,8 +1,10 @@
 -- The place of a sender in the table of nodes, and how many different numbers a list can have.
-use Rattle.std.proofs.Common.{◌≡◌, ℕ, suc, ◌+◌, ◌≤◌, true, cond, eqb, List, [], ◌∷◌, length, map, slice_get, refl, sym, ap, ◌∙◌, ⊎_elim, add-one}
+use Rattle.std.proofs.Common.{◌≡◌, ℕ, zero, suc, ◌+◌, ◌≤◌, true, cond, eqb, List, [], ◌∷◌, length, map, take, slice_get, refl, sym, ap, ◌∙◌, ⊎_elim, arith, add-one}
+use Rattle.std.specs.List.{sum_by}
 use Rattle.std.specs.Cmp.{nat_eq_equiv}
 use Rattle.std.specs.declared.option.Option.TheVariants.{Some}
 use Rattle.std.proofs.lemmas.Bool.{both_ways, eqb-true, or_cases, cases_Bool}
+use Rattle.std.proofs.lemmas.List.Sums.{sum_by-cons}
 use Rattle.std.proofs.lemmas.Map.Made.{length-le_from_is_member}
 use Rattle.sabr_model.specs.declared.contact.Contact.{Contact}
 use Rattle.sabr_model.specs.Plan.{ContactPlan, has, are_different}
@@ -35,3 +37,17 @@ map_length f (x ∷ xs) = ap suc (map_length f xs)
 -- all nodes together send as many contacts as the plan has
 pub senders_length : (task : SearchTask) → length (senders task) ≡ length task.plan.contacts
 senders_length task = map_length (λ (c : Contact). place_in task.table c.from) task.plan.contacts
+
+-- a sum over the first of a list, with one more, and over all
+sum_next : {X : Type 0} (f : X → ℕ) (xs : List X) (k : ℕ) (x : X) → slice_get xs k ≡ Some x → sum_by f (take (suc k) xs) ≡ sum_by f (take k xs) + f x
+sum_next f [] k x at = absurd cc
+sum_next f (y ∷ ys) zero x at = let same : y ≡ x = cc (at) in omega (arith, sum_by-cons f y [], ap f same)
+sum_next f (y ∷ ys) (suc k) x at = omega (arith, sum_by-cons f y (take (suc k) ys), sum_by-cons f y (take k ys), sum_next f ys k x at)
+
+pub sum_taken : {X : Type 0} (f : X → ℕ) (xs : List X) (k : ℕ) (x : X) → slice_get xs k ≡ Some x → sum_by f (take (k + 1) xs) ≡ sum_by f (take k xs) + f x
+sum_taken f xs k x at = rw (add-one k) (sum_next f xs k x at)
+
+pub sum_taken_le : {X : Type 0} (f : X → ℕ) (xs : List X) (k : ℕ) → sum_by f (take k xs) ≤ sum_by f xs
+sum_taken_le f xs zero = omega arith
+sum_taken_le f [] (suc k) = omega arith
+sum_taken_le f (y ∷ ys) (suc k) = omega (arith, sum_by-cons f y (take k ys), sum_by-cons f y ys, sum_taken_le f ys k)

@@ -1,11 +1,11 @@
--- A short try backward, after a table led to a dead end: the earliest second at each node, and the least way.
-use Rattle.std.proofs.Common.{◌≡◌, ℕ, zero, suc, ◌<◌, ◌≤◌, List, [], ◌∷◌, length, replicate, Some, slice_get, slice_index, ◌∙◌, arith}
+-- Before which second no way comes to a node, and the least way within other limits.
+use Rattle.std.proofs.Common.{◌≡◌, ℕ, zero, suc, ◌<◌, ◌≤◌, min, List, [], ◌∷◌, length, replicate, Some, slice_get, slice_index, ◌∙◌, arith}
 use Rattle.std.proofs.lemmas.Grind.{common_steps}
 use Rattle.sabr_search.specs.declared.pick.Standing.{Standing}
 use Rattle.sabr_search.specs.Ways.{Leads}
 use Rattle.sabr_search.specs.Task.{SearchTask, Takes, IsTask}
-use Rattle.sabr_search.specs.Late.{soonest, AreArrivals}
-use Rattle.sabr_search.specs.Picks.{IsLeastWay}
+use Rattle.sabr_search.specs.Late.{AreArrivals}
+use Rattle.sabr_search.specs.Settling.{AreArrivalsBy}
 use Rattle.sabr_search.specs.Following.{AreFirstSteps}
 use Rattle.sabr_search.proofs.Ways.{Leads-later}
 use Rattle.sabr_search.proofs.Bridge.{takes_timely}
@@ -19,25 +19,26 @@ replicate_many : (n x : ℕ) → length (replicate n x) ≡ n
 replicate_many n x = grind (arith, common_steps)
 
 -- no way comes to a node before the soonest of the first steps
-pub arrivals_from : (task : SearchTask) → IsTask task → (first : List Standing) → AreFirstSteps task first → (x : ℕ) → ((k : ℕ) (s : Standing) → slice_get first k ≡ Some s → x ≤ s.at) → (d : ℕ) →
-    AreArrivals task (replicate (length task.shut) x) d
-arrivals_from task is first steps x before d = record { flags = replicate_many (length task.shut) x ∙ is.as_many; least = least }
+pub arrivals_from : (task : SearchTask) → IsTask task → (first : List Standing) → AreFirstSteps task first → (x : ℕ) → ((k : ℕ) (s : Standing) → slice_get first k ≡ Some s → x ≤ s.at) →
+    AreArrivals task (replicate (length task.shut) x)
+arrivals_from task is first steps x before = record { flags = replicate_many (length task.shut) x ∙ is.as_many; least = least }
   where
-    least : (ns : List ℕ) (v t : ℕ) → 0 < length ns → Leads (Takes task) task.start task.at ns v t → soonest (replicate (length task.shut) x) d v ≤ t
+    least : (ns : List ℕ) (v t : ℕ) → 0 < length ns → Leads (Takes task) task.start task.at ns v t → slice_index (replicate (length task.shut) x) v ≤ t
     least [] v t some way = absurd (omega (arith, some))
     least (n ∷ ns) v t some way =
         let on = steps n way.0 way.1 way.2 in
         omega (arith, same_everywhere (length task.shut) x v, before on.0 on.1 on.2, on.4, Leads-later (Takes task) (takes_timely task is.nodes) ns way.0 way.1 v t way.3)
 
--- the least way within some limits is that within others, if they allow it and nothing is sooner
-pub least_widened : (task : SearchTask) (hops ceiling more above : ℕ) (s : List ℕ) (d : ℕ) → IsLeastWay task hops ceiling s d → length s ≤ more → d < above →
-    ((ns : List ℕ) (e : ℕ) → Leads (Takes task) task.start task.at ns task.goal e → d ≤ e) → IsLeastWay task more above s d
-least_widened task hops ceiling more above s d least within below soonest_is = record {
-  some = least.some;
-  within = within;
-  below = below;
-  way = least.way;
-  fewest = least.fewest;
-  least = λ ns e le way. soonest_is ns e way;
-  front = least.front;
+-- nor before the search starts
+pub arrivals_since : (task : SearchTask) → IsTask task → (n : ℕ) → n ≡ length task.shut → AreArrivals task (replicate n task.at)
+arrivals_since task is n n_is = record {
+  flags = replicate_many n task.at ∙ n_is ∙ is.as_many;
+  least = λ ns v t some way. omega (arith, same_everywhere n task.at v, Leads-later (Takes task) (takes_timely task is.nodes) ns task.start task.at v t way);
+}
+
+-- nor before the arrivals that were found, each lowered to the second at which the search stopped
+pub arrivals_lowered : (task : SearchTask) (arrival arrival' : List ℕ) (d : ℕ) → AreArrivalsBy task arrival d → length arrival' ≡ length arrival → ((k : ℕ) → slice_index arrival' k ≤ min (slice_index arrival k) d) → AreArrivals task arrival'
+arrivals_lowered task arrival arrival' d by many lowered = record {
+  flags = many ∙ by.flags;
+  least = λ ns v t some way. omega (arith, lowered v, by.least ns v t some way);
 }

@@ -1,5 +1,6 @@
 -- The links that a search walks at one node: the contacts that it sends, by receiver, as passes.
 use Rattle.std.specs.Prelude.{◌≡◌, ℕ, ◌+◌, ◌-◌, ◌<◌, ◌≤◌, List, length, take, drop, slice_get}
+use Rattle.std.specs.List.{sum_by}
 use Rattle.std.specs.declared.option.Option.TheVariants.{Some}
 use Rattle.sabr_model.specs.declared.contact.Contact.{Contact}
 use Rattle.sabr_index.specs.declared.link.Pass.{Pass}
@@ -9,7 +10,7 @@ use Rattle.sabr_model.specs.Plan.{contact_named}
 use Rattle.sabr_model.specs.Light.{light_of}
 use Rattle.sabr_index.specs.Links.{IsBefore, IsInRow, AreWithin, SentLink}
 use Rattle.sabr_search.specs.Task.{SearchTask, Takes}
-use Rattle.sabr_search.specs.Steps.{degree}
+use Rattle.sabr_search.specs.Steps.{degree, received}
 
 -- the pass is a standing contact with a light time, from the node at place u to the node at place w
 pub record IsPassAt (task : SearchTask) (u w : ℕ) (x : Pass) : Type 0 where
@@ -55,9 +56,10 @@ pub record AreLinksAt (task : SearchTask) (u : ℕ) (links : List Link) (passes 
   pub whole : (n t w b : ℕ) → Takes task n u t w b → (j : ℕ) × (l : Link) × (slice_get links j ≡ Some l) × HasNumber (passes_of passes l) n
   pub few : length passes ≤ degree task u
 
--- the links to the node at place w: each goes from its sender to there, and every step to there is over a pass of one
--- of them
+-- the links to the node at place w: each goes from its sender to there, every step to there is over a pass of one of
+-- them, and together they have no more passes than the node receives contacts
 pub record AreSendersAt (task : SearchTask) (w : ℕ) (links : List SentLink) : Type 0 where
   pub senders : (j : ℕ) (s : SentLink) → slice_get links j ≡ Some s → s.sender < length task.table
   pub each : (j : ℕ) (s : SentLink) → slice_get links j ≡ Some s → IsLinkAt task s.sender w s.passes
   pub whole : (n u t b : ℕ) → Takes task n u t w b → (j : ℕ) × (s : SentLink) × (slice_get links j ≡ Some s) × (s.sender ≡ u) × HasNumber s.passes n
+  pub few : sum_by (λ s. length s.passes) links ≤ received task w

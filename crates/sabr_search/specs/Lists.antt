@@ -10,6 +10,10 @@ pub record IsPlaced (place : List ℕ) (reached : List Reached) : Type 0 where
   pub within : (k : ℕ) → k < length place → slice_index place k < length reached
   pub own : (k : ℕ) (d : Reached) → k < length place → 0 < slice_index place k → (slice_index_or reached (slice_index place k) d).node ≡ k
 
+-- `place` has a place for the node of each entry
+abbrev pub AreInside : List ℕ → List Reached → Type 0
+AreInside place reached = (p : ℕ) (e : Reached) → slice_get reached p ≡ Some e → e.node < length place
+
 -- an open node that is reached has an entry with its arrival, which `place` names
 pub record IsLinked (shut : List Bool) (arrival place : List ℕ) (reached : List Reached) : Type 0 where
   pub as_many : length place ≡ length arrival
@@ -29,10 +33,6 @@ pub record IsLayer (begin : ℕ) (place : List ℕ) (reached : List Reached) : T
 abbrev pub AddsOnly : List Reached → List Reached → ℕ → ℕ → Type 0
 AddsOnly xs ys k t = (p : ℕ) (d : Reached) → p < length ys →
     ((p < length xs) × (slice_index_or ys p d ≡ slice_index_or xs p d)) ⊎ (((slice_index_or ys p d).node ≡ k) × ((slice_index_or ys p d).arrival ≡ t))
-
--- no entry has a deadline yet
-abbrev pub AreFresh : List Reached → Type 0
-AreFresh xs = (p : ℕ) (d : Reached) → p < length xs → (slice_index_or xs p d).deadline ≡ 0
 
 -- nothing that arrives at t or later improves a shut node
 abbrev pub AreClosed : List Bool → List ℕ → ℕ → Type 0
@@ -54,7 +54,6 @@ pub record AreLists (shut : List Bool) (goal at begin : ℕ) (arrival place : Li
   pub placed : IsPlaced place reached
   pub linked : IsLinked shut arrival place reached
   pub layer : IsLayer begin place reached
-  pub fresh : AreFresh reached
   pub inside : (p : ℕ) (d : Reached) → p < length reached → (slice_index_or reached p d).node < length shut
   pub other : (p : ℕ) (d : Reached) → p < length reached → (slice_index_or reached p d).node ≢ goal
 

@@ -4,7 +4,7 @@ use Rattle.std.specs.declared.option.Option.TheVariants.{Some}
 use Rattle.sabr_search.specs.declared.layers.Reached.{Reached}
 use Rattle.sabr_search.specs.declared.layers.Best.{Best}
 use Rattle.sabr_search.specs.Ways.{Leads}
-use Rattle.sabr_search.specs.Layers.{Entries, IsTaken, IsLayered}
+use Rattle.sabr_search.specs.Layers.{Entries, IsTaken}
 use Rattle.sabr_search.specs.Task.{SearchTask, Takes, never}
 use Rattle.sabr_search.specs.Lists.{AreLists, AreClosed}
 
@@ -19,11 +19,16 @@ pub record AreOpened (task : SearchTask) (arrival : List ℕ) : Type 0 where
   pub start : slice_index arrival task.start ≡ task.at
   pub unreached : (k : ℕ) → k < length arrival → slice_index_or task.shut k false ≡ false → slice_index arrival k ≡ never
 
--- no delivery below the ceiling is found, or layers that find one
-abbrev pub IsFound : SearchTask → Entries → ℕ → ℕ → Best → Type 0
-IsFound task E ceiling hop best =
+-- no delivery below the ceiling is found, or one within so many hops
+abbrev pub IsFound : SearchTask → ℕ → ℕ → Best → Type 0
+IsFound task ceiling hop best =
     ((best.hops ≡ 0) × (best.delivery ≡ ceiling))
-    ⊎ ((0 < best.hops) × (best.hops ≤ hop) × (best.delivery < ceiling) × IsLayered (Takes task) E task.start task.at task.goal best.hops best.delivery)
+    ⊎ ((0 < best.hops) × (best.hops ≤ hop) × (best.delivery < ceiling) × ((ns : List ℕ) × (length ns ≡ best.hops) × Leads (Takes task) task.start task.at ns task.goal best.delivery))
+
+-- the least delivery within so many hops, if it is below the ceiling, and the hops of a way with it; else no hops
+pub record IsBestWithin (task : SearchTask) (hops ceiling : ℕ) (best : Best) : Type 0 where
+  pub least : (ns : List ℕ) (e : ℕ) → length ns ≤ hops → Leads (Takes task) task.start task.at ns task.goal e → best.delivery ≤ e
+  pub found : IsFound task ceiling hops best
 
 -- layers up to `hop` are made
 pub record AreLayers (task : SearchTask) (ceiling hop : ℕ) (bounds arrival place : List ℕ) (reached : List Reached) (best : Best) : Type 0 where
@@ -37,4 +42,4 @@ pub record AreLayers (task : SearchTask) (ceiling hop : ℕ) (bounds arrival pla
   pub apart : (h p q : ℕ) (e f : Reached) → h ≤ hop → slice_index bounds h ≤ p → slice_index bounds h ≤ q → p < slice_index bounds (h + 1) → q < slice_index bounds (h + 1) → slice_get reached p ≡ Some e → slice_get reached q ≡ Some f → e.node ≡ f.node → p ≡ q
   pub real : (h v a x : ℕ) → Entry bounds reached h v a x → (ns : List ℕ) × (length ns ≡ h) × Leads (Takes task) task.start task.at ns v a
   pub taken : IsTaken (Takes task) (Entry bounds reached) hop best.delivery
-  pub found : IsFound task (Entry bounds reached) ceiling hop best
+  pub found : IsFound task ceiling hop best

@@ -3,7 +3,6 @@ use Rattle.std.specs.Prelude.{◌≡◌, ℕ, ◌≤◌, ◌<◌, List, length, 
 use Rattle.std.specs.declared.option.Option.{Option}
 use Rattle.std.specs.declared.option.Option.TheVariants.{Some, None}
 use Rattle.sabr_search.specs.declared.layers.Reached.{Reached}
-use Rattle.sabr_search.specs.declared.layers.Best.{Best}
 use Rattle.sabr_search.specs.declared.pick.Step.{Step}
 use Rattle.sabr_search.specs.Ways.{Leads}
 use Rattle.sabr_search.specs.Front.{IsNotAfter}
@@ -20,16 +19,16 @@ abbrev pub IsStepOver : SearchTask → ℕ → ℕ → ℕ → ℕ → Step → 
 IsStepOver task u t w before s = (s.node ≡ w) × (s.at < before) × (slice_index_or task.shut w false ≡ false → Takes task s.number u t w s.at)
 
 -- a step in time from node u at t, with the least number
-pub record IsLeastStep (task : SearchTask) (best : Best) (bounds : List ℕ) (reached : List Reached) (hop u t : ℕ) (s : Step) : Type 0 where
+pub record IsLeastStep (task : SearchTask) (ends : List ℕ) (reached : List Reached) (hops u t : ℕ) (s : Step) : Type 0 where
   pub step : Takes task s.number u t s.node s.at
-  pub in_time : IsInTime task best bounds reached hop s.node s.at
-  pub least : (n w b : ℕ) → Takes task n u t w b → IsInTime task best bounds reached hop w b → s.number ≤ n
+  pub in_time : IsInTime ends reached hops s.node s.at
+  pub least : (n w b : ℕ) → Takes task n u t w b → IsInTime ends reached hops w b → s.number ≤ n
 
--- the numbers lead to the goal with the best delivery and hops, and no others that do come before them
-pub record IsPicked (task : SearchTask) (best : Best) (s : List ℕ) : Type 0 where
-  pub hops : length s ≡ best.hops
-  pub way : Leads (Takes task) task.start task.at s task.goal best.delivery
-  pub front : (ns : List ℕ) (e : ℕ) → length ns ≡ best.hops → Leads (Takes task) task.start task.at ns task.goal e → e ≤ best.delivery → IsNotAfter s ns
+-- the numbers lead to the goal with this delivery and number of hops, and no others that do come before them
+pub record IsPicked (task : SearchTask) (hops d : ℕ) (s : List ℕ) : Type 0 where
+  pub many : length s ≡ hops
+  pub way : Leads (Takes task) task.start task.at s task.goal d
+  pub front : (ns : List ℕ) (e : ℕ) → length ns ≡ hops → Leads (Takes task) task.start task.at ns task.goal e → e ≤ d → IsNotAfter s ns
 
 -- the way of the least delivery, hops and numbers among those of at most `hops` hops, with a delivery before `ceiling`
 pub record IsLeastWay (task : SearchTask) (hops ceiling : ℕ) (s : List ℕ) (d : ℕ) : Type 0 where

@@ -1,5 +1,5 @@
 -- What a search by arrival keeps: the settled nodes, the waiting events, and the first delivery so far.
-use Rattle.std.specs.Prelude.{◌≡◌, ◌≢◌, ◌⊎◌, ℕ, ◌≤◌, ◌<◌, List, length, Bool, true, false, All, Contains, slice_index, slice_index_or}
+use Rattle.std.specs.Prelude.{◌≡◌, ◌≢◌, ◌⊎◌, ℕ, ◌≤◌, ◌<◌, min, List, length, Bool, true, false, All, Contains, slice_index, slice_index_or}
 use Rattle.std.specs.List.{count_by}
 use Rattle.sabr_search.specs.declared.queue.Event.{Event}
 use Rattle.sabr_search.specs.declared.layers.Best.{Best}
@@ -7,6 +7,11 @@ use Rattle.sabr_search.specs.Ways.{Leads}
 use Rattle.sabr_search.specs.Task.{SearchTask, Takes, never, latest_arrival}
 use Rattle.sabr_search.specs.Steps.{senders}
 use Rattle.sabr_search.specs.Lists.{AreClosed, IsKnown}
+
+-- by node a second before which no way comes there, or second d, at which the search stopped, if that is sooner
+pub record AreArrivalsBy (task : SearchTask) (arrival : List ℕ) (d : ℕ) : Type 0 where
+  pub flags : length arrival ≡ length task.table
+  pub least : (ns : List ℕ) (v t : ℕ) → 0 < length ns → Leads (Takes task) task.start task.at ns v t → min (slice_index arrival v) d ≤ t
 
 -- every settled node is reached by second t
 abbrev pub AreSettledBy : List Bool → List ℕ → ℕ → Type 0

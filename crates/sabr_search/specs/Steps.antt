@@ -1,4 +1,4 @@
--- The number of contacts that a node sends, and the hop of a contact.
+-- The number of contacts that a node sends or receives, and the hop of a contact.
 use Rattle.std.specs.Prelude.{◌≡◌, ℕ, ◌+◌, ◌==◌, List, [], ◌∷◌, map, if◌then◌else◌}
 use Rattle.std.specs.List.{count_by}
 use Rattle.std.specs.declared.option.Option.TheVariants.{Some}
@@ -24,6 +24,18 @@ degree task u = count_by (λ k. k == u) (senders task)
 -- the number of standing contacts that the nodes of a list send
 abbrev pub sent_by_all : SearchTask → List ℕ → ℕ
 sent_by_all task nodes = count_by (λ k. has k nodes) (senders task)
+
+-- for each contact of the plan, the place of its receiver in the table
+abbrev pub receivers : SearchTask → List ℕ
+receivers task = map (λ c. place_in task.table c.to) task.plan.contacts
+
+-- the number of standing contacts that the node at place w receives
+abbrev pub received : SearchTask → ℕ → ℕ
+received task w = count_by (λ k. k == w) (receivers task)
+
+-- the number of standing contacts that the nodes of a list receive
+abbrev pub received_by_all : SearchTask → List ℕ → ℕ
+received_by_all task nodes = count_by (λ k. has k nodes) (receivers task)
 
 -- the hop is that of the standing contact of a number
 pub record IsHopAt (task : SearchTask) (n : ℕ) (h : Hop) : Type 0 where

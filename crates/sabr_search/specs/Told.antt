@@ -17,14 +17,6 @@ hops_told (Some route) = length route.contacts
 abbrev pub IsCut : ContactPlan → ℕ → List ℕ → ℕ → Option RouteRecord → Type 0
 IsCut p max_hops prefix looks answer = max_hops ≡ most_hops → looks ≤ (3 * (hops_told answer - length prefix) + 3) * length p.contacts
 
--- three passes over all contacts for each hop of a route after the prefix, and one look for each of its contacts
-abbrev pub looks_by : ContactPlan → List ℕ → RouteRecord → ℕ
-looks_by p prefix route = 3 * ((length route.contacts - length prefix) * length p.contacts) + length route.contacts
-
--- a route that is no later than the lower bound took no more looks than those before and those by its hops
-abbrev pub IsStopped : ContactPlan → List ℕ → ℕ → ℕ → ℕ → RouteRecord → Type 0
-IsStopped p prefix lower before all route = route.delivery ≤ lower → all ≤ before + looks_by p prefix route
-
 -- termination time and entry node are those of the contacts
 pub record IsTold (p : ContactPlan) (route : RouteRecord) : Type 0 where
   pub until_is : route.until ≡ until_of p route.contacts

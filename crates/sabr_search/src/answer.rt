@@ -1,153 +1,122 @@
-//! The least route after a prefix, from layers, deadlines and picks, with its record.
+//! The least route after a prefix, from layers made backward and picks, with its record.
 
-ghost use Rattle.std.specs.Prelude.{◌≡◌, ◌++◌, ℕ, List, ◌+◌, ◌*◌, ◌-◌, ◌^◌, ◌≤◌, ◌<◌, Some, IfOk, IfSome, IfNone, OnErr, length};
-ghost use Rattle.sabr_search.specs.Ways.{Leads};
-ghost use Rattle.sabr_search.specs.Task.{IsTask, Takes, never};
-ghost use Rattle.sabr_search.specs.Picks.{IsPicked};
-ghost use Rattle.sabr_search.specs.Deadlines.{AreTimed};
-ghost use Rattle.sabr_search.specs.Late.{AreArrivals, IsEnded};
+ghost use Rattle.std.specs.Prelude.{◌≡◌, ◌+◌, ◌*◌, ◌-◌, ◌^◌, ◌≤◌, ◌<◌, IfOk, IfSome, IfNone, OnErr, length};
+ghost use Rattle.sabr_search.specs.Task.{IsTask, never};
+ghost use Rattle.sabr_search.specs.Late.{AreArrivals, IsEnded, IsNoneSooner, HasWayAt, IsNoneSeen};
 ghost use Rattle.sabr_search.specs.Following.{IsNoneBefore};
 ghost use Rattle.sabr_search.specs.Answers.{IsLeastAfter};
-ghost use Rattle.sabr_search.specs.Told.{hops_told, IsStopped, IsTold};
+ghost use Rattle.sabr_search.specs.Told.{hops_told};
 
-use crate::layers::{Best, Layers, Limits};
+use crate::from_goal::Aim;
+use crate::layers::{Layers, Limits};
 use crate::looks::Looks;
 use crate::task::Task;
 use sabr_model::{NoMemory, Route};
 use std::alloc::Allocator;
 
+/// More looks than layers may take, and those that picks may take as well.
+const MANY_LOOKS: u64 = 1 << 61;
+
 impl<A: Allocator + Copy> Layers<A> {
-    /// Returns the least route after the prefix within the limits.
+    /// Returns the least route after the prefix, if layers made backward from the goal show one of at most so many hops
+    /// that delivers as is aimed at. No way of as many hops delivers sooner. None as in `make_back`.
+    pub fn answer_back(
+        &mut self,
+        aim: &Aim<'_, '_, '_, A>,
+        looks: &mut Looks,
+        prefix: &[u32],
+        hops: usize,
+        most: u64,
+    ) -> Result<Option<Route<A>>, NoMemory>
+        requires task { IsTask aim.now.task.now }
+        requires looked { looks.old.count ≤ most }
+        requires most { most ≤ 2 ^ 61 }
+        requires few { hops * length aim.now.task.now.plan.contacts + length prefix.now + hops ≤ 2 ^ 61 }
+        requires many { length prefix.now + hops < 2 ^ 32 }
+        requires early { aim.now.delivery < never }
+        requires arrivals { AreArrivals aim.now.task.now aim.now.since.now }
+        requires least { IsNoneSooner aim.now.task.now hops aim.now.delivery }
+        ensures some { IfOk result (λ o. IfSome o (IsLeastAfter aim.now.task.now prefix.now hops (aim.now.delivery + 1))) }
+        ensures none { IfOk result (λ o. IfNone o (IsNoneSeen aim.now.task.now hops aim.now.delivery looks.old.count most)) }
+        ensures ended { IfOk result (λ o. IfNone o (IsEnded self.new.ends.items → IsNoneBefore aim.now.task.now (aim.now.delivery + 1))) }
+        ensures refused { OnErr result (looks.new.count ≤ most + hops * length aim.now.task.now.plan.contacts) }
+        ensures few_refused { OnErr result (looks.new.count ≤ looks.old.count + 2 * (hops * length aim.now.task.now.plan.contacts)) }
+        ensures looks { IfOk result (λ o. looks.new.count ≤ most + (hops_told o - length prefix.now) * length aim.now.task.now.plan.contacts + hops_told o) }
+        ensures few { IfOk result (λ o. IfSome o (λ route. looks.new.count ≤ looks.old.count + 2 * ((length route.contacts - length prefix.now) * length aim.now.task.now.plan.contacts) + length route.contacts)) }
+        ensures counted { IfOk result (λ o. hops_told o ≤ looks.new.count) }
+    {
+        let made = self.make_back(aim, looks, hops, most)?;
+        let Some(left) = made else {
+            return Ok(None);
+        };
+        let picked = self.pick(aim, looks, left, prefix, 2 * MANY_LOOKS)?;
+        let Some(contacts) = picked else {
+            unreachable!();
+        };
+        Ok(Some(aim.task.record(looks, contacts, aim.delivery)))
+    }
+
+    /// Returns the least route after the prefix that delivers as is aimed at. Some way of at most so many hops does, and
+    /// none of as many hops delivers sooner.
+    pub fn answer_by(
+        &mut self,
+        aim: &Aim<'_, '_, '_, A>,
+        looks: &mut Looks,
+        prefix: &[u32],
+        hops: usize,
+    ) -> Result<Route<A>, NoMemory>
+        requires task { IsTask aim.now.task.now }
+        requires few { looks.old.count + hops * length aim.now.task.now.plan.contacts + length prefix.now + hops ≤ 2 ^ 61 }
+        requires many { length prefix.now + hops < 2 ^ 32 }
+        requires early { aim.now.delivery < never }
+        requires arrivals { AreArrivals aim.now.task.now aim.now.since.now }
+        requires least { IsNoneSooner aim.now.task.now hops aim.now.delivery }
+        requires way { HasWayAt aim.now.task.now hops aim.now.delivery }
+        ensures least { IfOk result (IsLeastAfter aim.now.task.now prefix.now hops (aim.now.delivery + 1)) }
+        ensures refused { OnErr result (looks.new.count ≤ looks.old.count + 2 * (hops * length aim.now.task.now.plan.contacts)) }
+        ensures looks { IfOk result (λ route. looks.new.count ≤ looks.old.count + 2 * ((length route.contacts - length prefix.now) * length aim.now.task.now.plan.contacts) + length route.contacts) }
+        ensures counted { IfOk result (λ route. length route.contacts ≤ looks.new.count) }
+    {
+        let found = self.answer_back(aim, looks, prefix, hops, MANY_LOOKS)?;
+        let Some(route) = found else {
+            unreachable!();
+        };
+        Ok(route)
+    }
+
+    /// Returns the least route after the prefix within the limits: layers forward find its delivery, and layers backward
+    /// its contacts.
     pub fn answer(
         &mut self,
-        alloc: A,
         task: &Task<'_, A>,
         looks: &mut Looks,
         prefix: &[u32],
         limits: Limits,
+        since: &[u64],
     ) -> Result<Option<Route<A>>, NoMemory>
         requires task { IsTask task.now }
-        requires few { looks.old.count + 3 * (limits.hops * length task.now.plan.contacts) + length prefix.now + limits.hops ≤ 2 ^ 62 }
+        requires few { looks.old.count + 3 * (limits.hops * length task.now.plan.contacts) + length prefix.now + limits.hops ≤ 2 ^ 61 }
         requires many { length prefix.now + limits.hops < 2 ^ 32 }
         requires sooner { limits.lower < limits.ceiling }
         requires ceiling { limits.ceiling ≤ never }
-        requires lower { (ns : List ℕ) (e : ℕ) → Leads (Takes task.now) task.now.start task.now.at ns task.now.goal e → limits.lower ≤ e }
-        ensures none { IfOk result (λ o. IfNone o ((ns : List ℕ) (e : ℕ) → length ns ≤ limits.hops → Leads (Takes task.now) task.now.start task.now.at ns task.now.goal e → limits.ceiling ≤ e)) }
+        requires lower { IsNoneBefore task.now limits.lower }
+        requires arrivals { AreArrivals task.now since.now }
+        ensures none { IfOk result (λ o. IfNone o (IsNoneSooner task.now limits.hops limits.ceiling)) }
         ensures some { IfOk result (λ o. IfSome o (IsLeastAfter task.now prefix.now limits.hops limits.ceiling)) }
         ensures err_looks { OnErr result (looks.new.count ≤ looks.old.count + 3 * (limits.hops * length task.now.plan.contacts)) }
         ensures ok_looks { IfOk result (λ o. looks.new.count ≤ looks.old.count + 3 * (limits.hops * length task.now.plan.contacts) + hops_told o) }
-        ensures stopped { IfOk result (λ o. IfSome o (IsStopped task.now.plan prefix.now limits.lower looks.old.count (looks.new.count + length task.now.plan.contacts))) }
         ensures counted { IfOk result (λ o. hops_told o ≤ looks.new.count) }
     {
         let best = self.make(task, looks, limits)?;
         if best.hops == 0 {
             return Ok(None);
         }
-        self.set_deadlines(task, looks, best);
-        let route = self.finish(alloc, task, looks, best, prefix)?;
-        Ok(Some(route))
-    }
-
-    /// Returns the least route after the prefix with the best delivery and hops. The deadlines for these are set.
-    fn finish(
-        &mut self,
-        alloc: A,
-        task: &Task<'_, A>,
-        looks: &mut Looks,
-        best: Best,
-        prefix: &[u32],
-    ) -> Result<Route<A>, NoMemory>
-        requires task { IsTask task.now }
-        requires few { looks.old.count + best.hops * length task.now.plan.contacts + length prefix.now + best.hops ≤ 2 ^ 62 }
-        requires many { length prefix.now + best.hops < 2 ^ 32 }
-        requires some { 0 < best.hops }
-        requires timed { AreTimed task.now best 1 self.old.bounds.items self.old.place.items self.old.reached.items }
-        requires least { (ns : List ℕ) (e : ℕ) → length ns ≤ best.hops → Leads (Takes task.now) task.now.start task.now.at ns task.now.goal e → best.delivery ≤ e }
-        ensures err_looks { OnErr result (looks.new.count ≤ looks.old.count + best.hops * length task.now.plan.contacts) }
-        ensures ok_looks { IfOk result (λ route. looks.new.count ≤ looks.old.count + best.hops * length task.now.plan.contacts + length route.contacts) }
-        ensures counted { IfOk result (λ route. length route.contacts ≤ looks.new.count) }
-        ensures delivery { IfOk result (λ route. route.delivery ≡ best.delivery) }
-        ensures hops { IfOk result (λ route. length route.contacts ≡ length prefix.now + best.hops) }
-        ensures picked { IfOk result (λ route. (s : List ℕ) × (route.contacts ≡ prefix.now ++ s) × IsPicked task.now best s × IsTold task.now.plan route) }
-    {
-        let picked = self.pick(alloc, task, looks, best, prefix, u64::MAX)?;
-        let Some(contacts) = picked else {
-            unreachable!();
+        let aim = Aim {
+            task,
+            since,
+            delivery: best.delivery,
         };
-        Ok(task.record(looks, contacts, best.delivery))
-    }
-
-    /// Returns the least route after the prefix, if layers made backward from the goal show one that delivers at
-    /// `first` with no more hops. No way delivers before `first`. None as in `from_goal`.
-    pub fn answer_back(
-        &mut self,
-        alloc: A,
-        task: &Task<'_, A>,
-        looks: &mut Looks,
-        prefix: &[u32],
-        arrival: &[u64],
-        first: Best,
-        most: u64,
-    ) -> Result<Option<Route<A>>, NoMemory>
-        requires task { IsTask task.now }
-        requires looked { looks.old.count ≤ most }
-        requires few { most + first.hops * length task.now.plan.contacts + length prefix.now + first.hops ≤ 2 ^ 62 }
-        requires many { length prefix.now + first.hops < 2 ^ 32 }
-        requires early { first.delivery < never }
-        requires arrivals { AreArrivals task.now arrival.now first.delivery }
-        requires least { (ns : List ℕ) (e : ℕ) → Leads (Takes task.now) task.now.start task.now.at ns task.now.goal e → first.delivery ≤ e }
-        ensures some { IfOk result (λ o. IfSome o (IsLeastAfter task.now prefix.now first.hops (first.delivery + 1))) }
-        ensures ended { IfOk result (λ o. IfNone o (IsEnded self.new.ends.items → IsNoneBefore task.now (first.delivery + 1))) }
-        ensures refused { OnErr result (looks.new.count ≤ most + first.hops * length task.now.plan.contacts) }
-        ensures looks { IfOk result (λ o. looks.new.count ≤ most + (hops_told o - length prefix.now) * length task.now.plan.contacts + hops_told o) }
-        ensures counted { IfOk result (λ o. hops_told o ≤ looks.new.count) }
-    {
-        let backward = self.from_goal(task, looks, arrival, first, most)?;
-        let Some(best) = backward else {
-            return Ok(None);
-        };
-        let route = self.finish(alloc, task, looks, best, prefix)?;
+        let route = self.answer_by(&aim, looks, prefix, best.hops)?;
         Ok(Some(route))
-    }
-
-    /// Returns the least route after the prefix within the limits that a first way leaves. Uses layers made backward
-    /// from the goal if its hops are allowed. Otherwise, or if that takes too many looks, uses layers made forward.
-    pub fn answer_by(
-        &mut self,
-        alloc: A,
-        task: &Task<'_, A>,
-        looks: &mut Looks,
-        prefix: &[u32],
-        limits: Limits,
-        arrival: &[u64],
-        first: Best,
-    ) -> Result<Option<Route<A>>, NoMemory>
-        requires task { IsTask task.now }
-        requires looked { looks.old.count ≤ 3 * length task.now.plan.contacts }
-        requires few { 3 * length task.now.plan.contacts + 3 * (limits.hops * length task.now.plan.contacts) + length prefix.now + limits.hops ≤ 2 ^ 62 }
-        requires many { length prefix.now + limits.hops < 2 ^ 32 }
-        requires sooner { limits.lower < limits.ceiling }
-        requires ceiling { limits.ceiling ≤ never }
-        requires lower { limits.lower ≡ first.delivery }
-        requires arrivals { AreArrivals task.now arrival.now first.delivery }
-        requires least { (ns : List ℕ) (e : ℕ) → Leads (Takes task.now) task.now.start task.now.at ns task.now.goal e → first.delivery ≤ e }
-        ensures none { IfOk result (λ o. IfNone o ((ns : List ℕ) (e : ℕ) → length ns ≤ limits.hops → Leads (Takes task.now) task.now.start task.now.at ns task.now.goal e → limits.ceiling ≤ e)) }
-        ensures some { IfOk result (λ o. IfSome o (IsLeastAfter task.now prefix.now limits.hops limits.ceiling)) }
-        ensures err_looks { OnErr result (looks.new.count ≤ 3 * length task.now.plan.contacts + 3 * (limits.hops * length task.now.plan.contacts)) }
-        ensures ok_looks { IfOk result (λ o. looks.new.count ≤ 3 * length task.now.plan.contacts + 3 * (limits.hops * length task.now.plan.contacts) + hops_told o) }
-        ensures stopped { IfOk result (λ o. IfSome o (IsStopped task.now.plan prefix.now limits.lower (2 * length task.now.plan.contacts) looks.new.count)) }
-        ensures counted { IfOk result (λ o. hops_told o ≤ looks.new.count) }
-    {
-        if limits.hops != first.hops {
-            let forward = self.answer(alloc, task, looks, prefix, limits)?;
-            return Ok(forward);
-        }
-        let most = task.three_passes();
-        let backward = self.answer_back(alloc, task, looks, prefix, arrival, first, most)?;
-        if let Some(route) = backward {
-            return Ok(Some(route));
-        }
-        let forward = self.answer(alloc, task, looks, prefix, limits)?;
-        Ok(forward)
     }
 }

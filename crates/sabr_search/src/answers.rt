@@ -335,7 +335,6 @@ impl<A: Allocator + Copy> Answers<A> {
     /// The answer to a question after the prefix, with so many hops left, if one that is kept shows it within `most` looks.
     pub fn tell(
         &mut self,
-        alloc: A,
         task: &Task<'_, A>,
         looks: &mut Looks,
         most: u64,
@@ -366,7 +365,7 @@ impl<A: Allocator + Copy> Answers<A> {
         if answer.way.is_empty() {
             return Ok(Some(None));
         }
-        let mut contacts = Vec::with_capacity(alloc, prefix.len() + answer.way.len())?;
+        let mut contacts = Vec::with_capacity(self.alloc, prefix.len() + answer.way.len())?;
         contacts.extend_from_slice(prefix)?;
         contacts.extend_from_slice(&answer.way)?;
         let route = task.record(looks, contacts, answer.delivery);

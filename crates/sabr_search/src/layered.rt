@@ -19,7 +19,8 @@ use sabr_index::Index;
 use sabr_model::{GhostCount, NoMemory, Plan, Request, Route};
 use std::alloc::{Allocator, Global};
 
-/// A finder that makes hop layers forward, deadlines backward, and then picks the least numbers from the front.
+/// A finder that makes layers forward for the least delivery, layers backward for its route, and then picks the least
+/// numbers from the front.
 ///
 /// A call costs at most `(3 * N + 1) * C` looks, for N nodes and C contacts. Its memory is kept from call to call.
 #[derive(Drop)]
@@ -28,8 +29,10 @@ pub struct Layered<A: Allocator + Copy = Global> {
     alloc: A,
     /// The nodes that no route may pass.
     shut: Shut<A>,
-    /// Layers forward and deadlines.
+    /// Layers forward and backward.
     layers: Layers<A>,
+    /// For each node, when the search starts.
+    since: Vec<u64, A>,
     /// The looks of the last call.
     looks: Looks,
     /// How often it was called, for proofs alone.
@@ -46,6 +49,7 @@ impl<A: Allocator + Copy> Layered<A> {
             alloc,
             shut: Shut::new(alloc),
             layers: Layers::new(alloc),
+            since: Vec::new(alloc),
             looks: Looks::new(),
             calls: GhostCount::new(),
         }
@@ -101,8 +105,10 @@ impl<A: Allocator + Copy> Layered<A> {
             lower: 0,
             ceiling: NEVER,
         };
+        self.since.clear();
+        self.since.resize(plan.nodes(), task.at())?;
         self.layers
-            .answer(self.alloc, &task, &mut self.looks, part.prefix, limits)
+            .answer(&task, &mut self.looks, part.prefix, limits, &self.since)
     }
 }
 

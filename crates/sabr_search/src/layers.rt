@@ -1,12 +1,12 @@
 //! Hop layers, made forward: for each number of hops, the nodes that it reaches earlier, and when.
 
-ghost use Rattle.std.specs.Prelude.{◌≡◌, ◌≢◌, min, ℕ, List, [], ◌∷◌, ◌+◌, ◌*◌, ◌^◌, ◌≤◌, ◌<◌, length, take, slice_set, slice_index, OnOk, IfOk};
+ghost use Rattle.std.specs.Prelude.{◌≡◌, ◌≢◌, min, ℕ, [], ◌∷◌, ◌+◌, ◌*◌, ◌^◌, ◌≤◌, ◌<◌, length, take, slice_set, slice_index, OnOk, IfOk};
 ghost use Rattle.sabr_search.specs.Task.{IsTask, Takes};
 ghost use Rattle.sabr_search.specs.Steps.{degree};
 ghost use Rattle.sabr_search.specs.Linked.{IsLinkWithin, HasNumber};
-ghost use Rattle.sabr_search.specs.Lists.{IsPlaced, StayLinked, IsLayer, AddsOnly, AreFresh, AreLists, AreLowered, IsKnown, AreSources, GivenAt, GivenByLayer, IsKnownFrom};
-ghost use Rattle.sabr_search.specs.Ways.{Leads};
-ghost use Rattle.sabr_search.specs.Made.{AreOpened, AreLayers};
+ghost use Rattle.sabr_search.specs.Lists.{IsPlaced, StayLinked, IsLayer, AddsOnly, AreLists, AreLowered, IsKnown, AreSources, GivenAt, GivenByLayer, IsKnownFrom};
+ghost use Rattle.sabr_search.specs.Following.{IsNoneBefore};
+ghost use Rattle.sabr_search.specs.Made.{AreOpened, IsBestWithin};
 
 use crate::looks::Looks;
 use crate::over_link::link_passes;
@@ -82,6 +82,8 @@ pub fn news_before<A: Allocator + Copy>(
 /// begins.
 #[derive(Drop)]
 pub struct Layers<A: Allocator + Copy> {
+    /// The allocator of the buffers.
+    pub alloc: A,
     /// For each node, the least arrival so far.
     pub arrival: Vec<u64, A>,
     /// For each node, the place of an entry, or 0.
@@ -100,6 +102,7 @@ impl<A: Allocator + Copy> Layers<A> {
     /// Starts without layers. It takes no memory.
     pub fn new(alloc: A) -> Layers<A> {
         Layers {
+            alloc,
             arrival: Vec::new(alloc),
             place: Vec::new(alloc),
             reached: Vec::new(alloc),
@@ -115,14 +118,12 @@ impl<A: Allocator + Copy> Layers<A> {
         requires placed { IsPlaced self.old.place.items self.old.reached.items }
         requires many { length self.old.place.items ≡ length self.old.arrival.items }
         requires layer { IsLayer begin self.old.place.items self.old.reached.items }
-        requires fresh { AreFresh self.old.reached.items }
         requires later { 0 < begin }
         ensures bounds { self.new.bounds ≡ self.old.bounds }
         ensures arrivals { OnOk result (self.new.arrival.items ≡ slice_set self.old.arrival.items node arrival) }
         ensures placed { OnOk result (IsPlaced self.new.place.items self.new.reached.items) }
         ensures linked { OnOk result (StayLinked self.old self.new) }
         ensures layer { OnOk result (IsLayer begin self.new.place.items self.new.reached.items) }
-        ensures fresh { OnOk result (AreFresh self.new.reached.items) }
         ensures before { OnOk result (take begin self.new.reached.items ≡ take begin self.old.reached.items) }
         ensures entries { OnOk result (AddsOnly self.old.reached.items self.new.reached.items node arrival) }
     {
@@ -270,12 +271,9 @@ impl<A: Allocator + Copy> Layers<A> {
         requires task { IsTask task.now }
         requires few { looks.old.count + limits.hops * length task.now.plan.contacts ≤ 2 ^ 62 }
         requires sooner { limits.lower < limits.ceiling }
-        requires lower { (ns : List ℕ) (e : ℕ) → Leads (Takes task.now) task.now.start task.now.at ns task.now.goal e → limits.lower ≤ e }
+        requires lower { IsNoneBefore task.now limits.lower }
         ensures looks { looks.new.count ≤ looks.old.count + limits.hops * length task.now.plan.contacts }
-        ensures layers { IfOk result (λ best. (hop : ℕ) × AreLayers task.now limits.ceiling hop self.new.bounds.items self.new.arrival.items self.new.place.items self.new.reached.items best) }
-        ensures within { IfOk result (λ best. best.hops ≤ limits.hops) }
-        ensures least { IfOk result (λ best. (ns : List ℕ) (e : ℕ) → length ns ≤ limits.hops → Leads (Takes task.now) task.now.start task.now.at ns task.now.goal e → best.delivery ≤ e) }
-        ensures stopped { IfOk result (λ best. best.delivery ≤ limits.lower → looks.new.count ≤ looks.old.count + best.hops * length task.now.plan.contacts) }
+        ensures best { IfOk result (IsBestWithin task.now limits.hops limits.ceiling) }
     {
         self.first_layer(task)?;
         let mut best = Best {

@@ -8,7 +8,8 @@ ghost use Rattle.sabr_search.specs.Kept.{IsRung, IsFloor, AreDues, AreSpans, IsW
 ghost use Rattle.sabr_search.specs.Following.{tabled_of};
 
 use crate::enter::enter;
-use crate::layers::{Best, Layers, NEVER};
+use crate::from_goal::Aim;
+use crate::layers::{Layers, NEVER};
 use crate::looks::Looks;
 use crate::pick::Standing;
 use crate::rung::{Due, Rung, Span};
@@ -41,11 +42,12 @@ impl<A: Allocator + Copy> Layers<A> {
         ensures looks { looks.new.count ≤ most }
         ensures made { IfOk result (λ o. IfSome o (λ left. AreAllLate task.now delivery left self.new.ends.items self.new.late.items self.new.reached.items)) }
     {
-        let by = Best {
+        let aim = Aim {
+            task,
+            since,
             delivery,
-            hops: task.shut().len(),
         };
-        let met = self.make_back(task, looks, since, by, most)?;
+        let met = self.make_back(&aim, looks, task.shut().len(), most)?;
         if met.is_some() {
             return Ok(None);
         }
@@ -57,14 +59,14 @@ impl<A: Allocator + Copy> Layers<A> {
 
     /// Returns for each node the first second too late for a delivery before the deadline, from all layers for the
     /// second before it.
-    fn floors(&self, alloc: A, task: &Task<'_, A>, deadline: u64) -> Result<Vec<u64, A>, NoMemory>
+    fn floors(&self, task: &Task<'_, A>, deadline: u64) -> Result<Vec<u64, A>, NoMemory>
         requires whole { IsWhole task.now }
         requires some { 0 < deadline }
         requires made { (left : ℕ) × AreAllLate task.now (deadline - 1) left self.now.ends.items self.now.late.items self.now.reached.items }
         ensures floors { IfOk result (λ v. length v.items ≡ length task.now.table) }
         ensures floor { IfOk result (λ v. IsFloor (tabled_of task.now) task.now.request deadline v.items) }
     {
-        let Ok(mut before) = Vec::from_slice(alloc, &self.late) else {
+        let Ok(mut before) = Vec::from_slice(self.alloc, &self.late) else {
             return Err(NoMemory);
         };
         before[task.goal()] = deadline;
@@ -90,12 +92,12 @@ impl<A: Allocator + Copy> Layers<A> {
     }
 
     /// Returns the dues of so many layers, by node.
-    fn gather(&self, alloc: A, all: usize) -> Result<Vec<Due, A>, NoMemory>
+    fn gather(&self, all: usize) -> Result<Vec<Due, A>, NoMemory>
         requires bounded { all < length self.now.ends.items }
         requires within { (left : ℕ) → left < all → slice_index self.now.ends.items (left + 1) ≤ length self.now.reached.items }
         ensures gathered { IfOk result (λ v. AreGathered self.now.ends.items self.now.reached.items all v.items) }
     {
-        let mut dues = Vec::new(alloc);
+        let mut dues = Vec::new(self.alloc);
         for left in 0..all {
             self.gather_layer(left, &mut dues)?;
         }
@@ -107,7 +109,6 @@ impl<A: Allocator + Copy> Layers<A> {
     /// might be needed.
     fn dues_by(
         &mut self,
-        alloc: A,
         task: &Task<'_, A>,
         looks: &mut Looks,
         since: &[u64],
@@ -123,19 +124,18 @@ impl<A: Allocator + Copy> Layers<A> {
         ensures dues { IfOk result (λ o. IfSome o (λ v. deadline ≤ latest_arrival → AreDues (tabled_of task.now) task.now.request deadline v.items)) }
     {
         if deadline > LATEST {
-            return Ok(Some(Vec::new(alloc)));
+            return Ok(Some(Vec::new(self.alloc)));
         }
         let Some(all) = self.make_all(task, looks, since, deadline, most)? else {
             return Ok(None);
         };
-        let dues = self.gather(alloc, all)?;
+        let dues = self.gather(all)?;
         Ok(Some(dues))
     }
 
     /// Returns the table of a deadline. None if more than `most` looks might be needed.
     fn lay(
         &mut self,
-        alloc: A,
         task: &Task<'_, A>,
         looks: &mut Looks,
         deadline: u64,
@@ -150,16 +150,16 @@ impl<A: Allocator + Copy> Layers<A> {
         ensures rung { IfOk result (λ o. IfSome o (IsRung (tabled_of task.now) task.now.request)) }
     {
         let nodes = task.shut().len();
-        let mut since = Vec::new(alloc);
+        let mut since = Vec::new(self.alloc);
         since.resize(nodes, 0)?;
         let Some(_) = self.make_all(task, looks, &since, deadline - 1, most)? else {
             return Ok(None);
         };
-        let before = self.floors(alloc, task, deadline)?;
-        let Some(dues) = self.dues_by(alloc, task, looks, &since, deadline, most)? else {
+        let before = self.floors(task, deadline)?;
+        let Some(dues) = self.dues_by(task, looks, &since, deadline, most)? else {
             return Ok(None);
         };
-        let spans = spans_of(alloc, &dues, nodes)?;
+        let spans = spans_of(self.alloc, &dues, nodes)?;
         Ok(Some(Rung {
             deadline,
             before,
@@ -219,7 +219,6 @@ fn spans_of<A: Allocator + Copy>(
 /// Returns the table of a deadline for a plan and a request. None if the request has no goal in the plan, or if more
 /// than `most` looks might be needed.
 pub fn rung_for<A: Allocator + Copy>(
-    alloc: A,
     layers: &mut Layers<A>,
     looks: &mut Looks,
     index: &Index<'_, A>,
@@ -235,7 +234,7 @@ pub fn rung_for<A: Allocator + Copy>(
     if deadline == 0 || deadline == NEVER {
         return Ok(None);
     }
-    let mut shut = Shut::new(alloc);
+    let mut shut = Shut::new(layers.alloc);
     let Some((standing, goal)) = enter(&mut shut, looks, index.plan(), request, &[])? else {
         return Ok(None);
     };
@@ -244,5 +243,5 @@ pub fn rung_for<A: Allocator + Copy>(
         at: LATEST,
     };
     let task = Task::new(index, request, &shut, &[], false, source, goal);
-    layers.lay(alloc, &task, looks, deadline, most)
+    layers.lay(&task, looks, deadline, most)
 }

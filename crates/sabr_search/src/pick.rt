@@ -1,13 +1,14 @@
-//! The least numbers from the front, by the deadlines of hop layers.
+//! The least numbers from the front, by the deadlines of layers that were made backward.
 
-ghost use Rattle.std.specs.Prelude.{◌≡◌, ◌++◌, ℕ, List, ◌+◌, ◌*◌, ◌^◌, ◌≤◌, ◌<◌, false, Some, IfOk, IfSome, IfNone, IsTrue, length};
-ghost use Rattle.sabr_search.specs.Ways.{Leads};
+ghost use Rattle.std.specs.Prelude.{◌≡◌, ◌++◌, ℕ, List, ◌+◌, ◌*◌, ◌^◌, ◌≤◌, ◌<◌, false, Some, IfOk, IfSome, IfNone, IsTrue, length, slice_index};
 ghost use Rattle.sabr_search.specs.Task.{IsTask, Takes};
 ghost use Rattle.sabr_search.specs.Linked.{AreLinksAt};
-ghost use Rattle.sabr_search.specs.Deadlines.{ArePointed, IsInTime, AreTimed};
+ghost use Rattle.sabr_search.specs.Late.{AreMet, AreOpen, IsNoneSooner};
+ghost use Rattle.sabr_search.specs.Deadlines.{IsInTime, ArePointed};
 ghost use Rattle.sabr_search.specs.Picks.{IsAtMost, IsLeastStep, IsPicked};
 
-use crate::layers::{Best, Layers};
+use crate::from_goal::Aim;
+use crate::layers::Layers;
 use crate::looks::Looks;
 use crate::over_link::link_passes;
 use crate::task::Task;
@@ -42,73 +43,72 @@ pub fn is_at_most(least: Option<Step>, number: u32) -> bool
 }
 
 impl<A: Allocator + Copy> Layers<A> {
-    /// Returns the step of least number from a node after which the goal is still reached in time.
+    /// Returns the step of least number from a node after which the goal is still reached in time, with so many hops
+    /// left then.
     fn least_step(
         &self,
         task: &Task<'_, A>,
         looks: &mut Looks,
-        best: Best,
-        hop: usize,
+        hops: usize,
         from: Standing,
         links: Links<'_>,
     ) -> Option<Step>
         requires task { IsTask task.now }
         requires links { AreLinksAt task.now from.node links.links.now links.passes.now }
         requires few { looks.old.count + length links.passes.now ≤ 2 ^ 62 }
-        requires pointed { ArePointed task.now hop self.now.bounds.items self.now.place.items self.now.reached.items }
-        requires timed { AreTimed task.now best hop self.now.bounds.items self.now.place.items self.now.reached.items }
-        requires later { 0 < hop }
-        requires hop { hop ≤ best.hops }
-        requires node { from.node < length task.now.table }
+        requires bounded { hops + 1 < length self.now.ends.items }
+        requires many { length self.now.place.items ≡ length task.now.table }
+        requires ends { slice_index self.now.ends.items (hops + 1) ≤ length self.now.reached.items }
+        requires pointed { ArePointed self.now.ends.items self.now.place.items self.now.reached.items hops }
+        requires open { AreOpen task.now self.now.reached.items }
         ensures looks { looks.new.count ≤ looks.old.count + length links.entry.passes.now }
-        ensures some { IfSome result (IsLeastStep task.now best self.now.bounds.items self.now.reached.items hop from.node from.at) }
-        ensures none { IfNone result ((n w b : ℕ) → Takes task.now n from.node from.at w b → IsInTime task.now best self.now.bounds.items self.now.reached.items hop w b → ⊥) }
+        ensures some { IfSome result (IsLeastStep task.now self.now.ends.items self.now.reached.items hops from.node from.at) }
+        ensures none { IfNone result ((n w b : ℕ) → Takes task.now n from.node from.at w b → IsInTime self.now.ends.items self.now.reached.items hops w b → ⊥) }
     {
         let mut least: Option<Step> = None;
         for link in links.links {
             let passes = link_passes(links, link);
-            let before = self.deadline(task, best, hop, link.receiver);
+            let before = self.deadline(hops, link.receiver);
             least = task.least_over(looks, from.node, link, passes, from.at, before, least);
         }
         least
     }
 
-    /// Returns the least numbers after the prefix that lead from the start to the goal with the best delivery and hops.
-    /// None if more than `most` looks might be needed.
+    /// Returns the least numbers after the prefix that lead from the start to the goal by the layers of an aim, of which
+    /// the last is so many hops from the goal. None if more than `most` looks might be needed.
     pub fn pick(
         &mut self,
-        alloc: A,
-        task: &Task<'_, A>,
+        aim: &Aim<'_, '_, '_, A>,
         looks: &mut Looks,
-        best: Best,
+        left: usize,
         prefix: &[u32],
         most: u64,
     ) -> Result<Option<Vec<u32, A>>, NoMemory>
-        requires task { IsTask task.now }
+        requires task { IsTask aim.now.task.now }
         requires looked { looks.old.count ≤ most }
-        requires few { looks.old.count + best.hops * length task.now.plan.contacts ≤ 2 ^ 62 }
-        requires many { length prefix.now + best.hops < 2 ^ 32 }
-        requires some { 0 < best.hops }
-        requires timed { AreTimed task.now best 1 self.old.bounds.items self.old.place.items self.old.reached.items }
-        requires least { (ns : List ℕ) (e : ℕ) → length ns ≤ best.hops → Leads (Takes task.now) task.now.start task.now.at ns task.now.goal e → best.delivery ≤ e }
-        ensures looks { looks.new.count ≤ looks.old.count + best.hops * length task.now.plan.contacts }
+        requires most { most ≤ 2 ^ 62 }
+        requires many { length prefix.now + left + 1 < 2 ^ 32 }
+        requires met { AreMet aim.now.task.now aim.now.since.now aim.now.delivery left self.old.ends.items self.old.place.items self.old.reached.items }
+        requires least { IsNoneSooner aim.now.task.now (left + 1) aim.now.delivery }
         ensures limit { looks.new.count ≤ most }
-        ensures none { IfOk result (λ o. IfNone o (most < looks.old.count + best.hops * length task.now.plan.contacts)) }
-        ensures picked { IfOk result (λ o. IfSome o (λ v. (s : List ℕ) × (v.items ≡ prefix.now ++ s) × IsPicked task.now best s)) }
+        ensures looks { looks.new.count ≤ looks.old.count + (left + 1) * length aim.now.task.now.plan.contacts }
+        ensures none { IfOk result (λ o. IfNone o (most < looks.old.count + (left + 1) * length aim.now.task.now.plan.contacts)) }
+        ensures picked { IfOk result (λ o. IfSome o (λ v. (s : List ℕ) × (v.items ≡ prefix.now ++ s) × IsPicked aim.now.task.now (left + 1) aim.now.delivery s)) }
     {
-        let mut contacts = Vec::with_capacity(alloc, prefix.len() + best.hops)?;
+        let task = aim.task;
+        let mut contacts = Vec::with_capacity(self.alloc, prefix.len() + left + 1)?;
         contacts.extend_from_slice(prefix)?;
         let mut from = Standing {
             node: task.start(),
             at: task.at(),
         };
-        for hop in 0..best.hops {
-            self.point_at(hop + 1);
+        for hop in 0..left + 1 {
+            self.point_at(left - hop);
             let links = task.links(from.node);
             if links.passes.len() as u64 > most - looks.count {
                 return Ok(None);
             }
-            let least = self.least_step(task, looks, best, hop + 1, from, links);
+            let least = self.least_step(task, looks, left - hop, from, links);
             let Some(step) = least else {
                 unreachable!();
             };

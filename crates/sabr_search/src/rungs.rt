@@ -182,7 +182,7 @@ impl<A: Allocator + Copy> Rungs<A> {
         ensures kept { AreRungs index.now request.now self.new }
         ensures looks { looks.new.count ≤ most }
     {
-        let Ok(made) = rung_for(self.alloc, layers, looks, index, request, deadline, most) else {
+        let Ok(made) = rung_for(layers, looks, index, request, deadline, most) else {
             return;
         };
         let Some(rung) = made else {

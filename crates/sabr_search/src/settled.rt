@@ -14,6 +14,7 @@ ghost use Rattle.sabr_search.specs.Following.{tabled_of};
 use crate::best::BestOf;
 use crate::enter::enter;
 use crate::finger::rises;
+use crate::from_goal::Aim;
 use crate::kept::Kept;
 use crate::layers::Layers;
 use crate::limits::limits_of;
@@ -28,185 +29,214 @@ use sabr_index::Index;
 use sabr_model::{GhostCount, NoMemory, Plan, Request, Route};
 use std::alloc::{Allocator, Global};
 
-/// Returns the least route after the prefix. The first delivery says how many layers are needed, and what is too late.
-fn least_route<A: Allocator + Copy>(
-    alloc: A,
-    settling: &mut Settling<A>,
-    layers: &mut Layers<A>,
-    task: &Task<'_, A>,
-    looks: &mut Looks,
-    max_hops: u32,
-    prefix: &[u32],
-) -> Result<Option<Route<A>>, NoMemory>
-    requires task { IsTask task.now }
-    requires behind { IsBehind task.now prefix.now }
-    requires fits { IsTrue (is_prefix task.now.plan task.now.request prefix.now) }
-    requires hops { max_hops ≡ task.now.request.max_hops }
-    requires nodes { length task.now.table ≤ most_nodes }
-    requires few { looks.old.count ≤ 2 * length task.now.plan.contacts }
-    ensures answered { IfOk result (IsAnswered task.now prefix.now (max_hops - length prefix.now)) }
-    ensures bound { looks.new.count ≤ (3 * length task.now.table + 1) * length task.now.plan.contacts }
-    ensures counted { IfOk result (λ answer. hops_told answer ≤ looks.new.count) }
-    ensures cut { IfOk result (IsCut task.now.plan max_hops prefix.now looks.new.count) }
-    ensures longer { IfOk result (λ answer. IfSome answer (λ route. length prefix.now < length route.contacts)) }
-{
-    let first = settling.run(task, looks)?;
-    if first.hops == 0 {
-        return Ok(None);
-    }
-    let limits = limits_of(max_hops, prefix.len(), first);
-    layers.answer_by(alloc, task, looks, prefix, limits, &settling.arrival, first)
+/// What a search keeps from call to call.
+#[derive(Drop)]
+struct Search<A: Allocator + Copy> {
+    /// Nodes in order of arrival.
+    settling: Settling<A>,
+    /// Layers backward, and forward.
+    layers: Layers<A>,
 }
 
-/// The least route after the prefix, or that there is none, if the answer to a wide question shows it. That answer is
-/// kept.
-fn told_wide<A: Allocator + Copy>(
-    alloc: A,
-    settling: &mut Settling<A>,
-    layers: &mut Layers<A>,
-    kept: &mut Kept<A>,
-    task: &Task<'_, A>,
-    looks: &mut Looks,
-    prefix: &[u32],
-    left: usize,
-) -> Result<Option<Option<Route<A>>>, NoMemory>
-    requires task { IsTask task.now }
-    requires goal { slice_get task.now.table task.now.goal ≡ Some task.now.request.destination }
-    requires nodes { length task.now.table ≤ most_nodes }
-    requires few { looks.old.count ≤ 2 * length task.now.plan.contacts }
-    requires many { length prefix.now + left < 2 ^ 32 }
-    requires kept { IsKept (tabled_of task.now) task.now.request kept.old }
-    ensures kept { IsKept (tabled_of task.now) task.now.request kept.new }
-    ensures refused { OnErr result (looks.new.count ≤ 2 * length task.now.plan.contacts) }
-    ensures untold { IfOk result (λ o. IfNone o (looks.new.count ≤ 2 * length task.now.plan.contacts)) }
-    ensures told { IfOk result (λ o. IfSome o (IsAnswered task.now prefix.now left)) }
-    ensures looks { IfOk result (λ o. IfSome o (λ answer. looks.new.count ≤ 2 * length task.now.plan.contacts + hops_told answer)) }
-    ensures counted { IfOk result (λ o. IfSome o (λ answer. hops_told answer ≤ looks.new.count)) }
-{
-    if !kept.answers.takes_wide(prefix, task.excluded()) {
-        return Ok(None);
+impl<A: Allocator + Copy> Search<A> {
+    /// Returns the least route after the prefix. If the first way has no more hops than are allowed, its delivery is the
+    /// least, and layers backward find the route. Otherwise the least delivery is found by layers forward.
+    fn least_route(
+        &mut self,
+        task: &Task<'_, A>,
+        looks: &mut Looks,
+        max_hops: u32,
+        prefix: &[u32],
+    ) -> Result<Option<Route<A>>, NoMemory>
+        requires task { IsTask task.now }
+        requires behind { IsBehind task.now prefix.now }
+        requires fits { IsTrue (is_prefix task.now.plan task.now.request prefix.now) }
+        requires hops { max_hops ≡ task.now.request.max_hops }
+        requires nodes { length task.now.table ≤ most_nodes }
+        requires few { looks.old.count ≤ 2 * length task.now.plan.contacts }
+        ensures answered { IfOk result (IsAnswered task.now prefix.now (max_hops - length prefix.now)) }
+        ensures bound { looks.new.count ≤ (3 * length task.now.table + 1) * length task.now.plan.contacts }
+        ensures counted { IfOk result (λ answer. hops_told answer ≤ looks.new.count) }
+        ensures cut { IfOk result (IsCut task.now.plan max_hops prefix.now looks.new.count) }
+        ensures longer { IfOk result (λ answer. IfSome answer (λ route. length prefix.now < length route.contacts)) }
+    {
+        let first = self.settling.run(task, looks)?;
+        if first.hops == 0 {
+            return Ok(None);
+        }
+        let limits = limits_of(max_hops, prefix.len(), first);
+        if limits.hops != first.hops {
+            return self
+                .layers
+                .answer(task, looks, prefix, limits, &self.settling.arrival);
+        }
+        let aim = Aim {
+            task,
+            since: &self.settling.arrival,
+            delivery: first.delivery,
+        };
+        let route = self.layers.answer_by(&aim, looks, prefix, first.hops)?;
+        Ok(Some(route))
     }
-    let most = task.two_passes();
-    shut_few(&mut kept.wide, task, prefix.len())?;
-    let question = task.with_shut(&kept.wide);
-    let found = way_within(alloc, settling, layers, &question, looks, most, left)?;
-    let Some(way) = found else {
-        return Ok(None);
-    };
-    kept.answers.keep(&question, left, way, true);
-    kept.answers.tell(alloc, task, looks, most, prefix, left)
-}
 
-/// The least route after the prefix: told by the tables that are kept, or by the answer to a wide question, or else by
-/// a search. The answer is kept.
-fn least_searched<A: Allocator + Copy>(
-    alloc: A,
-    settling: &mut Settling<A>,
-    layers: &mut Layers<A>,
-    kept: &mut Kept<A>,
-    task: &Task<'_, A>,
-    looks: &mut Looks,
-    max_hops: u32,
-    prefix: &[u32],
-) -> Result<Option<Route<A>>, NoMemory>
-    requires task { IsTask task.now }
-    requires behind { IsBehind task.now prefix.now }
-    requires fits { IsTrue (is_prefix task.now.plan task.now.request prefix.now) }
-    requires hops { max_hops ≡ task.now.request.max_hops }
-    requires nodes { length task.now.table ≤ most_nodes }
-    requires few { looks.old.count ≤ 2 * length task.now.plan.contacts }
-    requires kept { IsKept (tabled_of task.now) task.now.request kept.old }
-    ensures kept { IsKept (tabled_of task.now) task.now.request kept.new }
-    ensures answered { IfOk result (IsAnswered task.now prefix.now (max_hops - length prefix.now)) }
-    ensures bound { looks.new.count ≤ (3 * length task.now.table + 1) * length task.now.plan.contacts }
-    ensures counted { IfOk result (λ answer. hops_told answer ≤ looks.new.count) }
-    ensures cut { IfOk result (IsCut task.now.plan max_hops prefix.now looks.new.count) }
-    ensures longer { IfOk result (λ answer. IfSome answer (λ route. length prefix.now < length route.contacts)) }
-{
-    let most = task.two_passes();
-    let left = max_hops as usize - prefix.len();
-    let followed = kept
-        .rungs
-        .follow(layers, task, looks, most, prefix, max_hops)?;
-    if let Some(answer) = followed {
+    /// The least route after the prefix, or that there is none, if the answer to a wide question shows it. That answer is
+    /// kept.
+    fn told_wide(
+        &mut self,
+        kept: &mut Kept<A>,
+        task: &Task<'_, A>,
+        looks: &mut Looks,
+        prefix: &[u32],
+        left: usize,
+    ) -> Result<Option<Option<Route<A>>>, NoMemory>
+        requires task { IsTask task.now }
+        requires goal { slice_get task.now.table task.now.goal ≡ Some task.now.request.destination }
+        requires nodes { length task.now.table ≤ most_nodes }
+        requires few { looks.old.count ≤ 2 * length task.now.plan.contacts }
+        requires many { length prefix.now + left < 2 ^ 32 }
+        requires kept { IsKept (tabled_of task.now) task.now.request kept.old }
+        ensures kept { IsKept (tabled_of task.now) task.now.request kept.new }
+        ensures refused { OnErr result (looks.new.count ≤ 2 * length task.now.plan.contacts) }
+        ensures untold { IfOk result (λ o. IfNone o (looks.new.count ≤ 2 * length task.now.plan.contacts)) }
+        ensures told { IfOk result (λ o. IfSome o (IsAnswered task.now prefix.now left)) }
+        ensures looks { IfOk result (λ o. IfSome o (λ answer. looks.new.count ≤ 2 * length task.now.plan.contacts + hops_told answer)) }
+        ensures counted { IfOk result (λ o. IfSome o (λ answer. hops_told answer ≤ looks.new.count)) }
+    {
+        if !kept.answers.takes_wide(prefix, task.excluded()) {
+            return Ok(None);
+        }
+        let most = task.two_passes();
+        shut_few(&mut kept.wide, task, prefix.len())?;
+        let question = task.with_shut(&kept.wide);
+        let found = way_within(
+            &mut self.settling,
+            &mut self.layers,
+            &question,
+            looks,
+            most,
+            left,
+        )?;
+        let Some(way) = found else {
+            return Ok(None);
+        };
+        kept.answers.keep(&question, left, way, true);
+        kept.answers.tell(task, looks, most, prefix, left)
+    }
+
+    /// The least route after the prefix: told by the tables that are kept, or by the answer to a wide question, or else by
+    /// a search. The answer is kept.
+    fn least_searched(
+        &mut self,
+        kept: &mut Kept<A>,
+        task: &Task<'_, A>,
+        looks: &mut Looks,
+        max_hops: u32,
+        prefix: &[u32],
+    ) -> Result<Option<Route<A>>, NoMemory>
+        requires task { IsTask task.now }
+        requires behind { IsBehind task.now prefix.now }
+        requires fits { IsTrue (is_prefix task.now.plan task.now.request prefix.now) }
+        requires hops { max_hops ≡ task.now.request.max_hops }
+        requires nodes { length task.now.table ≤ most_nodes }
+        requires few { looks.old.count ≤ 2 * length task.now.plan.contacts }
+        requires kept { IsKept (tabled_of task.now) task.now.request kept.old }
+        ensures kept { IsKept (tabled_of task.now) task.now.request kept.new }
+        ensures answered { IfOk result (IsAnswered task.now prefix.now (max_hops - length prefix.now)) }
+        ensures bound { looks.new.count ≤ (3 * length task.now.table + 1) * length task.now.plan.contacts }
+        ensures counted { IfOk result (λ answer. hops_told answer ≤ looks.new.count) }
+        ensures cut { IfOk result (IsCut task.now.plan max_hops prefix.now looks.new.count) }
+        ensures longer { IfOk result (λ answer. IfSome answer (λ route. length prefix.now < length route.contacts)) }
+    {
+        let most = task.two_passes();
+        let left = max_hops as usize - prefix.len();
+        let followed = kept
+            .rungs
+            .follow(&mut self.layers, task, looks, most, prefix, max_hops)?;
+        if let Some(answer) = followed {
+            kept.answers.keep_after(task, prefix, left, &answer);
+            return Ok(answer);
+        }
+        let wide = self.told_wide(kept, task, looks, prefix, left)?;
+        if let Some(answer) = wide {
+            return Ok(answer);
+        }
+        let answer = self.least_route(task, looks, max_hops, prefix)?;
         kept.answers.keep_after(task, prefix, left, &answer);
-        return Ok(answer);
+        Ok(answer)
     }
-    let wide = told_wide(alloc, settling, layers, kept, task, looks, prefix, left)?;
-    if let Some(answer) = wide {
-        return Ok(answer);
+
+    /// The least route after the prefix: told by an answer that is kept, or else as by a search.
+    fn least_beside(
+        &mut self,
+        kept: &mut Kept<A>,
+        task: &Task<'_, A>,
+        looks: &mut Looks,
+        max_hops: u32,
+        prefix: &[u32],
+    ) -> Result<Option<Route<A>>, NoMemory>
+        requires task { IsTask task.now }
+        requires behind { IsBehind task.now prefix.now }
+        requires fits { IsTrue (is_prefix task.now.plan task.now.request prefix.now) }
+        requires hops { max_hops ≡ task.now.request.max_hops }
+        requires nodes { length task.now.table ≤ most_nodes }
+        requires few { looks.old.count ≤ length prefix.now }
+        requires kept { IsKept (tabled_of task.now) task.now.request kept.old }
+        ensures kept { IsKept (tabled_of task.now) task.now.request kept.new }
+        ensures least { IfOk result (IsLeast task.now.plan task.now.request prefix.now task.now.excluded) }
+        ensures bound { looks.new.count ≤ (3 * length task.now.table + 1) * length task.now.plan.contacts }
+        ensures counted { IfOk result (λ answer. hops_told answer ≤ looks.new.count) }
+        ensures cut { IfOk result (IsCut task.now.plan max_hops prefix.now looks.new.count) }
+        ensures longer { IfOk result (λ answer. IfSome answer (λ route. length prefix.now < length route.contacts)) }
+    {
+        let most = task.two_passes();
+        let left = max_hops as usize - prefix.len();
+        let told = kept.answers.tell(task, looks, most, prefix, left)?;
+        if let Some(answer) = told {
+            return Ok(answer);
+        }
+        self.least_searched(kept, task, looks, max_hops, prefix)
     }
-    let answer = least_route(alloc, settling, layers, task, looks, max_hops, prefix)?;
-    kept.answers.keep_after(task, prefix, left, &answer);
-    Ok(answer)
+
+    /// Keeps what makes later searches with this answer shorter. It takes at most as many looks as two passes over all
+    /// contacts, and none after a search that took more.
+    fn learn(
+        &mut self,
+        rungs: &mut Rungs<A>,
+        looks: &mut Looks,
+        index: &Index<'_, A>,
+        request: &Request,
+        answer: &Option<Route<A>>,
+    )
+        requires kept { AreRungs index.now request.now rungs.old }
+        ensures kept { AreRungs index.now request.now rungs.new }
+        ensures looked { looks.old.count ≤ looks.new.count }
+        ensures none { IfNone answer.now (looks.new.count ≡ looks.old.count) }
+        ensures looks { (looks.new.count ≡ looks.old.count) ⊎ (looks.new.count ≤ 4 * length index.now.plan.contacts) }
+    {
+        let Some(route) = answer else {
+            rungs.count_none();
+            return;
+        };
+        let most = 2 * index.plan().contacts().len() as u64;
+        if looks.count > most {
+            return;
+        }
+        let mut making = Looks::new();
+        rungs.learn(
+            &mut self.layers,
+            &mut making,
+            index,
+            request,
+            route.delivery,
+            most,
+        );
+        rungs.learn_none(&mut self.layers, &mut making, index, request, most);
+        looks.count += making.count;
+    }
 }
 
-/// The least route after the prefix: told by an answer that is kept, or else as by a search.
-fn least_beside<A: Allocator + Copy>(
-    alloc: A,
-    settling: &mut Settling<A>,
-    layers: &mut Layers<A>,
-    kept: &mut Kept<A>,
-    task: &Task<'_, A>,
-    looks: &mut Looks,
-    max_hops: u32,
-    prefix: &[u32],
-) -> Result<Option<Route<A>>, NoMemory>
-    requires task { IsTask task.now }
-    requires behind { IsBehind task.now prefix.now }
-    requires fits { IsTrue (is_prefix task.now.plan task.now.request prefix.now) }
-    requires hops { max_hops ≡ task.now.request.max_hops }
-    requires nodes { length task.now.table ≤ most_nodes }
-    requires few { looks.old.count ≤ length prefix.now }
-    requires kept { IsKept (tabled_of task.now) task.now.request kept.old }
-    ensures kept { IsKept (tabled_of task.now) task.now.request kept.new }
-    ensures least { IfOk result (IsLeast task.now.plan task.now.request prefix.now task.now.excluded) }
-    ensures bound { looks.new.count ≤ (3 * length task.now.table + 1) * length task.now.plan.contacts }
-    ensures counted { IfOk result (λ answer. hops_told answer ≤ looks.new.count) }
-    ensures cut { IfOk result (IsCut task.now.plan max_hops prefix.now looks.new.count) }
-    ensures longer { IfOk result (λ answer. IfSome answer (λ route. length prefix.now < length route.contacts)) }
-{
-    let most = task.two_passes();
-    let left = max_hops as usize - prefix.len();
-    let told = kept.answers.tell(alloc, task, looks, most, prefix, left)?;
-    if let Some(answer) = told {
-        return Ok(answer);
-    }
-    least_searched(alloc, settling, layers, kept, task, looks, max_hops, prefix)
-}
-
-/// Keeps what makes later searches with this answer shorter. It takes at most as many looks as two passes over all
-/// contacts, and none after a search that took more.
-fn learn<A: Allocator + Copy>(
-    layers: &mut Layers<A>,
-    rungs: &mut Rungs<A>,
-    looks: &mut Looks,
-    index: &Index<'_, A>,
-    request: &Request,
-    answer: &Option<Route<A>>,
-)
-    requires kept { AreRungs index.now request.now rungs.old }
-    ensures kept { AreRungs index.now request.now rungs.new }
-    ensures looked { looks.old.count ≤ looks.new.count }
-    ensures none { IfNone answer.now (looks.new.count ≡ looks.old.count) }
-    ensures looks { (looks.new.count ≡ looks.old.count) ⊎ (looks.new.count ≤ 4 * length index.now.plan.contacts) }
-{
-    let Some(route) = answer else {
-        rungs.count_none();
-        return;
-    };
-    let most = 2 * index.plan().contacts().len() as u64;
-    if looks.count > most {
-        return;
-    }
-    let mut making = Looks::new();
-    rungs.learn(layers, &mut making, index, request, route.delivery, most);
-    rungs.learn_none(layers, &mut making, index, request, most);
-    looks.count += making.count;
-}
-
-/// A finder that settles nodes in order of their arrival up to the first delivery, and then makes only as many hop
-/// layers as that needs.
+/// A finder that settles nodes in order of their arrival up to the first delivery, and then makes layers backward from
+/// the goal for it.
 ///
 /// A call costs at most `(3 * N + 1) * C` looks, for N nodes and C contacts. Without a limit on hops it costs at most
 /// `(3 * r + 3) * C`, for r hops of the answer after the prefix. Its memory is kept from call to call.
@@ -216,10 +246,8 @@ pub struct Settled<A: Allocator + Copy = Global> {
     alloc: A,
     /// The nodes that no route may pass.
     shut: Shut<A>,
-    /// Nodes in order of arrival.
-    settling: Settling<A>,
-    /// Layers backward, or forward, and deadlines.
-    layers: Layers<A>,
+    /// Nodes in order of arrival, and layers.
+    search: Search<A>,
     /// The looks of the last call.
     looks: Looks,
     /// How often it was called, for proofs alone.
@@ -235,8 +263,10 @@ impl<A: Allocator + Copy> Settled<A> {
         Settled {
             alloc,
             shut: Shut::new(alloc),
-            settling: Settling::new(alloc),
-            layers: Layers::new(alloc),
+            search: Search {
+                settling: Settling::new(alloc),
+                layers: Layers::new(alloc),
+            },
             looks: Looks::new(),
             calls: GhostCount::new(),
         }
@@ -292,10 +322,7 @@ impl<A: Allocator + Copy> Settled<A> {
             standing,
             goal,
         );
-        least_beside(
-            self.alloc,
-            &mut self.settling,
-            &mut self.layers,
+        self.search.least_beside(
             kept,
             &task,
             &mut self.looks,
@@ -324,14 +351,8 @@ impl<A: Allocator + Copy> Settled<A> {
         ensures cut { IfOk result (IsCut index.now.plan request.now.max_hops part.entry.prefix.now self.new.looks.count) }
     {
         let answer = self.find(kept, index, request, part, in_order)?;
-        learn(
-            &mut self.layers,
-            &mut kept.rungs,
-            &mut self.looks,
-            index,
-            request,
-            &answer,
-        );
+        self.search
+            .learn(&mut kept.rungs, &mut self.looks, index, request, &answer);
         Ok(answer)
     }
 }

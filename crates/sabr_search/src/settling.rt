@@ -1,13 +1,13 @@
 //! Nodes settled in order of their arrival, up to the first delivery at the goal.
 
-ghost use Rattle.std.specs.Prelude.{◌≡◌, ◌≢◌, ℕ, [], ◌+◌, ◌^◌, ◌≤◌, ◌<◌, length, slice_set, slice_index, slice_index_or, replicate, Some, OnOk, IfOk, true, false};
+ghost use Rattle.std.specs.Prelude.{◌≡◌, ◌≢◌, ℕ, min, [], ◌+◌, ◌^◌, ◌≤◌, ◌<◌, length, slice_set, slice_index, slice_index_or, replicate, Some, OnOk, IfOk, true, false};
 ghost use Rattle.sabr_search.specs.Task.{IsTask, Takes};
 ghost use Rattle.sabr_search.specs.Steps.{degree};
 ghost use Rattle.sabr_search.specs.Linked.{IsLinkWithin, HasNumber};
 ghost use Rattle.sabr_search.specs.Lists.{IsKnown};
 ghost use Rattle.sabr_search.specs.Made.{AreOpened};
 ghost use Rattle.sabr_search.specs.Late.{AreArrivals};
-ghost use Rattle.sabr_search.specs.Settling.{settled_count, IsWayTo, IsFirstWay, AreSettling, IsFallen, AreSettledTaken};
+ghost use Rattle.sabr_search.specs.Settling.{AreArrivalsBy, settled_count, IsWayTo, IsFirstWay, AreSettling, IsFallen, AreSettledTaken};
 
 use crate::layers::{Best, NEVER, news_before, open_nodes};
 use crate::looks::Looks;
@@ -155,12 +155,12 @@ impl<A: Allocator + Copy> Settling<A> {
     /// Settles nodes in order of their arrival, until no event comes before the first delivery at the goal. Returns
     /// that delivery and the hops of a way with it; no hops if no way leads to the goal. Looks at each contact at most
     /// once.
-    pub fn run(&mut self, task: &Task<'_, A>, looks: &mut Looks) -> Result<Best, NoMemory>
+    fn settle_all(&mut self, task: &Task<'_, A>, looks: &mut Looks) -> Result<Best, NoMemory>
         requires task { IsTask task.now }
         requires few { looks.old.count + length task.now.plan.contacts ≤ 2 ^ 62 }
         ensures looks { looks.new.count ≤ looks.old.count + length task.now.plan.contacts }
         ensures first { IfOk result (IsFirstWay task.now) }
-        ensures arrivals { IfOk result (λ best. AreArrivals task.now self.new.arrival.items best.delivery) }
+        ensures arrivals { IfOk result (λ best. AreArrivalsBy task.now self.new.arrival.items best.delivery) }
     {
         self.first_events(task)?;
         let start = Event {
@@ -185,6 +185,31 @@ impl<A: Allocator + Copy> Settling<A> {
                 best = self.settle(task, looks, event, best)?;
             }
         }
+        Ok(best)
+    }
+
+    /// Lowers each arrival to a second at the most.
+    fn lower(&mut self, most: u64)
+        ensures many { length self.new.arrival.items ≡ length self.old.arrival.items }
+        ensures lowered { (k : ℕ) → slice_index self.new.arrival.items k ≤ min (slice_index self.old.arrival.items k) most }
+    {
+        for place in 0..self.arrival.len() {
+            self.arrival[place] = self.arrival[place].min(most);
+        }
+    }
+
+    /// Settles as many nodes as it takes to find the first delivery at the goal. Returns it and the hops of a way with
+    /// it; no hops if no way leads to the goal. No way comes to a node before its arrival. Looks at each contact at most
+    /// once.
+    pub fn run(&mut self, task: &Task<'_, A>, looks: &mut Looks) -> Result<Best, NoMemory>
+        requires task { IsTask task.now }
+        requires few { looks.old.count + length task.now.plan.contacts ≤ 2 ^ 62 }
+        ensures looks { looks.new.count ≤ looks.old.count + length task.now.plan.contacts }
+        ensures first { IfOk result (IsFirstWay task.now) }
+        ensures arrivals { OnOk result (AreArrivals task.now self.new.arrival.items) }
+    {
+        let best = self.settle_all(task, looks)?;
+        self.lower(best.delivery);
         Ok(best)
     }
 }

@@ -6,7 +6,8 @@ ghost use Rattle.sabr_search.specs.Late.{AreArrivals};
 ghost use Rattle.sabr_search.specs.Told.{hops_told};
 ghost use Rattle.sabr_search.specs.Following.{AreFirstSteps, IsNoneBefore, IsFound};
 
-use crate::layers::{Best, Layers, NEVER};
+use crate::from_goal::Aim;
+use crate::layers::{Layers, NEVER};
 use crate::looks::Looks;
 use crate::pick::Standing;
 use crate::rungs::Rungs;
@@ -37,7 +38,7 @@ impl<A: Allocator + Copy> Rungs<A> {
         ensures rungs { self.new.rungs ≡ self.old.rungs }
         ensures first { self.new.first ≡ self.old.first }
         ensures floor { self.new.floor ≡ self.old.floor }
-        ensures since { OnOk result ((d : ℕ) → AreArrivals task.now self.new.since.items d) }
+        ensures since { OnOk result (AreArrivals task.now self.new.since.items) }
     {
         let soonest = soonest_of(&self.first);
         self.since.clear();
@@ -75,12 +76,14 @@ impl<A: Allocator + Copy> Rungs<A> {
             return Ok(None);
         }
         self.begin_back(task)?;
-        let first = Best {
+        let aim = Aim {
+            task,
+            since: &self.since,
             delivery: deadline,
-            hops: task.shut().len().min(max_hops as usize - prefix.len()),
         };
+        let hops = task.shut().len().min(max_hops as usize - prefix.len());
         let end = most.min(looks.count + TRY);
-        let found = layers.answer_back(self.alloc, task, looks, prefix, &self.since, first, end)?;
+        let found = layers.answer_back(&aim, looks, prefix, hops, end)?;
         if found.is_none() && layers.have_ended() {
             self.floor = deadline + 1;
         }

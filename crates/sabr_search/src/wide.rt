@@ -6,6 +6,7 @@ ghost use Rattle.sabr_search.specs.KeptAnswers.{IsFoundWay};
 ghost use Rattle.sabr_search.specs.WideTasks.{ShutsFewer};
 
 use crate::answers::FoundWay;
+use crate::from_goal::Aim;
 use crate::layers::Layers;
 use crate::looks::Looks;
 use crate::settling::Settling;
@@ -40,7 +41,6 @@ pub fn shut_few<A: Allocator + Copy>(
 
 /// The least way of a question, with so many hops left, as far as `most` looks show it.
 pub fn way_within<A: Allocator + Copy>(
-    alloc: A,
     settling: &mut Settling<A>,
     layers: &mut Layers<A>,
     task: &Task<'_, A>,
@@ -61,23 +61,28 @@ pub fn way_within<A: Allocator + Copy>(
     let first = settling.run(task, looks)?;
     if first.hops == 0 {
         return Ok(Some(FoundWay {
-            numbers: Vec::new(alloc),
+            numbers: Vec::new(layers.alloc),
             delivery: 0,
         }));
     }
     if first.hops > left {
         return Ok(None);
     }
-    let backward = layers.from_goal(task, looks, &settling.arrival, first, most)?;
-    let Some(best) = backward else {
+    let aim = Aim {
+        task,
+        since: &settling.arrival,
+        delivery: first.delivery,
+    };
+    let made = layers.make_back(&aim, looks, first.hops, most)?;
+    let Some(far) = made else {
         return Ok(None);
     };
-    let picked = layers.pick(alloc, task, looks, best, &[], most)?;
+    let picked = layers.pick(&aim, looks, far, &[], most)?;
     let Some(numbers) = picked else {
         return Ok(None);
     };
     Ok(Some(FoundWay {
         numbers,
-        delivery: best.delivery,
+        delivery: first.delivery,
     }))
 }

@@ -1,12 +1,16 @@
-use Rattle.std.proofs.Common.{◌*◌, ◌≤◌, length, arith}
-use Rattle.std.proofs.Math.Nat.{mul-le-mul}
-use Rattle.sabr_search.proofs.Law.{contacts_few}
+use Rattle.std.proofs.Common.{◌≡◌, ◌+◌, length, ap, sym, ◌∙◌, arith}
+use Rattle.sabr_search.proofs.Front.{least_way}
 use Rattle.sabr_search.proofs.wide.way_within.Goals as goal
 
-pub pick-requires-clause-few : goal.pick-requires-clause-few
-pick-requires-clause-few g c =
-    let task = c.args.task.now in
-    let within = rw c.in-Some.is at c.in_ok-backward.ensures.within in
-    let hops : c.in-Some.best.hops ≤ 40000 = omega (arith, within.1, c.in_ok-first.ensures.first.few, c.requires.nodes) in
-    let product : c.in-Some.best.hops * length task.plan.contacts ≤ 40000 * 20000 = mul-le-mul hops (contacts_few task.plan c.requires.task.plan) in
-    omega (arith, c.from_goal.ensures.looks, c.requires.most, product)
+pub returns-clause-found : goal.returns-clause-found
+returns-clause-found g c =
+    let first = c.in_ok-first.first in
+    let within = rw c.in-Some.is at c.in_ok-made.ensures.within in
+    let picked = rw c.in-Some-picked.is at c.in_ok-picked.ensures.picked in
+    let numbers : c.in-Some-picked.numbers.items ≡ picked.0 = picked.1 in
+    record {
+      none = λ empty. absurd (omega (arith, ap length (sym numbers ∙ empty), picked.2.many));
+      some = λ some. rw numbers
+          (least_way c.args.task.now c.requires.task _ first.delivery c.in-Some.far _ _ _ (rw c.in-Some.is at c.in_ok-made.ensures.met) c.args.left (first.delivery + 1) (omega (arith, within, c.if-first-left.false)) (omega arith)
+          (λ ns e le way. c.in_ok-first.ensures.first.least ns e way) picked.0 picked.2);
+    }

@@ -1,4 +1,5 @@
-use Rattle.std.proofs.Common.{◌≡◌, ◌≤◌, ◌+◌, ◌-◌, ◌*◌, length, ap, sym, subst, ◌∙◌, min, arith}
+use Rattle.std.proofs.Common.{◌≡◌, ◌≤◌, ◌+◌, ◌-◌, ◌*◌, length, replicate, ap, sym, subst, ◌∙◌, min, arith, rules}
+use Rattle.sabr_search.proofs.Tries.{arrivals_since}
 use Rattle.std.specs.Option.{option_map}
 use Rattle.sabr_model.specs.Record.{record_of}
 use Rattle.sabr_model.specs.Table.{node_count}
@@ -10,6 +11,10 @@ use Rattle.sabr_search.proofs.layered.Layered.find.Goals as goal
 
 pub returns-in_err-standing-clause-bound : goal.returns-in_err-standing-clause-bound
 returns-in_err-standing-clause-bound g c =
+    prefix_looks c.args.index.now.plan c.args.request.now c.args.part.prefix.now (prefix_facts c.args.index.now.plan c.args.request.now c.args.part.prefix.now c.requires.fits) (node_count c.args.index.now.plan.contacts) c.enter.new.looks.count (omega (arith, c.enter.ensures.looks, c.begin.ensures.looks))
+
+pub returns-in_err-resize-clause-bound : goal.returns-in_err-resize-clause-bound
+returns-in_err-resize-clause-bound g c =
     prefix_looks c.args.index.now.plan c.args.request.now c.args.part.prefix.now (prefix_facts c.args.index.now.plan c.args.request.now c.args.part.prefix.now c.requires.fits) (node_count c.args.index.now.plan.contacts) c.enter.new.looks.count (omega (arith, c.enter.ensures.looks, c.begin.ensures.looks))
 
 pub returns-in_default-clause-least : goal.returns-in_default-clause-least
@@ -71,6 +76,19 @@ answer-requires-clause-many g c =
     let found = rw (c.plan-plan.ensures, c.in-Some.is) at c.in_ok-standing.ensures.some in
     let both : IsTask task × IsBehind task prefix = found c.args.part.excluded.now in
     omega (arith, facts.within, c.max_hops.ensures.limits.hops.1, c.min.ensures, c.max_hops.ensures.value)
+
+pub answer-requires-clause-arrivals : goal.answer-requires-clause-arrivals
+answer-requires-clause-arrivals g c =
+    let p = c.args.index.now in
+    let r = c.args.request.now in
+    let task : SearchTask = task_of p r c.enter.new.shut c.args.part.excluded.now c.in-Some.standing.node c.in-Some.standing.at c.in-Some.goal in
+    let found = rw (c.plan-plan.ensures, c.in-Some.is) at c.in_ok-standing.ensures.some in
+    let both : IsTask task × IsBehind task c.args.part.prefix.now = found c.args.part.excluded.now in
+    let cleared = c.clear.ensures.items in
+    let at : c.at.result ≡ task.at = c.at.ensures ∙ ap (λ (t : SearchTask). t.at) c.new-task.ensures in
+    let n_is : c.nodes-2.result ≡ length task.shut = omega (arith, both.0.as_many, (rw c.plan-plan.ensures at c.nodes-2.ensures.table)) in
+    let filled : c.resize.new.self.items ≡ replicate c.nodes-2.result task.at = search rules in
+    rw (c.new-task.ensures, c.deref.ensures.value, filled) (arrivals_since task both.0 c.nodes-2.result n_is)
 
 pub returns-clause-least : goal.returns-clause-least
 returns-clause-least g c =

@@ -1,5 +1,5 @@
-use Rattle.std.proofs.Common.{◌≡◌, ◌<◌, ◌≤◌, inl, inr, false, slice_index, slice_index_or, sym, ◌∙◌, ap, arith}
-use Rattle.std.proofs.lemmas.Bool.{cases_lt, both_ways}
+use Rattle.std.proofs.Common.{◌≡◌, inl, inr, slice_index, sym, ◌∙◌, arith}
+use Rattle.std.proofs.lemmas.Bool.{cases_lt}
 use Rattle.sabr_search.proofs.Between.{read_at}
 use Rattle.sabr_search.proofs.OverLinks.{ruled_out}
 use Rattle.sabr_search.proofs.layers.Layers.is_told.Goals as goal
@@ -18,6 +18,6 @@ returns g c = λ told to passes n t w b link has s less. (
       elim (cases_lt t (slice_index c.args.self.now.late.items c.args.head.node)) [
         | inl before ↦ before
         | inr behind ↦
-            absurd (omega (arith, less, ruled_out c.args.task.now c.requires.task c.args.head.node to passes link.0 c.args.head.bounds link.1 c.max-at.result c.args.before (c.rules_out.ensures.late told) n t w b has (omega (arith, behind, soon, latest, c.soonest_at.ensures, c.max-at.ensures)) s))
+            absurd (omega (arith, less, ruled_out c.args.aim.now.task.now c.requires.task c.args.head.node to passes link.0 c.args.head.bounds link.1 c.max-at.result c.args.before (c.rules_out.ensures.late told) n t w b has (omega (arith, behind, soon, latest, c.max-at.ensures)) s))
       ]),
 )

@@ -21,7 +21,7 @@ least_over-least-requires-clause-few g c =
     omega (arith, so_far.placed _ link.here, link.few, so_far.links.few, c.requires.few)
 
 pub deadline-before-requires-clause-node : goal.deadline-before-requires-clause-node
-deadline-before-requires-clause-node g c = (link_by_place _ _ _ _ c.loop-link.invariant.links _ c.loop-link-test.true).receiver
+deadline-before-requires-clause-node g c = omega (arith, c.requires.many, (link_by_place _ _ _ _ c.loop-link.invariant.links _ c.loop-link-test.true).receiver)
 
 pub loop-link-preserved : goal.loop-link-preserved
 loop-link-preserved g c =
@@ -38,8 +38,7 @@ loop-link-preserved g c =
       chosen = elim over.sound [
         | inl same ↦ rw same so_far.chosen
         | inr found ↦
-            chosen_from task c.requires.task c.args.best c.args.hop own.bounds.items own.place.items own.reached.items c.requires.timed c.requires.later c.args.from.node c.args.from.at l.receiver c.deadline-before.result
-            (λ b less. (c.deadline-before.ensures b).0 less) c.least_over-least.result found
+            chosen_from task own.ends.items own.reached.items c.args.hops c.requires.open c.args.from.node c.args.from.at l.receiver c.deadline-before.result (λ b less. (c.deadline-before.ensures b).0 less) c.least_over-least.result found
       ];
       least = λ j x n w b less at has s admits. elim (last_or_before j c.loop-link.link-index less) [
         | inl before ↦ over.lower n (so_far.least j x n w b before at has s admits)
@@ -58,7 +57,7 @@ returns-clause-some g c =
     let own = c.args.self.now in
     let task = c.args.task.now in
     let t = c.args.from.at in
-    least_found task c.args.best own.bounds.items own.reached.items c.args.hop c.args.from.node t c.loop-link.least c.loop-link.invariant.chosen
+    least_found task own.ends.items own.reached.items c.args.hops c.args.from.node t c.loop-link.least c.loop-link.invariant.chosen
     (λ n w b s admits.
     (let on = c.loop-link.invariant.links.whole n t w b s in
     c.loop-link.invariant.least on.0 on.1 n w b (omega (arith, slice_get_within c.args.links.links.now on.0 on.1 on.2, c.loop-link-test.false)) on.2 on.3 s admits))
@@ -68,7 +67,7 @@ returns-clause-none g c =
     let own = c.args.self.now in
     let task = c.args.task.now in
     let t = c.args.from.at in
-    least_missing task c.args.best own.bounds.items own.reached.items c.args.hop c.args.from.node t c.loop-link.least
+    least_missing task own.ends.items own.reached.items c.args.hops c.args.from.node t c.loop-link.least
     (λ n w b s admits.
     (let on = c.loop-link.invariant.links.whole n t w b s in
     c.loop-link.invariant.least on.0 on.1 n w b (omega (arith, slice_get_within c.args.links.links.now on.0 on.1 on.2, c.loop-link-test.false)) on.2 on.3 s admits))

@@ -2,33 +2,24 @@ use Rattle.std.proofs.Common.{◌≡◌, ◌≤◌, ◌+◌, ◌*◌, ◌++◌, 
 use Rattle.std.proofs.Math.Nat.{mul-le-mul_right}
 use Rattle.sabr_search.specs.Made.{AreLayers}
 use Rattle.sabr_search.proofs.Between.{read_at}
-use Rattle.sabr_search.proofs.MadeLayers.{layers_next, least_within, least_of_all, sources_of, index_before}
+use Rattle.sabr_search.proofs.MadeLayers.{layers_next, best_within, least_within, least_of_all, sources_of, index_before}
 use Rattle.sabr_search.proofs.layers.Layers.make.Goals as goal
 use Rattle.sabr_search.proofs.layers.Layers.make.Goals.{then-delivery-best, else-delivery-best}
 
 pub next_layer-requires-clause-sources : goal.next_layer-requires-clause-sources
 next_layer-requires-clause-sources g c = sources_of c.args.task.now c.requires.task c.args.limits.ceiling c.loop-hop.hop _ _ _ _ _ c.loop-hop.invariant.layers
 
-pub returns-then-best-limits-clause-layers : goal.returns-then-best-limits-clause-layers
-returns-then-best-limits-clause-layers g c =
+pub returns-then-best-limits-clause-best : goal.returns-then-best-limits-clause-best
+returns-then-best-limits-clause-best g c =
     let many : c.len-end.result ≡ length c.next_layer.new.self.reached.items = omega (arith, c.len-end.ensures, c.next_layer.new.self.reached.ok.0) in
-    let bounds : c.push.new.self.items ≡ c.loop-hop.self.bounds.items ++ length c.next_layer.new.self.reached.items ∷ [] = rw (c.in_ok-push.ensures.items, c.next_layer.ensures.bounds, many) refl in (
-      c.loop-hop.hop + 1,
-      layers_next c.args.task.now c.requires.task c.args.limits.ceiling c.loop-hop.hop _ _ _ _ c.loop-hop.best c.loop-hop.invariant.layers _ _ _ _ c.in_ok-delivery.delivery c.in_ok-delivery.ensures.lowered c.in_ok-delivery.ensures.known bounds c.if-delivery-best.best
-          (elim c.if-delivery-best.branch [ then-delivery-best w ↦ inl (w.if-delivery-best.true, w.best-is) | else-delivery-best w ↦ inr (w.if-delivery-best.false, w.best-is) ]),
-    )
+    let bounds : c.push.new.self.items ≡ c.loop-hop.self.bounds.items ++ length c.next_layer.new.self.reached.items ∷ [] = rw (c.in_ok-push.ensures.items, c.next_layer.ensures.bounds, many) refl in
+    let made : AreLayers c.args.task.now c.args.limits.ceiling (c.loop-hop.hop + 1) c.push.new.self.items c.next_layer.new.self.arrival.items c.next_layer.new.self.place.items c.next_layer.new.self.reached.items c.if-delivery-best.best =
+    layers_next c.args.task.now c.requires.task c.args.limits.ceiling c.loop-hop.hop _ _ _ _ c.loop-hop.best c.loop-hop.invariant.layers _ _ _ _ c.in_ok-delivery.delivery c.in_ok-delivery.ensures.lowered c.in_ok-delivery.ensures.known bounds c.if-delivery-best.best
+    (elim c.if-delivery-best.branch [ then-delivery-best w ↦ inl (w.if-delivery-best.true, w.best-is) | else-delivery-best w ↦ inr (w.if-delivery-best.false, w.best-is) ]) in
+    best_within c.args.task.now c.args.limits.ceiling (c.loop-hop.hop + 1) _ _ _ _ _ made c.args.limits.hops (omega arith) (λ ns e le way. omega (arith, c.requires.lower ns e way, c.if-best-limits.true))
 
-pub returns-then-end-begin-clause-layers : goal.returns-then-end-begin-clause-layers
-returns-then-end-begin-clause-layers g c =
-    let many : c.len-end.result ≡ length c.next_layer.new.self.reached.items = omega (arith, c.len-end.ensures, c.next_layer.new.self.reached.ok.0) in
-    let bounds : c.push.new.self.items ≡ c.loop-hop.self.bounds.items ++ length c.next_layer.new.self.reached.items ∷ [] = rw (c.in_ok-push.ensures.items, c.next_layer.ensures.bounds, many) refl in (
-      c.loop-hop.hop + 1,
-      layers_next c.args.task.now c.requires.task c.args.limits.ceiling c.loop-hop.hop _ _ _ _ c.loop-hop.best c.loop-hop.invariant.layers _ _ _ _ c.in_ok-delivery.delivery c.in_ok-delivery.ensures.lowered c.in_ok-delivery.ensures.known bounds c.if-delivery-best.best
-          (elim c.if-delivery-best.branch [ then-delivery-best w ↦ inl (w.if-delivery-best.true, w.best-is) | else-delivery-best w ↦ inr (w.if-delivery-best.false, w.best-is) ]),
-    )
-
-pub returns-then-end-begin-clause-least : goal.returns-then-end-begin-clause-least
-returns-then-end-begin-clause-least g c =
+pub returns-then-end-begin-clause-best : goal.returns-then-end-begin-clause-best
+returns-then-end-begin-clause-best g c =
     let hop = c.loop-hop.hop in
     let many : c.len-end.result ≡ length c.next_layer.new.self.reached.items = omega (arith, c.len-end.ensures, c.next_layer.new.self.reached.ok.0) in
     let bounds : c.push.new.self.items ≡ c.loop-hop.self.bounds.items ++ length c.next_layer.new.self.reached.items ∷ [] = rw (c.in_ok-push.ensures.items, c.next_layer.ensures.bounds, many) refl in
@@ -39,7 +30,8 @@ returns-then-end-begin-clause-least g c =
     ap (λ xs. slice_index xs (hop + 1)) bounds ∙ index_before c.loop-hop.self.bounds.items (length c.next_layer.new.self.reached.items) (hop + 1) (omega (arith, c.loop-hop.invariant.layers.many)) in
     let begin : c.index-begin.result.now ≡ slice_index c.loop-hop.self.bounds.items (hop + 1) =
     read_at c.loop-hop.self.bounds.items (hop + 1) c.index-begin.result.now (omega (arith, c.loop-hop.invariant.layers.many)) (rw (← c.next_layer.ensures.bounds) c.index-begin.ensures) in
-    λ ns e le way. least_of_all c.args.task.now c.requires.task c.args.limits.ceiling (hop + 1) _ _ _ _ _ made (omega (arith, before, begin, many, c.if-end-begin.true, made.last_bound)) ns e way
+    best_within c.args.task.now c.args.limits.ceiling (hop + 1) _ _ _ _ _ made c.args.limits.hops (omega arith)
+    (λ ns e le way. least_of_all c.args.task.now c.requires.task c.args.limits.ceiling (hop + 1) _ _ _ _ _ made (omega (arith, before, begin, many, c.if-end-begin.true, made.last_bound)) ns e way)
 
 pub loop-hop-preserved : goal.loop-hop-preserved
 loop-hop-preserved g c =
@@ -52,8 +44,10 @@ loop-hop-preserved g c =
       sooner = c.if-best-limits.false;
     }
 
-pub returns-clause-least : goal.returns-clause-least
-returns-clause-least g c = λ ns e le way. least_within c.args.task.now c.requires.task c.args.limits.ceiling c.loop-hop.hop _ _ _ _ _ c.loop-hop.invariant.layers ns e (omega arith) way
+pub returns-clause-best : goal.returns-clause-best
+returns-clause-best g c =
+    let made = c.loop-hop.invariant.layers in
+    best_within c.args.task.now c.args.limits.ceiling c.loop-hop.hop _ _ _ _ _ made c.args.limits.hops (omega arith) (λ ns e le way. least_within c.args.task.now c.requires.task c.args.limits.ceiling c.loop-hop.hop _ _ _ _ _ made ns e (omega (arith, le)) way)
 
 pub next_layer-requires-clause-few : goal.next_layer-requires-clause-few
 next_layer-requires-clause-few g c =

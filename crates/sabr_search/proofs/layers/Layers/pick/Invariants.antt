@@ -1,13 +1,13 @@
 use Rattle.std.proofs.Common.{◌≡◌, ℕ, List, ◌++◌, ◌+◌, ◌*◌, ◌≤◌, ◌<◌, length}
-use Rattle.sabr_search.specs.Deadlines.{AreTimed}
+use Rattle.sabr_search.specs.Late.{AreMet}
 use Rattle.sabr_search.proofs.Front.{IsFront}
 use Rattle.sabr_search.proofs.layers.Layers.pick.Given as goal
 
 abbrev pub invariant-loop-hop : goal.invariant-loop-hop
 invariant-loop-hop g l = record {
-  counted : l.looks.count ≤ l.fn.looks.count + l.hop * length l.task.plan.contacts;
+  counted : l.looks.count ≤ l.fn.looks.count + l.hop * length l.aim.task.now.plan.contacts;
   limit : l.looks.count ≤ l.most;
-  timed : AreTimed l.task l.best 1 l.self.bounds.items l.self.place.items l.self.reached.items;
-  node : l.from.node < length l.task.table;
-  chosen : (s : List ℕ) × (l.contacts.items ≡ l.prefix ++ s) × IsFront l.task l.best l.hop s l.from.node l.from.at;
+  met : AreMet l.aim.task.now l.aim.since.now l.aim.delivery l.left l.self.ends.items l.self.place.items l.self.reached.items;
+  node : l.from.node < length l.aim.task.now.table;
+  chosen : (s : List ℕ) × (l.contacts.items ≡ l.prefix ++ s) × IsFront l.aim.task.now (l.left + 1) l.aim.delivery l.hop s l.from.node l.from.at;
 }

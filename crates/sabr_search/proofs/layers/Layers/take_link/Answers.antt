@@ -54,7 +54,6 @@ returns-clause-lowered g c =
         placed = noted.placed;
         linked = noted.linked task.shut was.linked;
         layer = noted.layer;
-        fresh = noted.fresh;
         inside = λ p d inside. elim (noted.entries p d inside) [
           | inl old ↦ rw old.1 (was.inside p d old.0)
           | inr here ↦ omega (arith, here.0, was.flags, within)

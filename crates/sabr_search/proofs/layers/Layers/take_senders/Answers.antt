@@ -1,7 +1,10 @@
-use Rattle.std.proofs.Common.{◌≡◌, ◌+◌, inl, inr, slice_get, slice_index, sym, ap, ◌∙◌, arith}
+use Rattle.std.proofs.Common.{◌≡◌, ◌+◌, inl, inr, length, slice_get, slice_index, sym, ap, ◌∙◌, arith}
+use Rattle.sabr_index.specs.Links.{SentLink}
 use Rattle.std.proofs.lemmas.Option.{slice_get_within}
 use Rattle.sabr_search.proofs.Forward.{last_or_before}
 use Rattle.sabr_search.proofs.LateLists.{in_time_kept, told_rises}
+use Rattle.sabr_search.proofs.Linking.{passes_within}
+use Rattle.sabr_search.proofs.StepLists.{sum_taken_le}
 use Rattle.sabr_search.proofs.layers.Layers.take_senders.Goals as goal
 use Rattle.sabr_search.proofs.Bridge.{same_some}
 
@@ -28,7 +31,8 @@ loop-place-preserved-then-is_told g c =
     let link = c.senders-senders.ensures.each c.loop-place.place (record { sender = c.head-head.result.node; passes = here.0 }) here.1 in
     record {
       ends = so_far.ends;
-      counted = so_far.counted;
+      limit = so_far.limit;
+      counted = omega (arith, so_far.counted, (passes_within c.args.aim.now.task.now c.args.to.node c.senders-senders.result c.senders-senders.ensures c.loop-place.place _ here.1).0);
       lists = so_far.lists;
       kept = so_far.kept;
       rises = so_far.rises;
@@ -42,22 +46,43 @@ loop-place-preserved-then-is_told g c =
 
 pub loop-place-preserved : goal.loop-place-preserved
 loop-place-preserved g c =
-    let task = c.args.task.now in
+    let task = c.args.aim.now.task.now in
     let so_far = c.loop-place.invariant in
     let one = c.in_ok-met.ensures in
     record {
       ends = c.take_sender.ensures.ends ∙ so_far.ends;
-      counted = omega (arith, so_far.counted, c.take_sender.ensures.looks, c.if-from-most.false);
+      limit = omega (arith, so_far.limit, c.take_sender.ensures.looks, c.if-from-most.false);
+      counted = omega (arith, so_far.counted, c.take_sender.ensures.looks, (passes_within task c.args.to.node c.senders-senders.result c.senders-senders.ensures c.loop-place.place _ c.at-from.ensures.link).0);
       lists = rw so_far.ends at one.lists;
       kept = rw so_far.ends at one.kept ∙ so_far.kept;
       rises = λ k. omega (arith, so_far.rises k, one.rises k);
       told = λ j s n t w b less at has step by. elim (last_or_before j c.loop-place.place less) [
-        | inl before ↦ told_rises task c.args.arrival.now c.args.delivery _ _ s.sender t one.rises (so_far.told j s n t w b before at has step by)
+        | inl before ↦ told_rises task c.args.aim.now.since.now _ _ s.sender t one.rises (so_far.told j s n t w b before at has step by)
         | inr same ↦
             (let is : s ≡ record { sender = c.at-from.result.node; passes = c.at-from.result.passes.now } = same_some (sym at ∙ ap (slice_get c.senders-senders.result) same ∙ c.at-from.ensures.link) in
             rw is (one.told c.if-met.false n t w b (rw is at has) (rw is at step) by))
       ];
     }
+
+pub returns-then-from-most-clause-none : goal.returns-then-from-most-clause-none
+returns-then-from-most-clause-none g c =
+    omega (arith, c.if-from-most.true, c.loop-place.invariant.counted, (passes_within c.args.aim.now.task.now c.args.to.node c.senders-senders.result c.senders-senders.ensures c.loop-place.place _ c.at-from.ensures.link).1)
+
+pub returns-then-from-most-clause-counted : goal.returns-then-from-most-clause-counted
+returns-then-from-most-clause-counted g c =
+    omega (arith, c.loop-place.invariant.counted, (passes_within c.args.aim.now.task.now c.args.to.node c.senders-senders.result c.senders-senders.ensures c.loop-place.place _ c.at-from.ensures.link).1)
+
+pub returns-in_err-met-clause-counted : goal.returns-in_err-met-clause-counted
+returns-in_err-met-clause-counted g c =
+    omega (arith, c.take_sender.ensures.looks, c.loop-place.invariant.counted, (passes_within c.args.aim.now.task.now c.args.to.node c.senders-senders.result c.senders-senders.ensures c.loop-place.place _ c.at-from.ensures.link).1)
+
+pub returns-then-met-clause-counted : goal.returns-then-met-clause-counted
+returns-then-met-clause-counted g c =
+    omega (arith, c.take_sender.ensures.looks, c.loop-place.invariant.counted, (passes_within c.args.aim.now.task.now c.args.to.node c.senders-senders.result c.senders-senders.ensures c.loop-place.place _ c.at-from.ensures.link).1)
+
+pub returns-clause-counted : goal.returns-clause-counted
+returns-clause-counted g c =
+    omega (arith, c.loop-place.invariant.counted, sum_taken_le (λ (x : SentLink). length x.passes) c.senders-senders.result c.loop-place.place, c.senders-senders.ensures.few)
 
 pub returns-clause-told : goal.returns-clause-told
 returns-clause-told g c = λ same n u t b step by.

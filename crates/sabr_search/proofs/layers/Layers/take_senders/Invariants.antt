@@ -1,4 +1,5 @@
-use Rattle.std.proofs.Common.{◌≡◌, ℕ, ◌+◌, ◌<◌, ◌≤◌, Some, take, slice_get, slice_index}
+use Rattle.std.proofs.Common.{◌≡◌, ℕ, ◌+◌, ◌<◌, ◌≤◌, Some, length, take, slice_get, slice_index}
+use Rattle.std.specs.List.{sum_by}
 use Rattle.sabr_index.specs.Links.{SentLink}
 use Rattle.sabr_search.specs.Task.{Takes}
 use Rattle.sabr_search.specs.Linked.{HasNumber}
@@ -8,9 +9,10 @@ use Rattle.sabr_search.proofs.layers.Layers.take_senders.Given as goal
 abbrev pub invariant-loop-place : goal.invariant-loop-place
 invariant-loop-place g l = record {
   ends : l.self.ends ≡ l.fn.self.ends;
-  counted : l.looks.count ≤ l.most;
-  lists : AreLate l.task l.arrival l.delivery (slice_index l.fn.self.ends.items l.left) (slice_index l.fn.self.ends.items (l.left + 1)) l.self.late.items l.self.place.items l.self.reached.items;
+  limit : l.looks.count ≤ l.most;
+  counted : l.looks.count ≤ l.fn.looks.count + sum_by (λ s. length s.passes) (take l.place l.senders);
+  lists : AreLate l.aim.task.now l.aim.since.now (slice_index l.fn.self.ends.items l.left) (slice_index l.fn.self.ends.items (l.left + 1)) l.self.late.items l.self.place.items l.self.reached.items;
   kept : take (slice_index l.fn.self.ends.items (l.left + 1)) l.self.reached.items ≡ take (slice_index l.fn.self.ends.items (l.left + 1)) l.fn.self.reached.items;
   rises : (k : ℕ) → slice_index l.fn.self.late.items k ≤ slice_index l.self.late.items k;
-  told : (j : ℕ) (s : SentLink) (n t w b : ℕ) → j < l.place → slice_get l.senders j ≡ Some s → HasNumber s.passes n → Takes l.task n s.sender t w b → b < l.to.deadline → IsToldLate l.task l.arrival l.delivery l.self.late.items s.sender t;
+  told : (j : ℕ) (s : SentLink) (n t w b : ℕ) → j < l.place → slice_get l.senders j ≡ Some s → HasNumber s.passes n → Takes l.aim.task.now n s.sender t w b → b < l.to.deadline → IsToldLate l.aim.task.now l.aim.since.now l.self.late.items s.sender t;
 }

@@ -1,6 +1,6 @@
 use Rattle.std.proofs.Common.{◌+◌, ◌-◌, ◌≤◌, length}
 use Rattle.sabr_search.specs.Settling.{AreSettled, sent_by_settled}
-use Rattle.sabr_search.proofs.settling.Settling.run.Given as goal
+use Rattle.sabr_search.proofs.settling.Settling.settle_all.Given as goal
 
 abbrev pub invariant-loop-event : goal.invariant-loop-event
 invariant-loop-event g l = record {

@@ -3,7 +3,7 @@ use Rattle.sabr_search.proofs.Prefixes.{prefix_facts}
 use Rattle.sabr_search.proofs.Law.{contacts_few, prefix_few}
 use Rattle.sabr_search.proofs.FirstLimits.{answers_are_least}
 use Rattle.sabr_search.proofs.Beside.{answered_longer, picks_within, told_least, told_bound, told_cut}
-use Rattle.sabr_search.proofs.settled.least_beside.Goals as goal
+use Rattle.sabr_search.proofs.settled.Search.least_beside.Goals as goal
 
 pub overflow_sub-left : goal.overflow_sub-left
 overflow_sub-left g c =

@@ -4,7 +4,7 @@ use Rattle.sabr_search.proofs.Prefixes.{prefix_facts}
 use Rattle.sabr_search.proofs.Law.{contacts_few}
 use Rattle.sabr_search.proofs.KeptAnswers.{found_answers}
 use Rattle.sabr_search.proofs.Beside.{told_sizes, told_longer, picks_within, picks_cut, told_bound, told_cut}
-use Rattle.sabr_search.proofs.settled.least_searched.Goals as goal
+use Rattle.sabr_search.proofs.settled.Search.least_searched.Goals as goal
 
 pub follow-requires-clause-few : goal.follow-requires-clause-few
 follow-requires-clause-few g c = omega (arith, c.requires.few, c.two_passes-most.ensures.value)
