@@ -6,7 +6,7 @@ use Rattle.sabr_model.specs.Asking.{unlimited}
 use Rattle.sabr_frontier.specs.State.{PartState}
 use Rattle.sabr_frontier.specs.Session.{Seen}
 use Rattle.sabr_frontier.specs.Loading.{Loaded, state_with}
-use Rattle.sabr_session.specs.SessionRead.{Said}
+use Rattle.sabr_session.specs.SessionRead.{Said, nothing_said}
 
 -- the plan; how often the finder was called; whether there is a request; the request, and the parts so far
 pub record Staged : Type 0 where
@@ -31,6 +31,10 @@ IsStage plan (Some finder) (Some l) = ⊥
 -- what the first six lines say except for the request, and what the stage has of the others
 abbrev pub said_with : Said → Staged → Said
 said_with s t = record s { request = t.request; parts = t.parts }
+
+-- the request and the parts that a loader has
+abbrev pub said_to : Loaded → Said
+said_to l = record nothing_said { request = l.request; parts = l.parts }
 
 -- the session of the parts, with this count of routes and this last one
 abbrev pub session_of : Staged → ℕ → List ℕ → Seen

@@ -8,7 +8,6 @@ ghost use Rattle.sabr_session.specs.SessionStage.{said_with};
 
 use crate::reading::first_lines::is_end;
 use crate::reading::head::Head;
-use crate::reading::part_line::PartLine;
 use crate::reading::stage::Stage;
 use crate::session_fault::SessionFault;
 use sabr_frontier::{LoadFault, Session};
@@ -29,8 +28,6 @@ pub(crate) struct LinesRead<'p, B: BestOf<A>, A: Allocator + Copy> {
     head: Head<A>,
     /// The finder, or from line 3 on the loader.
     stage: Stage<'p, B, A>,
-    /// Memory for the lists of a part, used for each part.
-    part: PartLine<A>,
 }
 
 impl<'p, B: BestOf<A>, A: Allocator + Copy> Model for LinesRead<'p, B, A> {
@@ -49,7 +46,6 @@ impl<'p, B: BestOf<A>, A: Allocator + Copy> Model for LinesRead<'p, B, A> {
 fn read_said<'p, B: BestOf<A>, A: Allocator + Copy>(
     head: &mut Head<A>,
     stage: &mut Stage<'p, B, A>,
-    part: &mut PartLine<A>,
     digest: &[u8; 32],
     number: u128,
     line: &[u8],
@@ -79,7 +75,7 @@ fn read_said<'p, B: BestOf<A>, A: Allocator + Copy>(
     } else if number == 6 {
         head.read_count(line)
     } else {
-        read_other(head, stage, part, number, line)
+        read_other(head, stage, number, line)
     }
 }
 
@@ -87,7 +83,6 @@ fn read_said<'p, B: BestOf<A>, A: Allocator + Copy>(
 fn read_other<'p, B: BestOf<A>, A: Allocator + Copy>(
     head: &Head<A>,
     stage: &mut Stage<'p, B, A>,
-    part: &mut PartLine<A>,
     number: u128,
     line: &[u8],
 ) -> Result<(), SessionFault>
@@ -102,7 +97,7 @@ fn read_other<'p, B: BestOf<A>, A: Allocator + Copy>(
 {
     let end = OTHER_LINES + u128::from(head.count());
     if number < end {
-        return stage.read_part(part, number, line);
+        return stage.read_part(number, line);
     }
     if number == end && is_end(line) {
         Ok(())
@@ -120,7 +115,6 @@ impl<'p, B: BestOf<A>, A: Allocator + Copy> LinesRead<'p, B, A> {
             lines: 0,
             head: Head::new(alloc),
             stage: Stage::new(alloc, plan, finder),
-            part: PartLine::new(alloc),
         }
     }
 
@@ -147,14 +141,7 @@ impl<'p, B: BestOf<A>, A: Allocator + Copy> LinesRead<'p, B, A> {
         ensures lines { OnOk result (self.new.fed.lines ≡ self.old.fed.lines + 1) }
     {
         let number = self.lines + 1;
-        read_said(
-            &mut self.head,
-            &mut self.stage,
-            &mut self.part,
-            digest,
-            number,
-            line,
-        )?;
+        read_said(&mut self.head, &mut self.stage, digest, number, line)?;
         self.lines = number;
         Ok(())
     }
@@ -169,7 +156,6 @@ impl<'p, B: BestOf<A>, A: Allocator + Copy> LinesRead<'p, B, A> {
             lines: _,
             head,
             stage,
-            part: _,
         } = self;
         match stage.into_session(head.emitted(), head.last()) {
             Ok(session) => Ok(session),

@@ -5,7 +5,7 @@ ghost use Rattle.sabr_frontier.specs.Listing.{IsState};
 ghost use Rattle.sabr_frontier.specs.Loading.{IsRefusedBy, state_with};
 ghost use Rattle.sabr_session.specs.SessionRead.{nothing_said, placed, part_said};
 ghost use Rattle.sabr_session.specs.SessionLeaving.{Leaves};
-ghost use Rattle.sabr_session.specs.SessionStage.{said_with, session_of, staged};
+ghost use Rattle.sabr_session.specs.SessionStage.{said_to, said_with, session_of, staged};
 
 use crate::reading::part_line::PartLine;
 use crate::session_fault::SessionFault;
@@ -26,6 +26,8 @@ pub(crate) struct Stage<'p, B: BestOf<A>, A: Allocator + Copy> {
     finder: Option<B>,
     /// The loader, once there is a request.
     loader: Option<Loader<'p, B, A>>,
+    /// Memory for the lists of a part, used for each part.
+    part: PartLine<A>,
 }
 
 impl<'p, B: BestOf<A>, A: Allocator + Copy> Model for Stage<'p, B, A> {
@@ -39,6 +41,24 @@ impl<'p, B: BestOf<A>, A: Allocator + Copy> Model for Stage<'p, B, A> {
     ghost invariant = { λ s. IsStage s.plan.now s.finder s.loader };
 }
 
+/// Adds the part of a line of this number.
+fn add_part<B: BestOf<A>, A: Allocator + Copy>(
+    loader: &mut Loader<'_, B, A>,
+    number: u128,
+    part: &PartLine<A>,
+) -> Result<(), SessionFault>
+    ensures value { Leaves (placed loader.old.plan.plan number (said_to loader.old) part.now) result (said_to loader.new) }
+    ensures kept { (loader.new.plan ≡ loader.old.plan) × (loader.new.calls ≡ loader.old.calls) }
+    ensures err { OnErr result (loader.new ≡ loader.old) }
+{
+    match loader.add_part(part.prefix(), part.excluded(), part.carried()) {
+        Ok(()) => Ok(()),
+        Err(LoadFault::BadOrder) => Err(SessionFault::BadLine(number)),
+        Err(LoadFault::BadRoute) => Err(SessionFault::BadRoute(number)),
+        Err(_) => Err(SessionFault::NoMemory),
+    }
+}
+
 impl<'p, B: BestOf<A>, A: Allocator + Copy> Stage<'p, B, A> {
     /// Returns a stage without a request.
     pub(crate) fn new(alloc: A, plan: &'p Plan<A>, finder: B) -> Stage<'p, B, A>
@@ -49,6 +69,7 @@ impl<'p, B: BestOf<A>, A: Allocator + Copy> Stage<'p, B, A> {
             plan,
             finder: Some(finder),
             loader: None,
+            part: PartLine::new(alloc),
         }
     }
 
@@ -62,44 +83,24 @@ impl<'p, B: BestOf<A>, A: Allocator + Copy> Stage<'p, B, A> {
         }
     }
 
-    /// Reads the line of this number into `part`, and adds that part.
-    pub(crate) fn read_part(
-        &mut self,
-        part: &mut PartLine<A>,
-        number: u128,
-        line: &[u8],
-    ) -> Result<(), SessionFault>
+    /// Reads the line of this number, and adds its part.
+    pub(crate) fn read_part(&mut self, number: u128, line: &[u8]) -> Result<(), SessionFault>
         requires request { self.old.has_request ≡ true }
         requires number { 7 ≤ number }
         ensures value { Leaves (part_said self.old.plan.plan number (said_with nothing_said self.old) line.now) result (said_with nothing_said self.new) }
         ensures kept { (self.new.plan ≡ self.old.plan) × (self.new.calls ≡ self.old.calls) × (self.new.has_request ≡ true) }
         ensures err { OnErr result (self.new ≡ self.old) }
     {
-        let Ok(found) = part.read(line) else {
+        let Ok(found) = self.part.read(line) else {
             return Err(SessionFault::NoMemory);
         };
-        if found {
-            self.add_part(number, part)
-        } else {
-            Err(SessionFault::BadLine(number))
-        }
-    }
-
-    /// Adds the part of a line of this number.
-    fn add_part(&mut self, number: u128, part: &PartLine<A>) -> Result<(), SessionFault>
-        requires { self.old.has_request ≡ true }
-        ensures value { Leaves (placed self.old.plan.plan number (said_with nothing_said self.old) part.now) result (said_with nothing_said self.new) }
-        ensures kept { (self.new.plan ≡ self.old.plan) × (self.new.calls ≡ self.old.calls) × (self.new.has_request ≡ true) }
-        ensures err { OnErr result (self.new ≡ self.old) }
-    {
         let Some(loader) = &mut self.loader else {
             return Err(SessionFault::NoMemory);
         };
-        match loader.add_part(part.prefix(), part.excluded(), part.carried()) {
-            Ok(()) => Ok(()),
-            Err(LoadFault::BadOrder) => Err(SessionFault::BadLine(number)),
-            Err(LoadFault::BadRoute) => Err(SessionFault::BadRoute(number)),
-            Err(_) => Err(SessionFault::NoMemory),
+        if found {
+            add_part(loader, number, &self.part)
+        } else {
+            Err(SessionFault::BadLine(number))
         }
     }
 
@@ -119,6 +120,7 @@ impl<'p, B: BestOf<A>, A: Allocator + Copy> Stage<'p, B, A> {
             plan: _,
             finder: _,
             loader,
+            part: _,
         } = self;
         match loader {
             Some(loader) => loader.finish(emitted, last),
