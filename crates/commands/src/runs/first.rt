@@ -12,7 +12,7 @@ ghost use Rattle.commands.specs.runs.SessionRuns.{WritesFirstPage};
 
 use crate::failure::Failure;
 use crate::runs::ending::tell_end;
-use crate::runs::pages::write_page;
+use crate::runs::pages::{PageWriters, write_page};
 use crate::status::Status;
 use sabr_frontier::Session;
 use sabr_model::{Read, Request, Write};
@@ -26,15 +26,14 @@ fn write_first<P: Read, O: Write, S: Write, A: Allocator + Copy>(
     plan: &mut P,
     request: Request,
     count: u32,
-    out: &mut O,
-    keep: bool,
-    session: &mut S,
+    to: PageWriters<'_, O, S>,
 ) -> Result<(), Failure>
     requires { count ≤ most_routes }
     ensures { (planned : Result TabledPlan PlanFault)
         × ReadsPlan (P.input plan.old) planned (P.input plan.new)
-        × WritesFirstPage planned request keep count result (O.output out.old) (O.output out.new) (S.output session.old) (S.output session.new) }
+        × WritesFirstPage planned request to.entry.keep count result (O.output to.entry.out.now) (O.output to.exit.0.now) (S.output to.entry.session.now) (S.output to.exit.1.0.now) }
 {
+    let PageWriters { out, session, keep } = to;
     let plan = read_plan(alloc, plan)?;
     plan.tell_rules();
     let listing = Session::start(alloc, &plan, request, Settled::new(alloc))?;
@@ -68,6 +67,7 @@ pub fn run_first<P: Read, O: Write, S: Write, E: Write, A: Allocator + Copy>(
         × TellsEnd end (E.output err.old) (E.output err.new)
         × (result ≡ status_at end)) }
 {
-    let end = write_first(alloc, plan, request, count, out, keep, session);
+    let to = PageWriters { out, session, keep };
+    let end = write_first(alloc, plan, request, count, to);
     tell_end(end, err)
 }

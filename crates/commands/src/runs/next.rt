@@ -14,7 +14,7 @@ ghost use Rattle.commands.specs.runs.SessionRuns.{ReadsOldSession, WritesNextPag
 
 use crate::failure::Failure;
 use crate::runs::ending::tell_end;
-use crate::runs::pages::write_page;
+use crate::runs::pages::{PageWriters, write_page};
 use crate::status::Status;
 use sabr_model::{Read, Write};
 use sabr_plan::{digest, read_plan};
@@ -28,16 +28,15 @@ fn write_next<P: Read, I: Read, O: Write, S: Write, A: Allocator + Copy>(
     plan: &mut P,
     old: &mut I,
     count: u32,
-    out: &mut O,
-    keep: bool,
-    session: &mut S,
+    to: PageWriters<'_, O, S>,
 ) -> Result<(), Failure>
     requires { count ≤ most_routes }
     ensures { (planned : Result TabledPlan PlanFault) × ((told : Result Seen SessionFault)
         × ReadsPlan (P.input plan.old) planned (P.input plan.new)
         × ReadsOldSession planned (I.input old.old) told (I.input old.new)
-        × WritesNextPage planned (place_of told) keep count result (O.output out.old) (O.output out.new) (S.output session.old) (S.output session.new)) }
+        × WritesNextPage planned (place_of told) to.entry.keep count result (O.output to.entry.out.now) (O.output to.exit.0.now) (S.output to.entry.session.now) (S.output to.exit.1.0.now)) }
 {
+    let PageWriters { out, session, keep } = to;
     let plan = read_plan(alloc, plan)?;
     let digest = digest(&plan);
     let listing = read_session(alloc, old, &plan, &digest, Settled::new(alloc))?;
@@ -73,6 +72,7 @@ pub fn run_next<P: Read, I: Read, O: Write, S: Write, E: Write, A: Allocator + C
         × TellsEnd end (E.output err.old) (E.output err.new)
         × (result ≡ status_at end))) }
 {
-    let end = write_next(alloc, plan, old, count, out, keep, session);
+    let to = PageWriters { out, session, keep };
+    let end = write_next(alloc, plan, old, count, to);
     tell_end(end, err)
 }

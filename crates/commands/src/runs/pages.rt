@@ -15,6 +15,18 @@ use sabr_search::BestOf;
 use sabr_session::{write_report, write_session};
 use std::alloc::Allocator;
 
+/// The writers of a page. A clause names them at a call's end by their places: `exit.0` for `out`, and `exit.1.0` for
+/// `session`.
+#[derive(Drop)]
+pub struct PageWriters<'w, O, S> {
+    /// For the report.
+    pub out: &'w mut O,
+    /// For the session after the page.
+    pub session: &'w mut S,
+    /// Whether that is kept.
+    pub keep: bool,
+}
+
 /// Writes and flushes the report of a page.
 fn send_report<O: Write, A: Allocator + Copy>(
     routes: &[Route<A>],

@@ -1,6 +1,6 @@
 //! The lines of hops without a fault.
 
-ghost use Rattle.std.specs.Prelude.{◌≡◌, ◌≤◌, ◌<◌, ◌^◌, ◌+◌, ◌++◌, [], ◌∷◌, Some, IfOk, IsTrue, length};
+ghost use Rattle.std.specs.Prelude.{◌≡◌, ◌≤◌, ◌<◌, ◌^◌, ◌+◌, ◌++◌, [], ◌∷◌, Some, IsTrue, length};
 ghost use Rattle.sabr_model.specs.Plan.{IsPlan};
 ghost use Rattle.sabr_model.specs.Asking.{IsRequest};
 ghost use Rattle.sabr_model.specs.Arrival.{arrival_after};
@@ -15,26 +15,62 @@ use sabr_plan::time_text;
 use sabr_session::{TextBuffer, put_pieces};
 use std::alloc::Allocator;
 
-/// Puts the line of a hop. Times are seconds since 1970-01-01T00:00:00Z.
-fn put_hop_line<W: Write>(
-    text: &mut TextBuffer<'_, W>,
+/// A hop without a fault. Its times are seconds since 1970-01-01T00:00:00Z.
+#[derive(Drop)]
+struct Hop<'p> {
+    /// Its place in the list, from 1.
     place: usize,
-    contact: &Contact,
+    contact: &'p Contact,
     sent: u64,
     arrived: u64,
-) -> Result<(), WriteFault>
-    requires { (sent ≤ last_spelled) × (arrived ≤ last_spelled) }
-    ensures { Puts W.output text.old (hop_line place contact.now sent arrived) result text.new }
+}
+
+/// Returns the hop over the contact of this number, which follows `front`, by which the bundle arrives at `at`.
+fn hop_after<'p, A: Allocator + Copy>(
+    plan: &'p Plan<A>,
+    request: &Request,
+    front: &[u32],
+    at: u64,
+    number: u32,
+) -> Hop<'p>
+    requires rules { IsPlan plan.now.plan }
+    requires limits { IsRequest request.now }
+    requires place { length front.now + 1 < 2 ^ 64 }
+    requires path { IsTrue (is_path plan.now.plan request.now (front.now ++ number ∷ [])) }
+    requires at { arrival_after plan.now.plan request.now request.now.at front.now ≡ Some at }
+    ensures line { line_after plan.now.plan request.now front.now number ≡ hop_line result.place result.contact.now result.sent result.arrived }
+    ensures times { (result.sent ≤ last_spelled) × (result.arrived ≤ last_spelled) }
+    ensures arrived { arrival_after plan.now.plan request.now request.now.at (front.now ++ number ∷ []) ≡ Some result.arrived }
 {
-    let mut hop = Buffer::new();
+    let Some(contact) = plan.contact(number) else {
+        unreachable!()
+    };
+    let Some(arrived) = arrive(plan, request, at, contact) else {
+        unreachable!()
+    };
+    Hop {
+        place: front.len() + 1,
+        contact,
+        sent: at.max(contact.start),
+        arrived,
+    }
+}
+
+/// Puts the line of a hop.
+fn put_hop<W: Write>(text: &mut TextBuffer<'_, W>, hop: &Hop<'_>) -> Result<(), WriteFault>
+    requires { (hop.now.sent ≤ last_spelled) × (hop.now.arrived ≤ last_spelled) }
+    ensures { Puts W.output text.old (hop_line hop.now.place hop.now.contact.now hop.now.sent hop.now.arrived) result text.new }
+{
+    let contact = hop.contact;
+    let mut place = Buffer::new();
     let mut number = Buffer::new();
     let mut from = Buffer::new();
     let mut to = Buffer::new();
-    let sent = time_text(sent);
-    let arrived = time_text(arrived);
+    let sent = time_text(hop.sent);
+    let arrived = time_text(hop.arrived);
     let pieces: [&[u8]; 13] = [
         b"hop ",
-        hop.format(place).as_bytes(),
+        place.format(hop.place).as_bytes(),
         b" contact ",
         number.format(contact.number).as_bytes(),
         b" from ",
@@ -48,39 +84,6 @@ fn put_hop_line<W: Write>(
         b"\n",
     ];
     put_pieces(text, &pieces)
-}
-
-/// Puts the line of the contact that follows `front`, by which the bundle arrives at `at`. Returns the next arrival.
-fn put_hop<W: Write, A: Allocator + Copy>(
-    text: &mut TextBuffer<'_, W>,
-    plan: &Plan<A>,
-    request: &Request,
-    front: &[u32],
-    at: u64,
-    number: u32,
-) -> Result<u64, WriteFault>
-    requires rules { IsPlan plan.now.plan }
-    requires limits { IsRequest request.now }
-    requires place { length front.now + 1 < 2 ^ 64 }
-    requires path { IsTrue (is_path plan.now.plan request.now (front.now ++ number ∷ [])) }
-    requires at { arrival_after plan.now.plan request.now request.now.at front.now ≡ Some at }
-    ensures line { Puts W.output text.old (line_after plan.now.plan request.now front.now number) result text.new }
-    ensures arrived { IfOk result (λ t. arrival_after plan.now.plan request.now request.now.at (front.now ++ number ∷ []) ≡ Some t) }
-{
-    let Some(contact) = plan.contact(number) else {
-        unreachable!()
-    };
-    let Some(arrived) = arrive(plan, request, at, contact) else {
-        unreachable!()
-    };
-    put_hop_line(
-        text,
-        front.len() + 1,
-        contact,
-        at.max(contact.start),
-        arrived,
-    )?;
-    Ok(arrived)
 }
 
 /// Puts a line for each of these hops, which have no fault.
@@ -101,7 +104,9 @@ pub fn put_hops<W: Write, A: Allocator + Copy>(
 {
     let mut at = request.at();
     for (i, number) in hops.iter().enumerate() {
-        at = put_hop(text, plan, request, &hops[..i], at, *number)?;
+        let hop = hop_after(plan, request, &hops[..i], at, *number);
+        put_hop(text, &hop)?;
+        at = hop.arrived;
     }
     Ok(())
 }

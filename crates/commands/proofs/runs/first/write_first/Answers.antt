@@ -14,7 +14,7 @@ pub returns : goal.returns
 returns g c =
     let p = c.in_ok-plan.plan.plan in
     let r = c.args.request in
-    let keeps : is_some c.if-keep.digest ≡ c.args.keep = elim c.if-keep.branch [
+    let keeps : is_some c.if-keep.digest ≡ c.args.to.keep = elim c.if-keep.branch [
       | then-keep w ↦ ap is_some w.digest-is ∙ sym w.if-keep.true
       | else-keep w ↦ ap is_some w.digest-is ∙ sym w.if-keep.false
     ]

@@ -31,7 +31,7 @@ write_page-requires-clause-digest g c =
 pub returns : goal.returns
 returns g c =
     let over = is_over_plan _ _ _ _ (c.in_ok-listing.ensures {u = tt}).read in
-    let keeps : is_some c.if-keep.keep ≡ c.args.keep = elim c.if-keep.branch [
+    let keeps : is_some c.if-keep.keep ≡ c.args.to.keep = elim c.if-keep.branch [
       | then-keep w ↦ ap is_some w.keep-is ∙ sym w.if-keep.true
       | else-keep w ↦ ap is_some w.keep-is ∙ sym w.if-keep.false
     ]

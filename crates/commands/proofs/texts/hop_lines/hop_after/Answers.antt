@@ -1,6 +1,5 @@
 use Rattle.std.proofs.Common.{◌≡◌, ◌≤◌, sym, ap, ◌∙◌, rules, arith}
 use Rattle.std.specs.declared.option.Option.TheVariants.{Some, None}
-use Rattle.std.proofs.lemmas.Result.{err_from_is_err_and}
 use Rattle.sabr_model.specs.declared.contact.Contact.{Contact}
 use Rattle.sabr_model.specs.Plan.{contact_named, last_time}
 use Rattle.sabr_model.specs.Arrival.{arrival}
@@ -8,7 +7,7 @@ use Rattle.sabr_model.proofs.Follows.{ends_in_time}
 use Rattle.sabr_model.proofs.Paths.{arrival_after_push}
 use Rattle.commands.proofs.TextLemmas.SpelledTimes.{arrival_bound}
 use Rattle.commands.proofs.TextLemmas.Explained.{hop_of, line_after_is, sent_before_end}
-use Rattle.commands.proofs.texts.hop_lines.put_hop.Goals as goal
+use Rattle.commands.proofs.texts.hop_lines.hop_after.Goals as goal
 
 pub unreachable-requires : goal.unreachable-requires
 unreachable-requires g c =
@@ -36,8 +35,17 @@ unreachable-requires-in_default-arrive g c =
     let e : None ≡ Some hop.2.0 = sym none ∙ ap (λ x. arrival p r c.args.at x) (sym same) ∙ hop.2.1 in
     cc (e)
 
-pub put_hop_line-requires : goal.put_hop_line-requires
-put_hop_line-requires g c =
+pub returns-clause-line : goal.returns-clause-line
+returns-clause-line g c =
+    let p = c.args.plan.now.plan in
+    let r = c.args.request.now in
+    let contact : Contact = c.in-Some.contact.now in
+    let named : contact_named p c.args.number ≡ Some contact = search rules in
+    let arrives : arrival p r c.args.at contact ≡ Some c.in-Some-arrive.arrived = search rules in
+    rw c.max.ensures (line_after_is p r c.args.front.now c.args.number contact c.args.at c.in-Some-arrive.arrived named c.requires.at arrives)
+
+pub returns-clause-times : goal.returns-clause-times
+returns-clause-times g c =
     let p = c.args.plan.now.plan in
     let r = c.args.request.now in
     let contact : Contact = c.in-Some.contact.now in
@@ -47,27 +55,6 @@ put_hop_line-requires g c =
     let early = sent_before_end p r c.args.at c.in-Some-arrive.arrived contact arrives in
     let most = arrival_bound p r c.args.at c.in-Some-arrive.arrived contact c.requires.rules c.requires.limits.margin window arrives in
     (rw c.max.ensures (omega (arith, early, window)), omega (arith, most))
-
-pub returns-in_err-put_hop_line-clause-line : goal.returns-in_err-put_hop_line-clause-line
-returns-in_err-put_hop_line-clause-line g c =
-    let p = c.args.plan.now.plan in
-    let r = c.args.request.now in
-    let contact : Contact = c.in-Some.contact.now in
-    let named : contact_named p c.args.number ≡ Some contact = search rules in
-    let arrives : arrival p r c.args.at contact ≡ Some c.in-Some-arrive.arrived = search rules in
-    let failed = err_from_is_err_and c.from_residual.result c.from_residual.ensures.1 in
-    rw (failed.1, line_after_is p r c.args.front.now c.args.number contact c.args.at c.in-Some-arrive.arrived named c.requires.at arrives)
-    (rw c.max.ensures at c.in_err-put_hop_line.ensures)
-
-pub returns-clause-line : goal.returns-clause-line
-returns-clause-line g c =
-    let p = c.args.plan.now.plan in
-    let r = c.args.request.now in
-    let contact : Contact = c.in-Some.contact.now in
-    let named : contact_named p c.args.number ≡ Some contact = search rules in
-    let arrives : arrival p r c.args.at contact ≡ Some c.in-Some-arrive.arrived = search rules in
-    rw (line_after_is p r c.args.front.now c.args.number contact c.args.at c.in-Some-arrive.arrived named c.requires.at arrives)
-    (rw c.max.ensures at c.in_ok-put_hop_line.ensures)
 
 pub returns-clause-arrived : goal.returns-clause-arrived
 returns-clause-arrived g c =
