@@ -1,10 +1,10 @@
 -- The question of a search, and the steps that it may take.
-use Rattle.std.specs.Prelude.{◌≡◌, ℕ, ◌-◌, ◌^◌, ◌≤◌, ◌<◌, Bool, true, false, ◌||◌, List, ◌∷◌, length, slice_get, slice_index_or}
+use Rattle.std.specs.Prelude.{IsTrue, ◌≡◌, ℕ, ◌-◌, ◌^◌, ◌≤◌, ◌<◌, Bool, true, false, ◌||◌, List, ◌∷◌, length, slice_get, slice_index_or}
 use Rattle.std.specs.declared.option.Option.TheVariants.{Some}
 use Rattle.sabr_model.specs.declared.contact.Contact.{Contact}
 use Rattle.sabr_model.specs.Plan.{ContactPlan, TabledPlan, IsPlan, contact_named, has}
 use Rattle.sabr_model.specs.Arrival.{RouteRequest, arrival, arrival_after}
-use Rattle.sabr_model.specs.Route.{chain_end, receivers}
+use Rattle.sabr_model.specs.Route.{chain_end, receivers, is_prefix}
 
 -- the plan, the request, the nodes of the plan in their table, which of them are shut by their places there, the
 -- numbers excluded at the start, where and when the search starts, and its goal
@@ -76,3 +76,12 @@ pub record IsBehind (task : SearchTask) (prefix : List ℕ) : Type 0 where
   pub arrives : arrival_after task.plan task.request task.request.at prefix ≡ Some task.at
   pub goal_is : slice_get task.table task.goal ≡ Some task.request.destination
   pub shuts : (k x : ℕ) → slice_get task.table k ≡ Some x → slice_index_or task.shut k false ≡ is_closed task.plan task.request prefix x
+
+-- a question after a prefix: the search starts where the prefix ends, and the limit on hops is the request's
+pub record IsAsked (task : SearchTask) (prefix : List ℕ) (max_hops : ℕ) : Type 0 where
+  pub task_is : IsTask task
+  pub behind : IsBehind task prefix
+  pub fits : IsTrue (is_prefix task.plan task.request prefix)
+  pub hops : max_hops ≡ task.request.max_hops
+  pub few : max_hops < 2 ^ 32
+  pub nodes : length task.table ≤ most_nodes

@@ -1,7 +1,7 @@
 //! The least route of a part, read off a table that is kept for its delivery.
 
 ghost use Rattle.std.specs.Prelude.{◌≡◌, ◌⊎◌, ◌++◌, ℕ, List, ◌+◌, ◌-◌, ◌*◌, ◌^◌, ◌≤◌, ◌<◌, Some, IfOk, IfSome, IfNone, OnOk, OnErr, IsTrue, length, slice_get};
-ghost use Rattle.sabr_search.specs.Task.{IsTask, IsBehind, Takes, never, latest_arrival};
+ghost use Rattle.sabr_search.specs.Task.{IsTask, IsBehind, IsAsked, Takes, never, latest_arrival};
 ghost use Rattle.sabr_search.specs.Told.{hops_told};
 ghost use Rattle.sabr_search.specs.Kept.{AreSpans, IsRung, AreRungs, HavePlaces};
 ghost use Rattle.sabr_search.specs.Following.{tabled_of, ComesTo, AreFirstSteps, HasNoWay, IsNoneBefore, IsFound, IsLeastDue, IsWalked};
@@ -11,6 +11,7 @@ use crate::laying::LATEST;
 use crate::looks::Looks;
 use crate::over_link::link_passes;
 use crate::pick::{Standing, Step};
+use crate::question::Question;
 use crate::rung::Rung;
 use crate::rungs::Rungs;
 use crate::task::Task;
@@ -139,89 +140,6 @@ impl<'a, A: Allocator + Copy> Task<'a, A> {
         }
         least
     }
-
-    /// Returns the least numbers after the prefix that lead from the start to the goal by the deadline of a table, with
-    /// so many hops. None at a dead end, or if more than `most` looks might be needed.
-    fn walk(
-        &self,
-        alloc: A,
-        looks: &mut Looks,
-        most: u64,
-        rung: &Rung<A>,
-        hops: usize,
-        prefix: &[u32],
-    ) -> Result<Option<Vec<u32, A>>, NoMemory>
-        requires task { IsTask self.now }
-        requires behind { IsBehind self.now prefix.now }
-        requires few { looks.old.count ≤ most }
-        requires most { most ≤ 2 ^ 62 }
-        requires many { length prefix.now + hops < 2 ^ 32 }
-        requires rung { IsRung (tabled_of self.now) self.now.request rung.now }
-        requires early { rung.now.deadline ≤ latest_arrival }
-        ensures looks { looks.new.count ≤ most }
-        ensures some { IfOk result (λ o. IfSome o (λ v. (s : List ℕ) × (v.items ≡ prefix.now ++ s) × IsWalked self.now rung.now.deadline hops s)) }
-    {
-        let mut contacts = Vec::with_capacity(alloc, prefix.len() + hops)?;
-        contacts.extend_from_slice(prefix)?;
-        let mut from = Standing {
-            node: self.start(),
-            at: self.at(),
-        };
-        for hop in 0..hops {
-            let least = self.least_due(looks, most, rung, from, hops - 1 - hop);
-            let Some(step) = least else {
-                return Ok(None);
-            };
-            contacts.push(step.number)?;
-            from = Standing {
-                node: step.node,
-                at: step.at,
-            };
-        }
-        if from.node != self.goal() || from.at > rung.deadline {
-            return Ok(None);
-        }
-        Ok(Some(contacts))
-    }
-
-    /// Returns the least route after the prefix, if a table leads to one by its deadline and none delivers sooner.
-    fn follow_rung(
-        &self,
-        alloc: A,
-        looks: &mut Looks,
-        most: u64,
-        rung: &Rung<A>,
-        first: &[Standing],
-        prefix: &[u32],
-        max_hops: u32,
-    ) -> Result<Option<Route<A>>, NoMemory>
-        requires task { IsTask self.now }
-        requires behind { IsBehind self.now prefix.now }
-        requires few { looks.old.count ≤ most }
-        requires most { most ≤ 2 ^ 60 }
-        requires short { length prefix.now < max_hops }
-        requires rung { IsRung (tabled_of self.now) self.now.request rung.now }
-        requires inside { (k : ℕ) (s : Standing) → slice_get first.now k ≡ Some s → s.node < length self.now.table }
-        requires first { AreFirstSteps self.now first.now }
-        requires least { IsNoneBefore self.now rung.now.deadline }
-        ensures refused { OnErr result (looks.new.count ≤ most) }
-        ensures looks { IfOk result (λ o. looks.new.count ≤ most + hops_told o) }
-        ensures counted { IfOk result (λ o. hops_told o ≤ looks.new.count) }
-        ensures some { IfOk result (λ o. IfSome o (IsFound self.now prefix.now max_hops)) }
-    {
-        if rung.deadline > LATEST {
-            return Ok(None);
-        }
-        let rest = rung.least_hops(first);
-        if rest >= max_hops as usize - prefix.len() {
-            return Ok(None);
-        }
-        let walked = self.walk(alloc, looks, most, rung, rest + 1, prefix)?;
-        let Some(contacts) = walked else {
-            return Ok(None);
-        };
-        Ok(Some(self.record(looks, contacts, rung.deadline)))
-    }
 }
 
 /// Returns true if a first step is in time for a delivery by the deadline of a table.
@@ -285,46 +203,121 @@ impl<A: Allocator + Copy> Rungs<A> {
         self.floor = deadline;
     }
 
+    /// Returns the least numbers after the prefix that lead from the start to the goal by the deadline of a table, with
+    /// so many hops. None at a dead end, or if more than `most` looks might be needed.
+    fn walk(
+        &self,
+        asked: &Question<'_, '_, '_, A>,
+        looks: &mut Looks,
+        most: u64,
+        rung: &Rung<A>,
+        hops: usize,
+    ) -> Result<Option<Vec<u32, A>>, NoMemory>
+        requires asked { IsAsked asked.now.task.now asked.now.prefix.now asked.now.max_hops }
+        requires few { looks.old.count ≤ most }
+        requires most { most ≤ 2 ^ 62 }
+        requires many { length asked.now.prefix.now + hops < 2 ^ 32 }
+        requires rung { IsRung (tabled_of asked.now.task.now) asked.now.task.now.request rung.now }
+        requires early { rung.now.deadline ≤ latest_arrival }
+        ensures looks { looks.new.count ≤ most }
+        ensures some { IfOk result (λ o. IfSome o (λ v. (s : List ℕ) × (v.items ≡ asked.now.prefix.now ++ s) × IsWalked asked.now.task.now rung.now.deadline hops s)) }
+    {
+        let task = asked.task;
+        let mut contacts = Vec::with_capacity(self.alloc, asked.prefix.len() + hops)?;
+        contacts.extend_from_slice(asked.prefix)?;
+        let mut from = Standing {
+            node: task.start(),
+            at: task.at(),
+        };
+        for hop in 0..hops {
+            let least = task.least_due(looks, most, rung, from, hops - 1 - hop);
+            let Some(step) = least else {
+                return Ok(None);
+            };
+            contacts.push(step.number)?;
+            from = Standing {
+                node: step.node,
+                at: step.at,
+            };
+        }
+        if from.node != task.goal() || from.at > rung.deadline {
+            return Ok(None);
+        }
+        Ok(Some(contacts))
+    }
+
+    /// Returns the least route after the prefix, if a table leads to one by its deadline and none delivers sooner.
+    fn follow_rung(
+        &self,
+        asked: &Question<'_, '_, '_, A>,
+        looks: &mut Looks,
+        most: u64,
+        rung: &Rung<A>,
+    ) -> Result<Option<Route<A>>, NoMemory>
+        requires asked { IsAsked asked.now.task.now asked.now.prefix.now asked.now.max_hops }
+        requires few { looks.old.count ≤ most }
+        requires most { most ≤ 2 ^ 60 }
+        requires short { length asked.now.prefix.now < asked.now.max_hops }
+        requires rung { IsRung (tabled_of asked.now.task.now) asked.now.task.now.request rung.now }
+        requires inside { (k : ℕ) (s : Standing) → slice_get self.now.first.items k ≡ Some s → s.node < length asked.now.task.now.table }
+        requires first { AreFirstSteps asked.now.task.now self.now.first.items }
+        requires least { IsNoneBefore asked.now.task.now rung.now.deadline }
+        ensures refused { OnErr result (looks.new.count ≤ most) }
+        ensures looks { IfOk result (λ o. looks.new.count ≤ most + hops_told o) }
+        ensures counted { IfOk result (λ o. hops_told o ≤ looks.new.count) }
+        ensures some { IfOk result (λ o. IfSome o (IsFound asked.now.task.now asked.now.prefix.now asked.now.max_hops)) }
+    {
+        if rung.deadline > LATEST {
+            return Ok(None);
+        }
+        let rest = rung.least_hops(&self.first);
+        if rest >= asked.left() {
+            return Ok(None);
+        }
+        let walked = self.walk(asked, looks, most, rung, rest + 1)?;
+        let Some(contacts) = walked else {
+            return Ok(None);
+        };
+        Ok(Some(asked.task.record(looks, contacts, rung.deadline)))
+    }
+
     /// Returns the least route after the prefix, if none delivers before the deadline of a table: it is read off the
     /// table, or else found by a short try backward from the goal. Raises the floor.
     fn answer_at(
         &mut self,
         layers: &mut Layers<A>,
-        task: &Task<'_, A>,
+        asked: &Question<'_, '_, '_, A>,
         looks: &mut Looks,
         most: u64,
         place: usize,
-        prefix: &[u32],
-        max_hops: u32,
     ) -> Result<Option<Route<A>>, NoMemory>
-        requires task { IsTask task.now }
-        requires behind { IsBehind task.now prefix.now }
+        requires asked { IsAsked asked.now.task.now asked.now.prefix.now asked.now.max_hops }
         requires few { looks.old.count ≤ most }
         requires most { most ≤ 2 ^ 60 }
-        requires short { length prefix.now < max_hops }
-        requires kept { AreRungs (tabled_of task.now) task.now.request self.old }
+        requires short { length asked.now.prefix.now < asked.now.max_hops }
+        requires kept { AreRungs (tabled_of asked.now.task.now) asked.now.task.now.request self.old }
         requires place { place < length self.old.rungs.items }
-        requires inside { (k : ℕ) (s : Standing) → slice_get self.old.first.items k ≡ Some s → s.node < length task.now.table }
-        requires first { AreFirstSteps task.now self.old.first.items }
-        requires floor { IsNoneBefore task.now self.old.floor }
+        requires inside { (k : ℕ) (s : Standing) → slice_get self.old.first.items k ≡ Some s → s.node < length asked.now.task.now.table }
+        requires first { AreFirstSteps asked.now.task.now self.old.first.items }
+        requires floor { IsNoneBefore asked.now.task.now self.old.floor }
         ensures rungs { self.new.rungs ≡ self.old.rungs }
         ensures first { self.new.first ≡ self.old.first }
-        ensures floor { IsNoneBefore task.now self.new.floor }
-        ensures refused { OnErr result (looks.new.count ≤ most + length task.now.table * length task.now.plan.contacts) }
-        ensures looks { IfOk result (λ o. looks.new.count ≤ most + (hops_told o - length prefix.now) * length task.now.plan.contacts + hops_told o) }
+        ensures floor { IsNoneBefore asked.now.task.now self.new.floor }
+        ensures refused { OnErr result (looks.new.count ≤ most + length asked.now.task.now.table * length asked.now.task.now.plan.contacts) }
+        ensures looks { IfOk result (λ o. looks.new.count ≤ most + (hops_told o - length asked.now.prefix.now) * length asked.now.task.now.plan.contacts + hops_told o) }
         ensures counted { IfOk result (λ o. hops_told o ≤ looks.new.count) }
-        ensures some { IfOk result (λ o. IfSome o (IsFound task.now prefix.now max_hops)) }
+        ensures some { IfOk result (λ o. IfSome o (IsFound asked.now.task.now asked.now.prefix.now asked.now.max_hops)) }
     {
-        self.raise_floor(task, place);
+        self.raise_floor(asked.task, place);
         let rung = &self.rungs[place];
         if self.floor != rung.deadline {
             return Ok(None);
         }
-        let read = task.follow_rung(self.alloc, looks, most, rung, &self.first, prefix, max_hops)?;
+        let read = self.follow_rung(asked, looks, most, rung)?;
         if let Some(route) = read {
             return Ok(Some(route));
         }
-        let tried = self.try_back(layers, task, looks, most, prefix, max_hops)?;
+        let tried = self.try_back(layers, asked, looks, most)?;
         Ok(tried)
     }
 
@@ -333,32 +326,29 @@ impl<A: Allocator + Copy> Rungs<A> {
     fn answer_met(
         &mut self,
         layers: &mut Layers<A>,
-        task: &Task<'_, A>,
+        asked: &Question<'_, '_, '_, A>,
         looks: &mut Looks,
         most: u64,
-        prefix: &[u32],
-        max_hops: u32,
     ) -> Result<Option<Route<A>>, NoMemory>
-        requires task { IsTask task.now }
-        requires behind { IsBehind task.now prefix.now }
+        requires asked { IsAsked asked.now.task.now asked.now.prefix.now asked.now.max_hops }
         requires few { looks.old.count ≤ most }
         requires most { most ≤ 2 ^ 60 }
-        requires short { length prefix.now < max_hops }
-        requires kept { AreRungs (tabled_of task.now) task.now.request self.old }
-        requires inside { (k : ℕ) (s : Standing) → slice_get self.old.first.items k ≡ Some s → s.node < length task.now.table }
-        requires first { AreFirstSteps task.now self.old.first.items }
-        requires floor { IsNoneBefore task.now self.old.floor }
+        requires short { length asked.now.prefix.now < asked.now.max_hops }
+        requires kept { AreRungs (tabled_of asked.now.task.now) asked.now.task.now.request self.old }
+        requires inside { (k : ℕ) (s : Standing) → slice_get self.old.first.items k ≡ Some s → s.node < length asked.now.task.now.table }
+        requires first { AreFirstSteps asked.now.task.now self.old.first.items }
+        requires floor { IsNoneBefore asked.now.task.now self.old.floor }
         ensures rungs { self.new.rungs ≡ self.old.rungs }
-        ensures refused { OnErr result (looks.new.count ≤ most + length task.now.table * length task.now.plan.contacts) }
-        ensures looks { IfOk result (λ o. looks.new.count ≤ most + (hops_told o - length prefix.now) * length task.now.plan.contacts + hops_told o) }
+        ensures refused { OnErr result (looks.new.count ≤ most + length asked.now.task.now.table * length asked.now.task.now.plan.contacts) }
+        ensures looks { IfOk result (λ o. looks.new.count ≤ most + (hops_told o - length asked.now.prefix.now) * length asked.now.task.now.plan.contacts + hops_told o) }
         ensures counted { IfOk result (λ o. hops_told o ≤ looks.new.count) }
-        ensures some { IfOk result (λ o. IfSome o (IsFound task.now prefix.now max_hops)) }
+        ensures some { IfOk result (λ o. IfSome o (IsFound asked.now.task.now asked.now.prefix.now asked.now.max_hops)) }
     {
         let Some(place) = self.met() else {
             return Ok(None);
         };
         let deadline = self.rungs[place].deadline;
-        let read = self.answer_at(layers, task, looks, most, place, prefix, max_hops)?;
+        let read = self.answer_at(layers, asked, looks, most, place)?;
         if let Some(route) = read {
             return Ok(Some(route));
         }
@@ -368,7 +358,7 @@ impl<A: Allocator + Copy> Rungs<A> {
         let Some(next) = self.met() else {
             return Ok(None);
         };
-        let later = self.answer_at(layers, task, looks, most, next, prefix, max_hops)?;
+        let later = self.answer_at(layers, asked, looks, most, next)?;
         Ok(later)
     }
 
@@ -376,29 +366,26 @@ impl<A: Allocator + Copy> Rungs<A> {
     pub fn follow(
         &mut self,
         layers: &mut Layers<A>,
-        task: &Task<'_, A>,
+        asked: &Question<'_, '_, '_, A>,
         looks: &mut Looks,
         most: u64,
-        prefix: &[u32],
-        max_hops: u32,
     ) -> Result<Option<Option<Route<A>>>, NoMemory>
-        requires task { IsTask task.now }
-        requires behind { IsBehind task.now prefix.now }
+        requires asked { IsAsked asked.now.task.now asked.now.prefix.now asked.now.max_hops }
         requires few { looks.old.count ≤ most }
         requires most { most ≤ 2 ^ 60 }
-        requires kept { AreRungs (tabled_of task.now) task.now.request self.old }
+        requires kept { AreRungs (tabled_of asked.now.task.now) asked.now.task.now.request self.old }
         ensures kept { self.new.rungs ≡ self.old.rungs }
-        ensures refused { OnErr result (looks.new.count ≤ most + length task.now.table * length task.now.plan.contacts) }
+        ensures refused { OnErr result (looks.new.count ≤ most + length asked.now.task.now.table * length asked.now.task.now.plan.contacts) }
         ensures untold { IfOk result (λ o. IfNone o (looks.new.count ≤ most)) }
-        ensures looks { IfOk result (λ o. IfSome o (λ answer. looks.new.count ≤ most + (hops_told answer - length prefix.now) * length task.now.plan.contacts + hops_told answer)) }
+        ensures looks { IfOk result (λ o. IfSome o (λ answer. looks.new.count ≤ most + (hops_told answer - length asked.now.prefix.now) * length asked.now.task.now.plan.contacts + hops_told answer)) }
         ensures counted { IfOk result (λ o. IfSome o (λ answer. hops_told answer ≤ looks.new.count)) }
-        ensures none { IfOk result (λ o. IfSome o (λ answer. IfNone answer (HasNoWay task.now))) }
-        ensures some { IfOk result (λ o. IfSome o (λ answer. IfSome answer (IsFound task.now prefix.now max_hops))) }
+        ensures none { IfOk result (λ o. IfSome o (λ answer. IfNone answer (HasNoWay asked.now.task.now))) }
+        ensures some { IfOk result (λ o. IfSome o (λ answer. IfSome answer (IsFound asked.now.task.now asked.now.prefix.now asked.now.max_hops))) }
     {
-        if prefix.len() >= max_hops as usize || !self.pays() {
+        if asked.prefix.len() >= asked.max_hops as usize || !self.pays() {
             return Ok(None);
         }
-        let whole = task.first_steps(looks, most, &mut self.first)?;
+        let whole = asked.task.first_steps(looks, most, &mut self.first)?;
         if !whole {
             return Ok(None);
         }
@@ -407,7 +394,7 @@ impl<A: Allocator + Copy> Rungs<A> {
             return Ok(Some(None));
         }
         self.floor = 0;
-        let found = self.answer_met(layers, task, looks, most, prefix, max_hops)?;
+        let found = self.answer_met(layers, asked, looks, most)?;
         self.count_answer(found.is_some());
         let Some(route) = found else {
             return Ok(None);

@@ -23,6 +23,7 @@ mod nowhere;
 mod over_link;
 mod part;
 mod pick;
+mod question;
 mod queue;
 mod rung;
 mod rungs;

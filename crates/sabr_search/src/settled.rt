@@ -5,7 +5,7 @@ ghost use Rattle.std.specs.List.Sorted.{IsStrictlyIncreasing};
 ghost use Rattle.sabr_model.specs.Route.{is_prefix};
 ghost use Rattle.sabr_model.specs.Table.{node_count};
 ghost use Rattle.sabr_search.specs.Part.{IsLeast};
-ghost use Rattle.sabr_search.specs.Task.{IsTask, IsBehind, most_nodes};
+ghost use Rattle.sabr_search.specs.Task.{IsTask, IsBehind, IsAsked, most_nodes};
 ghost use Rattle.sabr_search.specs.Told.{hops_told, IsCut};
 ghost use Rattle.sabr_search.specs.Kept.{IsKept, AreRungs};
 ghost use Rattle.sabr_search.specs.Answers.{IsAnswered};
@@ -20,6 +20,7 @@ use crate::layers::Layers;
 use crate::limits::limits_of;
 use crate::looks::Looks;
 use crate::part::Part;
+use crate::question::Question;
 use crate::rungs::Rungs;
 use crate::settling::Settling;
 use crate::shut::Shut;
@@ -43,39 +44,36 @@ impl<A: Allocator + Copy> Search<A> {
     /// least, and layers backward find the route. Otherwise the least delivery is found by layers forward.
     fn least_route(
         &mut self,
-        task: &Task<'_, A>,
+        asked: &Question<'_, '_, '_, A>,
         looks: &mut Looks,
-        max_hops: u32,
-        prefix: &[u32],
     ) -> Result<Option<Route<A>>, NoMemory>
-        requires task { IsTask task.now }
-        requires behind { IsBehind task.now prefix.now }
-        requires fits { IsTrue (is_prefix task.now.plan task.now.request prefix.now) }
-        requires hops { max_hops ≡ task.now.request.max_hops }
-        requires nodes { length task.now.table ≤ most_nodes }
-        requires few { looks.old.count ≤ 2 * length task.now.plan.contacts }
-        ensures answered { IfOk result (IsAnswered task.now prefix.now (max_hops - length prefix.now)) }
-        ensures bound { looks.new.count ≤ (3 * length task.now.table + 1) * length task.now.plan.contacts }
+        requires asked { IsAsked asked.now.task.now asked.now.prefix.now asked.now.max_hops }
+        requires few { looks.old.count ≤ 2 * length asked.now.task.now.plan.contacts }
+        ensures answered { IfOk result (IsAnswered asked.now.task.now asked.now.prefix.now (asked.now.max_hops - length asked.now.prefix.now)) }
+        ensures bound { looks.new.count ≤ (3 * length asked.now.task.now.table + 1) * length asked.now.task.now.plan.contacts }
         ensures counted { IfOk result (λ answer. hops_told answer ≤ looks.new.count) }
-        ensures cut { IfOk result (IsCut task.now.plan max_hops prefix.now looks.new.count) }
-        ensures longer { IfOk result (λ answer. IfSome answer (λ route. length prefix.now < length route.contacts)) }
+        ensures cut { IfOk result (IsCut asked.now.task.now.plan asked.now.max_hops asked.now.prefix.now looks.new.count) }
+        ensures longer { IfOk result (λ answer. IfSome answer (λ route. length asked.now.prefix.now < length route.contacts)) }
     {
+        let task = asked.task;
         let first = self.settling.run(task, looks)?;
         if first.hops == 0 {
             return Ok(None);
         }
-        let limits = limits_of(max_hops, prefix.len(), first);
+        let limits = limits_of(asked.max_hops, asked.prefix.len(), first);
         if limits.hops != first.hops {
             return self
                 .layers
-                .answer(task, looks, prefix, limits, &self.settling.arrival);
+                .answer(task, looks, asked.prefix, limits, &self.settling.arrival);
         }
         let aim = Aim {
             task,
             since: &self.settling.arrival,
             delivery: first.delivery,
         };
-        let route = self.layers.answer_by(&aim, looks, prefix, first.hops)?;
+        let route = self
+            .layers
+            .answer_by(&aim, looks, asked.prefix, first.hops)?;
         Ok(Some(route))
     }
 
@@ -84,29 +82,26 @@ impl<A: Allocator + Copy> Search<A> {
     fn told_wide(
         &mut self,
         kept: &mut Kept<A>,
-        task: &Task<'_, A>,
+        asked: &Question<'_, '_, '_, A>,
         looks: &mut Looks,
-        prefix: &[u32],
-        left: usize,
     ) -> Result<Option<Option<Route<A>>>, NoMemory>
-        requires task { IsTask task.now }
-        requires goal { slice_get task.now.table task.now.goal ≡ Some task.now.request.destination }
-        requires nodes { length task.now.table ≤ most_nodes }
-        requires few { looks.old.count ≤ 2 * length task.now.plan.contacts }
-        requires many { length prefix.now + left < 2 ^ 32 }
-        requires kept { IsKept (tabled_of task.now) task.now.request kept.old }
-        ensures kept { IsKept (tabled_of task.now) task.now.request kept.new }
-        ensures refused { OnErr result (looks.new.count ≤ 2 * length task.now.plan.contacts) }
-        ensures untold { IfOk result (λ o. IfNone o (looks.new.count ≤ 2 * length task.now.plan.contacts)) }
-        ensures told { IfOk result (λ o. IfSome o (IsAnswered task.now prefix.now left)) }
-        ensures looks { IfOk result (λ o. IfSome o (λ answer. looks.new.count ≤ 2 * length task.now.plan.contacts + hops_told answer)) }
+        requires asked { IsAsked asked.now.task.now asked.now.prefix.now asked.now.max_hops }
+        requires few { looks.old.count ≤ 2 * length asked.now.task.now.plan.contacts }
+        requires kept { IsKept (tabled_of asked.now.task.now) asked.now.task.now.request kept.old }
+        ensures kept { IsKept (tabled_of asked.now.task.now) asked.now.task.now.request kept.new }
+        ensures refused { OnErr result (looks.new.count ≤ 2 * length asked.now.task.now.plan.contacts) }
+        ensures untold { IfOk result (λ o. IfNone o (looks.new.count ≤ 2 * length asked.now.task.now.plan.contacts)) }
+        ensures told { IfOk result (λ o. IfSome o (IsAnswered asked.now.task.now asked.now.prefix.now (asked.now.max_hops - length asked.now.prefix.now))) }
+        ensures looks { IfOk result (λ o. IfSome o (λ answer. looks.new.count ≤ 2 * length asked.now.task.now.plan.contacts + hops_told answer)) }
         ensures counted { IfOk result (λ o. IfSome o (λ answer. hops_told answer ≤ looks.new.count)) }
     {
-        if !kept.answers.takes_wide(prefix, task.excluded()) {
+        let task = asked.task;
+        if !kept.answers.takes_wide(asked.prefix, task.excluded()) {
             return Ok(None);
         }
         let most = task.two_passes();
-        shut_few(&mut kept.wide, task, prefix.len())?;
+        shut_few(&mut kept.wide, task, asked.prefix.len())?;
+        let left = asked.left();
         let question = task.with_shut(&kept.wide);
         let found = way_within(
             &mut self.settling,
@@ -120,7 +115,7 @@ impl<A: Allocator + Copy> Search<A> {
             return Ok(None);
         };
         kept.answers.keep(&question, left, way, true);
-        kept.answers.tell(task, looks, most, prefix, left)
+        kept.answers.tell(task, looks, most, asked.prefix, left)
     }
 
     /// The least route after the prefix: told by the tables that are kept, or by the answer to a wide question, or else by
@@ -128,40 +123,33 @@ impl<A: Allocator + Copy> Search<A> {
     fn least_searched(
         &mut self,
         kept: &mut Kept<A>,
-        task: &Task<'_, A>,
+        asked: &Question<'_, '_, '_, A>,
         looks: &mut Looks,
-        max_hops: u32,
-        prefix: &[u32],
     ) -> Result<Option<Route<A>>, NoMemory>
-        requires task { IsTask task.now }
-        requires behind { IsBehind task.now prefix.now }
-        requires fits { IsTrue (is_prefix task.now.plan task.now.request prefix.now) }
-        requires hops { max_hops ≡ task.now.request.max_hops }
-        requires nodes { length task.now.table ≤ most_nodes }
-        requires few { looks.old.count ≤ 2 * length task.now.plan.contacts }
-        requires kept { IsKept (tabled_of task.now) task.now.request kept.old }
-        ensures kept { IsKept (tabled_of task.now) task.now.request kept.new }
-        ensures answered { IfOk result (IsAnswered task.now prefix.now (max_hops - length prefix.now)) }
-        ensures bound { looks.new.count ≤ (3 * length task.now.table + 1) * length task.now.plan.contacts }
+        requires asked { IsAsked asked.now.task.now asked.now.prefix.now asked.now.max_hops }
+        requires few { looks.old.count ≤ 2 * length asked.now.task.now.plan.contacts }
+        requires kept { IsKept (tabled_of asked.now.task.now) asked.now.task.now.request kept.old }
+        ensures kept { IsKept (tabled_of asked.now.task.now) asked.now.task.now.request kept.new }
+        ensures answered { IfOk result (IsAnswered asked.now.task.now asked.now.prefix.now (asked.now.max_hops - length asked.now.prefix.now)) }
+        ensures bound { looks.new.count ≤ (3 * length asked.now.task.now.table + 1) * length asked.now.task.now.plan.contacts }
         ensures counted { IfOk result (λ answer. hops_told answer ≤ looks.new.count) }
-        ensures cut { IfOk result (IsCut task.now.plan max_hops prefix.now looks.new.count) }
-        ensures longer { IfOk result (λ answer. IfSome answer (λ route. length prefix.now < length route.contacts)) }
+        ensures cut { IfOk result (IsCut asked.now.task.now.plan asked.now.max_hops asked.now.prefix.now looks.new.count) }
+        ensures longer { IfOk result (λ answer. IfSome answer (λ route. length asked.now.prefix.now < length route.contacts)) }
     {
+        let task = asked.task;
         let most = task.two_passes();
-        let left = max_hops as usize - prefix.len();
-        let followed = kept
-            .rungs
-            .follow(&mut self.layers, task, looks, most, prefix, max_hops)?;
+        let left = asked.left();
+        let followed = kept.rungs.follow(&mut self.layers, asked, looks, most)?;
         if let Some(answer) = followed {
-            kept.answers.keep_after(task, prefix, left, &answer);
+            kept.answers.keep_after(task, asked.prefix, left, &answer);
             return Ok(answer);
         }
-        let wide = self.told_wide(kept, task, looks, prefix, left)?;
+        let wide = self.told_wide(kept, asked, looks)?;
         if let Some(answer) = wide {
             return Ok(answer);
         }
-        let answer = self.least_route(task, looks, max_hops, prefix)?;
-        kept.answers.keep_after(task, prefix, left, &answer);
+        let answer = self.least_route(asked, looks)?;
+        kept.answers.keep_after(task, asked.prefix, left, &answer);
         Ok(answer)
     }
 
@@ -194,7 +182,12 @@ impl<A: Allocator + Copy> Search<A> {
         if let Some(answer) = told {
             return Ok(answer);
         }
-        self.least_searched(kept, task, looks, max_hops, prefix)
+        let asked = Question {
+            task,
+            prefix,
+            max_hops,
+        };
+        self.least_searched(kept, &asked, looks)
     }
 
     /// Keeps what makes later searches with this answer shorter. It takes at most as many looks as two passes over all

@@ -1,7 +1,7 @@
 //! Short tries backward from the goal, after a table's dead end.
 
 ghost use Rattle.std.specs.Prelude.{◌≡◌, ℕ, List, ◌+◌, ◌-◌, ◌*◌, ◌^◌, ◌≤◌, ◌<◌, Some, IfOk, IfSome, OnOk, OnErr, length, slice_get};
-ghost use Rattle.sabr_search.specs.Task.{IsTask};
+ghost use Rattle.sabr_search.specs.Task.{IsTask, IsAsked};
 ghost use Rattle.sabr_search.specs.Late.{AreArrivals};
 ghost use Rattle.sabr_search.specs.Told.{hops_told};
 ghost use Rattle.sabr_search.specs.Following.{AreFirstSteps, IsNoneBefore, IsFound};
@@ -10,6 +10,7 @@ use crate::from_goal::Aim;
 use crate::layers::{Layers, NEVER};
 use crate::looks::Looks;
 use crate::pick::Standing;
+use crate::question::Question;
 use crate::rungs::Rungs;
 use crate::task::Task;
 use sabr_model::{NoMemory, Route};
@@ -51,39 +52,38 @@ impl<A: Allocator + Copy> Rungs<A> {
     pub fn try_back(
         &mut self,
         layers: &mut Layers<A>,
-        task: &Task<'_, A>,
+        asked: &Question<'_, '_, '_, A>,
         looks: &mut Looks,
         most: u64,
-        prefix: &[u32],
-        max_hops: u32,
     ) -> Result<Option<Route<A>>, NoMemory>
-        requires task { IsTask task.now }
+        requires asked { IsAsked asked.now.task.now asked.now.prefix.now asked.now.max_hops }
         requires few { looks.old.count ≤ most }
         requires most { most ≤ 2 ^ 60 }
-        requires short { length prefix.now < max_hops }
-        requires first { AreFirstSteps task.now self.old.first.items }
-        requires floor { IsNoneBefore task.now self.old.floor }
+        requires short { length asked.now.prefix.now < asked.now.max_hops }
+        requires first { AreFirstSteps asked.now.task.now self.old.first.items }
+        requires floor { IsNoneBefore asked.now.task.now self.old.floor }
         ensures rungs { self.new.rungs ≡ self.old.rungs }
         ensures first { self.new.first ≡ self.old.first }
-        ensures floor { IsNoneBefore task.now self.new.floor }
-        ensures refused { OnErr result (looks.new.count ≤ most + length task.now.table * length task.now.plan.contacts) }
-        ensures looks { IfOk result (λ o. looks.new.count ≤ most + (hops_told o - length prefix.now) * length task.now.plan.contacts + hops_told o) }
+        ensures floor { IsNoneBefore asked.now.task.now self.new.floor }
+        ensures refused { OnErr result (looks.new.count ≤ most + length asked.now.task.now.table * length asked.now.task.now.plan.contacts) }
+        ensures looks { IfOk result (λ o. looks.new.count ≤ most + (hops_told o - length asked.now.prefix.now) * length asked.now.task.now.plan.contacts + hops_told o) }
         ensures counted { IfOk result (λ o. hops_told o ≤ looks.new.count) }
-        ensures some { IfOk result (λ o. IfSome o (IsFound task.now prefix.now max_hops)) }
+        ensures some { IfOk result (λ o. IfSome o (IsFound asked.now.task.now asked.now.prefix.now asked.now.max_hops)) }
     {
         let deadline = self.floor;
         if deadline == NEVER {
             return Ok(None);
         }
+        let task = asked.task;
         self.begin_back(task)?;
         let aim = Aim {
             task,
             since: &self.since,
             delivery: deadline,
         };
-        let hops = task.shut().len().min(max_hops as usize - prefix.len());
+        let hops = task.shut().len().min(asked.left());
         let end = most.min(looks.count + TRY);
-        let found = layers.answer_back(&aim, looks, prefix, hops, end)?;
+        let found = layers.answer_back(&aim, looks, asked.prefix, hops, end)?;
         if found.is_none() && layers.have_ended() {
             self.floor = deadline + 1;
         }

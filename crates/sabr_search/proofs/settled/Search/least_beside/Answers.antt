@@ -52,3 +52,13 @@ returns-clause-least g c =
     let task = c.args.task.now in
     let facts = prefix_facts task.plan task.request c.args.prefix.now c.requires.fits in
     answers_are_least task c.requires.task c.args.prefix.now c.requires.behind facts (c.args.max_hops - length c.args.prefix.now) (omega (arith, facts.within, c.requires.hops)) c.least_searched.result c.least_searched.ensures.answered
+
+pub least_searched-requires-clause-asked : goal.least_searched-requires-clause-asked
+least_searched-requires-clause-asked g c = record {
+  task_is = c.requires.task;
+  behind = c.requires.behind;
+  fits = c.requires.fits;
+  hops = c.requires.hops;
+  few = c.ranges.max_hops.fits;
+  nodes = c.requires.nodes;
+}
