@@ -1,7 +1,7 @@
 //! How the links of each node are built.
 
 ghost use Rattle.std.specs.Prelude.{◌≡◌, ℕ, IfOk, MatchOption, length};
-ghost use Rattle.sabr_index.specs.Grouping.{AreByNode};
+ghost use Rattle.sabr_index.specs.Grouping.{AreByNode, AreStanding, numbers_of_places};
 ghost use Rattle.sabr_index.specs.Links.{AreLinksOf};
 ghost use Rattle.sabr_index.specs.Linking.{AreSent, HasNoLight, IsContactPass, IsBounded, AreBounded, ArePassesOf, AreLinked};
 
@@ -18,53 +18,54 @@ pub fn link_nodes<A: Allocator + Copy>(
     plan: &Plan<A>,
     order: &ContactOrder<A>,
 ) -> Result<Vec<NodeLinks<A>, A>, AllocError>
-    requires as_many { length order.now.numbers.items ≡ length order.now.senders }
-    requires by_node { AreByNode plan.now.plan plan.now.table order.now.numbers.items order.now.senders }
+    requires { AreByNode plan.now.plan plan.now.table order.now.places.items order.now.senders.lasts.items order.now.senders.befores.items }
     ensures linked { IfOk result (λ v. AreLinked plan.now v.items) }
     ensures as_many { IfOk result (λ v. length v.items ≡ length plan.now.table) }
 {
     let mut linked = Vec::new(alloc);
-    let mut numbers = Vec::new(alloc);
+    let mut places = Vec::new(alloc);
     let count = plan.nodes();
     linked.reserve(count)?;
     for index in 0..count {
-        numbers.clear();
-        order
-            .senders
-            .push_values(index, &order.numbers, &mut numbers)?;
-        let node = links_of_numbers(alloc, plan, &numbers)?;
+        places.clear();
+        order.senders.push_places(index, &mut places)?;
+        let node = links_at(alloc, plan, order, &places)?;
         linked.push(node)?;
     }
     Ok(linked)
 }
 
-/// Makes the links over the contacts of these numbers.
-fn links_of_numbers<A: Allocator + Copy>(
+/// Makes the links over the contacts at these places of the order.
+fn links_at<A: Allocator + Copy>(
     alloc: A,
     plan: &Plan<A>,
-    numbers: &[u32],
+    order: &ContactOrder<A>,
+    places: &[u32],
 ) -> Result<NodeLinks<A>, AllocError>
-    ensures { IfOk result (λ s. (node : ℕ) → AreSent plan.now.plan node numbers.now → AreLinksOf plan.now node s.links.items s.passes.items) }
+    requires { AreStanding plan.now.plan.contacts order.now.places.items places.now }
+    ensures { IfOk result (λ s. (node : ℕ) → AreSent plan.now.plan node (numbers_of_places plan.now.plan.contacts order.now.places.items places.now) → AreLinksOf plan.now node s.links.items s.passes.items) }
 {
-    let mut passes = passes_of(alloc, plan, numbers)?;
+    let mut passes = passes_at(alloc, plan, order, places)?;
     order_passes(&mut passes);
     let links = links_over(alloc, &passes)?;
     Ok(NodeLinks { links, passes })
 }
 
-/// Makes the passes of those contacts of these numbers that have a light time.
-fn passes_of<A: Allocator + Copy>(
+/// Makes the passes of those contacts at these places of the order that have a light time.
+fn passes_at<A: Allocator + Copy>(
     alloc: A,
     plan: &Plan<A>,
-    numbers: &[u32],
+    order: &ContactOrder<A>,
+    places: &[u32],
 ) -> Result<Vec<Pass, A>, AllocError>
-    ensures are { IfOk result (λ v. ArePassesOf plan.now numbers.now v.items) }
+    requires { AreStanding plan.now.plan.contacts order.now.places.items places.now }
+    ensures are { IfOk result (λ v. ArePassesOf plan.now (numbers_of_places plan.now.plan.contacts order.now.places.items places.now) v.items) }
     ensures bounded { IfOk result (λ v. AreBounded v.items) }
 {
     let mut passes = Vec::new(alloc);
-    passes.reserve(numbers.len())?;
-    for number in numbers {
-        if let Some(pass) = pass_of(plan, *number) {
+    passes.reserve(places.len())?;
+    for place in places {
+        if let Some(pass) = pass_of(plan, order.number_at(plan, *place)) {
             passes.push(pass)?;
         }
     }

@@ -1,14 +1,16 @@
 use Rattle.std.proofs.Common.{◌≡◌, List, length, take, drop, ◌++◌, sym, subst, ◌∙◌, arith}
 use Rattle.std.proofs.lemmas.List.{take_at}
 use Rattle.sabr_index.specs.declared.link.Pass.{Pass}
+use Rattle.sabr_index.specs.Grouping.{numbers_of_places}
 use Rattle.sabr_index.specs.Links.{AreLinksOf}
 use Rattle.sabr_index.specs.Linking.{AreOrdered, AreRows}
 use Rattle.sabr_index.proofs.LinkLemmas.{are_links}
-use Rattle.sabr_index.proofs.building.links_of_numbers.Goals as goal
+use Rattle.sabr_index.proofs.building.links_at.Goals as goal
 
 pub returns : goal.returns
 returns g c = λ node sent.
     let p = c.args.plan.now in
+    let numbers = numbers_of_places p.plan.contacts c.args.order.now.places.items c.args.places.now in
     let made = c.in_ok-passes.passes.items in
     let ready = c.order_passes.new.passes in
     let links = c.in_ok-links.links.items in
@@ -18,4 +20,4 @@ returns g c = λ node sent.
     let back : take c.in_ok-passes.passes.len (ready ++ drop (length ready) made) ≡ ready = take_at ready (drop (length ready) made) c.in_ok-passes.passes.len many in
     let rows : AreRows ready links (length ready) = subst (λ (xs : List Pass). AreRows xs links (length xs)) (c.deref.ensures.value ∙ back) c.in_ok-links.ensures in
     subst (λ (xs : List Pass). AreLinksOf p node links xs) (sym back)
-    (are_links p node c.args.numbers.now made ready links sent c.in_ok-passes.ensures.are ordered c.order_passes.ensures.in_rows rows)
+    (are_links p node numbers made ready links sent c.in_ok-passes.ensures.are ordered c.order_passes.ensures.in_rows rows)

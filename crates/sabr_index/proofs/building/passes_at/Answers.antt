@@ -1,0 +1,33 @@
+use Rattle.std.proofs.Common.{◌≡◌, ◌<◌, ◌∙◌, List, ℕ, length, get_or, sym, arith}
+use Rattle.std.proofs.lemmas.List.{get_or-map, length-map}
+use Rattle.std.proofs.lemmas.List.Elements.{All-push}
+use Rattle.sabr_index.specs.Grouping.{numbers_at, numbers_of_places}
+use Rattle.sabr_index.specs.Linking.{IsBounded}
+use Rattle.sabr_index.proofs.LinkLemmas.{passes_more, passes_skip}
+use Rattle.sabr_index.proofs.building.passes_at.Goals as goal
+use Rattle.sabr_index.proofs.building.passes_at.Goals.{in-Some+in_ok-push, in_default}
+
+pub loop-place-preserved : goal.loop-place-preserved
+loop-place-preserved g c =
+    let p = c.args.plan.now in
+    let order = c.args.order.now.places.items in
+    let places = c.args.places.now in
+    let numbers = numbers_of_places p.plan.contacts order places in
+    let i = c.loop-place.place-index in
+    let n = c.number_at.result in
+    let number : ℕ → ℕ = λ q. get_or (numbers_at p.plan.contacts order) q 0 in
+    let lt : i < length numbers = omega (arith, c.loop-place-test.true, length-map places number) in
+    let here : n ≡ get_or numbers i n = c.number_at.ensures ∙ sym (get_or-map number places i 0 n c.loop-place-test.true) in
+    let xs = c.loop-place.passes.items in
+    elim c.match-pass_of.branch [
+      | in-Some+in_ok-push w ↦
+          record {
+            are = rw (w.passes-is, w.in_ok-push.ensures.items) (passes_more p numbers i n _ xs lt here c.loop-place.invariant.are w.in-Some.ensures);
+            bounded = rw (w.passes-is, w.in_ok-push.ensures.items) (All-push IsBounded xs _ c.loop-place.invariant.bounded w.in-Some.ensures.2);
+          }
+      | in_default w ↦
+          record {
+            are = rw w.passes-is (passes_skip p numbers i n xs lt here c.loop-place.invariant.are w.in_default.ensures);
+            bounded = rw w.passes-is c.loop-place.invariant.bounded;
+          }
+    ]
