@@ -6,9 +6,9 @@ ghost use Rattle.sabr_index.specs.Links.{AreLinksOf};
 ghost use Rattle.sabr_index.specs.Linking.{AreSent, HasNoLight, IsContactPass, IsBounded, AreBounded, ArePassesOf, AreLinked};
 
 use crate::bounds::order_passes;
-use crate::link::{NodeLinks, Pass};
+use crate::link::{Link, NodeLinks, Pass};
 use crate::order::ContactOrder;
-use crate::rows::links_over;
+use crate::rows::write_links;
 use sabr_model::Plan;
 use std::alloc::{AllocError, Allocator};
 
@@ -24,30 +24,35 @@ pub fn link_nodes<A: Allocator + Copy>(
 {
     let mut linked = Vec::new(alloc);
     let mut places = Vec::new(alloc);
+    let mut links = Vec::new(alloc);
     let count = plan.nodes();
     linked.reserve(count)?;
     for index in 0..count {
         places.clear();
         order.senders.push_places(index, &mut places)?;
-        let node = links_at(alloc, plan, order, &places)?;
+        let node = links_at(alloc, plan, order, &places, &mut links)?;
         linked.push(node)?;
     }
     Ok(linked)
 }
 
-/// Makes the links over the contacts at these places of the order.
+/// Makes the links over the contacts at these places of the order. They are written into a list that is used again, and
+/// copied into one that has no more room than they take.
 fn links_at<A: Allocator + Copy>(
     alloc: A,
     plan: &Plan<A>,
     order: &ContactOrder<A>,
     places: &[u32],
+    written: &mut Vec<Link, A>,
 ) -> Result<NodeLinks<A>, AllocError>
     requires { AreStanding plan.now.plan.contacts order.now.places.items places.now }
     ensures { IfOk result (λ s. (node : ℕ) → AreSent plan.now.plan node (numbers_of_places plan.now.plan.contacts order.now.places.items places.now) → AreLinksOf plan.now node s.links.items s.passes.items) }
 {
     let mut passes = passes_at(alloc, plan, order, places)?;
     order_passes(&mut passes);
-    let links = links_over(alloc, &passes)?;
+    write_links(&passes, written)?;
+    let mut links = Vec::new(alloc);
+    links.extend_from_slice(written)?;
     Ok(NodeLinks { links, passes })
 }
 

@@ -1,20 +1,20 @@
 //! The links over passes that are in order of their receivers.
 
-ghost use Rattle.std.specs.Prelude.{◌≡◌, ◌+◌, ◌-◌, ◌<◌, ◌≤◌, ℕ, IfOk, length, slice_index_or};
+ghost use Rattle.std.specs.Prelude.{◌≡◌, ◌+◌, ◌-◌, ◌<◌, ◌≤◌, ℕ, OnOk, length, slice_index_or};
 ghost use Rattle.sabr_index.specs.declared.link.Pass.{Pass};
 ghost use Rattle.sabr_index.specs.Linking.{AreRows};
 
 use crate::link::{Link, LinkBounds, Pass};
 use std::alloc::{AllocError, Allocator};
 
-/// Makes the links over passes: one over each row of passes to one receiver.
-pub fn links_over<A: Allocator + Copy>(
-    alloc: A,
+/// Writes the links over passes: one over each row of passes to one receiver.
+pub fn write_links<A: Allocator + Copy>(
     passes: &[Pass],
-) -> Result<Vec<Link, A>, AllocError>
-    ensures { IfOk result (λ v. AreRows passes.now v.items (length passes.now)) }
+    links: &mut Vec<Link, A>,
+) -> Result<(), AllocError>
+    ensures { OnOk result (AreRows passes.now links.new.items (length passes.now)) }
 {
-    let mut links = Vec::new(alloc);
+    links.clear();
     let mut first = 0;
     while first < passes.len() {
         let end = end_of_row(passes, first);
@@ -26,7 +26,7 @@ pub fn links_over<A: Allocator + Copy>(
         })?;
         first = end;
     }
-    Ok(links)
+    Ok(())
 }
 
 /// Returns what bounds the passes of a link, from `first` up to `end`. The last pass has the greatest end of all, and

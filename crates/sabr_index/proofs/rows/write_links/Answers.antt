@@ -2,7 +2,7 @@ use Rattle.std.proofs.Common.{ap, refl, ◌∙◌}
 use Rattle.std.proofs.lemmas.List.{get_or_default}
 use Rattle.sabr_index.specs.declared.link.Pass.{Pass}
 use Rattle.sabr_index.proofs.LinkLemmas.{rows_more}
-use Rattle.sabr_index.proofs.rows.links_over.Goals as goal
+use Rattle.sabr_index.proofs.rows.write_links.Goals as goal
 
 pub loop-first-preserved : goal.loop-first-preserved
 loop-first-preserved g c =

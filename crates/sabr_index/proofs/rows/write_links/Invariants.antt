@@ -1,6 +1,6 @@
 use Rattle.std.proofs.Common.{◌-◌, ◌≤◌, length}
 use Rattle.sabr_index.specs.Linking.{AreRows}
-use Rattle.sabr_index.proofs.rows.links_over.Given as goal
+use Rattle.sabr_index.proofs.rows.write_links.Given as goal
 
 abbrev pub invariant-loop-first : goal.invariant-loop-first
 invariant-loop-first g l = record {
