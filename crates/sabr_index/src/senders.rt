@@ -2,7 +2,7 @@
 
 ghost use Rattle.std.specs.Prelude.{◌≡◌, ◌<◌, [], Some, length, slice_get};
 ghost use Rattle.sabr_index.specs.Links.{AreWithin};
-ghost use Rattle.sabr_index.specs.Incoming.{links_named, passes_over, passes_at, passes_named, bounds_at, head_named, no_bounds, LiesOver, LieOver, AllLieOver, AreHeads, IsHeadAt};
+ghost use Rattle.sabr_index.specs.Incoming.{links_named, passes_over, passes_at, passes_named, head_named, no_bounds, LiesOver, LieOver, AllLieOver, AreHeads, IsHeadAt};
 
 use crate::link::{Link, LinkBounds, NodeLinks, Pass, Sender, SenderHead};
 use std::alloc::{Allocator, Global};
@@ -122,22 +122,18 @@ fn sender_at<A: Allocator + Copy>(node: &NodeLinks<A>, named: Incoming) -> Sende
 pub fn head_named<A: Allocator + Copy>(linked: &[NodeLinks<A>], named: Incoming) -> SenderHead
     ensures { result ≡ head_named linked.now named }
 {
-    SenderHead {
-        node: named.sender as usize,
-        bounds: match linked.get(named.sender as usize) {
-            Some(node) => bounds_at(node, named.link),
-            None => no_bounds(),
-        },
+    let node = named.sender as usize;
+    if let Some(sender) = linked.get(node) {
+        if let Some(link) = sender.links.get(named.link as usize) {
+            return SenderHead {
+                node,
+                bounds: link.bounds,
+            };
+        }
     }
-}
-
-/// The bounds of the link at a place among a node's links.
-fn bounds_at<A: Allocator + Copy>(node: &NodeLinks<A>, place: u32) -> LinkBounds
-    ensures { result ≡ bounds_at node.now place }
-{
-    match node.links.get(place as usize) {
-        Some(link) => link.bounds,
-        None => no_bounds(),
+    SenderHead {
+        node,
+        bounds: no_bounds(),
     }
 }
 
