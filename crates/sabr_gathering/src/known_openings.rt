@@ -7,9 +7,12 @@ ghost use Rattle.sabr_model.specs.Openings.{openings_of, closed};
 ghost use Rattle.sabr_gathering.specs.Gathering.{opening_number, KnowsFirst, KnowsSome, IsNoted};
 
 use indexmap::IndexSet;
-use sabr_model::{Contact, Opening, comes_by};
+use sabr_model::{Contact, MOST_RECORDS, Opening, comes_by};
 use std::alloc::Allocator;
 use std::hash::{BuildHasherDefault, FoldHasher};
+
+/// The set first has room for so many openings, and after that for those of the largest plan.
+const FEW: usize = 1250;
 
 /// The last of the openings of contacts, by start, sender and receiver, and a set with those of the first contacts.
 ///
@@ -83,6 +86,20 @@ fn comes_after(opening: &Opening, other: &Opening) -> bool
     )
 }
 
+/// Makes room for an opening after so many, and if there is none for many more. Returns false if out of memory.
+fn make_room<A: Allocator + Copy>(
+    set: &mut IndexSet<Opening, BuildHasherDefault<FoldHasher>, A>,
+    count: usize,
+) -> bool
+    ensures { set.new.keys ≡ set.old.keys }
+{
+    if count < set.capacity() {
+        return true;
+    }
+    let room = if count < FEW { FEW } else { MOST_RECORDS };
+    set.reserve(room.saturating_sub(set.len())).is_ok()
+}
+
 /// Notes the openings of the contacts that come after those in the set. Returns false if out of memory.
 fn note_all<A: Allocator + Copy>(
     set: &mut IndexSet<Opening, BuildHasherDefault<FoldHasher>, A>,
@@ -92,6 +109,9 @@ fn note_all<A: Allocator + Copy>(
     ensures all { IsTrue result → set.new.keys ≡ openings_of contacts.now }
     ensures first { KnowsFirst set.new.keys contacts.now }
 {
+    if !make_room(set, contacts.len()) {
+        return false;
+    }
     if set.len() >= contacts.len() {
         return true;
     }
