@@ -37,6 +37,14 @@ pub fn leads_with_zero(word: &[u8]) -> bool
     word.len() > 1 && word[0] == b'0'
 }
 
+/// The same, for digits of which the first is rarely `0`.
+fn starts_with_zero(word: &[u8]) -> bool
+    requires { 0 < length word.now }
+    ensures { result ≡ leads_with_zero word.now }
+{
+    word[0] == b'0' && word.len() > 1
+}
+
 /// Returns the number that the text spells, from `low` to `high`: decimal, without a sign or leading zero (this
 /// project's profile). Its time grows with the text's length.
 pub fn number_within(text: &[u8], low: u64, high: u64) -> Option<u64>
@@ -51,6 +59,14 @@ pub fn number_within(text: &[u8], low: u64, high: u64) -> Option<u64>
     }
 }
 
+/// Returns what a digit stands for, and more than 9 for any other byte.
+fn digit_of(byte: u8) -> u64
+    ensures digit { result ≤ 9 → IsTrue (is_digit byte) }
+    ensures value { result ≤ 9 → result ≡ byte - 48 }
+{
+    (byte as u64).wrapping_sub(48)
+}
+
 /// Returns the number that the digits at the front of a text stand for, the digits, and the text after them. The digits
 /// are at most 19.
 pub fn leading_digits(text: &[u8]) -> (u64, &[u8], &[u8])
@@ -62,8 +78,12 @@ pub fn leading_digits(text: &[u8]) -> (u64, &[u8], &[u8])
     let most = text.len().min(19);
     let mut value: u64 = 0;
     let mut count = 0;
-    while count < most && text[count].is_ascii_digit() {
-        value = value * 10 + (text[count] - b'0') as u64;
+    while count < most {
+        let digit = digit_of(text[count]);
+        if digit > 9 {
+            break;
+        }
+        value = value * 10 + digit;
         count += 1;
     }
     let (digits, rest) = text.split_at(count);
@@ -80,7 +100,7 @@ pub fn leading_number(text: &[u8], low: u64, high: u64) -> Option<(u64, &[u8], &
     ensures range { IfSome result (λ r. (low ≤ r.0) × (r.0 ≤ high)) }
 {
     let (value, word, rest) = leading_digits(text);
-    if word.is_empty() || leads_with_zero(word) || value < low || high < value {
+    if word.is_empty() || starts_with_zero(word) || value < low || high < value {
         return None;
     }
     Some((value, word, rest))

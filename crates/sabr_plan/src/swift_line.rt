@@ -68,10 +68,11 @@ fn operands_ahead(reference: Option<u64>, target: Target, text: &[u8]) -> Option
 fn target_ahead(line: &[u8]) -> Option<(Target, &[u8])>
     ensures { IfSome result (λ r. line.now ≡ start_of r.0 ++ r.1.now) }
 {
-    if let Some(text) = line.strip_prefix(b"a contact") {
+    let name = line.strip_prefix(b"a ")?;
+    if let Some(text) = name.strip_prefix(b"contact") {
         return Some((Target::Contact, text));
     }
-    let text = line.strip_prefix(b"a range")?;
+    let text = name.strip_prefix(b"range")?;
     Some((Target::Range, text))
 }
 

@@ -33,7 +33,7 @@ loop-count-preserved c =
     let range : c.loop-count.count < length c.args.text.now = omega arith in
     record {
       range = omega arith;
-      value = next c.args.text.now c.loop-count.count c.loop-count.value range c.loop-count.invariant.value;
+      value = ap (λ d. c.loop-count.value * 10 + d) (c.digit_of-digit.ensures.value c.if-digit-gt9.false) ∙ next c.args.text.now c.loop-count.count c.loop-count.value range c.loop-count.invariant.value;
       digits = take_digits c.args.text.now c.loop-count.count range c.loop-count.invariant.digits (search rules);
     }
 
