@@ -26,15 +26,21 @@ pub fn link_passes<'a>(links: Links<'a>, link: &Link) -> &'a [Pass]
 }
 
 /// Returns true if, by the bounds of the whole link, nothing that is at its sender at `at` or later arrives before
+/// `before`, whenever its passes end.
+fn is_soonest(bounds: LinkBounds, at: u64, before: u64) -> bool
+    ensures late { IsTrue result → (before ≤ bounds.soonest) ⊎ (before ≤ at + bounds.least_light) }
+    ensures early { result ≡ false → at < before }
+{
+    before <= bounds.soonest || before.saturating_sub(at) <= bounds.least_light as u64
+}
+
+/// Returns true if, by the bounds of the whole link, nothing that is at its sender at `at` or later arrives before
 /// `before`.
 pub fn rules_out(bounds: LinkBounds, at: u64, before: u64) -> bool
     ensures late { IsTrue result → (bounds.latest_end ≤ at) ⊎ ((before ≤ bounds.soonest) ⊎ (before ≤ at + bounds.least_light)) }
     ensures early { result ≡ false → at < before }
 {
-    if bounds.latest_end <= at || before <= bounds.soonest {
-        return true;
-    }
-    before.saturating_sub(at) <= bounds.least_light as u64
+    bounds.latest_end <= at || is_soonest(bounds, at, before)
 }
 
 /// Returns the number of passes at the front of a link that have ended by `at`. Those after them, or the only one, may
@@ -44,7 +50,7 @@ pub fn first_open(passes: &[Pass], at: u64) -> usize
     ensures within { result ≤ length passes.now }
     ensures ended { (k : ℕ) (x : Pass) → k < result → slice_get passes.now k ≡ Some x → x.end ≤ at }
 {
-    if passes.len() == 1 {
+    if passes.len() <= 1 || passes[0].latest_end > at {
         return 0;
     }
     passes.partition_point(|pass| pass.latest_end <= at)
@@ -120,6 +126,9 @@ impl<'a, A: Allocator + Copy> Task<'a, A> {
             }
             let hop = self.hop_over(to, pass);
             if let Some(arrival) = self.arrive_before(at, &hop, least) {
+                if is_soonest(bounds, at, arrival) {
+                    return arrival;
+                }
                 least = arrival;
             }
             place += 1;
