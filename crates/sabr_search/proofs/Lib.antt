@@ -2,6 +2,7 @@ pub mod Ways
 pub mod HopLayers
 pub mod Picks
 pub mod Settles
+pub mod Runs
 pub mod Counts
 pub mod Arrivals
 pub mod Chains
