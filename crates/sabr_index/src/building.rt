@@ -1,6 +1,6 @@
 //! How the links of each node are built.
 
-ghost use Rattle.std.specs.Prelude.{◌≡◌, ℕ, IfOk, MatchOption, length};
+ghost use Rattle.std.specs.Prelude.{◌≡◌, ◌<◌, ℕ, IfOk, MatchOption, length, map, slice_index};
 ghost use Rattle.sabr_index.specs.Grouping.{AreByNode, AreStanding, numbers_of_places};
 ghost use Rattle.sabr_index.specs.Links.{AreLinksOf};
 ghost use Rattle.sabr_index.specs.Linking.{AreSent, HasNoLight, IsContactPass, IsBounded, AreBounded, ArePassesOf, AreLinked};
@@ -70,18 +70,19 @@ fn passes_at<A: Allocator + Copy>(
     let mut passes = Vec::new(alloc);
     passes.reserve(places.len())?;
     for place in places {
-        if let Some(pass) = pass_of(plan, order.number_at(plan, *place)) {
+        if let Some(pass) = pass_of(plan, order.places[*place as usize] as usize) {
             passes.push(pass)?;
         }
     }
     Ok(passes)
 }
 
-/// Makes the pass of the contact of a number, bounded by itself alone, or none if it has no light time.
-fn pass_of<A: Allocator + Copy>(plan: &Plan<A>, number: u32) -> Option<Pass>
-    ensures { MatchOption result (HasNoLight plan.now number) (λ x. (x.number ≡ number) × IsContactPass plan.now x × IsBounded x) }
+/// Makes the pass of the contact at a place, bounded by itself alone, or none if it has no light time.
+fn pass_of<A: Allocator + Copy>(plan: &Plan<A>, place: usize) -> Option<Pass>
+    requires { place < length plan.now.plan.contacts }
+    ensures { MatchOption result (HasNoLight plan.now (slice_index (map (λ c. c.number) plan.now.plan.contacts) place)) (λ x. (x.number ≡ slice_index (map (λ c. c.number) plan.now.plan.contacts) place) × IsContactPass plan.now x × IsBounded x) }
 {
-    let hop = plan.hop(number)?;
+    let (number, hop) = plan.hop_at(place);
     let light = hop.light?;
     Some(Pass {
         number,

@@ -1,12 +1,13 @@
 //! The nodes of a plan, each by its index in the table, and the contacts that a node sends.
 
-ghost use Rattle.std.specs.Prelude.{◌≡◌, ◌<◌, ℕ, Some, None, MatchOption, IsFalse, length, slice_get};
+ghost use Rattle.std.specs.Prelude.{◌≡◌, ◌<◌, ℕ, Some, None, MatchOption, IsFalse, length, map, slice_get, slice_index, slice_index_or};
 ghost use Rattle.sabr_model.specs.Plan.{contact_named, has};
 ghost use Rattle.sabr_model.specs.Table.{sent_by, node_count};
-ghost use Rattle.sabr_model.specs.Tabled.{IsTabled, IsHopNamed};
+ghost use Rattle.sabr_model.specs.Tabled.{IsTabled, IsHopOf, IsHopNamed};
 
 use super::Plan;
 use super::places::place_of_number;
+use crate::contact::Contact;
 use crate::hop::Hop;
 use std::alloc::Allocator;
 
@@ -43,12 +44,30 @@ impl<A: Allocator + Copy> Plan<A> {
         ensures { MatchOption result (contact_named self.now.plan number ≡ None) (IsHopNamed self.now number) }
     {
         let place = place_of_number(&self.contacts, number)?;
+        Some(self.hop_of(place, &self.contacts[place]))
+    }
+
+    /// Returns the number of the contact at a place, and the contact as a search reads it.
+    pub fn hop_at(&self, place: usize) -> (u32, Hop)
+        requires { place < length self.now.plan.contacts }
+        ensures number { result.0 ≡ slice_index (map (λ c. c.number) self.now.plan.contacts) place }
+        ensures hop { IsHopNamed self.now result.0 result.1 }
+    {
         let contact = &self.contacts[place];
-        Some(Hop {
+        (contact.number, self.hop_of(place, contact))
+    }
+
+    /// Returns the contact at a place as a search reads it.
+    fn hop_of(&self, place: usize, contact: &Contact) -> Hop
+        requires within { place < length self.now.plan.contacts }
+        requires there { contact.now ≡ slice_index_or self.now.plan.contacts place contact.now }
+        ensures { IsHopOf self.now contact.now result }
+    {
+        Hop {
             start: contact.start,
             end: contact.end,
             receiver: self.receiver_at(place, contact),
             light: self.light_at(place, contact),
-        })
+        }
     }
 }
