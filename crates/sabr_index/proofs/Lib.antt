@@ -1,7 +1,7 @@
 pub mod PassNumbers
 pub mod LinkLemmas
 pub mod InRows
-pub mod ChainLemmas
+pub mod IncomingLemmas
 pub mod GroupLemmas
 pub mod ContactOrders
 pub mod SenderLemmas

@@ -30,7 +30,7 @@ use Rattle.sabr_model.proofs.Without.{ends_of_found}
 -- ---- lists
 
 -- what stands in a list that was mapped
-mapped_at : {X Y : Type 0} (f : X → Y) (xs : List X) (k : ℕ) (y : Y) → slice_get (map f xs) k ≡ Some y → (x : X) × (slice_get xs k ≡ Some x) × (f x ≡ y)
+pub mapped_at : {X Y : Type 0} (f : X → Y) (xs : List X) (k : ℕ) (y : Y) → slice_get (map f xs) k ≡ Some y → (x : X) × (slice_get xs k ≡ Some x) × (f x ≡ y)
 mapped_at f [] k y e = absurd cc
 mapped_at f (x ∷ xs) zero y e = (x, refl, same_Some (f x) y e)
 mapped_at f (x ∷ xs) (suc k) y e = mapped_at f xs k y e

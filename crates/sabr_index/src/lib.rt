@@ -3,7 +3,6 @@
 
 mod bounds;
 mod building;
-mod chains;
 mod ends;
 mod grouping;
 mod incoming;

@@ -2,7 +2,7 @@
 
 ghost use Rattle.std.specs.Prelude.{◌≡◌, ◌<◌, [], Some, length, slice_get};
 ghost use Rattle.sabr_index.specs.Links.{AreWithin};
-ghost use Rattle.sabr_index.specs.Incoming.{links_named, passes_over, passes_at, passes_named, head_named, no_bounds, LiesOver, LieOver, AllLieOver, AreHeads, IsHeadAt};
+ghost use Rattle.sabr_index.specs.Incoming.{links_named, passes_over, passes_at, passes_named, no_bounds, LiesOver, LieOver, AllLieOver, AreHeads, IsHeadAt};
 
 use crate::link::{Link, LinkBounds, NodeLinks, Pass, Sender, SenderHead};
 use std::alloc::{Allocator, Global};
@@ -115,25 +115,6 @@ fn sender_at<A: Allocator + Copy>(node: &NodeLinks<A>, named: Incoming) -> Sende
             bounds: link.bounds,
         },
         None => no_passes(named.sender as usize),
-    }
-}
-
-/// The sender and the bounds of the link that is named.
-pub fn head_named<A: Allocator + Copy>(linked: &[NodeLinks<A>], named: Incoming) -> SenderHead
-    ensures { result ≡ head_named linked.now named }
-{
-    let node = named.sender as usize;
-    if let Some(sender) = linked.get(node) {
-        if let Some(link) = sender.links.get(named.link as usize) {
-            return SenderHead {
-                node,
-                bounds: link.bounds,
-            };
-        }
-    }
-    SenderHead {
-        node,
-        bounds: no_bounds(),
     }
 }
 
