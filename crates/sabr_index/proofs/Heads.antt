@@ -1,5 +1,5 @@
 -- What is compared before a link to a node is read is true of the link.
-use Rattle.std.proofs.Common.{◌≡◌, inl, inr, ℕ, List, [], Option, Some, length, sym, ap, ◌∙◌}
+use Rattle.std.proofs.Common.{◌≡◌, ◌<◌, inl, inr, arith, ℕ, List, [], Option, Some, length, sym, ap, ◌∙◌}
 use Rattle.std.specs.Prelude.{slice_get}
 use Rattle.std.specs.Option.{option_map, option_map_or}
 use Rattle.std.proofs.lemmas.List.{length-map}
@@ -54,6 +54,8 @@ module _ {A : Type 0} (linked : List (NodeLinks A)) (lie : AllLieOver linked) wh
       ]
 
   -- and each place has one
-  pub head_there : (incoming : List Incoming) (heads : List SenderHead) → AreHeads linked incoming heads → length heads ≡ length (links_named linked incoming)
-  head_there incoming heads are =
-      ap (λ (hs : List SenderHead). length hs) are ∙ length-map incoming (head_named linked) ∙ sym (length-map incoming (λ (e : Incoming). record { sender = e.sender; passes = passes_named linked e }))
+  pub head_there : (incoming : List Incoming) (heads : List SenderHead) (sent : List SentLink) → AreHeads linked incoming heads → links_named linked incoming ≡ sent → (place : ℕ) → place < length sent → place < length heads
+  head_there incoming heads sent are is place lt =
+      let sent_link : Incoming → SentLink = λ e. record { sender = e.sender; passes = passes_named linked e } in
+      let many = ap (λ (hs : List SenderHead). length hs) are ∙ length-map incoming (head_named linked) in
+      omega (arith, many, length-map incoming sent_link, ap (λ (ss : List SentLink). length ss) is, lt)

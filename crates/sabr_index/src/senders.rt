@@ -66,13 +66,8 @@ impl<'a, A: Allocator + Copy> Senders<'a, A> {
         requires { place < length self.now }
         ensures { IsHeadAt self.now place result }
     {
-        match self.heads.get(place) {
-            Some(head) => *head,
-            None => SenderHead {
-                node: 0,
-                bounds: no_bounds(),
-            },
-        }
+        let heads = self.heads;
+        heads[place]
     }
 
     /// The link at a place.
