@@ -67,8 +67,7 @@ fn passes_at<A: Allocator + Copy>(
     ensures are { IfOk result (λ v. ArePassesOf plan.now (numbers_of_places plan.now.plan.contacts order.now.places.items places.now) v.items) }
     ensures bounded { IfOk result (λ v. AreBounded v.items) }
 {
-    let mut passes = Vec::new(alloc);
-    passes.reserve(places.len())?;
+    let mut passes = Vec::with_capacity(alloc, places.len())?;
     for place in places {
         if let Some(pass) = pass_of(plan, order.places[*place as usize] as usize) {
             passes.push(pass)?;
