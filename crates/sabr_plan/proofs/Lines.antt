@@ -1,6 +1,6 @@
 -- The lines of a text that is given in parts.
 use Rattle.std.proofs.Common.{◌≡◌, ℕ, ◌<◌, true, false, not, eqb, List, [], ◌∷◌, ◌++◌, length, take, drop, get_or, refl, sym, ap, ◌∙◌, arith, append-nil, length-drop, get_or-drop, add-zero}
-use Rattle.std.proofs.lemmas.Bool.{and_parts}
+use Rattle.std.proofs.lemmas.Bool.{and_parts, false≢true}
 use Rattle.std.proofs.lemmas.List.{take-append-drop}
 use borrow.Author.Tests.{not-true}
 use Rattle.sabr_plan.specs.Words.{TextLines, is_one_line, before_lines, lines_of}
@@ -52,3 +52,15 @@ parted text front back rest end a b h lf c =
     let first : get_or back 0 0 ≡ 10 = ap (λ s. get_or s 0 0) b ∙ get_or-drop end text 0 0 ∙ ap (λ k. get_or text k 0) (add-zero end) ∙ lf in
     let whole : text ≡ front ++ back = rw (a, b) (sym (take-append-drop end text)) in
     whole ∙ ap (λ s. front ++ s) (behind_lf back some first ∙ ap (λ s. 10 ∷ s) (sym c))
+
+abbrev first_line : TextLines → List ℕ
+first_line t = elim t.ended [ [] ↦ [] | line ∷ lines ↦ line ]
+
+-- a text has one first line
+pub same_line : (a b x y : List ℕ) → is_one_line a ≡ true → is_one_line b ≡ true → a ++ 10 ∷ x ≡ b ++ 10 ∷ y → a ≡ b
+same_line a b x y h k e = ap first_line (sym (lines_of-line a x h) ∙ ap lines_of e ∙ lines_of-line b y k)
+
+-- a text of at least one line begins with LF
+pub starts_lf : (text : List ℕ) → is_one_line text ≡ false → get_or text 0 0 ≡ 10 → text ≡ 10 ∷ drop 1 text
+starts_lf [] some lf = absurd (false≢true (sym some))
+starts_lf (b ∷ text) some lf = ap (λ x. x ∷ text) lf

@@ -1,7 +1,7 @@
 -- A text of graphic words, each after one space, has those words.
-use Rattle.std.proofs.Common.{◌≡◌, ◌≢◌, ℕ, ◌<◌, true, false, eqb, leb, List, [], ◌∷◌, ◌++◌, length, take, drop, get_or, refl, sym, ap, ◌∙◌, arith}
+use Rattle.std.proofs.Common.{◌≡◌, ◌≢◌, ℕ, ◌<◌, true, false, eqb, leb, List, [], ◌∷◌, ◌++◌, length, take, drop, get_or, refl, sym, ap, ◌∙◌, arith, append_assoc, not}
 use Rattle.std.specs.List.{All, list_all}
-use Rattle.std.proofs.lemmas.Bool.{and_parts, ne_eqb}
+use Rattle.std.proofs.lemmas.Bool.{and_parts, ne_eqb, false≢true}
 use Rattle.std.specs.Cmp.Lexicographic.{pointwise, same_text}
 use Rattle.std.specs.Prelude.{nat_eq}
 use Rattle.std.proofs.lemmas.List.{take-append-drop}
@@ -10,7 +10,7 @@ use Rattle.std.proofs.lemmas.List.Folds.{list_all-append}
 use Rattle.std.proofs.lemmas.List.Sums.{AllPass-from_list_all}
 use borrow.Author.Tests.{leb-true, le-leb, ltb-true, lt-ltb, eqb-true}
 use Rattle.sabr_plan.specs.Digits.{is_digit}
-use Rattle.sabr_plan.specs.Words.{is_blank, is_plain, has_bytes, words_of}
+use Rattle.sabr_plan.specs.Words.{is_blank, is_plain, has_bytes, is_one_line, words_of}
 use Rattle.sabr_plan.specs.PlainWords.{is_graphic, is_graphic_word, is_plain_from_space, IsAhead}
 use Rattle.sabr_plan.proofs.FirstWords.{first_is, words_of-blank, words_of-nil}
 
@@ -59,6 +59,17 @@ graphic_number w some all = rw (lt-ltb 0 (length w) some, graphic_digits w all) 
 pub graphic_behind : (b : ℕ) (w : List ℕ) → is_graphic b ≡ true → list_all is_graphic w ≡ true → is_graphic_word (b ∷ w) ≡ true
 graphic_behind b w one all = rw (lt-ltb 0 (length (b ∷ w)) (omega arith), one, all) refl
 
+-- plain bytes are one line
+pub plain_one : (w : List ℕ) → list_all is_plain w ≡ true → is_one_line w ≡ true
+plain_one [] h = refl
+plain_one (b ∷ w) h =
+    let p = and_parts (is_plain b) (list_all is_plain w) h in
+    let other : b ≢ 10 = λ e. false≢true (rw e at p.0) in
+    rw (ne_eqb b 10 other, plain_one w p.1) refl
+
+pub graphic_one : (w : List ℕ) → list_all is_graphic w ≡ true → is_one_line w ≡ true
+graphic_one w h = plain_one w (plain_word w h)
+
 starts_blank : (ws : List (List ℕ)) → 0 < length (spaced ws) → is_blank (get_or (spaced ws) 0 0) ≡ true
 starts_blank [] h = absurd (omega arith)
 starts_blank (w ∷ ws) h = refl
@@ -89,32 +100,29 @@ pub behind_prefix : (s p rest : List ℕ) → pointwise nat_eq (take (length p) 
 behind_prefix s p rest same is =
     sym (take-append-drop (length p) s) ∙ ap (λ l. l ++ drop (length p) s) (same_text (take (length p) s) p (sym same)) ∙ ap (λ l. p ++ l) (sym is)
 
-word_before : {Holds : List ℕ → Type 0} {text rest : List ℕ} (ahead : IsAhead Holds text rest) (ws : List (List ℕ)) → rest ≡ spaced ws → text ≡ spaced (ahead.word ∷ ws)
-word_before ahead ws e = ahead.parts ∙ ap (λ r. 32 ∷ (ahead.word ++ r)) e
+-- an LF comes after the word
+pub still_ended : {Holds : List ℕ → Type 0} {text rest : List ℕ} → IsAhead Holds text rest → is_one_line text ≡ false → is_one_line rest ≡ false
+still_ended {Holds} {text} {rest} ahead lf =
+    let one = graphic_one ahead.word (and_parts (has_bytes ahead.word) (list_all is_graphic ahead.word) ahead.graphic).1 in
+    let same : is_one_line text ≡ is_one_line rest = ap is_one_line ahead.parts ∙ list_all-append (λ b. not (eqb b 10)) ahead.word rest ∙ rw one refl in
+    sym same ∙ lf
 
-no_bytes : (s : List ℕ) → length s ≡ 0 → s ≡ []
-no_bytes [] h = refl
-no_bytes (x ∷ s) h = absurd (omega arith)
+word_before : {Holds : List ℕ → Type 0} {text rest : List ℕ} (ahead : IsAhead Holds text rest) (ws : List (List ℕ)) (tail : List ℕ) → rest ≡ spaced ws ++ tail → text ≡ spaced (ahead.word ∷ ws) ++ tail
+word_before ahead ws tail e = ahead.parts ∙ ap (λ r. 32 ∷ (ahead.word ++ r)) e ∙ ap (λ r. 32 ∷ r) (sym (append_assoc ahead.word (spaced ws) tail))
 
--- five words, one after another, and nothing after them
-module _ {P₁ P₂ P₃ P₄ P₅ : List ℕ → Type 0} {t t₁ t₂ t₃ t₄ t₅ : List ℕ} (a : IsAhead P₁ t t₁) (b : IsAhead P₂ t₁ t₂) (c : IsAhead P₃ t₂ t₃) (d : IsAhead P₄ t₃ t₄) (e : IsAhead P₅ t₄ t₅) (end : length t₅ ≡ 0) where
+-- five words, one after another, and an LF after them
+module _ {P₁ P₂ P₃ P₄ P₅ : List ℕ → Type 0} {t t₁ t₂ t₃ t₄ t₅ : List ℕ} (a : IsAhead P₁ t t₁) (b : IsAhead P₂ t₁ t₂) (c : IsAhead P₃ t₂ t₃) (d : IsAhead P₄ t₃ t₄) (e : IsAhead P₅ t₄ t₅) (end : t₅ ≡ 10 ∷ drop 1 t₅) where
   abbrev pub five : List (List ℕ)
   five = a.word ∷ b.word ∷ c.word ∷ d.word ∷ e.word ∷ []
 
-  same : t ≡ spaced five
-  same =
-      let four = word_before d (e.word ∷ []) (word_before e [] (no_bytes t₅ end)) in
-      let three = word_before c (d.word ∷ e.word ∷ []) four in
-      word_before a (b.word ∷ c.word ∷ d.word ∷ e.word ∷ []) (word_before b (c.word ∷ d.word ∷ e.word ∷ []) three)
+  pub five_parts : t ≡ spaced five ++ 10 ∷ drop 1 t₅
+  five_parts =
+      let four = word_before d (e.word ∷ []) (10 ∷ drop 1 t₅) (word_before e [] (10 ∷ drop 1 t₅) end) in
+      let three = word_before c (d.word ∷ e.word ∷ []) (10 ∷ drop 1 t₅) four in
+      word_before a (b.word ∷ c.word ∷ d.word ∷ e.word ∷ []) (10 ∷ drop 1 t₅) (word_before b (c.word ∷ d.word ∷ e.word ∷ []) (10 ∷ drop 1 t₅) three)
 
-  graphic : list_all is_graphic_word five ≡ true
+  pub graphic : list_all is_graphic_word five ≡ true
   graphic = rw (a.graphic, b.graphic, c.graphic, d.graphic, e.graphic) refl
-
-  pub five_words : words_of t ≡ five
-  five_words = ap words_of same ∙ words_of-spaced five graphic
-
-  pub five_plain : is_plain_from_space t ≡ true
-  five_plain = ap is_plain_from_space same ∙ plain-spaced five graphic
 
 -- a line that begins in this way has these words
 pub commanded : (name text : List ℕ) → is_graphic_word name ≡ true → is_plain_from_space text ≡ true → words_of (97 ∷ 32 ∷ (name ++ text)) ≡ (97 ∷ []) ∷ name ∷ words_of text

@@ -24,6 +24,14 @@ pub record IsAhead (Holds : List ℕ → Type 0) (text rest : List ℕ) : Type 0
   pub graphic : IsTrue (is_graphic_word word)
   pub holds : Holds word
 
+-- a text begins with a line for which this holds, and its LF
+pub record BeginsWithLine (Holds : List ℕ → Type 0) (text : List ℕ) : Type 0 where
+  pub line : List ℕ
+  pub rest : List ℕ
+  pub parts : text ≡ line ++ 10 ∷ rest
+  pub plain : IsTrue (is_plain_from_space line)
+  pub holds : Holds line
+
 -- the first bytes of a line that adds one of these
 abbrev pub start_of : Target → List ℕ
 start_of Contact = codes "a contact"

@@ -1,7 +1,7 @@
 //! The command in a line of a plan text.
 
-ghost use Rattle.std.specs.Prelude.{◌≡◌, ◌<◌, ◌≤◌, Ok, Err, IfOk};
-ghost use Rattle.sabr_plan.specs.Words.{words_of};
+ghost use Rattle.std.specs.Prelude.{◌≡◌, ◌<◌, ◌≤◌, [], ◌∷◌, ◌++◌, Ok, Err, IfOk, IfSome, IsTrue};
+ghost use Rattle.sabr_plan.specs.Words.{is_one_line, words_of};
 ghost use Rattle.sabr_plan.specs.Commands.{line_command, command_of, reference_of, target_of, targeted, addition_of, deletion_of, HasBounds};
 
 use crate::fault::PlanKind;
@@ -50,13 +50,12 @@ pub enum Command {
 
 /// Returns the command in a line, or the first reason to refuse it. Relative times count from the reference.
 #[tactic(auto, unfolding(crate::specs::Commands::line_command))]
-pub fn line_command(reference: Option<u64>, line: &[u8]) -> Result<Command, PlanKind>
+#[cold]
+#[inline(never)]
+fn line_command(reference: Option<u64>, line: &[u8]) -> Result<Command, PlanKind>
     ensures value { result ≡ line_command reference line.now }
     ensures bounds { IfOk result HasBounds }
 {
-    if let Some(command) = swift_addition(reference, line) {
-        return Ok(command);
-    }
     if is_comment(line) {
         return Ok(Command::Nothing);
     }
@@ -64,6 +63,25 @@ pub fn line_command(reference: Option<u64>, line: &[u8]) -> Result<Command, Plan
         return Err(PlanKind::BadByte);
     }
     command_of(reference, line)
+}
+
+/// The same, quickly for most lines that are also given with their LF.
+pub fn swift_command(
+    reference: Option<u64>,
+    line: &[u8],
+    ended: Option<&[u8]>,
+) -> Result<Command, PlanKind>
+    requires { IfSome ended (λ e. IsTrue (is_one_line line.now) × (e.now ≡ line.now ++ 10 ∷ [])) }
+    ensures value { result ≡ line_command reference line.now }
+    ensures bounds { IfOk result HasBounds }
+{
+    let Some(text) = ended else {
+        return line_command(reference, line);
+    };
+    match swift_addition(reference, text) {
+        Some(command) => Ok(command),
+        None => line_command(reference, line),
+    }
 }
 
 /// Returns the command in the words of a line.

@@ -1,6 +1,6 @@
 //! A plan text that is read piece by piece. One line at a time is held, in a fixed array.
 
-ghost use Rattle.std.specs.Prelude.{◌≡◌, ◌≢◌, ◌+◌, ◌-◌, ◌*◌, ◌≤◌, ◌<◌, [], ◌++◌, Ok, Err, OnOk, IfOk, IfErr, IsTrue, length, take, slice_index, MatchOption, false, true};
+ghost use Rattle.std.specs.Prelude.{◌≡◌, ◌≢◌, ◌+◌, ◌-◌, ◌*◌, ◌≤◌, ◌<◌, [], ◌∷◌, ◌++◌, Ok, Err, OnOk, IfOk, IfErr, IsTrue, length, take, slice_index, MatchOption, false, true};
 ghost use Rattle.sabr_plan.specs.Words.{is_one_line};
 ghost use Rattle.sabr_plan.specs.Leaving.{Leaves, LeavesAt};
 ghost use Rattle.sabr_plan.specs.declared.fault.PlanKind.TheVariants as kind;
@@ -74,7 +74,7 @@ impl<A: Allocator + Copy> PlanFeed<A> {
         let mut rest = piece;
         while let Some(end) = line_end(rest) {
             let (front, back) = rest.split_at(end);
-            self.end_line(front)?;
+            self.end_line(front, &rest[..end + 1])?;
             rest = &back[1..];
         }
         self.hold(rest)
@@ -103,7 +103,7 @@ impl<A: Allocator + Copy> PlanFeed<A> {
         if self.held.is_empty() {
             Ok(())
         } else {
-            self.end_line(&[])
+            self.end_line(b"", b"\n")
         }
     }
 
@@ -130,16 +130,17 @@ impl<A: Allocator + Copy> PlanFeed<A> {
         }
     }
 
-    /// Ends the line with these bytes. LF or the end of the text comes after them.
-    fn end_line(&mut self, back: &[u8]) -> Result<(), PlanFault>
-        requires { IsTrue (is_one_line back.now) }
+    /// Ends the line with these bytes, which are also given with the LF after them.
+    fn end_line(&mut self, back: &[u8], ended: &[u8]) -> Result<(), PlanFault>
+        requires line { IsTrue (is_one_line back.now) }
+        requires ended { ended.now ≡ back.now ++ 10 ∷ [] }
         ensures value { LeavesAt (read_line (self.old.lines + 1) self.old.reading (self.old.held ++ back.now)) result self.new.reading }
         ensures rest { OnOk result ((self.new.lines ≡ self.old.lines + 1) × (self.new.held ≡ [])) }
         ensures fits { OnOk result (length self.old.held + length back.now ≤ most_line_bytes) }
         ensures held { IsTrue (is_one_line self.old.held) }
     {
         let line = self.lines + 1;
-        match self.judge_line(back) {
+        match self.judge_line(back, ended) {
             Ok(()) => {
                 self.lines = line;
                 self.held.clear();
@@ -150,8 +151,9 @@ impl<A: Allocator + Copy> PlanFeed<A> {
     }
 
     /// Judges the line that goes on with these bytes, if it is within the limits.
-    fn judge_line(&mut self, back: &[u8]) -> Result<(), PlanKind>
-        requires { IsTrue (is_one_line back.now) }
+    fn judge_line(&mut self, back: &[u8], ended: &[u8]) -> Result<(), PlanKind>
+        requires line { IsTrue (is_one_line back.now) }
+        requires ended { ended.now ≡ back.now ++ 10 ∷ [] }
         ensures value { Leaves (limited (self.old.lines + 1) self.old.reading (self.old.held ++ back.now)) result self.new.reading }
         ensures lines { self.new.lines ≡ self.old.lines }
         ensures fits { OnOk result ((self.old.lines < most_lines) × (length self.old.held + length back.now ≤ most_line_bytes)) }
@@ -163,10 +165,10 @@ impl<A: Allocator + Copy> PlanFeed<A> {
             return Err(PlanKind::LineTooLong);
         }
         if self.held.is_empty() {
-            return self.reading.judge(back);
+            return self.reading.judge(back, Some(ended));
         }
         self.append(back);
-        self.reading.judge(self.held.as_slice())
+        self.reading.judge(self.held.as_slice(), None)
     }
 
     /// Holds more bytes of a line.

@@ -1,9 +1,10 @@
 //! Numbers in decimal digits.
 
-ghost use Rattle.std.specs.Prelude.{◌≡◌, ◌<◌, ◌≤◌, ◌+◌, ◌-◌, ◌*◌, ◌++◌, Some, None, SomeIff, IfSome, IsTrue, if◌then◌else◌, ◌&&◌, nat_lt, length};
+ghost use Rattle.std.specs.Prelude.{◌≡◌, ◌<◌, ◌≤◌, ◌+◌, ◌-◌, ◌*◌, ◌++◌, Some, None, SomeIff, IfSome, IsTrue, IsFalse, false, if◌then◌else◌, ◌&&◌, nat_lt, length};
 ghost use Rattle.std.specs.List.{list_all};
 ghost use Rattle.sabr_plan.specs.Digits.{is_digit, are_digits, digits_value, leads_with_zero};
 ghost use Rattle.sabr_plan.specs.Numbers.{number_within};
+ghost use Rattle.sabr_plan.specs.Words.{is_one_line};
 
 /// Appends a digit to a number, if the result is below 2^64.
 fn push_digit(value: u64, byte: u8) -> Option<u64>
@@ -37,14 +38,6 @@ pub fn leads_with_zero(word: &[u8]) -> bool
     word.len() > 1 && word[0] == b'0'
 }
 
-/// The same, for digits of which the first is rarely `0`.
-fn starts_with_zero(word: &[u8]) -> bool
-    requires { 0 < length word.now }
-    ensures { result ≡ leads_with_zero word.now }
-{
-    word[0] == b'0' && word.len() > 1
-}
-
 /// Returns the number that the text spells, from `low` to `high`: decimal, without a sign or leading zero (this
 /// project's profile). Its time grows with the text's length.
 pub fn number_within(text: &[u8], low: u64, high: u64) -> Option<u64>
@@ -67,27 +60,54 @@ fn digit_of(byte: u8) -> u64
     (byte as u64).wrapping_sub(48)
 }
 
-/// Returns the number that the digits at the front of a text stand for, the digits, and the text after them. The digits
-/// are at most 19.
-pub fn leading_digits(text: &[u8]) -> (u64, &[u8], &[u8])
+/// Returns the number that the digits at the front of a text stand for if they are at most 19, the digits, and the text
+/// after them. If the text is known to have an LF, its length plays no part.
+#[inline(always)]
+pub fn leading_digits(text: &[u8], has_lf: bool) -> (u64, &[u8], &[u8])
+    requires { IsTrue has_lf → IsFalse (is_one_line text.now) }
     ensures parts { text.now ≡ result.1.now ++ result.2.now }
-    ensures value { result.0 ≡ digits_value result.1.now }
+    ensures value { length result.1.now ≤ 19 → result.0 ≡ digits_value result.1.now }
     ensures digits { IsTrue (list_all is_digit result.1.now) }
-    ensures most { length result.1.now ≤ 19 }
 {
-    let most = text.len().min(19);
     let mut value: u64 = 0;
     let mut count = 0;
-    while count < most {
+    while has_lf || count < text.len() {
         let digit = digit_of(text[count]);
         if digit > 9 {
             break;
         }
-        value = value * 10 + digit;
+        value = value.wrapping_mul(10).wrapping_add(digit);
         count += 1;
     }
     let (digits, rest) = text.split_at(count);
     (value, digits, rest)
+}
+
+/// Returns false only if digits for a number from `low` on have no leading zero. It is true for `0` if that is too low.
+fn starts_with_zero(word: &[u8], low: u64) -> bool
+    requires { 0 < length word.now }
+    ensures { IsFalse result → leads_with_zero word.now ≡ false }
+{
+    word[0] == b'0' && (low > 0 || word.len() > 1)
+}
+
+/// Returns the number that digits spell, from `low` to `high`, if they are at most 19 and stand for this value. None says
+/// nothing about them.
+#[inline(always)]
+pub fn spelled(value: u64, word: &[u8], low: u64, high: u64) -> Option<u64>
+    requires value { length word.now ≤ 19 → value ≡ digits_value word.now }
+    requires digits { IsTrue (list_all is_digit word.now) }
+    ensures some { IfSome result (λ _. 0 < length word.now) }
+    ensures value { IfSome result (λ n. number_within low high word.now ≡ Some n) }
+    ensures range { IfSome result (λ n. (low ≤ n) × (n ≤ high)) }
+{
+    if word.is_empty() || word.len() > 19 || starts_with_zero(word, low) {
+        return None;
+    }
+    if value < low || high < value {
+        return None;
+    }
+    Some(value)
 }
 
 /// Returns the number from `low` to `high` that the digits at the front of a text spell, those digits, and the text
@@ -99,9 +119,7 @@ pub fn leading_number(text: &[u8], low: u64, high: u64) -> Option<(u64, &[u8], &
     ensures value { IfSome result (λ r. number_within low high r.1.now ≡ Some r.0) }
     ensures range { IfSome result (λ r. (low ≤ r.0) × (r.0 ≤ high)) }
 {
-    let (value, word, rest) = leading_digits(text);
-    if word.is_empty() || starts_with_zero(word) || value < low || high < value {
-        return None;
-    }
+    let (value, word, rest) = leading_digits(text, false);
+    let value = spelled(value, word, low, high)?;
     Some((value, word, rest))
 }

@@ -1,13 +1,14 @@
 //! The plan that the lines of a text make, one after another.
 
-ghost use Rattle.std.specs.Prelude.{◌≡◌, None, [], IfOk};
+ghost use Rattle.std.specs.Prelude.{◌≡◌, None, [], ◌∷◌, ◌++◌, IfOk, IfSome, IsTrue};
 ghost use Rattle.sabr_plan.specs.Commands.{HasBounds};
 ghost use Rattle.sabr_plan.specs.Leaving.{Leaves};
 ghost use Rattle.sabr_plan.specs.Reading.{kind_of};
+ghost use Rattle.sabr_plan.specs.Words.{is_one_line};
 ghost use Rattle.sabr_plan.specs.declared.command.Command.TheVariants.{Add, Delete};
 ghost use Rattle.sabr_plan.specs.declared.command.Target.TheVariants as target;
 
-use crate::command::{Addition, Command, Deletion, Target, line_command};
+use crate::command::{Addition, Command, Deletion, Target, swift_command};
 use crate::fault::PlanKind;
 use sabr_gathering::{GatheredContacts, GatheredRanges, gathered_plan};
 use sabr_model::{AddFault, NoMemory, Plan};
@@ -78,12 +79,13 @@ impl<A: Allocator + Copy> PlanReading<A> {
         gathered_plan(alloc, contacts, ranges)
     }
 
-    /// Reads a line without its LF, and does what it says.
+    /// Reads a line without its LF, and does what it says. It is faster if the line is also given with its LF.
     #[tactic(auto, unfolding(crate::specs::Reading::judged))]
-    pub fn judge(&mut self, line: &[u8]) -> Result<(), PlanKind>
+    pub fn judge(&mut self, line: &[u8], ended: Option<&[u8]>) -> Result<(), PlanKind>
+        requires { IfSome ended (λ e. IsTrue (is_one_line line.now) × (e.now ≡ line.now ++ 10 ∷ [])) }
         ensures { Leaves (judged self.old line.now) result self.new }
     {
-        let command = line_command(self.reference, line)?;
+        let command = swift_command(self.reference, line, ended)?;
         self.obey(command)
     }
 

@@ -1,11 +1,11 @@
 -- A relative time comes after the space.
-use Rattle.std.proofs.Common.{Option, Some, None, true, ℕ, List, [], ◌≡◌, ◌<◌, ◌≤◌, length, ◌∷◌, refl, sym, ap, ◌∙◌, arith}
+use Rattle.std.proofs.Common.{Option, Some, None, true, ℕ, List, ◌≡◌, ◌<◌, ◌≤◌, length, ◌∷◌, refl, sym, ap, ◌∙◌, arith}
 use Rattle.std.specs.List.{list_all}
 use Rattle.std.proofs.lemmas.Bool.Decides.{nat_tests}
 use borrow.Author.Tests.{le-leb, lt-ltb}
 use Rattle.sabr_plan.specs.Digits.{is_digit, digits_value}
 use Rattle.sabr_plan.specs.Operands.{after_reference, absolute_time, relative_of, time_at}
-use Rattle.sabr_plan.proofs.PlainWords.{behind_prefix, graphic_digits, graphic_behind}
+use Rattle.sabr_plan.proofs.PlainWords.{still_ended, graphic_digits, graphic_behind}
 use Rattle.sabr_plan.proofs.swift_line.time_ahead.Goals as goal
 
 module _ (digits : List ℕ) (some : 0 < length digits) (all : list_all is_digit digits ≡ true) where
@@ -20,10 +20,13 @@ returns-clause-word c =
     let d = c.leading_digits-seconds.ensures in
     let digits = c.leading_digits-seconds.result.1.now in
     let some : 0 < length digits = grind (arith, nat_tests) in
-    let value = ap (after_reference c.args.reference) (sym d.value) in
+    let value = ap (after_reference c.args.reference) (sym (d.value (omega (arith, c.if-digits-gt12.false)))) in
     record {
       word = 43 ∷ digits;
-      parts = behind_prefix c.args.text.now (32 ∷ 43 ∷ []) c.in_ok-behind.behind.now c.in_ok-behind.ensures.cases.0 c.in_ok-behind.ensures.cases.1 ∙ ap (λ s. 32 ∷ 43 ∷ s) d.parts;
+      parts = c.in_ok-word.ensures.parts ∙ ap (λ s. 32 ∷ s) (c.in_ok-behind.ensures.parts ∙ ap (λ s. 43 ∷ s) d.parts);
       graphic = graphic_behind 43 digits refl (graphic_digits digits d.digits);
       holds = relative digits some d.digits c.args.reference c.if-digits-gt12.false ∙ value ∙ sym c.after_reference.ensures ∙ c.in-Ok.is;
     }
+
+pub returns-clause-ended : goal.returns-clause-ended
+returns-clause-ended c = still_ended (returns-clause-word c) c.requires

@@ -1,11 +1,17 @@
 -- Each LF of a piece ends a line, and what comes after the last is held.
-use Rattle.std.proofs.Common.{◌≡◌, ◌-◌, length, take, drop, refl, arith, true, length-drop}
-use Rattle.std.proofs.lemmas.List.{take_all}
+use Rattle.std.proofs.Common.{◌≡◌, ◌-◌, [], ◌∷◌, ◌++◌, ap, ◌∙◌, length, take, drop, refl, arith, true, length-drop}
+use Rattle.std.proofs.lemmas.List.{take_all, take_more}
 use Rattle.std.proofs.lemmas.Result.{err_from_is_err_and}
 use Rattle.sabr_plan.specs.Words.{is_one_line}
 use Rattle.sabr_plan.proofs.Lines.{parted}
 use Rattle.sabr_plan.proofs.Feeds.{line_refused, line_read, line_grows, rest_held}
 use Rattle.sabr_plan.proofs.feed.PlanFeed.feed.Goals as goal
+
+pub end_line-requires-clause-ended : goal.end_line-requires-clause-ended
+end_line-requires-clause-ended g c =
+    let rest = c.loop-end.rest.now in
+    let end = c.in-Some.end in
+    rw c.split_at.ensures.front (take_more rest end 0 c.in-Some.ensures.0 ∙ ap (λ b. take end rest ++ b ∷ []) c.in-Some.ensures.1)
 
 pub returns-in_err-end_line-clause-fed : goal.returns-in_err-end_line-clause-fed
 returns-in_err-end_line-clause-fed g c =

@@ -28,7 +28,7 @@ returns-then-is_empty-clause-value g c =
     rw (← c.self.view_is, none, limited-judged (i.lines + 1) i.reading back (omega (arith, c.if-self-ge-MOST_LINES.false)) (omega (arith, c.if-back-len.false))) c.judge.ensures
 
 pub append-requires-clause-line : goal.append-requires-clause-line
-append-requires-clause-line g c = c.requires
+append-requires-clause-line g c = c.requires.line
 
 pub returns-clause-value : goal.returns-clause-value
 returns-clause-value g c =
