@@ -1,6 +1,6 @@
 //! The command in a line of a plan text.
 
-ghost use Rattle.std.specs.Prelude.{◌≡◌, ◌<◌, ◌≤◌, [], ◌∷◌, ◌++◌, Ok, Err, IfOk, IfSome, IsTrue};
+ghost use Rattle.std.specs.Prelude.{◌≡◌, ◌≢◌, ◌<◌, ◌≤◌, [], ◌∷◌, ◌++◌, Ok, Err, IfOk, IsTrue};
 ghost use Rattle.sabr_plan.specs.Words.{is_one_line, words_of};
 ghost use Rattle.sabr_plan.specs.Commands.{line_command, command_of, reference_of, target_of, targeted, addition_of, deletion_of, HasBounds};
 
@@ -65,20 +65,16 @@ fn line_command(reference: Option<u64>, line: &[u8]) -> Result<Command, PlanKind
     command_of(reference, line)
 }
 
-/// The same, quickly for most lines that are also given with their LF.
-pub fn swift_command(
-    reference: Option<u64>,
-    line: &[u8],
-    ended: Option<&[u8]>,
-) -> Result<Command, PlanKind>
-    requires { IfSome ended (λ e. IsTrue (is_one_line line.now) × (e.now ≡ line.now ++ 10 ∷ [])) }
+/// The same, quickly for most lines if `ended` is the line with its LF. Else it is empty.
+pub fn swift_command(reference: Option<u64>, line: &[u8], ended: &[u8]) -> Result<Command, PlanKind>
+    requires { ended.now ≢ [] → IsTrue (is_one_line line.now) × (ended.now ≡ line.now ++ 10 ∷ []) }
     ensures value { result ≡ line_command reference line.now }
     ensures bounds { IfOk result HasBounds }
 {
-    let Some(text) = ended else {
+    if ended.is_empty() {
         return line_command(reference, line);
-    };
-    match swift_addition(reference, text) {
+    }
+    match swift_addition(reference, ended) {
         Some(command) => Ok(command),
         None => line_command(reference, line),
     }

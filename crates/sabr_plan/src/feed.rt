@@ -165,10 +165,10 @@ impl<A: Allocator + Copy> PlanFeed<A> {
             return Err(PlanKind::LineTooLong);
         }
         if self.held.is_empty() {
-            return self.reading.judge(back, Some(ended));
+            return self.reading.judge(back, ended);
         }
         self.append(back);
-        self.reading.judge(self.held.as_slice(), None)
+        self.reading.judge(self.held.as_slice(), b"")
     }
 
     /// Holds more bytes of a line.

@@ -1,6 +1,6 @@
 //! The plan that the lines of a text make, one after another.
 
-ghost use Rattle.std.specs.Prelude.{◌≡◌, None, [], ◌∷◌, ◌++◌, IfOk, IfSome, IsTrue};
+ghost use Rattle.std.specs.Prelude.{◌≡◌, ◌≢◌, None, [], ◌∷◌, ◌++◌, IfOk, IsTrue};
 ghost use Rattle.sabr_plan.specs.Commands.{HasBounds};
 ghost use Rattle.sabr_plan.specs.Leaving.{Leaves};
 ghost use Rattle.sabr_plan.specs.Reading.{kind_of};
@@ -79,10 +79,11 @@ impl<A: Allocator + Copy> PlanReading<A> {
         gathered_plan(alloc, contacts, ranges)
     }
 
-    /// Reads a line without its LF, and does what it says. It is faster if the line is also given with its LF.
+    /// Reads a line without its LF, and does what it says. It is faster if `ended` is the line with its LF; else
+    /// that is empty.
     #[tactic(auto, unfolding(crate::specs::Reading::judged))]
-    pub fn judge(&mut self, line: &[u8], ended: Option<&[u8]>) -> Result<(), PlanKind>
-        requires { IfSome ended (λ e. IsTrue (is_one_line line.now) × (e.now ≡ line.now ++ 10 ∷ [])) }
+    pub fn judge(&mut self, line: &[u8], ended: &[u8]) -> Result<(), PlanKind>
+        requires { ended.now ≢ [] → IsTrue (is_one_line line.now) × (ended.now ≡ line.now ++ 10 ∷ []) }
         ensures { Leaves (judged self.old line.now) result self.new }
     {
         let command = swift_command(self.reference, line, ended)?;
