@@ -86,16 +86,13 @@ fn comes_after(opening: &Opening, other: &Opening) -> bool
     )
 }
 
-/// Makes room for an opening after so many, and if there is none for many more. Returns false if out of memory.
+/// Makes room for an opening after so many, and for many more. Returns false if out of memory.
 fn make_room<A: Allocator + Copy>(
     set: &mut IndexSet<Opening, BuildHasherDefault<FoldHasher>, A>,
     count: usize,
 ) -> bool
     ensures { set.new.keys ≡ set.old.keys }
 {
-    if count < set.capacity() {
-        return true;
-    }
     let room = if count < FEW { FEW } else { MOST_RECORDS };
     set.reserve(room.saturating_sub(set.len())).is_ok()
 }
@@ -109,13 +106,10 @@ fn note_all<A: Allocator + Copy>(
     ensures all { IsTrue result → set.new.keys ≡ openings_of contacts.now }
     ensures first { KnowsFirst set.new.keys contacts.now }
 {
-    if !make_room(set, contacts.len()) {
-        return false;
-    }
-    if set.len() >= contacts.len() {
+    if contacts.len() != FEW && set.len() >= contacts.len() {
         return true;
     }
-    note_rest(set, contacts)
+    make_room(set, contacts.len()) && note_rest(set, contacts)
 }
 
 /// The same, if there are some.
