@@ -1,4 +1,4 @@
--- What a route read off a table comes to: the answer, and the looks at contacts.
+-- What an answer that is told comes to, and the looks at contacts.
 use Rattle.std.proofs.Common.{◌≡◌, inl, inr, ℕ, ◌+◌, ◌-◌, ◌*◌, ◌<◌, ◌≤◌, ◌⊎◌, Bool, true, false, cond, List, [], ◌∷◌, ◌++◌, length, Option, Some, None, ap, ◌∙◌, arith, length-append}
 use Rattle.std.specs.Prelude.{IfSome, IfNone, IsTrue, nat_eq}
 use Rattle.std.specs.Set.{distinct_count, is_member, unique_keys}
@@ -12,7 +12,6 @@ use Rattle.sabr_search.specs.Task.{SearchTask, IsTask, IsBehind}
 use Rattle.sabr_search.specs.Picks.{IsLeastWay}
 use Rattle.sabr_search.specs.Told.{hops_told}
 use Rattle.sabr_search.specs.Answers.{IsAnswered}
-use Rattle.sabr_search.specs.Following.{IsFound}
 use Rattle.sabr_search.proofs.Prefixes.{IsPrefix, prefix_facts}
 use Rattle.sabr_search.proofs.FirstLimits.{answered_is_least}
 use Rattle.sabr_search.proofs.PartWays.{way_is_route}
@@ -29,17 +28,7 @@ followed_sizes task is prefix behind facts most s route contacts short least =
 pub followed_longer : (task : SearchTask) (prefix : List ℕ) (most : ℕ) (s : List ℕ) (route : RouteRecord) → route.contacts ≡ prefix ++ s → IsLeastWay task most (route.delivery + 1) s route.delivery → length prefix < length route.contacts
 followed_longer task prefix most s route contacts least = omega (arith, ap length contacts, length-append prefix s, least.some)
 
--- what a finder reports of a part: a route that is found, or that there is none
-pub told_sizes : (task : SearchTask) → IsTask task → (prefix : List ℕ) → IsBehind task prefix → IsPrefix task.plan task.request prefix → (most : ℕ) → most ≡ task.request.max_hops → (o : Option RouteRecord) → IfSome o (IsFound task prefix most) →
-    (hops_told o ≤ length task.plan.contacts) × (hops_told o - length prefix ≤ length task.table)
-told_sizes task is prefix behind facts most most_is None told = (omega arith, omega arith)
-told_sizes task is prefix behind facts most most_is (Some route) told = followed_sizes task is prefix behind facts most told.0 route told.1 (omega (arith, told.2, most_is)) told.3
-
-pub told_longer : (task : SearchTask) (prefix : List ℕ) (most : ℕ) (o : Option RouteRecord) → IfSome o (IsFound task prefix most) → IfSome o (λ route. length prefix < length route.contacts)
-told_longer task prefix most None told = tt
-told_longer task prefix most (Some route) told = followed_longer task prefix most told.0 route told.1 told.3
-
--- so an answer with the hops that are left
+-- what an answer with the hops that are left comes to
 pub answered_sizes : (task : SearchTask) → IsTask task → (prefix : List ℕ) → IsBehind task prefix → IsPrefix task.plan task.request prefix → (left : ℕ) → length prefix + left ≡ task.request.max_hops → (o : Option RouteRecord) → IsAnswered task prefix left o → hops_told o ≤ length task.plan.contacts
 answered_sizes task is prefix behind facts left all None answered = omega arith
 answered_sizes task is prefix behind facts left all (Some route) answered =

@@ -6,7 +6,7 @@ use Rattle.sabr_search.specs.Ways.{Leads}
 use Rattle.sabr_search.specs.Task.{SearchTask, Takes, IsTask}
 use Rattle.sabr_search.specs.Made.{Entry}
 use Rattle.sabr_search.specs.Late.{AreArrivals, AreLateLayers, IsEnded}
-use Rattle.sabr_search.specs.Following.{IsNoneBefore}
+use Rattle.sabr_search.specs.FirstSteps.{IsNoneBefore}
 use Rattle.sabr_search.proofs.Ways.{Leads-append, Leads-later}
 use Rattle.sabr_search.proofs.Bridge.{takes_timely}
 use Rattle.sabr_search.proofs.FirstWays.{goal_other}

@@ -12,7 +12,7 @@ use Rattle.sabr_search.specs.declared.pick.Standing.{Standing}
 use Rattle.sabr_search.specs.Ways.{Leads}
 use Rattle.sabr_search.specs.Task.{SearchTask, Takes, IsTask}
 use Rattle.sabr_search.specs.Picks.{IsLeastWay}
-use Rattle.sabr_search.specs.Following.{tabled_of, HasNoWay, IsFound}
+use Rattle.sabr_search.specs.FirstSteps.{tabled_of}
 use Rattle.sabr_search.specs.Answers.{narrowed, Narrows, HasNoWayWithin, IsAnswered}
 use Rattle.sabr_search.specs.KeptAnswers.{asked, AreListed, IsFoundWay, IsAnswer, Covers, IsAnswerTo, AnswersAt, IsPut, Arrives}
 use Rattle.sabr_search.proofs.Staying.{answers_stay}
@@ -183,25 +183,6 @@ kept_is task a goal_is found node at same listed = record {
   listed = listed;
   found = subst (λ t. IsFoundWay t a.left a.way.items a.delivery) (sym (asked_is task a node same at)) found;
 }
-
--- what is found with all hops allowed is the answer with the hops that are left
-pub found_answers : (task : SearchTask) (prefix : List ℕ) (most left : ℕ) → length prefix + left ≡ most → (o : Option RouteRecord) → IfNone o (HasNoWay task) → IfSome o (IsFound task prefix most) → IsAnswered task prefix left o
-found_answers task prefix most left all None none found = λ ns e within way. none ns e way
-found_answers task prefix most left all (Some route) none found =
-    let least = found.3 in (
-      found.0,
-      found.1,
-      record {
-        some = least.some;
-        within = omega (arith, found.2, all);
-        below = least.below;
-        way = least.way;
-        fewest = least.fewest;
-        least = λ ns e within way. least.least ns e (omega (arith, within, all)) way;
-        front = least.front;
-      },
-      found.4,
-    )
 
 -- what holds for those before and for the one that was put holds for all
 pub put_all : {A : Type 0} (P : Answer A → Type 0) (old new : List (Answer A)) (a : Answer A) → All P old → P a → IsPut old new a → All P new

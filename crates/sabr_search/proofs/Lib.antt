@@ -30,10 +30,12 @@ pub mod Shortness
 pub mod FirstLimits
 pub mod Cuts
 pub mod FaultsOfPrefixes
-pub mod Tables
+pub mod Tabled
 pub mod AllLayers
+pub mod SpanLists
+pub mod Walks
 pub mod Beside
-pub mod Tries
+pub mod Since
 pub mod Ended
 pub mod Rising
 pub mod Staying

@@ -10,7 +10,7 @@ use Rattle.sabr_search.specs.declared.queue.Event.{Event}
 use Rattle.sabr_search.specs.declared.layers.Best.{Best}
 use Rattle.sabr_search.specs.Task.{SearchTask, Takes, IsTask, never}
 use Rattle.sabr_search.specs.Lists.{AreClosed, IsKnown}
-use Rattle.sabr_search.specs.Settling.{AreSettledBy, settled_count, IsWayTo, IsQueue, IsFirst, AreSettling, IsFallen, AreSettledTaken}
+use Rattle.sabr_search.specs.Settling.{AreSettledBy, AreBy, settled_count, IsWayTo, IsQueue, IsFirst, AreSettling, IsFallen, AreSettledTaken}
 use Rattle.sabr_search.proofs.Ways.{Leads-append}
 use Rattle.sabr_search.proofs.Bridge.{takes_timely}
 use Rattle.sabr_search.proofs.Forward.{known_lower}
@@ -59,14 +59,16 @@ way_more task is n u h t w x way step = (
 )
 
 -- the delivery is better, by a way of no more hops than there are settled nodes
-pub found_better : (task : SearchTask) (settled : List Bool) (t : ℕ) (arrival : List ℕ) (queue : List Event) (best : Best) (delivery hops : ℕ) → AreSettling task settled t arrival queue best →
-    hops < settled_count settled → IsWayTo task task.goal (hops + 1) delivery → AreSettling task settled t arrival queue (record { delivery = delivery; hops = hops + 1 })
-found_better task settled t arrival queue best delivery hops so_far few way = record {
+pub found_better : (task : SearchTask) (late : List ℕ) (ceiling : ℕ) (settled : List Bool) (t : ℕ) (arrival : List ℕ) (queue : List Event) (best : Best) (delivery hops : ℕ) → AreSettling task late ceiling settled t arrival queue best →
+    hops < settled_count settled → delivery < best.delivery → IsWayTo task task.goal (hops + 1) delivery → AreSettling task late ceiling settled t arrival queue (record { delivery = delivery; hops = hops + 1 })
+found_better task late ceiling settled t arrival queue best delivery hops so_far few less way = record {
   flags = so_far.flags;
   closed = so_far.closed;
   early = so_far.early;
+  lowered = so_far.lowered;
   queue_is = so_far.queue_is;
   found = inr (omega arith, omega arith, way);
+  sooner = omega (arith, less, so_far.sooner);
 }
 
 waits_on : (event : Event) (queue queue' : List Event) (a b h k : ℕ) → a ≡ b → Contains queue (record { at = a; hops = h; node = k }) → IsPermutation (event ∷ queue) queue' → Contains queue' (record { at = b; hops = h; node = k })
@@ -74,12 +76,12 @@ waits_on event queue queue' a b h k same waits moved =
     rw (← same) (Contains-permutation (event ∷ queue) queue' (record { at = a; hops = h; node = k }) moved (Contains-append_right (event ∷ []) queue (record { at = a; hops = h; node = k }) waits))
 
 -- what is reached sooner is open
-pub open_sooner : (task : SearchTask) (settled : List Bool) (t w b : ℕ) (arrival : List ℕ) (queue : List Event) (best : Best) → AreSettling task settled t arrival queue best →
+pub open_sooner : (task : SearchTask) (late : List ℕ) (ceiling : ℕ) (settled : List Bool) (t w b : ℕ) (arrival : List ℕ) (queue : List Event) (best : Best) → AreSettling task late ceiling settled t arrival queue best →
     t ≤ b → b < slice_index arrival w → slice_index_or task.shut w false ≡ false
-open_sooner task settled t w b arrival queue best so_far later less = false_from_ne_true (slice_index_or task.shut w false) (λ on. omega (arith, so_far.closed w on))
+open_sooner task late ceiling settled t w b arrival queue best so_far later less = false_from_ne_true (slice_index_or task.shut w false) (λ on. omega (arith, so_far.closed w on))
 
 -- an open node is reached sooner, and an event waits for it
-module _ (task : SearchTask) (settled : List Bool) (t w b h : ℕ) (arrival : List ℕ) (queue queue' : List Event) (best : Best) (so_far : AreSettling task settled t arrival queue best)
+module _ (task : SearchTask) (late : List ℕ) (ceiling : ℕ) (settled : List Bool) (t w b h : ℕ) (arrival : List ℕ) (queue queue' : List Event) (best : Best) (so_far : AreSettling task late ceiling settled t arrival queue best)
     (later : t ≤ b) (within : w < length arrival) (less : b < slice_index arrival w) (other : w ≢ task.goal) (way : IsWayTo task w h b) (few : h ≤ settled_count settled)
     (moved : IsPermutation (record { at = b; hops = h; node = w } ∷ queue) queue') where
   unsettled : slice_index_or settled w false ≡ false
@@ -91,7 +93,7 @@ module _ (task : SearchTask) (settled : List Bool) (t w b h : ℕ) (arrival : Li
   kept : (k : ℕ) → slice_index_or settled k false ≡ true → slice_index (slice_set arrival w b) k ≡ slice_index arrival k
   kept k on = set_other arrival w b k (λ same. both_ways (slice_index_or settled w false) unsettled (rw same at on))
 
-  queue_more : IsQueue task settled (slice_set arrival w b) queue'
+  queue_more : IsQueue task late settled (slice_set arrival w b) queue'
   queue_more =
       let was = so_far.queue_is in
       let arrival' = slice_set arrival w b in
@@ -108,6 +110,8 @@ module _ (task : SearchTask) (settled : List Bool) (t w b h : ℕ) (arrival : Li
         ];
         late = All-permutation (λ (e : Event). slice_index arrival' e.node ≤ e.at) (event ∷ queue) queue' moved
             (All-cons (λ (e : Event). slice_index arrival' e.node ≤ e.at) event queue (omega (arith, here)) (All-weaker (λ (e : Event). slice_index arrival e.node ≤ e.at) (λ (e : Event). slice_index arrival' e.node ≤ e.at) (λ e le. omega (arith, falls e.node)) queue was.late));
+        before = All-permutation (λ (e : Event). e.at < slice_index_or late e.node never) (event ∷ queue) queue' moved
+            (All-cons (λ (e : Event). e.at < slice_index_or late e.node never) event queue (omega (arith, less, so_far.lowered w (open_sooner task late ceiling settled t w b arrival queue best so_far later less))) was.before);
         order = All-permutation (λ (e : Event). AreSettledBy settled arrival' e.at) (event ∷ queue) queue' moved
             (All-cons (λ (e : Event). AreSettledBy settled arrival' e.at) event queue (λ k on. omega (arith, kept k on, so_far.early k on)) (All-weaker (λ (e : Event). AreSettledBy settled arrival e.at) (λ (e : Event). AreSettledBy settled arrival' e.at) (λ e by k on. omega (arith, kept k on, by k on)) queue was.order));
         since = All-permutation (λ (e : Event). AreClosed task.shut arrival' e.at) (event ∷ queue) queue' moved
@@ -115,7 +119,7 @@ module _ (task : SearchTask) (settled : List Bool) (t w b h : ℕ) (arrival : Li
         inside = All-permutation (λ (e : Event). e.node < length arrival') (event ∷ queue) queue' moved
             (All-cons (λ (e : Event). e.node < length arrival') event queue (omega (arith, many)) (All-weaker (λ (e : Event). e.node < length arrival) (λ (e : Event). e.node < length arrival') (λ e lt. omega (arith, many)) queue was.inside));
         unshut = All-permutation (λ (e : Event). slice_index_or task.shut e.node false ≡ false) (event ∷ queue) queue' moved
-            (All-cons (λ (e : Event). slice_index_or task.shut e.node false ≡ false) event queue (open_sooner task settled t w b arrival queue best so_far later less) was.unshut);
+            (All-cons (λ (e : Event). slice_index_or task.shut e.node false ≡ false) event queue (open_sooner task late ceiling settled t w b arrival queue best so_far later less) was.unshut);
         other = All-permutation (λ (e : Event). e.node ≢ task.goal) (event ∷ queue) queue' moved
             (All-cons (λ (e : Event). e.node ≢ task.goal) event queue other was.other);
         real = All-permutation (λ (e : Event). IsWayTo task e.node e.hops e.at) (event ∷ queue) queue' moved
@@ -124,13 +128,15 @@ module _ (task : SearchTask) (settled : List Bool) (t w b h : ℕ) (arrival : Li
             (All-cons (λ (e : Event). e.hops ≤ settled_count settled) event queue few was.few);
       }
 
-  pub pushed : AreSettling task settled t (slice_set arrival w b) queue' best
+  pub pushed : AreSettling task late ceiling settled t (slice_set arrival w b) queue' best
   pushed = record {
     flags = set_many arrival w b ∙ so_far.flags;
     closed = λ k e. omega (arith, falls k, so_far.closed k e);
     early = λ k e. omega (arith, kept k e, so_far.early k e);
+    lowered = λ k open'. omega (arith, falls k, so_far.lowered k open');
     queue_is = queue_more;
     found = so_far.found;
+    sooner = so_far.sooner;
   }
 
   pub pushed_falls : IsFallen settled arrival best (slice_set arrival w b) best
@@ -167,8 +173,8 @@ only_one e x (zero, lt, same) = ap (λ (f : Event). f.node) (sym same)
 only_one e x (suc i, lt, same) = absurd (omega arith)
 
 -- the earliest event is taken out
-module _ (task : SearchTask) (settled : List Bool) (arrival : List ℕ) (queue queue' : List Event) (e : Event)
-    (was : IsQueue task settled arrival queue) (moved : IsPermutation queue (e ∷ queue')) (first : All (λ (f : Event). e.at ≤ f.at) queue') where
+module _ (task : SearchTask) (bounds : List ℕ) (settled : List Bool) (arrival : List ℕ) (queue queue' : List Event) (e : Event)
+    (was : IsQueue task bounds settled arrival queue) (moved : IsPermutation queue (e ∷ queue')) (first : All (λ (f : Event). e.at ≤ f.at) queue') where
   head : (P : Event → Type 0) → All P queue → P e
   head P all = All-head P e queue' (All-permutation P queue (e ∷ queue') moved all)
 
@@ -211,9 +217,9 @@ module _ (task : SearchTask) (settled : List Bool) (arrival : List ℕ) (queue q
       only (suc i, lt, same) = absurd (omega arith)
 
   -- the event of a node that is not settled comes with its arrival
-  pub head_arrives : slice_index_or settled e.node false ≡ false → e.at < never → slice_index arrival e.node ≡ e.at
-  head_arrives off early =
-      let waits = was.waits e.node head_inside head_open off (omega (arith, head_late)) in
+  pub head_arrives : slice_index_or settled e.node false ≡ false → slice_index arrival e.node ≡ e.at
+  head_arrives off =
+      let waits = was.waits e.node head_inside head_open off (omega (arith, head_late, head (λ (f : Event). f.at < slice_index_or bounds f.node never) was.before)) in
       omega (arith, head_late, waits_later (record { at = slice_index arrival e.node; hops = waits.0; node = e.node }) waits.1)
 
   -- its node is settled
@@ -230,7 +236,7 @@ module _ (task : SearchTask) (settled : List Bool) (arrival : List ℕ) (queue q
         let other : k ≢ e.node = λ same. (let on : slice_index_or (slice_set settled e.node true) k false ≡ true = rw same (flag_here settled e.node within) in cc) in
         (other, sym (flag_other settled e.node k other) ∙ off)
 
-    queue_settled : IsQueue task (slice_set settled e.node true) arrival queue'
+    queue_settled : IsQueue task bounds (slice_set settled e.node true) arrival queue'
     queue_settled = record {
       waits = λ k inside open' off reached.
           let before = unsettled_before k off in
@@ -240,6 +246,7 @@ module _ (task : SearchTask) (settled : List Bool) (arrival : List ℕ) (queue q
             | inr rest ↦ (waits.0, rest)
           ];
       late = tail (λ (f : Event). slice_index arrival f.node ≤ f.at) was.late;
+      before = tail (λ (f : Event). f.at < slice_index_or bounds f.node never) was.before;
       order = λ i d lt. early_after _ (first i d lt) (tail (λ (f : Event). AreSettledBy settled arrival f.at) was.order i d lt);
       since = tail (λ (f : Event). AreClosed task.shut arrival f.at) was.since;
       inside = tail (λ (f : Event). f.node < length arrival) was.inside;
@@ -250,17 +257,20 @@ module _ (task : SearchTask) (settled : List Bool) (arrival : List ℕ) (queue q
     }
 
     -- so its contacts can be taken
-    pub settles : (best : Best) → length arrival ≡ length task.shut → IsFirst task settled best → AreSettling task (slice_set settled e.node true) e.at arrival queue' best
-    settles best flags found = record {
+    pub settles : (ceiling : ℕ) (best : Best) → length arrival ≡ length task.shut → AreBy task bounds arrival → best.delivery ≤ ceiling → IsFirst task ceiling settled best →
+        AreSettling task bounds ceiling (slice_set settled e.node true) e.at arrival queue' best
+    settles ceiling best flags lowered sooner found = record {
       flags = flags;
       closed = head_since;
       early = early_after e.at (omega arith) head_order;
+      lowered = lowered;
       queue_is = queue_settled;
+      sooner = sooner;
       found = elim found [ inl none ↦ inl none | inr way ↦ inr (way.0, omega (arith, way.1, count_more settled e.node within unsettled), way.2) ];
     }
 
   -- an event of a node that is settled already goes
-  pub queue_stale : slice_index_or settled e.node false ≡ true → IsQueue task settled arrival queue'
+  pub queue_stale : slice_index_or settled e.node false ≡ true → IsQueue task bounds settled arrival queue'
   queue_stale on = record {
     waits = λ k inside open' off reached.
         let waits = was.waits k inside open' off reached in
@@ -270,6 +280,7 @@ module _ (task : SearchTask) (settled : List Bool) (arrival : List ℕ) (queue q
           | inr rest ↦ (waits.0, rest)
         ];
     late = tail (λ (f : Event). slice_index arrival f.node ≤ f.at) was.late;
+    before = tail (λ (f : Event). f.at < slice_index_or bounds f.node never) was.before;
     order = tail (λ (f : Event). AreSettledBy settled arrival f.at) was.order;
     since = tail (λ (f : Event). AreClosed task.shut arrival f.at) was.since;
     inside = tail (λ (f : Event). f.node < length arrival) was.inside;

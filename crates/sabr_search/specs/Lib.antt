@@ -15,8 +15,10 @@ pub mod Told
 pub mod Entering
 pub mod Part
 pub mod KeptAnswers
+pub mod Graph
+pub mod Dues
 pub mod Kept
-pub mod Following
-pub mod Laying
+pub mod FirstSteps
+pub mod Whole
 pub mod Answers
 pub mod WideTasks

@@ -12,12 +12,12 @@ use Rattle.sabr_search.specs.Lists.{AreLists, AreClosed}
 abbrev pub Entry : List ℕ → List Reached → Entries
 Entry bounds reached h v a x = (p : ℕ) × (slice_index bounds h ≤ p) × (p < slice_index bounds (h + 1)) × (slice_get reached p ≡ Some (record { node = v; arrival = a; deadline = x }))
 
--- nothing is reached but the start
-pub record AreOpened (task : SearchTask) (arrival : List ℕ) : Type 0 where
+-- nothing is reached but the start; an open node is as if it were reached when it is too late there
+pub record AreOpened (task : SearchTask) (late arrival : List ℕ) : Type 0 where
   pub flags : length arrival ≡ length task.shut
   pub closed : AreClosed task.shut arrival task.at
   pub start : slice_index arrival task.start ≡ task.at
-  pub unreached : (k : ℕ) → k < length arrival → slice_index_or task.shut k false ≡ false → slice_index arrival k ≡ never
+  pub unreached : (k : ℕ) → k < length arrival → slice_index_or task.shut k false ≡ false → slice_index arrival k ≡ slice_index_or late k never
 
 -- no delivery below the ceiling is found, or one within so many hops
 abbrev pub IsFound : SearchTask → ℕ → ℕ → Best → Type 0

@@ -1,5 +1,5 @@
 -- The question of a search, and the steps that it may take.
-use Rattle.std.specs.Prelude.{IsTrue, ◌≡◌, ℕ, ◌-◌, ◌^◌, ◌≤◌, ◌<◌, Bool, true, false, ◌||◌, List, ◌∷◌, length, slice_get, slice_index_or}
+use Rattle.std.specs.Prelude.{IsTrue, ◌≡◌, ℕ, ◌-◌, ◌^◌, ◌≤◌, ◌<◌, Bool, true, false, ◌||◌, List, [], ◌∷◌, length, slice_get, slice_index_or}
 use Rattle.std.specs.declared.option.Option.TheVariants.{Some}
 use Rattle.sabr_model.specs.declared.contact.Contact.{Contact}
 use Rattle.sabr_model.specs.Plan.{ContactPlan, TabledPlan, IsPlan, contact_named, has}
@@ -76,6 +76,11 @@ pub record IsBehind (task : SearchTask) (prefix : List ℕ) : Type 0 where
   pub arrives : arrival_after task.plan task.request task.request.at prefix ≡ Some task.at
   pub goal_is : slice_get task.table task.goal ≡ Some task.request.destination
   pub shuts : (k x : ℕ) → slice_get task.table k ≡ Some x → slice_index_or task.shut k false ≡ is_closed task.plan task.request prefix x
+
+-- the goal is the destination, and no node is open that the request closes: the source, and those to avoid
+pub record IsOfRequest (task : SearchTask) : Type 0 where
+  pub goal_is : slice_get task.table task.goal ≡ Some task.request.destination
+  pub closes : (k x : ℕ) → slice_get task.table k ≡ Some x → slice_index_or task.shut k false ≡ false → is_closed task.plan task.request [] x ≡ false
 
 -- a question after a prefix: the search starts where the prefix ends, and the limit on hops is the request's
 pub record IsAsked (task : SearchTask) (prefix : List ℕ) (max_hops : ℕ) : Type 0 where

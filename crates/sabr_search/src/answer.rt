@@ -1,12 +1,14 @@
 //! The least route after a prefix, from layers made backward and picks, with its record.
 
-ghost use Rattle.std.specs.Prelude.{◌≡◌, ◌+◌, ◌*◌, ◌-◌, ◌^◌, ◌≤◌, ◌<◌, IfOk, IfSome, IfNone, OnErr, length};
-ghost use Rattle.sabr_search.specs.Task.{IsTask, never};
+ghost use Rattle.std.specs.Prelude.{◌≡◌, ℕ, ◌+◌, ◌*◌, ◌-◌, ◌^◌, ◌≤◌, ◌<◌, IfOk, IfSome, IfNone, OnErr, IsTrue, length};
+ghost use Rattle.sabr_search.specs.Task.{IsTask, never, most_nodes};
+ghost use Rattle.sabr_search.specs.KeptAnswers.{IsFoundWay};
 ghost use Rattle.sabr_search.specs.Late.{AreArrivals, IsEnded, IsNoneSooner, HasWayAt, IsNoneSeen};
-ghost use Rattle.sabr_search.specs.Following.{IsNoneBefore};
+ghost use Rattle.sabr_search.specs.FirstSteps.{IsNoneBefore};
 ghost use Rattle.sabr_search.specs.Answers.{IsLeastAfter};
 ghost use Rattle.sabr_search.specs.Told.{hops_told};
 
+use crate::answers::FoundWay;
 use crate::from_goal::Aim;
 use crate::layers::{Layers, Limits};
 use crate::looks::Looks;
@@ -17,7 +19,56 @@ use std::alloc::Allocator;
 /// More looks than layers may take, and those that picks may take as well.
 const MANY_LOOKS: u64 = 1 << 61;
 
+/// What layers backward show: the least way, or that no way delivers by the second that they are made for.
+#[derive(Drop)]
+pub struct WayBack<A: Allocator + Copy> {
+    pub way: Option<FoundWay<A>>,
+    pub is_none: bool,
+}
+
 impl<A: Allocator + Copy> Layers<A> {
+    /// The least way that delivers as is aimed at, of at most so many hops, if there is one and `most` looks show it. No
+    /// way delivers sooner.
+    pub fn way_by(
+        &mut self,
+        aim: &Aim<'_, '_, '_, A>,
+        looks: &mut Looks,
+        hops: usize,
+        most: u64,
+    ) -> Result<WayBack<A>, NoMemory>
+        requires task { IsTask aim.now.task.now }
+        requires nodes { hops ≤ most_nodes }
+        requires few { looks.old.count ≤ most }
+        requires most { most ≤ 2 ^ 60 }
+        requires early { aim.now.delivery < never }
+        requires arrivals { AreArrivals aim.now.task.now aim.now.since.now }
+        requires least { IsNoneBefore aim.now.task.now aim.now.delivery }
+        ensures looks { looks.new.count ≤ most }
+        ensures found { IfOk result (λ back. IfSome back.way (λ found. (left : ℕ) → hops ≤ left → IsFoundWay aim.now.task.now left found.numbers.items found.delivery)) }
+        ensures none { IfOk result (λ back. IsTrue back.is_none → IsNoneBefore aim.now.task.now (aim.now.delivery + 1)) }
+    {
+        let made = self.make_back(aim, looks, hops, most)?;
+        let Some(far) = made else {
+            let is_none = self.have_ended();
+            return Ok(WayBack { way: None, is_none });
+        };
+        let picked = self.pick(aim, looks, far, &[], most)?;
+        let Some(numbers) = picked else {
+            return Ok(WayBack {
+                way: None,
+                is_none: false,
+            });
+        };
+        let way = FoundWay {
+            numbers,
+            delivery: aim.delivery,
+        };
+        Ok(WayBack {
+            way: Some(way),
+            is_none: false,
+        })
+    }
+
     /// Returns the least route after the prefix, if layers made backward from the goal show one of at most so many hops
     /// that delivers as is aimed at. No way of as many hops delivers sooner. None as in `make_back`.
     pub fn answer_back(

@@ -4,17 +4,21 @@
 //! shuts more, starts no earlier and leaves no more hops, as long as its way may be taken and delivers at the same second.
 //! Where there was none, there is none.
 
-ghost use Rattle.std.specs.Prelude.{◌≡◌, ◌+◌, ◌^◌, ◌≤◌, ◌<◌, [], Some, All, IfOk, IfSome, IfNone, IsTrue, OnErr, length, slice_get, drop};
+ghost use Rattle.std.specs.Prelude.{◌≡◌, ◌+◌, ◌++◌, ◌^◌, ◌≤◌, ◌<◌, [], Some, All, IfOk, IfSome, IfNone, IsTrue, OnOk, OnErr, length, slice_get, drop};
 ghost use Rattle.sabr_search.specs.Ways.{Leads};
-ghost use Rattle.sabr_search.specs.Task.{IsTask, Takes};
+ghost use Rattle.sabr_search.specs.Task.{IsTask, IsOfRequest, Takes};
+ghost use Rattle.sabr_search.specs.WideTasks.{ShutsFewer};
 ghost use Rattle.sabr_search.specs.Told.{hops_told};
-ghost use Rattle.sabr_search.specs.Following.{tabled_of};
-ghost use Rattle.sabr_search.specs.Answers.{IsAnswered};
+ghost use Rattle.sabr_search.specs.FirstSteps.{tabled_of};
+ghost use Rattle.sabr_search.specs.Answers.{IsAnswered, narrowed};
 ghost use Rattle.sabr_search.specs.KeptAnswers.{AllShut, Covers, IsAnswerTo, AnswersAt, IsFoundWay, IsAnswer, IsPut};
 
 use crate::looks::Looks;
+use crate::payoff::Payoff;
 use crate::pick::Standing;
+use crate::shut::Shut;
 use crate::task::Task;
+use crate::wide::shut_one;
 use sabr_model::{NoMemory, Route};
 use std::alloc::{Allocator, Global};
 
@@ -31,18 +35,47 @@ const COMPARED: usize = 16;
 const MOST_EXCLUDED: usize = 64;
 
 /// Questions after a longer prefix aren't kept: an answer lists the nodes that were shut. Without a limit 4096 answers of a
-/// line of 20000 contacts would take some 600 MB; other limits weren't tried.
-const MOST_PREFIX: usize = 64;
+/// line of 20000 contacts would take some 600 MB, with this one 4 MB. With 64 the half of all questions over a grid of 1600
+/// nodes weren't kept.
+const MOST_PREFIX: usize = 128;
 
-/// The answers to so many wide questions must have answered as many, or `REST` go by. With 64 a page of 300 routes over relays
-/// took 14 percent more looks than without wide questions, since fewer are answered there; over satellites all are.
-const ASKED: u32 = 16;
+/// The answers to so many wide questions must have answered as many, or `REST` go by. With 16, a copy of this design in plain
+/// Rust took a third more instructions over a grid of 64 nodes and 7 percent more over walkers, and 4 percent fewer over
+/// relays, where few are answered.
+const ASKED: u32 = 64;
 
 /// So many wide questions go by before one is asked again. Taken from a native prototype, not varied.
 const REST: u32 = 1024;
 
 /// The place of no answer.
 const NONE: usize = usize::MAX;
+
+/// Which nodes a question shuts: those of its prefix, those that each search from its start shuts, or these and those that an
+/// earlier answer needs shut.
+#[derive(Clone, Copy)]
+pub enum Breadth {
+    Own,
+    Wide,
+    Near,
+}
+
+/// An answer that would be the answer to a question, too, if its way passed no shut node.
+#[derive(Clone, Copy)]
+struct Near {
+    /// Its place; `NONE` if there is none.
+    place: usize,
+    /// How many nodes its question shut.
+    shut: usize,
+    /// The first shut node that its way passes.
+    node: usize,
+}
+
+/// No such answer.
+const NO_NEAR: Near = Near {
+    place: NONE,
+    shut: 0,
+    node: 0,
+};
 
 /// What was asked, and the answer.
 #[derive(Drop)]
@@ -59,8 +92,8 @@ pub struct Answer<A: Allocator + Copy = Global> {
     pub way: Vec<u32, A>,
     /// When the way delivers.
     pub delivery: u64,
-    /// Whether the question was a wide one.
-    pub wide: bool,
+    /// Which nodes the question shut.
+    pub breadth: Breadth,
     /// The place of the answer that was put into the same bucket before.
     pub next: usize,
 }
@@ -78,12 +111,12 @@ pub struct Answers<A: Allocator + Copy = Global> {
     next: usize,
     /// By bucket the place of the latest answer.
     heads: Vec<usize, A>,
-    /// How many wide questions were asked of late.
-    asked: u32,
-    /// How many questions their answers have answered.
-    won: u32,
-    /// How many questions go by before a wide one is asked again.
-    rest: u32,
+    /// For the last question that was looked up, the near answer whose question shut most nodes.
+    near: Near,
+    /// Whether wide questions pay.
+    wide: Payoff,
+    /// Whether those near an answer pay.
+    nearer: Payoff,
 }
 
 /// Returns whether each of these nodes is shut.
@@ -132,6 +165,20 @@ fn way_of<A: Allocator + Copy>(
     })
 }
 
+/// The numbers of a way after those of a prefix.
+pub fn joined<A: Allocator + Copy>(
+    alloc: A,
+    prefix: &[u32],
+    way: &[u32],
+) -> Result<Vec<u32, A>, NoMemory>
+    ensures { IfOk result (λ v. v.items ≡ prefix.now ++ way.now) }
+{
+    let mut contacts = Vec::with_capacity(alloc, prefix.len() + way.len())?;
+    contacts.extend_from_slice(prefix)?;
+    contacts.extend_from_slice(way)?;
+    Ok(contacts)
+}
+
 impl<A: Allocator + Copy> Answer<A> {
     /// Makes the answer to a question from its least way.
     fn of(
@@ -139,7 +186,7 @@ impl<A: Allocator + Copy> Answer<A> {
         task: &Task<'_, A>,
         left: usize,
         found: FoundWay<A>,
-        wide: bool,
+        breadth: Breadth,
         next: usize,
     ) -> Result<Answer<A>, NoMemory>
         requires goal { slice_get task.now.table task.now.goal ≡ Some task.now.request.destination }
@@ -161,7 +208,7 @@ impl<A: Allocator + Copy> Answer<A> {
             shut,
             way: found.numbers,
             delivery: found.delivery,
-            wide,
+            breadth,
             next,
         })
     }
@@ -181,8 +228,8 @@ impl<A: Allocator + Copy> Answer<A> {
     }
 
     /// Goes along its way from where a question stands, a look for each contact; returns whether it delivers at the same
-    /// second, within `most` looks.
-    fn leads(&self, task: &Task<'_, A>, looks: &mut Looks, most: u64) -> bool
+    /// second, within `most` looks. Notes the first shut node that it passes.
+    fn leads(&self, task: &Task<'_, A>, looks: &mut Looks, most: u64, passed: &mut usize) -> bool
         requires task { IsTask task.now }
         requires goal { slice_get task.now.table task.now.goal ≡ Some task.now.request.destination }
         requires answer { IsAnswer (tabled_of task.now) task.now.request self.now }
@@ -202,7 +249,7 @@ impl<A: Allocator + Copy> Answer<A> {
             if looks.count >= most {
                 return false;
             }
-            let Some(next) = task.arrive_by(looks, self.way[place], from.at) else {
+            let Some(next) = task.arrive_by(looks, self.way[place], from.at, passed) else {
                 return false;
             };
             from = next;
@@ -210,8 +257,16 @@ impl<A: Allocator + Copy> Answer<A> {
         from.node == task.goal() && from.at == self.delivery
     }
 
-    /// Returns whether it is the answer to a question, too, as far as `most` looks show it.
-    fn answers(&self, task: &Task<'_, A>, looks: &mut Looks, most: u64, left: usize) -> bool
+    /// Returns whether it is the answer to a question, too, as far as `most` looks show it. If its way passes a shut node,
+    /// notes that.
+    fn answers(
+        &self,
+        task: &Task<'_, A>,
+        looks: &mut Looks,
+        most: u64,
+        left: usize,
+        passed: &mut usize,
+    ) -> bool
         requires task { IsTask task.now }
         requires goal { slice_get task.now.table task.now.goal ≡ Some task.now.request.destination }
         requires answer { IsAnswer (tabled_of task.now) task.now.request self.now }
@@ -229,13 +284,13 @@ impl<A: Allocator + Copy> Answer<A> {
         if self.way.len() > left {
             return false;
         }
-        self.leads(task, looks, most)
+        self.leads(task, looks, most, passed)
     }
 }
 
 /// Returns whether the answer to a question after this prefix is kept: not if the prefix is empty, since no other one ends at
 /// the source, and not if too many numbers are excluded or the prefix is too long.
-fn is_kept(prefix: &[u32], excluded: &[u32]) -> bool {
+pub fn is_kept(prefix: &[u32], excluded: &[u32]) -> bool {
     !prefix.is_empty() && prefix.len() <= MOST_PREFIX && excluded.len() <= MOST_EXCLUDED
 }
 
@@ -258,46 +313,67 @@ impl<A: Allocator + Copy> Answers<A> {
             slots: Vec::new(alloc),
             next: 0,
             heads: Vec::new(alloc),
-            asked: 0,
-            won: 0,
-            rest: 0,
+            near: NO_NEAR,
+            wide: Payoff::new(),
+            nearer: Payoff::new(),
         }
     }
 
-    /// Returns whether wide questions pay; if so, counts one.
-    fn pays(&mut self) -> bool
+    /// Returns whether a wide question is to be asked for the one after this prefix that was looked up last: it shuts fewer
+    /// nodes, its answer is kept, and some answer was kept before, so that others may come.
+    pub fn takes_wide(&mut self, task: &Task<'_, A>, prefix: &[u32]) -> bool
         ensures { self.new.slots ≡ self.old.slots }
     {
-        if self.rest > 0 {
-            self.rest -= 1;
+        if self.slots.is_empty() || prefix.len() < 2 || !is_kept(prefix, task.excluded()) {
             return false;
         }
-        if self.asked >= ASKED {
-            self.rest = if self.won < ASKED { REST } else { 0 };
-            self.asked = 0;
-            self.won = 0;
+        if self.near.place == NONE {
+            return self.wide.takes(ASKED, ASKED, REST);
         }
-        self.asked += 1;
-        true
+        if self.near.shut.saturating_add(1) >= task.shut_nodes().len() {
+            return false;
+        }
+        self.nearer.takes(ASKED, ASKED, REST)
     }
 
-    /// Returns whether a wide question is to be asked for one after this prefix: it shuts fewer nodes, its answer is kept, and
-    /// some answer was kept before, so that others may come.
-    pub fn takes_wide(&mut self, prefix: &[u32], excluded: &[u32]) -> bool
-        ensures { self.new.slots ≡ self.old.slots }
-    {
-        if self.slots.is_empty() || prefix.len() < 2 || !is_kept(prefix, excluded) {
-            return false;
+    /// Which nodes the wide question shuts.
+    pub fn breadth(&self) -> Breadth {
+        if self.near.place == NONE {
+            Breadth::Wide
+        } else {
+            Breadth::Near
         }
-        self.pays()
+    }
+
+    /// Shuts the nodes that the near answer needs shut, and the one that its way passes.
+    pub fn shut_near(&self, shut: &mut Shut<A>, task: &Task<'_, A>) -> Result<(), NoMemory>
+        requires task { IsTask task.now }
+        requires fewer { ShutsFewer task.now shut.old }
+        requires request { IsOfRequest (narrowed task.now shut.old task.now.at) }
+        ensures fewer { OnOk result (ShutsFewer task.now shut.new) }
+        ensures request { OnOk result (IsOfRequest (narrowed task.now shut.new task.now.at)) }
+    {
+        let Some(answer) = self.slots.get(self.near.place) else {
+            return Ok(());
+        };
+        shut_one(shut, task, self.near.node)?;
+        for place in 0..answer.shut.len() {
+            shut_one(shut, task, answer.shut[place])?;
+        }
+        Ok(())
     }
 
     /// Counts a question that the answer at this place has answered, if that is the answer to a wide one.
     fn count_win(&mut self, place: usize)
         ensures { self.new.slots ≡ self.old.slots }
     {
-        if place < self.slots.len() && self.slots[place].wide && self.won < ASKED {
-            self.won += 1;
+        if place >= self.slots.len() {
+            return;
+        }
+        match self.slots[place].breadth {
+            Breadth::Own => {}
+            Breadth::Wide => self.wide.win(),
+            Breadth::Near => self.nearer.win(),
         }
     }
 
@@ -309,8 +385,16 @@ impl<A: Allocator + Copy> Answers<A> {
         }
     }
 
-    /// The place of an answer that is the answer to this question, too.
-    fn find(&self, task: &Task<'_, A>, looks: &mut Looks, most: u64, left: usize) -> Option<usize>
+    /// The place of an answer that is the answer to this question, too. If there is none, notes the near answer whose
+    /// question shut most nodes.
+    fn find(
+        &self,
+        task: &Task<'_, A>,
+        looks: &mut Looks,
+        most: u64,
+        left: usize,
+        near: &mut Near,
+    ) -> Option<usize>
         requires task { IsTask task.now }
         requires goal { slice_get task.now.table task.now.goal ≡ Some task.now.request.destination }
         requires kept { All (IsAnswer (tabled_of task.now) task.now.request) self.now.slots.items }
@@ -324,8 +408,16 @@ impl<A: Allocator + Copy> Answers<A> {
             let Some(answer) = self.slots.get(place) else {
                 return None;
             };
-            if answer.answers(task, looks, most, left) {
+            let mut passed = NONE;
+            if answer.answers(task, looks, most, left, &mut passed) {
                 return Some(place);
+            }
+            if passed != NONE && answer.shut.len() >= near.shut {
+                *near = Near {
+                    place,
+                    shut: answer.shut.len(),
+                    node: passed,
+                };
             }
             place = answer.next;
         }
@@ -354,10 +446,14 @@ impl<A: Allocator + Copy> Answers<A> {
         ensures looks { IfOk result (λ o. IfSome o (λ answer. looks.new.count ≤ most + hops_told answer)) }
         ensures counted { IfOk result (λ o. IfSome o (λ answer. hops_told answer ≤ looks.new.count)) }
     {
+        self.near = NO_NEAR;
         if !is_kept(prefix, task.excluded()) {
             return Ok(None);
         }
-        let Some(place) = self.find(task, looks, most, left) else {
+        let mut near = NO_NEAR;
+        let found = self.find(task, looks, most, left, &mut near);
+        self.near = near;
+        let Some(place) = found else {
             return Ok(None);
         };
         self.count_win(place);
@@ -365,9 +461,7 @@ impl<A: Allocator + Copy> Answers<A> {
         if answer.way.is_empty() {
             return Ok(Some(None));
         }
-        let mut contacts = Vec::with_capacity(self.alloc, prefix.len() + answer.way.len())?;
-        contacts.extend_from_slice(prefix)?;
-        contacts.extend_from_slice(&answer.way)?;
+        let contacts = joined(self.alloc, prefix, &answer.way)?;
         let route = task.record(looks, contacts, answer.delivery);
         Ok(Some(Some(route)))
     }
@@ -406,7 +500,7 @@ impl<A: Allocator + Copy> Answers<A> {
     }
 
     /// Keeps the answer to a question, if no growth is refused.
-    pub fn keep(&mut self, task: &Task<'_, A>, left: usize, found: FoundWay<A>, wide: bool)
+    pub fn keep(&mut self, task: &Task<'_, A>, left: usize, found: FoundWay<A>, breadth: Breadth)
         requires goal { slice_get task.now.table task.now.goal ≡ Some task.now.request.destination }
         requires kept { All (IsAnswer (tabled_of task.now) task.now.request) self.old.slots.items }
         requires found { IsFoundWay task.now left found.numbers.items found.delivery }
@@ -417,7 +511,7 @@ impl<A: Allocator + Copy> Answers<A> {
         }
         let bucket = bucket_of(task.start(), task.excluded());
         let next = self.head(bucket);
-        let Ok(made) = Answer::of(self.alloc, task, left, found, wide, next) else {
+        let Ok(made) = Answer::of(self.alloc, task, left, found, breadth, next) else {
             return;
         };
         if let Some(place) = self.put(made) {
@@ -444,6 +538,6 @@ impl<A: Allocator + Copy> Answers<A> {
         let Ok(found) = way_of(self.alloc, answer, prefix.len()) else {
             return;
         };
-        self.keep(task, left, found, false);
+        self.keep(task, left, found, Breadth::Own);
     }
 }

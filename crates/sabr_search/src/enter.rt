@@ -15,7 +15,7 @@ use sabr_model::{NoMemory, Plan, Request};
 use std::alloc::Allocator;
 
 /// Shuts the nodes to avoid. All are open before.
-fn shut_avoided<A: Allocator + Copy>(
+pub fn shut_avoided<A: Allocator + Copy>(
     shut: &mut Shut<A>,
     plan: &Plan<A>,
     request: &Request,

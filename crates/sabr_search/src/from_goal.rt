@@ -7,7 +7,7 @@ ghost use Rattle.sabr_search.specs.Steps.{received};
 ghost use Rattle.sabr_search.specs.Linked.{IsLinkWithin, HasNumber};
 ghost use Rattle.sabr_search.specs.Deadlines.{IsApart};
 ghost use Rattle.sabr_search.specs.Late.{InTimeFor, AreLateAfter, StartsInTime, IsNotedLate, IsToldLate, IsToldOver, IsToldByHead, IsLayerTold, AreArrivals, AreMadeIfEnded, AreMet, IsEnded, IsNoneSeen};
-ghost use Rattle.sabr_search.specs.Following.{IsNoneBefore};
+ghost use Rattle.sabr_search.specs.FirstSteps.{IsNoneBefore};
 
 use crate::layers::{Layers, Reached};
 use crate::looks::Looks;

@@ -5,8 +5,8 @@ ghost use Rattle.sabr_model.specs.Arrival.{RouteRequest};
 ghost use Rattle.sabr_search.specs.Kept.{IsKept};
 
 use crate::answers::Answers;
-use crate::rungs::Rungs;
 use crate::shut::Shut;
+use crate::tables::Tables;
 use std::alloc::{Allocator, Global};
 
 /// What is kept for the searches of one plan and request: tables for deliveries that come again, and answers.
@@ -15,7 +15,7 @@ use std::alloc::{Allocator, Global};
 #[derive(Drop)]
 pub struct Kept<A: Allocator + Copy = Global> {
     /// Tables for deliveries that come again.
-    pub rungs: Rungs<A>,
+    pub tables: Tables<A>,
     /// Answers to questions so far.
     pub answers: Answers<A>,
     /// The nodes that the last wide question shut.
@@ -28,7 +28,7 @@ impl<A: Allocator + Copy> Kept<A> {
         ensures { (p : TabledPlan) (r : RouteRequest) → IsKept p r result }
     {
         Kept {
-            rungs: Rungs::new(alloc),
+            tables: Tables::new(alloc),
             answers: Answers::new(alloc),
             wide: Shut::new(alloc),
         }

@@ -1,11 +1,11 @@
 //! Hop layers, made forward: for each number of hops, the nodes that it reaches earlier, and when.
 
-ghost use Rattle.std.specs.Prelude.{◌≡◌, ◌≢◌, min, ℕ, [], ◌∷◌, ◌+◌, ◌*◌, ◌^◌, ◌≤◌, ◌<◌, length, take, slice_set, slice_index, OnOk, IfOk};
-ghost use Rattle.sabr_search.specs.Task.{IsTask, Takes};
+ghost use Rattle.std.specs.Prelude.{◌≡◌, ◌≢◌, min, ℕ, [], ◌∷◌, ◌+◌, ◌*◌, ◌^◌, ◌≤◌, ◌<◌, length, replicate, take, slice_set, slice_index, slice_index_or, true, false, OnOk, IfOk};
+ghost use Rattle.sabr_search.specs.Task.{IsTask, Takes, never};
 ghost use Rattle.sabr_search.specs.Steps.{degree};
 ghost use Rattle.sabr_search.specs.Linked.{IsLinkWithin, HasNumber};
 ghost use Rattle.sabr_search.specs.Lists.{IsPlaced, StayLinked, IsLayer, AddsOnly, AreLists, AreLowered, IsKnown, AreSources, GivenAt, GivenByLayer, IsKnownFrom};
-ghost use Rattle.sabr_search.specs.Following.{IsNoneBefore};
+ghost use Rattle.sabr_search.specs.FirstSteps.{IsNoneBefore};
 ghost use Rattle.sabr_search.specs.Made.{AreOpened, IsBestWithin};
 
 use crate::looks::Looks;
@@ -41,19 +41,63 @@ pub struct Limits {
 /// Later than every arrival.
 pub const NEVER: u64 = u64::MAX;
 
-/// Marks every open node as unreached, and lets nothing improve a shut one.
+/// Makes a list with the first second that is too late at each node, as far as the list `late` goes.
+fn too_late<A: Allocator + Copy>(
+    arrival: &mut Vec<u64, A>,
+    count: usize,
+    late: &[u64],
+) -> Result<(), NoMemory>
+    ensures many { OnOk result (length arrival.new.items ≡ count) }
+    ensures filled { OnOk result ((k : ℕ) → k < count → slice_index arrival.new.items k ≡ slice_index_or late.now k never) }
+{
+    arrival.clear();
+    arrival.extend_from_slice(late)?;
+    arrival.resize(count, NEVER)?;
+    Ok(())
+}
+
+/// Lets nothing improve a node that is shut.
+fn shut_out<A: Allocator + Copy>(arrival: &mut Vec<u64, A>, shut: &[bool], node: usize)
+    requires { length arrival.old.items ≡ length shut.now }
+    ensures many { length arrival.new.items ≡ length arrival.old.items }
+    ensures kept { (k : ℕ) → slice_index_or shut.now k false ≡ false → slice_index arrival.new.items k ≡ slice_index arrival.old.items k }
+    ensures falls { (k : ℕ) → slice_index arrival.new.items k ≤ slice_index arrival.old.items k }
+    ensures zero { slice_index_or shut.now node false ≡ true → slice_index arrival.new.items node ≡ 0 }
+{
+    if node < shut.len() && shut[node] {
+        arrival[node] = 0;
+    }
+}
+
+/// Marks every open node as reached when it is too late there, and lets nothing improve a shut one.
 pub fn open_nodes<A: Allocator + Copy>(
     arrival: &mut Vec<u64, A>,
     task: &Task<'_, A>,
+    late: &[u64],
 ) -> Result<(), NoMemory>
     requires { IsTask task.now }
-    ensures { OnOk result (AreOpened task.now arrival.new.items) }
+    ensures { OnOk result (AreOpened task.now late.now arrival.new.items) }
 {
-    arrival.clear();
-    for shut in task.shut() {
-        arrival.push(if *shut { 0 } else { NEVER })?;
+    let shut = task.shut();
+    too_late(arrival, shut.len(), late)?;
+    let nodes = task.shut_nodes();
+    for place in 0..nodes.len() {
+        shut_out(arrival, shut, nodes[place]);
     }
     arrival[task.start()] = task.at();
+    Ok(())
+}
+
+/// Makes a list of one value, so many times.
+pub fn fill<A: Allocator + Copy>(
+    items: &mut Vec<u64, A>,
+    count: usize,
+    value: u64,
+) -> Result<(), NoMemory>
+    ensures { OnOk result (items.new.items ≡ replicate count value) }
+{
+    items.clear();
+    items.resize(count, value)?;
     Ok(())
 }
 
@@ -246,7 +290,7 @@ impl<A: Allocator + Copy> Layers<A> {
         ensures reached { OnOk result (self.new.reached.items ≡ record { node = task.now.start; arrival = task.now.at; deadline = 0 } ∷ []) }
         ensures lists { OnOk result (AreLists task.now.shut task.now.goal task.now.at 1 self.new.arrival.items self.new.place.items self.new.reached.items) }
     {
-        open_nodes(&mut self.arrival, task)?;
+        open_nodes(&mut self.arrival, task, &[])?;
         self.place.clear();
         self.place.resize(task.shut().len(), 0)?;
         self.reached.clear();

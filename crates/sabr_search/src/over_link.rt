@@ -25,9 +25,9 @@ pub fn link_passes<'a>(links: Links<'a>, link: &Link) -> &'a [Pass]
     &links.passes[link.first..link.end]
 }
 
-/// Returns true if, by the bounds of the whole link, nothing that is at its sender at `at` or later arrives before
-/// `before`, whenever its passes end.
-fn is_soonest(bounds: LinkBounds, at: u64, before: u64) -> bool
+/// Returns true if, by what bounds the arrivals over the whole link, nothing that is at its sender at `at` or later
+/// arrives before `before`.
+pub fn is_soonest(bounds: LinkBounds, at: u64, before: u64) -> bool
     ensures late { IsTrue result → (before ≤ bounds.soonest) ⊎ (before ≤ at + bounds.least_light) }
     ensures early { result ≡ false → at < before }
 {

@@ -1,82 +1,35 @@
 //! The finder that settles nodes first, and then makes only the layers that the least route needs.
 
-ghost use Rattle.std.specs.Prelude.{◌≡◌, ◌⊎◌, ◌≤◌, ◌<◌, ◌+◌, ◌-◌, ◌*◌, ◌^◌, Some, IfOk, IfSome, IfNone, IsTrue, OnErr, length, slice_get};
+ghost use Rattle.std.specs.Prelude.{◌≡◌, ◌⊎◌, ℕ, ◌≤◌, ◌<◌, ◌+◌, ◌-◌, ◌*◌, Some, IfOk, IfSome, IfNone, IsTrue, OnErr, length, slice_get};
+ghost use Rattle.sabr_search.specs.declared.pick.Standing.{Standing};
 ghost use Rattle.std.specs.List.Sorted.{IsStrictlyIncreasing};
 ghost use Rattle.sabr_model.specs.Route.{is_prefix};
 ghost use Rattle.sabr_model.specs.Table.{node_count};
 ghost use Rattle.sabr_search.specs.Part.{IsLeast};
 ghost use Rattle.sabr_search.specs.Task.{IsTask, IsBehind, IsAsked, most_nodes};
 ghost use Rattle.sabr_search.specs.Told.{hops_told, IsCut};
-ghost use Rattle.sabr_search.specs.Kept.{IsKept, AreRungs};
+ghost use Rattle.sabr_search.specs.Kept.{IsKept, AreTables};
 ghost use Rattle.sabr_search.specs.Answers.{IsAnswered};
-ghost use Rattle.sabr_search.specs.Following.{tabled_of};
+ghost use Rattle.sabr_search.specs.FirstSteps.{tabled_of, AreFirstSteps, AreAround};
 
+use crate::answers::{Breadth, is_kept, joined};
 use crate::best::BestOf;
 use crate::enter::enter;
 use crate::finger::rises;
-use crate::from_goal::Aim;
 use crate::kept::Kept;
-use crate::layers::Layers;
-use crate::limits::limits_of;
 use crate::looks::Looks;
 use crate::part::Part;
 use crate::question::Question;
-use crate::rungs::Rungs;
-use crate::settling::Settling;
+use crate::search::Search;
 use crate::shut::Shut;
+use crate::tables::Tables;
 use crate::task::Task;
-use crate::wide::{shut_few, way_within};
+use crate::wide::shut_few;
 use sabr_index::Index;
 use sabr_model::{GhostCount, NoMemory, Plan, Request, Route};
 use std::alloc::{Allocator, Global};
 
-/// What a search keeps from call to call.
-#[derive(Drop)]
-struct Search<A: Allocator + Copy> {
-    /// Nodes in order of arrival.
-    settling: Settling<A>,
-    /// Layers backward, and forward.
-    layers: Layers<A>,
-}
-
 impl<A: Allocator + Copy> Search<A> {
-    /// Returns the least route after the prefix. If the first way has no more hops than are allowed, its delivery is the
-    /// least, and layers backward find the route. Otherwise the least delivery is found by layers forward.
-    fn least_route(
-        &mut self,
-        asked: &Question<'_, '_, '_, A>,
-        looks: &mut Looks,
-    ) -> Result<Option<Route<A>>, NoMemory>
-        requires asked { IsAsked asked.now.task.now asked.now.prefix.now asked.now.max_hops }
-        requires few { looks.old.count ≤ 2 * length asked.now.task.now.plan.contacts }
-        ensures answered { IfOk result (IsAnswered asked.now.task.now asked.now.prefix.now (asked.now.max_hops - length asked.now.prefix.now)) }
-        ensures bound { looks.new.count ≤ (3 * length asked.now.task.now.table + 1) * length asked.now.task.now.plan.contacts }
-        ensures counted { IfOk result (λ answer. hops_told answer ≤ looks.new.count) }
-        ensures cut { IfOk result (IsCut asked.now.task.now.plan asked.now.max_hops asked.now.prefix.now looks.new.count) }
-        ensures longer { IfOk result (λ answer. IfSome answer (λ route. length asked.now.prefix.now < length route.contacts)) }
-    {
-        let task = asked.task;
-        let first = self.settling.run(task, looks)?;
-        if first.hops == 0 {
-            return Ok(None);
-        }
-        let limits = limits_of(asked.max_hops, asked.prefix.len(), first);
-        if limits.hops != first.hops {
-            return self
-                .layers
-                .answer(task, looks, asked.prefix, limits, &self.settling.arrival);
-        }
-        let aim = Aim {
-            task,
-            since: &self.settling.arrival,
-            delivery: first.delivery,
-        };
-        let route = self
-            .layers
-            .answer_by(&aim, looks, asked.prefix, first.hops)?;
-        Ok(Some(route))
-    }
-
     /// The least route after the prefix, or that there is none, if the answer to a wide question shows it. That answer is
     /// kept.
     fn told_wide(
@@ -94,32 +47,73 @@ impl<A: Allocator + Copy> Search<A> {
         ensures told { IfOk result (λ o. IfSome o (IsAnswered asked.now.task.now asked.now.prefix.now (asked.now.max_hops - length asked.now.prefix.now))) }
         ensures looks { IfOk result (λ o. IfSome o (λ answer. looks.new.count ≤ 2 * length asked.now.task.now.plan.contacts + hops_told answer)) }
         ensures counted { IfOk result (λ o. IfSome o (λ answer. hops_told answer ≤ looks.new.count)) }
+        ensures around { IfOk result (λ o. IfNone o (IsTrue self.new.is_around → AreAround asked.now.task.now self.new.first.items)) }
     {
         let task = asked.task;
-        if !kept.answers.takes_wide(asked.prefix, task.excluded()) {
+        self.is_around = false;
+        if !kept.answers.takes_wide(task, asked.prefix) {
             return Ok(None);
         }
         let most = task.two_passes();
-        shut_few(&mut kept.wide, task, asked.prefix.len())?;
+        shut_few(&mut kept.wide, task)?;
+        kept.answers.shut_near(&mut kept.wide, task)?;
+        let breadth = kept.answers.breadth();
         let left = asked.left();
         let question = task.with_shut(&kept.wide);
-        let found = way_within(
-            &mut self.settling,
-            &mut self.layers,
-            &question,
-            looks,
-            most,
-            left,
-        )?;
+        let whole = question.first_steps(looks, most, &mut self.first)?;
+        if !whole {
+            return Ok(None);
+        }
+        self.is_around = true;
+        let found = self.way_within(&mut kept.tables, &question, looks, most, left)?;
         let Some(way) = found else {
             return Ok(None);
         };
-        kept.answers.keep(&question, left, way, true);
+        kept.answers.keep(&question, left, way, breadth);
         kept.answers.tell(task, looks, most, asked.prefix, left)
     }
 
-    /// The least route after the prefix: told by the tables that are kept, or by the answer to a wide question, or else by
-    /// a search. The answer is kept.
+    /// The least route after the prefix, if tables show when it delivers and a few looks find it. The answer is kept.
+    fn told_exact(
+        &mut self,
+        kept: &mut Kept<A>,
+        asked: &Question<'_, '_, '_, A>,
+        looks: &mut Looks,
+    ) -> Result<Option<Option<Route<A>>>, NoMemory>
+        requires asked { IsAsked asked.now.task.now asked.now.prefix.now asked.now.max_hops }
+        requires inside { (k : ℕ) (s : Standing) → slice_get self.old.first.items k ≡ Some s → s.node < length asked.now.task.now.table }
+        requires steps { AreFirstSteps asked.now.task.now self.old.first.items }
+        requires kept { IsKept (tabled_of asked.now.task.now) asked.now.task.now.request kept.old }
+        ensures first { self.new.first ≡ self.old.first }
+        ensures kept { IsKept (tabled_of asked.now.task.now) asked.now.task.now.request kept.new }
+        ensures refused { OnErr result (looks.new.count ≤ 2 * length asked.now.task.now.plan.contacts) }
+        ensures untold { IfOk result (λ o. IfNone o ((looks.new.count ≡ looks.old.count) ⊎ (looks.new.count ≤ 2 * length asked.now.task.now.plan.contacts))) }
+        ensures told { IfOk result (λ o. IfSome o (IsAnswered asked.now.task.now asked.now.prefix.now (asked.now.max_hops - length asked.now.prefix.now))) }
+        ensures looks { IfOk result (λ o. IfSome o (λ answer. looks.new.count ≤ 2 * length asked.now.task.now.plan.contacts + hops_told answer)) }
+        ensures counted { IfOk result (λ o. IfSome o (λ answer. hops_told answer ≤ looks.new.count)) }
+    {
+        let task = asked.task;
+        let most = task.two_passes();
+        if looks.count > most {
+            return Ok(None);
+        }
+        let left = asked.left();
+        let found = self.exact_way(&mut kept.tables, task, looks, most, left)?;
+        let Some(way) = found else {
+            return Ok(None);
+        };
+        if way.numbers.is_empty() {
+            return Ok(Some(None));
+        }
+        let contacts = joined(self.layers.alloc, asked.prefix, &way.numbers)?;
+        let route = task.record(looks, contacts, way.delivery);
+        if is_kept(asked.prefix, task.excluded()) {
+            kept.answers.keep(task, left, way, Breadth::Own);
+        }
+        Ok(Some(Some(route)))
+    }
+
+    /// The least route after the prefix: told by the answer to a wide question, or else by a search. The answer is kept.
     fn least_searched(
         &mut self,
         kept: &mut Kept<A>,
@@ -137,18 +131,17 @@ impl<A: Allocator + Copy> Search<A> {
         ensures longer { IfOk result (λ answer. IfSome answer (λ route. length asked.now.prefix.now < length route.contacts)) }
     {
         let task = asked.task;
-        let most = task.two_passes();
         let left = asked.left();
-        let followed = kept.rungs.follow(&mut self.layers, asked, looks, most)?;
-        if let Some(answer) = followed {
-            kept.answers.keep_after(task, asked.prefix, left, &answer);
-            return Ok(answer);
-        }
         let wide = self.told_wide(kept, asked, looks)?;
         if let Some(answer) = wide {
             return Ok(answer);
         }
-        let answer = self.least_route(asked, looks)?;
+        self.gather_steps(task, looks)?;
+        let exact = self.told_exact(kept, asked, looks)?;
+        if let Some(answer) = exact {
+            return Ok(answer);
+        }
+        let answer = self.least_route(&mut kept.tables, asked, looks)?;
         kept.answers.keep_after(task, asked.prefix, left, &answer);
         Ok(answer)
     }
@@ -194,20 +187,19 @@ impl<A: Allocator + Copy> Search<A> {
     /// contacts, and none after a search that took more.
     fn learn(
         &mut self,
-        rungs: &mut Rungs<A>,
+        tables: &mut Tables<A>,
         looks: &mut Looks,
         index: &Index<'_, A>,
         request: &Request,
         answer: &Option<Route<A>>,
     )
-        requires kept { AreRungs index.now request.now rungs.old }
-        ensures kept { AreRungs index.now request.now rungs.new }
+        requires kept { AreTables index.now request.now tables.old }
+        ensures kept { AreTables index.now request.now tables.new }
         ensures looked { looks.old.count ≤ looks.new.count }
         ensures none { IfNone answer.now (looks.new.count ≡ looks.old.count) }
         ensures looks { (looks.new.count ≡ looks.old.count) ⊎ (looks.new.count ≤ 4 * length index.now.plan.contacts) }
     {
         let Some(route) = answer else {
-            rungs.count_none();
             return;
         };
         let most = 2 * index.plan().contacts().len() as u64;
@@ -215,15 +207,13 @@ impl<A: Allocator + Copy> Search<A> {
             return;
         }
         let mut making = Looks::new();
-        rungs.learn(
+        tables.learn(
             &mut self.layers,
             &mut making,
             index,
             request,
             route.delivery,
-            most,
         );
-        rungs.learn_none(&mut self.layers, &mut making, index, request, most);
         looks.count += making.count;
     }
 }
@@ -256,10 +246,7 @@ impl<A: Allocator + Copy> Settled<A> {
         Settled {
             alloc,
             shut: Shut::new(alloc),
-            search: Search {
-                settling: Settling::new(alloc),
-                layers: Layers::new(alloc),
-            },
+            search: Search::new(alloc),
             looks: Looks::new(),
             calls: GhostCount::new(),
         }
@@ -345,7 +332,7 @@ impl<A: Allocator + Copy> Settled<A> {
     {
         let answer = self.find(kept, index, request, part, in_order)?;
         self.search
-            .learn(&mut kept.rungs, &mut self.looks, index, request, &answer);
+            .learn(&mut kept.tables, &mut self.looks, index, request, &answer);
         Ok(answer)
     }
 }

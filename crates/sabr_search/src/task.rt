@@ -8,6 +8,7 @@ ghost use Rattle.sabr_model.specs.Route.{until_of, entry_of};
 ghost use Rattle.sabr_model.specs.Hops.{hop_arrival, IsSmall};
 ghost use Rattle.sabr_search.specs.Task.{IsTask, task_of};
 ghost use Rattle.sabr_search.specs.Answers.{narrowed};
+ghost use Rattle.sabr_search.specs.FirstSteps.{tabled_of};
 ghost use Rattle.sabr_search.specs.KeptAnswers.{AreListed, Arrives};
 ghost use Rattle.sabr_search.specs.Linked.{AreLinksAt, AreSendersAt};
 
@@ -16,7 +17,7 @@ use crate::looks::Looks;
 use crate::pick::Standing;
 use crate::shut::Shut;
 use sabr_index::{Index, Links, Pass, Senders};
-use sabr_model::{Hop, Request, Route, Told};
+use sabr_model::{Hop, Plan, Request, Route, Told};
 use std::alloc::Allocator;
 use std::marker::Model;
 
@@ -125,6 +126,20 @@ impl<'a, A: Allocator + Copy> Task<'a, A> {
         Told::of(self.index.plan(), looks.look_all(&contacts)).route(contacts, delivery)
     }
 
+    /// The plan that is searched.
+    pub fn plan(&self) -> &'a Plan<A>
+        ensures { result.now ≡ tabled_of self.now }
+    {
+        self.index.plan()
+    }
+
+    /// The request.
+    pub fn request(&self) -> &'a Request
+        ensures { result.now ≡ self.now.request }
+    {
+        self.request
+    }
+
     /// The node at which the search starts.
     pub fn start(&self) -> usize
         ensures { result ≡ self.now.start }
@@ -168,8 +183,14 @@ impl<'a, A: Allocator + Copy> Task<'a, A> {
     }
 
     /// Returns where a contact leads that is taken at this second, and when, if it leads to an open node in time: one
-    /// look.
-    pub fn arrive_by(&self, looks: &mut Looks, number: u32, at: u64) -> Option<Standing>
+    /// look. If it leads to a shut node, notes that.
+    pub fn arrive_by(
+        &self,
+        looks: &mut Looks,
+        number: u32,
+        at: u64,
+        passed: &mut usize,
+    ) -> Option<Standing>
         requires task { IsTask self.now }
         requires few { looks.old.count < 2 ^ 62 }
         ensures looks { looks.new.count ≡ looks.old.count + 1 }
@@ -177,6 +198,7 @@ impl<'a, A: Allocator + Copy> Task<'a, A> {
     {
         let hop = looks.hop(self.index.plan(), number)?;
         if self.shut.flags()[hop.receiver] {
+            *passed = hop.receiver;
             return None;
         }
         let at = hop.arrive(self.request, at)?;

@@ -1,88 +1,64 @@
 //! Wide questions: they shut fewer nodes than the question of a part, so that their answers serve other parts, too.
 
-ghost use Rattle.std.specs.Prelude.{◌≡◌, ◌≤◌, ◌<◌, ◌+◌, ◌^◌, IfOk, IfSome, OnOk, length};
-ghost use Rattle.sabr_search.specs.Task.{IsTask, most_nodes};
-ghost use Rattle.sabr_search.specs.KeptAnswers.{IsFoundWay};
+ghost use Rattle.std.specs.Prelude.{◌≡◌, ℕ, [], OnOk, false, length, slice_index_or};
+ghost use Rattle.sabr_search.specs.Task.{HasNodes, IsTask, IsOfRequest, is_closed};
+ghost use Rattle.sabr_search.specs.Entering.{AreShut};
+ghost use Rattle.sabr_search.specs.Answers.{narrowed};
 ghost use Rattle.sabr_search.specs.WideTasks.{ShutsFewer};
 
-use crate::answers::FoundWay;
-use crate::from_goal::Aim;
-use crate::layers::Layers;
-use crate::looks::Looks;
-use crate::settling::Settling;
+use crate::enter::shut_avoided;
 use crate::shut::Shut;
 use crate::task::Task;
-use sabr_model::NoMemory;
+use sabr_model::{NoMemory, Plan, Request};
 use std::alloc::Allocator;
 
-/// Shuts the nodes that are shut for a task, but for those that the prefix passes before its end.
-///
-/// The task lists its nodes in the order in which they were shut, those of the prefix last.
-pub fn shut_few<A: Allocator + Copy>(
+/// Shuts the source and the nodes to avoid. All are open before.
+fn shut_closed<A: Allocator + Copy>(
     shut: &mut Shut<A>,
-    task: &Task<'_, A>,
-    prefix: usize,
+    plan: &Plan<A>,
+    request: &Request,
 ) -> Result<(), NoMemory>
-    requires task { IsTask task.now }
-    ensures { OnOk result (ShutsFewer task.now shut.new) }
+    requires nodes { HasNodes plan.now.plan plan.now.table }
+    requires many { length shut.old ≡ length plan.now.table }
+    requires none { (k : ℕ) → slice_index_or shut.old k false ≡ false }
+    ensures { OnOk result (AreShut plan.now.table shut.new (is_closed plan.now.plan request.now [])) }
 {
-    let flags = task.shut();
-    let nodes = task.shut_nodes();
-    shut.open_all(flags.len())?;
-    shut.put(task.start())?;
-    for place in 0..nodes.len().saturating_sub(prefix) {
-        let node = nodes[place];
-        if node < flags.len() && flags[node] {
-            shut.put(node)?;
-        }
-    }
+    shut_avoided(shut, plan, request)?;
+    let Some(source) = plan.node_index(request.from()) else {
+        return Ok(());
+    };
+    shut.put(source)?;
     Ok(())
 }
 
-/// The least way of a question, with so many hops left, as far as `most` looks show it.
-pub fn way_within<A: Allocator + Copy>(
-    settling: &mut Settling<A>,
-    layers: &mut Layers<A>,
-    task: &Task<'_, A>,
-    looks: &mut Looks,
-    most: u64,
-    left: usize,
-) -> Result<Option<FoundWay<A>>, NoMemory>
+/// Shuts the nodes that are shut for each search from the start of this one: the source, those to avoid, and the start.
+pub fn shut_few<A: Allocator + Copy>(shut: &mut Shut<A>, task: &Task<'_, A>) -> Result<(), NoMemory>
     requires task { IsTask task.now }
-    requires nodes { length task.now.table ≤ most_nodes }
-    requires few { looks.old.count ≤ most }
-    requires most { most ≤ 2 ^ 60 }
-    ensures looks { looks.new.count ≤ most }
-    ensures found { IfOk result (λ o. IfSome o (λ found. IsFoundWay task.now left found.numbers.items found.delivery)) }
+    requires request { IsOfRequest task.now }
+    ensures fewer { OnOk result (ShutsFewer task.now shut.new) }
+    ensures request { OnOk result (IsOfRequest (narrowed task.now shut.new task.now.at)) }
 {
-    if most - looks.count < task.one_pass() {
-        return Ok(None);
+    shut.open_all(task.shut().len())?;
+    shut_closed(shut, task.plan(), task.request())?;
+    shut.put(task.start())?;
+    Ok(())
+}
+
+/// Shuts one node more, if it is shut in the search.
+pub fn shut_one<A: Allocator + Copy>(
+    shut: &mut Shut<A>,
+    task: &Task<'_, A>,
+    node: usize,
+) -> Result<(), NoMemory>
+    requires task { IsTask task.now }
+    requires fewer { ShutsFewer task.now shut.old }
+    requires request { IsOfRequest (narrowed task.now shut.old task.now.at) }
+    ensures fewer { OnOk result (ShutsFewer task.now shut.new) }
+    ensures request { OnOk result (IsOfRequest (narrowed task.now shut.new task.now.at)) }
+{
+    let flags = task.shut();
+    if node < flags.len() && flags[node] {
+        shut.put(node)?;
     }
-    let first = settling.run(task, looks)?;
-    if first.hops == 0 {
-        return Ok(Some(FoundWay {
-            numbers: Vec::new(layers.alloc),
-            delivery: 0,
-        }));
-    }
-    if first.hops > left {
-        return Ok(None);
-    }
-    let aim = Aim {
-        task,
-        since: &settling.arrival,
-        delivery: first.delivery,
-    };
-    let made = layers.make_back(&aim, looks, first.hops, most)?;
-    let Some(far) = made else {
-        return Ok(None);
-    };
-    let picked = layers.pick(&aim, looks, far, &[], most)?;
-    let Some(numbers) = picked else {
-        return Ok(None);
-    };
-    Ok(Some(FoundWay {
-        numbers,
-        delivery: first.delivery,
-    }))
+    Ok(())
 }

@@ -1,9 +1,10 @@
-use Rattle.std.proofs.Common.{◌≡◌, ℕ, ◌<◌, cond, length, slice_index, slice_index_or, false}
+use Rattle.std.proofs.Common.{◌≡◌, ℕ, ◌<◌, Some, length, slice_get, slice_index, slice_index_or, true, false}
 use Rattle.sabr_search.specs.Task.{never}
 use Rattle.sabr_search.proofs.layers.open_nodes.Given as goal
 
-abbrev pub invariant-loop-shut : goal.invariant-loop-shut
-invariant-loop-shut g l = record {
-  many : length l.arrival.items ≡ l.shut-index;
-  filled : (k : ℕ) → k < l.shut-index → slice_index l.arrival.items k ≡ cond (slice_index_or l.task.shut k false) 0 never;
+abbrev pub invariant-loop-place : goal.invariant-loop-place
+invariant-loop-place g l = record {
+  many : length l.arrival.items ≡ length l.task.shut;
+  opened : (k : ℕ) → k < length l.arrival.items → slice_index_or l.task.shut k false ≡ false → slice_index l.arrival.items k ≡ slice_index_or l.late k never;
+  zero : (j k : ℕ) → j < l.place → slice_get l.nodes j ≡ Some k → slice_index_or l.task.shut k false ≡ true → slice_index l.arrival.items k ≡ 0;
 }

@@ -1,5 +1,4 @@
 use Rattle.std.proofs.Common.{length, ap, arith}
-use Rattle.sabr_search.specs.declared.queue.Event.{Event}
 use Rattle.sabr_search.proofs.Runs.{first_least}
 use Rattle.sabr_search.proofs.queue.is_in_heap.Goals as goal
 

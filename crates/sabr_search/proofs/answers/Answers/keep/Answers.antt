@@ -1,4 +1,4 @@
-use Rattle.sabr_search.specs.Following.{tabled_of}
+use Rattle.sabr_search.specs.FirstSteps.{tabled_of}
 use Rattle.sabr_search.specs.KeptAnswers.{IsAnswer}
 use Rattle.sabr_search.proofs.KeptAnswers.{put_all}
 use Rattle.sabr_search.proofs.answers.Answers.keep.Goals as goal

@@ -15,5 +15,5 @@ returns-clause-told g c =
     let answer = c.index-answer.result.now in
     let some : 0 < length answer.way.items = grind (arith, nat_tests, c.if-is_empty.ensures, answer.way.ok.0) in
     let least : IsLeastWay c.args.task.now c.args.left (answer.delivery + 1) answer.way.items answer.delivery = way_told c.args.task.now c.requires.task c.requires.goal c.args.self.now.slots.items c.requires.kept c.in-Some.place c.args.left c.in-Some.ensures.some answer (rw c.count_win.ensures at c.index-answer.ensures) some in
-    let contacts : c.extend_from_slice-2.new.self.items ≡ c.args.prefix.now ++ answer.way.items = rw (c.in_ok-extend_from_slice-2.ensures.items, c.in_ok-extend_from_slice.ensures.items, c.in_ok-contacts.ensures.items, c.deref.ensures.value) refl in
+    let contacts : c.in_ok-contacts.contacts.items ≡ c.args.prefix.now ++ answer.way.items = rw c.deref.ensures.value at c.in_ok-contacts.ensures in
     rw c.record-route.ensures.value (answer.way.items, contacts, least, record { until_is = refl; entry_is = refl })

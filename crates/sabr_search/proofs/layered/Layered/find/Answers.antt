@@ -1,5 +1,5 @@
 use Rattle.std.proofs.Common.{◌≡◌, ◌≤◌, ◌+◌, ◌-◌, ◌*◌, length, replicate, ap, sym, subst, ◌∙◌, min, arith, rules}
-use Rattle.sabr_search.proofs.Tries.{arrivals_since}
+use Rattle.sabr_search.proofs.Since.{arrivals_since}
 use Rattle.std.specs.Option.{option_map}
 use Rattle.sabr_model.specs.Record.{record_of}
 use Rattle.sabr_model.specs.Table.{node_count}

@@ -1,4 +1,4 @@
-use Rattle.sabr_search.specs.Laying.{AreGathered}
+use Rattle.sabr_search.specs.Dues.{AreGathered}
 use Rattle.sabr_search.proofs.layers.Layers.gather.Given as goal
 
 abbrev pub invariant-loop-left : goal.invariant-loop-left

@@ -2,7 +2,7 @@ use Rattle.std.proofs.Common.{◌≡◌, ◌+◌, inl, inr, [], ◌∷◌, slice
 use Rattle.std.proofs.lemmas.List.Elements.{Contains-push, Contains-append_left}
 use Rattle.std.proofs.lemmas.Option.{get_or_from_slice_get}
 use Rattle.sabr_search.specs.declared.layers.Reached.{Reached}
-use Rattle.sabr_search.specs.declared.rung.Due.{Due}
+use Rattle.sabr_search.specs.declared.dues.Due.{Due}
 use Rattle.sabr_search.proofs.Between.{read_at}
 use Rattle.sabr_search.proofs.Forward.{last_or_before}
 use Rattle.sabr_search.proofs.layers.Layers.gather_layer.Goals as goal

@@ -1,7 +1,7 @@
 use Rattle.std.proofs.Common.{◌≡◌, ℕ, ◌<◌, ◌≤◌, Some, slice_get, slice_index}
 use Rattle.std.specs.Prelude.{Contains}
 use Rattle.sabr_search.specs.declared.layers.Reached.{Reached}
-use Rattle.sabr_search.specs.Laying.{AreGathered}
+use Rattle.sabr_search.specs.Dues.{AreGathered}
 use Rattle.sabr_search.proofs.layers.Layers.gather_layer.Given as goal
 
 abbrev pub invariant-loop-place : goal.invariant-loop-place

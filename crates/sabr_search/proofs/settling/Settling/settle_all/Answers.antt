@@ -1,84 +1,90 @@
-use Rattle.std.proofs.Common.{◌≡◌, suc, ◌<◌, length, slice_index_or, false, sym, ◌∙◌, arith}
+use Rattle.std.proofs.Common.{◌≡◌, suc, ◌<◌, length, slice_index_or, false, refl, sym, ◌∙◌, arith}
 use Rattle.std.proofs.lemmas.List.Sorted.{length_permutation}
-use Rattle.sabr_search.specs.Task.{never}
 use Rattle.sabr_search.proofs.Queues.{head_inside, head_real, head_few, head_arrives, waits_later, queue_stale}
-use Rattle.sabr_search.proofs.FirstWays.{first_counted, first_settled, next_most, next_state, next_counted, next_settled, settled_stale, first_way, arrivals_found, read_flag}
+use Rattle.sabr_search.proofs.FirstWays.{start_sent, next_most, next_state, next_counted, next_settled, settled_stale, first_before, arrivals_found, read_flag}
 use Rattle.sabr_search.proofs.settling.Settling.settle_all.Goals as goal
 
 pub loop-event-init : goal.loop-event-init
 loop-event-init g c =
-    let task = c.args.task.now in
-    let settled = c.in_ok-best.ensures in
+    let task = c.args.forward.now.task.now in
+    let start = c.in_ok-best.ensures in
     record {
-      counted = first_counted task c.requires.task c.first_events.new.self.settled.items _ c.start.result c.in_ok-first_events.ensures.settled c.start.ensures settled.settled _ _ settled.looks;
-      settled = first_settled task c.requires.task c.first_events.new.self.settled.items _ c.start.result c.in_ok-first_events.ensures.settled c.start.ensures settled.settled c.at.result _ _ _ _ _
-          c.in_ok-first_events.ensures.arrivals settled.state settled.fallen settled.taken;
+      counted = omega (arith, start_sent task c.requires.task c.first_events.new.self.settled.items c.settle_start.new.self.settled.items task.start c.in_ok-first_events.ensures.settled refl c.settle_start.ensures.settled);
+      limit = c.requires.few;
+      settled = start.state;
     }
 
 pub index-requires : goal.index-requires
 index-requires g c =
     let was = c.loop-event.invariant.settled in
-    omega (arith, was.flags, was.many, head_inside _ _ _ _ _ c.in-Some.event was.queue_is c.in-Some.ensures.moved c.in-Some.ensures.first)
+    omega (arith, was.flags, was.many, head_inside _ _ _ _ _ _ c.in-Some.event was.queue_is c.in-Some.ensures.moved c.in-Some.ensures.first)
 
-pub settle-requires-then-not-index-clause-node : goal.settle-requires-then-not-index-clause-node
-settle-requires-then-not-index-clause-node g c =
+pub settle-requires-clause-node : goal.settle-requires-clause-node
+settle-requires-clause-node g c =
     let was = c.loop-event.invariant.settled in
-    omega (arith, was.flags, c.requires.task.as_many, head_inside _ _ _ _ _ c.in-Some.event was.queue_is c.in-Some.ensures.moved c.in-Some.ensures.first)
+    omega (arith, was.flags, c.requires.task.as_many, head_inside _ _ _ _ _ _ c.in-Some.event was.queue_is c.in-Some.ensures.moved c.in-Some.ensures.first)
 
-pub settle-requires-then-not-index-clause-reached : goal.settle-requires-then-not-index-clause-reached
-settle-requires-then-not-index-clause-reached g c =
+pub settle-requires-clause-reached : goal.settle-requires-clause-reached
+settle-requires-clause-reached g c =
     let was = c.loop-event.invariant.settled in
-    let within : c.in-Some.event.node < length c.loop-event.self.settled.items = omega (arith, was.flags, was.many, head_inside _ _ _ _ _ c.in-Some.event was.queue_is c.in-Some.ensures.moved c.in-Some.ensures.first) in
+    let within : c.in-Some.event.node < length c.loop-event.self.settled.items = omega (arith, was.flags, was.many, head_inside _ _ _ _ _ _ c.in-Some.event was.queue_is c.in-Some.ensures.moved c.in-Some.ensures.first) in
     let off : slice_index_or c.loop-event.self.settled.items c.in-Some.event.node false ≡ false = sym (read_flag c.loop-event.self.settled.items c.in-Some.event.node c.index.result.now within c.index.ensures) ∙ c.if-not-index.true in
-    let early : c.in-Some.event.at < never = omega (arith, c.if-event-best.false) in
-    head_arrives _ _ _ _ _ c.in-Some.event was.queue_is c.in-Some.ensures.moved c.in-Some.ensures.first off early
+    head_arrives _ _ _ _ _ _ c.in-Some.event was.queue_is c.in-Some.ensures.moved c.in-Some.ensures.first off
 
-pub settle-requires-then-not-index-clause-real : goal.settle-requires-then-not-index-clause-real
-settle-requires-then-not-index-clause-real g c = head_real _ _ _ _ _ c.in-Some.event c.loop-event.invariant.settled.queue_is c.in-Some.ensures.moved c.in-Some.ensures.first
+pub settle-requires-clause-real : goal.settle-requires-clause-real
+settle-requires-clause-real g c = head_real _ _ _ _ _ _ c.in-Some.event c.loop-event.invariant.settled.queue_is c.in-Some.ensures.moved c.in-Some.ensures.first
 
-pub settle-requires-then-not-index-clause-few_hops : goal.settle-requires-then-not-index-clause-few_hops
-settle-requires-then-not-index-clause-few_hops g c = head_few _ _ _ _ _ c.in-Some.event c.loop-event.invariant.settled.queue_is c.in-Some.ensures.moved c.in-Some.ensures.first
+pub settle-requires-clause-few_hops : goal.settle-requires-clause-few_hops
+settle-requires-clause-few_hops g c = head_few _ _ _ _ _ _ c.in-Some.event c.loop-event.invariant.settled.queue_is c.in-Some.ensures.moved c.in-Some.ensures.first
 
-pub settle-requires-then-not-index-clause-few : goal.settle-requires-then-not-index-clause-few
-settle-requires-then-not-index-clause-few g c =
+pub settle-requires-clause-state : goal.settle-requires-clause-state
+settle-requires-clause-state g c =
     let was = c.loop-event.invariant.settled in
-    let within : c.in-Some.event.node < length c.loop-event.self.settled.items = omega (arith, was.flags, was.many, head_inside _ _ _ _ _ c.in-Some.event was.queue_is c.in-Some.ensures.moved c.in-Some.ensures.first) in
+    let within : c.in-Some.event.node < length c.loop-event.self.settled.items = omega (arith, was.flags, was.many, head_inside _ _ _ _ _ _ c.in-Some.event was.queue_is c.in-Some.ensures.moved c.in-Some.ensures.first) in
     let off : slice_index_or c.loop-event.self.settled.items c.in-Some.event.node false ≡ false = sym (read_flag c.loop-event.self.settled.items c.in-Some.event.node c.index.result.now within c.index.ensures) ∙ c.if-not-index.true in
-    omega (arith, c.requires.few, c.loop-event.invariant.counted, next_most c.args.task.now c.requires.task _ _ _ _ _ c.in-Some.event was c.in-Some.ensures.moved c.in-Some.ensures.first off)
+    next_state c.args.forward.now.task.now c.requires.task _ _ _ _ _ _ _ c.in-Some.event was c.in-Some.ensures.moved c.in-Some.ensures.first off
 
-pub settle-requires-then-not-index-clause-state : goal.settle-requires-then-not-index-clause-state
-settle-requires-then-not-index-clause-state g c =
+pub links-links-requires-clause-node : goal.links-links-requires-clause-node
+links-links-requires-clause-node g c =
     let was = c.loop-event.invariant.settled in
-    let within : c.in-Some.event.node < length c.loop-event.self.settled.items = omega (arith, was.flags, was.many, head_inside _ _ _ _ _ c.in-Some.event was.queue_is c.in-Some.ensures.moved c.in-Some.ensures.first) in
-    let off : slice_index_or c.loop-event.self.settled.items c.in-Some.event.node false ≡ false = sym (read_flag c.loop-event.self.settled.items c.in-Some.event.node c.index.result.now within c.index.ensures) ∙ c.if-not-index.true in
-    next_state c.args.task.now c.requires.task _ _ _ _ _ c.in-Some.event was c.in-Some.ensures.moved c.in-Some.ensures.first off
+    omega (arith, was.flags, c.requires.task.as_many, head_inside _ _ _ _ _ _ c.in-Some.event was.queue_is c.in-Some.ensures.moved c.in-Some.ensures.first)
 
-pub returns-in_err-best-2-clause-looks : goal.returns-in_err-best-2-clause-looks
-returns-in_err-best-2-clause-looks g c =
+pub returns-then-links-most-clause-none : goal.returns-then-links-most-clause-none
+returns-then-links-most-clause-none g c =
     let was = c.loop-event.invariant.settled in
-    let within : c.in-Some.event.node < length c.loop-event.self.settled.items = omega (arith, was.flags, was.many, head_inside _ _ _ _ _ c.in-Some.event was.queue_is c.in-Some.ensures.moved c.in-Some.ensures.first) in
+    let within : c.in-Some.event.node < length c.loop-event.self.settled.items = omega (arith, was.flags, was.many, head_inside _ _ _ _ _ _ c.in-Some.event was.queue_is c.in-Some.ensures.moved c.in-Some.ensures.first) in
     let off : slice_index_or c.loop-event.self.settled.items c.in-Some.event.node false ≡ false = sym (read_flag c.loop-event.self.settled.items c.in-Some.event.node c.index.result.now within c.index.ensures) ∙ c.if-not-index.true in
-    omega (arith, c.settle-then-not-index.ensures.looks, c.loop-event.invariant.counted, next_most c.args.task.now c.requires.task _ _ _ _ _ c.in-Some.event was c.in-Some.ensures.moved c.in-Some.ensures.first off)
+    let most = next_most c.args.forward.now.task.now c.requires.task _ _ _ _ _ _ _ c.in-Some.event was c.in-Some.ensures.moved c.in-Some.ensures.first off in
+    omega (arith, most, c.loop-event.invariant.counted, c.loop-event.invariant.limit, c.if-links-most.true, c.links-links.ensures.few)
+
+pub returns-in_err-best-2-clause-counted : goal.returns-in_err-best-2-clause-counted
+returns-in_err-best-2-clause-counted g c =
+    let was = c.loop-event.invariant.settled in
+    let within : c.in-Some.event.node < length c.loop-event.self.settled.items = omega (arith, was.flags, was.many, head_inside _ _ _ _ _ _ c.in-Some.event was.queue_is c.in-Some.ensures.moved c.in-Some.ensures.first) in
+    let off : slice_index_or c.loop-event.self.settled.items c.in-Some.event.node false ≡ false = sym (read_flag c.loop-event.self.settled.items c.in-Some.event.node c.index.result.now within c.index.ensures) ∙ c.if-not-index.true in
+    let most = next_most c.args.forward.now.task.now c.requires.task _ _ _ _ _ _ _ c.in-Some.event was c.in-Some.ensures.moved c.in-Some.ensures.first off in
+    omega (arith, most, c.loop-event.invariant.counted, c.settle.ensures.looks, c.links-links.ensures.few)
 
 pub loop-event-smaller-then-not-index : goal.loop-event-smaller-then-not-index
 loop-event-smaller-then-not-index g c =
     let was = c.loop-event.invariant.settled in
-    let within : c.in-Some.event.node < length c.loop-event.self.settled.items = omega (arith, was.flags, was.many, head_inside _ _ _ _ _ c.in-Some.event was.queue_is c.in-Some.ensures.moved c.in-Some.ensures.first) in
+    let within : c.in-Some.event.node < length c.loop-event.self.settled.items = omega (arith, was.flags, was.many, head_inside _ _ _ _ _ _ c.in-Some.event was.queue_is c.in-Some.ensures.moved c.in-Some.ensures.first) in
     let off : slice_index_or c.loop-event.self.settled.items c.in-Some.event.node false ≡ false = sym (read_flag c.loop-event.self.settled.items c.in-Some.event.node c.index.result.now within c.index.ensures) ∙ c.if-not-index.true in
-    let most = next_most c.args.task.now c.requires.task _ _ _ _ _ c.in-Some.event was c.in-Some.ensures.moved c.in-Some.ensures.first off in
+    let most = next_most c.args.forward.now.task.now c.requires.task _ _ _ _ _ _ _ c.in-Some.event was c.in-Some.ensures.moved c.in-Some.ensures.first off in
     let shorter : length c.loop-event.self.queue ≡ suc (length c.pop.new.self) = sym (length_permutation _ _ c.in-Some.ensures.moved) in
-    omega (arith, most, c.settle-then-not-index.ensures.looks, c.loop-event.invariant.counted, c.in_ok-best-2.ensures.pushes)
+    omega (arith, most, c.settle.ensures.looks, c.links-links.ensures.few, c.loop-event.invariant.counted, c.in_ok-best-2.ensures.pushes)
 
 pub loop-event-preserved-then-not-index : goal.loop-event-preserved-then-not-index
 loop-event-preserved-then-not-index g c =
-    let task = c.args.task.now in
+    let task = c.args.forward.now.task.now in
     let was = c.loop-event.invariant.settled in
-    let within : c.in-Some.event.node < length c.loop-event.self.settled.items = omega (arith, was.flags, was.many, head_inside _ _ _ _ _ c.in-Some.event was.queue_is c.in-Some.ensures.moved c.in-Some.ensures.first) in
+    let within : c.in-Some.event.node < length c.loop-event.self.settled.items = omega (arith, was.flags, was.many, head_inside _ _ _ _ _ _ c.in-Some.event was.queue_is c.in-Some.ensures.moved c.in-Some.ensures.first) in
     let off : slice_index_or c.loop-event.self.settled.items c.in-Some.event.node false ≡ false = sym (read_flag c.loop-event.self.settled.items c.in-Some.event.node c.index.result.now within c.index.ensures) ∙ c.if-not-index.true in
     let settled = c.in_ok-best-2.ensures in
     record {
-      counted = next_counted task c.requires.task _ _ _ _ _ c.in-Some.event was c.in-Some.ensures.moved c.in-Some.ensures.first off _ _ _ settled.settled (omega (arith, settled.looks, c.loop-event.invariant.counted));
-      settled = next_settled task c.requires.task _ _ _ _ _ c.in-Some.event was c.in-Some.ensures.moved c.in-Some.ensures.first off _ _ _ _
+      counted = next_counted task c.requires.task _ _ _ _ _ _ _ c.in-Some.event was c.in-Some.ensures.moved c.in-Some.ensures.first off _ _ _ settled.settled (omega (arith, settled.looks, c.links-links.ensures.few, c.loop-event.invariant.counted));
+      limit = omega (arith, settled.looks, c.if-links-most.false, c.loop-event.invariant.limit);
+      settled = next_settled task c.requires.task _ _ _ _ _ _ _ c.in-Some.event was c.in-Some.ensures.moved c.in-Some.ensures.first off _ _ _ _
           settled.settled settled.state settled.fallen settled.taken;
     }
 
@@ -90,31 +96,32 @@ loop-event-smaller g c =
 pub loop-event-preserved : goal.loop-event-preserved
 loop-event-preserved g c =
     let was = c.loop-event.invariant.settled in
-    let within : c.in-Some.event.node < length c.loop-event.self.settled.items = omega (arith, was.flags, was.many, head_inside _ _ _ _ _ c.in-Some.event was.queue_is c.in-Some.ensures.moved c.in-Some.ensures.first) in
+    let within : c.in-Some.event.node < length c.loop-event.self.settled.items = omega (arith, was.flags, was.many, head_inside _ _ _ _ _ _ c.in-Some.event was.queue_is c.in-Some.ensures.moved c.in-Some.ensures.first) in
     let on = sym (read_flag c.loop-event.self.settled.items c.in-Some.event.node c.index.result.now within c.index.ensures) ∙ c.if-not-index.false in
     record {
       counted = c.loop-event.invariant.counted;
-      settled = settled_stale _ _ _ _ _ _ was (queue_stale _ _ _ _ _ c.in-Some.event was.queue_is c.in-Some.ensures.moved c.in-Some.ensures.first on);
+      limit = c.loop-event.invariant.limit;
+      settled = settled_stale _ _ _ _ _ _ _ _ was (queue_stale _ _ _ _ _ _ c.in-Some.event was.queue_is c.in-Some.ensures.moved c.in-Some.ensures.first on);
     }
 
 pub returns-then-event-best-clause-first : goal.returns-then-event-best-clause-first
 returns-then-event-best-clause-first g c =
     let was = c.loop-event.invariant.settled in
-    first_way c.args.task.now c.requires.task _ _ _ c.loop-event.best was
-    (λ f there. omega (arith, c.if-event-best.true, waits_later _ _ _ _ _ c.in-Some.event was.queue_is c.in-Some.ensures.moved c.in-Some.ensures.first f there))
+    first_before c.args.forward.now.task.now c.requires.task _ _ c.requires.bound _ _ _ c.loop-event.best was
+    (λ f there. omega (arith, c.if-event-best.true, waits_later _ _ _ _ _ _ c.in-Some.event was.queue_is c.in-Some.ensures.moved c.in-Some.ensures.first f there))
 
 pub returns-clause-first : goal.returns-clause-first
 returns-clause-first g c =
-    first_way c.args.task.now c.requires.task _ _ _ c.loop-event.best c.loop-event.invariant.settled
+    first_before c.args.forward.now.task.now c.requires.task _ _ c.requires.bound _ _ _ c.loop-event.best c.loop-event.invariant.settled
     (λ f there. (let none = rw c.in_default.ensures.none at there in absurd (omega (arith, none.1))))
 
 pub returns-then-event-best-clause-arrivals : goal.returns-then-event-best-clause-arrivals
 returns-then-event-best-clause-arrivals g c =
     let was = c.loop-event.invariant.settled in
-    arrivals_found c.args.task.now c.requires.task _ _ _ c.loop-event.best was
-    (λ f there. omega (arith, c.if-event-best.true, waits_later _ _ _ _ _ c.in-Some.event was.queue_is c.in-Some.ensures.moved c.in-Some.ensures.first f there))
+    arrivals_found c.args.forward.now.task.now c.requires.task _ _ c.requires.bound _ _ _ c.loop-event.best was
+    (λ f there. omega (arith, c.if-event-best.true, waits_later _ _ _ _ _ _ c.in-Some.event was.queue_is c.in-Some.ensures.moved c.in-Some.ensures.first f there))
 
 pub returns-clause-arrivals : goal.returns-clause-arrivals
 returns-clause-arrivals g c =
-    arrivals_found c.args.task.now c.requires.task _ _ _ c.loop-event.best c.loop-event.invariant.settled
+    arrivals_found c.args.forward.now.task.now c.requires.task _ _ c.requires.bound _ _ _ c.loop-event.best c.loop-event.invariant.settled
     (λ f there. (let none = rw c.in_default.ensures.none at there in absurd (omega (arith, none.1))))

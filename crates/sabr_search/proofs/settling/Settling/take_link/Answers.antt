@@ -5,7 +5,7 @@ use Rattle.sabr_search.proofs.settling.Settling.take_link.Goals as goal
 
 pub returns-then-at-before-clause-known : goal.returns-then-at-before-clause-known
 returns-then-at-before-clause-known g c = λ n w x has s.
-    let task = c.args.task.now in
+    let task = c.args.forward.now.task.now in
     let u = c.args.event.node in
     let t = c.args.event.at in
     let over = over_pass task c.requires.task u c.args.link.now.receiver t has.1 w x (c.requires.link.0.each has.0 has.1 has.2) (step_over task c.args.passes.now n u t w x has s) in
@@ -13,7 +13,7 @@ returns-then-at-before-clause-known g c = λ n w x has s.
 
 pub returns-clause-known : goal.returns-clause-known
 returns-clause-known g c = λ n w x has s.
-    let task = c.args.task.now in
+    let task = c.args.forward.now.task.now in
     let u = c.args.event.node in
     let t = c.args.event.at in
     let over = over_pass task c.requires.task u c.args.link.now.receiver t has.1 w x (c.requires.link.0.each has.0 has.1 has.2) (step_over task c.args.passes.now n u t w x has s) in

@@ -2,7 +2,7 @@ use Rattle.std.proofs.Common.{◌≡◌, false, true, inl, inr, slice_index_or, 
 use Rattle.std.proofs.lemmas.Option.{slice_get_within}
 use Rattle.std.proofs.lemmas.Bool.{both_ways}
 use Rattle.sabr_search.proofs.Arrivals.{arrives_later}
-use Rattle.sabr_search.proofs.Tables.{taken_from, due_found}
+use Rattle.sabr_search.proofs.Walks.{taken_from, due_found}
 use Rattle.sabr_search.proofs.Forward.{last_or_before}
 use Rattle.sabr_search.proofs.OverLinks.{link_here, link_by_place, no_link}
 use Rattle.sabr_search.proofs.task.Task.least_due.Goals as goal
@@ -81,7 +81,7 @@ loop-link-preserved g c =
 pub returns-clause-some : goal.returns-clause-some
 returns-clause-some g c =
     let t = c.args.from.at in
-    due_found c.args.self.now c.args.rung.now.dues.items c.args.rest c.args.from.node t c.loop-link.least c.loop-link.invariant.chosen
+    due_found c.args.self.now c.args.dues.now.dues.items c.args.rest c.args.from.node t c.loop-link.least c.loop-link.invariant.chosen
     (λ n w b s through.
     (let on = c.loop-link.invariant.links.whole n t w b s in
     c.loop-link.invariant.least on.0 on.1 n w b (omega (arith, slice_get_within c.links-links.result.links.now on.0 on.1 on.2, c.loop-link-test.false)) on.2 on.3 s through))

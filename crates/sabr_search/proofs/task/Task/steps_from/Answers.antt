@@ -21,10 +21,13 @@ loop-link-preserved-then-shut-link g c =
     let task = c.args.self.now in
     let l = slice_index_or c.links-links.result.links.now c.loop-link.link-index no_link in
     let so_far = c.loop-link.invariant in
-    let link = link_by_place _ _ _ _ so_far.links _ c.loop-link-test.true in
+    let link = link_here _ _ _ _ so_far.links _ c.loop-link-test.true _ c.link_passes-passes.ensures in
     record {
       links = so_far.links;
       counted = so_far.counted;
+      placed = λ m next. omega (arith, so_far.placed _ link.here, link.next m next);
+      all = so_far.all;
+      real = so_far.real;
       inside = so_far.inside;
       come = λ j x n w b less at has s. elim (last_or_before j c.loop-link.link-index less) [
         | inl before ↦ so_far.come j x n w b before at has s
@@ -44,9 +47,15 @@ loop-link-preserved g c =
     record {
       links = so_far.links;
       counted = omega (arith, c.arrive_over-at.ensures.looks, c.if-passes-most.false, so_far.counted);
+      placed = λ m next. omega (arith, so_far.placed _ link.here, c.arrive_over-at.ensures.looks, link.few, link.next m next);
+      all = omega (arith, so_far.placed _ link.here, c.arrive_over-at.ensures.looks, link.few);
+      real = λ k x at. elim (c.in_ok-put_step.ensures.only k x at) [
+        | inl old ↦ so_far.real k x old
+        | inr is ↦ rw (← is.0) (c.arrive_over-at.ensures.sound is.1 (subst (λ xs. slice_index_or xs l.receiver false ≡ false) c.shut.ensures c.if-shut-link.false))
+      ];
       inside = λ k x at. elim (c.in_ok-put_step.ensures.only k x at) [
         | inl old ↦ so_far.inside k x old
-        | inr is ↦ rw (← is) (link.receiver)
+        | inr is ↦ rw (← is.0) (link.receiver)
       ];
       come = λ j x n w b less at has s. elim (last_or_before j c.loop-link.link-index less) [
         | inl before ↦ (let old = so_far.come j x n w b before at has s in (old.0, old.1, c.in_ok-put_step.ensures.kept old.0 old.1 old.2, old.3, old.4))
@@ -64,3 +73,9 @@ pub returns-clause-whole : goal.returns-clause-whole
 returns-clause-whole g c = λ yes' n w b s.
     let on = c.loop-link.invariant.links.whole n c.args.from.at w b s in
     c.loop-link.invariant.come on.0 on.1 n w b (omega (arith, slice_get_within c.links-links.result.links.now on.0 on.1 on.2, c.loop-link-test.false)) on.2 on.3 s
+
+pub returns-then-passes-most-clause-all : goal.returns-then-passes-most-clause-all
+returns-then-passes-most-clause-all g c = λ no.
+    let so_far = c.loop-link.invariant in
+    let link = link_here _ _ _ _ so_far.links _ c.loop-link-test.true _ c.link_passes-passes.ensures in
+    omega (arith, so_far.placed _ link.here, link.few, c.if-passes-most.true, so_far.counted, so_far.links.few)

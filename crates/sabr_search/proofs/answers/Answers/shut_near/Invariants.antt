@@ -1,0 +1,10 @@
+use Rattle.sabr_search.specs.Task.{IsOfRequest}
+use Rattle.sabr_search.specs.Answers.{narrowed}
+use Rattle.sabr_search.specs.WideTasks.{ShutsFewer}
+use Rattle.sabr_search.proofs.answers.Answers.shut_near.Given as goal
+
+abbrev pub invariant-loop-place : goal.invariant-loop-place
+invariant-loop-place g l = record {
+  fewer : ShutsFewer l.task l.shut;
+  request : IsOfRequest (narrowed l.task l.shut l.task.at);
+}
