@@ -5,16 +5,17 @@ ghost use Rattle.std.specs.Prelude.{◌≡◌, ◌+◌, ◌-◌, ◌≤◌, ◌+
 use crate::tree::NodeId;
 
 /// So many nodes at most wait on the stack while others take their places.
-const ROOM: usize = 256;
+const ROOM: usize = 128;
 
-/// Moves all but the last `by` nodes of a list `by` places on; they stand in the room meanwhile. What stands in front
+/// Moves all but the last `by` nodes of a list `by` places on; they wait on the stack meanwhile. What stands in front
 /// of them stays.
-fn copy_up(ids: &mut [NodeId], by: usize, room: &mut [NodeId; 256])
+fn copy_up(ids: &mut [NodeId], by: usize)
     requires within { by ≤ length ids.old }
-    requires few { length ids.old ≤ by + 256 }
+    requires few { length ids.old ≤ by + 128 }
     ensures { ids.new ≡ take by ids.old ++ take (length ids.old - by) ids.old }
 {
     let count = ids.len() - by;
+    let mut room = [NodeId(0); 128];
     room[..count].copy_from_slice(&ids[..count]);
     ids[by..].copy_from_slice(&room[..count]);
 }
@@ -25,11 +26,10 @@ pub fn shift_up(ids: &mut [NodeId], by: usize)
     ensures after { drop by ids.new ≡ take (length ids.old - by) ids.old }
     ensures len { length ids.new ≡ length ids.old }
 {
-    let mut room = [NodeId(0); 256];
     let mut end = ids.len() - by;
     while 0 < end {
         let start = end.saturating_sub(ROOM);
-        copy_up(&mut ids[start..end + by], by, &mut room);
+        copy_up(&mut ids[start..end + by], by);
         end = start;
     }
 }
