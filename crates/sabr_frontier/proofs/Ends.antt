@@ -28,6 +28,18 @@ length-modify f [] i = refl
 length-modify f (x ∷ xs) zero = refl
 length-modify f (x ∷ xs) (suc i) = ap suc (length-modify f xs i)
 
+pub modify_front : {X : Type 0} (f : X → X) (xs ys : List X) (i : ℕ) → i < length xs → modify f (xs ++ ys) i ≡ modify f xs i ++ ys
+modify_front f [] ys i l = absurd (omega arith)
+modify_front f (x ∷ xs) ys zero l = refl
+modify_front f (x ∷ xs) ys (suc i) l = ap (λ t. x ∷ t) (modify_front f xs ys i (omega arith))
+
+-- what stands in a front
+pub get_taken : {X : Type 0} (n : ℕ) (xs : List X) (i : ℕ) → i < n → slice_get (take n xs) i ≡ slice_get xs i
+get_taken zero xs i l = absurd (omega arith)
+get_taken (suc n) [] i l = refl
+get_taken (suc n) (x ∷ xs) zero l = refl
+get_taken (suc n) (x ∷ xs) (suc i) l = get_taken n xs i (omega arith)
+
 -- what an index reads
 pub get_there : {X : Type 0} (xs : List X) (i : ℕ) (x : X) → i < length xs → x ≡ get_or xs i x → slice_get xs i ≡ Some x
 get_there [] i x l e = absurd (omega arith)

@@ -6,7 +6,7 @@ use Rattle.sabr_frontier.specs.declared.tree.Node.{Node}
 use Rattle.sabr_frontier.specs.declared.take.Prepared.{Prepared}
 use Rattle.sabr_frontier.specs.Shape.{Shape, order_of}
 use Rattle.sabr_frontier.specs.Undo.{modify, without}
-use Rattle.sabr_frontier.specs.Taking.{changed_by, wide_of}
+use Rattle.sabr_frontier.specs.Taking.{wide_of}
 
 -- for the node n with the route x: a copy of x, and how many new nodes there will be
 pub record IsPrepared {A : Type 0} (n : Node A) (x : RouteRecord) (w : Prepared A) : Type 0 where
@@ -28,10 +28,13 @@ including s n = record n { excluded = without (slice_index s n.length) n.exclude
 abbrev pub carrying : {A : Type 0} → Option RouteRecord → Node A → Node A
 carrying found n = record n { route = found }
 
--- the nodes with what one of them carries then, and the new ones
-abbrev pub nodes_with : {A : Type 0} → List (Node A) → NodeId → Option RouteRecord → List (Node A) → List (Node A)
-nodes_with nodes node found fresh = modify (carrying found) nodes node.0 ++ fresh
-
--- the tree with these nodes, once the node's route x is given
-abbrev pub given_by : {A : Type 0} → Shape A → NodeId → RouteRecord → Option RouteRecord → List (Node A) → Shape A
-given_by t node x found fresh = changed_by t node x (order_of (t.leaves ++ x ∷ []) (nodes_with t.nodes node found fresh)) (nodes_with t.nodes node found fresh)
+-- the tree once the node's route x is given and it carries this, where the new nodes stand from `first` on already
+abbrev pub given_by : {A : Type 0} → Shape A → NodeId → RouteRecord → Option RouteRecord → ℕ → Shape A
+given_by t node x found first =
+    record {
+      nodes = modify (carrying found) t.nodes node.0;
+      index = order_of (t.leaves ++ x ∷ []) (modify (carrying found) t.nodes node.0);
+      leaves = t.leaves ++ x ∷ [];
+      last = Some (length t.leaves);
+      journal = t.journal ++ record { node = node; nodes = first; last = t.last } ∷ [];
+    }

@@ -1,14 +1,13 @@
 //! Changing the tree when a route is given, without memory.
 
-ghost use Rattle.std.specs.Prelude.{◌≡◌, ◌<◌, vec_len, vec_capacity, Some, IfSome, IfNone, IsSome, IsTrue, IsFalse, OnOk};
+ghost use Rattle.std.specs.Prelude.{◌≡◌, ◌<◌, ◌≤◌, take, length, vec_len, vec_capacity, Some, IfSome, IfNone, IsSome, IsTrue, IsFalse, OnOk};
 ghost use Rattle.sabr_model.specs.Record.{RouteRecord};
 ghost use Rattle.sabr_frontier.specs.Shape.{shape_of, route_at};
-ghost use Rattle.sabr_frontier.specs.Undo.{IsRoomy, modify};
-ghost use Rattle.sabr_frontier.specs.Winners.{CarriesNone, CarriesSome, IsFirst};
+ghost use Rattle.sabr_frontier.specs.Undo.{IsRoomy, IsSpacious, modify};
+ghost use Rattle.sabr_frontier.specs.Winners.{AreWinners, CarriesNone, CarriesSome, IsFirst};
 ghost use Rattle.sabr_frontier.specs.Prepared.{carrying, given_by};
 ghost use Rattle.sabr_frontier.specs.Room.{HasRoom};
 
-use crate::divide::Division;
 use crate::places::carried;
 use crate::tree::{Entry, Node, NodeId, Tree};
 use crate::winners::{fill, renew};
@@ -26,7 +25,6 @@ fn carry<A: Allocator + Copy>(
     ensures nodes { nodes.new.items ≡ modify (carrying found) nodes.old.items node.0 }
     ensures route { result ≡ route_at nodes.old.items node }
     ensures len { vec_len nodes.new ≡ vec_len nodes.old }
-    ensures capacity { vec_capacity nodes.new ≡ vec_capacity nodes.old }
 {
     let part = &mut nodes[node.0];
     mem::replace(&mut part.route, found)
@@ -91,24 +89,24 @@ impl<A: Allocator + Copy> Tree<A> {
         Ok(())
     }
 
-    /// Gives the route of a node: the node carries another or none, and its new nodes come after the others. There is
-    /// room for all of it.
-    pub fn change(&mut self, node: NodeId, division: Division<A>)
-        requires roomy { IsRoomy self.old }
-        requires in_range { node.0 < vec_len self.old.nodes }
+    /// Gives the route of a node: the node carries another or none. Its new nodes stand after the others already, and have
+    /// no winners yet. There is room for all of it.
+    pub fn change(&mut self, node: NodeId, found: Option<Route<A>>)
+        requires in_range { node.0 < vec_len self.old.winners }
+        requires within { vec_len self.old.winners ≤ vec_len self.old.nodes }
         requires carries { IsSome (route_at self.old.nodes.items node) }
-        requires room { HasRoom self.old (vec_len division.fresh) }
-        ensures shape { (x : RouteRecord) → route_at self.old.nodes.items node ≡ Some x → shape_of self.new ≡ given_by (shape_of self.old) node x division.found division.fresh.items }
+        requires won { AreWinners (take (length self.old.winners.items) self.old.nodes.items) self.old.winners.items }
+        requires space { IsSpacious self.old }
+        requires leaf { vec_len self.old.leaves < vec_capacity self.old.leaves }
+        requires entry { vec_len self.old.journal < vec_capacity self.old.journal }
+        ensures shape { (x : RouteRecord) → route_at self.old.nodes.items node ≡ Some x → shape_of self.new ≡ given_by (shape_of self.old) node x found (length self.old.winners.items) }
         ensures index { self.new.index.items ≡ self.old.index.items }
         ensures room { IsRoomy self.new }
     {
-        let mut fresh = division.fresh;
-        let first = self.nodes.len();
-        let Some(route) = carry(&mut self.nodes, node, division.found) else {
+        let first = self.winners.len();
+        let Some(route) = carry(&mut self.nodes, node, found) else {
             unreachable!()
         };
-        let appended = self.nodes.append(&mut fresh);
-        let Ok(()) = appended else { unreachable!() };
         renew(self.nodes.as_slice(), &mut self.winners, node);
         fill(self.nodes.as_slice(), &mut self.winners);
         self.journal.push_reserved(Entry {

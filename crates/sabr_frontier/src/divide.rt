@@ -1,6 +1,6 @@
 //! Dividing a part by the route that it carries: the number that it then excludes, and all searches.
 
-ghost use Rattle.std.specs.Prelude.{◌≡◌, ℕ, ◌+◌, ◌≤◌, ◌<◌, take, drop, slice_index, slice_get, length, vec_len, vec_capacity, Some, [], ◌∷◌, IfOk, OnOk, OnErr, IsTrue};
+ghost use Rattle.std.specs.Prelude.{◌≡◌, ◌+◌, ◌≤◌, ◌<◌, ◌++◌, take, drop, slice_index, slice_get, length, vec_len, vec_capacity, Some, [], ◌∷◌, IfOk, OnOk, OnErr, IsTrue};
 ghost use Rattle.std.specs.Ordering.{nat_cmp};
 ghost use Rattle.sabr_model.specs.Route.{is_route};
 ghost use Rattle.sabr_frontier.specs.Asking.{best_for};
@@ -15,14 +15,7 @@ use crate::excluded::Excluded;
 use crate::tree::{Node, NodeId};
 use sabr_model::{NoMemory, Numbers, Route};
 use sabr_search::BestOf;
-use std::alloc::{Allocator, Global};
-
-/// What a part carries after its route was given, and the new parts.
-#[derive(Drop)]
-pub struct Division<A: Allocator + Copy = Global> {
-    pub found: Option<Route<A>>,
-    pub fresh: Vec<Node<A>, A>,
-}
+use std::alloc::Allocator;
 
 /// Copies a route.
 pub fn copied<A: Allocator + Copy>(alloc: A, route: &Route<A>) -> Result<Route<A>, NoMemory>
@@ -69,49 +62,55 @@ fn fresh_node<B: BestOf<A>, A: Allocator + Copy>(
     })
 }
 
-/// Makes the nodes of a leaf for the beginnings of a route from `first` numbers on, each with its next number excluded.
+/// Adds the nodes of a leaf for the beginnings of a route from `first` numbers on, each with its next number excluded.
+/// There is room for them. After a refusal some may have been added.
 fn fresh_nodes<B: BestOf<A>, A: Allocator + Copy>(
     asker: &mut Asker<'_, B, A>,
+    nodes: &mut Vec<Node<A>, A>,
     leaf: usize,
     route: &[u32],
     first: usize,
-) -> Result<Vec<Node<A>, A>, NoMemory>
+) -> Result<(), NoMemory>
     requires route { IsTrue (is_route asker.old.asked.plan.plan asker.old.asked.request route.now) }
     requires within { first ≤ length route.now }
-    ensures nodes { IfOk result (λ v. v.items ≡ fresh_nodes (best_for asker.old.asked) leaf (take first route.now) (drop first route.now)) }
-    ensures called { IfOk result (λ v. asker.new.calls ≡ asker.old.calls + length v.items) }
+    requires room { vec_len nodes.old + length route.now ≤ vec_capacity nodes.old + first }
+    ensures nodes { OnOk result (nodes.new.items ≡ nodes.old.items ++ fresh_nodes (best_for asker.old.asked) leaf (take first route.now) (drop first route.now)) }
+    ensures called { OnOk result (asker.new.calls + first ≡ asker.old.calls + length route.now) }
     ensures same { asker.new.asked ≡ asker.old.asked }
+    ensures front { take (length nodes.old.items) nodes.new.items ≡ nodes.old.items }
 {
-    let Ok(mut nodes) = Vec::with_capacity(asker.alloc(), route.len() - first) else {
-        return Err(NoMemory);
-    };
     for count in first..route.len() {
         let node = fresh_node(asker, leaf, route, count)?;
         nodes.push_reserved(node);
     }
-    Ok(nodes)
+    Ok(())
 }
 
-/// Finds what a node carries next, for the numbers that it excludes, and makes the new nodes of its route, which is
-/// then the leaf `leaf`. It takes one search for the node itself, and one for each new node.
+/// Finds what a node carries next, for the numbers that it excludes, and adds the new nodes of its route, which is then
+/// the leaf `leaf`. It takes one search for the node itself, and one for each new node.
 fn search<B: BestOf<A>, A: Allocator + Copy>(
     asker: &mut Asker<'_, B, A>,
-    node: &Node<A>,
+    nodes: &mut Vec<Node<A>, A>,
+    node: NodeId,
     route: &[u32],
     leaf: usize,
-) -> Result<Division<A>, NoMemory>
+) -> Result<Option<Route<A>>, NoMemory>
+    requires in_range { node.0 < vec_len nodes.old }
     requires route { IsTrue (is_route asker.old.asked.plan.plan asker.old.asked.request route.now) }
-    requires longer { node.now.length < length route.now }
-    requires rising { Rises nat_cmp node.now.excluded }
-    ensures found { IfOk result (λ w. w.found ≡ best_for asker.old.asked (take node.now.length route.now) node.now.excluded) }
-    ensures fresh { IfOk result (λ w. w.fresh.items ≡ fresh_after (best_for asker.old.asked) leaf node.now route.now) }
-    ensures called { IfOk result (λ w. asker.new.calls ≡ asker.old.calls + (length w.fresh.items + 1)) }
+    requires longer { (n : Node A) → slice_get nodes.old.items node.0 ≡ Some n → n.length < length route.now }
+    requires rising { (n : Node A) → slice_get nodes.old.items node.0 ≡ Some n → Rises nat_cmp n.excluded }
+    requires room { (n : Node A) → slice_get nodes.old.items node.0 ≡ Some n → vec_len nodes.old + length route.now ≤ vec_capacity nodes.old + (n.length + 1) }
+    ensures found { IfOk result (λ found. (n : Node A) → slice_get nodes.old.items node.0 ≡ Some n → found ≡ best_for asker.old.asked (take n.length route.now) n.excluded) }
+    ensures nodes { OnOk result ((n : Node A) → slice_get nodes.old.items node.0 ≡ Some n → nodes.new.items ≡ nodes.old.items ++ fresh_after (best_for asker.old.asked) leaf n route.now) }
+    ensures called { OnOk result ((n : Node A) → slice_get nodes.old.items node.0 ≡ Some n → asker.new.calls + n.length ≡ asker.old.calls + length route.now) }
     ensures same { asker.new.asked ≡ asker.old.asked }
+    ensures front { take (length nodes.old.items) nodes.new.items ≡ nodes.old.items }
 {
-    let count = node.length;
-    let found = asker.ask(&route[..count], node.excluded.as_slice())?;
-    let fresh = fresh_nodes(asker, leaf, route, count + 1)?;
-    Ok(Division { found, fresh })
+    let part = &nodes[node.0];
+    let count = part.length;
+    let found = asker.ask(&route[..count], part.excluded.as_slice())?;
+    fresh_nodes(asker, nodes, leaf, route, count + 1)?;
+    Ok(found)
 }
 
 /// Excludes the number that a route takes after the node's prefix, or changes nothing if memory was refused.
@@ -137,40 +136,39 @@ fn exclude_next<A: Allocator + Copy>(
 fn include_next<A: Allocator + Copy>(nodes: &mut Vec<Node<A>, A>, node: NodeId, route: &[u32])
     requires in_range { node.0 < vec_len nodes.old }
     requires longer { (n : Node A) → slice_get nodes.old.items node.0 ≡ Some n → n.length < length route.now }
-    ensures nodes { nodes.new.items ≡ modify (including route.now) nodes.old.items node.0 }
-    ensures len { vec_len nodes.new ≡ vec_len nodes.old }
-    ensures capacity { vec_capacity nodes.new ≡ vec_capacity nodes.old }
+    ensures { nodes.new.items ≡ modify (including route.now) nodes.old.items node.0 }
 {
     let part = &mut nodes[node.0];
     let number = route[part.length];
     part.excluded.forget(number);
 }
 
-/// Divides the part of a node by a route of it, which is then the leaf `leaf`: the node excludes one number more. After
-/// a refusal the nodes are as they were.
+/// Divides the part of a node by a route of it, which is then the leaf `leaf`: the node excludes one number more, and
+/// the new parts come after the others. There is room for them. It returns what the node carries then. After a refusal
+/// the nodes are as they were.
 pub fn divide<B: BestOf<A>, A: Allocator + Copy>(
     asker: &mut Asker<'_, B, A>,
     nodes: &mut Vec<Node<A>, A>,
     node: NodeId,
     route: &[u32],
     leaf: usize,
-) -> Result<Division<A>, NoMemory>
+) -> Result<Option<Route<A>>, NoMemory>
     requires in_range { node.0 < vec_len nodes.old }
     requires route { IsTrue (is_route asker.old.asked.plan.plan asker.old.asked.request route.now) }
     requires next { (n : Node A) → slice_get nodes.old.items node.0 ≡ Some n → CanExclude n route.now }
-    ensures ok { OnOk result (nodes.new.items ≡ modify (excluding route.now) nodes.old.items node.0) }
-    ensures found { IfOk result (λ w. (n : Node A) → slice_get nodes.old.items node.0 ≡ Some n → w.found ≡ best_for asker.old.asked (take n.length route.now) (wide_of n route.now)) }
-    ensures fresh { IfOk result (λ w. (n : Node A) → slice_get nodes.old.items node.0 ≡ Some n → w.fresh.items ≡ fresh_after (best_for asker.old.asked) leaf n route.now) }
-    ensures called { IfOk result (λ w. asker.new.calls ≡ asker.old.calls + (length w.fresh.items + 1)) }
+    requires room { (n : Node A) → slice_get nodes.old.items node.0 ≡ Some n → vec_len nodes.old + length route.now ≤ vec_capacity nodes.old + (n.length + 1) }
+    ensures found { IfOk result (λ found. (n : Node A) → slice_get nodes.old.items node.0 ≡ Some n → found ≡ best_for asker.old.asked (take n.length route.now) (wide_of n route.now)) }
+    ensures ok { OnOk result ((n : Node A) → slice_get nodes.old.items node.0 ≡ Some n → nodes.new.items ≡ modify (excluding route.now) nodes.old.items node.0 ++ fresh_after (best_for asker.old.asked) leaf n route.now) }
+    ensures called { OnOk result ((n : Node A) → slice_get nodes.old.items node.0 ≡ Some n → asker.new.calls + n.length ≡ asker.old.calls + length route.now) }
     ensures same { asker.new.asked ≡ asker.old.asked }
     ensures err { OnErr result (nodes.new.items ≡ nodes.old.items) }
-    ensures len { vec_len nodes.new ≡ vec_len nodes.old }
-    ensures capacity { vec_capacity nodes.new ≡ vec_capacity nodes.old }
 {
     exclude_next(nodes, node, route)?;
-    match search(asker, &nodes[node.0], route, leaf) {
-        Ok(division) => Ok(division),
+    let count = nodes.len();
+    match search(asker, nodes, node, route, leaf) {
+        Ok(found) => Ok(found),
         Err(refused) => {
+            nodes.truncate(count);
             include_next(nodes, node, route);
             Err(refused)
         }

@@ -67,7 +67,7 @@ impl<A: Allocator + Copy> Tree<A> {
             return Err(NoMemory);
         };
         self.reserve(prepared.count)?;
-        let division = divide(
+        let found = divide(
             asker,
             &mut self.nodes,
             node,
@@ -76,7 +76,7 @@ impl<A: Allocator + Copy> Tree<A> {
         )?;
         let count = prepared.count as u64 + 1;
         given.push_reserved(prepared.route);
-        self.change(node, division);
+        self.change(node, found);
         Ok(count)
     }
 }

@@ -1,58 +1,68 @@
-use Rattle.std.proofs.Common.{◌<◌, ◌+◌, slice_index, length, take, drop, arith, sym, ap, subst, ◌∙◌}
+use Rattle.std.proofs.Common.{◌≡◌, ◌<◌, ◌++◌, slice_index, length, take, arith, sym, ap, subst, ◌∙◌}
 use Rattle.std.specs.Cmp.{nat_cmp_total}
 use Rattle.std.specs.Ordering.{nat_cmp}
+use Rattle.std.specs.Prelude.{slice_get}
 use Rattle.sabr_frontier.specs.declared.tree.Node.{Node}
 use Rattle.sabr_frontier.specs.Rising.{Rises}
-use Rattle.sabr_frontier.specs.Asking.{Asked, best_for}
-use Rattle.sabr_frontier.specs.Taking.{fresh_nodes}
-use Rattle.sabr_frontier.proofs.Ends.{get_there, there}
+use Rattle.sabr_frontier.specs.Asking.{best_for}
+use Rattle.sabr_frontier.specs.Taking.{fresh_after}
+use Rattle.sabr_frontier.specs.Undo.{modify}
+use Rattle.sabr_frontier.specs.Prepared.{excluding}
+use Rattle.sabr_frontier.proofs.Ends.{there}
+use Rattle.sabr_frontier.proofs.Nodes.{get_same}
 use Rattle.sabr_frontier.proofs.Rising.{Rises-put_in}
 use Rattle.sabr_frontier.proofs.Excluding.{excluded_there, included}
 use Rattle.sabr_frontier.proofs.divide.divide.Goals as goal
 
 pub search-requires-clause-longer : goal.search-requires-clause-longer
-search-requires-clause-longer g c =
-    let nodes = c.args.nodes.now.items in
+search-requires-clause-longer g c k stands =
     let s = c.args.route.now in
-    let w = there nodes c.args.node.0 (omega arith) in
-    let m = c.index.result.now in
-    let node = excluded_there nodes c.exclude_next.new.nodes.items c.args.node.0 s w.0 w.1 c.in_ok-exclude_next.ensures.ok m (get_there c.exclude_next.new.nodes.items c.args.node.0 m (omega arith) c.index.ensures) in
+    let w = there c.args.nodes.now.items c.args.node.0 (omega arith) in
+    let node = excluded_there c.args.nodes.now.items c.exclude_next.new.nodes.items c.args.node.0 s w.0 w.1 c.in_ok-exclude_next.ensures.ok k stands in
     subst (λ (k : Node g.row.A.Denot). k.length < length s) (sym node) (c.requires.next w.0 w.1).longer
 
 pub search-requires-clause-rising : goal.search-requires-clause-rising
-search-requires-clause-rising g c =
-    let nodes = c.args.nodes.now.items in
+search-requires-clause-rising g c k stands =
     let s = c.args.route.now in
-    let w = there nodes c.args.node.0 (omega arith) in
-    let m = c.index.result.now in
-    let node = excluded_there nodes c.exclude_next.new.nodes.items c.args.node.0 s w.0 w.1 c.in_ok-exclude_next.ensures.ok m (get_there c.exclude_next.new.nodes.items c.args.node.0 m (omega arith) c.index.ensures) in
+    let w = there c.args.nodes.now.items c.args.node.0 (omega arith) in
+    let node = excluded_there c.args.nodes.now.items c.exclude_next.new.nodes.items c.args.node.0 s w.0 w.1 c.in_ok-exclude_next.ensures.ok k stands in
     subst (λ (k : Node g.row.A.Denot). Rises nat_cmp k.excluded) (sym node) (Rises-put_in nat_cmp_total (slice_index s w.0.length) w.0.excluded (c.requires.next w.0 w.1).rises)
+
+pub search-requires-clause-room : goal.search-requires-clause-room
+search-requires-clause-room g c k stands =
+    let s = c.args.route.now in
+    let w = there c.args.nodes.now.items c.args.node.0 (omega arith) in
+    let node = excluded_there c.args.nodes.now.items c.exclude_next.new.nodes.items c.args.node.0 s w.0 w.1 c.in_ok-exclude_next.ensures.ok k stands in
+    omega (arith, c.requires.room w.0 w.1, ap (λ (k : Node g.row.A.Denot). k.length) node, c.in_ok-exclude_next.ensures.len, c.in_ok-exclude_next.ensures.capacity)
 
 pub include_next-requires-clause-longer : goal.include_next-requires-clause-longer
 include_next-requires-clause-longer g c k stands =
     let nodes = c.args.nodes.now.items in
     let s = c.args.route.now in
     let w = there nodes c.args.node.0 (omega arith) in
-    let node = excluded_there nodes c.exclude_next.new.nodes.items c.args.node.0 s w.0 w.1 c.in_ok-exclude_next.ensures.ok k stands in
+    let count : c.len-count.result ≡ length c.exclude_next.new.nodes.items = omega (arith, c.len-count.ensures) in
+    let cut : c.truncate.new.self.items ≡ modify (excluding s) nodes c.args.node.0 = c.truncate.ensures.items ∙ ap (λ n. take n c.search.new.nodes.items) count ∙ c.in-Err.ensures.front ∙ c.in_ok-exclude_next.ensures.ok in
+    let node = excluded_there nodes c.truncate.new.self.items c.args.node.0 s w.0 w.1 cut k stands in
     subst (λ (k : Node g.row.A.Denot). k.length < length s) (sym node) (c.requires.next w.0 w.1).longer
 
 pub returns-in-Ok-clause-found : goal.returns-in-Ok-clause-found
-returns-in-Ok-clause-found g c n stands =
-    let s = c.args.route.now in
-    let m = c.index.result.now in
-    let node = excluded_there c.args.nodes.now.items c.exclude_next.new.nodes.items c.args.node.0 s n stands c.in_ok-exclude_next.ensures.ok m (get_there c.exclude_next.new.nodes.items c.args.node.0 m (omega arith) c.index.ensures) in
-    c.in-Ok.ensures.found ∙ ap (λ (k : Node g.row.A.Denot). best_for c.args.asker.now.asked (take k.length s) k.excluded) node
+returns-in-Ok-clause-found g c n stands = c.in-Ok.ensures.found (excluding c.args.route.now n) (ap (λ z. slice_get z c.args.node.0) c.in_ok-exclude_next.ensures.ok ∙ get_same (excluding c.args.route.now) c.args.nodes.now.items c.args.node.0 n stands)
 
-pub returns-in-Ok-clause-fresh : goal.returns-in-Ok-clause-fresh
-returns-in-Ok-clause-fresh g c n stands =
+pub returns-in-Ok-clause-ok : goal.returns-in-Ok-clause-ok
+returns-in-Ok-clause-ok g c n stands =
     let s = c.args.route.now in
-    let m = c.index.result.now in
-    let node = excluded_there c.args.nodes.now.items c.exclude_next.new.nodes.items c.args.node.0 s n stands c.in_ok-exclude_next.ensures.ok m (get_there c.exclude_next.new.nodes.items c.args.node.0 m (omega arith) c.index.ensures) in
-    c.in-Ok.ensures.fresh ∙ ap (λ (k : Node g.row.A.Denot). fresh_nodes {A = g.row.A.Denot} (best_for c.args.asker.now.asked) c.args.leaf (take (k.length + 1) s) (drop (k.length + 1) s)) node
+    let ok = c.in_ok-exclude_next.ensures.ok in
+    c.in-Ok.ensures.nodes (excluding s n) (ap (λ z. slice_get z c.args.node.0) ok ∙ get_same (excluding s) c.args.nodes.now.items c.args.node.0 n stands)
+    ∙ ap (λ z. z ++ fresh_after {A = g.row.A.Denot} (best_for c.args.asker.now.asked) c.args.leaf n s) ok
+
+pub returns-in-Ok-clause-called : goal.returns-in-Ok-clause-called
+returns-in-Ok-clause-called g c n stands = c.in-Ok.ensures.called (excluding c.args.route.now n) (ap (λ z. slice_get z c.args.node.0) c.in_ok-exclude_next.ensures.ok ∙ get_same (excluding c.args.route.now) c.args.nodes.now.items c.args.node.0 n stands)
 
 pub returns-in-Err-clause-err : goal.returns-in-Err-clause-err
 returns-in-Err-clause-err g c =
     let nodes = c.args.nodes.now.items in
     let s = c.args.route.now in
     let w = there nodes c.args.node.0 (omega arith) in
-    c.include_next.ensures.nodes ∙ included nodes c.exclude_next.new.nodes.items c.args.node.0 s w.0 w.1 c.in_ok-exclude_next.ensures.ok (c.requires.next w.0 w.1)
+    let count : c.len-count.result ≡ length c.exclude_next.new.nodes.items = omega (arith, c.len-count.ensures) in
+    let cut : c.truncate.new.self.items ≡ modify (excluding s) nodes c.args.node.0 = c.truncate.ensures.items ∙ ap (λ n. take n c.search.new.nodes.items) count ∙ c.in-Err.ensures.front ∙ c.in_ok-exclude_next.ensures.ok in
+    c.include_next.ensures ∙ included nodes c.truncate.new.self.items c.args.node.0 s w.0 w.1 cut (c.requires.next w.0 w.1)

@@ -1,18 +1,20 @@
-use Rattle.std.proofs.Common.{[], ◌∷◌, ◌++◌, length, length-append, take, drop, get_or, arith, ap, refl, sym, subst, ◌∙◌}
+use Rattle.std.proofs.Common.{[], ◌∷◌, length, length-append, take, get_or, arith, ap, refl, sym, subst, ◌∙◌}
 use Rattle.std.specs.Prelude.{IsTrue}
+use Rattle.std.proofs.lemmas.List.{take_all, take-append-le}
 use Rattle.sabr_model.specs.Route.{is_route}
 use Rattle.sabr_frontier.specs.declared.tree.Node.{Node}
 use Rattle.sabr_frontier.specs.Asking.{Asked, best_for}
-use Rattle.sabr_frontier.specs.Taking.{fresh_nodes}
 use Rattle.sabr_frontier.proofs.Fronts.{fresh_push, fresh_all}
 use Rattle.sabr_frontier.proofs.divide.fresh_nodes.Goals as goal
 
 pub loop-count-init : goal.loop-count-init
 loop-count-init g c = record {
-  whole = ap (λ z. z ++ fresh_nodes (best_for c.args.asker.now.asked) c.args.leaf (take c.args.first c.args.route.now) (drop c.args.first c.args.route.now)) c.in-Ok.ensures.items;
-  called = omega (arith, ap (length {A = Node g.row.A.Denot}) c.in-Ok.ensures.items);
-  room = omega (arith, c.in-Ok.ensures.len, c.in-Ok.ensures.exact);
+  whole = refl;
+  called = refl;
+  room = c.requires.room;
   same = refl;
+  long = omega arith;
+  front = take_all (length c.args.nodes.now.items) c.args.nodes.now.items (omega arith);
 }
 
 pub fresh_node-requires-clause-route : goal.fresh_node-requires-clause-route
@@ -22,9 +24,11 @@ pub loop-count-preserved : goal.loop-count-preserved
 loop-count-preserved g c = record {
   whole = fresh_push (best_for c.args.asker.now.asked) c.args.leaf c.args.route.now c.loop-count.count c.loop-count.nodes.items c.push_reserved.new.self.items _ c.in_ok-node.node c.loop-count-test.true c.loop-count.invariant.whole c.push_reserved.ensures.items
       (c.in_ok-node.ensures.node ∙ ap (λ (a : Asked). record { leaf = c.args.leaf; length = c.loop-count.count; excluded = get_or c.args.route.now c.loop-count.count 0 ∷ []; route = best_for a (take c.loop-count.count c.args.route.now) (get_or c.args.route.now c.loop-count.count 0 ∷ []) }) c.loop-count.invariant.same);
-  called = omega (arith, c.in_ok-node.ensures.called, c.loop-count.invariant.called, ap (length {A = Node g.row.A.Denot}) c.push_reserved.ensures.items, length-append c.loop-count.nodes.items (c.in_ok-node.node ∷ []));
+  called = omega (arith, c.in_ok-node.ensures.called, c.loop-count.invariant.called);
   room = omega (arith, c.push_reserved.ensures.len, c.push_reserved.ensures.capacity, c.loop-count.invariant.room);
   same = c.fresh_node.ensures.same ∙ c.loop-count.invariant.same;
+  long = omega (arith, ap (length {A = Node g.row.A.Denot}) c.push_reserved.ensures.items, length-append c.loop-count.nodes.items (c.in_ok-node.node ∷ []), c.loop-count.invariant.long);
+  front = ap (take (length c.args.nodes.now.items)) c.push_reserved.ensures.items ∙ take-append-le (length c.args.nodes.now.items) c.loop-count.nodes.items (c.in_ok-node.node ∷ []) c.loop-count.invariant.long ∙ c.loop-count.invariant.front;
 }
 
 pub returns-clause-nodes : goal.returns-clause-nodes

@@ -3,8 +3,8 @@ use Rattle.sabr_frontier.specs.Prepared.{including}
 use Rattle.sabr_frontier.proofs.Ends.{set-modify}
 use Rattle.sabr_frontier.proofs.divide.include_next.Goals as goal
 
-pub returns-clause-nodes : goal.returns-clause-nodes
-returns-clause-nodes g c =
+pub returns : goal.returns
+returns g c =
     let n = c.index_mut-part.result.now in
     let items = c.args.nodes.now.items in
     ap (λ (z : List ℕ). set items c.args.node.0 (record n { excluded = z })) c.forget.ensures

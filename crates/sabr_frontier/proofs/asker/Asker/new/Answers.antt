@@ -1,4 +1,3 @@
-use Rattle.std.proofs.Common.{◌≡◌}
 use Rattle.sabr_frontier.proofs.asker.Asker.new.Goals as goal
 
 pub invariant_of-result : goal.invariant_of-result

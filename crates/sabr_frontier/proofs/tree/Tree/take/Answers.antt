@@ -1,18 +1,22 @@
-use Rattle.std.proofs.Common.{◌≡◌, ℕ, ◌+◌, ◌-◌, ◌++◌, ◌∷◌, zero, suc, [], List, length, take, drop, arith, ap, sym, subst, refl, ◌∙◌, Some}
+use Rattle.std.proofs.Common.{◌≡◌, ℕ, ◌+◌, ◌<◌, ◌++◌, length-append, Option, ◌∷◌, zero, suc, [], List, length, take, arith, ap, sym, subst, refl, ◌∙◌, Some}
 use Rattle.std.specs.Prelude.{IsSome, slice_get}
 use Rattle.std.specs.Option.{option_and_then}
+use Rattle.std.proofs.lemmas.List.{take_at}
+use Rattle.sabr_model.specs.Record.{RouteRecord}
 use Rattle.sabr_model.specs.Route.{is_route}
 use Rattle.sabr_frontier.specs.declared.tree.Node.{Node}
 use Rattle.sabr_frontier.specs.declared.tree.NodeId.{NodeId}
 use Rattle.sabr_frontier.specs.Shape.{Shape, order_of, shape_of, route_at, route_of, numbers_of}
 use Rattle.sabr_frontier.specs.Best.{best_of}
 use Rattle.sabr_frontier.specs.Undo.{modify}
-use Rattle.sabr_frontier.specs.Winners.{AreWinners}
-use Rattle.sabr_frontier.specs.Sound.{CanExclude}
-use Rattle.sabr_frontier.specs.Taking.{changed_by, divided, fresh_nodes, nodes_then, wide_of}
-use Rattle.sabr_frontier.specs.Prepared.{excluding}
-use Rattle.sabr_frontier.proofs.Ends.{length-modify}
-use Rattle.sabr_frontier.proofs.Nodes.{get_same, get_within}
+use Rattle.sabr_frontier.specs.Winners.{AreWinners, IsFirst, IsLeast}
+use Rattle.sabr_frontier.specs.declared.take.Prepared.{Prepared}
+use Rattle.sabr_frontier.specs.Asking.{Asked, best_for}
+use Rattle.sabr_frontier.specs.Sound.{CanExclude, IsTree}
+use Rattle.sabr_frontier.specs.Taking.{changed_by, divided, fresh_after, nodes_then, wide_of}
+use Rattle.sabr_frontier.specs.Prepared.{IsPrepared, IsReady, carrying, excluding, given_by}
+use Rattle.sabr_frontier.proofs.Ends.{length-modify, modify_front}
+use Rattle.sabr_frontier.proofs.Nodes.{get_front, get_same, get_within}
 use Rattle.sabr_frontier.proofs.Excluding.{carried_then}
 use Rattle.sabr_frontier.proofs.Refined.{standing, inside, can_exclude, route_there}
 use Rattle.sabr_frontier.proofs.Winning.{winners_same}
@@ -29,8 +33,70 @@ routes_stay s (n ∷ ns) zero (suc j) = refl
 routes_stay s (n ∷ ns) (suc i) zero = refl
 routes_stay s (n ∷ ns) (suc i) (suc j) = routes_stay s ns i j
 
-winners_then : {A : Type 0} (before after : List (Node A)) (ids : List NodeId) (s : List ℕ) (i : ℕ) → after ≡ modify (excluding s) before i → AreWinners before ids → AreWinners after ids
-winners_then before after ids s i changed won = winners_same after before ids (λ z. ap (λ ns. route_at ns z) changed ∙ routes_stay s before i z.0) won
+-- the node that carries the least route, and the copy of that
+record IsKnown {A : Type 0} (a : Asked) (t : Shape A) (id : NodeId) (w : Prepared A) : Type 0 where
+  part : Node A
+  route : RouteRecord
+  stands : slice_get t.nodes id.0 ≡ Some part
+  carries : part.route ≡ Some route
+  least : IsLeast t.nodes route
+  ready : IsPrepared part route w
+  can : CanExclude part route.contacts
+
+known : {A : Type 0} (a : Asked) (t : Shape A) → IsTree a.plan.plan a.request t → (id : NodeId) (w : Prepared A) → ((x : RouteRecord) × IsFirst t.nodes id x) → IsReady t id w → IsKnown a t id w
+known a t tree id w first ready =
+    let f = standing t.nodes id first in
+    record { part = f.0; route = f.1; stands = f.2; carries = f.3; least = f.4; ready = ready f.0 f.1 f.2 f.3; can = can_exclude a.plan.plan a.request t tree id f.0 f.1 f.2 f.3 }
+
+module _ {A : Type 0} {a : Asked} {t : Shape A} {id : NodeId} {w : Prepared A} (k : IsKnown a t id w) where
+  abbrev s : List ℕ
+  s = k.route.contacts
+
+  -- the former nodes after the division, and the new ones
+  abbrev former : List (Node A)
+  former = modify (excluding s) t.nodes id.0
+
+  abbrev fresh : List (Node A)
+  fresh = fresh_after (best_for a) (length t.leaves) k.part s
+
+  long : length former ≡ length t.nodes
+  long = length-modify (excluding s) t.nodes id.0
+
+  inner : id.0 < length former
+  inner = omega (arith, long, get_within t.nodes id.0 k.part k.stands)
+
+  -- the numbers of the copy
+  numbers_are : {copy : List ℕ} → copy ≡ w.route.contacts → copy ≡ s
+  numbers_are e = e ∙ ap numbers_of k.ready.route
+
+  there_before : (u : Shape A) → u ≡ t → slice_get u.nodes id.0 ≡ Some k.part
+  there_before u same = ap (λ (z : Shape A). slice_get z.nodes id.0) same ∙ k.stands
+
+  -- all nodes then, where the tree was the same before
+  then_is : (u : Shape A) → u ≡ t → {then : List (Node A)} {copy : List ℕ} {leaf : ℕ} → copy ≡ w.route.contacts → leaf ≡ length u.leaves
+      → ((n : Node A) → slice_get u.nodes id.0 ≡ Some n → then ≡ modify (excluding copy) u.nodes id.0 ++ fresh_after (best_for a) leaf n copy)
+      → then ≡ former ++ fresh
+  then_is u same numbers is ok =
+      let e = numbers_are numbers in
+      let l = is ∙ ap (λ (z : Shape A). length z.leaves) same in
+      ok k.part (there_before u same) ∙ (λ i. modify (excluding (e i)) (same i).nodes id.0 ++ fresh_after (best_for a) (l i) k.part (e i))
+
+  long_then : {then : List (Node A)} → then ≡ former ++ fresh → length then ≡ length t.nodes + w.count
+  long_then e = omega (arith, ap (length {A = Node A}) e, length-append former fresh, long, new_nodes A (best_for a) (length t.leaves) s k.part.length k.can.longer, k.ready.count, k.can.longer)
+
+  -- the winners among the former nodes
+  winners_then : {then : List (Node A)} → then ≡ former ++ fresh → (ids : List NodeId) → length ids ≡ length t.nodes → AreWinners t.nodes ids → AreWinners (take (length ids) then) ids
+  winners_then {then} e ids count won =
+      let cut = ap (take (length ids)) e ∙ take_at former fresh (length ids) (long ∙ sym count) in
+      winners_same (take (length ids) then) t.nodes ids (λ z. ap (λ ns. route_at ns z) cut ∙ routes_stay s t.nodes id.0 z.0) won
+
+  -- the node carries what it carried
+  carries_then : {then : List (Node A)} → then ≡ former ++ fresh → route_at then id ≡ Some k.route
+  carries_then {then} e = route_there then id (excluding s k.part) k.route (ap (λ z. slice_get z id.0) e ∙ get_front former fresh id.0 inner ∙ get_same (excluding s) t.nodes id.0 k.part k.stands) k.carries
+
+  -- the nodes once it carries what was found
+  nodes_found : {then : List (Node A)} → then ≡ former ++ fresh → (found : Option RouteRecord) → modify (carrying found) then id.0 ≡ nodes_then t.nodes id (wide_of k.part s) found fresh
+  nodes_found e found = ap (λ z. modify (carrying found) z id.0) e ∙ modify_front (carrying found) former fresh id.0 inner ∙ ap (λ z. z ++ fresh) (carried_then t.nodes former id.0 s k.part k.stands refl found)
 
 pub prepare-requires-clause-in_range : goal.prepare-requires-clause-in_range
 prepare-requires-clause-in_range g c =
@@ -59,145 +125,97 @@ divide-requires-clause-in_range g c =
 
 pub divide-requires-clause-route : goal.divide-requires-clause-route
 divide-requires-clause-route g c =
+    let a = c.args.asker.now.asked in
     let t = shape_of c.args.self.now in
-    let p = c.args.asker.now.asked.plan.plan in
-    let r = c.args.asker.now.asked.request in
-    let node = c.in-Some.node in
-    let w = standing t.nodes node c.in-Some.ensures.some in
-    let ready = c.in_ok-prepared.ensures.ready w.0 w.1 w.2 w.3 in
-    let numbers : c.numbers.result.now ≡ w.1.contacts = c.numbers.ensures ∙ ap numbers_of ready.route in
-    ap (is_route p r) numbers ∙ (inside p r t c.requires.tree node w.0 w.1 w.2 w.3).0
+    let k = known c.args.asker.now.asked t c.requires.tree c.in-Some.node c.in_ok-prepared.prepared c.in-Some.ensures.some c.in_ok-prepared.ensures.ready in
+    ap (is_route a.plan.plan a.request) (numbers_are k c.numbers.ensures) ∙ (inside a.plan.plan a.request t c.requires.tree c.in-Some.node k.part k.route k.stands k.carries).0
 
 pub divide-requires-clause-next : goal.divide-requires-clause-next
 divide-requires-clause-next g c n stands =
     let t = shape_of c.args.self.now in
-    let p = c.args.asker.now.asked.plan.plan in
-    let r = c.args.asker.now.asked.request in
-    let node = c.in-Some.node in
-    let w = standing t.nodes node c.in-Some.ensures.some in
-    let ready = c.in_ok-prepared.ensures.ready w.0 w.1 w.2 w.3 in
-    let numbers : c.numbers.result.now ≡ w.1.contacts = c.numbers.ensures ∙ ap numbers_of ready.route in
-    let same : w.0 ≡ n = let a = w.2 in let b = ap (λ (z : Shape _). slice_get z.nodes node.0) (sym c.reserve-2.ensures.same) ∙ stands in cc in
-    subst (CanExclude n) (sym numbers) (subst (λ (k : Node _). CanExclude k w.1.contacts) same (can_exclude p r t c.requires.tree node w.0 w.1 w.2 w.3))
+    let k = known c.args.asker.now.asked t c.requires.tree c.in-Some.node c.in_ok-prepared.prepared c.in-Some.ensures.some c.in_ok-prepared.ensures.ready in
+    let same : k.part ≡ n = let a = there_before k (shape_of c.reserve-2.new.self) c.reserve-2.ensures.same in cc in
+    subst (CanExclude n) (sym (numbers_are k c.numbers.ensures)) (subst (λ (m : Node _). CanExclude m k.route.contacts) same k.can)
 
-pub change-requires-clause-room : goal.change-requires-clause-room
-change-requires-clause-room g c =
+pub divide-requires-clause-room : goal.divide-requires-clause-room
+divide-requires-clause-room g c n stands =
     let t = shape_of c.args.self.now in
-    let p = c.args.asker.now.asked.plan.plan in
-    let r = c.args.asker.now.asked.request in
-    let node = c.in-Some.node in
-    let w = standing t.nodes node c.in-Some.ensures.some in
-    let ready = c.in_ok-prepared.ensures.ready w.0 w.1 w.2 w.3 in
-    let numbers : c.numbers.result.now ≡ w.1.contacts = c.numbers.ensures ∙ ap numbers_of ready.route in
-    let then = c.divide.new.nodes.items in
-    let nodes = ap (λ (z : Shape _). z.nodes) c.reserve-2.ensures.same in
-    let stands : slice_get c.reserve-2.new.self.nodes.items node.0 ≡ Some w.0 = ap (λ z. slice_get z node.0) nodes ∙ w.2 in
-    let leaf : c.len.result ≡ length t.leaves = omega (arith, c.len.ensures, ap (λ (z : Shape _). length z.leaves) c.reserve-2.ensures.same) in
-    let fresh : c.in_ok-division.division.fresh.items ≡ fresh_nodes (best_of p r) (length t.leaves) (take (w.0.length + 1) w.1.contacts) (drop (w.0.length + 1) w.1.contacts) = c.in_ok-division.ensures.fresh w.0 stands ∙ (λ i. fresh_nodes (best_of p r) (leaf i) (take (w.0.length + 1) (numbers i)) (drop (w.0.length + 1) (numbers i))) in
-    let can = can_exclude p r t c.requires.tree node w.0 w.1 w.2 w.3 in
-    let count : length c.in_ok-division.division.fresh.items + 1 ≡ length w.1.contacts - w.0.length = ap (λ (z : List (Node g.row.A.Denot)). length z + 1) fresh ∙ new_nodes g.row.A.Denot (best_of p r) (length t.leaves) w.1.contacts w.0.length can.longer in
-    let room = c.in_ok-reserve.ensures.ok in
-    record {
-      nodes = omega (arith, room.nodes, c.in_ok-division.ensures.len, c.in_ok-division.ensures.capacity, count, ready.count, can.longer);
-      index = omega (arith, room.index, c.in_ok-division.ensures.len, count, ready.count, can.longer);
-      added = omega (arith, room.added, c.in_ok-division.ensures.len, count, ready.count, can.longer);
-      winners = omega (arith, room.winners, c.in_ok-division.ensures.len, count, ready.count, can.longer);
-      leaves = room.leaves;
-      journal = room.journal;
-    }
+    let k = known c.args.asker.now.asked t c.requires.tree c.in-Some.node c.in_ok-prepared.prepared c.in-Some.ensures.some c.in_ok-prepared.ensures.ready in
+    let same : k.part ≡ n = let a = there_before k (shape_of c.reserve-2.new.self) c.reserve-2.ensures.same in cc in
+    omega (arith, c.in_ok-reserve.ensures.ok.nodes, k.ready.count, k.can.longer, ap (λ (m : Node _). m.length) same, ap (length {A = ℕ}) (numbers_are k c.numbers.ensures))
 
 pub change-requires-clause-in_range : goal.change-requires-clause-in_range
 change-requires-clause-in_range g c =
     let t = shape_of c.args.self.now in
     let w = standing t.nodes c.in-Some.node c.in-Some.ensures.some in
     let l = get_within t.nodes c.in-Some.node.0 w.0 w.2 in
-    omega (arith, l, ap (λ (z : Shape _). length z.nodes) c.reserve-2.ensures.same)
+    omega (arith, l, c.in_ok-reserve.ensures.room.count, ap (λ (z : Shape _). length z.nodes) c.reserve-2.ensures.same)
+
+pub change-requires-clause-within : goal.change-requires-clause-within
+change-requires-clause-within g c =
+    let t = shape_of c.args.self.now in
+    let k = known c.args.asker.now.asked t c.requires.tree c.in-Some.node c.in_ok-prepared.prepared c.in-Some.ensures.some c.in_ok-prepared.ensures.ready in
+    let e = then_is k (shape_of c.reserve-2.new.self) c.reserve-2.ensures.same c.numbers.ensures (omega (arith, c.len.ensures)) c.in_ok-found.ensures.ok in
+    omega (arith, long_then k e, c.in_ok-reserve.ensures.room.count, ap (λ (z : Shape _). length z.nodes) c.reserve-2.ensures.same)
 
 pub change-requires-clause-carries : goal.change-requires-clause-carries
 change-requires-clause-carries g c =
     let t = shape_of c.args.self.now in
-    let p = c.args.asker.now.asked.plan.plan in
-    let r = c.args.asker.now.asked.request in
-    let node = c.in-Some.node in
-    let w = standing t.nodes node c.in-Some.ensures.some in
-    let ready = c.in_ok-prepared.ensures.ready w.0 w.1 w.2 w.3 in
-    let numbers : c.numbers.result.now ≡ w.1.contacts = c.numbers.ensures ∙ ap numbers_of ready.route in
-    let then = c.divide.new.nodes.items in
-    let nodes = ap (λ (z : Shape _). z.nodes) c.reserve-2.ensures.same in
-    let stands : slice_get c.reserve-2.new.self.nodes.items node.0 ≡ Some w.0 = ap (λ z. slice_get z node.0) nodes ∙ w.2 in
-    let changed : c.divide.new.nodes.items ≡ modify (excluding w.1.contacts) t.nodes node.0 = c.in_ok-division.ensures.ok ∙ (λ i. modify (excluding (numbers i)) (nodes i) node.0) in
-    subst IsSome (sym (ap (λ z. route_at z node) changed ∙ route_there (modify (excluding w.1.contacts) t.nodes node.0) node (excluding w.1.contacts w.0) w.1 (get_same (excluding w.1.contacts) t.nodes node.0 w.0 w.2) w.3)) refl
+    let k = known c.args.asker.now.asked t c.requires.tree c.in-Some.node c.in_ok-prepared.prepared c.in-Some.ensures.some c.in_ok-prepared.ensures.ready in
+    let e = then_is k (shape_of c.reserve-2.new.self) c.reserve-2.ensures.same c.numbers.ensures (omega (arith, c.len.ensures)) c.in_ok-found.ensures.ok in
+    subst IsSome (sym (carries_then k e)) refl
 
-pub change-requires-clause-roomy : goal.change-requires-clause-roomy
-change-requires-clause-roomy g c =
+pub change-requires-clause-won : goal.change-requires-clause-won
+change-requires-clause-won g c =
+    let t = shape_of c.args.self.now in
+    let k = known c.args.asker.now.asked t c.requires.tree c.in-Some.node c.in_ok-prepared.prepared c.in-Some.ensures.some c.in_ok-prepared.ensures.ready in
+    let e = then_is k (shape_of c.reserve-2.new.self) c.reserve-2.ensures.same c.numbers.ensures (omega (arith, c.len.ensures)) c.in_ok-found.ensures.ok in
     let room = c.in_ok-reserve.ensures.room in
-    record {
-      space = record {
-        index = omega (arith, room.space.index, c.in_ok-division.ensures.len);
-        added = omega (arith, room.space.added, c.in_ok-division.ensures.len);
-        places = omega (arith, room.space.places, c.in_ok-division.ensures.len);
-      };
-      won = winners_then _ _ _ _ _ c.in_ok-division.ensures.ok room.won;
-      count = omega (arith, room.count, c.in_ok-division.ensures.len);
-    }
+    let nodes = ap (λ (z : Shape _). z.nodes) c.reserve-2.ensures.same in
+    winners_then k e c.reserve-2.new.self.winners.items (omega (arith, room.count, ap (length {A = Node g.row.A.Denot}) nodes)) (subst (λ z. AreWinners z c.reserve-2.new.self.winners.items) nodes room.won)
+
+pub change-requires-clause-space : goal.change-requires-clause-space
+change-requires-clause-space g c =
+    let t = shape_of c.args.self.now in
+    let k = known c.args.asker.now.asked t c.requires.tree c.in-Some.node c.in_ok-prepared.prepared c.in-Some.ensures.some c.in_ok-prepared.ensures.ready in
+    let e = then_is k (shape_of c.reserve-2.new.self) c.reserve-2.ensures.same c.numbers.ensures (omega (arith, c.len.ensures)) c.in_ok-found.ensures.ok in
+    let room = c.in_ok-reserve.ensures.ok in
+    let count = ap (λ (z : Shape _). length z.nodes) c.reserve-2.ensures.same in
+    record { index = omega (arith, room.index, long_then k e, count); added = omega (arith, room.added, long_then k e, count); places = omega (arith, room.winners, long_then k e, count) }
 
 pub returns-clause-ok : goal.returns-clause-ok
 returns-clause-ok g c =
-    let t = shape_of c.args.self.now in
     let p = c.args.asker.now.asked.plan.plan in
     let r = c.args.asker.now.asked.request in
     let node = c.in-Some.node in
-    let w = standing t.nodes node c.in-Some.ensures.some in
-    let ready = c.in_ok-prepared.ensures.ready w.0 w.1 w.2 w.3 in
-    let numbers : c.numbers.result.now ≡ w.1.contacts = c.numbers.ensures ∙ ap numbers_of ready.route in
-    let then = c.divide.new.nodes.items in
-    let nodes = ap (λ (z : Shape _). z.nodes) c.reserve-2.ensures.same in
-    let stands : slice_get c.reserve-2.new.self.nodes.items node.0 ≡ Some w.0 = ap (λ z. slice_get z node.0) nodes ∙ w.2 in
-    let leaf : c.len.result ≡ length t.leaves = omega (arith, c.len.ensures, ap (λ (z : Shape _). length z.leaves) c.reserve-2.ensures.same) in
-    let changed : c.divide.new.nodes.items ≡ modify (excluding w.1.contacts) t.nodes node.0 = c.in_ok-division.ensures.ok ∙ (λ i. modify (excluding (numbers i)) (nodes i) node.0) in
-    let d = c.in_ok-division.division in
-    let wide = wide_of w.0 w.1.contacts in
-    let carried = carried_then t.nodes c.divide.new.nodes.items node.0 w.1.contacts w.0 w.2 changed d.found in
-    let mid : shape_of {A = g.row.A.Denot} (record c.reserve-2.new.self { nodes = c.divide.new.nodes }) ≡ record t { nodes = modify (excluding w.1.contacts) t.nodes node.0; index = order_of t.leaves (modify (excluding w.1.contacts) t.nodes node.0) } = λ i. record (c.reserve-2.ensures.same i) { nodes = changed i; index = order_of (c.reserve-2.ensures.same i).leaves (changed i) } in
-    let found : d.found ≡ best_of p r (take w.0.length w.1.contacts) wide = c.in_ok-division.ensures.found w.0 stands ∙ (λ i. best_of p r (take w.0.length (numbers i)) (wide_of w.0 (numbers i))) in
-    let fresh : d.fresh.items ≡ fresh_nodes (best_of p r) (length t.leaves) (take (w.0.length + 1) w.1.contacts) (drop (w.0.length + 1) w.1.contacts) = c.in_ok-division.ensures.fresh w.0 stands ∙ (λ i. fresh_nodes (best_of p r) (leaf i) (take (w.0.length + 1) (numbers i)) (drop (w.0.length + 1) (numbers i))) in
-    let carries = ap (λ z. route_at z node) changed ∙ route_there (modify (excluding w.1.contacts) t.nodes node.0) node (excluding w.1.contacts w.0) w.1 (get_same (excluding w.1.contacts) t.nodes node.0 w.0 w.2) w.3 in
-    let long : length (modify (excluding w.1.contacts) t.nodes node.0) ≡ length t.nodes = length-modify (excluding w.1.contacts) t.nodes node.0 in
-    let N = nodes_then t.nodes node wide d.found d.fresh.items in
-    let index = λ (nodes : List (Node g.row.A.Denot)). order_of (t.leaves ++ w.1 ∷ []) nodes in
-    let D = divided p r t node w.0 w.1 in
-    let can = can_exclude p r t c.requires.tree node w.0 w.1 w.2 w.3 in
-    let shape = c.change.ensures.shape w.1 carries
-    ∙ (λ i. changed_by (mid i) node w.1 (order_of ((mid i).leaves ++ w.1 ∷ []) (carried i ++ d.fresh.items)) (carried i ++ d.fresh.items))
-    ∙ (λ i. record (changed_by t node w.1 (index N) N) { journal = t.journal ++ record { node = node; nodes = long i; last = t.last } ∷ [] })
-    ∙ (λ i. changed_by t node w.1 (index (nodes_then t.nodes node wide (found i) (fresh i))) (nodes_then t.nodes node wide (found i) (fresh i)))
-    ∙ (λ i. record D { index = sym (tree_indexed p r D (tree_divided p r c.requires.plan t c.requires.tree node w.0 w.1 w.2 w.3)) i }) in
+    let found = c.in_ok-found.found in
+    let t = shape_of c.args.self.now in
+    let k = known c.args.asker.now.asked t c.requires.tree c.in-Some.node c.in_ok-prepared.prepared c.in-Some.ensures.some c.in_ok-prepared.ensures.ready in
+    let e = then_is k (shape_of c.reserve-2.new.self) c.reserve-2.ensures.same c.numbers.ensures (omega (arith, c.len.ensures)) c.in_ok-found.ensures.ok in
+    let s = numbers_are k c.numbers.ensures in
+    let first : length c.reserve-2.new.self.winners.items ≡ length t.nodes = omega (arith, c.in_ok-reserve.ensures.room.count, ap (λ (z : Shape _). length z.nodes) c.reserve-2.ensures.same) in
+    let best = c.in_ok-found.ensures.found k.part (there_before k (shape_of c.reserve-2.new.self) c.reserve-2.ensures.same) ∙ (λ i. best_of p r (take k.part.length (s i)) (wide_of k.part (s i))) in
+    let nodes = nodes_found k e found ∙ (λ i. nodes_then t.nodes node (wide_of k.part k.route.contacts) (best i) (fresh k)) in
+    let D = divided p r t node k.part k.route in
+    let shape = c.change.ensures.shape k.route (carries_then k e)
+    ∙ (λ i. given_by (record (c.reserve-2.ensures.same i) { nodes = c.divide.new.nodes.items }) node k.route found (first i))
+    ∙ (λ i. changed_by t node k.route (order_of (t.leaves ++ k.route ∷ []) (nodes i)) (nodes i))
+    ∙ (λ i. record D { index = sym (tree_indexed p r D (tree_divided p r c.requires.plan t c.requires.tree node k.part k.route k.stands k.carries)) i }) in
     record {
       node = node;
-      part = w.0;
-      route = w.1;
-      stands = w.2;
-      carries = w.3;
-      least = w.4;
+      part = k.part;
+      route = k.route;
+      stands = k.stands;
+      carries = k.carries;
+      least = k.least;
       shape = shape;
-      given = c.push_reserved.ensures.items ∙ (λ i. c.reserve.ensures.items i ++ ready.route i ∷ []);
-      counted = omega (arith, ready.count, can.longer);
+      given = c.push_reserved.ensures.items ∙ (λ i. c.reserve.ensures.items i ++ k.ready.route i ∷ []);
+      counted = omega (arith, k.ready.count, k.can.longer);
     }
 
 pub returns-clause-called : goal.returns-clause-called
 returns-clause-called g c =
     let t = shape_of c.args.self.now in
-    let p = c.args.asker.now.asked.plan.plan in
-    let r = c.args.asker.now.asked.request in
-    let node = c.in-Some.node in
-    let w = standing t.nodes node c.in-Some.ensures.some in
-    let ready = c.in_ok-prepared.ensures.ready w.0 w.1 w.2 w.3 in
-    let numbers : c.numbers.result.now ≡ w.1.contacts = c.numbers.ensures ∙ ap numbers_of ready.route in
-    let then = c.divide.new.nodes.items in
-    let nodes = ap (λ (z : Shape _). z.nodes) c.reserve-2.ensures.same in
-    let stands : slice_get c.reserve-2.new.self.nodes.items node.0 ≡ Some w.0 = ap (λ z. slice_get z node.0) nodes ∙ w.2 in
-    let leaf : c.len.result ≡ length t.leaves = omega (arith, c.len.ensures, ap (λ (z : Shape _). length z.leaves) c.reserve-2.ensures.same) in
-    let fresh : c.in_ok-division.division.fresh.items ≡ fresh_nodes (best_of p r) (length t.leaves) (take (w.0.length + 1) w.1.contacts) (drop (w.0.length + 1) w.1.contacts) = c.in_ok-division.ensures.fresh w.0 stands ∙ (λ i. fresh_nodes (best_of p r) (leaf i) (take (w.0.length + 1) (numbers i)) (drop (w.0.length + 1) (numbers i))) in
-    let can = can_exclude p r t c.requires.tree node w.0 w.1 w.2 w.3 in
-    let count : length c.in_ok-division.division.fresh.items + 1 ≡ length w.1.contacts - w.0.length = ap (λ (z : List (Node g.row.A.Denot)). length z + 1) fresh ∙ new_nodes g.row.A.Denot (best_of p r) (length t.leaves) w.1.contacts w.0.length can.longer in
-    omega (arith, c.in_ok-division.ensures.called, count, ready.count, can.longer)
+    let k = known c.args.asker.now.asked t c.requires.tree c.in-Some.node c.in_ok-prepared.prepared c.in-Some.ensures.some c.in_ok-prepared.ensures.ready in
+    let called = c.in_ok-found.ensures.called k.part (there_before k (shape_of c.reserve-2.new.self) c.reserve-2.ensures.same) in
+    omega (arith, called, k.ready.count, k.can.longer, ap (length {A = ℕ}) (numbers_are k c.numbers.ensures))
