@@ -75,7 +75,8 @@ fn fresh_nodes<B: BestOf<A>, A: Allocator + Copy>(
     requires within { first ≤ length route.now }
     requires room { vec_len nodes.old + length route.now ≤ vec_capacity nodes.old + first }
     ensures nodes { OnOk result (nodes.new.items ≡ nodes.old.items ++ fresh_nodes (best_for asker.old.asked) leaf (take first route.now) (drop first route.now)) }
-    ensures called { OnOk result (asker.new.calls + first ≡ asker.old.calls + length route.now) }
+    ensures called { OnOk result (asker.new.calls + vec_len nodes.old ≡ asker.old.calls + vec_len nodes.new) }
+    ensures longer { OnOk result (vec_len nodes.old ≤ vec_len nodes.new) }
     ensures same { asker.new.asked ≡ asker.old.asked }
     ensures front { take (length nodes.old.items) nodes.new.items ≡ nodes.old.items }
 {
@@ -99,10 +100,11 @@ fn search<B: BestOf<A>, A: Allocator + Copy>(
     requires route { IsTrue (is_route asker.old.asked.plan.plan asker.old.asked.request route.now) }
     requires longer { (n : Node A) → slice_get nodes.old.items node.0 ≡ Some n → n.length < length route.now }
     requires rising { (n : Node A) → slice_get nodes.old.items node.0 ≡ Some n → Rises nat_cmp n.excluded }
-    requires room { (n : Node A) → slice_get nodes.old.items node.0 ≡ Some n → vec_len nodes.old + length route.now ≤ vec_capacity nodes.old + (n.length + 1) }
+    requires room { vec_len nodes.old + length route.now ≤ vec_capacity nodes.old }
     ensures found { IfOk result (λ found. (n : Node A) → slice_get nodes.old.items node.0 ≡ Some n → found ≡ best_for asker.old.asked (take n.length route.now) n.excluded) }
     ensures nodes { OnOk result ((n : Node A) → slice_get nodes.old.items node.0 ≡ Some n → nodes.new.items ≡ nodes.old.items ++ fresh_after (best_for asker.old.asked) leaf n route.now) }
-    ensures called { OnOk result ((n : Node A) → slice_get nodes.old.items node.0 ≡ Some n → asker.new.calls + n.length ≡ asker.old.calls + length route.now) }
+    ensures called { OnOk result (asker.new.calls + vec_len nodes.old ≡ asker.old.calls + (vec_len nodes.new + 1)) }
+    ensures longer { OnOk result (vec_len nodes.old ≤ vec_len nodes.new) }
     ensures same { asker.new.asked ≡ asker.old.asked }
     ensures front { take (length nodes.old.items) nodes.new.items ≡ nodes.old.items }
 {
@@ -156,10 +158,11 @@ pub fn divide<B: BestOf<A>, A: Allocator + Copy>(
     requires in_range { node.0 < vec_len nodes.old }
     requires route { IsTrue (is_route asker.old.asked.plan.plan asker.old.asked.request route.now) }
     requires next { (n : Node A) → slice_get nodes.old.items node.0 ≡ Some n → CanExclude n route.now }
-    requires room { (n : Node A) → slice_get nodes.old.items node.0 ≡ Some n → vec_len nodes.old + length route.now ≤ vec_capacity nodes.old + (n.length + 1) }
+    requires room { vec_len nodes.old + length route.now ≤ vec_capacity nodes.old }
     ensures found { IfOk result (λ found. (n : Node A) → slice_get nodes.old.items node.0 ≡ Some n → found ≡ best_for asker.old.asked (take n.length route.now) (wide_of n route.now)) }
     ensures ok { OnOk result ((n : Node A) → slice_get nodes.old.items node.0 ≡ Some n → nodes.new.items ≡ modify (excluding route.now) nodes.old.items node.0 ++ fresh_after (best_for asker.old.asked) leaf n route.now) }
-    ensures called { OnOk result ((n : Node A) → slice_get nodes.old.items node.0 ≡ Some n → asker.new.calls + n.length ≡ asker.old.calls + length route.now) }
+    ensures called { OnOk result (asker.new.calls + vec_len nodes.old ≡ asker.old.calls + (vec_len nodes.new + 1)) }
+    ensures longer { OnOk result (vec_len nodes.old ≤ vec_len nodes.new) }
     ensures same { asker.new.asked ≡ asker.old.asked }
     ensures err { OnErr result (nodes.new.items ≡ nodes.old.items) }
 {

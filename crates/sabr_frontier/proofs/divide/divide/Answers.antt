@@ -28,13 +28,6 @@ search-requires-clause-rising g c k stands =
     let node = excluded_there c.args.nodes.now.items c.exclude_next.new.nodes.items c.args.node.0 s w.0 w.1 c.in_ok-exclude_next.ensures.ok k stands in
     subst (λ (k : Node g.row.A.Denot). Rises nat_cmp k.excluded) (sym node) (Rises-put_in nat_cmp_total (slice_index s w.0.length) w.0.excluded (c.requires.next w.0 w.1).rises)
 
-pub search-requires-clause-room : goal.search-requires-clause-room
-search-requires-clause-room g c k stands =
-    let s = c.args.route.now in
-    let w = there c.args.nodes.now.items c.args.node.0 (omega arith) in
-    let node = excluded_there c.args.nodes.now.items c.exclude_next.new.nodes.items c.args.node.0 s w.0 w.1 c.in_ok-exclude_next.ensures.ok k stands in
-    omega (arith, c.requires.room w.0 w.1, ap (λ (k : Node g.row.A.Denot). k.length) node, c.in_ok-exclude_next.ensures.len, c.in_ok-exclude_next.ensures.capacity)
-
 pub include_next-requires-clause-longer : goal.include_next-requires-clause-longer
 include_next-requires-clause-longer g c k stands =
     let nodes = c.args.nodes.now.items in
@@ -54,9 +47,6 @@ returns-in-Ok-clause-ok g c n stands =
     let ok = c.in_ok-exclude_next.ensures.ok in
     c.in-Ok.ensures.nodes (excluding s n) (ap (λ z. slice_get z c.args.node.0) ok ∙ get_same (excluding s) c.args.nodes.now.items c.args.node.0 n stands)
     ∙ ap (λ z. z ++ fresh_after {A = g.row.A.Denot} (best_for c.args.asker.now.asked) c.args.leaf n s) ok
-
-pub returns-in-Ok-clause-called : goal.returns-in-Ok-clause-called
-returns-in-Ok-clause-called g c n stands = c.in-Ok.ensures.called (excluding c.args.route.now n) (ap (λ z. slice_get z c.args.node.0) c.in_ok-exclude_next.ensures.ok ∙ get_same (excluding c.args.route.now) c.args.nodes.now.items c.args.node.0 n stands)
 
 pub returns-in-Err-clause-err : goal.returns-in-Err-clause-err
 returns-in-Err-clause-err g c =

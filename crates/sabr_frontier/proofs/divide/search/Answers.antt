@@ -28,9 +28,6 @@ fresh_nodes-requires-clause-route g c = subst (λ (a : Asked). IsTrue (is_route 
 pub fresh_nodes-requires-clause-within : goal.fresh_nodes-requires-clause-within
 fresh_nodes-requires-clause-within g c = let l = c.requires.longer _ (get_there c.args.nodes.now.items c.args.node.0 c.index-part.result.now (omega arith) c.index-part.ensures) in omega (arith, l)
 
-pub fresh_nodes-requires-clause-room : goal.fresh_nodes-requires-clause-room
-fresh_nodes-requires-clause-room g c = let l = c.requires.room _ (get_there c.args.nodes.now.items c.args.node.0 c.index-part.result.now (omega arith) c.index-part.ensures) in omega (arith, l)
-
 pub returns-clause-found : goal.returns-clause-found
 returns-clause-found g c n stands =
     let m = c.index-part.result.now in
@@ -44,10 +41,3 @@ returns-clause-nodes g c n stands =
     let here = get_there c.args.nodes.now.items c.args.node.0 m (omega arith) c.index-part.ensures in
     let same : m ≡ n = cc in
     c.in_ok-fresh_nodes.ensures.nodes ∙ (λ i. c.args.nodes.now.items ++ fresh_after (best_for (c.ask.ensures.same i)) c.args.leaf (same i) c.args.route.now)
-
-pub returns-clause-called : goal.returns-clause-called
-returns-clause-called g c n stands =
-    let m = c.index-part.result.now in
-    let here = get_there c.args.nodes.now.items c.args.node.0 m (omega arith) c.index-part.ensures in
-    let same : m ≡ n = cc in
-    omega (arith, c.in_ok-fresh_nodes.ensures.called, c.in_ok-found.ensures.called, ap (λ (k : Node g.row.A.Denot). k.length) same)

@@ -10,11 +10,10 @@ use Rattle.sabr_frontier.specs.Shape.{Shape, order_of, shape_of, route_at, route
 use Rattle.sabr_frontier.specs.Best.{best_of}
 use Rattle.sabr_frontier.specs.Undo.{modify}
 use Rattle.sabr_frontier.specs.Winners.{AreWinners, IsFirst, IsLeast}
-use Rattle.sabr_frontier.specs.declared.take.Prepared.{Prepared}
 use Rattle.sabr_frontier.specs.Asking.{Asked, best_for}
 use Rattle.sabr_frontier.specs.Sound.{CanExclude, IsTree}
 use Rattle.sabr_frontier.specs.Taking.{changed_by, divided, fresh_after, nodes_then, wide_of}
-use Rattle.sabr_frontier.specs.Prepared.{IsPrepared, IsReady, carrying, excluding, given_by}
+use Rattle.sabr_frontier.specs.Prepared.{carrying, excluding, given_by}
 use Rattle.sabr_frontier.proofs.Ends.{length-modify, modify_front}
 use Rattle.sabr_frontier.proofs.Nodes.{get_front, get_same, get_within}
 use Rattle.sabr_frontier.proofs.Excluding.{carried_then}
@@ -33,22 +32,23 @@ routes_stay s (n ∷ ns) zero (suc j) = refl
 routes_stay s (n ∷ ns) (suc i) zero = refl
 routes_stay s (n ∷ ns) (suc i) (suc j) = routes_stay s ns i j
 
--- the node that carries the least route, and the copy of that
-record IsKnown {A : Type 0} (a : Asked) (t : Shape A) (id : NodeId) (w : Prepared A) : Type 0 where
+-- the node that carries the least route, and a copy of that
+record IsKnown {A : Type 0} (a : Asked) (t : Shape A) (id : NodeId) (copy : RouteRecord) : Type 0 where
   part : Node A
   route : RouteRecord
   stands : slice_get t.nodes id.0 ≡ Some part
   carries : part.route ≡ Some route
   least : IsLeast t.nodes route
-  ready : IsPrepared part route w
+  copied : copy ≡ route
   can : CanExclude part route.contacts
 
-known : {A : Type 0} (a : Asked) (t : Shape A) → IsTree a.plan.plan a.request t → (id : NodeId) (w : Prepared A) → ((x : RouteRecord) × IsFirst t.nodes id x) → IsReady t id w → IsKnown a t id w
-known a t tree id w first ready =
+known : {A : Type 0} (a : Asked) (t : Shape A) → IsTree a.plan.plan a.request t → (id : NodeId) (copy : RouteRecord) → ((x : RouteRecord) × IsFirst t.nodes id x) → route_at t.nodes id ≡ Some copy → IsKnown a t id copy
+known a t tree id copy first is =
     let f = standing t.nodes id first in
-    record { part = f.0; route = f.1; stands = f.2; carries = f.3; least = f.4; ready = ready f.0 f.1 f.2 f.3; can = can_exclude a.plan.plan a.request t tree id f.0 f.1 f.2 f.3 }
+    let e = route_there t.nodes id f.0 f.1 f.2 f.3 in
+    record { part = f.0; route = f.1; stands = f.2; carries = f.3; least = f.4; copied = (let same : Some copy ≡ Some f.1 = sym is ∙ e in cc); can = can_exclude a.plan.plan a.request t tree id f.0 f.1 f.2 f.3 }
 
-module _ {A : Type 0} {a : Asked} {t : Shape A} {id : NodeId} {w : Prepared A} (k : IsKnown a t id w) where
+module _ {A : Type 0} {a : Asked} {t : Shape A} {id : NodeId} {w : RouteRecord} (k : IsKnown a t id w) where
   abbrev s : List ℕ
   s = k.route.contacts
 
@@ -66,14 +66,14 @@ module _ {A : Type 0} {a : Asked} {t : Shape A} {id : NodeId} {w : Prepared A} (
   inner = omega (arith, long, get_within t.nodes id.0 k.part k.stands)
 
   -- the numbers of the copy
-  numbers_are : {copy : List ℕ} → copy ≡ w.route.contacts → copy ≡ s
-  numbers_are e = e ∙ ap numbers_of k.ready.route
+  numbers_are : {copy : List ℕ} → copy ≡ w.contacts → copy ≡ s
+  numbers_are e = e ∙ ap numbers_of k.copied
 
   there_before : (u : Shape A) → u ≡ t → slice_get u.nodes id.0 ≡ Some k.part
   there_before u same = ap (λ (z : Shape A). slice_get z.nodes id.0) same ∙ k.stands
 
   -- all nodes then, where the tree was the same before
-  then_is : (u : Shape A) → u ≡ t → {then : List (Node A)} {copy : List ℕ} {leaf : ℕ} → copy ≡ w.route.contacts → leaf ≡ length u.leaves
+  then_is : (u : Shape A) → u ≡ t → {then : List (Node A)} {copy : List ℕ} {leaf : ℕ} → copy ≡ w.contacts → leaf ≡ length u.leaves
       → ((n : Node A) → slice_get u.nodes id.0 ≡ Some n → then ≡ modify (excluding copy) u.nodes id.0 ++ fresh_after (best_for a) leaf n copy)
       → then ≡ former ++ fresh
   then_is u same numbers is ok =
@@ -81,8 +81,8 @@ module _ {A : Type 0} {a : Asked} {t : Shape A} {id : NodeId} {w : Prepared A} (
       let l = is ∙ ap (λ (z : Shape A). length z.leaves) same in
       ok k.part (there_before u same) ∙ (λ i. modify (excluding (e i)) (same i).nodes id.0 ++ fresh_after (best_for a) (l i) k.part (e i))
 
-  long_then : {then : List (Node A)} → then ≡ former ++ fresh → length then ≡ length t.nodes + w.count
-  long_then e = omega (arith, ap (length {A = Node A}) e, length-append former fresh, long, new_nodes A (best_for a) (length t.leaves) s k.part.length k.can.longer, k.ready.count, k.can.longer)
+  long_then : {then : List (Node A)} → then ≡ former ++ fresh → length then + (k.part.length + 1) ≡ length t.nodes + length s
+  long_then e = omega (arith, ap (length {A = Node A}) e, length-append former fresh, long, new_nodes A (best_for a) (length t.leaves) s k.part.length k.can.longer, k.can.longer)
 
   -- the winners among the former nodes
   winners_then : {then : List (Node A)} → then ≡ former ++ fresh → (ids : List NodeId) → length ids ≡ length t.nodes → AreWinners t.nodes ids → AreWinners (take (length ids) then) ids
@@ -98,23 +98,8 @@ module _ {A : Type 0} {a : Asked} {t : Shape A} {id : NodeId} {w : Prepared A} (
   nodes_found : {then : List (Node A)} → then ≡ former ++ fresh → (found : Option RouteRecord) → modify (carrying found) then id.0 ≡ nodes_then t.nodes id (wide_of k.part s) found fresh
   nodes_found e found = ap (λ z. modify (carrying found) z id.0) e ∙ modify_front (carrying found) former fresh id.0 inner ∙ ap (λ z. z ++ fresh) (carried_then t.nodes former id.0 s k.part k.stands refl found)
 
-pub prepare-requires-clause-in_range : goal.prepare-requires-clause-in_range
-prepare-requires-clause-in_range g c =
-    let t = shape_of c.args.self.now in
-    let w = standing t.nodes c.in-Some.node c.in-Some.ensures.some in
-    let l = get_within t.nodes c.in-Some.node.0 w.0 w.2 in
-    omega (arith, l)
-
-pub prepare-requires-clause-carries : goal.prepare-requires-clause-carries
-prepare-requires-clause-carries g c =
-    let t = shape_of c.args.self.now in
-    let w = standing t.nodes c.in-Some.node c.in-Some.ensures.some in
-    subst IsSome (sym (route_there t.nodes c.in-Some.node w.0 w.1 w.2 w.3)) refl
-
-pub prepare-requires-clause-longer : goal.prepare-requires-clause-longer
-prepare-requires-clause-longer g c n x a b =
-    let t = shape_of c.args.self.now in
-    (can_exclude c.args.asker.now.asked.plan.plan c.args.asker.now.asked.request t c.requires.tree c.in-Some.node n x a b).longer
+pub copy_carried-requires : goal.copy_carried-requires
+copy_carried-requires g c = let t = shape_of c.args.self.now in let w = standing t.nodes c.in-Some.node c.in-Some.ensures.some in subst IsSome (sym (route_there t.nodes c.in-Some.node w.0 w.1 w.2 w.3)) refl
 
 pub divide-requires-clause-in_range : goal.divide-requires-clause-in_range
 divide-requires-clause-in_range g c =
@@ -127,22 +112,15 @@ pub divide-requires-clause-route : goal.divide-requires-clause-route
 divide-requires-clause-route g c =
     let a = c.args.asker.now.asked in
     let t = shape_of c.args.self.now in
-    let k = known c.args.asker.now.asked t c.requires.tree c.in-Some.node c.in_ok-prepared.prepared c.in-Some.ensures.some c.in_ok-prepared.ensures.ready in
-    ap (is_route a.plan.plan a.request) (numbers_are k c.numbers.ensures) ∙ (inside a.plan.plan a.request t c.requires.tree c.in-Some.node k.part k.route k.stands k.carries).0
+    let k = known c.args.asker.now.asked t c.requires.tree c.in-Some.node c.in_ok-route.route c.in-Some.ensures.some c.in_ok-route.ensures in
+    ap (is_route a.plan.plan a.request) (numbers_are k c.numbers-2.ensures) ∙ (inside a.plan.plan a.request t c.requires.tree c.in-Some.node k.part k.route k.stands k.carries).0
 
 pub divide-requires-clause-next : goal.divide-requires-clause-next
 divide-requires-clause-next g c n stands =
     let t = shape_of c.args.self.now in
-    let k = known c.args.asker.now.asked t c.requires.tree c.in-Some.node c.in_ok-prepared.prepared c.in-Some.ensures.some c.in_ok-prepared.ensures.ready in
+    let k = known c.args.asker.now.asked t c.requires.tree c.in-Some.node c.in_ok-route.route c.in-Some.ensures.some c.in_ok-route.ensures in
     let same : k.part ≡ n = let a = there_before k (shape_of c.reserve-2.new.self) c.reserve-2.ensures.same in cc in
-    subst (CanExclude n) (sym (numbers_are k c.numbers.ensures)) (subst (λ (m : Node _). CanExclude m k.route.contacts) same k.can)
-
-pub divide-requires-clause-room : goal.divide-requires-clause-room
-divide-requires-clause-room g c n stands =
-    let t = shape_of c.args.self.now in
-    let k = known c.args.asker.now.asked t c.requires.tree c.in-Some.node c.in_ok-prepared.prepared c.in-Some.ensures.some c.in_ok-prepared.ensures.ready in
-    let same : k.part ≡ n = let a = there_before k (shape_of c.reserve-2.new.self) c.reserve-2.ensures.same in cc in
-    omega (arith, c.in_ok-reserve.ensures.ok.nodes, k.ready.count, k.can.longer, ap (λ (m : Node _). m.length) same, ap (length {A = ℕ}) (numbers_are k c.numbers.ensures))
+    subst (CanExclude n) (sym (numbers_are k c.numbers-2.ensures)) (subst (λ (m : Node _). CanExclude m k.route.contacts) same k.can)
 
 pub change-requires-clause-in_range : goal.change-requires-clause-in_range
 change-requires-clause-in_range g c =
@@ -151,25 +129,18 @@ change-requires-clause-in_range g c =
     let l = get_within t.nodes c.in-Some.node.0 w.0 w.2 in
     omega (arith, l, c.in_ok-reserve.ensures.room.count, ap (λ (z : Shape _). length z.nodes) c.reserve-2.ensures.same)
 
-pub change-requires-clause-within : goal.change-requires-clause-within
-change-requires-clause-within g c =
-    let t = shape_of c.args.self.now in
-    let k = known c.args.asker.now.asked t c.requires.tree c.in-Some.node c.in_ok-prepared.prepared c.in-Some.ensures.some c.in_ok-prepared.ensures.ready in
-    let e = then_is k (shape_of c.reserve-2.new.self) c.reserve-2.ensures.same c.numbers.ensures (omega (arith, c.len.ensures)) c.in_ok-found.ensures.ok in
-    omega (arith, long_then k e, c.in_ok-reserve.ensures.room.count, ap (λ (z : Shape _). length z.nodes) c.reserve-2.ensures.same)
-
 pub change-requires-clause-carries : goal.change-requires-clause-carries
 change-requires-clause-carries g c =
     let t = shape_of c.args.self.now in
-    let k = known c.args.asker.now.asked t c.requires.tree c.in-Some.node c.in_ok-prepared.prepared c.in-Some.ensures.some c.in_ok-prepared.ensures.ready in
-    let e = then_is k (shape_of c.reserve-2.new.self) c.reserve-2.ensures.same c.numbers.ensures (omega (arith, c.len.ensures)) c.in_ok-found.ensures.ok in
+    let k = known c.args.asker.now.asked t c.requires.tree c.in-Some.node c.in_ok-route.route c.in-Some.ensures.some c.in_ok-route.ensures in
+    let e = then_is k (shape_of c.reserve-2.new.self) c.reserve-2.ensures.same c.numbers-2.ensures (omega (arith, c.len.ensures)) c.in_ok-found.ensures.ok in
     subst IsSome (sym (carries_then k e)) refl
 
 pub change-requires-clause-won : goal.change-requires-clause-won
 change-requires-clause-won g c =
     let t = shape_of c.args.self.now in
-    let k = known c.args.asker.now.asked t c.requires.tree c.in-Some.node c.in_ok-prepared.prepared c.in-Some.ensures.some c.in_ok-prepared.ensures.ready in
-    let e = then_is k (shape_of c.reserve-2.new.self) c.reserve-2.ensures.same c.numbers.ensures (omega (arith, c.len.ensures)) c.in_ok-found.ensures.ok in
+    let k = known c.args.asker.now.asked t c.requires.tree c.in-Some.node c.in_ok-route.route c.in-Some.ensures.some c.in_ok-route.ensures in
+    let e = then_is k (shape_of c.reserve-2.new.self) c.reserve-2.ensures.same c.numbers-2.ensures (omega (arith, c.len.ensures)) c.in_ok-found.ensures.ok in
     let room = c.in_ok-reserve.ensures.room in
     let nodes = ap (λ (z : Shape _). z.nodes) c.reserve-2.ensures.same in
     winners_then k e c.reserve-2.new.self.winners.items (omega (arith, room.count, ap (length {A = Node g.row.A.Denot}) nodes)) (subst (λ z. AreWinners z c.reserve-2.new.self.winners.items) nodes room.won)
@@ -177,11 +148,11 @@ change-requires-clause-won g c =
 pub change-requires-clause-space : goal.change-requires-clause-space
 change-requires-clause-space g c =
     let t = shape_of c.args.self.now in
-    let k = known c.args.asker.now.asked t c.requires.tree c.in-Some.node c.in_ok-prepared.prepared c.in-Some.ensures.some c.in_ok-prepared.ensures.ready in
-    let e = then_is k (shape_of c.reserve-2.new.self) c.reserve-2.ensures.same c.numbers.ensures (omega (arith, c.len.ensures)) c.in_ok-found.ensures.ok in
+    let k = known c.args.asker.now.asked t c.requires.tree c.in-Some.node c.in_ok-route.route c.in-Some.ensures.some c.in_ok-route.ensures in
+    let e = then_is k (shape_of c.reserve-2.new.self) c.reserve-2.ensures.same c.numbers-2.ensures (omega (arith, c.len.ensures)) c.in_ok-found.ensures.ok in
     let room = c.in_ok-reserve.ensures.ok in
     let count = ap (λ (z : Shape _). length z.nodes) c.reserve-2.ensures.same in
-    record { index = omega (arith, room.index, long_then k e, count); added = omega (arith, room.added, long_then k e, count); places = omega (arith, room.winners, long_then k e, count) }
+    record { index = omega (arith, room.index, long_then k e, k.can.longer, count, ap (length {A = ℕ}) (numbers_are k c.numbers.ensures)); added = omega (arith, room.added, long_then k e, k.can.longer, count, ap (length {A = ℕ}) (numbers_are k c.numbers.ensures)); places = omega (arith, room.winners, long_then k e, k.can.longer, count, ap (length {A = ℕ}) (numbers_are k c.numbers.ensures)) }
 
 pub returns-clause-ok : goal.returns-clause-ok
 returns-clause-ok g c =
@@ -190,9 +161,9 @@ returns-clause-ok g c =
     let node = c.in-Some.node in
     let found = c.in_ok-found.found in
     let t = shape_of c.args.self.now in
-    let k = known c.args.asker.now.asked t c.requires.tree c.in-Some.node c.in_ok-prepared.prepared c.in-Some.ensures.some c.in_ok-prepared.ensures.ready in
-    let e = then_is k (shape_of c.reserve-2.new.self) c.reserve-2.ensures.same c.numbers.ensures (omega (arith, c.len.ensures)) c.in_ok-found.ensures.ok in
-    let s = numbers_are k c.numbers.ensures in
+    let k = known c.args.asker.now.asked t c.requires.tree c.in-Some.node c.in_ok-route.route c.in-Some.ensures.some c.in_ok-route.ensures in
+    let e = then_is k (shape_of c.reserve-2.new.self) c.reserve-2.ensures.same c.numbers-2.ensures (omega (arith, c.len.ensures)) c.in_ok-found.ensures.ok in
+    let s = numbers_are k c.numbers-2.ensures in
     let first : length c.reserve-2.new.self.winners.items ≡ length t.nodes = omega (arith, c.in_ok-reserve.ensures.room.count, ap (λ (z : Shape _). length z.nodes) c.reserve-2.ensures.same) in
     let best = c.in_ok-found.ensures.found k.part (there_before k (shape_of c.reserve-2.new.self) c.reserve-2.ensures.same) ∙ (λ i. best_of p r (take k.part.length (s i)) (wide_of k.part (s i))) in
     let nodes = nodes_found k e found ∙ (λ i. nodes_then t.nodes node (wide_of k.part k.route.contacts) (best i) (fresh k)) in
@@ -209,13 +180,6 @@ returns-clause-ok g c =
       carries = k.carries;
       least = k.least;
       shape = shape;
-      given = c.push_reserved.ensures.items ∙ (λ i. c.reserve.ensures.items i ++ k.ready.route i ∷ []);
-      counted = omega (arith, k.ready.count, k.can.longer);
+      given = c.push_reserved.ensures.items ∙ (λ i. c.reserve.ensures.items i ++ k.copied i ∷ []);
+      counted = omega (arith, long_then k e, k.can.longer, c.len-2.ensures, c.len-3.ensures, first);
     }
-
-pub returns-clause-called : goal.returns-clause-called
-returns-clause-called g c =
-    let t = shape_of c.args.self.now in
-    let k = known c.args.asker.now.asked t c.requires.tree c.in-Some.node c.in_ok-prepared.prepared c.in-Some.ensures.some c.in_ok-prepared.ensures.ready in
-    let called = c.in_ok-found.ensures.called k.part (there_before k (shape_of c.reserve-2.new.self) c.reserve-2.ensures.same) in
-    omega (arith, called, k.ready.count, k.can.longer, ap (length {A = ℕ}) (numbers_are k c.numbers.ensures))
