@@ -3,7 +3,7 @@
 
 ghost use Rattle.std.specs.Prelude.{◌≡◌, ◌+◌, ◌<◌, ◌≤◌, length, vec_len, vec_capacity};
 ghost use Rattle.sabr_frontier.specs.Shape.{route_at};
-ghost use Rattle.sabr_frontier.specs.Winners.{AreOthersWinners, AreWinners, IsLesser, IsRising, IsSettled, IsWinner, is_lesser};
+ghost use Rattle.sabr_frontier.specs.Winners.{AreOthersWinners, AreWinners, IsLesser, IsRising, IsWinner, is_lesser};
 
 use crate::places::carried;
 use crate::tree::{Node, NodeId};
@@ -48,35 +48,16 @@ fn winner<A: Allocator + Copy>(nodes: &[Node<A>], ids: &[NodeId], slot: usize) -
     lesser(nodes, left, ids[slot * 2 + 2])
 }
 
-/// Settles the slots from `first` on and before `end`.
-fn settle<A: Allocator + Copy>(nodes: &[Node<A>], ids: &mut [NodeId], first: usize, end: usize)
-    requires order { first ≤ end }
-    requires within { end ≤ length ids.old }
-    ensures { IsSettled nodes.now ids.old ids.new first end }
-{
-    let mut slot = end;
-    while first < slot {
-        slot -= 1;
-        ids[slot] = winner(nodes, ids, slot);
-    }
-}
-
-/// Settles the slots from `first` on and before `end`, and those over them.
-pub fn settle_up<A: Allocator + Copy>(
-    nodes: &[Node<A>],
-    ids: &mut [NodeId],
-    mut first: usize,
-    mut end: usize,
-)
-    requires order { first ≤ end }
-    requires within { end ≤ length ids.old }
-    requires others { AreOthersWinners nodes.now ids.old first end }
+/// Settles a slot, and those over it.
+fn settle_up<A: Allocator + Copy>(nodes: &[Node<A>], ids: &mut [NodeId], slot: usize)
+    requires within { slot < length ids.old }
+    requires others { AreOthersWinners nodes.now ids.old slot (slot + 1) }
     ensures won { AreWinners nodes.now ids.new }
     ensures len { length ids.new ≡ length ids.old }
 {
+    let mut end = slot + 1;
     while 0 < end {
-        settle(nodes, ids, first, end);
-        first = first.saturating_sub(1) / 2;
+        ids[end - 1] = winner(nodes, ids, end - 1);
         end /= 2;
     }
 }
@@ -133,7 +114,7 @@ pub fn renew<A: Allocator + Copy>(nodes: &[Node<A>], winners: &mut Vec<NodeId, A
     ensures len { vec_len winners.new ≡ vec_len winners.old }
     ensures capacity { vec_capacity winners.new ≡ vec_capacity winners.old }
 {
-    settle_up(nodes, winners.as_mut_slice(), node.0, node.0 + 1);
+    settle_up(nodes, winners.as_mut_slice(), node.0);
 }
 
 /// Finds the winners of all nodes, for which there is room.

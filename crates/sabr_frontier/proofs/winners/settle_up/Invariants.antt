@@ -1,12 +1,11 @@
-use Rattle.std.proofs.Common.{◌≡◌, ◌≤◌, length}
+use Rattle.std.proofs.Common.{◌≡◌, ◌-◌, ◌≤◌, length}
 use Rattle.sabr_frontier.specs.Winners.{AreOthersWinners}
 use Rattle.sabr_frontier.proofs.winners.settle_up.Given as goal
 
 abbrev pub invariant-loop-end : goal.invariant-loop-end
 invariant-loop-end g l = record {
-  others : AreOthersWinners l.nodes l.ids l.first l.end;
-  order : l.first ≤ l.end;
-  within : l.end ≤ length l.fn.ids;
+  others : AreOthersWinners l.nodes l.ids (l.end - 1) l.end;
+  within : l.end ≤ length l.ids;
   long : length l.ids ≡ length l.fn.ids;
 }
 
