@@ -15,3 +15,4 @@ pub mod ReadSoFar
 pub mod CanonicalLines
 pub mod NeverRead
 pub mod Leaving
+pub mod SpelledPlans

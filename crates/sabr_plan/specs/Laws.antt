@@ -1,0 +1,8 @@
+-- A law of plan texts.
+use Rattle.std.specs.Prelude.{◌≡◌, ℕ, Bool, List, Ok}
+use Rattle.sabr_model.specs.Plan.{ContactPlan, IsPlan}
+use Rattle.sabr_plan.specs.Reading.{plan_of}
+
+-- the plan that a text spells obeys the rules of a plan
+abbrev pub SpelledPlansObey : Type 0
+SpelledPlansObey = (bytes : List ℕ) (ended : Bool) (p : ContactPlan) → plan_of bytes ended ≡ Ok p → IsPlan p
