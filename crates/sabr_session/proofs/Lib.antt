@@ -22,7 +22,6 @@ pub mod SessionGivenSoFar
 mod OpenLines
 mod PiecesJoined
 pub mod SessionOutcomes
-pub mod FormedSessions
 mod ShortStates
 mod TextsRead
 pub mod OneAnswer

@@ -33,13 +33,10 @@ pub fn verify<R: Read, B: BestOf<A>, A: Allocator + Copy>(
 {
     plan.tell_rules();
     match read_session(alloc, reader, plan, digest, finder) {
-        Ok(mut session) => {
-            session.request().tell_limits();
-            match session.certify() {
-                Ok(placed) => Ok(placed),
-                Err(_refused) => Err(SessionFault::NoMemory),
-            }
-        }
+        Ok(mut session) => match session.certify() {
+            Ok(placed) => Ok(placed),
+            Err(_refused) => Err(SessionFault::NoMemory),
+        },
         Err(fault) => match fault {
             SessionFault::Read => Err(SessionFault::Read),
             SessionFault::NoMemory => Err(SessionFault::NoMemory),

@@ -1,6 +1,7 @@
 //! A session text that is read in pieces.
 
 ghost use Rattle.std.specs.Prelude.{◌≡◌, ◌+◌, ◌<◌, ◌≤◌, length, Ok, MatchResult, IfOk, OnOk};
+ghost use Rattle.sabr_model.specs.Asking.{IsRequest};
 ghost use Rattle.sabr_plan.specs.Canonical.{digest_of};
 ghost use Rattle.sabr_frontier.specs.Listing.{IsState};
 ghost use Rattle.sabr_session.specs.SessionRead.{most_bytes};
@@ -84,11 +85,11 @@ impl<'p, B: BestOf<A>, A: Allocator + Copy> SessionFeed<'p, B, A> {
         ensures finished { IsFinished self.entry result }
         ensures calls { IfOk self.entry (λ t. IfOk result (λ s. s.calls ≡ t.calls)) }
         ensures formed { IfOk result (λ s. IsState s.plan.plan s.request s.state) }
+        ensures accepted { IfOk result (λ s. IsRequest s.request) }
     {
-        match self.text {
-            Ok(text) => text.finish(),
-            Err(fault) => Err(fault),
-        }
+        let session = self.text?.finish()?;
+        session.request().tell_limits();
+        Ok(session)
     }
 
     /// The number of bytes held of the incomplete line.

@@ -1,6 +1,7 @@
 //! Reading a session text from a reader.
 
 ghost use Rattle.std.specs.Prelude.{◌≡◌, ◌+◌, IfOk, IfErr};
+ghost use Rattle.sabr_model.specs.Asking.{IsRequest};
 ghost use Rattle.sabr_plan.specs.Canonical.{digest_of};
 ghost use Rattle.sabr_frontier.specs.Listing.{IsState};
 ghost use Rattle.sabr_session.specs.SessionGiven.{ReadsSession};
@@ -39,6 +40,7 @@ pub fn read_session<'p, R: Read, B: BestOf<A>, A: Allocator + Copy>(
     ensures failed { IfErr result (λ f. f ≡ fault.Read → (R.input reader.new).failures ≡ (R.input reader.old).failures + 1) }
     ensures calls { IfOk result (λ s. s.calls ≡ B.calls_of finder) }
     ensures formed { IfOk result (λ s. IsState s.plan.plan s.request s.state) }
+    ensures accepted { IfOk result (λ s. IsRequest s.request) }
 {
     let mut buffer = [0u8; PIECE_BYTES];
     let mut feed = SessionFeed::new(alloc, plan, digest, finder);

@@ -95,7 +95,7 @@ impl<'p, B: BestOf<A>, A: Allocator + Copy> Stage<'p, B, A> {
             return Err(SessionFault::NoMemory);
         };
         let Some(loader) = &mut self.loader else {
-            return Err(SessionFault::NoMemory);
+            unreachable!()
         };
         if found {
             add_part(loader, number, &self.part)
@@ -124,7 +124,7 @@ impl<'p, B: BestOf<A>, A: Allocator + Copy> Stage<'p, B, A> {
         } = self;
         match loader {
             Some(loader) => loader.finish(emitted, last),
-            None => Err(LoadFault::NoMemory),
+            None => unreachable!(),
         }
     }
 }

@@ -1,5 +1,3 @@
-use Rattle.std.proofs.Common.{subst}
-use Rattle.sabr_model.specs.Asking.{IsRequest}
 use Rattle.sabr_session.proofs.Verified.{session_verified, fault_verified, break_verified}
 use Rattle.sabr_session.proofs.verifying.verify.Goals as goal
 
@@ -7,7 +5,7 @@ pub returns-in-Ok-certify : goal.returns-in-Ok-certify
 returns-in-Ok-certify g c =
     session_verified c.args.plan.now c.tell_rules.ensures
     (g.R.Read.input c.args.reader.now) (g.R.Read.input c.read_session.new.reader)
-    c.in-Ok.session c.in-Ok.ensures.read (subst IsRequest c.request.ensures c.tell_limits.ensures) c.in-Ok-certify.placed c.in-Ok-certify.ensures.ok
+    c.in-Ok.session c.in-Ok.ensures.read c.in-Ok.ensures.accepted c.in-Ok-certify.placed c.in-Ok-certify.ensures.ok
 
 pub returns-in-Read : goal.returns-in-Read
 returns-in-Read g c =
