@@ -138,9 +138,14 @@ def paths_in(folder):
     return sorted({os.path.relpath(it, TOP) for it in glob.glob(f"{TOP}/{folder}/*.txt")} - {SHARED})
 
 
+def shared_texts():
+    """The texts that have a name in every file of rows."""
+    return sections_of(SHARED, {}, takes_no_row)[0].named
+
+
 def sections_in(paths, take_row):
     """The sections of files of rows, which know the shared texts."""
-    shared = sections_of(SHARED, {}, takes_no_row)[0].named
+    shared = shared_texts()
     for path in paths:
         yield from sections_of(path, shared, take_row)
 

@@ -1,13 +1,48 @@
 //! The program `cgrlist`: lists the routes of a contact plan, best first.
 #![tactic(auto)]
 
-use commands::run_arguments;
+use commands::{Failure, run_words, tell};
 use sabr_model::Device;
+use std::alloc::Global;
+use std::env;
+use std::io::ErrorKind;
 use std::process::ExitCode;
 
 fn main(rt: HostRuntime) -> ExitCode {
     let mut out = Device::new(rt.stdout());
     let mut err = Device::new(rt.stderr());
-    let status = run_arguments(&rt, &mut out, &mut err);
+    let status = match arguments(&rt) {
+        Ok(arguments) => match words(rt.alloc(), &arguments) {
+            Ok(words) => run_words(&rt, words.as_slice(), &mut out, &mut err),
+            Err(failure) => tell(&mut err, failure),
+        },
+        Err(failure) => tell(&mut err, failure),
+    };
     ExitCode::from(status.number())
+}
+
+/// The words that the program was started with, after its name.
+fn arguments(rt: &HostRuntime) -> Result<Vec<String>, Failure> {
+    match env::args(rt) {
+        Ok(arguments) => match arguments.skip(1).collect(rt.alloc()) {
+            Ok(arguments) => Ok(arguments),
+            Err(_) => Err(Failure::NoMemory),
+        },
+        Err(error) => Err(if error.kind() == ErrorKind::OutOfMemory {
+            Failure::NoMemory
+        } else {
+            Failure::NotUtf8
+        }),
+    }
+}
+
+/// The same, lent.
+fn words<'a>(alloc: Global, arguments: &'a [String]) -> Result<Vec<&'a str>, Failure> {
+    let mut words = Vec::new(alloc);
+    for argument in arguments {
+        let Ok(()) = words.push(argument.as_str()) else {
+            return Err(Failure::NoMemory);
+        };
+    }
+    Ok(words)
 }

@@ -4,4 +4,5 @@ pub mod PageTexts
 pub mod OldSessions
 pub mod RunsFollow
 pub mod NextPages
+pub mod RunsInTurn
 pub mod StandingPages

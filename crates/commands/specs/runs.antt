@@ -3,4 +3,5 @@ pub mod Runs
 pub mod SessionRuns
 pub mod EveryRun
 pub mod NextPage
+pub mod RunsInTurn
 pub mod PagesLeft

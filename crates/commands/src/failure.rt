@@ -37,6 +37,8 @@ pub enum Failure {
     Write,
     /// Memory was refused.
     NoMemory,
+    /// A word of the command line isn't UTF-8.
+    NotUtf8,
 }
 
 impl Failure {
@@ -53,6 +55,7 @@ impl Failure {
             }
             Failure::PlanRead | Failure::SessionRead | Failure::Write => Status::Io,
             Failure::NoMemory => Status::Memory,
+            Failure::NotUtf8 => Status::Usage,
         }
     }
 }

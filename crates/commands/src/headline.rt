@@ -4,6 +4,7 @@
 ghost use Rattle.commands.specs.runs.EveryRun.{EveryRunFollows};
 ghost use Rattle.commands.specs.runs.NextPage.{NextGoesOn};
 ghost use Rattle.commands.specs.runs.PagesLeft.{PagesStand};
+ghost use Rattle.commands.specs.runs.RunsInTurn.{RunsInTurn};
 
 /// Shows that every run of a session follows the list of all routes. Whatever sizes its pages have, and wherever it
 /// went through its text, its pages in turn are the next routes of the list, best first, none left out and none twice.
@@ -22,6 +23,14 @@ pub fn every_run()
 /// writer holds a beginning. If memory is refused or the session's reader fails, nothing is written.
 pub fn next_goes_on()
     ensures { NextGoesOn }
+{}
+
+/// Shows that runs of the program list a plan page by page: a run `first` that keeps its session, and then runs `next`,
+/// each over the session text that the one before wrote. Over one plan text, and with readers and writers that know
+/// their bytes, the runs that end with [`Status::Done`](crate::Status::Done) write the reports of the first routes of
+/// the list, each from where the one before ended.
+pub fn runs_in_turn()
+    ensures { RunsInTurn }
 {}
 
 /// Shows that after any pages, refusals and steps back a session is that of the pages that weren't taken back, in the

@@ -9,41 +9,7 @@ use clap::error::ErrorKind;
 use clap::{ArgMatches, Error};
 use sabr_model::{Write, write_text};
 use std::alloc::Global;
-use std::rt::{Env, Files};
-use std::{env, io};
-
-/// Runs the program over the words that it was started with, as [`run_words`] over those after its name.
-///
-/// The status is [`Status::Usage`] if a word isn't UTF-8, and [`Status::Memory`] if memory for the words was refused.
-pub fn run_arguments<R: Env + Files + AllocGlobal, O: Write, E: Write>(
-    rt: &R,
-    out: &mut O,
-    err: &mut E,
-) -> Status {
-    let arguments = match env::args(rt) {
-        Ok(arguments) => arguments,
-        Err(error) => return tell_unread(&error, err),
-    };
-    let Ok(owned) = arguments.skip(1).collect::<Vec<String>>(rt.alloc()) else {
-        return tell(err, Failure::NoMemory);
-    };
-    let mut words: Vec<&str> = Vec::new(rt.alloc());
-    for word in &owned {
-        let Ok(()) = words.push(word.as_str()) else {
-            return tell(err, Failure::NoMemory);
-        };
-    }
-    run_words(rt, words.as_slice(), out, err)
-}
-
-/// Reports that the words of the command line couldn't be read.
-fn tell_unread<E: Write>(error: &io::Error, err: &mut E) -> Status {
-    if error.kind() == io::ErrorKind::OutOfMemory {
-        return tell(err, Failure::NoMemory);
-    }
-    let _ = write_text(err, b"cgrlist: a word of the command line is not UTF-8\n");
-    Status::Usage
-}
+use std::rt::Files;
 
 /// Runs the program over the words after its name: reads their values, opens the files that they name, and runs the
 /// command over these. The report goes to `out`, and messages and help go to `err`.

@@ -8,6 +8,7 @@ use crate::desk::Desk;
 use crate::words::{Words, numbers, small_number};
 use commands::{
     Status, ValueFault, ValueName, run_check, run_explain, run_first, run_next, run_verify,
+    run_words,
 };
 use failing::LimitedWriter;
 use std::alloc::{Allocator, Global};
@@ -71,6 +72,7 @@ fn status_of<A: Allocator + Copy>(
         "verify" => Some(verify(alloc, desk, writers)),
         "check" => Some(check(alloc, desk, writers)),
         "explain" => explain(alloc, desk, words, writers),
+        "words" => program(desk, words, writers),
         _ => None,
     }
 }
@@ -125,6 +127,16 @@ fn explain<A: Allocator + Copy>(
     let plan = &mut desk.plan.reader();
     let (out, err) = (&mut writers.out, &mut writers.err);
     Some(run_explain(alloc, plan, request, &contacts, out, err))
+}
+
+/// Runs the program over these words.
+fn program(desk: &Desk<'_>, words: &mut Words<'_>, writers: &mut Writers) -> Option<Status> {
+    let mut taken = Vec::new(desk.alloc);
+    for word in words {
+        taken.push(word).ok()?;
+    }
+    let (out, err) = (&mut writers.out, &mut writers.err);
+    Some(run_words(desk.rt, &taken, out, err))
 }
 
 /// Takes a count of routes, and whether the session is kept.

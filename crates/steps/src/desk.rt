@@ -13,6 +13,7 @@ use std::str::{self, Lines};
 /// What all steps share.
 #[derive(Drop)]
 pub struct Desk<'t> {
+    pub rt: &'t HostRuntime,
     pub alloc: Global,
     pub ration: &'t Ration,
     lines: Lines<'t>,
@@ -27,8 +28,10 @@ pub struct Desk<'t> {
 
 impl<'t> Desk<'t> {
     /// Begins with the first step.
-    pub fn new(alloc: Global, ration: &'t Ration, text: &'t str) -> Desk<'t> {
+    pub fn new(rt: &'t HostRuntime, ration: &'t Ration, text: &'t str) -> Desk<'t> {
+        let alloc = rt.alloc();
         Desk {
+            rt,
             alloc,
             ration,
             lines: text.lines(),

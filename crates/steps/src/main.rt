@@ -28,7 +28,7 @@ fn main(rt: HostRuntime) -> ExitCode {
         return ExitCode::from(2);
     };
     let ration = Ration::new(rt.alloc(), 0);
-    let mut desk = Desk::new(rt.alloc(), &ration, text.as_str());
+    let mut desk = Desk::new(&rt, &ration, text.as_str());
     plans::perform(&ration, &mut desk);
     match rt.stdout().write_all(desk.said()) {
         Ok(()) => ExitCode::SUCCESS,

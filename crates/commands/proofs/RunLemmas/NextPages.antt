@@ -1,10 +1,11 @@
 -- A next run over the session text of a place writes the page from there on.
-use Rattle.std.proofs.Common.{◌≡◌, ℕ, ◌+◌, Bool, true, List, ◌++◌, length, map, append-nil, refl, sym, ap, subst, ◌∙◌, ◌⊎◌, inl, inr, Option, Some, None, Result, Ok, Err}
+use Rattle.std.proofs.Common.{◌≡◌, ℕ, ◌+◌, ◌≤◌, Bool, true, false, List, ◌++◌, length, map, append-nil, refl, sym, ap, subst, ◌∙◌, ◌⊎◌, inl, inr, Option, Some, None, Result, Ok, Err}
 use Rattle.std.specs.Io.KnownBytes.{Consumes, IsAtEnd}
 use Rattle.sabr_model.specs.Devices.{Input, Output}
-use Rattle.sabr_model.specs.Plan.{TabledPlan, IsPlan}
+use Rattle.sabr_model.specs.Plan.{ContactPlan, TabledPlan, IsPlan}
 use Rattle.sabr_model.specs.Arrival.{RouteRequest}
-use Rattle.sabr_model.specs.Listing.{page_of}
+use Rattle.sabr_model.specs.Asking.{IsRequest}
+use Rattle.sabr_model.specs.Listing.{routes, page_of}
 use Rattle.sabr_model.specs.Record.{record_of}
 use Rattle.sabr_plan.specs.Canonical.{digest_of}
 use Rattle.sabr_frontier.specs.State.{State}
@@ -22,8 +23,8 @@ use Rattle.sabr_session.proofs.OneAnswer.{answers_once}
 use Rattle.commands.specs.declared.failure.Failure.{Failure}
 use Rattle.commands.specs.declared.failure.Failure.TheVariants as failure
 use Rattle.commands.specs.texts.Messages.{failure_of_session}
-use Rattle.commands.specs.runs.SessionRuns.{WritesNextPage, WritesPage, next_report, report_after, kept_text, place_of}
-use Rattle.commands.specs.runs.NextPage.{report_from, text_after, NextGoesOn}
+use Rattle.commands.specs.runs.SessionRuns.{WritesNextPage, WritesPage, next_report, report_after, place_of}
+use Rattle.commands.specs.runs.NextPage.{place_after, report_from, KeepsPlace, WritesPageFrom, NextGoesOn}
 use Rattle.commands.proofs.RunLemmas.RunsFollow.{next_within, text_begins}
 
 -- of a reader that has these bytes, what was read is a beginning of them, and all of them if it ended
@@ -31,9 +32,17 @@ some_more : (bytes given : List ℕ) (left : Option (List ℕ)) → Consumes (So
 some_more bytes given None taken = absurd taken
 some_more bytes given (Some more) taken = (more, sym taken)
 
-none_more : (bytes given : List ℕ) (left : Option (List ℕ)) → Consumes (Some bytes) left given → IsAtEnd left → given ≡ bytes
+pub none_more : (bytes given : List ℕ) (left : Option (List ℕ)) → Consumes (Some bytes) left given → IsAtEnd left → given ≡ bytes
 none_more bytes given None taken end = absurd taken
 none_more bytes given (Some more) taken end = sym (append-nil given) ∙ ap (λ b. given ++ b) (sym end) ∙ sym taken
+
+-- the session that a run kept is the text of its place
+pub place_kept : (p : ContactPlan) (r : RouteRequest) (i : ℕ) → IsRequest r → i ≤ length (routes p r)
+    → (keep : Bool) (report : List ℕ) (end : Result (Unit {0}) Failure) (old new old₁ new₁ : Output) → WritesPage keep p report (r, state_at p r i) end old new old₁ new₁ → KeepsPlace keep p r i end
+place_kept p r i accepted within true report (Ok _) old new old₁ new₁ page =
+    λ _. (record { request = r; place = i; accepted = accepted; within = within; there = page.1.0; spelled = inl refl }, refl, refl)
+place_kept p r i accepted within false report (Ok _) old new old₁ new₁ page = λ no. absurd cc
+place_kept p r i accepted within keep report (Err f) old new old₁ new₁ page = tt
 
 module _ (p : TabledPlan) (bytes : List ℕ) (good : IsPlan p.plan) (text : IsSessionText p.plan bytes) where
   -- the request and the state of the place
@@ -84,26 +93,28 @@ module _ (p : TabledPlan) (bytes : List ℕ) (good : IsPlan p.plan) (text : IsSe
       ∙ ap (report_text (map (record_of p.plan text.request) page) (text.place + 1))
       ((steps_follow p.plan text.request good).carries (text.place + length page) (next_within p.plan text.request good text.accepted text.place count text.within))
 
-  text_is : (keep : Bool) (count : ℕ) → kept_text keep p.plan place.0 (steps p.plan place.0 count place.1).1 ≡ text_after keep p.plan text.request text.place count
-  text_is keep count = ap (λ (w : List (List ℕ) × State). kept_text keep p.plan text.request w.1) (page_is count)
+  state_is : (count : ℕ) → (steps p.plan place.0 count place.1).1 ≡ state_at p.plan text.request (place_after p.plan text.request text.place count)
+  state_is count = ap (λ (w : List (List ℕ) × State). w.1) (page_is count)
 
   module _ (keep : Bool) (count : ℕ) (end : Result (Unit {0}) Failure) (old new old₁ new₁ : Output) where
-    abbrev Leaves : List ℕ → List ℕ → Result (Unit {0}) Failure → Type 0
-    Leaves report kept end = WritesPage keep report kept end old new old₁ new₁
+    abbrev Leaves : List ℕ → State → Type 0
+    Leaves report s = WritesPage keep p.plan report (text.request, s) end old new old₁ new₁
 
     abbrev Runs : Result (RouteRequest × State) SessionFault → Type 0
     Runs answer = WritesNextPage (Ok p) answer keep count end old new old₁ new₁
 
     by_answer : (faults faults_then : ℕ) (answer : Result (RouteRequest × State) SessionFault) → IsReadTo faults answer faults_then → Runs answer
-        → Leaves (report_from p.plan text.request text.place count) (text_after keep p.plan text.request text.place count) end
+        → WritesPageFrom keep p.plan text.request text.place count end old new old₁ new₁
         ⊎ ((faults_then ≡ faults + 1) × (end ≡ Err failure.SessionRead) × (new ≡ old) × (new₁ ≡ old₁))
     by_answer faults faults_then (Ok x) is run =
-        let from : Leaves (next_report p.plan place.0 place.1 count) (kept_text keep p.plan place.0 (steps p.plan place.0 count place.1).1) end = subst (λ (w : RouteRequest × State). Runs (Ok w)) is run in
-        let reported = subst (λ (r : List ℕ). Leaves r (kept_text keep p.plan place.0 (steps p.plan place.0 count place.1).1) end) (report_is count) from in
-        inl (subst (λ (k : List ℕ). Leaves (report_from p.plan text.request text.place count) k end) (text_is keep count) reported)
+        let after = (steps p.plan place.0 count place.1).1 in
+        let from : Leaves (next_report p.plan place.0 place.1 count) after = subst (λ (w : RouteRequest × State). Runs (Ok w)) is run in
+        let reported = subst (λ (r : List ℕ). Leaves r after) (report_is count) from in
+        let page = subst (Leaves (report_from p.plan text.request text.place count)) (state_is count) reported in
+        inl (page, place_kept p.plan text.request (place_after p.plan text.request text.place count) text.accepted (next_within p.plan text.request good text.accepted text.place count text.within) keep _ end old new old₁ new₁ page)
     by_answer faults faults_then (Err f) (inl memory) run =
         let ended : end ≡ Err failure.NoMemory = run.0 ∙ ap (λ (g : SessionFault). Err (failure_of_session g)) memory in
-        inl (subst (λ (e : Result (Unit {0}) Failure). Leaves (report_from p.plan text.request text.place count) (text_after keep p.plan text.request text.place count) e) (sym ended) (run.1, run.2))
+        inl (subst (λ (e : Result (Unit {0}) Failure). WritesPageFrom keep p.plan text.request text.place count e old new old₁ new₁) (sym ended) ((run.1, run.2), tt))
     by_answer faults faults_then (Err f) (inr (read, failed)) run =
         let ended : end ≡ Err failure.SessionRead = run.0 ∙ ap (λ (g : SessionFault). Err (failure_of_session g)) read in
         inr (failed, ended, run.1, run.2)

@@ -5,7 +5,10 @@ use Rattle.std.specs.Result.{IsErrAnd}
 use Rattle.std.specs.Io.KnownBytes.{Keeps}
 use Rattle.std.proofs.KnownBytes.{Appends-kept}
 use Rattle.sabr_model.specs.Devices.{Output, Written, WrittenAndFlushed, WrittenInPart}
+use Rattle.sabr_model.specs.Plan.{ContactPlan}
+use Rattle.sabr_model.specs.Arrival.{RouteRequest}
 use Rattle.sabr_model.specs.Record.{RouteRecord, record_of}
+use Rattle.sabr_frontier.specs.State.{State}
 use Rattle.sabr_frontier.specs.Listing.{steps, next_route}
 use Rattle.sabr_frontier.specs.Session.{Seen}
 use Rattle.sabr_plan.specs.Canonical.{digest_of}
@@ -13,7 +16,7 @@ use Rattle.sabr_session.specs.ReportText.{report_text}
 use Rattle.sabr_session.specs.SessionText.{text_of}
 use Rattle.commands.specs.declared.failure.Failure.{Failure}
 use Rattle.commands.specs.declared.failure.Failure.TheVariants as failure
-use Rattle.commands.specs.runs.SessionRuns.{next_report, WritesPage}
+use Rattle.commands.specs.runs.SessionRuns.{next_report, text_over, WritesPage}
 
 -- a text was written, and then its flush failed
 pub flush_failed : (a b c : Output) (text : List ℕ) → Written a text b → Keeps b.contents c.contents → c.failures ≡ b.failures + 1 → WrittenInPart a text c
@@ -36,13 +39,13 @@ pub text_of_page : (before after : Seen) (k : ℕ) → after.plan ≡ before.pla
 text_of_page before after k plan request state = rw (plan, request, state) refl
 
 -- the report's writer failed: nothing is left on the session's
-pub report_failed : (keep : Bool) (report text : List ℕ) (end : Result (Unit {0}) Failure) (a c b : Output)
-    → IsErrAnd end (λ e. e ≡ failure.Write) → WrittenInPart a report c → WritesPage keep report text end a c b b
-report_failed keep report text (Ok _) a c b bad h = absurd bad
-report_failed keep report text (Err e) a c b is h = rw is (inl (h, refl))
+pub report_failed : (keep : Bool) (p : ContactPlan) (report : List ℕ) (x : RouteRequest × State) (end : Result (Unit {0}) Failure) (a c b : Output)
+    → IsErrAnd end (λ e. e ≡ failure.Write) → WrittenInPart a report c → WritesPage keep p report x end a c b b
+report_failed keep p report x (Ok _) a c b bad h = absurd bad
+report_failed keep p report x (Err e) a c b is h = rw is (inl (h, refl))
 
 -- the session's writer failed, after the report
-pub session_failed : (keep : Bool) (report text : List ℕ) (end : Result (Unit {0}) Failure) (a c b d : Output)
-    → IsErrAnd end (λ e. e ≡ failure.Write) → IsTrue keep → WrittenAndFlushed a report c → WrittenInPart b text d → WritesPage keep report text end a c b d
-session_failed keep report text (Ok _) a c b d bad kept h i = absurd bad
-session_failed keep report text (Err e) a c b d is kept h i = rw is (inr (kept, h, i))
+pub session_failed : (keep : Bool) (p : ContactPlan) (report : List ℕ) (x : RouteRequest × State) (end : Result (Unit {0}) Failure) (a c b d : Output)
+    → IsErrAnd end (λ e. e ≡ failure.Write) → IsTrue keep → WrittenAndFlushed a report c → WrittenInPart b (text_over p x) d → WritesPage keep p report x end a c b d
+session_failed keep p report x (Ok _) a c b d bad kept h i = absurd bad
+session_failed keep p report x (Err e) a c b d is kept h i = rw is (inr (kept, h, i))

@@ -1,5 +1,5 @@
 -- What a page of a session just started gives of the listing.
-use Rattle.std.proofs.Common.{◌≡◌, ℕ, zero, suc, ◌+◌, ◌<◌, ◌≤◌, List, [], ◌∷◌, map, length, take, refl, ◌∙◌, ap, arith, ◌⊎◌, inl, inr}
+use Rattle.std.proofs.Common.{◌≡◌, ℕ, zero, suc, ◌+◌, ◌<◌, ◌≤◌, List, [], ◌∷◌, map, length, take, refl, sym, ◌∙◌, ap, arith, ◌⊎◌, inl, inr}
 use Rattle.std.specs.Prelude.{is_some, nat_lt}
 use Rattle.std.proofs.lemmas.Bool.Decides.{nat_tests}
 use Rattle.sabr_model.specs.Plan.{ContactPlan, IsPlan}
@@ -12,8 +12,9 @@ use Rattle.sabr_frontier.proofs.Lawful.{steps_follow}
 use Rattle.sabr_session.specs.ReportText.{report_text}
 use Rattle.commands.specs.runs.Runs.{first_report}
 use Rattle.commands.specs.runs.SessionRuns.{next_report, report_after}
+use Rattle.commands.specs.runs.NextPage.{report_from}
 
-none_before : (n : ℕ) → 0 + n ≡ n
+pub none_before : (n : ℕ) → 0 + n ≡ n
 none_before n = omega arith
 
 -- the first page, and the place after it
@@ -57,3 +58,10 @@ first_report_is p r k rules =
 -- and they lead to the place that it reaches
 pub first_place : (p : ContactPlan) (r : RouteRequest) (k : ℕ) → IsPlan p → (steps p r k (state_at p r 0)).1 ≡ state_at p r (length (page_of p r 0 k))
 first_place p r k rules = ap (λ (x : List (List ℕ) × State). x.1) (first_steps p r k rules)
+
+-- that report is the one from place 0 on
+pub first_from : (p : ContactPlan) (r : RouteRequest) (k : ℕ) → first_report p r k ≡ report_from p r 0 k
+first_from p r k =
+    let page = page_of p r 0 k in
+    ap (report_text (map (record_of p r) page) 1)
+    (sym (after k (routes p r)) ∙ ap (λ n. nat_lt n (length (routes p r))) (sym (none_before (length page))))

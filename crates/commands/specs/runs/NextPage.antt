@@ -1,35 +1,46 @@
 -- What a run `next` leaves over the session text of a place of the listing.
-use Rattle.std.specs.Prelude.{◌≡◌, ℕ, ◌+◌, nat_lt, Bool, ◌⊎◌, List, [], length, map, Some, Result, Ok, Err, if◌then◌else◌}
+use Rattle.std.specs.Prelude.{◌≡◌, ℕ, ◌+◌, nat_lt, Bool, IsTrue, ◌⊎◌, List, length, map, Some, Result, Ok, Err, IfOk}
 use Rattle.sabr_model.specs.Devices.{Input, Output}
 use Rattle.sabr_model.specs.Plan.{ContactPlan, TabledPlan, IsPlan}
 use Rattle.sabr_model.specs.Arrival.{RouteRequest}
 use Rattle.sabr_model.specs.Listing.{routes, page_of}
 use Rattle.sabr_model.specs.Record.{record_of}
 use Rattle.sabr_frontier.specs.Session.{Seen}
+use Rattle.sabr_frontier.specs.Listing.{state_at}
 use Rattle.sabr_session.specs.ReportText.{report_text}
 use Rattle.sabr_session.specs.SessionText.{session_text}
 use Rattle.sabr_session.specs.Verifying.{IsSessionText}
 use Rattle.sabr_session.specs.declared.session_fault.SessionFault.{SessionFault}
 use Rattle.commands.specs.declared.failure.Failure.{Failure}
 use Rattle.commands.specs.declared.failure.Failure.TheVariants as failure
+use Rattle.commands.specs.runs.EveryRun.{IsAt, from_text}
 use Rattle.commands.specs.runs.SessionRuns.{ReadsOldSession, WritesNextPage, WritesPage, place_of}
+
+-- the place after the page of so many routes from place i on
+abbrev pub place_after : ContactPlan → RouteRequest → ℕ → ℕ → ℕ
+place_after p r i count = i + length (page_of p r i count)
 
 -- the report of the page from place i on: ranked from i + 1, and whether the listing goes on after it
 abbrev pub report_from : ContactPlan → RouteRequest → ℕ → ℕ → List ℕ
 report_from p r i count =
-    report_text (map (record_of p r) (page_of p r i count)) (i + 1) (nat_lt (i + length (page_of p r i count)) (length (routes p r)))
+    report_text (map (record_of p r) (page_of p r i count)) (i + 1) (nat_lt (place_after p r i count) (length (routes p r)))
 
--- the session text of the place after that page, if it is to be kept
-abbrev pub text_after : Bool → ContactPlan → RouteRequest → ℕ → ℕ → List ℕ
-text_after keep p r i count = if keep then session_text p r (i + length (page_of p r i count)) else []
+-- if a run ended well and kept its session, that is the text of place i, from which a run can go on
+abbrev pub KeepsPlace : Bool → ContactPlan → RouteRequest → ℕ → Result (Unit {0}) Failure → Type 0
+KeepsPlace keep p r i end = IfOk end (λ _. IsTrue keep → IsAt p r i (from_text (session_text p r i)))
 
--- a reader has these bytes and no others: whatever is read of it, a next run leaves the page from place i on, as a run
--- that lists that page; or the reader failed, and nothing is written
+-- what a run leaves that lists the page from place i on: its report, and the session of the place after it
+abbrev pub WritesPageFrom : Bool → ContactPlan → RouteRequest → ℕ → ℕ → Result (Unit {0}) Failure → Output → Output → Output → Output → Type 0
+WritesPageFrom keep p r i count end old new old₁ new₁ =
+    WritesPage keep p (report_from p r i count) (r, state_at p r (place_after p r i count)) end old new old₁ new₁ × KeepsPlace keep p r (place_after p r i count) end
+
+-- a reader has these bytes and no others: whatever is read of it, a next run leaves the page from place i on; or the
+-- reader failed, and nothing is written
 abbrev pub GoesOnFrom : TabledPlan → RouteRequest → ℕ → List ℕ → Type 0
 GoesOnFrom p r i bytes =
     (reader : Input) (told : Result Seen SessionFault) (reader₁ : Input) → reader.remaining ≡ Some bytes → ReadsOldSession (Ok p) reader told reader₁
     → (keep : Bool) (count : ℕ) (end : Result (Unit {0}) Failure) (old new old₁ new₁ : Output) → WritesNextPage (Ok p) (place_of told) keep count end old new old₁ new₁
-    → WritesPage keep (report_from p.plan r i count) (text_after keep p.plan r i count) end old new old₁ new₁
+    → WritesPageFrom keep p.plan r i count end old new old₁ new₁
     ⊎ ((reader₁.failures ≡ reader.failures + 1) × (end ≡ Err failure.SessionRead) × (new ≡ old) × (new₁ ≡ old₁))
 
 -- over every accepted plan, from every session text of a place

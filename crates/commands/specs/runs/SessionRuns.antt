@@ -1,17 +1,17 @@
 -- What a run leaves on its writers that keeps a session, goes on from one, or verifies one.
-use Rattle.std.specs.Prelude.{◌≡◌, ℕ, ◌+◌, ◌⊎◌, Bool, is_some, IsTrue, List, [], Result, Ok, Err, map, length, codes, if◌then◌else◌}
+use Rattle.std.specs.Prelude.{◌≡◌, ℕ, ◌+◌, ◌⊎◌, Bool, true, false, is_some, IsTrue, List, Result, Ok, Err, map, length, codes, if◌then◌else◌}
 use Rattle.sabr_model.specs.Plan.{ContactPlan, TabledPlan}
 use Rattle.sabr_model.specs.Arrival.{RouteRequest}
 use Rattle.sabr_model.specs.Listing.{page_of}
 use Rattle.sabr_model.specs.Record.{record_of}
-use Rattle.sabr_model.specs.Devices.{Input, Output, Written, WrittenAndFlushed, WrittenInPart}
+use Rattle.sabr_model.specs.Devices.{Input, Output, WrittenAndFlushed, WrittenInPart}
 use Rattle.sabr_plan.specs.declared.fault.PlanFault.{PlanFault}
 use Rattle.sabr_frontier.specs.State.{State}
 use Rattle.sabr_frontier.specs.Session.{Seen}
 use Rattle.sabr_frontier.specs.Listing.{state_at, steps, next_route}
 use Rattle.sabr_session.specs.ReportText.{report_text}
 use Rattle.sabr_plan.specs.Canonical.{digest_of}
-use Rattle.sabr_session.specs.SessionText.{text_of}
+use Rattle.sabr_session.specs.SessionText.{text_of, HasText}
 use Rattle.sabr_session.specs.SessionGiven.{ReadsSession}
 use Rattle.sabr_session.specs.Verifying.{VerifiesText}
 use Rattle.sabr_session.specs.declared.session_fault.SessionFault.{SessionFault}
@@ -28,22 +28,28 @@ report_after p r given page = report_text (map (record_of p r) page.0) (given + 
 abbrev pub next_report : ContactPlan → RouteRequest → State → ℕ → List ℕ
 next_report p r s count = report_after p r s.emitted (steps p r count s)
 
--- the text of a state if it is to be kept, and none if it isn't
-abbrev pub kept_text : Bool → ContactPlan → RouteRequest → State → List ℕ
-kept_text keep p r s = if keep then text_of (digest_of p) r s else []
+-- the text of a request and a state over a plan
+abbrev pub text_over : ContactPlan → RouteRequest × State → List ℕ
+text_over p x = text_of (digest_of p) x.0 x.1
 
--- what a page leaves on `out` and on the session's writer: both texts, whole and flushed; or, if one of them failed,
--- a beginning of the report and no session, or the report, whole and flushed, and a beginning of the session; or nothing
--- if memory was refused
-abbrev pub WritesPage : Bool → List ℕ → List ℕ → Result (Unit {0}) Failure → Output → Output → Output → Output → Type 0
-WritesPage keep report text (Ok _) old new old₁ new₁ =
-    WrittenAndFlushed old report new × Written old₁ text new₁ × (IsTrue keep → IsTrue new₁.flushed)
-WritesPage keep report text (Err failure.Write) old new old₁ new₁ =
+-- what a page leaves on the session's writer: if the session after it is kept, it has a text, and that was taken, whole
+-- and flushed; if it isn't kept, the writer is as it was
+abbrev pub LeavesSession : Bool → ContactPlan → RouteRequest × State → Output → Output → Type 0
+LeavesSession true p x old new = HasText x.1 × WrittenAndFlushed old (text_over p x) new
+LeavesSession false p x old new = new ≡ old
+
+-- what a page over a plan leaves on `out` and on the session's writer: the report, whole and flushed, and the session
+-- after it; or, if one of them failed, a beginning of the report and no session, or the report, whole and flushed, and
+-- a beginning of the session; or nothing if memory was refused
+abbrev pub WritesPage : Bool → ContactPlan → List ℕ → RouteRequest × State → Result (Unit {0}) Failure → Output → Output → Output → Output → Type 0
+WritesPage keep p report x (Ok _) old new old₁ new₁ =
+    WrittenAndFlushed old report new × LeavesSession keep p x old₁ new₁
+WritesPage keep p report x (Err failure.Write) old new old₁ new₁ =
     (WrittenInPart old report new × (new₁ ≡ old₁))
-    ⊎ (IsTrue keep × WrittenAndFlushed old report new × WrittenInPart old₁ text new₁)
-WritesPage keep report text (Err failure.NoMemory) old new old₁ new₁ =
+    ⊎ (IsTrue keep × WrittenAndFlushed old report new × WrittenInPart old₁ (text_over p x) new₁)
+WritesPage keep p report x (Err failure.NoMemory) old new old₁ new₁ =
     (new ≡ old) × (new₁ ≡ old₁)
-WritesPage keep report text (Err _) old new old₁ new₁ = ⊥
+WritesPage keep p report x (Err _) old new old₁ new₁ = ⊥
 
 -- what a first run leaves over what reading gave: over a plan the report of the first page and the session of the place
 -- that it reaches; nothing if the plan was refused
@@ -51,7 +57,7 @@ abbrev pub WritesFirstPage : Result TabledPlan PlanFault → RouteRequest → Bo
 WritesFirstPage (Err fault) r keep count end old new old₁ new₁ =
     (end ≡ Err (failure_of_plan fault)) × (new ≡ old) × (new₁ ≡ old₁)
 WritesFirstPage (Ok p) r keep count end old new old₁ new₁ =
-    WritesPage keep (first_report p.plan r count) (kept_text keep p.plan r (state_at p.plan r (length (page_of p.plan r 0 count)))) end old new old₁ new₁
+    WritesPage keep p.plan (first_report p.plan r count) (r, state_at p.plan r (length (page_of p.plan r 0 count))) end old new old₁ new₁
 
 -- the request and the state of an old session
 abbrev pub place_of : Result Seen SessionFault → Result (RouteRequest × State) SessionFault
@@ -72,7 +78,7 @@ WritesNextPage (Err fault) session keep count end old new old₁ new₁ =
 WritesNextPage (Ok p) (Err fault) keep count end old new old₁ new₁ =
     (end ≡ Err (failure_of_session fault)) × (new ≡ old) × (new₁ ≡ old₁)
 WritesNextPage (Ok p) (Ok s) keep count end old new old₁ new₁ =
-    WritesPage keep (next_report p.plan s.0 s.1 count) (kept_text keep p.plan s.0 (steps p.plan s.0 count s.1).1) end old new old₁ new₁
+    WritesPage keep p.plan (next_report p.plan s.0 s.1 count) (s.0, (steps p.plan s.0 count s.1).1) end old new old₁ new₁
 
 -- what a page of a listing leaves: the report of its next steps, and the session of the state that they reach
 abbrev pub WritesPageOf : Seen → Bool → ℕ → Result (Unit {0}) Failure → Output → Output → Output → Output → Type 0

@@ -97,6 +97,7 @@ message_text (failure.Session fault) = session_message fault
 message_text failure.SessionRead = codes "cgrlist: session: read failed\n"
 message_text failure.Write = codes "cgrlist: write failed\n"
 message_text failure.NoMemory = codes "cgrlist: no memory\n"
+message_text failure.NotUtf8 = codes "cgrlist: a word of the command line is not UTF-8\n"
 
 -- the status that a failure ends with
 abbrev pub status_of : Failure → Status
@@ -112,6 +113,7 @@ status_of (failure.Session fault) = status.Session
 status_of failure.SessionRead = status.Io
 status_of failure.Write = status.Io
 status_of failure.NoMemory = status.Memory
+status_of failure.NotUtf8 = status.Usage
 
 -- the program's exit status
 abbrev pub number_of : Status → ℕ

@@ -5,7 +5,7 @@ ghost use Rattle.sabr_model.specs.Devices.{WritesText};
 ghost use Rattle.sabr_plan.specs.Canonical.{digest_of};
 ghost use Rattle.sabr_frontier.specs.Listing.{most_routes};
 ghost use Rattle.sabr_session.specs.ReportText.{HasSpelledTimes, report_text};
-ghost use Rattle.sabr_session.specs.SessionText.{text_of_session};
+ghost use Rattle.sabr_session.specs.SessionText.{text_of_session, HasText};
 ghost use Rattle.commands.specs.runs.SessionRuns.{WritesPageOf};
 
 use crate::failure::Failure;
@@ -53,6 +53,7 @@ fn send_session<S: Write, B: BestOf<A>, A: Allocator + Copy>(
     session: &mut S,
 ) -> Result<(), WriteFault>
     requires { digest.now ≡ digest_of listing.now.plan.plan }
+    ensures there { HasText listing.now.state }
     ensures text { WritesText (S.output session.old) (text_of_session listing.now) result (S.output session.new) }
     ensures flushed { IfOk result (λ _. IsTrue (S.output session.new).flushed) }
 {

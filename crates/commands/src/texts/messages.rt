@@ -119,6 +119,9 @@ fn write_message<W: Write>(writer: &mut W, failure: Failure) -> Result<(), Write
         Failure::SessionRead => write_text(writer, b"cgrlist: session: read failed\n"),
         Failure::Write => write_text(writer, b"cgrlist: write failed\n"),
         Failure::NoMemory => write_text(writer, b"cgrlist: no memory\n"),
+        Failure::NotUtf8 => {
+            write_text(writer, b"cgrlist: a word of the command line is not UTF-8\n")
+        }
     }
 }
 

@@ -3,7 +3,6 @@ use Rattle.std.specs.Prelude.{All}
 use Rattle.sabr_model.specs.Plan.{TabledPlan, IsPlan}
 use Rattle.sabr_model.specs.Asking.{IsRequest}
 use Rattle.sabr_session.specs.ReportText.{HasSpelledTimes}
-use Rattle.sabr_model.proofs.WrittenTexts.{Written-nil}
 use Rattle.commands.proofs.TextLemmas.SpelledTimes.{records_spelled}
 use Rattle.commands.proofs.RunLemmas.PageTexts.{report_of_page, text_of_page, report_failed, session_failed}
 use Rattle.commands.proofs.runs.pages.write_page.Goals as goal
@@ -20,14 +19,7 @@ pub returns-in_err-send_report : goal.returns-in_err-send_report
 returns-in_err-send_report g c =
     let paged = c.in_ok-routes.ensures {u = tt} in
     let report = report_of_page c.args.listing c.page.new.self c.args.count _ _ _ (c.as_slice.ensures.value ∙ paged.routes) c.emitted-first_rank.ensures.count c.more.ensures paged.plan paged.request paged.state in
-    report_failed _ _ _ _ _ _ _ c.from_residual-in_err-send_report.ensures.1 (rw report at (c.in_err-send_report.ensures).text)
-
-pub returns-in_default : goal.returns-in_default
-returns-in_default g c =
-    let paged = c.in_ok-routes.ensures {u = tt} in
-    let report = report_of_page c.args.listing c.page.new.self c.args.count _ _ _ (c.as_slice.ensures.value ∙ paged.routes) c.emitted-first_rank.ensures.count c.more.ensures paged.plan paged.request paged.state in
-    let sent = c.in_ok-send_report.ensures in
-    rw c.in_default.is ((rw report at sent.text, sent.flushed), Written-nil (g.S.Write.output c.args.session.now), λ kept. absurd cc)
+    report_failed _ _ _ _ _ _ _ _ c.from_residual-in_err-send_report.ensures.1 (rw report at (c.in_err-send_report.ensures).text)
 
 pub returns-in_err-send_session : goal.returns-in_err-send_session
 returns-in_err-send_session g c =
@@ -36,4 +28,4 @@ returns-in_err-send_session g c =
     let sent = c.in_ok-send_report.ensures in
     let text = text_of_page c.args.listing c.page.new.self c.args.count paged.plan paged.request paged.state in
     rw c.in-Some.is
-    (session_failed true _ _ _ _ _ _ _ c.from_residual-in_err-send_session.ensures.1 refl (rw report at sent.text, sent.flushed) (rw text at (c.in_err-send_session.ensures).text))
+    (session_failed true _ _ _ _ _ _ _ _ c.from_residual-in_err-send_session.ensures.1 refl (rw report at sent.text, sent.flushed) (rw text at (c.in_err-send_session.ensures).text))

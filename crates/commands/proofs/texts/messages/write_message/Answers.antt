@@ -26,3 +26,6 @@ returns-in-CannotMakeSession g c = rw c.in-CannotMakeSession.is c.write_text-in-
 
 pub returns-in-SessionRead : goal.returns-in-SessionRead
 returns-in-SessionRead g c = rw c.in-SessionRead.is c.write_text-in-SessionRead.ensures
+
+pub returns-in-NotUtf8 : goal.returns-in-NotUtf8
+returns-in-NotUtf8 g c = rw c.in-NotUtf8.is c.write_text-in-NotUtf8.ensures

@@ -1,0 +1,143 @@
+-- Runs in turn write the listing page by page.
+use Rattle.std.proofs.Common.{◌≡◌, ◌≢◌, ℕ, ◌+◌, true, List, [], ◌∷◌, ◌++◌, length, length-append, arith, refl, sym, ap, subst, ◌∙◌, ◌⊎◌, inl, inr, Some, Result, Ok, Err}
+use Rattle.std.proofs.lemmas.List.{append_cancel_left}
+use Rattle.sabr_model.specs.Devices.{Input, Output, Written}
+use Rattle.sabr_model.specs.Plan.{ContactPlan, TabledPlan, IsPlan}
+use Rattle.sabr_model.specs.Arrival.{RouteRequest}
+use Rattle.sabr_model.specs.Asking.{IsRequest}
+use Rattle.sabr_model.specs.Listing.{routes, page_of}
+use Rattle.sabr_plan.specs.Reading.{plan_of}
+use Rattle.sabr_plan.specs.PlanRead.{ReadsPlan}
+use Rattle.sabr_plan.specs.declared.fault.PlanFault.{PlanFault}
+use Rattle.sabr_plan.proofs.SpelledPlans.{plan_is}
+use Rattle.sabr_frontier.specs.Listing.{state_at}
+use Rattle.sabr_session.specs.SessionText.{session_text}
+use Rattle.commands.specs.declared.failure.Failure.{Failure}
+use Rattle.commands.specs.declared.failure.Failure.TheVariants as failure
+use Rattle.commands.specs.declared.status.Status.TheVariants as status
+use Rattle.commands.specs.texts.Messages.{status_of}
+use Rattle.commands.specs.runs.Runs.{status_at}
+use Rattle.commands.specs.runs.SessionRuns.{ReadsOldSession, WritesFirstPage, WritesNextPage, WritesPage, place_of}
+use Rattle.commands.specs.runs.EveryRun.{IsAt, from_text}
+use Rattle.commands.specs.runs.NextPage.{place_after, report_from, WritesPageFrom, GoesOnFrom}
+use Rattle.commands.specs.runs.RunsInTurn.{Run, Takes, IsDone, IsFirst, IsNext, AreNext, given_of, IsPage, ArePages, RunsInTurn}
+use Rattle.commands.proofs.RunLemmas.RunsFollow.{next_within, pages_joined}
+use Rattle.commands.proofs.RunLemmas.SessionPages.{none_before, first_from}
+use Rattle.commands.proofs.RunLemmas.NextPages.{none_more, place_kept, next_goes_on}
+
+-- no failure ends as done
+never_done : (f : Failure) → status_of f ≢ status.Done
+never_done (failure.BadValue name) e = cc
+never_done failure.SameNode e = cc
+never_done failure.BadAvoid e = cc
+never_done failure.CannotOpenPlan e = cc
+never_done failure.CannotOpenSession e = cc
+never_done failure.CannotMakeSession e = cc
+never_done (failure.PlanLine fault) e = cc
+never_done failure.PlanRead e = cc
+never_done (failure.Session fault) e = cc
+never_done failure.SessionRead e = cc
+never_done failure.Write e = cc
+never_done failure.NoMemory e = cc
+never_done failure.NotUtf8 e = cc
+
+-- a writer that knows its bytes took the text that was written
+taken : (old : Output) (text bytes : List ℕ) (new : Output) → Written old text new → Takes old bytes new → bytes ≡ text
+taken old text bytes new written (before, was, is) = append_cancel_left before bytes text (rw (was, is) at written.0)
+
+-- of a reader that has the text of a plan, that plan is read
+plan_read : (plan : List ℕ) (p : ContactPlan) (reader : Input) (t : TabledPlan) (reader₁ : Input) → plan_of plan true ≡ Ok p → reader.remaining ≡ Some plan → ReadsPlan reader (Ok t) reader₁ → t.plan ≡ p
+plan_read plan p reader t reader₁ spelled has h = elim h.told [
+  | inl (end, fine, answer) ↦
+      let all = none_more plan h.given reader₁.remaining (rw has at h.consumed) end in
+      let told : plan_of plan true ≡ Ok t.plan = subst (λ b. plan_of b true ≡ Ok t.plan) all answer in
+      cc
+  | inr (inl broken) ↦ absurd broken
+  | inr (inr refused) ↦ absurd refused
+]
+
+module _ (plan : List ℕ) (p : ContactPlan) (r : RouteRequest) (spelled : plan_of plan true ≡ Ok p) (accepted : IsRequest r) where
+  good : IsPlan p
+  good = plan_is plan true p spelled
+
+  -- a run that is done wrote the page from place i on
+  abbrev IsPageFrom : ContactPlan → ℕ → Run → Type 0
+  IsPageFrom q i run =
+      (run.report ≡ report_from q r i run.count) × (run.text ≡ session_text q r (place_after q r i run.count)) × IsAt q r (place_after q r i run.count) (from_text (session_text q r (place_after q r i run.count)))
+
+  page_from : (q : ContactPlan) (i : ℕ) (run : Run) (x : IsDone plan run) → (end : Result (Unit {0}) Failure) → status_at end ≡ status.Done
+      → WritesPageFrom true q r i run.count end x.out x.out₁ x.session x.session₁ → IsPageFrom q i run
+  page_from q i run x (Err f) done w = absurd (never_done f done)
+  page_from q i run x (Ok u) done (page, keeps) =
+      (taken x.out _ run.report x.out₁ page.0.0 x.takes_report, taken x.session _ run.text x.session₁ page.1.1.0 x.takes_text, keeps refl)
+
+  -- the first run
+  first_page : (run : Run) (x : IsDone plan run) (planned : Result TabledPlan PlanFault) → ReadsPlan x.reader planned x.reader₁
+      → WritesFirstPage planned r true run.count x.end x.out x.out₁ x.session x.session₁ → IsPageFrom p 0 run
+  first_page run x (Err fault) reads w = absurd (never_done _ (sym (ap status_at w.0) ∙ x.done))
+  first_page run x (Ok t) reads w =
+      let e = plan_read plan p x.reader t x.reader₁ spelled x.has reads in
+      let q = t.plan in
+      let within = next_within q r (subst IsPlan (sym e) good) accepted 0 run.count (omega arith) in
+      let reported = subst (λ report. WritesPage true q report (r, state_at q r (length (page_of q r 0 run.count))) x.end x.out x.out₁ x.session x.session₁) (first_from q r run.count) w in
+      let page = subst (λ n. WritesPage true q (report_from q r 0 run.count) (r, state_at q r n) x.end x.out x.out₁ x.session x.session₁) (sym (none_before (length (page_of q r 0 run.count)))) reported in
+      let from = page_from q 0 run x x.end x.done (page, place_kept q r (place_after q r 0 run.count) accepted within true _ x.end x.out x.out₁ x.session x.session₁ page) in
+      subst (λ q. IsPageFrom q 0 run) e from
+
+  -- a next run over the text of place i
+  text_goes_on : (t : TabledPlan) (i : ℕ) (text : List ℕ) → IsPlan t.plan → IsAt t.plan r i (from_text text) → GoesOnFrom t r i text
+  text_goes_on t i text rules (is, of_request, of_place) =
+      let same : ◌≡◌ {A = RouteRequest × ℕ} (is.request, is.place) (r, i) = λ j. (of_request j, of_place j) in
+      subst (λ (w : RouteRequest × ℕ). GoesOnFrom t w.0 w.1 text) same (next_goes_on t text rules is)
+
+  next_page : (i : ℕ) (text : List ℕ) (run : Run) (x : IsNext plan text run) (planned : Result TabledPlan PlanFault) → x.is_done.planned ≡ planned
+      → IsAt p r i (from_text text) → IsPageFrom p i run
+  next_page i text run x (Err fault) is at =
+      let d = x.is_done in
+      let w = subst (λ q. WritesNextPage q (place_of x.told) true run.count d.end d.out d.out₁ d.session d.session₁) is x.writes in
+      absurd (never_done _ (sym (ap status_at w.0) ∙ d.done))
+  next_page i text run x (Ok t) is at =
+      let d = x.is_done in
+      let e = plan_read plan p d.reader t d.reader₁ spelled d.has (subst (λ q. ReadsPlan d.reader q d.reader₁) is d.reads) in
+      let goes_on = text_goes_on t i text (subst IsPlan (sym e) good) (subst (λ q. IsAt q r i (from_text text)) (sym e) at) in
+      let left = goes_on x.reader x.told x.reader₁ x.has (subst (λ q. ReadsOldSession q x.reader x.told x.reader₁) is x.reads)
+        true run.count d.end d.out d.out₁ d.session d.session₁
+        (subst (λ q. WritesNextPage q (place_of x.told) true run.count d.end d.out d.out₁ d.session d.session₁) is x.writes) in
+      let from : IsPageFrom t.plan i run = elim left [
+        | inl w ↦ page_from t.plan i run d d.end d.done w
+        | inr w ↦ absurd (never_done failure.SessionRead (sym (ap status_at w.1) ∙ d.done))
+      ]
+      in
+      subst (λ q. IsPageFrom q i run) e from
+
+  -- the place after pages that were asked for so many routes, and then one more
+  place_on : (asked count : ℕ) → place_after p r (given_of p r asked) count ≡ given_of p r (asked + count)
+  place_on asked count =
+      let page = page_of p r (given_of p r asked) count in
+      let joined : page_of p r 0 asked ++ page ≡ page_of p r 0 (asked + count) =
+      subst (λ n. page_of p r 0 asked ++ page_of p r n count ≡ page_of p r 0 (asked + count)) (none_before (given_of p r asked)) (pages_joined p r good accepted 0 asked count) in
+      sym (length-append (page_of p r 0 asked) page) ∙ ap length joined
+
+  is_page : (asked : ℕ) (run : Run) → IsPageFrom p (given_of p r asked) run → IsPage p r asked run
+  is_page asked run (report, text, there) =
+      let to = place_on asked run.count in
+      record {
+        report = report;
+        text = text ∙ ap (session_text p r) to;
+        there = subst (λ n. IsAt p r n (from_text run.text)) to (subst (λ b. IsAt p r (place_after p r (given_of p r asked) run.count) (from_text b)) (sym text) there);
+      }
+
+  pages_on : (asked : ℕ) (text : List ℕ) (runs : List Run) → IsAt p r (given_of p r asked) (from_text text) → AreNext plan text runs → ArePages p r asked runs
+  pages_on asked text [] at are = tt
+  pages_on asked text (run ∷ runs) at (next, others) =
+      let page = is_page asked run (next_page (given_of p r asked) text run next next.is_done.planned refl at) in
+      (page, pages_on (asked + run.count) run.text runs page.there others)
+
+  all_pages : (first : Run) (runs : List Run) → IsFirst plan r first → AreNext plan first.text runs → ArePages p r 0 (first ∷ runs)
+  all_pages first runs (x, writes) others =
+      let page = is_page 0 first (first_page first x x.planned x.reads writes) in
+      (page, pages_on (0 + first.count) first.text runs page.there others)
+
+-- over the text of a plan, runs in turn write its listing page by page
+pub runs_in_turn : RunsInTurn
+runs_in_turn plan p r first runs spelled accepted is others = all_pages plan p r spelled accepted first runs is others
