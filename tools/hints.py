@@ -1,5 +1,7 @@
 """Hints on standard error, for what a planner may have mistyped. They change no answer and no status."""
 
+import shlex
+
 from contact_plan import FILE_STATUS, Refused, tell
 
 
@@ -23,11 +25,11 @@ def of_bytes(path):
     with open(path, "rb") as file:
         lines = file.read().split(b"\n")
     if lines[0].startswith(b"\xef\xbb\xbf"):
-        yield rf"plan line 1 begins with a byte order mark; sed -i '1s/^\xEF\xBB\xBF//' {path} takes it off"
+        yield rf"plan line 1 begins with a byte order mark; sed -i '1s/^\xEF\xBB\xBF//' {shlex.quote(path)} takes it off"
     ends = [place for place, line in enumerate(lines, 1) if line.endswith(b"\r") and not line.startswith(b"#")]
     if ends:
-        lines = f"plan line {ends[0]}" + (f" and {len(ends) - 1} more" if ends[1:] else "")
-        yield rf"{lines} ended by CR and LF; sed -i 's/\r$//' {path} takes the CR off"
+        more = f" and {len(ends) - 1} more lines end" if ends[1:] else " ends"
+        yield rf"plan line {ends[0]}{more} with CR and LF; sed -i 's/\r$//' {shlex.quote(path)} takes the CR off"
 
 
 class Hints:

@@ -97,7 +97,8 @@ class Asked:
         for word in ("from", "to", "via"):
             if getattr(self.words, word, None) is not None:
                 setattr(self.words, word, self.node(word, getattr(self.words, word)))
-        self.words.avoid = sorted(self.node("avoid", text) for text in (self.words.avoid or "").split(",") if text)
+        avoided = self.words.avoid.split(",") if self.words.avoid is not None else ()
+        self.words.avoid = sorted(self.node("avoid", text) for text in avoided)
 
     def node(self, word, text):
         """The node that a word's value says."""

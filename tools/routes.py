@@ -5,6 +5,7 @@ import os
 import re
 import shutil
 import subprocess
+import sys
 import threading
 from concurrent.futures import ThreadPoolExecutor
 from dataclasses import dataclass, replace
@@ -151,7 +152,8 @@ def _built(script):
     """The program that a clone's script runs, which takes a while to find that it is current."""
     ran = subprocess.run([script, "--version"], env=_WITHOUT_TRIAL, stdout=subprocess.DEVNULL, stderr=subprocess.PIPE)
     if ran.returncode == START_STATUS:
-        raise Refused(ran.stderr.decode(errors="replace").strip().replace("cgrlist: ", "", 1), START_STATUS)
+        sys.stderr.write(ran.stderr.decode(errors="replace"))
+        raise Refused(None, START_STATUS)
     return BUILT
 
 
