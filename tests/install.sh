@@ -98,6 +98,12 @@ l 777 usr/bin/cgrlist-timeline
 f 755 usr/bin/cgrlist
 f 644 usr/share/bash-completion/completions/cgrlist
 f 644 usr/share/cgrlist/contact_plan.py
+f 644 usr/share/cgrlist/hints.py
+f 644 usr/share/cgrlist/questions.py
+f 644 usr/share/cgrlist/report_forms.py
+f 644 usr/share/cgrlist/report_listing.py
+f 644 usr/share/cgrlist/report_requests.py
+f 644 usr/share/cgrlist/routes.py
 f 755 usr/share/cgrlist/from_ionrc
 f 755 usr/share/cgrlist/latest
 f 755 usr/share/cgrlist/report
