@@ -199,10 +199,10 @@ old there
 EOT
 call check --plan /dev/fd/77
 expect_given_up 'input that is not there' 'cannot read /dev/fd/77 for a trial'
-SLOW=30 call_aside stopped check
-await check "$room/trials"
-kill %%
-wait %%
+SLOW=30 call_aside stopped verify
+await verify "$room/trials"
+kill $!
+wait $!
 expect 'a trial that is stopped leaves nothing' '143 ' "$? $(ls "$room/tmp")$(cat "$room/stopped.said")"
 
 runs=$(runs)
@@ -249,8 +249,8 @@ new_clone
 : >"$room/told"
 UNTIL=never call_aside stopped --prove
 await 'low is proved' "$room/stopped.told"
-kill %%
-wait %%
+kill $!
+wait $!
 expect 'a build that is stopped says what it keeps' \
     '143 cgrlist: stopped; what is proved so far is kept, and the next --prove goes on from there' \
     "$? $(tail -n 1 "$room/stopped.told")"
