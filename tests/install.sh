@@ -155,6 +155,14 @@ expect 'uninstalling removes the folder of the tools' no "$([ -e at/usr/share/cg
 call --uninstall /usr
 expect 'nothing to uninstall is no failure' 0 "$status$said$told"
 
+# Where the path lacks the folder of commands, it says so.
+call_at() {
+    DESTDIR='' "$top/install" "$room/home/.local" 2>&1 >"$room/said"
+}
+expect 'the path lacks them' "install: the path lacks $room/home/.local/bin. Put this line at the end of ~/.profile, and log in again:
+export PATH=\"$room/home/.local/bin:\$PATH\"" "$(call_at)"
+expect 'the path has them' '' "$(PATH="$room/home/.local/bin:$PATH" call_at)"
+
 # ---- What fails ---------------------------------------------------------------------------------------------
 
 call --help
@@ -172,10 +180,17 @@ EOT
 touch at/opt
 LC_ALL=C call /opt
 expect 'a file in the place of PREFIX' '1 install: cannot create directory' "$status ${told%% \'*}"
-mkdir -p clone/crates
-cp "$top/install" clone
-expect 'nothing built' "1 install: the program is not built: $room/clone/cgrlist --version builds it" \
-    "$(DESTDIR=$room/none clone/install 2>told || echo "$? $(cat told)")"
+
+# A clone without a program, and then with one that is older than a source.
+mkdir -p clone/crates/{low/src,cgrlist/out}
+cp "$top/install" "$top/cgrlist" clone
+touch clone/crates.txt clone/crates/low/src/lib.rt
+touch -d '3 hours ago' clone/crates.txt clone/crates/low/src
+for lack in "isn't built yet" 'is older than crates/low/src/lib.rt'; do
+    expect "the program $lack" "1 install: the proved program $lack: run $room/clone/cgrlist --prove first" \
+        "$(DESTDIR=$room/none clone/install 2>told || echo "$? $(sed 's/ (.*//' told)")"
+    cp "$program" clone/crates/cgrlist/out && touch -d '2 hours ago' clone/crates/cgrlist/out/cgrlist
+done
 expect 'then nothing is installed' no "$([ -e none ] && echo yes || echo no)"
 
 finish install

@@ -14,7 +14,8 @@ missing_of() {
 }
 
 if command -v mandoc >/dev/null; then
-    expect 'mandoc has nothing to say' '' "$(mandoc -T lint docs/cgrlist.1 2>&1)"
+    # The version stands in .Os, where mandoc expects nothing in pages of a system itself.
+    expect 'mandoc has nothing to say' '' "$(mandoc -T lint docs/cgrlist.1 2>&1 | grep -v ' explicitly specified: Os ')"
 else
     echo 'manual: mandoc is left out, it is not here'
 fi
