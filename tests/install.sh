@@ -1,6 +1,6 @@
 #!/usr/bin/env bash
-# Tries `./install` into an empty folder, what it installs, and the completions against the program's own help. It needs
-# the program that this clone built. Its last line is 'N passed, M failed'.
+# Tries `./install` into an empty folder, what it installs, and the completions against the help of the program and of
+# the tools. It needs the program that this clone built. Its last line is 'N passed, M failed'.
 set -u
 cd "$(dirname "$0")/.."
 source tests/expect.sh
@@ -38,9 +38,10 @@ in_fish() {
     fish --no-config -c 'source $argv[1]; complete -C "$argv[2..]"' "$top/completions/cgrlist.fish" "$@" | cut -f 1
 }
 
-# words_in_table FILE COMMAND: the words of the command's line in a table of words, for a shell that isn't here.
+# words_in_table FILE COMMAND: the command's words in a table of words, for a shell that isn't here. A line of the table
+# goes on after a backslash.
 words_in_table() {
-    sed -nE "s/^ *(set -l )?$2 //p" "$1" | tr -d "'" | tr ' ' '\n'
+    sed -e ':again' -e '/\\$/ { N; s/ *\\\n */ /; b again; }' "$1" | sed -nE "s/^ *(set -l )?$2 //p" | tr -d '"' | tr ' ' '\n'
 }
 
 # words_offered SHELL [COMMAND]: what a shell offers after the program's name or a command's.
@@ -75,6 +76,40 @@ for shell in bash zsh fish; do
     for option in --from --to --at --margin-ppm --max-hops --avoid --count; do
         expect "$shell: nothing after $option" '' "$(cd "$room/files" && in_$shell cgrlist first $option '')"
     done
+done
+
+# options_of_help TOOL [VALUE]: the options that a tool's help lists; if a pattern is given, those with such a value.
+options_of_help() {
+    sed -nE "s/^  (-h, )?(--[a-z-]+)${2-.*}( .*)?$/\\2/p" "$room/$1.help" | sort
+}
+
+for tool in from_ionrc latest report timeline; do
+    COLUMNS=1000 tools/$tool --help >"$room/$tool.help"
+done
+for shell in bash zsh fish; do
+    for tool in from_ionrc latest report timeline; do
+        command=cgrlist-${tool/_/-}
+        [ -z "${table[$shell]-}" ] || expect "$shell: the words of $command, in its table" "$(options_of_help $tool)" \
+            "$(words_in_table "${table[$shell]}" "($tool|$command)" | sort)"
+        command -v $shell >/dev/null || continue
+        expect "$shell: the words of $command" "$(options_of_help $tool)" "$(in_$shell $command -- | sort)"
+        for option in $(options_of_help $tool ' ([A-Z]+|\{.*\}).*'); do
+            case $option in
+                --plan | --names | --program | --report | --requests | --explained) wanted='a plan.txt' ;;
+                --distinct) wanted='contacts entry nodes' ;;
+                --order) wanted='link route' ;;
+                *) wanted='' ;;
+            esac
+            expect "$shell: after $command $option" "$wanted" \
+                "$(cd "$room/files" && in_$shell $command $option '' | sort | paste -s -d ' ')"
+        done
+        for option in $(options_of_help $tool '( |$)( .*)?'); do
+            expect "$shell: $option of $command takes nothing" "$(options_of_help $tool)" \
+                "$(in_$shell $command $option -- | sort)"
+        done
+    done
+    ! command -v $shell >/dev/null || expect "$shell: files after cgrlist-from-ionrc" 'a plan.txt' \
+        "$(cd "$room/files" && in_$shell cgrlist-from-ionrc '')"
 done
 
 # ---- The installation ---------------------------------------------------------------------------------------

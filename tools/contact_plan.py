@@ -6,7 +6,7 @@ Each tool begins as follows, so that Python leaves no compiled module beside the
     sys.dont_write_bytecode = True
     import contact_plan
 
-and ends with `run_tool(NAME, tool)`. The module `routes` asks the program, and `questions` reads the words that the
+and ends with `run_tool(tool)`. The module `routes` asks the program, and `questions` reads the words that the
 tools share. None of them looks for routes or computes arrivals: the program does.
 """
 
@@ -279,11 +279,19 @@ class Words(argparse.ArgumentParser):
 
     def __init__(self, text):
         shape = argparse.RawDescriptionHelpFormatter
-        super().__init__(prog=os.path.basename(sys.argv[0]), description=text, formatter_class=shape, allow_abbrev=False)
+        text = with_commands(text) if Tool.name.startswith("cgrlist-") else text
+        super().__init__(prog=Tool.name, description=text, formatter_class=shape, allow_abbrev=False)
 
     def error(self, message):
         """Refuses the words."""
         raise Refused(f"{message}; see --help", WORDS_STATUS)
+
+
+def with_commands(text):
+    """A tool's text with the commands of installed tools, `cgrlist-report` for `tools/report`; columns stay."""
+    # A column begins after two spaces or more, and there are two more for the two letters that a command is longer.
+    of_line = re.compile(r"tools/(\w+)((?:(?!  ).)*)(?:  (?=  ))?")
+    return of_line.sub(lambda it: f"cgrlist-{it[1].replace('_', '-')}{it[2]}", text)
 
 
 def lines_of(path):
@@ -351,9 +359,8 @@ def _end(number, _):
     raise Ended(number)
 
 
-def run_tool(name, tool):
+def run_tool(tool):
     """Prints the text that a tool returns. If it is refused, says why and ends with that status."""
-    Tool.name = name
     signal.signal(signal.SIGPIPE, signal.SIG_DFL)
     for number in (signal.SIGINT, signal.SIGTERM):
         signal.signal(number, _end)
