@@ -3,7 +3,7 @@ use Rattle.std.specs.Prelude.{IfOk, IfNone}
 use Rattle.sabr_search.proofs.Prefixes.{prefix_facts}
 use Rattle.sabr_search.proofs.Law.{contacts_few}
 use Rattle.sabr_search.specs.FirstSteps.{AreFirstSteps, AreAround}
-use Rattle.sabr_search.proofs.Tabled.{of_request, around_of}
+use Rattle.sabr_search.proofs.Around.{of_request, around_of}
 use Rattle.sabr_search.proofs.search.Search.told_wide.Goals as goal
 
 pub way_within-requires-clause-most : goal.way_within-requires-clause-most
@@ -26,9 +26,6 @@ tell-requires-clause-many g c =
 
 pub shut_few-requires-clause-request : goal.shut_few-requires-clause-request
 shut_few-requires-clause-request g c = of_request c.args.asked.now.task.now c.args.asked.now.prefix.now c.requires.asked.behind
-
-pub way_within-requires-clause-request : goal.way_within-requires-clause-request
-way_within-requires-clause-request g c = rw c.with_shut-question.ensures c.in_ok-shut_near.ensures.request
 
 pub way_within-requires-clause-steps : goal.way_within-requires-clause-steps
 way_within-requires-clause-steps g c = λ n w b s. c.in_ok-whole.ensures.whole c.if-not-whole.false n w b s

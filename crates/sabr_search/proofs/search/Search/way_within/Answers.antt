@@ -1,7 +1,8 @@
+use Rattle.sabr_search.proofs.Around.{none_bounds}
 use Rattle.sabr_search.proofs.search.Search.way_within.Goals as goal
 
-pub exact_way-requires-clause-steps : goal.exact_way-requires-clause-steps
-exact_way-requires-clause-steps g c = λ n w b s. c.requires.steps n w b s
+pub run-requires-clause-bound : goal.run-requires-clause-bound
+run-requires-clause-bound g c = none_bounds c.args.task.now c.requires.task
 
-pub first_way-requires-clause-steps : goal.first_way-requires-clause-steps
-first_way-requires-clause-steps g c = λ n w b s. rw c.exact_way.ensures.first (c.requires.steps n w b s)
+pub run-requires-clause-steps : goal.run-requires-clause-steps
+run-requires-clause-steps g c = λ n w b s. rw c.deref.ensures.value (c.requires.steps n w b s)
