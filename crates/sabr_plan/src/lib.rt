@@ -5,6 +5,7 @@ mod canonical_text;
 mod command;
 mod fault;
 mod feed;
+mod known_day;
 mod number;
 mod operand;
 mod read;
