@@ -8,7 +8,7 @@ use Rattle.std.proofs.lemmas.List.Sums.{AllPass-from_list_all}
 use borrow.Author.Tests.{leb-true, le-leb, ltb-true, lt-ltb, eqb-true}
 use Rattle.sabr_plan.specs.Digits.{is_digit}
 use Rattle.sabr_plan.specs.Words.{is_blank, is_plain, is_comment, has_bytes, is_one_line, words_of}
-use Rattle.sabr_plan.specs.PlainWords.{is_graphic, is_graphic_word, is_plain_from_blank, IsAfterBlanks, IsAfterGap, IsFront, IsAhead, BeginsWithLine}
+use Rattle.sabr_plan.specs.PlainWords.{is_graphic, is_graphic_word, is_plain_from_blank, IsAfterBlanks, IsAfterGap, IsAtEnd, IsFront, IsAhead, BeginsWithLine}
 use Rattle.sabr_plan.proofs.FirstWords.{first_is, words_of-blank, words_of-nil}
 
 -- a graphic byte is no blank
@@ -118,16 +118,21 @@ pub record HasLine (words : List (List ℕ)) (text : List ℕ) : Type 0 where
   pub apart : 0 < length line → is_blank (get_or line 0 0) ≡ true
   pub has : words_of line ≡ words
 
+pub at_end : {text rest : List ℕ} → IsAfterBlanks text rest → rest ≡ 10 ∷ drop 1 rest → IsAtEnd text
+at_end {text} {rest} after lf = record { rest = drop 1 rest; after = record { blanks = after.blanks; parts = after.parts ∙ ap (λ r. after.blanks ++ r) lf; blank = after.blank } }
+
 -- blanks and an LF
-pub no_words : {text rest : List ℕ} → IsAfterBlanks text rest → rest ≡ 10 ∷ drop 1 rest → HasLine [] text
-no_words {text} {rest} after lf = record {
-  line = after.blanks;
-  rest = drop 1 rest;
-  parts = after.parts ∙ ap (λ r. after.blanks ++ r) lf;
-  plain = plain_blanks after.blanks after.blank;
-  apart = λ some. rw append-nil at (first_blank after.blanks [] some after.blank);
-  has = sym (ap words_of (append-nil after.blanks)) ∙ words_of-blanks after.blanks [] after.blank ∙ words_of-nil;
-}
+pub no_words : {text : List ℕ} → IsAtEnd text → HasLine [] text
+no_words {text} end =
+    let blanks = end.after.blanks in
+    record {
+      line = blanks;
+      rest = end.rest;
+      parts = end.after.parts;
+      plain = plain_blanks blanks end.after.blank;
+      apart = λ some. rw append-nil at (first_blank blanks [] some end.after.blank);
+      has = sym (ap words_of (append-nil blanks)) ∙ words_of-blanks blanks [] end.after.blank ∙ words_of-nil;
+    }
 
 -- one more word before them
 pub more_words : {Holds : List ℕ → Type 0} {text rest : List ℕ} {words : List (List ℕ)} (ahead : IsAhead Holds text rest) → HasLine words rest → HasLine (ahead.front.word ∷ words) text

@@ -30,6 +30,11 @@ pub record IsAfterGap (text rest : List ℕ) : Type 0 where
   pub some : IsTrue (has_bytes blanks)
   pub blank : IsTrue (list_all is_blank blanks)
 
+-- a text begins with blanks, if any, and an LF
+pub record IsAtEnd (text : List ℕ) : Type 0 where
+  pub rest : List ℕ
+  pub after : IsAfterBlanks text (10 ∷ rest)
+
 -- a text begins with a word for which this holds, and continues with the rest
 pub record IsFront (Holds : List ℕ → Type 0) (text rest : List ℕ) : Type 0 where
   pub word : List ℕ

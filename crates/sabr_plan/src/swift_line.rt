@@ -3,7 +3,7 @@
 ghost use Rattle.std.specs.Prelude.{◌≡◌, ◌≢◌, ◌≤◌, ℕ, List, Option, [], ◌∷◌, ◌++◌, Ok, Some, IfSome, IsTrue, IsFalse};
 ghost use Rattle.sabr_model.specs.Plan.{last_time};
 ghost use Rattle.sabr_plan.specs.Numbers.{number_within};
-ghost use Rattle.sabr_plan.specs.PlainWords.{IsAfterBlanks, IsAfterGap, IsFront, IsAhead, BeginsWithLine, AddsAhead};
+ghost use Rattle.sabr_plan.specs.PlainWords.{IsAfterBlanks, IsAfterGap, IsAtEnd, IsFront, IsAhead, BeginsWithLine, AddsAhead};
 ghost use Rattle.sabr_plan.specs.Operands.{time_at, greatest_value};
 ghost use Rattle.sabr_plan.specs.Commands.{line_command, addition_of, HasBounds};
 ghost use Rattle.sabr_plan.specs.Words.{is_one_line, words_of};
@@ -39,11 +39,37 @@ fn after_blanks(text: &[u8]) -> &[u8]
     ensures blanks { IsAfterBlanks text.now result.now }
     ensures ended { IsFalse (is_one_line result.now) }
 {
+    if text[0] > b' ' {
+        return text;
+    }
+    after_all_blanks(text)
+}
+
+/// The same, for a text that seldom has no blanks.
+#[cold]
+#[inline(never)]
+fn after_all_blanks(text: &[u8]) -> &[u8]
+    requires { IsFalse (is_one_line text.now) }
+    ensures blanks { IsAfterBlanks text.now result.now }
+    ensures ended { IsFalse (is_one_line result.now) }
+{
     let mut count = 0;
     while is_blank(text[count]) {
         count += 1;
     }
     &text[count..]
+}
+
+/// Returns true only if no word comes before the LF.
+#[inline(always)]
+fn has_no_word(text: &[u8]) -> bool
+    requires { IsFalse (is_one_line text.now) }
+    ensures { IsTrue result → IsAtEnd text.now }
+{
+    if text[0] == b'\n' {
+        return true;
+    }
+    after_all_blanks(text)[0] == b'\n'
 }
 
 /// Returns what comes after the blanks at the front of a text, if there is one.
@@ -154,7 +180,7 @@ fn operands_ahead(
     let (first, rest) = number_ahead(1, u64::MAX, rest)?;
     let (second, rest) = number_ahead(1, u64::MAX, rest)?;
     let (value, rest) = number_ahead(0, greatest_value(target), rest)?;
-    if after_blanks(rest)[0] != b'\n' {
+    if !has_no_word(rest) {
         return None;
     }
     Some(Addition {

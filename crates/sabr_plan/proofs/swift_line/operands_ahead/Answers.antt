@@ -1,5 +1,5 @@
 -- Five operands come one after another.
-use Rattle.std.proofs.Common.{◌≡◌, ℕ, List, [], ◌∷◌, Option, Ok, ap, refl, arith, ok_or, ◌∙◌}
+use Rattle.std.proofs.Common.{◌≡◌, ℕ, List, [], ◌∷◌, Option, Ok, ap, refl, arith, rules, ok_or, ◌∙◌}
 use Rattle.sabr_plan.specs.Operands.{time_at, node_of, value_of}
 use Rattle.sabr_plan.specs.Commands.{addition_of}
 use Rattle.sabr_plan.specs.declared.command.Addition.{Addition}
@@ -7,7 +7,6 @@ use Rattle.sabr_plan.specs.declared.command.Command.TheVariants.{Add}
 use Rattle.sabr_plan.specs.declared.command.Target.{Target}
 use Rattle.sabr_plan.specs.declared.fault.PlanKind.TheVariants.{BadNode, BadNumber}
 use Rattle.sabr_plan.proofs.PlainWords.{no_words, more_words, from_blank}
-use Rattle.sabr_plan.proofs.Lines.{starts_lf}
 use Rattle.sabr_plan.proofs.swift_line.operands_ahead.Goals as goal
 
 -- five words that are operands are an addition
@@ -21,9 +20,7 @@ returns c =
     let first = c.in_ok-first.ensures.word in
     let second = c.in_ok-second.ensures.word in
     let value = c.in_ok-value.ensures.word in
-    let after = c.after_blanks.ensures in
-    let lf = starts_lf c.after_blanks.result.now after.ended c.if-after_blanks-ne10.false in
-    let line = more_words start (more_words end (more_words first (more_words second (more_words value (no_words after.blanks lf))))) in
+    let line = more_words start (more_words end (more_words first (more_words second (more_words value (no_words (c.has_no_word.ensures (search rules))))))) in
     let greatest = c.greatest_value.ensures in
     record {
       value = record {
