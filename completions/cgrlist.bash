@@ -16,8 +16,8 @@ _cgrlist_words() {
         cgrlist-report) echo --plan --without --names --iso --program --from --to --at --margin-ppm --max-hops \
             --avoid --report --requests --count --by --via --distinct --look --hops --room --csv --json --help ;;
         cgrlist-timeline) echo --plan --without --names --iso --program --from --to --at --margin-ppm --max-hops \
-            --avoid --count --report --explained --between --used --links --nodes --order --text --list --columns \
-            --width --all --help ;;
+            --avoid --count --by --via --distinct --look --report --explained --between --used --links --nodes \
+            --order --text --list --columns --width --all --help ;;
     esac
 }
 

@@ -17,11 +17,11 @@ cat >"$room/names" <<'NAMES'
 22 relay, high
 NAMES
 
-# answered TOOL WORD..: what a tool prints, its messages and its status, without how far a slow one was.
+# answered TOOL WORD..: what a tool prints, its messages and its status.
 answered() {
     "tools/$1" --program "$program" "${@:2}" 2>"$room/told"
     local status=$?
-    grep -vE '^report: [0-9]+ (.* are (answered|explained)|.* looked at, the last .*)$' "$room/told"
+    cat "$room/told"
     [ $status = 0 ] || echo "status $status"
 }
 
@@ -325,24 +325,27 @@ expect 'enough are looked at' 'report: 1 routes are shown of 50 looked at; --loo
 expect 'through a node, and distinct' '1 4 more' "$(from_lander --at $day-00:45:00 --via 11 --distinct nodes --count 1 |
     awk '$1 ~ /^[0-9]+$/ { routes++; rank = $1 } $1 == "more" { print routes, rank, $1 }')"
 
-# It takes a while, and is interrupted: a run leaves no file.
+# A terminal is told how far a slow run is. A run that is ended leaves no file.
 cat >"$room/slow" <<STUB
 #!/bin/sh
 for last; do :; done
+: >"\$last"
 case \$1 in
-first) touch "\$last" && sleep 1.1 && echo '1 delivery $day-00:00:02 hops 2 entry 2 until $day-00:16:40 contacts 1 2' && echo more ;;
-next) exec sleep 9 ;;
+first) echo '1 delivery $day-00:00:02 hops 2 entry 2 until $day-00:16:40 contacts 1 2' && echo more && sleep 1.1 ;;
+next) : >"$room/next-begins"; [ -z "\$SLEEP" ] || exec sleep \$SLEEP; echo end ;;
 esac
 STUB
 chmod +x "$room/slow"
 mkdir "$room/tmp"
-TMPDIR=$room/tmp tools/report --program "$room/slow" --plan "$room/twelve.txt" --from 1 --to 3 --at $day-00:00:00 \
-    --by $day-01:00:00 2>"$room/progress" &
-while [ ! -s "$room/progress" ] && kill -0 $!; do sleep 0.1; done
+slow=(tools/report --program "$room/slow" --plan "$room/twelve.txt" --from 1 --to 3 --at $day-00:00:00 --by $day-01:00:00)
+expect 'how far it is' "report: 1 routes of 1 looked at, the last delivers at $day-00:00:02" \
+    "$(python3 -c 'import pty, sys; pty.spawn(sys.argv[1:])' "${slow[@]}" </dev/null | tr '\r' '\n' | grep -o 'report: .*')"
+rm "$room/next-begins"
+SLEEP=9 TMPDIR=$room/tmp "${slow[@]}" &
+until [ -e "$room/next-begins" ] || ! kill -0 $!; do sleep 0.1; done
 kill -TERM $!
 wait $! 2>/dev/null
-expect 'an interrupted run says how far it was' "143 report: 1 routes of 1 looked at, the last delivers at $day-00:00:02" \
-    "$? $(cat "$room/progress")"
+expect 'it is ended' 143 $?
 expect 'and leaves no file' '' "$(ls "$room/tmp")"
 
 # ---- Many requests ---------------------------------------------------------------------------------------------

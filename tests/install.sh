@@ -132,6 +132,10 @@ l 777 usr/bin/cgrlist-report
 l 777 usr/bin/cgrlist-timeline
 f 755 usr/bin/cgrlist
 f 644 usr/share/bash-completion/completions/cgrlist
+l 777 usr/share/bash-completion/completions/cgrlist-from-ionrc
+l 777 usr/share/bash-completion/completions/cgrlist-latest
+l 777 usr/share/bash-completion/completions/cgrlist-report
+l 777 usr/share/bash-completion/completions/cgrlist-timeline
 f 644 usr/share/cgrlist/contact_plan.py
 f 644 usr/share/cgrlist/hints.py
 f 644 usr/share/cgrlist/questions.py
@@ -139,12 +143,25 @@ f 644 usr/share/cgrlist/report_forms.py
 f 644 usr/share/cgrlist/report_listing.py
 f 644 usr/share/cgrlist/report_requests.py
 f 644 usr/share/cgrlist/routes.py
+f 644 usr/share/cgrlist/timeline_axis.py
+f 644 usr/share/cgrlist/timeline_layout.py
+f 644 usr/share/cgrlist/timeline_picture.py
+f 644 usr/share/cgrlist/timeline_scene.py
+f 644 usr/share/cgrlist/timeline_text.py
 f 755 usr/share/cgrlist/from_ionrc
 f 755 usr/share/cgrlist/latest
 f 755 usr/share/cgrlist/report
 f 755 usr/share/cgrlist/timeline
 f 644 usr/share/fish/vendor_completions.d/cgrlist.fish
+l 777 usr/share/fish/vendor_completions.d/cgrlist-from-ionrc.fish
+l 777 usr/share/fish/vendor_completions.d/cgrlist-latest.fish
+l 777 usr/share/fish/vendor_completions.d/cgrlist-report.fish
+l 777 usr/share/fish/vendor_completions.d/cgrlist-timeline.fish
 f 644 usr/share/man/man1/cgrlist.1
+f 644 usr/share/man/man1/cgrlist-from-ionrc.1
+f 644 usr/share/man/man1/cgrlist-latest.1
+f 644 usr/share/man/man1/cgrlist-report.1
+f 644 usr/share/man/man1/cgrlist-timeline.1
 f 644 usr/share/zsh/site-functions/_cgrlist'
 files=$(sort -k 3 <<<"$files")
 cd "$room"
@@ -155,6 +172,7 @@ for turn in 'the first time' again; do
     expect "each has its place and mode, $turn" "$files" "$(installed)"
 done
 expect 'folders are open to all' '' "$(find at -type d ! -perm 755)"
+expect 'each link leads to a file' '' "$(find -L at -type l)"
 
 # What is installed runs by its name alone, in another folder than the clone.
 cp "$top/examples/a.txt" .

@@ -201,6 +201,9 @@ minute=(2030/01/01-00:00:00 2030/01/01-00:01:00)
 tools/timeline --plan "$room/twenty.txt" --explained "$room/twenty-routes.txt" --between "${minute[@]}" >"$room/twenty.svg"
 expect 'twenty routes' '7 ticks, 21 bars, 40 hops, 20 waits' "$(tests/picture_faults "$room/twenty.svg" "${minute[@]}")"
 expect 'told apart' '20' "$(grep -o 'wait line[0-9]* dash[0-9]*" d="M-' "$room/twenty.svg" | sort -u | wc -l)"
+expect 'a long route is told without its middle' ' delivery .. 20 21 (before this span)' \
+    "$(tools/timeline --plan "$room/twenty.txt" --explained "$room/twenty-routes.txt" --width 316 \
+        --between 2030/01/01-00:01:00 2030/01/01-00:02:00 | grep -o ' delivery.*)' | tail -n 1)"
 ranks() {
     sed -n 's:.*class="rank".*>\([0-9]*\)</tspan></text>:\1:p' "$room/$1.svg" | sort -n | uniq -c | awk '{ print $1, $2 }'
 }
@@ -211,10 +214,12 @@ expect 'ranks at the hops of twenty' "$(seq 20 | sed 's/^/2 /')" "$(ranks twenty
 
 # The program is asked for the routes of a request.
 cat >"$room/program" <<STUB
-#!/bin/sh
+#!/usr/bin/env bash
 echo "\$*" >>"$room/asked"
+[[ \$* != *--session-out* ]] || touch "\${!#}"
 case \$* in
 first*) printf '%s\n' '1 delivery 2030/01/01-00:00:07 hops 1 entry 2 until 2030/01/01-00:01:00 contacts 1' more ;;
+next*) echo end ;;
 explain*) cat "$room/routes.txt" ;;
 esac
 STUB
@@ -230,6 +235,15 @@ explain ${request[*]:2} --contacts 1" "$(sed 's:explain --plan [^ ]*:explain:' "
 echo '4 delivery 2030/01/01-00:00:07 hops 1 entry 2 until 2030/01/01-00:01:00 contacts 1' >"$room/report.txt"
 expect 'the routes of a report' 'route 4: delivery 2030/01/01-00:00:07, contacts 1' \
     "$(tools/timeline "${request[@]}" --report "$room/report.txt" --program "$room/program" --text 2>"$room/hint" | tail -n 1)"
+# chosen WORD ..: the last line of the request's picture as text
+chosen() {
+    tools/timeline "${request[@]}" --program "$room/program" --text "$@" 2>"$room/hint" | tail -n 1
+}
+expect 'all routes by a time' 'route 1: delivery 2030/01/01-00:00:07, contacts 1' "$(chosen --by 2030-01-01T00:00:07Z)"
+expect 'no route by a time' 'no route' "$(chosen --by 2030-01-01T00:00:06Z)"
+expect 'no route through a node' 'no route' "$(chosen --count 1 --via 3)"
+expect 'distinct routes' 'route 1: delivery 2030/01/01-00:00:07, contacts 1' "$(chosen --count 5 --distinct nodes)"
+expect 'how many were looked at' 'timeline: 1 routes are shown of 1 looked at' "$(grep looked "$room/hint")"
 ends=(--count 1 --program "$room/ends")
 expect 'no route' 'no route' "$(tools/timeline "${request[@]}" "${ends[@]}" 2>"$room/hint" | grep -o 'no route')"
 expect 'no route, no link' 'no route' "$(tools/timeline "${request[@]}" "${ends[@]}" --used --text 2>"$room/hint")"
@@ -265,13 +279,13 @@ refused 2 "timeline: argument --between: no time of the years 1970 to 9998: 2030
 refused 2 "timeline: --between: the first time isn't before the second; see --help" \
     "${plan[@]}" --between "${day[1]}" "${day[0]}"
 for words in --used '--order route'; do
-    refused 2 'timeline: --used and --order route need routes: --count, --report or --explained; see --help' "${plan[@]}" $words
+    refused 2 'timeline: --used and --order route need routes: --count, --by, --report or --explained; see --help' "${plan[@]}" $words
 done
 refused 2 'timeline: these words are missing: --from, --to, --at; see --help' "${plan[@]}" --count 1
 refused 2 'timeline: these words are missing: --to; see --help' \
     "${plan[@]}" --from 1 --at 2030-01-01 --report "$room/report.txt"
-refused 2 'timeline: these words are missing: --count; see --help' "${request[@]}"
-refused 2 'timeline: these words are missing: --from, --to, --at, --count; see --help' "${plan[@]}" --avoid 3
+refused 2 'timeline: these words are missing: --count or --by; see --help' "${request[@]}"
+refused 2 'timeline: these words are missing: --from, --to, --at, --count or --by; see --help' "${plan[@]}" --avoid 3
 refused 2 'timeline: --explained takes the place of a request: --from, --max-hops; see --help' \
     "${plan[@]}" --explained "$room/routes.txt" --from 1 --max-hops 2
 refused 2 "timeline: argument --links: no node's number: 1-2; see --help" "${plan[@]}" --links 1-2

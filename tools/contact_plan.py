@@ -27,9 +27,9 @@ from datetime import datetime, timedelta, timezone
 EPOCH = datetime(1970, 1, 1, tzinfo=timezone.utc)
 DAY = 86400
 LAST = 253370764799  # 9998/12/31-23:59:59, the last time that a plan or a word can name
-HERE = os.path.dirname(os.path.realpath(__file__))
-SCRIPT = os.path.join(os.path.dirname(HERE), "cgrlist")  # where a clone has the program's script
-BUILT = os.path.join(os.path.dirname(HERE), "crates/cgrlist/out/cgrlist")  # and the program that it runs if it is current
+CLONE = os.path.dirname(os.path.dirname(os.path.realpath(__file__)))  # the clone, if the tool stands in one
+SCRIPT = os.path.join(CLONE, "cgrlist")
+BUILT = os.path.join(CLONE, "crates/cgrlist/out/cgrlist")  # what the script runs if it is current
 
 WORDS_STATUS, PLAN_STATUS, FILE_STATUS, START_STATUS = 2, 3, 5, 125  # as the program and its script use them
 
@@ -301,17 +301,19 @@ def lines_of(path):
 
 
 class Progress:
-    """Tells on standard error how far a tool is, once it has taken a second. One within another tells nothing."""
+    """Tells on standard error how far a tool is: on a terminal once it has taken a second and then in one line, else in
+    a line every ten seconds. One within another tells nothing.
+    """
 
     def __init__(self):
         self._is_first = Tool.progress is None
         if self._is_first:
             Tool.progress = self
-        self._is_shown, self._due = False, time.monotonic() + 1
         self._is_terminal = sys.stderr is not None and sys.stderr.isatty()
+        self._is_shown, self._due = False, time.monotonic() + (1 if self._is_terminal else 10)
 
     def tell(self, text):
-        """Shows a text in place of the last one; if that isn't a terminal, a line at most every ten seconds."""
+        """Shows a text, on a terminal in place of the last one."""
         if not self._is_first or time.monotonic() < self._due:
             return
         self._due = time.monotonic() + (0.2 if self._is_terminal else 10)

@@ -25,7 +25,8 @@ def of_bytes(path):
     with open(path, "rb") as file:
         lines = file.read().split(b"\n")
     if lines[0].startswith(b"\xef\xbb\xbf"):
-        yield rf"plan line 1 begins with a byte order mark; sed -i '1s/^\xEF\xBB\xBF//' {shlex.quote(path)} takes it off"
+        take_off = rf"sed -i '1s/^\xEF\xBB\xBF//' {shlex.quote(path)}"
+        yield f"plan line 1 begins with a byte order mark; {take_off} takes it off"
     ends = [place for place, line in enumerate(lines, 1) if line.endswith(b"\r") and not line.startswith(b"#")]
     if ends:
         more = f" and {len(ends) - 1} more lines end" if ends[1:] else " ends"

@@ -131,7 +131,7 @@ class Asked:
 
     @property
     def plan(self):
-        """The plan without the contacts that are lost. Ask the program first: it says more of a plan that it refuses."""
+        """The plan without the contacts that are lost. Ask the program first: it says more if it refuses the plan."""
         return self._plan_and_lines[0]
 
     def tell_hints(self, requests=()):

@@ -32,7 +32,7 @@ class Form:
     with_room: bool
 
     def room(self, route):
-        """The most bytes that fit into a route by its contacts alone: the least of its hops; None if they aren't known."""
+        """The most bytes that fit into a route by its contacts alone; None if its hops aren't known."""
         return min(map(self.room_of, route.hops), default=None)
 
     def room_of(self, hop):

@@ -1,9 +1,15 @@
 """Which routes a report shows, with their nodes: the first ones, all by a time, those through a node, distinct ones."""
 
+import argparse
+import re
 from dataclasses import dataclass
 
-from contact_plan import Progress, Refused, time_text
+import questions
+from contact_plan import Progress, Refused, tell, time_text
 from routes import Route
+
+NUMBER = re.compile(r"[1-9]\d{0,17}", re.ASCII)
+LOOK = 100000  # so many routes are looked at for distinct ones if no other number is given
 
 
 @dataclass(frozen=True)
@@ -104,3 +110,58 @@ class _Chosen:
         """The rows, at the end."""
         progress.end()
         return Listing(self._rows, is_whole, self._looked)
+
+
+# ---- The words that choose routes -------------------------------------------------------------------------------
+
+
+def number_word(text):
+    """Reads a number above 0."""
+    if not NUMBER.fullmatch(text):
+        raise argparse.ArgumentTypeError(f"no number above 0: {text}")
+    return int(text)
+
+
+def add_choice_words(parser):
+    """Adds the words that choose routes to a parser of the command line, and returns the group of those for how many."""
+    number = parser.add_mutually_exclusive_group()
+    number.add_argument("--count", metavar="K", help="how many routes")
+    number.add_argument("--by", type=questions.time_word, metavar="T", help="all routes that deliver by T")
+    parser.add_argument("--via", metavar="N", help="only the routes through this node")
+    parser.add_argument("--distinct", choices=DISTINCT, help="only the first of routes that are alike in this")
+    parser.add_argument("--look", type=number_word, metavar="N", help="how many routes --distinct looks at")
+    return number
+
+
+def check_choice_words(parser, words):
+    """Refuses words that choose routes without those that they need."""
+    if words.look and not (words.distinct and words.count):
+        parser.error("--look needs --distinct and --count")
+    if words.distinct and words.count and not NUMBER.fullmatch(words.count):
+        parser.error(f"argument --count: no number above 0: {words.count}")
+
+
+def choice_of(words):
+    """Which routes the words choose."""
+    if not (words.distinct and words.count):
+        return Choice(words.by, words.via, words.distinct)
+    return Choice(None, words.via, words.distinct, int(words.count), words.look or LOOK)
+
+
+def pages_of(asked, request):
+    """The pages of the list of which routes are chosen: as many routes as are asked for, or all."""
+    if asked.words.count and not asked.words.distinct:
+        return [asked.program.first(request, asked.words.count)]
+    return asked.program.pages(request)
+
+
+def chosen(asked, pages):
+    """The routes of pages that the words choose."""
+    return choice_of(asked.words).listing(pages, lambda route: row_of(route, asked.plan))
+
+
+def tell_looked(listings, words):
+    """Tells how many routes are shown, and of how many; and if there may be more."""
+    shown, looked = sum(len(it.rows) for it in listings), sum(it.looked for it in listings)
+    is_cut = words.count and any(len(it.rows) < int(words.count) and not it.is_whole for it in listings)
+    tell(f"{shown} routes are shown of {looked} looked at{'; --look N looks at more' if is_cut else ''}")

@@ -1,5 +1,4 @@
-"""Routes as the program prints them, and the program itself: the tools ask it, and have no rules of routes of their own.
-"""
+"""Routes as the program prints them, and the program itself. The tools have no rules of routes of their own."""
 
 import os
 import re
@@ -143,7 +142,8 @@ def program_path(given=None):
     places = [SCRIPT, "cgrlist"] if given is None else [given]
     path = next(filter(None, map(shutil.which, places)), None)
     if not path:
-        looked = f"{SCRIPT} and for cgrlist in the path; --program names another place" if given is None else given or "''"
+        elsewhere = f"{SCRIPT} and for cgrlist in the path; --program names another place"
+        looked = elsewhere if given is None else given or "''"
         raise Refused(f"there is no program: looked for {looked}", START_STATUS)
     return _built(path) if path == SCRIPT and os.access(BUILT, os.X_OK) else path
 

@@ -44,23 +44,19 @@ class Turns:
         self.taken = defaultdict(list)  # the places, with first and last strips, by pieces of the width
 
     def shift(self, at, x, strips):
-        """How far right of its time at x the route at a place among all turns. It takes that place."""
+        """How far right of its time at x the route at a place among all turns. It takes that place if it is free."""
         for apart, farthest in TURNS:
             for step in range(int(farthest / apart) + 1):
                 if self.is_free(x + step * apart, strips, apart):
-                    return self.take(x, step * apart, strips)
-        return self.take(x, at * apart % farthest, strips)  # there are too many to keep each apart
+                    self.taken[(x + step * apart) // PIECE].append((x + step * apart, *strips))
+                    return step * apart
+        return at * apart % farthest  # there are too many to keep each apart
 
     def is_free(self, x, strips, apart):
         """Whether no turn in some of the strips is less than so far from x."""
         near = [turn for piece in (-1, 0, 1) for turn in self.taken[x // PIECE + piece]]
         near = [(first, last) for other, first, last in near if abs(x - other) < apart - 0.01]
         return not any(strips[0] <= last and first <= strips[1] for first, last in near)
-
-    def take(self, x, shift, strips):
-        """Takes a place."""
-        self.taken[(x + shift) // PIECE].append((x + shift, *strips))
-        return shift
 
 
 class Layout:
@@ -70,9 +66,9 @@ class Layout:
         self.scene, self.span = scene, scene.span
         longest = max((columns_of(scene.label(row.link, ARROW)) for row in scene.rows), default=0)
         self.left = max(round(longest * CHARACTER) + 16, 76)
-        plot = plot_width(self.left, width)
-        self.width = self.left + plot + SIDE
-        self.axis = Axis(self.span, plot, CHARACTER, 10) if self.span else None
+        self.plot = plot_width(self.left, width)
+        self.width = self.left + self.plot + SIDE
+        self.axis = Axis(self.span, self.plot, CHARACTER, 10) if self.span else None
         self.by_contact = scene.stages_by(lambda stage: stage.hop.contact)
         self.comes, self.goes = self.shifts()
         self.bottom, self.strips = HEAD, {}  # each strip under the number of each of its contacts

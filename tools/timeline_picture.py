@@ -212,7 +212,7 @@ class Picture:
         for at, route in enumerate(self.routes):
             signs = sample(at) if at in self.scene.drawn else ""
             rank = f'<tspan class="end{hue(at)}" font-weight="bold">{route.rank}</tspan>'
-            yield f"{signs}<text>{rank} {self.scene.told(at, 80)}</text>"
+            yield f"{signs}<text>{rank} {self.scene.told(at, self.layout.plot // 7)}</text>"
 
     def legend(self):
         """What bars and lines are, as far as they are drawn: each sign with its place."""

@@ -210,5 +210,7 @@ def columns_of(text):
 
 
 def shortened(text, most):
-    """A text, without its middle if it is longer than so many characters."""
-    return text if most is None or len(text) <= most else f"{text[: most // 2]} .. {text[-(most // 2) :]}"
+    """A text, without the words in its middle if it is longer than so many characters."""
+    if most is None or len(text) <= most:
+        return text
+    return f"{text[: most // 2].rsplit(' ', 1)[0]} .. {text[-(most // 2) :].split(' ', 1)[1]}"
