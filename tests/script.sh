@@ -9,6 +9,7 @@ source tests/expect.sh
 top=$PWD script=$PWD/cgrlist
 room=$(mktemp -d)
 trap 'rm -rf "$room"' EXIT
+unset CGRLIST_TRIAL
 
 # stub NAME: makes a command of the path from standard input.
 stub() {
