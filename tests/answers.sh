@@ -310,8 +310,12 @@ expect 'none by a time' '0  more' "$(counted --by $day-00:00:01)"
 expect 'the first by a time' '1 1 more' "$(counted --by $day-00:00:02)"
 expect 'all by a time, on two pages' '132 132 more' "$(counted --by $day-00:01:51)"
 expect 'all' '144 144 end' "$(counted --by 2030-01-01T00:01:52Z)"
-expect 'all by a time, of a report' '2 2 more' \
-    "$(cat "$room/first" "$room/next" | read_report --plan examples/a.txt --csv | tail -n +2 | awk -F, 'END { print NR - 1, $1 - 1, "more" }')"
+expect 'those of a report with no contact in common' "rank  delivery             hops  until                contacts  nodes
+   1  $day-00:00:15     2  $day-00:01:40  1 4       1 > 2 > 3
+   3  $day-00:01:30     1  $day-00:01:30  3         1 > 3
+end
+report: 2 routes are shown of 3 looked at" \
+    "$(cat "$room/first" "$room/next" | read_report --plan examples/a.txt --distinct contacts)"
 expect 'one with these nodes' "rank  delivery             hops  until                contacts  nodes
    1  $day-00:00:02     2  $day-00:16:40  1 2       1 > 2 > 3
 end
@@ -445,6 +449,9 @@ expect 'no light' "no contact of the plan has a light time, so there is no route
 expect 'no contact' 'the plan has no contacts' "$(hinted /dev/null --from 1 --to 3 --at 2030-01-01)"
 expect 'a hint of latest' 'latest: hint: node 9 is in no contact of the plan' \
     "$(answered latest --plan examples/a.txt --from 1 --to 9 --by 2030-01-02 | grep hint)"
+
+expect 'many hints' 'hint: and 2 more' "$(seq 101 112 | sed 's/$/ 1 2030-01-01/' |
+    answered report --plan examples/relay.txt --requests - --count 1 | grep -o 'hint: and.*')"
 
 # What the hints say takes the bytes off.
 sed 's/$/\r/' examples/a.txt >"$room/crlf plan.txt"

@@ -246,7 +246,10 @@ expect 'a file that is not there' "5 from_ionrc: $room/missing: No such file or 
 run_filter "$room"
 expect 'a folder' "5 from_ionrc: $room: Is a directory" "$status $(cat "$room/messages")"
 run_filter --reference +5 "$room/commands"
-expect 'a relative reference' '2 from_ionrc: --reference: no time: +5; see --help' "$status $(cat "$room/messages")"
+expect 'a relative reference' '2 from_ionrc: argument --reference: no time of the years 1970 to 9998: +5; see --help' \
+    "$status $(sed 's/ a time is .*;//' "$room/messages")"
+run_filter --reference 2030-01-01T00:00:01Z "$room/one"
+expect 'a reference as ISO 8601 has it' '# from one, relative times from 2030/01/01-00:00:01' "$(head -n 1 "$room/plan.txt")"
 run_filter
 expect 'no file' '2 from_ionrc: the following arguments are required: FILE; see --help' "$status $(cat "$room/messages")"
 run_filter --refer 2030/01/01-00:00:00 "$room/commands"

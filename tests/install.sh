@@ -187,7 +187,10 @@ run() {
 expect 'the program lists routes' '1 delivery 2030/01/01-00:00:15 hops 2 entry 2 until 2030/01/01-00:01:40 contacts 1 4
 more' "$(run cgrlist first "${request[@]}" --at 2030/01/01-00:00:00 --count 1)"
 for tool in timeline from-ionrc latest report; do
-    expect "help of $tool" 1 "$(run cgrlist-$tool --help | grep -c '^usage: ')"
+    expect "help of $tool names commands" '1 0' \
+        "$(run cgrlist-$tool --help | grep -c '^usage: cgrlist-') $(run cgrlist-$tool --help | grep -c tools/)"
+    expect "no words for $tool" "cgrlist-$tool: the following arguments are required: ; see --help" \
+        "$(run cgrlist-$tool 2>&1 | sed 's/: [A-Z-].*;/: ;/')"
 done
 expect 'timeline lists contacts' '1 2 3 4' "$(run cgrlist-timeline --plan a.txt --list | awk 'NR > 1 { print $1 }' | paste -s -d ' ')"
 expect 'timeline finds the program' 1 \

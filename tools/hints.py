@@ -4,11 +4,16 @@ import shlex
 
 from contact_plan import FILE_STATUS, Refused, tell
 
+MOST = 10  # so many hints are told
+
 
 def tell_all(texts):
-    """Tells each of some hints, once."""
-    for text in dict.fromkeys(texts):
+    """Tells each of some hints, once, and how many more there are."""
+    different = list(dict.fromkeys(texts))
+    for text in different[:MOST]:
         tell(f"hint: {text}")
+    if different[MOST:]:
+        tell(f"hint: and {len(different) - MOST} more")
 
 
 def check_file(path):
