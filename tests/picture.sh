@@ -118,6 +118,11 @@ expect 'a list with names, of a span' 'contact  from  to                start   
       4     1   2  2030/01/01-00:00:50  2030/01/01-00:01:40      -  A & B > basse station' \
     "$(tools/timeline "${plan[@]}" --list --names "$room/names.txt" --between 2030/01/01-00:01:00 2030/01/02-00:00:00)"
 
+expect 'a list without a lost contact, with times of ISO 8601' 'contact  from  to                 start                   end  light
+      1     1   2  2030-01-01T00:00:00Z  2030-01-01T00:01:00Z      7
+      4     1   2  2030-01-01T00:00:50Z  2030-01-01T00:01:40Z      -' \
+    "$(tools/timeline "${plan[@]}" --list --iso --without 3)"
+
 # 60 columns for 100 seconds; contacts 1 and 4 overlap.
 expect 'as text' '           2030/01/01
 UTC        00:00:00          00:00:30          00:01:00          00:01:30
