@@ -1,6 +1,6 @@
 //! The least route after a prefix, from layers made backward and picks, with its record.
 
-ghost use Rattle.std.specs.Prelude.{◌≡◌, ℕ, ◌+◌, ◌*◌, ◌-◌, ◌^◌, ◌≤◌, ◌<◌, IfOk, IfSome, IfNone, OnErr, IsTrue, length};
+ghost use Rattle.std.specs.Prelude.{ℕ, ◌+◌, ◌*◌, ◌-◌, ◌^◌, ◌≤◌, ◌<◌, IfOk, IfSome, IfNone, OnErr, length};
 ghost use Rattle.sabr_search.specs.Task.{IsTask, never, most_nodes};
 ghost use Rattle.sabr_search.specs.KeptAnswers.{IsFoundWay};
 ghost use Rattle.sabr_search.specs.Late.{AreArrivals, IsNoneSooner, HasWayAt, IsNoneSeen};

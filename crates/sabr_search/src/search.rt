@@ -1,15 +1,12 @@
 //! One search for the least way of a question.
 
-ghost use Rattle.std.specs.Prelude.{◌≡◌, ◌⊎◌, ℕ, ◌+◌, ◌-◌, ◌*◌, ◌^◌, ◌≤◌, ◌<◌, Some, OnOk, IfOk, IfSome, IfNone, IsTrue, length, slice_get};
-ghost use Rattle.sabr_search.specs.declared.pick.Standing.{Standing};
-ghost use Rattle.sabr_search.specs.Task.{IsTask, IsAsked, IsOfRequest, most_nodes, never};
-ghost use Rattle.sabr_search.specs.Steps.{degree};
+ghost use Rattle.std.specs.Prelude.{◌+◌, ◌-◌, ◌*◌, ◌^◌, ◌≤◌, ◌<◌, Some, IfOk, IfSome, IfNone, length};
+ghost use Rattle.sabr_search.specs.Task.{IsTask, IsAsked, most_nodes};
 ghost use Rattle.sabr_search.specs.Told.{hops_told, IsCut};
 ghost use Rattle.sabr_search.specs.KeptAnswers.{IsFoundWay};
 ghost use Rattle.sabr_search.specs.Answers.{IsAnswered};
 ghost use Rattle.sabr_search.specs.Late.{AreArrivals};
-ghost use Rattle.sabr_search.specs.Settling.{AreReal, IsFirstWay};
-ghost use Rattle.sabr_search.specs.FirstSteps.{tabled_of, AreFirstSteps, AreAround, IsNoneBefore};
+ghost use Rattle.sabr_search.specs.Settling.{IsFirstWay};
 
 use crate::answers::FoundWay;
 use crate::from_goal::Aim;
@@ -22,17 +19,12 @@ use crate::settling::{Forward, Settling};
 use crate::task::Task;
 use sabr_model::{NoMemory, Route};
 use std::alloc::Allocator;
-use std::mem;
 
 /// What a search keeps from call to call.
 #[derive(Drop)]
 pub struct Search<A: Allocator + Copy> {
     /// Where the first steps come to, and when.
-    pub first: Vec<Standing, A>,
-    /// Room for those of the next question.
-    next: Vec<Standing, A>,
-    /// Whether the first steps are those of a wide question about the same part.
-    pub is_around: bool,
+    first: Vec<Standing, A>,
     /// Nodes in order of arrival.
     settling: Settling<A>,
     /// Layers backward, and forward.
@@ -44,56 +36,35 @@ impl<A: Allocator + Copy> Search<A> {
     pub fn new(alloc: A) -> Search<A> {
         Search {
             first: Vec::new(alloc),
-            next: Vec::new(alloc),
-            is_around: false,
             settling: Settling::new(alloc),
             layers: Layers::new(alloc),
         }
     }
 
-    /// Returns the first delivery and the hops of a way with it, from where the first steps come to; no hops if no way
-    /// leads to the goal. No way comes to a node before its arrival.
-    fn first_way(&mut self, task: &Task<'_, A>, looks: &mut Looks) -> Result<Best, NoMemory>
+    /// Returns the first delivery and the hops of a way with it; no hops if no way leads to the goal. No way comes to a
+    /// node before its arrival. None if more than `most` looks might be needed.
+    fn first_way(
+        &mut self,
+        task: &Task<'_, A>,
+        looks: &mut Looks,
+        most: u64,
+    ) -> Result<Option<Best>, NoMemory>
         requires task { IsTask task.now }
-        requires inside { (k : ℕ) (s : Standing) → slice_get self.old.first.items k ≡ Some s → s.node < length task.now.table }
-        requires steps { AreFirstSteps task.now self.old.first.items }
-        requires real { AreReal task.now self.old.first.items }
-        requires few { looks.old.count ≤ 2 * length task.now.plan.contacts + degree task.now task.now.start }
-        ensures looks { looks.new.count ≤ 3 * length task.now.plan.contacts }
-        ensures first { IfOk result (IsFirstWay task.now) }
-        ensures arrivals { OnOk result (AreArrivals task.now self.new.settling.arrival.items) }
+        requires few { looks.old.count ≤ most }
+        requires most { most ≤ 2 ^ 62 }
+        ensures looks { looks.new.count ≤ most }
+        ensures counted { looks.new.count ≤ looks.old.count + length task.now.plan.contacts }
+        ensures none { IfOk result (λ o. IfNone o (most < looks.old.count + length task.now.plan.contacts)) }
+        ensures way { IfOk result (λ o. IfSome o (IsFirstWay task.now)) }
+        ensures arrivals { IfOk result (λ o. IfSome o (λ best. AreArrivals task.now self.new.settling.arrival.items)) }
     {
-        let most = task.three_passes();
-        let forward = Forward { task, late: &[] };
-        let found = self.settling.run(&forward, looks, &self.first, most)?;
-        let Some(best) = found else {
-            unreachable!();
-        };
-        Ok(best)
-    }
-
-    /// Gathers where the first steps of a question come to, and when. Those of a wide question about the same part are
-    /// used, if they are known.
-    pub fn gather_steps(&mut self, task: &Task<'_, A>, looks: &mut Looks) -> Result<(), NoMemory>
-        requires task { IsTask task.now }
-        requires around { IsTrue self.old.is_around → AreAround task.now self.old.first.items }
-        requires few { looks.old.count ≤ 2 * length task.now.plan.contacts }
-        ensures looks { looks.new.count ≤ looks.old.count + degree task.now task.now.start }
-        ensures inside { OnOk result ((k : ℕ) (s : Standing) → slice_get self.new.first.items k ≡ Some s → s.node < length task.now.table) }
-        ensures steps { OnOk result (AreFirstSteps task.now self.new.first.items) }
-        ensures real { OnOk result (AreReal task.now self.new.first.items) }
-    {
-        if self.is_around {
-            task.open_steps(&self.first, &mut self.next)?;
-            mem::swap(&mut self.first, &mut self.next);
-            return Ok(());
-        }
-        let most = task.three_passes();
         let whole = task.first_steps(looks, most, &mut self.first)?;
         if !whole {
-            unreachable!();
+            return Ok(None);
         }
-        Ok(())
+        let forward = Forward { task, late: &[] };
+        let found = self.settling.run(&forward, looks, &self.first, most)?;
+        Ok(found)
     }
 
     /// The least way of a question, with so many hops left, as far as `most` looks show it.
@@ -106,18 +77,12 @@ impl<A: Allocator + Copy> Search<A> {
     ) -> Result<Option<FoundWay<A>>, NoMemory>
         requires task { IsTask task.now }
         requires nodes { length task.now.table ≤ most_nodes }
-        requires inside { (k : ℕ) (s : Standing) → slice_get self.old.first.items k ≡ Some s → s.node < length task.now.table }
-        requires steps { AreFirstSteps task.now self.old.first.items }
-        requires real { AreReal task.now self.old.first.items }
         requires few { looks.old.count ≤ most }
         requires most { most ≤ 2 ^ 60 }
-        ensures first { self.new.first ≡ self.old.first }
-        ensures around { self.new.is_around ≡ self.old.is_around }
         ensures looks { looks.new.count ≤ most }
         ensures found { IfOk result (λ o. IfSome o (λ found. IsFoundWay task.now left found.numbers.items found.delivery)) }
     {
-        let forward = Forward { task, late: &[] };
-        let found = self.settling.run(&forward, looks, &self.first, most)?;
+        let found = self.first_way(task, looks, most)?;
         let Some(first) = found else {
             return Ok(None);
         };
@@ -147,17 +112,18 @@ impl<A: Allocator + Copy> Search<A> {
         looks: &mut Looks,
     ) -> Result<Option<Route<A>>, NoMemory>
         requires asked { IsAsked asked.now.task.now asked.now.prefix.now asked.now.max_hops }
-        requires inside { (k : ℕ) (s : Standing) → slice_get self.old.first.items k ≡ Some s → s.node < length asked.now.task.now.table }
-        requires steps { AreFirstSteps asked.now.task.now self.old.first.items }
-        requires real { AreReal asked.now.task.now self.old.first.items }
-        requires few { looks.old.count ≤ 2 * length asked.now.task.now.plan.contacts + degree asked.now.task.now asked.now.task.now.start }
+        requires few { looks.old.count ≤ 2 * length asked.now.task.now.plan.contacts }
         ensures answered { IfOk result (IsAnswered asked.now.task.now asked.now.prefix.now (asked.now.max_hops - length asked.now.prefix.now)) }
         ensures bound { looks.new.count ≤ (3 * length asked.now.task.now.table + 1) * length asked.now.task.now.plan.contacts }
         ensures counted { IfOk result (λ answer. hops_told answer ≤ looks.new.count) }
         ensures cut { IfOk result (IsCut asked.now.task.now.plan asked.now.max_hops asked.now.prefix.now looks.new.count) }
     {
         let task = asked.task;
-        let first = self.first_way(task, looks)?;
+        let most = task.three_passes();
+        let found = self.first_way(task, looks, most)?;
+        let Some(first) = found else {
+            unreachable!();
+        };
         if first.hops == 0 {
             return Ok(None);
         }

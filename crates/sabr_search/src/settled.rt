@@ -1,7 +1,6 @@
 //! The finder that settles nodes first, and then makes only the layers that the least route needs.
 
-ghost use Rattle.std.specs.Prelude.{◌≡◌, ◌⊎◌, ℕ, ◌≤◌, ◌<◌, ◌+◌, ◌-◌, ◌*◌, Some, IfOk, IfSome, IfNone, IsTrue, OnErr, length, slice_get};
-ghost use Rattle.sabr_search.specs.declared.pick.Standing.{Standing};
+ghost use Rattle.std.specs.Prelude.{◌≡◌, ◌≤◌, ◌<◌, ◌+◌, ◌-◌, ◌*◌, Some, IfOk, IfSome, IfNone, IsTrue, OnErr, length};
 ghost use Rattle.std.specs.List.Sorted.{IsStrictlyIncreasing};
 ghost use Rattle.sabr_model.specs.Route.{is_prefix};
 ghost use Rattle.sabr_model.specs.Table.{node_count};
@@ -10,8 +9,9 @@ ghost use Rattle.sabr_search.specs.Task.{IsTask, IsBehind, IsAsked, most_nodes};
 ghost use Rattle.sabr_search.specs.Told.{hops_told, IsCut};
 ghost use Rattle.sabr_search.specs.Kept.{IsKept};
 ghost use Rattle.sabr_search.specs.Answers.{IsAnswered};
-ghost use Rattle.sabr_search.specs.FirstSteps.{tabled_of, AreFirstSteps, AreAround};
+ghost use Rattle.sabr_search.specs.FirstSteps.{tabled_of};
 
+use crate::answers::{Near, breadth_of};
 use crate::best::BestOf;
 use crate::enter::enter;
 use crate::finger::rises;
@@ -35,6 +35,7 @@ impl<A: Allocator + Copy> Search<A> {
         kept: &mut Kept<A>,
         asked: &Question<'_, '_, '_, A>,
         looks: &mut Looks,
+        near: Option<Near>,
     ) -> Result<Option<Option<Route<A>>>, NoMemory>
         requires asked { IsAsked asked.now.task.now asked.now.prefix.now asked.now.max_hops }
         requires few { looks.old.count ≤ 2 * length asked.now.task.now.plan.contacts }
@@ -45,30 +46,23 @@ impl<A: Allocator + Copy> Search<A> {
         ensures told { IfOk result (λ o. IfSome o (IsAnswered asked.now.task.now asked.now.prefix.now (asked.now.max_hops - length asked.now.prefix.now))) }
         ensures looks { IfOk result (λ o. IfSome o (λ answer. looks.new.count ≤ 2 * length asked.now.task.now.plan.contacts + hops_told answer)) }
         ensures counted { IfOk result (λ o. IfSome o (λ answer. hops_told answer ≤ looks.new.count)) }
-        ensures around { IfOk result (λ o. IfNone o (IsTrue self.new.is_around → AreAround asked.now.task.now self.new.first.items)) }
     {
         let task = asked.task;
-        self.is_around = false;
-        if !kept.answers.takes_wide(task, asked.prefix) {
+        if !kept.answers.takes_wide(task, asked.prefix, near) {
             return Ok(None);
         }
         let most = task.two_passes();
         shut_few(&mut kept.wide, task)?;
-        kept.answers.shut_near(&mut kept.wide, task)?;
-        let breadth = kept.answers.breadth();
+        kept.answers.shut_near(&mut kept.wide, task, near)?;
         let left = asked.left();
         let question = task.with_shut(&kept.wide);
-        let whole = question.first_steps(looks, most, &mut self.first)?;
-        if !whole {
-            return Ok(None);
-        }
-        self.is_around = true;
         let found = self.way_within(&question, looks, most, left)?;
         let Some(way) = found else {
             return Ok(None);
         };
-        kept.answers.keep(&question, left, way, breadth);
-        kept.answers.tell(task, looks, most, asked.prefix, left)
+        kept.answers.keep(&question, left, way, breadth_of(near));
+        let told = kept.answers.tell(task, looks, most, asked.prefix, left)?;
+        Ok(told.answer)
     }
 
     /// The least route after the prefix: told by the answer to a wide question, or else by a search. The answer is kept.
@@ -77,6 +71,7 @@ impl<A: Allocator + Copy> Search<A> {
         kept: &mut Kept<A>,
         asked: &Question<'_, '_, '_, A>,
         looks: &mut Looks,
+        near: Option<Near>,
     ) -> Result<Option<Route<A>>, NoMemory>
         requires asked { IsAsked asked.now.task.now asked.now.prefix.now asked.now.max_hops }
         requires few { looks.old.count ≤ 2 * length asked.now.task.now.plan.contacts }
@@ -89,11 +84,10 @@ impl<A: Allocator + Copy> Search<A> {
     {
         let task = asked.task;
         let left = asked.left();
-        let wide = self.told_wide(kept, asked, looks)?;
+        let wide = self.told_wide(kept, asked, looks, near)?;
         if let Some(answer) = wide {
             return Ok(answer);
         }
-        self.gather_steps(task, looks)?;
         let answer = self.least_route(asked, looks)?;
         kept.answers.keep_after(task, asked.prefix, left, &answer);
         Ok(answer)
@@ -124,7 +118,9 @@ impl<A: Allocator + Copy> Search<A> {
         let most = task.two_passes();
         let left = max_hops as usize - prefix.len();
         let told = kept.answers.tell(task, looks, most, prefix, left)?;
-        if let Some(answer) = told {
+        let near = told.near;
+        let known = told.answer;
+        if let Some(answer) = known {
             return Ok(answer);
         }
         let asked = Question {
@@ -132,7 +128,7 @@ impl<A: Allocator + Copy> Search<A> {
             prefix,
             max_hops,
         };
-        self.least_searched(kept, &asked, looks)
+        self.least_searched(kept, &asked, looks, near)
     }
 }
 

@@ -267,9 +267,9 @@ impl<A: Allocator + Copy> Settling<A> {
         }
     }
 
-    /// Settles as many nodes as it takes to find the first delivery at the goal before the ceiling, from where the first
-    /// steps come to. Returns it and the hops of a way with it; no hops if no way leads there. No way
-    /// comes to a node before its arrival. Looks as in `settle_all`, and none as there.
+    /// Settles as many nodes as it takes to find the first delivery at the goal, from where the first steps come to.
+    /// Returns it and the hops of a way with it; no hops if no way leads there. No way comes to a node before its
+    /// arrival. Looks as in `settle_all`, and none as there.
     pub fn run(
         &mut self,
         forward: &Forward<'_, '_, '_, A>,

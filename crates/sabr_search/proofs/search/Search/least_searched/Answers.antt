@@ -18,6 +18,3 @@ pub returns-in-Some-clause-cut : goal.returns-in-Some-clause-cut
 returns-in-Some-clause-cut g c = λ most.
     told_cut c.args.asked.now.task.now c.requires.asked.task_is c.args.asked.now.prefix.now c.requires.asked.behind c.requires.asked.fits c.args.asked.now.max_hops c.requires.asked.hops c.in-Some.answer (rw c.in-Some.is at c.in_ok-wide.ensures.told)
     c.told_wide.new.looks.count (rw c.in-Some.is at c.in_ok-wide.ensures.looks)
-
-pub least_route-requires-clause-steps : goal.least_route-requires-clause-steps
-least_route-requires-clause-steps g c = λ n w b s. c.in_ok-gather_steps.ensures.steps n w b s
