@@ -207,11 +207,7 @@ fn target_ahead(line: &[u8]) -> Option<(Target, &[u8])>
 }
 
 /// Returns the command of a line, given with its LF, if it is an addition that is quick to read. None says nothing.
-pub fn swift_addition(
-    reference: Option<u64>,
-    day: &mut KnownDay,
-    text: &[u8],
-) -> Option<Command>
+pub fn swift_addition(reference: Option<u64>, day: &mut KnownDay, text: &[u8]) -> Option<Command>
     requires { IsFalse (is_one_line text.now) }
     ensures value { IfSome result (λ c. (line : List ℕ) → text.now ≡ line ++ 10 ∷ [] → IsTrue (is_one_line line) → line_command reference line ≡ Ok c) }
     ensures bounds { IfSome result HasBounds }
