@@ -45,7 +45,7 @@ fn after_blanks(text: &[u8]) -> &[u8]
     after_all_blanks(text)
 }
 
-/// The same, for a text that seldom has no blanks.
+/// The same. It is kept apart, since most lines have no blanks but one space before each word.
 #[cold]
 #[inline(never)]
 fn after_all_blanks(text: &[u8]) -> &[u8]
