@@ -68,7 +68,7 @@ def main():
     given = words.parse_args()
     programs = measure.programs_of(given)
     machine = measure.Machine(given.repeats)
-    heads = ["plan                    ", "bytes", *measure.columns(programs), "ns/byte", "of first"]
+    heads = ["plan".ljust(29), "bytes", *measure.columns(programs), "ns/byte", "of first"]
     widths = measure.print_head(heads)
     rows, all_agree = [], True
     for texts in texts_of(given):

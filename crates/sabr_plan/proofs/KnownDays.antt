@@ -1,6 +1,5 @@
 -- The text of a time is that of its day and of a second of that day; it is a word of a line.
-use Rattle.std.proofs.Common.{◌≡◌, ◌≢◌, ℕ, ◌+◌, ◌-◌, ◌*◌, ◌/◌, ◌%◌, ◌<◌, ◌≤◌, true, false, leb, eqb, List, ◌∷◌, ◌++◌, take, refl, sym, ap, ◌∙◌, arith, Option, Some, None, Ok, ok_or}
-use Rattle.std.specs.List.{list_all}
+use Rattle.std.proofs.Common.{◌≡◌, ℕ, ◌+◌, ◌-◌, ◌/◌, ◌%◌, ◌<◌, ◌≤◌, true, false, eqb, List, ◌++◌, take, refl, sym, ap, ◌∙◌, arith, Option, Some, None, Ok, ok_or}
 use Rattle.std.proofs.lemmas.Bool.{ne_eqb}
 use borrow.Author.Tests.{le-leb}
 use Rattle.sabr_model.specs.Plan.{last_time}

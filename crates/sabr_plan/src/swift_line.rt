@@ -45,7 +45,7 @@ fn after_blanks(text: &[u8]) -> &[u8]
     after_all_blanks(text)
 }
 
-/// The same, for a text that seldom has no blanks.
+/// The same. It is kept apart, since most lines have no blanks but one space before each word.
 #[cold]
 #[inline(never)]
 fn after_all_blanks(text: &[u8]) -> &[u8]
@@ -207,11 +207,7 @@ fn target_ahead(line: &[u8]) -> Option<(Target, &[u8])>
 }
 
 /// Returns the command of a line, given with its LF, if it is an addition that is quick to read. None says nothing.
-pub fn swift_addition(
-    reference: Option<u64>,
-    day: &mut KnownDay,
-    text: &[u8],
-) -> Option<Command>
+pub fn swift_addition(reference: Option<u64>, day: &mut KnownDay, text: &[u8]) -> Option<Command>
     requires { IsFalse (is_one_line text.now) }
     ensures value { IfSome result (λ c. (line : List ℕ) → text.now ≡ line ++ 10 ∷ [] → IsTrue (is_one_line line) → line_command reference line ≡ Ok c) }
     ensures bounds { IfSome result HasBounds }

@@ -1,5 +1,5 @@
 -- Three pairs of digits, with bytes between them.
-use Rattle.std.proofs.Common.{◌≡◌, ℕ, ◌+◌, ◌*◌, ◌/◌, ◌%◌, ◌≤◌, List, length, get_or, true, refl, sym, ◌∙◌, arith}
+use Rattle.std.proofs.Common.{◌≡◌, ℕ, ◌+◌, ◌*◌, ◌/◌, ◌%◌, ◌≤◌, List, length, get_or, true, sym, ◌∙◌, arith}
 use Rattle.std.proofs.lemmas.Slice.Eq.{text_from_reads}
 use Rattle.sabr_plan.specs.Times.{pair_at}
 use Rattle.sabr_plan.specs.TimeShape.{is_pair, clock_text}
@@ -22,10 +22,9 @@ returns c =
     let hour = c.pair_at-hour.ensures.value in
     let minute = c.pair_at-minute.ensures.value in
     let second = c.pair_at-second.ensures.value in
-    let text = c.args.text.now in
-    (
+    let text = c.args.text.now in (
       spelled text (c.pair_at-hour.result * 3600 + c.pair_at-minute.result * 60 + c.pair_at-second.result) c.requires c.if-text-ne45.false c.if-text-ne58.false c.if-text-ne58-2.false
-      (sym c.is_pair.ensures ∙ c.if-not-is_pair.false) (sym c.is_pair-else-not-is_pair.ensures ∙ c.if-not-is_pair-2.false) (sym c.is_pair-else-not-is_pair-2.ensures ∙ c.if-not-is_pair-3.false)
-      (omega (arith, minute, c.if-minute-gt59.false)) (omega (arith, second, c.if-second-gt59.false)) (omega (arith, hour, minute, second)),
+          (sym c.is_pair.ensures ∙ c.if-not-is_pair.false) (sym c.is_pair-else-not-is_pair.ensures ∙ c.if-not-is_pair-2.false) (sym c.is_pair-else-not-is_pair-2.ensures ∙ c.if-not-is_pair-3.false)
+          (omega (arith, minute, c.if-minute-gt59.false)) (omega (arith, second, c.if-second-gt59.false)) (omega (arith, hour, minute, second)),
       omega arith,
     )

@@ -1,11 +1,11 @@
 -- The first blank, and those after it.
-use Rattle.std.proofs.Common.{◌≡◌, ℕ, ◌-◌, false, true, List, [], ◌∷◌, ◌++◌, length, take, drop, get_or, refl, sym, ap, ◌∙◌, arith}
+use Rattle.std.proofs.Common.{◌≡◌, ℕ, ◌-◌, false, true, List, [], ◌∷◌, length, take, drop, get_or, refl, sym, ap, ◌∙◌, arith}
 use Rattle.std.specs.List.{list_all}
 use Rattle.std.proofs.lemmas.Bool.{false≢true}
 use Rattle.std.proofs.lemmas.Slice.{first_rest}
 use borrow.Author.Tests.{lt-ltb}
 use Rattle.sabr_plan.specs.Words.{is_blank, is_one_line}
-use Rattle.sabr_plan.proofs.PlainWords.{plain_blanks, still_ended, ended_gap}
+use Rattle.sabr_plan.proofs.PlainWords.{plain_blanks, still_ended}
 use Rattle.sabr_plan.proofs.swift_line.after_gap.Goals as goal
 
 -- a text with an LF has a first byte

@@ -1,5 +1,5 @@
 -- Five operands come one after another.
-use Rattle.std.proofs.Common.{◌≡◌, ℕ, List, [], ◌∷◌, Option, Ok, ap, refl, arith, rules, ok_or, ◌∙◌}
+use Rattle.std.proofs.Common.{◌≡◌, ℕ, List, [], ◌∷◌, Option, Ok, ap, refl, arith, rules, ok_or}
 use Rattle.sabr_plan.specs.Operands.{time_at, node_of, value_of}
 use Rattle.sabr_plan.specs.Commands.{addition_of}
 use Rattle.sabr_plan.specs.declared.command.Addition.{Addition}

@@ -1,7 +1,6 @@
 -- An addition that is quick to read is the command in the words of its line.
-use Rattle.std.proofs.Common.{◌≡◌, ℕ, List, Option, Ok, true, false, [], ◌∷◌, ◌++◌, refl, sym, ap, ◌∙◌}
+use Rattle.std.proofs.Common.{◌≡◌, ℕ, List, Option, Ok, true, false, [], ◌∷◌, ◌++◌, sym, ap, ◌∙◌}
 use Rattle.std.specs.List.{list_all}
-use Rattle.std.proofs.lemmas.Bool.{and_parts}
 use Rattle.sabr_plan.specs.Words.{is_plain, is_comment, words_of}
 use Rattle.sabr_plan.specs.PlainWords.{name_of}
 use Rattle.sabr_plan.specs.Commands.{addition_of, line_command}
@@ -9,7 +8,7 @@ use Rattle.sabr_plan.specs.declared.command.Addition.{Addition}
 use Rattle.sabr_plan.specs.declared.command.Command.TheVariants.{Add}
 use Rattle.sabr_plan.specs.declared.command.Target.{Target}
 use Rattle.sabr_plan.specs.declared.command.Target.TheVariants.{Contact, Range}
-use Rattle.sabr_plan.proofs.PlainWords.{plain_one, HasLine, from_line, more_words, first_a, no_comment}
+use Rattle.sabr_plan.proofs.PlainWords.{plain_one, from_line, more_words, first_a, no_comment}
 use Rattle.sabr_plan.proofs.Lines.{same_line}
 use Rattle.sabr_plan.proofs.swift_line.swift_addition.Goals as goal
 
