@@ -1,4 +1,5 @@
 """What the scripts share: one timed run, one measured run, the machine, and tables."""
+import contextlib
 import hashlib
 import json
 import os
@@ -37,11 +38,26 @@ class Answer:
         return self.status == 0
 
 
-def run(words, most_seconds):
-    """Runs the words once, and stops them after so many seconds."""
-    with tempfile.TemporaryFile() as out:
+class Pieces:
+    """A file that is given on standard input, by so many bytes at a time."""
+
+    def __init__(self, path, size):
+        self.words = ["dd", f"if={path}", f"bs={size}", "status=none"]
+
+    def __enter__(self):
+        self.giver = subprocess.Popen(self.words, stdin=subprocess.DEVNULL, stdout=subprocess.PIPE)
+        return self.giver.stdout
+
+    def __exit__(self, *_):
+        self.giver.stdout.close()
+        self.giver.wait()
+
+
+def run(words, most_seconds, given=None):
+    """Runs the words once, and stops them after so many seconds. What is given on standard input are pieces."""
+    with tempfile.TemporaryFile() as out, given or contextlib.nullcontext(subprocess.DEVNULL) as source:
         begin = time.perf_counter()
-        child = subprocess.Popen(words, stdin=subprocess.DEVNULL, stdout=out, stderr=subprocess.DEVNULL)
+        child = subprocess.Popen(words, stdin=source, stdout=out, stderr=subprocess.DEVNULL)
         guard = threading.Timer(most_seconds, child.kill)
         guard.start()
         _, ending, used = os.wait4(child.pid, 0)
@@ -53,13 +69,13 @@ def run(words, most_seconds):
         return Answer(seconds, status, out.read(), used.ru_maxrss)
 
 
-def peak_kb(words, most_seconds):
+def peak_kb(words, most_seconds, given=None):
     """The greatest memory of a run in kilobytes. GNU time starts it from a small process: the kernel counts the memory
     of the process that starts a program as the program's own, so wait4 alone answers no less than this script takes."""
     if not os.access(GNU_TIME, os.X_OK):
-        return run(words, most_seconds).peak_kb
+        return run(words, most_seconds, given).peak_kb
     with tempfile.NamedTemporaryFile("r") as told:
-        answer = run([GNU_TIME, "-f", "%M", "-o", told.name, *words], most_seconds)
+        answer = run([GNU_TIME, "-f", "%M", "-o", told.name, *words], most_seconds, given)
         lines = told.read().split()
         return int(lines[-1]) if answer.status is not None and lines else None
 
@@ -81,17 +97,17 @@ class Figures:
         return {"seconds": self.seconds, "peak_kb": self.peak_kb, "status": self.status, "sha256": digest}
 
 
-def compare(programs, question, repeats, most_seconds):
+def compare(programs, question, repeats, most_seconds, given=None):
     """The programs take turns; each one's memory comes from a further run."""
     figures = {program.name: Figures() for program in programs}
     for _ in range(repeats):
         for program in programs:
             mine = figures[program.name]
             if mine.text is None or mine.status == 0:
-                mine.take(run(program.words(question), most_seconds))
+                mine.take(run(program.words(question), most_seconds, given))
     for program in programs:
         if figures[program.name].status == 0:
-            figures[program.name].peak_kb = peak_kb(program.words(question), most_seconds)
+            figures[program.name].peak_kb = peak_kb(program.words(question), most_seconds, given)
     return figures
 
 

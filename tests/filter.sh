@@ -13,7 +13,7 @@ expect 'status' 0 $?
 expect 'two hosts make one plan' '' "$(diff tests/ion/plan.txt "$room/plan.txt")"
 expect 'a line for each file' \
     'from_ionrc: tests/ion/host1.rc: contacts 4, ranges 2, deletions 0; left out: loopbacks 6, repeated 0, unclear 0, other lines 11
-from_ionrc: tests/ion/host2.ionrc: contacts 3, ranges 4, deletions 2; left out: loopbacks 0, repeated 1, unclear 0, other lines 5' \
+from_ionrc: tests/ion/host2.ionrc: contacts 3, ranges 4, deletions 2; left out: loopbacks 0, repeated 1, unclear 0, other lines 5, confidences 1' \
     "$(cat "$room/messages")"
 
 # run_filter WORD..: runs the filter; $room has what it prints, and `status` its status.
@@ -54,7 +54,9 @@ d range 2030/01/01-00:00:00 1 2
 status 0' "$(filtered "add contact $window 1 2 5\nadd range $window 1 2 5\ndelete contact * 1 2\ndel range * 1 2\n")"
 expect 'a confidence and a further number are taken off' "a contact $window 1 2 5
 a contact $window 2 1 5
-status 0" "$(filtered "a contact $window 1 2 5 .75\na contact $window 2 1 5 1. 0\n")"
+a contact $window 1 3 5
+status 0" "$(filtered "a contact $window 1 2 5 .75\na contact $window 2 1 5 1. 0\na contact $window 1 3 5\n")"
+expect 'they are counted' 'other lines 0, confidences 2' "$(grep -o 'other lines.*' "$room/messages")"
 expect 'a range is cut only by its own light time' "a range $window 1 2 5
 # cut, another range of this pair has some of its seconds already:
 a range 2030/01/01-00:01:00 2030/01/01-00:02:00 1 2 5
@@ -90,7 +92,8 @@ contact,+1,+5,1,3,9
 a\xc2\xa0contact +1 +5 1 3 9
 a Range +1 +5 1 3 9
 c contact +1 1 3 9
-l contact
+l contact +1
+i contact +1 +5 1 3 9
 1 2030/01/01-00:00:01 2030/01/01-00:00:05 1 3 9
 a contact
 a contact +1 +5 1 3
@@ -112,7 +115,8 @@ d contact +1 1 2
 d contact +0 1 2 9
 d contac * 1 2
 # a comment\r a contact +1 +5 1 3 9
-^ 2
+^ 2 +1 +5 1 3 9
+r 'ionadmin contacts.ionrc'
 From\t2030/01/01-00:00:00 to 2030/01/01-01:00:00 the xmit rate from node 1 to node 3 is 9 bytes/sec, confidence 1.000000.
 @
 @ +1 +5
@@ -131,14 +135,50 @@ expect 'a range with another light time' "a range $window 1 2 5
 status 1; line 2: another range of this pair has another light time for some of its seconds" \
     "$(filtered "a range $window 1 2 5\na range +30 +90 1 2 6\n" "$reference")"
 expect 'no time counts from a reference that is unclear' 'status 1; line 1: no time: 2030/1/1-00:00:00
-; line 2 and 1 more: a relative time after a line @ that is unclear' \
+; lines 2, 3: a relative time after a line @ that is unclear' \
     "$(filtered '@ 2030/1/1-00:00:00\na contact +1 +5 1 2 9\na contact +1 +5 2 1 9\n' "$reference" | grep -v '^# left out')"
 expect 'one report for all that ionadmin printed' \
-    "status 1; line 1 and 1 more: ionadmin prints such lines, but doesn't read them: give the file with the commands" \
+    "status 1; lines 1, 2: ionadmin prints such lines, but doesn't read them: give the file with the commands" \
     "$(filtered "From\t${window/ / to } the xmit rate from node 1 to node 2 is 9 bytes/sec, confidence 1.000000.
 From ${window/ / to } the OWLT from node 1 to node 2 is 1 seconds.\n" | tail -n 1)"
+expect 'a contact with another rate is told with both' "$contact
+# left out, the contact stands already, with the rate 5 in place of 6: a contact $window 1 2 6
+# left out, the contact stands already: $contact
+status 1; line 2: the contact stands already, with the rate 5 in place of 6" \
+    "$(filtered "$contact\na contact $window 1 2 6\n$contact\n")"
+expect 'each unclear line is named' 'status 1; lines 1, 2, 4 to 7, 9: no node: x' \
+    "$(filtered "$(for place in {1..9}; do
+        case $place in 3 | 8) echo '#' ;; *) echo "a contact $window 1 x 5" ;; esac
+    done)\n" | tail -n 1)"
 expect 'commands of other programs are no concern' 'status 0' \
     "$(filtered "$contact\na scheme ipn 'ipnfw' 'ipnadminep'\nd plan 2\na { \"policyrule\"\nm horizon +0\nr 'bpadmin a.rc'\n" | tail -n 1)"
+
+# None of these lines is a plan's, and each is sound.
+cat >"$room/sound" <<'LINES'
+l contact
+l range
+i
+i contact 2030/01/01-00:00:00 1 2
+i range +1 ipn:1.0 ipn:2.0
+a rtovrd 5 * * 3
+a rtovrd 7 2 1 ipn:3.0
+a pubkey 1 2030/01/01-00:00:00 8 0123456789abcdef
+d rtovrd 5 * *
+m horizon 2030/01/01-00:00:00
+m clockerr +1
+1 1 contact.ionconfig
+LINES
+expect 'sound lines that are no plan'"'"'s' "status 0 other lines $(wc -l <"$room/sound")" \
+    "$(filtered "$(cat "$room/sound")\n$contact\n" "$reference" | tail -n 1) $(grep -o 'other lines.*' "$room/messages")"
+expect 'regions are left out and counted' 'status 0 other lines 0, regions 2' \
+    "$(filtered "^ 2\n^\n$contact\n" | tail -n 1) $(grep -o 'other lines.*' "$room/messages")"
+expect 'a file that ionadmin reads is named' "status 1; line 1: ionadmin reads rc/far.ionrc here: give that file, too" \
+    "$(filtered "r 'ionadmin rc/far.ionrc'\n$contact\n" | tail -n 1)"
+printf '%s\n' "$contact" >"$room/far.ionrc"
+printf "a contact $window 2 1 5\nr 'ionadmin rc/far.ionrc'\n" >"$room/host.ionrc"
+run_filter "$room/far.ionrc" "$room/host.ionrc"
+expect 'but not if it is given' "0 # left out, its file is given by itself: r 'ionadmin rc/far.ionrc'" \
+    "$status $(tail -n 1 "$room/plan.txt")"
 
 # ---- Whole files
 
@@ -193,8 +233,8 @@ printf '%s\n' 'a contact +1 +5 1 2 9' 'a contact +1 +5 2 1 9' >"$room/one"
 printf '%s\n' '@ +60' 'a range +1 +5 1 2 9' >"$room/two"
 run_filter "$room/one" "$room/two"
 expect 'one hint for a missing reference' \
-    '1 from_ionrc: one line 1 and 3 more: a relative time, and no --reference was given (yyyy/mm/dd-hh:mm:ss, the moment at which ION reads the file)' \
-    "$status $(sed "s|$room/||" "$room/messages" | sed -n 1p)"
+    '1 from_ionrc: one lines 1, 2; two lines 1, 2: a relative time, and no --reference was given (yyyy/mm/dd-hh:mm:ss, the moment at which ION reads the file)' \
+    "$status $(sed "s|$room/||g" "$room/messages" | sed -n 1p)"
 expect 'and no report but that' 3 "$(wc -l <"$room/messages")"
 expect 'the plan says it of each line' 4 "$(grep -c '^# left out, a relative time, and no --reference was given: ' "$room/plan.txt")"
 
@@ -206,7 +246,15 @@ expect 'a file that is not there' "5 from_ionrc: $room/missing: No such file or 
 run_filter "$room"
 expect 'a folder' "5 from_ionrc: $room: Is a directory" "$status $(cat "$room/messages")"
 run_filter --reference +5 "$room/commands"
-expect 'a relative reference' '2 from_ionrc: --reference: no time: +5' "$status $(cat "$room/messages")"
+expect 'a relative reference' '2 from_ionrc: argument --reference: no time of the years 1970 to 9998: +5; see --help' \
+    "$status $(sed 's/ a time is .*;//' "$room/messages")"
+run_filter --reference 2030-01-01T00:00:01Z "$room/one"
+expect 'a reference as ISO 8601 has it' '# from one, relative times from 2030/01/01-00:00:01' "$(head -n 1 "$room/plan.txt")"
+run_filter
+expect 'no file' '2 from_ionrc: the following arguments are required: FILE; see --help' "$status $(cat "$room/messages")"
+run_filter --refer 2030/01/01-00:00:00 "$room/commands"
+expect 'a word that is none' '2 from_ionrc: unrecognized arguments: --refer; see --help' \
+    "$status $(sed 's/ 2030.*;/;/' "$room/messages")"
 tools/from_ionrc "$reference" "$room/many" 2>"$room/messages" | head -n 1 >"$room/plan.txt"
 expect 'the reader of a pipe goes away' '1 0' \
     "$(wc -l <"$room/plan.txt") $(grep -c -e Traceback -e 'Broken pipe' "$room/messages")"

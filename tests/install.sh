@@ -1,6 +1,6 @@
 #!/usr/bin/env bash
-# Tries `./install` into an empty folder, what it installs, and the completions against the program's own help. It needs
-# the program that this clone built. Its last line is 'N passed, M failed'.
+# Tries `./install` into an empty folder, what it installs, and the completions against the help of the program and of
+# the tools. It needs the program that this clone built. Its last line is 'N passed, M failed'.
 set -u
 cd "$(dirname "$0")/.."
 source tests/expect.sh
@@ -38,9 +38,10 @@ in_fish() {
     fish --no-config -c 'source $argv[1]; complete -C "$argv[2..]"' "$top/completions/cgrlist.fish" "$@" | cut -f 1
 }
 
-# words_in_table FILE COMMAND: the words of the command's line in a table of words, for a shell that isn't here.
+# words_in_table FILE COMMAND: the command's words in a table of words, for a shell that isn't here. A line of the table
+# goes on after a backslash.
 words_in_table() {
-    sed -nE "s/^ *(set -l )?$2 //p" "$1" | tr -d "'" | tr ' ' '\n'
+    sed -e ':again' -e '/\\$/ { N; s/ *\\\n */ /; b again; }' "$1" | sed -nE "s/^ *(set -l )?$2 //p" | tr -d '"' | tr ' ' '\n'
 }
 
 # words_offered SHELL [COMMAND]: what a shell offers after the program's name or a command's.
@@ -77,6 +78,40 @@ for shell in bash zsh fish; do
     done
 done
 
+# options_of_help TOOL [VALUE]: the options that a tool's help lists; if a pattern is given, those with such a value.
+options_of_help() {
+    sed -nE "s/^  (-h, )?(--[a-z-]+)${2-.*}( .*)?$/\\2/p" "$room/$1.help" | sort
+}
+
+for tool in from_ionrc latest report timeline; do
+    COLUMNS=1000 tools/$tool --help >"$room/$tool.help"
+done
+for shell in bash zsh fish; do
+    for tool in from_ionrc latest report timeline; do
+        command=cgrlist-${tool/_/-}
+        [ -z "${table[$shell]-}" ] || expect "$shell: the words of $command, in its table" "$(options_of_help $tool)" \
+            "$(words_in_table "${table[$shell]}" "($tool|$command)" | sort)"
+        command -v $shell >/dev/null || continue
+        expect "$shell: the words of $command" "$(options_of_help $tool)" "$(in_$shell $command -- | sort)"
+        for option in $(options_of_help $tool ' ([A-Z]+|\{.*\}).*'); do
+            case $option in
+                --plan | --names | --program | --report | --requests | --explained) wanted='a plan.txt' ;;
+                --distinct) wanted='contacts entry nodes' ;;
+                --order) wanted='link route' ;;
+                *) wanted='' ;;
+            esac
+            expect "$shell: after $command $option" "$wanted" \
+                "$(cd "$room/files" && in_$shell $command $option '' | sort | paste -s -d ' ')"
+        done
+        for option in $(options_of_help $tool '( |$)( .*)?'); do
+            expect "$shell: $option of $command takes nothing" "$(options_of_help $tool)" \
+                "$(in_$shell $command $option -- | sort)"
+        done
+    done
+    ! command -v $shell >/dev/null || expect "$shell: files after cgrlist-from-ionrc" 'a plan.txt' \
+        "$(cd "$room/files" && in_$shell cgrlist-from-ionrc '')"
+done
+
 # ---- The installation ---------------------------------------------------------------------------------------
 
 # What stands below the folder in which it was installed: type, mode, and place, a line each.
@@ -97,13 +132,36 @@ l 777 usr/bin/cgrlist-report
 l 777 usr/bin/cgrlist-timeline
 f 755 usr/bin/cgrlist
 f 644 usr/share/bash-completion/completions/cgrlist
+l 777 usr/share/bash-completion/completions/cgrlist-from-ionrc
+l 777 usr/share/bash-completion/completions/cgrlist-latest
+l 777 usr/share/bash-completion/completions/cgrlist-report
+l 777 usr/share/bash-completion/completions/cgrlist-timeline
 f 644 usr/share/cgrlist/contact_plan.py
+f 644 usr/share/cgrlist/hints.py
+f 644 usr/share/cgrlist/questions.py
+f 644 usr/share/cgrlist/report_forms.py
+f 644 usr/share/cgrlist/report_listing.py
+f 644 usr/share/cgrlist/report_requests.py
+f 644 usr/share/cgrlist/routes.py
+f 644 usr/share/cgrlist/timeline_axis.py
+f 644 usr/share/cgrlist/timeline_layout.py
+f 644 usr/share/cgrlist/timeline_picture.py
+f 644 usr/share/cgrlist/timeline_scene.py
+f 644 usr/share/cgrlist/timeline_text.py
 f 755 usr/share/cgrlist/from_ionrc
 f 755 usr/share/cgrlist/latest
 f 755 usr/share/cgrlist/report
 f 755 usr/share/cgrlist/timeline
 f 644 usr/share/fish/vendor_completions.d/cgrlist.fish
+l 777 usr/share/fish/vendor_completions.d/cgrlist-from-ionrc.fish
+l 777 usr/share/fish/vendor_completions.d/cgrlist-latest.fish
+l 777 usr/share/fish/vendor_completions.d/cgrlist-report.fish
+l 777 usr/share/fish/vendor_completions.d/cgrlist-timeline.fish
 f 644 usr/share/man/man1/cgrlist.1
+f 644 usr/share/man/man1/cgrlist-from-ionrc.1
+f 644 usr/share/man/man1/cgrlist-latest.1
+f 644 usr/share/man/man1/cgrlist-report.1
+f 644 usr/share/man/man1/cgrlist-timeline.1
 f 644 usr/share/zsh/site-functions/_cgrlist'
 files=$(sort -k 3 <<<"$files")
 cd "$room"
@@ -114,6 +172,7 @@ for turn in 'the first time' again; do
     expect "each has its place and mode, $turn" "$files" "$(installed)"
 done
 expect 'folders are open to all' '' "$(find at -type d ! -perm 755)"
+expect 'each link leads to a file' '' "$(find -L at -type l)"
 
 # What is installed runs by its name alone, in another folder than the clone.
 cp "$top/examples/a.txt" .
@@ -128,7 +187,10 @@ run() {
 expect 'the program lists routes' '1 delivery 2030/01/01-00:00:15 hops 2 entry 2 until 2030/01/01-00:01:40 contacts 1 4
 more' "$(run cgrlist first "${request[@]}" --at 2030/01/01-00:00:00 --count 1)"
 for tool in timeline from-ionrc latest report; do
-    expect "help of $tool" 1 "$(run cgrlist-$tool --help | grep -c '^usage: ')"
+    expect "help of $tool names commands" '1 0' \
+        "$(run cgrlist-$tool --help | grep -c '^usage: cgrlist-') $(run cgrlist-$tool --help | grep -c tools/)"
+    expect "no words for $tool" "cgrlist-$tool: the following arguments are required: ; see --help" \
+        "$(run cgrlist-$tool 2>&1 | sed 's/: [A-Z-].*;/: ;/')"
 done
 expect 'timeline lists contacts' '1 2 3 4' "$(run cgrlist-timeline --plan a.txt --list | awk 'NR > 1 { print $1 }' | paste -s -d ' ')"
 expect 'timeline finds the program' 1 \
@@ -149,6 +211,14 @@ expect 'uninstalling removes the folder of the tools' no "$([ -e at/usr/share/cg
 call --uninstall /usr
 expect 'nothing to uninstall is no failure' 0 "$status$said$told"
 
+# Where the path lacks the folder of commands, it says so.
+call_at() {
+    DESTDIR='' "$top/install" "$room/home/.local" 2>&1 >"$room/said"
+}
+expect 'the path lacks them' "install: the path lacks $room/home/.local/bin. Put this line at the end of ~/.profile, and log in again:
+export PATH=\"$room/home/.local/bin:\$PATH\"" "$(call_at)"
+expect 'the path has them' '' "$(PATH="$room/home/.local/bin:$PATH" call_at)"
+
 # ---- What fails ---------------------------------------------------------------------------------------------
 
 call --help
@@ -166,10 +236,17 @@ EOT
 touch at/opt
 LC_ALL=C call /opt
 expect 'a file in the place of PREFIX' '1 install: cannot create directory' "$status ${told%% \'*}"
-mkdir -p clone/crates
-cp "$top/install" clone
-expect 'nothing built' "1 install: the program is not built: $room/clone/cgrlist --version builds it" \
-    "$(DESTDIR=$room/none clone/install 2>told || echo "$? $(cat told)")"
+
+# A clone without a program, and then with one that is older than a source.
+mkdir -p clone/crates/{low/src,cgrlist/out}
+cp "$top/install" "$top/cgrlist" clone
+touch clone/crates.txt clone/crates/low/src/lib.rt
+touch -d '3 hours ago' clone/crates.txt clone/crates/low/src
+for lack in "isn't built yet" 'is older than crates/low/src/lib.rt'; do
+    expect "the program $lack" "1 install: the proved program $lack: run $room/clone/cgrlist --prove first" \
+        "$(DESTDIR=$room/none clone/install 2>told || echo "$? $(sed 's/ (.*//' told)")"
+    cp "$program" clone/crates/cgrlist/out && touch -d '2 hours ago' clone/crates/cgrlist/out/cgrlist
+done
 expect 'then nothing is installed' no "$([ -e none ] && echo yes || echo no)"
 
 finish install

@@ -38,6 +38,9 @@ faulty() {
 faulty 'a bar' '/contact 12:/s/ x="/&1/' 'contact 12: 21 → 12'
 faulty 'a hop' '/hop .*route 1, contact 11:/s/d="M1/&0/' 'route 1'
 faulty 'a wait' '/wait .*route 2, node 21:/s/d="M1/&0/' 'route 2'
+faulty 'a line over another one' '/wait .*route 3, node 12:/s/H229.6V/H226.6V/' \
+    'route 2'
+faulty 'a line far from its time' '/wait .*route 3, node 12:/s/H229.6V/H329.6V/' 'route 3'
 faulty 'a tick' '/class="tick".*06:00:00/s/d="M2/&0/' '2030/01/01-06:00:00: 2030/01/01-06:00:00 is drawn at 2016.0
 the tick of 2030/01/01-06:00:00 is labelled []'
 faulty 'a label' 's:>06\:00</text>:>07\:00</text>:' "the tick of 2030/01/01-06:00:00 is labelled ['07:00']"
@@ -115,6 +118,11 @@ expect 'a list with names, of a span' 'contact  from  to                start   
       4     1   2  2030/01/01-00:00:50  2030/01/01-00:01:40      -  A & B > basse station' \
     "$(tools/timeline "${plan[@]}" --list --names "$room/names.txt" --between 2030/01/01-00:01:00 2030/01/02-00:00:00)"
 
+expect 'a list without a lost contact, with times of ISO 8601' 'contact  from  to                 start                   end  light
+      1     1   2  2030-01-01T00:00:00Z  2030-01-01T00:01:00Z      7
+      4     1   2  2030-01-01T00:00:50Z  2030-01-01T00:01:40Z      -' \
+    "$(tools/timeline "${plan[@]}" --list --iso --without 3)"
+
 # 60 columns for 100 seconds; contacts 1 and 4 overlap.
 expect 'as text' '           2030/01/01
 UTC        00:00:00          00:00:30          00:01:00          00:01:30
@@ -122,7 +130,7 @@ UTC        00:00:00          00:00:30          00:01:00          00:01:30
   route 1  #####
                                          4=============================
 2 > 1            3=============================
-= contact, with its number   # sending to arrival   . wait
+= contact, with its number   # sending to arrival
 route 1: delivery 2030/01/01-00:00:07, contacts 1' \
     "$(tools/timeline "${plan[@]}" --explained "$room/routes.txt" --text --columns 78 "${minutes[@]}")"
 expect 'the links of the routes alone' '1 > 2' "$(tools/timeline "${plan[@]}" --explained "$room/routes.txt" --text --used |
@@ -134,6 +142,53 @@ expect 'overlapping windows' '7 ticks, 3 bars, 0 hops, 0 waits' "$(tests/picture
 expect 'two lanes' '2' "$(grep 'contact [14]:' "$room/named.svg" | grep -o ' y="[0-9]*"' | sort -u | wc -l)"
 expect 'nothing stands' 'no contacts' "$(tools/timeline --plan /dev/null | grep -o 'no [a-z]*')"
 expect 'nothing stands, as text' 'no contacts' "$(tools/timeline --plan /dev/null --text)"
+
+# ---- What is chosen --------------------------------------------------------------------------------------------
+
+# labels WORD ..: the labels of the rows of the day at Mars
+labels() {
+    tools/timeline "${mars[@]}" "$@" | sed -n 's:.*text-anchor="end">\(.*\)</text>:\1:p' | paste -s -d ,
+}
+printf '31 lander\n12 south\n' >"$room/mars-names.txt"
+expect 'some links' '12 → 1,31 → 22' "$(labels --links '31>22,12>1')"
+expect 'a link by names' '22 → south' "$(labels --links '22>south' --names "$room/mars-names.txt" | sed 's/,$//')"
+expect 'the links of a node' '21 → 31,22 → 31,31 → 21,31 → 22' "$(labels --nodes 31 --between "${day[@]}")"
+expect 'the links of some nodes that routes use' '12 → 1,21 → 12,22 → 12,31 → 21' "$(labels --nodes 12,21 --used)"
+expect 'as routes go' '31 → 22,22 → 12,12 → 1,31 → 21,21 → 12' "$(labels --used --order route)"
+expect 'others after them' '31 → 22,22 → 12,12 → 1,31 → 21,21 → 12,1 → 11' \
+    "$(labels --order route --between "${day[@]}" | cut -d , -f 1-6)"
+tools/timeline "${mars[@]}" --between "${day[@]}" --width 1500 >"$room/wide.svg"
+expect 'a wide picture' 'width="1500" 25 ticks, 20 bars, 9 hops, 6 waits' \
+    "$(grep -o 'width="1500" ' "$room/wide.svg" | head -n 1)$(tests/picture_faults "$room/wide.svg" "${day[@]}")"
+
+# The legend names what is drawn, and routes of which nothing is.
+legend() {
+    tools/timeline "${mars[@]}" "$@" | grep -oE '>(contact, with its number|sending to arrival|wait|delivery|[^<]*\(.*\))<' | tr -d '<>'
+}
+night=(2030/01/01-20:00:00 2030/01/01-23:00:00)
+expect 'a legend of all' 'contact, with its number
+sending to arrival
+wait
+delivery' "$(legend)"
+expect 'a legend of windows alone' 'contact, with its number
+ delivery 2030/01/01-02:47:22, contacts 4 11 2 (before this span)
+ delivery 2030/01/01-06:27:22, contacts 5 12 2 (before this span)
+ delivery 2030/01/01-06:27:22, contacts 6 12 2 (before this span)' "$(legend --between "${night[@]}")"
+expect 'a wait, and routes that come later' 'contact, with its number
+wait
+ delivery 2030/01/01-06:27:22, contacts 5 12 2 (after this span)
+ delivery 2030/01/01-06:27:22, contacts 6 12 2 (after this span)' \
+    "$(legend --between 2030/01/01-01:30:00 2030/01/01-02:00:00 | grep -v sending)"
+expect 'a route over other links' 'contact, with its number
+sending to arrival
+wait
+ delivery 2030/01/01-02:47:22, contacts 4 11 2 (not over these links)' "$(legend --nodes 21)"
+expect 'the legend of a text' '= contact, with its number
+route 1: delivery 2030/01/01-02:47:22, contacts 4 11 2 (before this span)' \
+    "$(tools/timeline "${mars[@]}" --between "${night[@]}" --text | grep -E '^(= |route 1)')"
+expect 'ranks where the span cuts routes off' '2
+3' "$(tools/timeline "${mars[@]}" --between 2030/01/01-00:00:00 2030/01/01-06:15:00 | grep -o 'class="rank" x="642.*' |
+    sed 's:.*">\([0-9]*\)<.*:\1:')"
 
 # ---- Routes ----------------------------------------------------------------------------------------------------
 
@@ -151,6 +206,9 @@ minute=(2030/01/01-00:00:00 2030/01/01-00:01:00)
 tools/timeline --plan "$room/twenty.txt" --explained "$room/twenty-routes.txt" --between "${minute[@]}" >"$room/twenty.svg"
 expect 'twenty routes' '7 ticks, 21 bars, 40 hops, 20 waits' "$(tests/picture_faults "$room/twenty.svg" "${minute[@]}")"
 expect 'told apart' '20' "$(grep -o 'wait line[0-9]* dash[0-9]*" d="M-' "$room/twenty.svg" | sort -u | wc -l)"
+expect 'a long route is told without its middle' ' delivery .. 20 21 (before this span)' \
+    "$(tools/timeline --plan "$room/twenty.txt" --explained "$room/twenty-routes.txt" --width 316 \
+        --between 2030/01/01-00:01:00 2030/01/01-00:02:00 | grep -o ' delivery.*)' | tail -n 1)"
 ranks() {
     sed -n 's:.*class="rank".*>\([0-9]*\)</tspan></text>:\1:p' "$room/$1.svg" | sort -n | uniq -c | awk '{ print $1, $2 }'
 }
@@ -161,10 +219,12 @@ expect 'ranks at the hops of twenty' "$(seq 20 | sed 's/^/2 /')" "$(ranks twenty
 
 # The program is asked for the routes of a request.
 cat >"$room/program" <<STUB
-#!/bin/sh
+#!/usr/bin/env bash
 echo "\$*" >>"$room/asked"
+[[ \$* != *--session-out* ]] || touch "\${!#}"
 case \$* in
 first*) printf '%s\n' '1 delivery 2030/01/01-00:00:07 hops 1 entry 2 until 2030/01/01-00:01:00 contacts 1' more ;;
+next*) echo end ;;
 explain*) cat "$room/routes.txt" ;;
 esac
 STUB
@@ -173,29 +233,42 @@ printf '#!/bin/sh\necho "cgrlist: plan line 3: NoReference" >&2\nexit 3\n' >"$ro
 chmod +x "$room/program" "$room/ends" "$room/fails"
 request=("${plan[@]}" --from 1 --to 2 --at 2030/01/01-00:00:00 --margin-ppm 5)
 wanted=$(tools/timeline "${plan[@]}" --explained "$room/routes.txt")
-expect 'the first routes' "$wanted" "$(tools/timeline "${request[@]}" --count 1 --program "$room/program")"
+expect 'the first routes' "$wanted" "$(tools/timeline "${request[@]}" --count 1 --program "$room/program" 2>"$room/hint")"
+expect 'a hint' 'timeline: hint: 1 of 3 contacts have no light time, so no route takes them' "$(cat "$room/hint")"
 expect 'what was asked' "first ${request[*]} --count 1
-explain ${request[*]} --contacts 1" "$(cat "$room/asked")"
+explain ${request[*]:2} --contacts 1" "$(sed 's:explain --plan [^ ]*:explain:' "$room/asked")"
 echo '4 delivery 2030/01/01-00:00:07 hops 1 entry 2 until 2030/01/01-00:01:00 contacts 1' >"$room/report.txt"
 expect 'the routes of a report' 'route 4: delivery 2030/01/01-00:00:07, contacts 1' \
-    "$(tools/timeline "${request[@]}" --report "$room/report.txt" --program "$room/program" --text | tail -n 1)"
-expect 'no route' 'no route' "$(tools/timeline "${request[@]}" --count 1 --program "$room/ends" | grep -o 'no route')"
-expect 'no route, no link' 'no route' "$(tools/timeline "${request[@]}" --count 1 --program "$room/ends" --used --text)"
+    "$(tools/timeline "${request[@]}" --report "$room/report.txt" --program "$room/program" --text 2>"$room/hint" | tail -n 1)"
+# chosen WORD ..: the last line of the request's picture as text
+chosen() {
+    tools/timeline "${request[@]}" --program "$room/program" --text "$@" 2>"$room/hint" | tail -n 1
+}
+expect 'all routes by a time' 'route 1: delivery 2030/01/01-00:00:07, contacts 1' "$(chosen --by 2030-01-01T00:00:07Z)"
+expect 'no route by a time' 'no route' "$(chosen --by 2030-01-01T00:00:06Z)"
+expect 'no route through a node' 'no route' "$(chosen --count 1 --via 3)"
+expect 'distinct routes' 'route 1: delivery 2030/01/01-00:00:07, contacts 1' "$(chosen --count 5 --distinct nodes)"
+expect 'how many were looked at' 'timeline: 1 routes are shown of 1 looked at' "$(grep looked "$room/hint")"
+ends=(--count 1 --program "$room/ends")
+expect 'no route' 'no route' "$(tools/timeline "${request[@]}" "${ends[@]}" 2>"$room/hint" | grep -o 'no route')"
+expect 'no route, no link' 'no route' "$(tools/timeline "${request[@]}" "${ends[@]}" --used --text 2>"$room/hint")"
 
 # Where the program is looked for: beside the folder of the tool, and in the path.
 mkdir -p "$room/share/tools" "$room/bin"
-cp tools/timeline tools/contact_plan.py "$room/share/tools"
+cp tools/timeline tools/*.py "$room/share/tools"
 ln -s "$room/share/tools/timeline" "$room/bin/cgrlist-timeline"
 ln -s "$room/ends" "$room/bin/cgrlist"
 expect 'the program in the path' 'no route' \
-    "$(PATH=$room/bin:$PATH cgrlist-timeline "${request[@]}" --count 1 --text | grep '^no')"
+    "$(PATH=$room/bin:$PATH cgrlist-timeline "${request[@]}" --count 1 --text 2>"$room/hint" | grep '^no')"
 ln -s "$room/program" "$room/share/cgrlist"
 expect 'the program of the clone' 'route 1: delivery 2030/01/01-00:00:07, contacts 1' \
-    "$(PATH=$room/bin:$PATH cgrlist-timeline "${request[@]}" --count 1 --text | tail -n 1)"
-expect 'no compiled module is left' "$room/share/tools/contact_plan.py
-$room/share/tools/timeline" "$(find "$room/share/tools" -type f | sort)"
+    "$(PATH=$room/bin:$PATH cgrlist-timeline "${request[@]}" --count 1 --text 2>"$room/hint" | tail -n 1)"
+expect 'no compiled module is left' '' "$(find "$room/share/tools" -name '*.pyc')"
 
 # ---- What is refused -------------------------------------------------------------------------------------------
+
+# As many links as make a picture too high.
+seq 1000 | sed 's/.*/a contact 2030\/01\/01-00:00:00 2030\/01\/01-01:00:00 & 1001 5/' >"$room/many.txt"
 
 # refused STATUS MESSAGE WORD ..: nothing is printed but the message
 refused() {
@@ -205,11 +278,28 @@ refused() {
 refused 3 "timeline: plan line 3 can't be read: does cgrlist check accept this plan?" --plan tests/expect.sh
 refused 5 'timeline: /nowhere: No such file or directory' --plan /nowhere
 refused 2 'timeline: the following arguments are required: --plan; see --help'
-refused 2 'timeline: --between: not a time: 2030; see --help' "${plan[@]}" --between 2030 2031
+times='a time is 2031/03/03-01:00:00, 2031-03-03T01:00:00Z, 2031-03-03, now or now+2h'
+refused 2 "timeline: argument --between: no time of the years 1970 to 9998: 2030; $times; see --help" \
+    "${plan[@]}" --between 2030 2031
 refused 2 "timeline: --between: the first time isn't before the second; see --help" \
     "${plan[@]}" --between "${day[1]}" "${day[0]}"
-refused 2 'timeline: --used needs routes: --count, --report or --explained; see --help' "${plan[@]}" --used
-refused 2 'timeline: --count and --report need the request: --from, --to, --at; see --help' "${plan[@]}" --count 1
+for words in --used '--order route'; do
+    refused 2 'timeline: --used and --order route need routes: --count, --by, --report or --explained; see --help' "${plan[@]}" $words
+done
+refused 2 'timeline: these words are missing: --from, --to, --at; see --help' "${plan[@]}" --count 1
+refused 2 'timeline: these words are missing: --to; see --help' \
+    "${plan[@]}" --from 1 --at 2030-01-01 --report "$room/report.txt"
+refused 2 'timeline: these words are missing: --count or --by; see --help' "${request[@]}"
+refused 2 'timeline: these words are missing: --from, --to, --at, --count or --by; see --help' "${plan[@]}" --avoid 3
+refused 2 'timeline: --explained takes the place of a request: --from, --max-hops; see --help' \
+    "${plan[@]}" --explained "$room/routes.txt" --from 1 --max-hops 2
+refused 2 "timeline: argument --links: no node's number: 1-2; see --help" "${plan[@]}" --links 1-2
+refused 2 "timeline: argument --links: not nodes as 'A>B': 1>2>1; see --help" "${plan[@]}" --links '1>2>1'
+refused 1 'timeline: --links: the plan has no contact from 3 to 1' "${plan[@]}" --links '1>2,3>1'
+refused 1 'timeline: --nodes: the plan has no contact of node 3' "${plan[@]}" --nodes 1,3
+refused 2 'timeline: --width: with these labels it is at least 316' "${plan[@]}" --width 315
+refused 2 'timeline: the picture would be 27069 px high, more than 20000: --used, --links, --nodes and --between choose links, a smaller --count routes; --all draws it so' \
+    --plan "$room/many.txt"
 refused 1 'timeline: the routes are not of this plan: it has no contact 4 from 31 to 22' \
     "${plan[@]}" --explained examples/relay-routes.txt
 echo 'refused: Empty' >"$room/refused.txt"
@@ -229,8 +319,7 @@ told=$(tools/timeline "${plan[@]}" 2>&1 >&-)
 expect 'no standard output' '5 timeline: standard output is closed' "$? $told"
 
 # The reader is gone, and more is to be written than a pipe holds.
-seq 1000 | sed 's/.*/a contact 2030\/01\/01-00:00:00 2030\/01\/01-01:00:00 & 1001 5/' >"$room/many.txt"
-tools/timeline --plan "$room/many.txt" 2>"$room/told" | head -n 1 >"$room/said"
-expect 'a closed pipe' '' "$(cat "$room/told")"
+tools/timeline --plan "$room/many.txt" --all 2>"$room/told" | head -n 1 >"$room/said"
+expect 'a high picture, and a closed pipe' '27069 ' "$(grep -o 'height="[0-9]*' "$room/said" | tr -dc '0-9') $(cat "$room/told")"
 
 finish picture

@@ -1,4 +1,4 @@
-"""What the tools share: times, plans, the routes that the program prints, running the program, and names of nodes.
+"""What the tools share: times, plans, names of nodes, and how a tool runs.
 
 Each tool begins as follows, so that Python leaves no compiled module beside the tools:
 
@@ -6,27 +6,30 @@ Each tool begins as follows, so that Python leaves no compiled module beside the
     sys.dont_write_bytecode = True
     import contact_plan
 
-and ends with `run_tool(NAME, tool)`. Nothing here looks for routes or computes arrivals: the program does.
+and ends with `run_tool(tool)`. The module `routes` asks the program, and `questions` reads the words that the
+tools share. None of them looks for routes or computes arrivals: the program does.
 """
 
 import argparse
 import bisect
+import itertools
 import os
 import re
-import shutil
 import signal
-import subprocess
 import sys
+import tempfile
+import threading
+import time
 from collections import defaultdict
-from dataclasses import dataclass
+from dataclasses import dataclass, replace
 from datetime import datetime, timedelta, timezone
-from pathlib import Path
 
 EPOCH = datetime(1970, 1, 1, tzinfo=timezone.utc)
 DAY = 86400
 LAST = 253370764799  # 9998/12/31-23:59:59, the last time that a plan or a word can name
-HERE = os.path.dirname(os.path.realpath(__file__))
-SCRIPT = os.path.join(os.path.dirname(HERE), "cgrlist")  # where a clone has the program's script
+CLONE = os.path.dirname(os.path.dirname(os.path.realpath(__file__)))  # the clone, if the tool stands in one
+SCRIPT = os.path.join(CLONE, "cgrlist")
+BUILT = os.path.join(CLONE, "crates/cgrlist/out/cgrlist")  # what the script runs if it is current
 
 WORDS_STATUS, PLAN_STATUS, FILE_STATUS, START_STATUS = 2, 3, 5, 125  # as the program and its script use them
 
@@ -42,12 +45,15 @@ class Refused(Exception):
 # ---- Times ------------------------------------------------------------------------------------------------------
 
 
+_TIME = re.compile(r"(\d{4})/(\d\d)/(\d\d)-(\d\d):(\d\d):(\d\d)", re.ASCII)
+
+
 def seconds_of(text):
     """Reads `yyyy/mm/dd-hh:mm:ss` as seconds since 1970; ValueError if it is spelled otherwise."""
-    if not re.fullmatch(r"\d{4}/\d\d/\d\d-\d\d:\d\d:\d\d", text, re.ASCII):
+    found = _TIME.fullmatch(text)
+    if not found:
         raise ValueError(f"not a time: {text}")
-    time = datetime.strptime(text, "%Y/%m/%d-%H:%M:%S").replace(tzinfo=timezone.utc)
-    return (time - EPOCH) // timedelta(seconds=1)
+    return (datetime(*map(int, found.groups()), tzinfo=timezone.utc) - EPOCH) // timedelta(seconds=1)
 
 
 def date_of(seconds):
@@ -57,8 +63,13 @@ def date_of(seconds):
 
 def time_text(seconds):
     """Spells a second since 1970 as `yyyy/mm/dd-hh:mm:ss`."""
-    time = date_of(seconds)
-    return f"{time.year:04}/{time.month:02}/{time.day:02}-{time.hour:02}:{time.minute:02}:{time.second:02}"
+    it = date_of(seconds)
+    return f"{it.year:04}/{it.month:02}/{it.day:02}-{it.hour:02}:{it.minute:02}:{it.second:02}"
+
+
+def iso_text(seconds):
+    """Spells a second since 1970 as `yyyy-mm-ddThh:mm:ssZ`."""
+    return date_of(seconds).strftime("%Y-%m-%dT%H:%M:%SZ")
 
 
 # ---- Plans ------------------------------------------------------------------------------------------------------
@@ -73,12 +84,19 @@ class Contact:
     end: int
     sender: int
     receiver: int
+    rate: int  # bytes in a second
     light: "int | None" = None
 
     @property
     def link(self):
         """The sender and the receiver."""
         return self.sender, self.receiver
+
+    def lines(self):
+        """The lines of a plan in which the contact is as it is here."""
+        times, nodes = f"{time_text(self.start)} {time_text(self.end)}", f"{self.sender} {self.receiver}"
+        light = f"a range {time_text(self.start)} {time_text(self.start + 1)} {nodes} {self.light}\n"
+        return f"a contact {times} {nodes} {self.rate}\n{'' if self.light is None else light}"
 
 
 class Ranges:
@@ -155,14 +173,19 @@ class Plan:
             raise Refused(f"the plan has no contact {number}")
         return self._numbered[number]
 
+    def delete(self, number):
+        """Takes out the contact with a number. Returns the line that does so at the end of the plan."""
+        it = self.contact(number)
+        del self._numbered[number]
+        return f"d contact {time_text(it.start)} {it.sender} {it.receiver}"
+
     def nodes_of(self, contacts):
         """The nodes that a list of contact numbers passes, in order."""
         path = [self.contact(number) for number in contacts]
         return [it.sender for it in path[:1]] + [it.receiver for it in path]
 
     def _with_light(self, it):
-        light = self._ranges.light(it.sender, it.receiver, it.start)
-        return Contact(it.number, it.start, it.end, it.sender, it.receiver, light)
+        return replace(it, light=self._ranges.light(it.sender, it.receiver, it.start))
 
     def _time(self, word):
         return self._reference + int(word) if word.startswith("+") else seconds_of(word)
@@ -183,8 +206,8 @@ class Plan:
 
     def _add_contact(self, start, words):
         self._given += 1
-        sender, receiver = int(words[1]), int(words[2])
-        self._standing[start, sender, receiver] = Contact(self._given, start, self._time(words[0]), sender, receiver)
+        end, (sender, receiver, rate) = self._time(words[0]), map(int, words[1:])
+        self._standing[start, sender, receiver] = Contact(self._given, start, end, sender, receiver, rate)
 
     def _add_range(self, start, words):
         one, other, light = map(int, words[1:])
@@ -197,174 +220,10 @@ class Plan:
         self._ranges.delete((int(words[0]), int(words[1])), start)
 
 
-# ---- Routes -----------------------------------------------------------------------------------------------------
-
-
-@dataclass(frozen=True)
-class Hop:
-    """A hop of a route: its contact's number and nodes, and the seconds of sending and of arrival."""
-
-    contact: int
-    sender: int
-    receiver: int
-    send: int
-    arrive: int
-
-    @property
-    def link(self):
-        """The sender and the receiver."""
-        return self.sender, self.receiver
-
-
-@dataclass(frozen=True)
-class Route:
-    """A route as the program prints it; with its hops only if the program explained it."""
-
-    rank: int
-    delivery: int
-    entry: int
-    until: int
-    contacts: "tuple[int, ..]"
-    hops: "tuple[Hop, ..]" = ()
-
-    def text(self):
-        """What the program prints of it after the rank."""
-        contacts = " ".join(map(str, self.contacts))
-        return (
-            f"delivery {time_text(self.delivery)} hops {len(self.contacts)} entry {self.entry}"
-            f" until {time_text(self.until)} contacts {contacts}"
-        )
-
-
-@dataclass(frozen=True)
-class Report:
-    """The routes of a report, or of several pages, and whether the list ends with them: None if it doesn't say."""
-
-    routes: "tuple[Route, ..]"
-    is_whole: "bool | None"
-
-
-_ROUTE = r"delivery (\S+) hops \d+ entry (\d+) until (\S+) contacts (\d+(?: \d+)*)"
-_REPORTED = re.compile(r"(\d+) " + _ROUTE)
-_EXPLAINED = re.compile(_ROUTE)
-_HOP = re.compile(r"hop \d+ contact (\d+) from (\d+) to (\d+) send (\S+) arrive (\S+)")
-
-
-def _told_second(text):
-    """A time of a report or an explanation."""
-    try:
-        return seconds_of(text)
-    except ValueError as error:
-        raise Refused(f"this is no time of a report: {text}") from error
-
-
-def _route(rank, words, hops=()):
-    delivery, entry, until, contacts = words
-    numbers = tuple(map(int, contacts.split()))
-    return Route(int(rank), _told_second(delivery), int(entry), _told_second(until), numbers, tuple(hops))
-
-
-def report_of(lines):
-    """Reads a report, or pages of one: its routes, without hops, and its last `more` or `end`."""
-    routes, is_whole = [], None
-    for line in map(str.strip, lines):
-        if found := _REPORTED.fullmatch(line):
-            routes.append(_route(found[1], found.groups()[1:]))
-            is_whole = None
-        elif line in ("more", "end"):
-            is_whole = line == "end"
-        elif line:
-            raise Refused(f"this is no line of a report: {line}")
-    return Report(tuple(routes), is_whole)
-
-
-def explained_routes(lines, ranks=None):
-    """Reads explanations, one after the other, as routes. They have the ranks 1, 2, .. if none are given."""
-    routes, hops = [], []
-    for line in map(str.strip, lines):
-        if found := _HOP.fullmatch(line):
-            hops.append(Hop(*map(int, found.groups()[:3]), _told_second(found[4]), _told_second(found[5])))
-        elif found := _EXPLAINED.fullmatch(line):
-            rank = ranks[len(routes)] if ranks else len(routes) + 1
-            routes.append(_route(rank, found.groups(), hops))
-            hops = []
-        elif line:
-            raise Refused(f"this is no line of a route's explanation: {line}")
-    if hops:
-        raise Refused("the explanations are cut: the last one has no line 'delivery'")
-    return routes
-
-
-# ---- Requests and the program -----------------------------------------------------------------------------------
-
-REQUEST = {
-    "from": ("N", "the source"),
-    "to": ("N", "the destination"),
-    "at": ("T", "when the bundle is at the source, UTC: yyyy/mm/dd-hh:mm:ss"),
-    "margin-ppm": ("P", "a margin on each light time, in parts in a million of it"),
-    "max-hops": ("H", "routes of at most so many contacts"),
-    "avoid": ("LIST", "nodes that no route may pass, rising, joined by commas"),
-}
-
-
-def add_request_words(parser, required=(), without=()):
-    """Adds the words of a request, as the program takes them, to a parser of the command line."""
-    for name, (value, meaning) in REQUEST.items():
-        if name not in without:
-            parser.add_argument(f"--{name}", metavar=value, help=meaning, required=name in required)
-
-
-def add_program_word(parser):
-    """Adds the word `--program` to a parser of the command line."""
-    places = "if not given, the clone's script cgrlist, or else the one in the path"
-    parser.add_argument("--program", metavar="P", help=f"the program; {places}")
-
-
-def request_words(words):
-    """The words of the request among parsed ones, with the plan, as the program takes them."""
-    if Path(words.plan).is_fifo():
-        raise Refused("the plan is a pipe: the program has to read it again, so give it as a file")
-    given = [(name, getattr(words, name.replace("-", "_"), None)) for name in ("plan", *REQUEST)]
-    return [text for name, value in given if value is not None for text in (f"--{name}", str(value))]
-
-
-class Program:
-    """The program, which is asked by its commands. What it prints on standard error goes to the tool's."""
-
-    def __init__(self, given=None):
-        """Takes the program that is given, the script of the clone that the tool stands in, or the one in the path."""
-        places = [SCRIPT, "cgrlist"] if given is None else [given]
-        self.path = next(filter(None, map(shutil.which, places)), None)
-        if not self.path:
-            looked = f"{SCRIPT} and for cgrlist in the path; --program names another place" if given is None else given or "''"
-            raise Refused(f"there is no program: looked for {looked}", START_STATUS)
-
-    def first(self, request, count):
-        """The report of the first routes of a request, given by its words."""
-        return report_of(self.run("first", *request, "--count", str(count)).split("\n"))
-
-    def explain(self, request, route):
-        """A route of a report, with its hops."""
-        numbers = ",".join(map(str, route.contacts))
-        told = self.run("explain", *request, "--contacts", numbers)
-        return explained_routes(told.split("\n"), [route.rank])[0]
-
-    def run(self, *words):
-        """What the program prints on standard output; Refused, with its status, if that isn't 0."""
-        try:
-            ran = subprocess.run([self.path, *words], stdout=subprocess.PIPE, text=True, errors="replace", check=False)
-        except OSError as error:
-            raise Refused(f"cannot start {self.path}: {error.strerror}", START_STATUS) from error
-        if ran.returncode < 0:
-            raise Refused(f"cgrlist {words[0]} was ended by signal {-ran.returncode}", 128 - ran.returncode)
-        if ran.returncode == 1:
-            raise Refused(f"cgrlist {words[0]} answers: {[*ran.stdout.splitlines(), 'no'][-1]}")
-        if ran.returncode:
-            raise Refused(None, ran.returncode)
-        return ran.stdout
-
-
 # ---- Names of nodes ---------------------------------------------------------------------------------------------
+
+
+NODE = re.compile(r"[1-9]\d{0,19}", re.ASCII)
 
 
 class Names:
@@ -392,20 +251,24 @@ class Names:
         """The node's number, and its name if it has one."""
         return f"{node} {self._names[node]}" if node in self._names else str(node)
 
+    def node(self, text):
+        """The node that a number or a name says; ValueError if it is neither."""
+        if NODE.fullmatch(text):
+            return int(text)
+        found = [node for node, name in self._names.items() if name == text]
+        if not found:
+            raise ValueError(f"no node's number{' and no name' if self._names else ''}: {text}")
+        return found[0]
+
     def _take(self, line):
         number, name = [*line.split(None, 1), ""][:2]
-        if not re.fullmatch(r"[1-9]\d{0,19}", number, re.ASCII):
+        if not NODE.fullmatch(number):
             raise ValueError("it doesn't begin with a node's number")
         if not name or not name.isprintable():
             raise ValueError("it has no name that can be printed")
         if int(number) in self._names or name in self._names.values():
             raise ValueError("the node or the name stands in a line above")
         self._names[int(number)] = name
-
-
-def add_names_word(parser):
-    """Adds the word `--names` to a parser of the command line."""
-    parser.add_argument("--names", metavar="FILE", help="names of nodes: lines as '31 lander'; '#' begins a comment")
 
 
 # ---- Tools ------------------------------------------------------------------------------------------------------
@@ -416,11 +279,19 @@ class Words(argparse.ArgumentParser):
 
     def __init__(self, text):
         shape = argparse.RawDescriptionHelpFormatter
-        super().__init__(prog=os.path.basename(sys.argv[0]), description=text, formatter_class=shape, allow_abbrev=False)
+        text = with_commands(text) if Tool.name.startswith("cgrlist-") else text
+        super().__init__(prog=Tool.name, description=text, formatter_class=shape, allow_abbrev=False)
 
     def error(self, message):
         """Refuses the words."""
         raise Refused(f"{message}; see --help", WORDS_STATUS)
+
+
+def with_commands(text):
+    """A tool's text with the commands of installed tools, `cgrlist-report` for `tools/report`; columns stay."""
+    # A column begins after two spaces or more, and there are two more for the two letters that a command is longer.
+    of_line = re.compile(r"tools/(\w+)((?:(?!  ).)*)(?:  (?=  ))?")
+    return of_line.sub(lambda it: f"cgrlist-{it[1].replace('_', '-')}{it[2]}", text)
 
 
 def lines_of(path):
@@ -429,27 +300,106 @@ def lines_of(path):
         return file.read().split("\n")
 
 
-def run_tool(name, tool):
+class Progress:
+    """Tells on standard error how far a tool is: on a terminal once it has taken a second and then in one line, else in
+    a line every ten seconds. One within another tells nothing.
+    """
+
+    def __init__(self):
+        self._is_first = Tool.progress is None
+        if self._is_first:
+            Tool.progress = self
+        self._is_terminal = sys.stderr is not None and sys.stderr.isatty()
+        self._is_shown, self._due = False, time.monotonic() + (1 if self._is_terminal else 10)
+
+    def tell(self, text):
+        """Shows a text, on a terminal in place of the last one."""
+        if not self._is_first or time.monotonic() < self._due:
+            return
+        self._due = time.monotonic() + (0.2 if self._is_terminal else 10)
+        if self._is_terminal:
+            print(f"\r\033[K{Tool.name}: {text}", end="", file=sys.stderr, flush=True)
+            self._is_shown = True
+        else:
+            tell(text)
+
+    def clear(self):
+        """Takes the text from a terminal."""
+        if self._is_shown:
+            print("\r\033[K", end="", file=sys.stderr, flush=True)
+            self._is_shown = False
+
+    def end(self):
+        """Ends the telling."""
+        self.clear()
+        if self._is_first:
+            Tool.progress = None
+
+
+class Tool:
+    """The tool that runs: its name, a folder of its own if it needed one, and what tells how far it is."""
+
+    name = os.path.basename(sys.argv[0])
+    progress = None
+    folder = None
+    lock = threading.Lock()
+    counted = itertools.count(1)
+
+
+def scratch():
+    """The path of a new file, in a folder that goes when the tool ends."""
+    with Tool.lock:
+        Tool.folder = Tool.folder or tempfile.TemporaryDirectory(prefix="cgrlist-")
+    return os.path.join(Tool.folder.name, str(next(Tool.counted)))
+
+
+class Ended(BaseException):
+    """A signal ends the tool."""
+
+
+def _end(number, _):
+    raise Ended(number)
+
+
+def run_tool(tool):
     """Prints the text that a tool returns. If it is refused, says why and ends with that status."""
     signal.signal(signal.SIGPIPE, signal.SIG_DFL)
-    signal.signal(signal.SIGINT, signal.SIG_DFL)
+    for number in (signal.SIGINT, signal.SIGTERM):
+        signal.signal(number, _end)
+    try:
+        _run(tool)
+    except Ended as ended:
+        if Tool.folder:
+            Tool.folder.cleanup()
+        signal.signal(ended.args[0], signal.SIG_DFL)
+        os.kill(os.getpid(), ended.args[0])
+
+
+def _run(tool):
     if sys.stdout is None:
-        _give_up(name, "standard output is closed", FILE_STATUS)
+        _give_up("standard output is closed", FILE_STATUS)
     sys.stdout.reconfigure(encoding="utf-8")
     try:
         sys.stdout.write(tool())
         sys.stdout.flush()
     except Refused as refused:
-        _give_up(name, refused.message, refused.status)
+        _give_up(refused.message, refused.status)
     except OSError as error:
         where = f"{error.filename}: " if error.filename else ""
-        _give_up(name, f"{where}{error.strerror}", FILE_STATUS)
+        _give_up(f"{where}{error.strerror}", FILE_STATUS)
 
 
-def _give_up(name, message, status):
+def tell(message):
+    """Prints a line on standard error."""
+    if Tool.progress:
+        Tool.progress.clear()
+    line = "".join(it if it.isprintable() else repr(it)[1:-1] for it in message)
+    print(f"{Tool.name}: {line}", file=sys.stderr)
+
+
+def _give_up(message, status):
     """Ends a tool, with one line that says why, unless it was printed already."""
     if message is not None:
-        line = "".join(it if it.isprintable() else repr(it)[1:-1] for it in message)
-        print(f"{name}: {line}", file=sys.stderr)
+        tell(message)
     sys.stdout = None  # what stands there unwritten is not tried again
     sys.exit(status)

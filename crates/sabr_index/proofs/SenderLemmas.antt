@@ -6,7 +6,7 @@ use Rattle.std.specs.Option.{option_map, option_map_or}
 use Rattle.std.specs.Cmp.{nat_eq_equiv}
 use Rattle.std.proofs.lemmas.Bool.{cases_eq, cases_lt, or_cases, or_left, or_right, eqb-true, eq-eqb}
 use Rattle.std.proofs.lemmas.List.Concat.{flat_map-cons}
-use Rattle.std.proofs.lemmas.List.Folds.{list_any-append}
+use Rattle.std.proofs.lemmas.List.Folds.{list_any-append, flat_map-map}
 use Rattle.std.proofs.lemmas.List.Sums.{sum_by-cons}
 use Rattle.std.proofs.lemmas.List.{length-map}
 use Rattle.std.proofs.lemmas.Map.Made.{length-le_from_is_member}
@@ -305,6 +305,9 @@ module _ {A : Type 0} (p : TabledPlan) (linked : List (NodeLinks A)) (are : AreL
                   )
               | inr past ↦ absurd (let behind = past.0 in let within = slice_get_within p.table i c.from sender_at in omega (arith, behind, within, many))
             ];
+        once =
+            rw (flat_map-map (λ (s : SentLink). numbers_of s.passes) (λ (e : Incoming). record { sender = e.sender; passes = passes_named linked e }) es)
+            (all_differ es each_here incoming.once);
         few =
             subst (λ k. k ≤ length (received_by p.plan.contacts node)) (sym (as_many es))
             (length-le_from_is_member nat_eq_equiv (all_numbers linked es) (received_by p.plan.contacts node)

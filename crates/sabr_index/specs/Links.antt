@@ -1,6 +1,6 @@
 -- A node's links: its standing contacts with a light time by receiver, and by start on each link.
 use Rattle.std.specs.Prelude.{IsTrue, ◌≡◌, ℕ, ◌+◌, ◌<◌, ◌≤◌, ◌==◌, List, length, map, slice_get}
-use Rattle.std.specs.List.{sum_by, filter}
+use Rattle.std.specs.List.{sum_by, flat_map, filter}
 use Rattle.std.specs.declared.option.Option.TheVariants.{Some}
 use Rattle.sabr_model.specs.declared.contact.Contact.{Contact}
 use Rattle.sabr_index.specs.declared.link.Pass.{Pass}
@@ -85,10 +85,11 @@ pub record IsLinkTo (p : TabledPlan) (node : ℕ) (s : SentLink) : Type 0 where
   pub kept : (i k : ℕ) (x y : Pass) → i ≤ k → slice_get s.passes i ≡ Some x → slice_get s.passes k ≡ Some y → IsBefore x y
   pub in_rows : (i j : ℕ) (x y : Pass) → slice_get s.passes i ≡ Some x → slice_get s.passes (i + j) ≡ Some y → IsInRow x j y
 
--- The links are those to the node: each standing contact to it that has a light time is a pass of one of them, and
--- together they have no more passes than the node receives contacts.
+-- The links are those to the node: each standing contact to it that has a light time is a pass of one of them, no
+-- contact stands there twice, and together they have no more passes than the node receives contacts.
 pub record AreLinksTo (p : TabledPlan) (node : ℕ) (links : List SentLink) : Type 0 where
   pub each : (j : ℕ) (s : SentLink) → slice_get links j ≡ Some s → IsLinkTo p node s
   pub whole : (n t : ℕ) (c : Contact) → contact_named p.plan n ≡ Some c → c.to ≡ node → light_of p.plan c ≡ Some t
       → (j k : ℕ) × (s : SentLink) × (x : Pass) × (slice_get links j ≡ Some s) × (slice_get s.passes k ≡ Some x) × (x.number ≡ n)
+  pub once : IsTrue (are_different (flat_map (λ s. numbers_of s.passes) links))
   pub few : sum_by (λ s. length s.passes) links ≤ length (received_by p.plan.contacts node)

@@ -11,8 +11,8 @@ use std::marker::Model;
 /// A link by the index of its sender in the table of nodes, and its place among the sender's links.
 #[derive(Clone, Copy)]
 pub struct Incoming {
-    pub sender: u32,
-    pub link: u32,
+    pub sender: usize,
+    pub link: usize,
 }
 
 /// The links to one node, each with its sender.
@@ -90,9 +90,9 @@ fn sender_named<A: Allocator + Copy>(linked: &[NodeLinks<A>], named: Incoming) -
     ensures passes { result.passes.now ≡ passes_named linked.now named }
     ensures bounds { AreWithin result.bounds result.passes.now }
 {
-    match linked.get(named.sender as usize) {
+    match linked.get(named.sender) {
         Some(node) => sender_at(node, named),
-        None => no_passes(named.sender as usize),
+        None => no_passes(named.sender),
     }
 }
 
@@ -103,13 +103,13 @@ fn sender_at<A: Allocator + Copy>(node: &NodeLinks<A>, named: Incoming) -> Sende
     ensures passes { result.passes.now ≡ passes_at node.now named.link }
     ensures bounds { AreWithin result.bounds result.passes.now }
 {
-    match node.links.get(named.link as usize) {
+    match node.links.get(named.link) {
         Some(link) => Sender {
-            node: named.sender as usize,
+            node: named.sender,
             passes: passes_over(&node.passes, link),
             bounds: link.bounds,
         },
-        None => no_passes(named.sender as usize),
+        None => no_passes(named.sender),
     }
 }
 

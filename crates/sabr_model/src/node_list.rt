@@ -54,6 +54,7 @@ impl NodeList {
         ensures pushed { IfSome result (λ _. self.new ≡ self.old ++ node ∷ []) }
         ensures limit { IfSome result (λ _. length self.new ≤ 16) }
         ensures full { result ≡ None → length self.old ≡ 16 }
+        ensures left { result ≡ None → self.new ≡ self.old }
     {
         match self.nodes.try_push(node) {
             Ok(()) => Some(()),

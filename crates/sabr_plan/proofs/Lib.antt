@@ -6,6 +6,7 @@ pub mod Days
 pub mod Dates
 pub mod Spelling
 pub mod Seconds
+pub mod KnownDays
 pub mod Lines
 pub mod Outcomes
 pub mod Held

@@ -1,23 +1,15 @@
--- A text of graphic words, each after one space, has those words.
-use Rattle.std.proofs.Common.{◌≡◌, ◌≢◌, ℕ, ◌<◌, true, false, eqb, leb, List, [], ◌∷◌, ◌++◌, length, take, drop, get_or, refl, sym, ap, ◌∙◌, arith, append_assoc, not}
+-- A text of graphic words, each after blanks, has those words.
+use Rattle.std.proofs.Common.{◌≡◌, ◌≢◌, ℕ, ◌<◌, true, false, eqb, leb, List, [], ◌∷◌, ◌++◌, length, drop, get_or, refl, sym, ap, ◌∙◌, arith, append_assoc, append-nil, not, ◌||◌, ◌&&◌}
 use Rattle.std.specs.List.{All, list_all}
 use Rattle.std.proofs.lemmas.Bool.{and_parts, ne_eqb, false≢true}
-use Rattle.std.specs.Cmp.Lexicographic.{pointwise, same_text}
-use Rattle.std.specs.Prelude.{nat_eq}
-use Rattle.std.proofs.lemmas.List.{take-append-drop}
 use Rattle.std.proofs.Math.Bool.{or-true}
 use Rattle.std.proofs.lemmas.List.Folds.{list_all-append}
 use Rattle.std.proofs.lemmas.List.Sums.{AllPass-from_list_all}
 use borrow.Author.Tests.{leb-true, le-leb, ltb-true, lt-ltb, eqb-true}
 use Rattle.sabr_plan.specs.Digits.{is_digit}
-use Rattle.sabr_plan.specs.Words.{is_blank, is_plain, has_bytes, is_one_line, words_of}
-use Rattle.sabr_plan.specs.PlainWords.{is_graphic, is_graphic_word, is_plain_from_space, IsAhead}
+use Rattle.sabr_plan.specs.Words.{is_blank, is_plain, is_comment, has_bytes, is_one_line, words_of}
+use Rattle.sabr_plan.specs.PlainWords.{is_graphic, is_graphic_word, is_plain_from_blank, IsAfterBlanks, IsAfterGap, IsAtEnd, IsFront, IsAhead, BeginsWithLine}
 use Rattle.sabr_plan.proofs.FirstWords.{first_is, words_of-blank, words_of-nil}
-
--- words, each after one space
-abbrev pub spaced : List (List ℕ) → List ℕ
-spaced [] = []
-spaced (w ∷ ws) = 32 ∷ (w ++ spaced ws)
 
 -- a graphic byte is no blank
 no_blank : (b : ℕ) → is_graphic b ≡ true → is_blank b ≡ false
@@ -70,9 +62,27 @@ plain_one (b ∷ w) h =
 pub graphic_one : (w : List ℕ) → list_all is_graphic w ≡ true → is_one_line w ≡ true
 graphic_one w h = plain_one w (plain_word w h)
 
-starts_blank : (ws : List (List ℕ)) → 0 < length (spaced ws) → is_blank (get_or (spaced ws) 0 0) ≡ true
-starts_blank [] h = absurd (omega arith)
-starts_blank (w ∷ ws) h = refl
+-- blanks are plain
+blank_plain : (b : ℕ) → is_blank b ≡ true → is_plain b ≡ true
+blank_plain b h =
+    (elim (eqb b 9) as (λ t. (t || eqb b 32) ≡ true → (t || (leb 32 b && leb b 126)) ≡ true) [
+      | true ↦ λ _. refl
+      | false ↦ λ space. rw (eqb-true b 32 space) refl
+    ]) h
+
+pub plain_blanks : (bs : List ℕ) → list_all is_blank bs ≡ true → list_all is_plain bs ≡ true
+plain_blanks [] h = refl
+plain_blanks (b ∷ bs) h = let p = and_parts (is_blank b) (list_all is_blank bs) h in rw (blank_plain b p.0, plain_blanks bs p.1) refl
+
+-- blanks before a text change no word
+words_of-blanks : (bs text : List ℕ) → list_all is_blank bs ≡ true → words_of (bs ++ text) ≡ words_of text
+words_of-blanks [] text h = refl
+words_of-blanks (b ∷ bs) text h = let p = and_parts (is_blank b) (list_all is_blank bs) h in words_of-blank b (bs ++ text) p.0 ∙ words_of-blanks bs text p.1
+
+-- the first of them
+first_blank : (bs text : List ℕ) → 0 < length bs → list_all is_blank bs ≡ true → is_blank (get_or (bs ++ text) 0 0) ≡ true
+first_blank [] text some h = absurd (omega arith)
+first_blank (b ∷ bs) text some h = (and_parts (is_blank b) (list_all is_blank bs) h).0
 
 -- a graphic word is the first of a text that continues with a space
 pub first_of : (w text : List ℕ) → is_graphic_word w ≡ true → (0 < length text → is_blank (get_or text 0 0) ≡ true) → words_of (w ++ text) ≡ w ∷ words_of text
@@ -80,53 +90,93 @@ first_of w text h ends =
     let p = and_parts (has_bytes w) (list_all is_graphic w) h in
     first_is w text (ltb-true 0 (length w) p.0) (no_blanks w p.1) ends
 
--- such a text has these words
-pub words_of-spaced : (ws : List (List ℕ)) → list_all is_graphic_word ws ≡ true → words_of (spaced ws) ≡ ws
-words_of-spaced [] h = words_of-nil
-words_of-spaced (w ∷ ws) h =
-    let p = and_parts (is_graphic_word w) (list_all is_graphic_word ws) h in
-    words_of-blank 32 (w ++ spaced ws) refl ∙ first_of w (spaced ws) p.0 (starts_blank ws) ∙ ap (λ vs. w ∷ vs) (words_of-spaced ws p.1)
-
--- and it is plain
-pub plain-spaced : (ws : List (List ℕ)) → list_all is_graphic_word ws ≡ true → list_all is_plain (spaced ws) ≡ true
-plain-spaced [] h = refl
-plain-spaced (w ∷ ws) h =
-    let p = and_parts (is_graphic_word w) (list_all is_graphic_word ws) h in
-    let word = and_parts (has_bytes w) (list_all is_graphic w) p.0 in
-    rw (list_all-append is_plain w (spaced ws), plain_word w word.1, plain-spaced ws p.1) refl
-
--- what comes after a front that was tested
-pub behind_prefix : (s p rest : List ℕ) → pointwise nat_eq (take (length p) s) p ≡ true → rest ≡ drop (length p) s → s ≡ p ++ rest
-behind_prefix s p rest same is =
-    sym (take-append-drop (length p) s) ∙ ap (λ l. l ++ drop (length p) s) (same_text (take (length p) s) p (sym same)) ∙ ap (λ l. p ++ l) (sym is)
-
--- an LF comes after the word
-pub still_ended : {Holds : List ℕ → Type 0} {text rest : List ℕ} → IsAhead Holds text rest → is_one_line text ≡ false → is_one_line rest ≡ false
-still_ended {Holds} {text} {rest} ahead lf =
-    let one = graphic_one ahead.word (and_parts (has_bytes ahead.word) (list_all is_graphic ahead.word) ahead.graphic).1 in
-    let same : is_one_line text ≡ is_one_line rest = ap is_one_line ahead.parts ∙ list_all-append (λ b. not (eqb b 10)) ahead.word rest ∙ rw one refl in
+-- an LF that comes after plain bytes
+pub still_ended : (front rest : List ℕ) → list_all is_plain front ≡ true → is_one_line (front ++ rest) ≡ false → is_one_line rest ≡ false
+still_ended front rest plain lf =
+    let same : is_one_line (front ++ rest) ≡ is_one_line rest = list_all-append (λ b. not (eqb b 10)) front rest ∙ rw (plain_one front plain) refl in
     sym same ∙ lf
 
-word_before : {Holds : List ℕ → Type 0} {text rest : List ℕ} (ahead : IsAhead Holds text rest) (ws : List (List ℕ)) (tail : List ℕ) → rest ≡ spaced ws ++ tail → text ≡ spaced (ahead.word ∷ ws) ++ tail
-word_before ahead ws tail e = ahead.parts ∙ ap (λ r. 32 ∷ (ahead.word ++ r)) e ∙ ap (λ r. 32 ∷ r) (sym (append_assoc ahead.word (spaced ws) tail))
+pub ended_blanks : {text rest : List ℕ} → IsAfterBlanks text rest → is_one_line text ≡ false → is_one_line rest ≡ false
+ended_blanks {text} {rest} after lf = still_ended after.blanks rest (plain_blanks after.blanks after.blank) (rw after.parts at lf)
 
--- five words, one after another, and an LF after them
-module _ {P₁ P₂ P₃ P₄ P₅ : List ℕ → Type 0} {t t₁ t₂ t₃ t₄ t₅ : List ℕ} (a : IsAhead P₁ t t₁) (b : IsAhead P₂ t₁ t₂) (c : IsAhead P₃ t₂ t₃) (d : IsAhead P₄ t₃ t₄) (e : IsAhead P₅ t₄ t₅) (end : t₅ ≡ 10 ∷ drop 1 t₅) where
-  abbrev pub five : List (List ℕ)
-  five = a.word ∷ b.word ∷ c.word ∷ d.word ∷ e.word ∷ []
+pub ended_gap : {text rest : List ℕ} → IsAfterGap text rest → is_one_line text ≡ false → is_one_line rest ≡ false
+ended_gap {text} {rest} gap lf = still_ended gap.blanks rest (plain_blanks gap.blanks gap.blank) (rw gap.parts at lf)
 
-  pub five_parts : t ≡ spaced five ++ 10 ∷ drop 1 t₅
-  five_parts =
-      let four = word_before d (e.word ∷ []) (10 ∷ drop 1 t₅) (word_before e [] (10 ∷ drop 1 t₅) end) in
-      let three = word_before c (d.word ∷ e.word ∷ []) (10 ∷ drop 1 t₅) four in
-      word_before a (b.word ∷ c.word ∷ d.word ∷ e.word ∷ []) (10 ∷ drop 1 t₅) (word_before b (c.word ∷ d.word ∷ e.word ∷ []) (10 ∷ drop 1 t₅) three)
+pub ended_front : {Holds : List ℕ → Type 0} {text rest : List ℕ} → IsFront Holds text rest → is_one_line text ≡ false → is_one_line rest ≡ false
+ended_front {Holds} {text} {rest} front lf =
+    still_ended front.word rest (plain_word front.word (and_parts (has_bytes front.word) (list_all is_graphic front.word) front.graphic).1) (rw front.parts at lf)
 
-  pub graphic : list_all is_graphic_word five ≡ true
-  graphic = rw (a.graphic, b.graphic, c.graphic, d.graphic, e.graphic) refl
+pub ended_ahead : {Holds : List ℕ → Type 0} {text rest : List ℕ} → IsAhead Holds text rest → is_one_line text ≡ false → is_one_line rest ≡ false
+ended_ahead ahead lf = ended_front ahead.front (ended_gap ahead.gap lf)
 
--- a line that begins in this way has these words
-pub commanded : (name text : List ℕ) → is_graphic_word name ≡ true → is_plain_from_space text ≡ true → words_of (97 ∷ 32 ∷ (name ++ text)) ≡ (97 ∷ []) ∷ name ∷ words_of text
-commanded name text h behind =
-    let space = eqb-true (get_or text 0 0) 32 (and_parts (eqb (get_or text 0 0) 32) (list_all is_plain text) behind).0 in
-    first_of (97 ∷ []) (32 ∷ (name ++ text)) refl (λ _. refl)
-    ∙ ap (λ ws. (97 ∷ []) ∷ ws) (words_of-blank 32 (name ++ text) refl ∙ first_of name text h (λ _. rw space refl))
+-- a text begins with a line of these words and its LF; the line is empty or begins with a blank
+pub record HasLine (words : List (List ℕ)) (text : List ℕ) : Type 0 where
+  pub line : List ℕ
+  pub rest : List ℕ
+  pub parts : text ≡ line ++ 10 ∷ rest
+  pub plain : list_all is_plain line ≡ true
+  pub apart : 0 < length line → is_blank (get_or line 0 0) ≡ true
+  pub has : words_of line ≡ words
+
+pub at_end : {text rest : List ℕ} → IsAfterBlanks text rest → rest ≡ 10 ∷ drop 1 rest → IsAtEnd text
+at_end {text} {rest} after lf = record { rest = drop 1 rest; after = record { blanks = after.blanks; parts = after.parts ∙ ap (λ r. after.blanks ++ r) lf; blank = after.blank } }
+
+-- blanks and an LF
+pub no_words : {text : List ℕ} → IsAtEnd text → HasLine [] text
+no_words {text} end =
+    let blanks = end.after.blanks in
+    record {
+      line = blanks;
+      rest = end.rest;
+      parts = end.after.parts;
+      plain = plain_blanks blanks end.after.blank;
+      apart = λ some. rw append-nil at (first_blank blanks [] some end.after.blank);
+      has = sym (ap words_of (append-nil blanks)) ∙ words_of-blanks blanks [] end.after.blank ∙ words_of-nil;
+    }
+
+-- one more word before them
+pub more_words : {Holds : List ℕ → Type 0} {text rest : List ℕ} {words : List (List ℕ)} (ahead : IsAhead Holds text rest) → HasLine words rest → HasLine (ahead.front.word ∷ words) text
+more_words {Holds} {text} {rest} {words} ahead back =
+    let blanks = ahead.gap.blanks in
+    let word = ahead.front.word in
+    let graphic = and_parts (has_bytes word) (list_all is_graphic word) ahead.front.graphic in
+    let plain : list_all is_plain (blanks ++ (word ++ back.line)) ≡ true = rw (list_all-append is_plain blanks (word ++ back.line), list_all-append is_plain word back.line, plain_blanks blanks ahead.gap.blank, plain_word word graphic.1, back.plain) refl in
+    record {
+      line = blanks ++ (word ++ back.line);
+      rest = back.rest;
+      parts = ahead.gap.parts ∙ ap (λ r. blanks ++ r) (ahead.front.parts ∙ ap (λ r. word ++ r) back.parts) ∙ rw (append_assoc, append_assoc) refl;
+      plain = plain;
+      apart = λ _. first_blank blanks (word ++ back.line) (ltb-true 0 (length blanks) ahead.gap.some) ahead.gap.blank;
+      has = words_of-blanks blanks (word ++ back.line) ahead.gap.blank ∙ first_of word back.line ahead.front.graphic back.apart ∙ ap (λ ws. word ∷ ws) back.has;
+    }
+
+-- a line with a word begins with a blank
+pub from_blank : {word text : List ℕ} {words : List (List ℕ)} (has : HasLine (word ∷ words) text) → is_plain_from_blank has.line ≡ true
+from_blank {word} {text} {words} has =
+    let some : 0 < length has.line = (elim has.line as (λ l. words_of l ≡ word ∷ words → 0 < length l) [
+      | [] ↦ λ e. let none = words_of-nil in cc
+      | b ∷ l ↦ λ _. omega arith
+    ]) has.has in
+    rw (has.apart some, has.plain) refl
+
+-- any line that begins with a blank
+pub from_line : {Holds : List ℕ → Type 0} {text : List ℕ} (begins : BeginsWithLine Holds text) → HasLine (words_of begins.line) text
+from_line {Holds} {text} begins =
+    let parts = and_parts (is_blank (get_or begins.line 0 0)) (list_all is_plain begins.line) begins.plain in
+    record { line = begins.line; rest = begins.rest; parts = begins.parts; plain = parts.1; apart = λ _. parts.0; has = refl }
+
+-- `a` before them, where a line begins
+pub first_a : {text rest : List ℕ} {words : List (List ℕ)} (after : IsAfterBlanks text (97 ∷ rest)) (back : HasLine words rest) → (text ≡ (after.blanks ++ 97 ∷ back.line) ++ 10 ∷ back.rest) × (list_all is_plain (after.blanks ++ 97 ∷ back.line) ≡ true) × (words_of (after.blanks ++ 97 ∷ back.line) ≡ (97 ∷ []) ∷ words)
+first_a {text} {rest} {words} after back = (
+  after.parts ∙ ap (λ r. after.blanks ++ 97 ∷ r) back.parts ∙ rw append_assoc refl,
+  rw (list_all-append is_plain after.blanks (97 ∷ back.line), plain_blanks after.blanks after.blank, back.plain) refl,
+  words_of-blanks after.blanks (97 ∷ back.line) after.blank ∙ first_of (97 ∷ []) back.line refl back.apart ∙ ap (λ ws. (97 ∷ []) ∷ ws) back.has,
+)
+
+-- a line of plain bytes with a first word `a` is no comment
+pub no_comment : (bs text : List ℕ) → list_all is_blank bs ≡ true → is_comment (bs ++ 97 ∷ text) ≡ false
+no_comment [] text h = refl
+no_comment (b ∷ bs) text h =
+    let blank = (and_parts (is_blank b) (list_all is_blank bs) h).0 in
+    let other : b ≢ 35 = λ e. false≢true (rw e at blank) in
+    ne_eqb b 35 other

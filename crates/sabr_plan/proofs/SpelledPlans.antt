@@ -1,7 +1,7 @@
 -- The plan that a text spells obeys the rules of a plan: each command that a line may say keeps them.
-use Rattle.std.proofs.Common.{◌≡◌, ℕ, ◌+◌, ◌<◌, ◌≤◌, ◌^◌, Bool, true, false, List, [], ◌∷◌, length, refl, arith, Option, Some, None, Result, Ok, Err, IfOk, ok_or}
-use Rattle.std.specs.Prelude.{nat_lt, nat_le, not, codes, IfSome, if◌then◌else◌}
-use Rattle.std.specs.List.{list_all, list_any, filter}
+use Rattle.std.proofs.Common.{◌≡◌, ℕ, ◌+◌, ◌≤◌, Bool, true, false, List, [], ◌∷◌, length, refl, arith, Option, Some, None, Result, Ok, Err, IfOk, ok_or}
+use Rattle.std.specs.Prelude.{nat_lt, nat_le, not, codes, if◌then◌else◌}
+use Rattle.std.specs.List.{list_all}
 use Rattle.std.specs.Str.{bytes_eq}
 use Rattle.std.proofs.lemmas.Bool.{leb-true}
 use Rattle.sabr_model.specs.Plan.{ContactPlan, IsPlan, IsNode, last_time, opens}
@@ -10,7 +10,6 @@ use Rattle.sabr_model.specs.declared.fault.AddFault.{AddFault}
 use Rattle.sabr_model.proofs.PlanLemmas.{IsPlan-empty, IsPlan-push}
 use Rattle.sabr_model.proofs.RangeLemmas.{IsPlan-range}
 use Rattle.sabr_model.proofs.Deletions.{IsPlan-fewer_contacts, IsPlan-fewer_ranges}
-use Rattle.sabr_plan.specs.declared.fault.PlanFault.{PlanFault}
 use Rattle.sabr_plan.specs.declared.fault.PlanKind.{PlanKind}
 use Rattle.sabr_plan.specs.declared.fault.PlanKind.TheVariants as kind
 use Rattle.sabr_plan.specs.declared.command.Command.{Command}

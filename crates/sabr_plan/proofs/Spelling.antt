@@ -9,7 +9,7 @@ use Rattle.sabr_plan.specs.Times.{pair_at, spelled}
 use Rattle.sabr_plan.specs.TimeShape.{is_pair, has_shape, fields_at, HasWidth}
 
 -- the bytes of two digits, by the number that they stand for
-pair_bytes : (word : List ℕ) (i : ℕ) → is_pair word i ≡ true → (get_or word i 0 ≡ 48 + pair_at word i / 10) × (get_or word (i + 1) 0 ≡ 48 + pair_at word i % 10) × (pair_at word i < 100)
+pub pair_bytes : (word : List ℕ) (i : ℕ) → is_pair word i ≡ true → (get_or word i 0 ≡ 48 + pair_at word i / 10) × (get_or word (i + 1) 0 ≡ 48 + pair_at word i % 10) × (pair_at word i < 100)
 pair_bytes word i h =
     let both = and_parts (is_digit (get_or word i 0)) (is_digit (get_or word (i + 1) 0)) h in
     let first = and_parts (leb 48 (get_or word i 0)) (leb (get_or word i 0) 57) both.0 in

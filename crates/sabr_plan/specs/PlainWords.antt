@@ -1,7 +1,7 @@
--- Words at the front of a text, each after one space.
-use Rattle.std.specs.Prelude.{◌≡◌, ℕ, ◌==◌, nat_le, ◌&&◌, Bool, List, ◌∷◌, ◌++◌, slice_index, codes, IsTrue}
+-- Words at the front of a text, each after blanks.
+use Rattle.std.specs.Prelude.{◌≡◌, ℕ, nat_le, ◌&&◌, Bool, List, ◌∷◌, ◌++◌, slice_index, codes, IsTrue}
 use Rattle.std.specs.List.{list_all}
-use Rattle.sabr_plan.specs.Words.{has_bytes, is_plain}
+use Rattle.sabr_plan.specs.Words.{has_bytes, is_blank, is_plain}
 use Rattle.sabr_plan.specs.declared.command.Target.{Target}
 use Rattle.sabr_plan.specs.declared.command.Target.TheVariants.{Contact, Range}
 
@@ -13,26 +13,56 @@ is_graphic b = nat_le 33 b && nat_le b 126
 abbrev pub is_graphic_word : List ℕ → Bool
 is_graphic_word word = has_bytes word && list_all is_graphic word
 
--- whether it is a space with plain bytes after it
-abbrev pub is_plain_from_space : List ℕ → Bool
-is_plain_from_space text = (slice_index text 0 == 32) && list_all is_plain text
+-- whether it is a blank with plain bytes after it
+abbrev pub is_plain_from_blank : List ℕ → Bool
+is_plain_from_blank text = is_blank (slice_index text 0) && list_all is_plain text
 
--- a text begins with a space and a word for which this holds, and continues with the rest
-pub record IsAhead (Holds : List ℕ → Type 0) (text rest : List ℕ) : Type 0 where
+-- a text begins with blanks, if any, and continues with the rest
+pub record IsAfterBlanks (text rest : List ℕ) : Type 0 where
+  pub blanks : List ℕ
+  pub parts : text ≡ blanks ++ rest
+  pub blank : IsTrue (list_all is_blank blanks)
+
+-- a text begins with blanks, at least one, and continues with the rest
+pub record IsAfterGap (text rest : List ℕ) : Type 0 where
+  pub blanks : List ℕ
+  pub parts : text ≡ blanks ++ rest
+  pub some : IsTrue (has_bytes blanks)
+  pub blank : IsTrue (list_all is_blank blanks)
+
+-- a text begins with blanks, if any, and an LF
+pub record IsAtEnd (text : List ℕ) : Type 0 where
+  pub rest : List ℕ
+  pub after : IsAfterBlanks text (10 ∷ rest)
+
+-- a text begins with a word for which this holds, and continues with the rest
+pub record IsFront (Holds : List ℕ → Type 0) (text rest : List ℕ) : Type 0 where
   pub word : List ℕ
-  pub parts : text ≡ 32 ∷ (word ++ rest)
+  pub parts : text ≡ word ++ rest
   pub graphic : IsTrue (is_graphic_word word)
   pub holds : Holds word
+
+-- the same after blanks
+pub record IsAhead (Holds : List ℕ → Type 0) (text rest : List ℕ) : Type 0 where
+  pub start : List ℕ
+  pub gap : IsAfterGap text start
+  pub front : IsFront Holds start rest
 
 -- a text begins with a line for which this holds, and its LF
 pub record BeginsWithLine (Holds : List ℕ → Type 0) (text : List ℕ) : Type 0 where
   pub line : List ℕ
   pub rest : List ℕ
   pub parts : text ≡ line ++ 10 ∷ rest
-  pub plain : IsTrue (is_plain_from_space line)
+  pub plain : IsTrue (is_plain_from_blank line)
   pub holds : Holds line
 
--- the first bytes of a line that adds one of these
-abbrev pub start_of : Target → List ℕ
-start_of Contact = codes "a contact"
-start_of Range = codes "a range"
+-- the word that names what is added
+abbrev pub name_of : Target → List ℕ
+name_of Contact = codes "contact"
+name_of Range = codes "range"
+
+-- a text begins with `a` and the name of what is added, and continues with the rest
+pub record AddsAhead (target : Target) (text rest : List ℕ) : Type 0 where
+  pub behind : List ℕ
+  pub first : IsAfterBlanks text (97 ∷ behind)
+  pub name : IsAhead (λ word. word ≡ name_of target) behind rest

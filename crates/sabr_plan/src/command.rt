@@ -5,6 +5,7 @@ ghost use Rattle.sabr_plan.specs.Words.{is_one_line, words_of};
 ghost use Rattle.sabr_plan.specs.Commands.{line_command, command_of, reference_of, target_of, targeted, addition_of, deletion_of, HasBounds};
 
 use crate::fault::PlanKind;
+use crate::known_day::KnownDay;
 use crate::operand::{absolute_time, both_of, node_of, time_at, value_of};
 use crate::swift_line::swift_addition;
 use crate::words::{five_words, is_comment, is_plain, is_word, next_word, one_word, three_words};
@@ -66,7 +67,12 @@ fn line_command(reference: Option<u64>, line: &[u8]) -> Result<Command, PlanKind
 }
 
 /// The same, quickly for most lines if `ended` is the line with its LF. Else it is empty.
-pub fn swift_command(reference: Option<u64>, line: &[u8], ended: &[u8]) -> Result<Command, PlanKind>
+pub fn swift_command(
+    reference: Option<u64>,
+    day: &mut KnownDay,
+    line: &[u8],
+    ended: &[u8],
+) -> Result<Command, PlanKind>
     requires { ended.now ≢ [] → IsTrue (is_one_line line.now) × (ended.now ≡ line.now ++ 10 ∷ []) }
     ensures value { result ≡ line_command reference line.now }
     ensures bounds { IfOk result HasBounds }
@@ -74,7 +80,7 @@ pub fn swift_command(reference: Option<u64>, line: &[u8], ended: &[u8]) -> Resul
     if ended.is_empty() {
         return line_command(reference, line);
     }
-    match swift_addition(reference, ended) {
+    match swift_addition(reference, day, ended) {
         Some(command) => Ok(command),
         None => line_command(reference, line),
     }

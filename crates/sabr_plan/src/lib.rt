@@ -5,6 +5,7 @@ mod canonical_text;
 mod command;
 mod fault;
 mod feed;
+mod known_day;
 mod laws;
 mod number;
 mod operand;

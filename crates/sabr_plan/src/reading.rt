@@ -10,6 +10,7 @@ ghost use Rattle.sabr_plan.specs.declared.command.Target.TheVariants as target;
 
 use crate::command::{Addition, Command, Deletion, Target, swift_command};
 use crate::fault::PlanKind;
+use crate::known_day::KnownDay;
 use sabr_gathering::{GatheredContacts, GatheredRanges, gathered_plan};
 use sabr_model::{AddFault, NoMemory, Plan};
 use std::alloc::Allocator;
@@ -26,6 +27,8 @@ pub struct PlanReading<A: Allocator + Copy> {
     ranges: GatheredRanges<A>,
     /// The second from which relative times count, if a line has set it.
     reference: Option<u64>,
+    /// The day of the last absolute time.
+    day: KnownDay,
 }
 
 impl<A: Allocator + Copy> Model for PlanReading<A> {
@@ -63,6 +66,7 @@ impl<A: Allocator + Copy> PlanReading<A> {
             contacts: GatheredContacts::new(alloc),
             ranges: GatheredRanges::new(alloc),
             reference: None,
+            day: KnownDay::new(),
         }
     }
 
@@ -75,6 +79,7 @@ impl<A: Allocator + Copy> PlanReading<A> {
             contacts,
             ranges,
             reference: _,
+            day: _,
         } = self;
         gathered_plan(alloc, contacts, ranges)
     }
@@ -86,7 +91,7 @@ impl<A: Allocator + Copy> PlanReading<A> {
         requires { ended.now ≢ [] → IsTrue (is_one_line line.now) × (ended.now ≡ line.now ++ 10 ∷ []) }
         ensures { Leaves (judged self.old line.now) result self.new }
     {
-        let command = swift_command(self.reference, line, ended)?;
+        let command = swift_command(self.reference, &mut self.day, line, ended)?;
         self.obey(command)
     }
 

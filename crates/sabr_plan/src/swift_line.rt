@@ -1,18 +1,22 @@
-//! A fast reader of plainly spelled additions, with single spaces and relative times, in one pass. It says nothing
-//! about other lines.
+//! A fast reader of additions, in one pass over a line. It says nothing about other lines.
 
-ghost use Rattle.std.specs.Prelude.{◌≡◌, ◌≢◌, ◌≤◌, ℕ, List, [], ◌∷◌, ◌++◌, Ok, Some, IfSome, IsTrue, IsFalse};
+ghost use Rattle.std.specs.Prelude.{◌≡◌, ◌≢◌, ◌≤◌, ℕ, List, Option, [], ◌∷◌, ◌++◌, Ok, Some, IfSome, IsTrue, IsFalse};
 ghost use Rattle.sabr_model.specs.Plan.{last_time};
 ghost use Rattle.sabr_plan.specs.Numbers.{number_within};
-ghost use Rattle.sabr_plan.specs.PlainWords.{start_of, IsAhead, BeginsWithLine};
+ghost use Rattle.sabr_plan.specs.PlainWords.{IsAfterBlanks, IsAfterGap, IsAtEnd, IsFront, IsAhead, BeginsWithLine, AddsAhead};
 ghost use Rattle.sabr_plan.specs.Operands.{time_at, greatest_value};
 ghost use Rattle.sabr_plan.specs.Commands.{line_command, addition_of, HasBounds};
 ghost use Rattle.sabr_plan.specs.Words.{is_one_line, words_of};
 ghost use Rattle.sabr_plan.specs.declared.command.Command.TheVariants.{Add};
 
 use crate::command::{Addition, Command, Target};
+use crate::known_day::KnownDay;
 use crate::number::{leading_digits, spelled};
 use crate::operand::{after_reference, greatest_value};
+use crate::words::is_blank;
+
+/// The bytes of an absolute time.
+const TIME_BYTES: usize = 19;
 
 /// Returns what comes after a byte, if a text begins with it.
 #[inline(always)]
@@ -28,7 +32,60 @@ fn behind(text: &[u8], byte: u8) -> Option<&[u8]>
     Some(&text[1..])
 }
 
-/// Reads a space and a number at the front of a text. Returns the number and the text after it.
+/// Returns a text from its first byte on that is no blank.
+#[inline(always)]
+fn after_blanks(text: &[u8]) -> &[u8]
+    requires { IsFalse (is_one_line text.now) }
+    ensures blanks { IsAfterBlanks text.now result.now }
+    ensures ended { IsFalse (is_one_line result.now) }
+{
+    if text[0] > b' ' {
+        return text;
+    }
+    after_all_blanks(text)
+}
+
+/// The same. It is kept apart, since most lines have no blanks but one space before each word.
+#[cold]
+#[inline(never)]
+fn after_all_blanks(text: &[u8]) -> &[u8]
+    requires { IsFalse (is_one_line text.now) }
+    ensures blanks { IsAfterBlanks text.now result.now }
+    ensures ended { IsFalse (is_one_line result.now) }
+{
+    let mut count = 0;
+    while is_blank(text[count]) {
+        count += 1;
+    }
+    &text[count..]
+}
+
+/// Returns true only if no word comes before the LF.
+#[inline(always)]
+fn has_no_word(text: &[u8]) -> bool
+    requires { IsFalse (is_one_line text.now) }
+    ensures { IsTrue result → IsAtEnd text.now }
+{
+    if text[0] == b'\n' {
+        return true;
+    }
+    after_all_blanks(text)[0] == b'\n'
+}
+
+/// Returns what comes after the blanks at the front of a text, if there is one.
+#[inline(always)]
+fn after_gap(text: &[u8]) -> Option<&[u8]>
+    requires { IsFalse (is_one_line text.now) }
+    ensures gap { IfSome result (λ r. IsAfterGap text.now r.now) }
+    ensures ended { IfSome result (λ r. IsFalse (is_one_line r.now)) }
+{
+    if !is_blank(text[0]) {
+        return None;
+    }
+    Some(after_blanks(&text[1..]))
+}
+
+/// Reads a number at the front of a text, after blanks. Returns the number and the text after it.
 #[inline(always)]
 fn number_ahead(low: u64, high: u64, text: &[u8]) -> Option<(u64, &[u8])>
     requires { IsFalse (is_one_line text.now) }
@@ -36,21 +93,19 @@ fn number_ahead(low: u64, high: u64, text: &[u8]) -> Option<(u64, &[u8])>
     ensures bounds { IfSome result (λ r. (low ≤ r.0) × (r.0 ≤ high)) }
     ensures ended { IfSome result (λ r. IsFalse (is_one_line r.1.now)) }
 {
-    let (digits, word, rest) = leading_digits(behind(text, b' ')?, true);
+    let (digits, word, rest) = leading_digits(after_gap(text)?, true);
     let value = spelled(digits, word, low, high)?;
     Some((value, rest))
 }
 
-/// Reads a space and a relative time at the front of a text. Returns the time and the text after it.
+/// Reads a relative time at the front of a text. Returns the time and the text after it.
 #[inline(always)]
-fn time_ahead(reference: Option<u64>, text: &[u8]) -> Option<(u64, &[u8])>
+fn relative_front(reference: Option<u64>, text: &[u8]) -> Option<(u64, &[u8])>
     requires { IsFalse (is_one_line text.now) }
-    ensures word { IfSome result (λ r. IsAhead (λ w. time_at reference w ≡ Ok r.0) text.now r.1.now) }
+    ensures word { IfSome result (λ r. IsFront (λ w. time_at reference w ≡ Ok r.0) text.now r.1.now) }
     ensures bound { IfSome result (λ r. r.0 ≤ last_time) }
-    ensures ended { IfSome result (λ r. IsFalse (is_one_line r.1.now)) }
 {
-    let word = behind(text, b' ')?;
-    let (seconds, digits, rest) = leading_digits(behind(word, b'+')?, true);
+    let (seconds, digits, rest) = leading_digits(behind(text, b'+')?, true);
     if digits.is_empty() || digits.len() > 12 {
         return None;
     }
@@ -60,18 +115,72 @@ fn time_ahead(reference: Option<u64>, text: &[u8]) -> Option<(u64, &[u8])>
     Some((time, rest))
 }
 
+/// Reads an absolute time at the front of a text. Returns the time and the text after it.
+#[inline(always)]
+fn absolute_front<'a>(day: &mut KnownDay, text: &'a [u8]) -> Option<(u64, &'a [u8])>
+    ensures word { IfSome result (λ r. (reference : Option ℕ) → IsFront (λ w. time_at reference w ≡ Ok r.0) text.now r.1.now) }
+    ensures bound { IfSome result (λ r. r.0 ≤ last_time) }
+{
+    if text.len() < TIME_BYTES {
+        return None;
+    }
+    let (word, rest) = text.split_at(TIME_BYTES);
+    let time = day.second_of(word)?;
+    Some((time, rest))
+}
+
+/// Reads a time at the front of a text. Returns the time and the text after it.
+#[inline(always)]
+fn time_front<'a>(
+    reference: Option<u64>,
+    day: &mut KnownDay,
+    text: &'a [u8],
+) -> Option<(u64, &'a [u8])>
+    requires { IsFalse (is_one_line text.now) }
+    ensures word { IfSome result (λ r. IsFront (λ w. time_at reference w ≡ Ok r.0) text.now r.1.now) }
+    ensures bound { IfSome result (λ r. r.0 ≤ last_time) }
+{
+    if text[0] == b'+' {
+        return relative_front(reference, text);
+    }
+    let (time, rest) = absolute_front(day, text)?;
+    Some((time, rest))
+}
+
+/// Reads a time at the front of a text, after blanks. Returns the time and the text after it.
+#[inline(always)]
+fn time_ahead<'a>(
+    reference: Option<u64>,
+    day: &mut KnownDay,
+    text: &'a [u8],
+) -> Option<(u64, &'a [u8])>
+    requires { IsFalse (is_one_line text.now) }
+    ensures word { IfSome result (λ r. IsAhead (λ w. time_at reference w ≡ Ok r.0) text.now r.1.now) }
+    ensures bound { IfSome result (λ r. r.0 ≤ last_time) }
+    ensures ended { IfSome result (λ r. IsFalse (is_one_line r.1.now)) }
+{
+    let start = after_gap(text)?;
+    let (time, rest) = time_front(reference, day, start)?;
+    Some((time, rest))
+}
+
 /// Reads the operands after `a contact` or `a range`, up to an LF.
-fn operands_ahead(reference: Option<u64>, target: Target, text: &[u8]) -> Option<Addition>
+fn operands_ahead(
+    reference: Option<u64>,
+    day: &mut KnownDay,
+    target: Target,
+    text: &[u8],
+) -> Option<Addition>
     requires { IsFalse (is_one_line text.now) }
     ensures value { IfSome result (λ a. BeginsWithLine (λ line. addition_of reference target (words_of line) ≡ Ok (Add target a)) text.now) }
     ensures bounds { IfSome result (λ a. HasBounds (Add target a)) }
 {
-    let (start, rest) = time_ahead(reference, text)?;
-    let (end, rest) = time_ahead(reference, rest)?;
+    let (start, rest) = time_ahead(reference, day, text)?;
+    let (end, rest) = time_ahead(reference, day, rest)?;
     let (first, rest) = number_ahead(1, u64::MAX, rest)?;
     let (second, rest) = number_ahead(1, u64::MAX, rest)?;
     let (value, rest) = number_ahead(0, greatest_value(target), rest)?;
-    if rest[0] != b'\n' {
+    if !has_no_word(rest) {
         return None;
     }
     Some(Addition {
@@ -83,11 +192,13 @@ fn operands_ahead(reference: Option<u64>, target: Target, text: &[u8]) -> Option
     })
 }
 
-/// Returns the target of the addition that a line begins with, and the text after it.
+/// Returns the target of the addition that a line begins with, and the text after its name.
 fn target_ahead(line: &[u8]) -> Option<(Target, &[u8])>
-    ensures { IfSome result (λ r. line.now ≡ start_of r.0 ++ r.1.now) }
+    requires { IsFalse (is_one_line line.now) }
+    ensures adds { IfSome result (λ r. AddsAhead r.0 line.now r.1.now) }
+    ensures ended { IfSome result (λ r. IsFalse (is_one_line r.1.now)) }
 {
-    let name = line.strip_prefix(b"a ")?;
+    let name = after_gap(behind(after_blanks(line), b'a')?)?;
     if let Some(text) = name.strip_prefix(b"contact") {
         return Some((Target::Contact, text));
     }
@@ -95,13 +206,13 @@ fn target_ahead(line: &[u8]) -> Option<(Target, &[u8])>
     Some((Target::Range, text))
 }
 
-/// Returns the command of a line, given with its LF, that is a plainly spelled addition. None for all other lines.
-pub fn swift_addition(reference: Option<u64>, text: &[u8]) -> Option<Command>
+/// Returns the command of a line, given with its LF, if it is an addition that is quick to read. None says nothing.
+pub fn swift_addition(reference: Option<u64>, day: &mut KnownDay, text: &[u8]) -> Option<Command>
     requires { IsFalse (is_one_line text.now) }
     ensures value { IfSome result (λ c. (line : List ℕ) → text.now ≡ line ++ 10 ∷ [] → IsTrue (is_one_line line) → line_command reference line ≡ Ok c) }
     ensures bounds { IfSome result HasBounds }
 {
     let (target, text) = target_ahead(text)?;
-    let addition = operands_ahead(reference, target, text)?;
+    let addition = operands_ahead(reference, day, target, text)?;
     Some(Command::Add(target, addition))
 }

@@ -81,7 +81,7 @@ fn second_of(fields: TimeFields) -> Option<u64>
 }
 
 /// Returns true if there are two digits from a place on.
-fn is_pair(text: &[u8], at: usize) -> bool
+pub fn is_pair(text: &[u8], at: usize) -> bool
     requires { at + 1 < length text.now }
     ensures { result ≡ is_pair text.now at }
 {
@@ -89,7 +89,7 @@ fn is_pair(text: &[u8], at: usize) -> bool
 }
 
 /// Returns the number that two digits stand for.
-fn pair_at(text: &[u8], at: usize) -> u8
+pub fn pair_at(text: &[u8], at: usize) -> u8
     requires room { at + 1 < length text.now }
     requires digits { IsTrue (is_pair text.now at) }
     ensures value { result ≡ pair_at text.now at }

@@ -32,7 +32,7 @@ fn is_plain_byte(byte: u8) -> bool
 }
 
 /// Returns true if a byte separates words.
-fn is_blank(byte: u8) -> bool
+pub fn is_blank(byte: u8) -> bool
     ensures { result ≡ is_blank byte }
 {
     byte == b'\t' || byte == b' '

@@ -1,11 +1,11 @@
--- Layers backward from the goal that end with an empty one: each way on has an entry, and none leads from the start.
-use Rattle.std.proofs.Common.{◌≡◌, inl, inr, ℕ, ◌+◌, ◌<◌, ◌≤◌, false, List, [], ◌∷◌, ◌++◌, length, slice_index, slice_index_or, refl, ap, sym, subst, arith, length-append}
+-- Layers backward from the goal that end with an empty one: no way leads from the start.
+use Rattle.std.proofs.Common.{◌≡◌, inl, inr, ℕ, ◌+◌, ◌<◌, ◌≤◌, false, List, [], ◌∷◌, ◌++◌, length, slice_index, slice_index_or, refl, ap, sym, arith, length-append}
 use Rattle.std.proofs.lemmas.Bool.{cases_lt, cases_eq}
 use Rattle.sabr_search.specs.declared.layers.Reached.{Reached}
 use Rattle.sabr_search.specs.Ways.{Leads}
 use Rattle.sabr_search.specs.Task.{SearchTask, Takes, IsTask}
 use Rattle.sabr_search.specs.Made.{Entry}
-use Rattle.sabr_search.specs.Late.{AreArrivals, AreLateLayers, IsEnded}
+use Rattle.sabr_search.specs.Late.{AreArrivals, AreLateLayers}
 use Rattle.sabr_search.specs.FirstSteps.{IsNoneBefore}
 use Rattle.sabr_search.proofs.Ways.{Leads-append, Leads-later}
 use Rattle.sabr_search.proofs.Bridge.{takes_timely}
@@ -62,8 +62,3 @@ module _ (task : SearchTask) (is : IsTask task) (since : List ℕ) (d left : ℕ
         let r = late_way IsOnWay onward_way (λ v t on. arrivals.least on.0 v t on.1 on.2) ns w b e (n ∷ [], omega arith, (w, b, step, (refl, refl))) step.unshut way.3 by in
         absurd ((made.taken r.0 w r.1 r.2 n task.start task.at b (inside r.0 w r.1 r.2 r.4) r.4 r.5 step).0 refl (omega arith)))
   ]
-
-pub ended : (task : SearchTask) → IsTask task → (since : List ℕ) (d left : ℕ) (ends late place : List ℕ) (reached : List Reached) → AreLateLayers task since d left ends late place reached → AreArrivals task since → IsEnded ends → IsNoneBefore task (d + 1)
-ended task is since d left ends late place reached made arrivals empty =
-    let same : empty.0 ≡ left = omega (arith, empty.1, made.many) in
-    none_by task is since d left ends late place reached made (subst (λ k. slice_index ends k ≡ slice_index ends (k + 1)) same empty.2) arrivals

@@ -14,7 +14,7 @@ use Rattle.sabr_search.specs.Task.{SearchTask, Takes, IsTask, never}
 use Rattle.sabr_search.specs.Lists.{IsKnown}
 use Rattle.sabr_search.specs.Steps.{senders, degree}
 use Rattle.sabr_search.specs.Made.{AreOpened}
-use Rattle.sabr_search.specs.Settling.{IsBound, AreBy, settled_count, AreArrivalsBy, sent_by_settled, IsQueue, AreSettling, IsFallen, AreSettledTaken, AreSettled, IsFirstBefore}
+use Rattle.sabr_search.specs.Settling.{IsBound, AreBy, settled_count, AreArrivalsBy, sent_by_settled, IsQueue, AreSettling, IsFallen, AreSettledTaken, AreSettled, IsFirstWay}
 use Rattle.sabr_search.proofs.Ways.{Leads-later}
 use Rattle.sabr_search.proofs.Settles.{settled_before}
 use Rattle.sabr_search.proofs.Counts.{settled_more}
@@ -34,11 +34,11 @@ pub goal_other : (task : SearchTask) → IsTask task → task.goal ≢ task.star
 goal_other task is same = both_ways (slice_index_or task.shut task.start false) (sym (ap (λ k. slice_index_or task.shut k false) same) ∙ is.goal_open) is.start_shut
 
 -- a node is settled and its contacts are taken
-module _ (task : SearchTask) (late : List ℕ) (ceiling : ℕ) (settled : List Bool) (u t : ℕ) (arrival0 : List ℕ) (best0 : Best) (arrival : List ℕ) (queue : List Event) (best : Best)
-    (state : AreSettling task late ceiling (slice_set settled u true) t arrival queue best) (fallen : IsFallen (slice_set settled u true) arrival0 best0 arrival best) (taken : AreSettledTaken task (slice_set settled u true) arrival best.delivery)
+module _ (task : SearchTask) (late : List ℕ) (settled : List Bool) (u t : ℕ) (arrival0 : List ℕ) (best0 : Best) (arrival : List ℕ) (queue : List Event) (best : Best)
+    (state : AreSettling task late (slice_set settled u true) t arrival queue best) (fallen : IsFallen (slice_set settled u true) arrival0 best0 arrival best) (taken : AreSettledTaken task (slice_set settled u true) arrival best.delivery)
     (many : length settled ≡ length task.shut) (other : task.goal ≢ u) where
   pub settled_next : slice_index_or (slice_set settled u true) task.start false ≡ true → slice_index arrival0 task.start ≡ task.at → slice_index_or settled task.goal false ≡ false →
-      AreSettled task late ceiling (slice_set settled u true) arrival queue best
+      AreSettled task late (slice_set settled u true) arrival queue best
   settled_next start reached goal = record {
     flags = state.flags;
     many = flag_many settled u ∙ many;
@@ -67,7 +67,7 @@ pub sent_grows : (task : SearchTask) (settled : List Bool) (u : ℕ) → u < len
 sent_grows task settled u within unsettled = settled_more settled u (senders task) within unsettled
 
 -- the search stops when no event comes before the delivery
-module _ (task : SearchTask) (is : IsTask task) (bounds : List ℕ) (ceiling : ℕ) (bound : IsBound task bounds ceiling) (settled : List Bool) (arrival : List ℕ) (queue : List Event) (best : Best) (was : AreSettled task bounds ceiling settled arrival queue best) where
+module _ (task : SearchTask) (is : IsTask task) (bounds : List ℕ) (bound : IsBound task bounds) (settled : List Bool) (arrival : List ℕ) (queue : List Event) (best : Best) (was : AreSettled task bounds settled arrival queue best) where
   -- a node is settled with that arrival, or it is too late there
   abbrev IsKnownAt : ℕ → ℕ → Type 0
   IsKnownAt v a = ((slice_index_or settled v false ≡ true) × (slice_index arrival v ≡ a)) ⊎ ((slice_index_or task.shut v false ≡ false) × (slice_index_or bounds v never ≤ a))
@@ -105,11 +105,11 @@ module _ (task : SearchTask) (is : IsTask task) (bounds : List ℕ) (ceiling : �
     ]
   ]
 
-  pub first_before : ((f : Event) → Contains queue f → best.delivery ≤ f.at) → IsFirstBefore task ceiling best
-  first_before stop = record {
+  pub first_found : ((f : Event) → Contains queue f → best.delivery ≤ f.at) → IsFirstWay task best
+  first_found stop = record {
     least = least;
-    none = λ zero_hops. elim was.found [
-      | inl none ↦ none.1
+    none = λ zero_hops ns e way. elim was.found [
+      | inl none ↦ omega (arith, none.1, least ns e way, way_early task is ns task.start task.at task.goal e is.time way)
       | inr found ↦ absurd (omega (arith, found.0))
     ];
     some = λ hops. elim was.found [
@@ -167,9 +167,9 @@ module _ (task : SearchTask) (is : IsTask task) (bounds : List ℕ) (ceiling : �
   }
 
 -- an event of a settled node goes
-pub settled_stale : (task : SearchTask) (late : List ℕ) (ceiling : ℕ) (settled : List Bool) (arrival : List ℕ) (queue queue' : List Event) (best : Best) → AreSettled task late ceiling settled arrival queue best → IsQueue task late settled arrival queue' →
-    AreSettled task late ceiling settled arrival queue' best
-settled_stale task late ceiling settled arrival queue queue' best was rest = record {
+pub settled_stale : (task : SearchTask) (late : List ℕ) (settled : List Bool) (arrival : List ℕ) (queue queue' : List Event) (best : Best) → AreSettled task late settled arrival queue best → IsQueue task late settled arrival queue' →
+    AreSettled task late settled arrival queue' best
+settled_stale task late settled arrival queue queue' best was rest = record {
   flags = was.flags;
   many = was.many;
   start_settled = was.start_settled;
@@ -225,14 +225,14 @@ module _ (task : SearchTask) (is : IsTask task) (off settled : List Bool) (u : �
   pub start_sent : sent_by_settled task settled ≡ degree task task.start
   start_sent = omega (arith, ap (sent_by_settled task) settled_is, sent_grows task off u off_within (off_at u), count_none (senders task), ap (degree task) u_is)
 
-  module _ (late : List ℕ) (ceiling : ℕ) (arrival : List ℕ) (opened : AreOpened task late arrival) where
+  module _ (late : List ℕ) (arrival : List ℕ) (opened : AreOpened task late arrival) where
     opened_by : AreBy task late arrival
     opened_by k open' = elim (cases_lt k (length arrival)) [
       | inl within ↦ omega (arith, opened.unreached k within open')
       | inr past ↦ omega (arith, past_end arrival k past)
     ]
 
-    pub start_state : (queue : List Event) (best : Best) → queue ≡ [] → best.hops ≡ 0 → best.delivery ≡ ceiling → AreSettling task late ceiling settled task.at arrival queue best
+    pub start_state : (queue : List Event) (best : Best) → queue ≡ [] → best.hops ≡ 0 → best.delivery ≡ never → AreSettling task late settled task.at arrival queue best
     start_state queue best empty hops delivery = rw empty (record {
       flags = opened.flags;
       closed = opened.closed;
@@ -255,8 +255,8 @@ module _ (task : SearchTask) (is : IsTask task) (off settled : List Bool) (u : �
     })
 
     -- and once all of them are taken
-    pub start_settled : (t : ℕ) (arrival' : List ℕ) (queue : List Event) (best0 best : Best) → AreSettling task late ceiling settled t arrival' queue best → IsFallen settled arrival best0 arrival' best →
-        ((n w x : ℕ) → Takes task n task.start task.at w x → IsKnown task.goal arrival' best.delivery w x) → AreSettled task late ceiling settled arrival' queue best
+    pub start_settled : (t : ℕ) (arrival' : List ℕ) (queue : List Event) (best0 best : Best) → AreSettling task late settled t arrival' queue best → IsFallen settled arrival best0 arrival' best →
+        ((n w x : ℕ) → Takes task n task.start task.at w x → IsKnown task.goal arrival' best.delivery w x) → AreSettled task late settled arrival' queue best
     start_settled t arrival' queue best0 best state fallen known =
         let start_at : slice_index arrival' task.start ≡ task.at = fallen.kept task.start start_on ∙ opened.start in
         record {
@@ -277,7 +277,7 @@ module _ (task : SearchTask) (is : IsTask task) (off settled : List Bool) (u : �
         }
 
 -- what holds after the node of the earliest event is settled
-module _ (task : SearchTask) (is : IsTask task) (late : List ℕ) (ceiling : ℕ) (settled : List Bool) (arrival0 : List ℕ) (queue0 queue : List Event) (best0 : Best) (e : Event) (was : AreSettled task late ceiling settled arrival0 queue0 best0)
+module _ (task : SearchTask) (is : IsTask task) (late : List ℕ) (settled : List Bool) (arrival0 : List ℕ) (queue0 queue : List Event) (best0 : Best) (e : Event) (was : AreSettled task late settled arrival0 queue0 best0)
     (moved : IsPermutation queue0 (e ∷ queue)) (first : All (λ (f : Event). e.at ≤ f.at) queue) (unsettled : slice_index_or settled e.node false ≡ false) where
   pub next_within : e.node < length settled
   next_within = omega (arith, was.many, was.flags, head_inside task late settled arrival0 queue0 queue e was.queue_is moved first)
@@ -288,18 +288,18 @@ module _ (task : SearchTask) (is : IsTask task) (late : List ℕ) (ceiling : ℕ
   pub next_most : sent_by_settled task settled + degree task e.node ≤ length task.plan.contacts
   next_most = omega (arith, next_sent, sent_most task (slice_set settled e.node true))
 
-  pub next_state : AreSettling task late ceiling (slice_set settled e.node true) e.at arrival0 queue best0
-  next_state = settles task late settled arrival0 queue0 queue e was.queue_is moved first next_within unsettled ceiling best0 was.flags was.lowered was.sooner was.found
+  pub next_state : AreSettling task late (slice_set settled e.node true) e.at arrival0 queue best0
+  next_state = settles task late settled arrival0 queue0 queue e was.queue_is moved first next_within unsettled best0 was.flags was.lowered was.sooner was.found
 
   pub next_counted : (settled' : List Bool) (old new : ℕ) → settled' ≡ slice_set settled e.node true → new ≤ old + sent_by_settled task settled + degree task e.node → new ≤ old + sent_by_settled task settled'
   next_counted settled' old new settled_is le = omega (arith, ap (sent_by_settled task) settled_is, next_sent)
 
   pub next_settled : (settled' : List Bool) (arrival : List ℕ) (queue' : List Event) (best : Best) → settled' ≡ slice_set settled e.node true →
-      AreSettling task late ceiling (slice_set settled e.node true) e.at arrival queue' best → IsFallen (slice_set settled e.node true) arrival0 best0 arrival best → AreSettledTaken task (slice_set settled e.node true) arrival best.delivery →
-      AreSettled task late ceiling settled' arrival queue' best
+      AreSettling task late (slice_set settled e.node true) e.at arrival queue' best → IsFallen (slice_set settled e.node true) arrival0 best0 arrival best → AreSettledTaken task (slice_set settled e.node true) arrival best.delivery →
+      AreSettled task late settled' arrival queue' best
   next_settled settled' arrival queue' best settled_is state fallen taken =
       let other : task.goal ≢ e.node = λ same. head_other task late settled arrival0 queue0 queue e was.queue_is moved first (sym same) in
-      rw settled_is (settled_next task late ceiling settled e.node e.at arrival0 best0 arrival queue' best state fallen taken was.many other
+      rw settled_is (settled_next task late settled e.node e.at arrival0 best0 arrival queue' best state fallen taken was.many other
       (flag_stays settled e.node task.start next_within was.start_settled) was.start_reached was.goal_unsettled)
 
 -- what a `Vec` of flags has at an index, at the usual default

@@ -30,10 +30,7 @@ pub mod Shortness
 pub mod FirstLimits
 pub mod Cuts
 pub mod FaultsOfPrefixes
-pub mod Tabled
-pub mod AllLayers
-pub mod SpanLists
-pub mod Walks
+pub mod Around
 pub mod Beside
 pub mod Since
 pub mod Ended

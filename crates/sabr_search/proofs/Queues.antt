@@ -59,9 +59,9 @@ way_more task is n u h t w x way step = (
 )
 
 -- the delivery is better, by a way of no more hops than there are settled nodes
-pub found_better : (task : SearchTask) (late : List ℕ) (ceiling : ℕ) (settled : List Bool) (t : ℕ) (arrival : List ℕ) (queue : List Event) (best : Best) (delivery hops : ℕ) → AreSettling task late ceiling settled t arrival queue best →
-    hops < settled_count settled → delivery < best.delivery → IsWayTo task task.goal (hops + 1) delivery → AreSettling task late ceiling settled t arrival queue (record { delivery = delivery; hops = hops + 1 })
-found_better task late ceiling settled t arrival queue best delivery hops so_far few less way = record {
+pub found_better : (task : SearchTask) (late : List ℕ) (settled : List Bool) (t : ℕ) (arrival : List ℕ) (queue : List Event) (best : Best) (delivery hops : ℕ) → AreSettling task late settled t arrival queue best →
+    hops < settled_count settled → delivery < best.delivery → IsWayTo task task.goal (hops + 1) delivery → AreSettling task late settled t arrival queue (record { delivery = delivery; hops = hops + 1 })
+found_better task late settled t arrival queue best delivery hops so_far few less way = record {
   flags = so_far.flags;
   closed = so_far.closed;
   early = so_far.early;
@@ -76,12 +76,12 @@ waits_on event queue queue' a b h k same waits moved =
     rw (← same) (Contains-permutation (event ∷ queue) queue' (record { at = a; hops = h; node = k }) moved (Contains-append_right (event ∷ []) queue (record { at = a; hops = h; node = k }) waits))
 
 -- what is reached sooner is open
-pub open_sooner : (task : SearchTask) (late : List ℕ) (ceiling : ℕ) (settled : List Bool) (t w b : ℕ) (arrival : List ℕ) (queue : List Event) (best : Best) → AreSettling task late ceiling settled t arrival queue best →
+pub open_sooner : (task : SearchTask) (late : List ℕ) (settled : List Bool) (t w b : ℕ) (arrival : List ℕ) (queue : List Event) (best : Best) → AreSettling task late settled t arrival queue best →
     t ≤ b → b < slice_index arrival w → slice_index_or task.shut w false ≡ false
-open_sooner task late ceiling settled t w b arrival queue best so_far later less = false_from_ne_true (slice_index_or task.shut w false) (λ on. omega (arith, so_far.closed w on))
+open_sooner task late settled t w b arrival queue best so_far later less = false_from_ne_true (slice_index_or task.shut w false) (λ on. omega (arith, so_far.closed w on))
 
 -- an open node is reached sooner, and an event waits for it
-module _ (task : SearchTask) (late : List ℕ) (ceiling : ℕ) (settled : List Bool) (t w b h : ℕ) (arrival : List ℕ) (queue queue' : List Event) (best : Best) (so_far : AreSettling task late ceiling settled t arrival queue best)
+module _ (task : SearchTask) (late : List ℕ) (settled : List Bool) (t w b h : ℕ) (arrival : List ℕ) (queue queue' : List Event) (best : Best) (so_far : AreSettling task late settled t arrival queue best)
     (later : t ≤ b) (within : w < length arrival) (less : b < slice_index arrival w) (other : w ≢ task.goal) (way : IsWayTo task w h b) (few : h ≤ settled_count settled)
     (moved : IsPermutation (record { at = b; hops = h; node = w } ∷ queue) queue') where
   unsettled : slice_index_or settled w false ≡ false
@@ -111,7 +111,7 @@ module _ (task : SearchTask) (late : List ℕ) (ceiling : ℕ) (settled : List B
         late = All-permutation (λ (e : Event). slice_index arrival' e.node ≤ e.at) (event ∷ queue) queue' moved
             (All-cons (λ (e : Event). slice_index arrival' e.node ≤ e.at) event queue (omega (arith, here)) (All-weaker (λ (e : Event). slice_index arrival e.node ≤ e.at) (λ (e : Event). slice_index arrival' e.node ≤ e.at) (λ e le. omega (arith, falls e.node)) queue was.late));
         before = All-permutation (λ (e : Event). e.at < slice_index_or late e.node never) (event ∷ queue) queue' moved
-            (All-cons (λ (e : Event). e.at < slice_index_or late e.node never) event queue (omega (arith, less, so_far.lowered w (open_sooner task late ceiling settled t w b arrival queue best so_far later less))) was.before);
+            (All-cons (λ (e : Event). e.at < slice_index_or late e.node never) event queue (omega (arith, less, so_far.lowered w (open_sooner task late settled t w b arrival queue best so_far later less))) was.before);
         order = All-permutation (λ (e : Event). AreSettledBy settled arrival' e.at) (event ∷ queue) queue' moved
             (All-cons (λ (e : Event). AreSettledBy settled arrival' e.at) event queue (λ k on. omega (arith, kept k on, so_far.early k on)) (All-weaker (λ (e : Event). AreSettledBy settled arrival e.at) (λ (e : Event). AreSettledBy settled arrival' e.at) (λ e by k on. omega (arith, kept k on, by k on)) queue was.order));
         since = All-permutation (λ (e : Event). AreClosed task.shut arrival' e.at) (event ∷ queue) queue' moved
@@ -119,7 +119,7 @@ module _ (task : SearchTask) (late : List ℕ) (ceiling : ℕ) (settled : List B
         inside = All-permutation (λ (e : Event). e.node < length arrival') (event ∷ queue) queue' moved
             (All-cons (λ (e : Event). e.node < length arrival') event queue (omega (arith, many)) (All-weaker (λ (e : Event). e.node < length arrival) (λ (e : Event). e.node < length arrival') (λ e lt. omega (arith, many)) queue was.inside));
         unshut = All-permutation (λ (e : Event). slice_index_or task.shut e.node false ≡ false) (event ∷ queue) queue' moved
-            (All-cons (λ (e : Event). slice_index_or task.shut e.node false ≡ false) event queue (open_sooner task late ceiling settled t w b arrival queue best so_far later less) was.unshut);
+            (All-cons (λ (e : Event). slice_index_or task.shut e.node false ≡ false) event queue (open_sooner task late settled t w b arrival queue best so_far later less) was.unshut);
         other = All-permutation (λ (e : Event). e.node ≢ task.goal) (event ∷ queue) queue' moved
             (All-cons (λ (e : Event). e.node ≢ task.goal) event queue other was.other);
         real = All-permutation (λ (e : Event). IsWayTo task e.node e.hops e.at) (event ∷ queue) queue' moved
@@ -128,7 +128,7 @@ module _ (task : SearchTask) (late : List ℕ) (ceiling : ℕ) (settled : List B
             (All-cons (λ (e : Event). e.hops ≤ settled_count settled) event queue few was.few);
       }
 
-  pub pushed : AreSettling task late ceiling settled t (slice_set arrival w b) queue' best
+  pub pushed : AreSettling task late settled t (slice_set arrival w b) queue' best
   pushed = record {
     flags = set_many arrival w b ∙ so_far.flags;
     closed = λ k e. omega (arith, falls k, so_far.closed k e);
@@ -257,9 +257,9 @@ module _ (task : SearchTask) (bounds : List ℕ) (settled : List Bool) (arrival 
     }
 
     -- so its contacts can be taken
-    pub settles : (ceiling : ℕ) (best : Best) → length arrival ≡ length task.shut → AreBy task bounds arrival → best.delivery ≤ ceiling → IsFirst task ceiling settled best →
-        AreSettling task bounds ceiling (slice_set settled e.node true) e.at arrival queue' best
-    settles ceiling best flags lowered sooner found = record {
+    pub settles : (best : Best) → length arrival ≡ length task.shut → AreBy task bounds arrival → best.delivery ≤ never → IsFirst task settled best →
+        AreSettling task bounds (slice_set settled e.node true) e.at arrival queue' best
+    settles best flags lowered sooner found = record {
       flags = flags;
       closed = head_since;
       early = early_after e.at (omega arith) head_order;

@@ -96,14 +96,6 @@ pub record AreLateLayers (task : SearchTask) (since : List ℕ) (d left : ℕ) (
   pub sound : (h v a x t : ℕ) → h < left → Entry ends reached (h + 1) v a x → t < x → (n : ℕ) × (w : ℕ) × (b : ℕ) × (c : ℕ) × (y : ℕ) × Takes task n v t w b × Entry ends reached h w c y × (b < y)
   pub taken : (j w a x n u t b : ℕ) → j < left → Entry ends reached j w a x → b < x → Takes task n u t w b → IsToldBy task since (Entry ends reached) j u t
 
--- the last layer is empty
-abbrev pub IsEnded : List ℕ → Type 0
-IsEnded ends = (left : ℕ) × (length ends ≡ left + 2) × (slice_index ends left ≡ slice_index ends (left + 1))
-
--- if the last layer is empty, all layers up to it are made
-abbrev pub AreMadeIfEnded : SearchTask → List ℕ → ℕ → List ℕ → List ℕ → List Reached → Type 0
-AreMadeIfEnded task since d ends late reached = IsEnded ends → (left : ℕ) × (place : List ℕ) × AreLateLayers task since d left ends late place reached
-
 -- the start is in time for an entry of the last layer
 pub record IsMet (task : SearchTask) (left : ℕ) (ends : List ℕ) (reached : List Reached) : Type 0 where
   pub n : ℕ

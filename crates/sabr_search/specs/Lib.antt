@@ -15,10 +15,7 @@ pub mod Told
 pub mod Entering
 pub mod Part
 pub mod KeptAnswers
-pub mod Graph
-pub mod Dues
 pub mod Kept
 pub mod FirstSteps
-pub mod Whole
 pub mod Answers
 pub mod WideTasks

@@ -15,9 +15,9 @@ pub record AreArrivalsBy (task : SearchTask) (arrival : List ℕ) (d : ℕ) : Ty
   pub flags : length arrival ≡ length task.table
   pub least : (ns : List ℕ) (v t : ℕ) → 0 < length ns → Leads (Takes task) task.start task.at ns v t → min (slice_index arrival v) d ≤ t
 
--- by node a second from which on no way leads to the goal before the ceiling, as far as the list goes
-pub record IsBound (task : SearchTask) (late : List ℕ) (ceiling : ℕ) : Type 0 where
-  pub goal : ceiling ≤ slice_index_or late task.goal never
+-- by node a second from which on no way leads to the goal, as far as the list goes
+pub record IsBound (task : SearchTask) (late : List ℕ) : Type 0 where
+  pub goal : never ≤ slice_index_or late task.goal never
   pub steps : (n u t w b : ℕ) → Takes task n u t w b → slice_index_or task.shut u false ≡ false → u ≢ task.goal → slice_index_or late u never ≤ t → slice_index_or late w never ≤ b
 
 -- these are steps from the start
@@ -60,10 +60,10 @@ pub record IsQueue (task : SearchTask) (bounds : List ℕ) (settled : List Bool)
   pub real : All (λ (e : Event). IsWayTo task e.node e.hops e.at) queue
   pub few : All (λ (e : Event). e.hops ≤ settled_count settled) queue
 
--- no delivery before the ceiling is found, or one by a way of no more hops than there are settled nodes
-abbrev pub IsFirst : SearchTask → ℕ → List Bool → Best → Type 0
-IsFirst task ceiling settled best =
-    ((best.hops ≡ 0) × (best.delivery ≡ ceiling))
+-- no delivery is found, or one by a way of no more hops than there are settled nodes
+abbrev pub IsFirst : SearchTask → List Bool → Best → Type 0
+IsFirst task settled best =
+    ((best.hops ≡ 0) × (best.delivery ≡ never))
     ⊎ ((0 < best.hops) × (best.hops ≤ settled_count settled) × IsWayTo task task.goal best.hops best.delivery)
 
 -- no open node's arrival is later than what is too late there
@@ -71,14 +71,14 @@ abbrev pub AreBy : SearchTask → List ℕ → List ℕ → Type 0
 AreBy task late arrival = (k : ℕ) → slice_index_or task.shut k false ≡ false → slice_index arrival k ≤ slice_index_or late k never
 
 -- what holds while the contacts of a node that is reached at t are taken
-pub record AreSettling (task : SearchTask) (late : List ℕ) (ceiling : ℕ) (settled : List Bool) (t : ℕ) (arrival : List ℕ) (queue : List Event) (best : Best) : Type 0 where
+pub record AreSettling (task : SearchTask) (late : List ℕ) (settled : List Bool) (t : ℕ) (arrival : List ℕ) (queue : List Event) (best : Best) : Type 0 where
   pub flags : length arrival ≡ length task.shut
   pub closed : AreClosed task.shut arrival t
   pub early : AreSettledBy settled arrival t
   pub lowered : AreBy task late arrival
   pub queue_is : IsQueue task late settled arrival queue
-  pub found : IsFirst task ceiling settled best
-  pub sooner : best.delivery ≤ ceiling
+  pub found : IsFirst task settled best
+  pub sooner : best.delivery ≤ never
 
 -- what doesn't change or only falls when more contacts are taken
 pub record IsFallen (settled : List Bool) (arrival0 : List ℕ) (best0 : Best) (arrival : List ℕ) (best : Best) : Type 0 where
@@ -92,7 +92,7 @@ AreSettledTaken task settled arrival best =
     (v n w b : ℕ) → slice_index_or settled v false ≡ true → Takes task n v (slice_index arrival v) w b → IsKnown task.goal arrival best w b
 
 -- what holds between two events
-pub record AreSettled (task : SearchTask) (late : List ℕ) (ceiling : ℕ) (settled : List Bool) (arrival : List ℕ) (queue : List Event) (best : Best) : Type 0 where
+pub record AreSettled (task : SearchTask) (late : List ℕ) (settled : List Bool) (arrival : List ℕ) (queue : List Event) (best : Best) : Type 0 where
   pub flags : length arrival ≡ length task.shut
   pub many : length settled ≡ length task.shut
   pub start_settled : slice_index_or settled task.start false ≡ true
@@ -100,20 +100,12 @@ pub record AreSettled (task : SearchTask) (late : List ℕ) (ceiling : ℕ) (set
   pub goal_unsettled : slice_index_or settled task.goal false ≡ false
   pub lowered : AreBy task late arrival
   pub queue_is : IsQueue task late settled arrival queue
-  pub found : IsFirst task ceiling settled best
-  pub sooner : best.delivery ≤ ceiling
+  pub found : IsFirst task settled best
+  pub sooner : best.delivery ≤ never
   pub taken : AreSettledTaken task settled arrival best.delivery
 
--- what a search before a ceiling found: no way to the goal comes before the delivery, and some way comes then with that
--- number of hops, fewer than there are nodes; or no way leads there before the ceiling
-pub record IsFirstBefore (task : SearchTask) (ceiling : ℕ) (best : Best) : Type 0 where
-  pub least : (ns : List ℕ) (e : ℕ) → Leads (Takes task) task.start task.at ns task.goal e → best.delivery ≤ e
-  pub none : best.hops ≡ 0 → best.delivery ≡ ceiling
-  pub some : 0 < best.hops → IsWayTo task task.goal best.hops best.delivery
-  pub early : 0 < best.hops → best.delivery ≤ latest_arrival
-  pub few : best.hops < length task.table
-
--- the first search's answer: the same without a ceiling; or no way leads there
+-- what a search found: no way to the goal comes before the delivery, and some way comes then with that number of hops,
+-- fewer than there are nodes; or no way leads there
 pub record IsFirstWay (task : SearchTask) (best : Best) : Type 0 where
   pub least : (ns : List ℕ) (e : ℕ) → Leads (Takes task) task.start task.at ns task.goal e → best.delivery ≤ e
   pub none : best.hops ≡ 0 → (ns : List ℕ) (e : ℕ) → Leads (Takes task) task.start task.at ns task.goal e → ⊥

@@ -1,9 +1,9 @@
 //! The least route after a prefix, from layers made backward and picks, with its record.
 
-ghost use Rattle.std.specs.Prelude.{◌≡◌, ℕ, ◌+◌, ◌*◌, ◌-◌, ◌^◌, ◌≤◌, ◌<◌, IfOk, IfSome, IfNone, OnErr, IsTrue, length};
+ghost use Rattle.std.specs.Prelude.{ℕ, ◌+◌, ◌*◌, ◌-◌, ◌^◌, ◌≤◌, ◌<◌, IfOk, IfSome, IfNone, OnErr, length};
 ghost use Rattle.sabr_search.specs.Task.{IsTask, never, most_nodes};
 ghost use Rattle.sabr_search.specs.KeptAnswers.{IsFoundWay};
-ghost use Rattle.sabr_search.specs.Late.{AreArrivals, IsEnded, IsNoneSooner, HasWayAt, IsNoneSeen};
+ghost use Rattle.sabr_search.specs.Late.{AreArrivals, IsNoneSooner, HasWayAt, IsNoneSeen};
 ghost use Rattle.sabr_search.specs.FirstSteps.{IsNoneBefore};
 ghost use Rattle.sabr_search.specs.Answers.{IsLeastAfter};
 ghost use Rattle.sabr_search.specs.Told.{hops_told};
@@ -19,13 +19,6 @@ use std::alloc::Allocator;
 /// More looks than layers may take, and those that picks may take as well.
 const MANY_LOOKS: u64 = 1 << 61;
 
-/// What layers backward show: the least way, or that no way delivers by the second that they are made for.
-#[derive(Drop)]
-pub struct WayBack<A: Allocator + Copy> {
-    pub way: Option<FoundWay<A>>,
-    pub is_none: bool,
-}
-
 impl<A: Allocator + Copy> Layers<A> {
     /// The least way that delivers as is aimed at, of at most so many hops, if there is one and `most` looks show it. No
     /// way delivers sooner.
@@ -35,7 +28,7 @@ impl<A: Allocator + Copy> Layers<A> {
         looks: &mut Looks,
         hops: usize,
         most: u64,
-    ) -> Result<WayBack<A>, NoMemory>
+    ) -> Result<Option<FoundWay<A>>, NoMemory>
         requires task { IsTask aim.now.task.now }
         requires nodes { hops ≤ most_nodes }
         requires few { looks.old.count ≤ most }
@@ -44,29 +37,20 @@ impl<A: Allocator + Copy> Layers<A> {
         requires arrivals { AreArrivals aim.now.task.now aim.now.since.now }
         requires least { IsNoneBefore aim.now.task.now aim.now.delivery }
         ensures looks { looks.new.count ≤ most }
-        ensures found { IfOk result (λ back. IfSome back.way (λ found. (left : ℕ) → hops ≤ left → IsFoundWay aim.now.task.now left found.numbers.items found.delivery)) }
-        ensures none { IfOk result (λ back. IsTrue back.is_none → IsNoneBefore aim.now.task.now (aim.now.delivery + 1)) }
+        ensures found { IfOk result (λ o. IfSome o (λ found. (left : ℕ) → hops ≤ left → IsFoundWay aim.now.task.now left found.numbers.items found.delivery)) }
     {
         let made = self.make_back(aim, looks, hops, most)?;
         let Some(far) = made else {
-            let is_none = self.have_ended();
-            return Ok(WayBack { way: None, is_none });
+            return Ok(None);
         };
         let picked = self.pick(aim, looks, far, &[], most)?;
         let Some(numbers) = picked else {
-            return Ok(WayBack {
-                way: None,
-                is_none: false,
-            });
+            return Ok(None);
         };
-        let way = FoundWay {
+        Ok(Some(FoundWay {
             numbers,
             delivery: aim.delivery,
-        };
-        Ok(WayBack {
-            way: Some(way),
-            is_none: false,
-        })
+        }))
     }
 
     /// Returns the least route after the prefix, if layers made backward from the goal show one of at most so many hops
@@ -89,7 +73,6 @@ impl<A: Allocator + Copy> Layers<A> {
         requires least { IsNoneSooner aim.now.task.now hops aim.now.delivery }
         ensures some { IfOk result (λ o. IfSome o (IsLeastAfter aim.now.task.now prefix.now hops (aim.now.delivery + 1))) }
         ensures none { IfOk result (λ o. IfNone o (IsNoneSeen aim.now.task.now hops aim.now.delivery looks.old.count most)) }
-        ensures ended { IfOk result (λ o. IfNone o (IsEnded self.new.ends.items → IsNoneBefore aim.now.task.now (aim.now.delivery + 1))) }
         ensures refused { OnErr result (looks.new.count ≤ most + hops * length aim.now.task.now.plan.contacts) }
         ensures few_refused { OnErr result (looks.new.count ≤ looks.old.count + 2 * (hops * length aim.now.task.now.plan.contacts)) }
         ensures looks { IfOk result (λ o. looks.new.count ≤ most + (hops_told o - length prefix.now) * length aim.now.task.now.plan.contacts + hops_told o) }

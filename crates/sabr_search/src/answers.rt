@@ -4,7 +4,7 @@
 //! shuts more, starts no earlier and leaves no more hops, as long as its way may be taken and delivers at the same second.
 //! Where there was none, there is none.
 
-ghost use Rattle.std.specs.Prelude.{◌≡◌, ◌+◌, ◌++◌, ◌^◌, ◌≤◌, ◌<◌, [], Some, All, IfOk, IfSome, IfNone, IsTrue, OnOk, OnErr, length, slice_get, drop};
+ghost use Rattle.std.specs.Prelude.{◌≡◌, ◌+◌, ◌++◌, ◌^◌, ◌≤◌, ◌<◌, [], Some, None, All, IfOk, IfSome, IfNone, IsTrue, OnOk, OnErr, length, slice_get, drop};
 ghost use Rattle.sabr_search.specs.Ways.{Leads};
 ghost use Rattle.sabr_search.specs.Task.{IsTask, IsOfRequest, Takes};
 ghost use Rattle.sabr_search.specs.WideTasks.{ShutsFewer};
@@ -61,8 +61,8 @@ pub enum Breadth {
 
 /// An answer that would be the answer to a question, too, if its way passed no shut node.
 #[derive(Clone, Copy)]
-struct Near {
-    /// Its place; `NONE` if there is none.
+pub struct Near {
+    /// Its place.
     place: usize,
     /// How many nodes its question shut.
     shut: usize,
@@ -70,12 +70,27 @@ struct Near {
     node: usize,
 }
 
-/// No such answer.
-const NO_NEAR: Near = Near {
-    place: NONE,
-    shut: 0,
-    node: 0,
-};
+/// What the answers that are kept tell of a question: the place of its answer, or else the near one whose question shut most
+/// nodes.
+#[derive(Clone, Copy)]
+struct Lookup {
+    place: Option<usize>,
+    near: Option<Near>,
+}
+
+/// The same with the answer itself.
+#[derive(Drop)]
+pub struct Recall<A: Allocator + Copy = Global> {
+    pub answer: Option<Option<Route<A>>>,
+    pub near: Option<Near>,
+}
+
+/// Nothing is told.
+fn nothing_recalled<A: Allocator + Copy>(near: Option<Near>) -> Recall<A>
+    ensures { result.answer ≡ None }
+{
+    Recall { answer: None, near }
+}
 
 /// What was asked, and the answer.
 #[derive(Drop)]
@@ -111,12 +126,20 @@ pub struct Answers<A: Allocator + Copy = Global> {
     next: usize,
     /// By bucket the place of the latest answer.
     heads: Vec<usize, A>,
-    /// For the last question that was looked up, the near answer whose question shut most nodes.
-    near: Near,
     /// Whether wide questions pay.
     wide: Payoff,
     /// Whether those near an answer pay.
     nearer: Payoff,
+}
+
+/// Of a near answer and one at this place, the one whose question shut more nodes.
+fn more_shut(near: Option<Near>, place: usize, shut: usize, node: usize) -> Option<Near> {
+    if let Some(other) = near
+        && shut < other.shut
+    {
+        return near;
+    }
+    Some(Near { place, shut, node })
 }
 
 /// Returns whether each of these nodes is shut.
@@ -166,7 +189,7 @@ fn way_of<A: Allocator + Copy>(
 }
 
 /// The numbers of a way after those of a prefix.
-pub fn joined<A: Allocator + Copy>(
+fn joined<A: Allocator + Copy>(
     alloc: A,
     prefix: &[u32],
     way: &[u32],
@@ -290,8 +313,16 @@ impl<A: Allocator + Copy> Answer<A> {
 
 /// Returns whether the answer to a question after this prefix is kept: not if the prefix is empty, since no other one ends at
 /// the source, and not if too many numbers are excluded or the prefix is too long.
-pub fn is_kept(prefix: &[u32], excluded: &[u32]) -> bool {
+fn is_kept(prefix: &[u32], excluded: &[u32]) -> bool {
     !prefix.is_empty() && prefix.len() <= MOST_PREFIX && excluded.len() <= MOST_EXCLUDED
+}
+
+/// Which nodes a wide question shuts to which this answer is near.
+pub fn breadth_of(near: Option<Near>) -> Breadth {
+    match near {
+        Some(_) => Breadth::Near,
+        None => Breadth::Wide,
+    }
 }
 
 /// The bucket of a node and of the numbers that are excluded there.
@@ -313,50 +344,48 @@ impl<A: Allocator + Copy> Answers<A> {
             slots: Vec::new(alloc),
             next: 0,
             heads: Vec::new(alloc),
-            near: NO_NEAR,
             wide: Payoff::new(),
             nearer: Payoff::new(),
         }
     }
 
-    /// Returns whether a wide question is to be asked for the one after this prefix that was looked up last: it shuts fewer
-    /// nodes, its answer is kept, and some answer was kept before, so that others may come.
-    pub fn takes_wide(&mut self, task: &Task<'_, A>, prefix: &[u32]) -> bool
+    /// Returns whether a wide question is to be asked for the one after this prefix, to which this answer is near: it shuts
+    /// fewer nodes, its answer is kept, and some answer was kept before, so that others may come.
+    pub fn takes_wide(&mut self, task: &Task<'_, A>, prefix: &[u32], near: Option<Near>) -> bool
         ensures { self.new.slots ≡ self.old.slots }
     {
         if self.slots.is_empty() || prefix.len() < 2 || !is_kept(prefix, task.excluded()) {
             return false;
         }
-        if self.near.place == NONE {
+        let Some(answer) = near else {
             return self.wide.takes(ASKED, ASKED, REST);
-        }
-        if self.near.shut.saturating_add(1) >= task.shut_nodes().len() {
+        };
+        if answer.shut.saturating_add(1) >= task.shut_nodes().len() {
             return false;
         }
         self.nearer.takes(ASKED, ASKED, REST)
     }
 
-    /// Which nodes the wide question shuts.
-    pub fn breadth(&self) -> Breadth {
-        if self.near.place == NONE {
-            Breadth::Wide
-        } else {
-            Breadth::Near
-        }
-    }
-
-    /// Shuts the nodes that the near answer needs shut, and the one that its way passes.
-    pub fn shut_near(&self, shut: &mut Shut<A>, task: &Task<'_, A>) -> Result<(), NoMemory>
+    /// Shuts the nodes that the near answer needs shut, and the one that its way passes, if there is such an answer.
+    pub fn shut_near(
+        &self,
+        shut: &mut Shut<A>,
+        task: &Task<'_, A>,
+        near: Option<Near>,
+    ) -> Result<(), NoMemory>
         requires task { IsTask task.now }
         requires fewer { ShutsFewer task.now shut.old }
         requires request { IsOfRequest (narrowed task.now shut.old task.now.at) }
         ensures fewer { OnOk result (ShutsFewer task.now shut.new) }
         ensures request { OnOk result (IsOfRequest (narrowed task.now shut.new task.now.at)) }
     {
-        let Some(answer) = self.slots.get(self.near.place) else {
+        let Some(near) = near else {
             return Ok(());
         };
-        shut_one(shut, task, self.near.node)?;
+        let Some(answer) = self.slots.get(near.place) else {
+            return Ok(());
+        };
+        shut_one(shut, task, near.node)?;
         for place in 0..answer.shut.len() {
             shut_one(shut, task, answer.shut[place])?;
         }
@@ -385,43 +414,35 @@ impl<A: Allocator + Copy> Answers<A> {
         }
     }
 
-    /// The place of an answer that is the answer to this question, too. If there is none, notes the near answer whose
-    /// question shut most nodes.
-    fn find(
-        &self,
-        task: &Task<'_, A>,
-        looks: &mut Looks,
-        most: u64,
-        left: usize,
-        near: &mut Near,
-    ) -> Option<usize>
+    /// The place of an answer that is the answer to this question, too; or else the near one whose question shut most nodes.
+    fn find(&self, task: &Task<'_, A>, looks: &mut Looks, most: u64, left: usize) -> Lookup
         requires task { IsTask task.now }
         requires goal { slice_get task.now.table task.now.goal ≡ Some task.now.request.destination }
         requires kept { All (IsAnswer (tabled_of task.now) task.now.request) self.now.slots.items }
         requires few { looks.old.count ≤ most }
         requires most { most ≤ 2 ^ 60 }
         ensures looks { looks.new.count ≤ most }
-        ensures some { IfSome result (λ place. AnswersAt self.now.slots.items place task.now left) }
+        ensures some { IfSome result.place (λ place. AnswersAt self.now.slots.items place task.now left) }
     {
+        let mut near: Option<Near> = None;
         let mut place = self.head(bucket_of(task.start(), task.excluded()));
         for _ in 0..COMPARED {
             let Some(answer) = self.slots.get(place) else {
-                return None;
+                return Lookup { place: None, near };
             };
             let mut passed = NONE;
             if answer.answers(task, looks, most, left, &mut passed) {
-                return Some(place);
-            }
-            if passed != NONE && answer.shut.len() >= near.shut {
-                *near = Near {
-                    place,
-                    shut: answer.shut.len(),
-                    node: passed,
+                return Lookup {
+                    place: Some(place),
+                    near: None,
                 };
+            }
+            if passed != NONE {
+                near = more_shut(near, place, answer.shut.len(), passed);
             }
             place = answer.next;
         }
-        None
+        Lookup { place: None, near }
     }
 
     /// The answer to a question after the prefix, with so many hops left, if one that is kept shows it within `most` looks.
@@ -432,7 +453,7 @@ impl<A: Allocator + Copy> Answers<A> {
         most: u64,
         prefix: &[u32],
         left: usize,
-    ) -> Result<Option<Option<Route<A>>>, NoMemory>
+    ) -> Result<Recall<A>, NoMemory>
         requires task { IsTask task.now }
         requires goal { slice_get task.now.table task.now.goal ≡ Some task.now.request.destination }
         requires kept { All (IsAnswer (tabled_of task.now) task.now.request) self.old.slots.items }
@@ -441,29 +462,32 @@ impl<A: Allocator + Copy> Answers<A> {
         requires many { length prefix.now + left < 2 ^ 32 }
         ensures slots { self.new.slots ≡ self.old.slots }
         ensures refused { OnErr result (looks.new.count ≤ most) }
-        ensures untold { IfOk result (λ o. IfNone o (looks.new.count ≤ most)) }
-        ensures told { IfOk result (λ o. IfSome o (IsAnswered task.now prefix.now left)) }
-        ensures looks { IfOk result (λ o. IfSome o (λ answer. looks.new.count ≤ most + hops_told answer)) }
-        ensures counted { IfOk result (λ o. IfSome o (λ answer. hops_told answer ≤ looks.new.count)) }
+        ensures untold { IfOk result (λ told. IfNone told.answer (looks.new.count ≤ most)) }
+        ensures told { IfOk result (λ told. IfSome told.answer (IsAnswered task.now prefix.now left)) }
+        ensures looks { IfOk result (λ told. IfSome told.answer (λ answer. looks.new.count ≤ most + hops_told answer)) }
+        ensures counted { IfOk result (λ told. IfSome told.answer (λ answer. hops_told answer ≤ looks.new.count)) }
     {
-        self.near = NO_NEAR;
         if !is_kept(prefix, task.excluded()) {
-            return Ok(None);
+            return Ok(nothing_recalled(None));
         }
-        let mut near = NO_NEAR;
-        let found = self.find(task, looks, most, left, &mut near);
-        self.near = near;
-        let Some(place) = found else {
-            return Ok(None);
+        let found = self.find(task, looks, most, left);
+        let Some(place) = found.place else {
+            return Ok(nothing_recalled(found.near));
         };
         self.count_win(place);
         let answer = &self.slots[place];
         if answer.way.is_empty() {
-            return Ok(Some(None));
+            return Ok(Recall {
+                answer: Some(None),
+                near: None,
+            });
         }
         let contacts = joined(self.alloc, prefix, &answer.way)?;
         let route = task.record(looks, contacts, answer.delivery);
-        Ok(Some(Some(route)))
+        Ok(Recall {
+            answer: Some(Some(route)),
+            near: None,
+        })
     }
 
     /// Makes the buckets, if there are none; returns whether there are some.

@@ -3,7 +3,7 @@
 ghost use Rattle.std.specs.Prelude.{◌≡◌, ◌⊎◌, ℕ, ◌+◌, ◌^◌, ◌≤◌, ◌<◌, Some, IfOk, OnOk, IsTrue, false, length, slice_get};
 ghost use Rattle.sabr_search.specs.Task.{IsTask, Takes, never};
 ghost use Rattle.sabr_search.specs.Steps.{degree};
-ghost use Rattle.sabr_search.specs.FirstSteps.{ComesTo, AreFirstSteps, AreAround};
+ghost use Rattle.sabr_search.specs.FirstSteps.{ComesTo, AreFirstSteps};
 ghost use Rattle.sabr_search.specs.Settling.{AreReal};
 
 use crate::layers::NEVER;
@@ -102,28 +102,5 @@ impl<'a, A: Allocator + Copy> Task<'a, A> {
             at: self.at(),
         };
         self.steps_from(looks, most, from, first)
-    }
-
-    /// Gathers where the first steps come to, and when, from those of a question that shuts fewer nodes.
-    pub fn open_steps(
-        &self,
-        around: &[Standing],
-        first: &mut Vec<Standing, A>,
-    ) -> Result<(), NoMemory>
-        requires task { IsTask self.now }
-        requires around { AreAround self.now around.now }
-        ensures inside { OnOk result ((k : ℕ) (s : Standing) → slice_get first.new.items k ≡ Some s → s.node < length self.now.table) }
-        ensures real { OnOk result (AreReal self.now first.new.items) }
-        ensures whole { OnOk result (AreFirstSteps self.now first.new.items) }
-    {
-        first.clear();
-        for place in 0..around.len() {
-            let step = around[place];
-            if self.shut()[step.node] {
-                continue;
-            }
-            put_step(first, step)?;
-        }
-        Ok(())
     }
 }

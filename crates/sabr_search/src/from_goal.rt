@@ -6,8 +6,7 @@ ghost use Rattle.sabr_search.specs.Task.{IsTask, Takes, never};
 ghost use Rattle.sabr_search.specs.Steps.{received};
 ghost use Rattle.sabr_search.specs.Linked.{IsLinkWithin, HasNumber};
 ghost use Rattle.sabr_search.specs.Deadlines.{IsApart};
-ghost use Rattle.sabr_search.specs.Late.{InTimeFor, AreLateAfter, StartsInTime, IsNotedLate, IsToldLate, IsToldOver, IsToldByHead, IsLayerTold, AreArrivals, AreMadeIfEnded, AreMet, IsEnded, IsNoneSeen};
-ghost use Rattle.sabr_search.specs.FirstSteps.{IsNoneBefore};
+ghost use Rattle.sabr_search.specs.Late.{InTimeFor, AreLateAfter, StartsInTime, IsNotedLate, IsToldLate, IsToldOver, IsToldByHead, IsLayerTold, AreArrivals, AreMet, IsNoneSeen};
 
 use crate::layers::{Layers, Reached};
 use crate::looks::Looks;
@@ -297,8 +296,6 @@ impl<A: Allocator + Copy> Layers<A> {
         ensures layers { IfOk result (λ o. IfSome o (λ left. looks.new.count ≤ looks.old.count + (left + 1) * length aim.now.task.now.plan.contacts)) }
         ensures met { IfOk result (λ o. IfSome o (λ left. AreMet aim.now.task.now aim.now.since.now aim.now.delivery left self.new.ends.items self.new.place.items self.new.reached.items)) }
         ensures none { IfOk result (λ o. IfNone o (IsNoneSeen aim.now.task.now hops aim.now.delivery looks.old.count most)) }
-        ensures all { IfOk result (λ o. IfNone o (AreMadeIfEnded aim.now.task.now aim.now.since.now aim.now.delivery self.new.ends.items self.new.late.items self.new.reached.items)) }
-        ensures ended { IfOk result (λ o. IfNone o (IsEnded self.new.ends.items → IsNoneBefore aim.now.task.now (aim.now.delivery + 1))) }
     {
         self.first_back(aim.task, aim.delivery)?;
         for left in 0..hops {
@@ -318,16 +315,5 @@ impl<A: Allocator + Copy> Layers<A> {
             self.ends.push(end)?;
         }
         Ok(None)
-    }
-
-    /// Returns true if the layers that were made backward end with an empty one.
-    pub fn have_ended(&self) -> bool
-        ensures { IsTrue result → IsEnded self.now.ends.items }
-    {
-        let count = self.ends.len();
-        if count < 2 {
-            return false;
-        }
-        self.ends[count - 2] == self.ends[count - 1]
     }
 }

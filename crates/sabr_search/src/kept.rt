@@ -6,16 +6,13 @@ ghost use Rattle.sabr_search.specs.Kept.{IsKept};
 
 use crate::answers::Answers;
 use crate::shut::Shut;
-use crate::tables::Tables;
 use std::alloc::{Allocator, Global};
 
-/// What is kept for the searches of one plan and request: tables for deliveries that come again, and answers.
+/// What is kept for the searches of one plan and request.
 ///
 /// An answer doesn't depend on what is kept. If a growth is refused, what it was for is left out.
 #[derive(Drop)]
 pub struct Kept<A: Allocator + Copy = Global> {
-    /// Tables for deliveries that come again.
-    pub tables: Tables<A>,
     /// Answers to questions so far.
     pub answers: Answers<A>,
     /// The nodes that the last wide question shut.
@@ -28,7 +25,6 @@ impl<A: Allocator + Copy> Kept<A> {
         ensures { (p : TabledPlan) (r : RouteRequest) → IsKept p r result }
     {
         Kept {
-            tables: Tables::new(alloc),
             answers: Answers::new(alloc),
             wide: Shut::new(alloc),
         }

@@ -1,6 +1,6 @@
 //! Hop layers, made forward: for each number of hops, the nodes that it reaches earlier, and when.
 
-ghost use Rattle.std.specs.Prelude.{◌≡◌, ◌≢◌, min, ℕ, [], ◌∷◌, ◌+◌, ◌*◌, ◌^◌, ◌≤◌, ◌<◌, length, replicate, take, slice_set, slice_index, slice_index_or, true, false, OnOk, IfOk};
+ghost use Rattle.std.specs.Prelude.{◌≡◌, ◌≢◌, min, ℕ, [], ◌∷◌, ◌+◌, ◌*◌, ◌^◌, ◌≤◌, ◌<◌, length, take, slice_set, slice_index, slice_index_or, true, false, OnOk, IfOk};
 ghost use Rattle.sabr_search.specs.Task.{IsTask, Takes, never};
 ghost use Rattle.sabr_search.specs.Steps.{degree};
 ghost use Rattle.sabr_search.specs.Linked.{IsLinkWithin, HasNumber};
@@ -85,19 +85,6 @@ pub fn open_nodes<A: Allocator + Copy>(
         shut_out(arrival, shut, nodes[place]);
     }
     arrival[task.start()] = task.at();
-    Ok(())
-}
-
-/// Makes a list of one value, so many times.
-pub fn fill<A: Allocator + Copy>(
-    items: &mut Vec<u64, A>,
-    count: usize,
-    value: u64,
-) -> Result<(), NoMemory>
-    ensures { OnOk result (items.new.items ≡ replicate count value) }
-{
-    items.clear();
-    items.resize(count, value)?;
     Ok(())
 }
 

@@ -5,7 +5,6 @@ mod answer;
 mod answers;
 mod best;
 mod deadlines;
-mod dues;
 mod enter;
 mod finger;
 mod first_steps;
@@ -29,10 +28,7 @@ mod search;
 mod settled;
 mod settling;
 mod shut;
-mod table;
-mod tables;
 mod task;
-mod walk;
 mod wide;
 
 pub use best::BestOf;

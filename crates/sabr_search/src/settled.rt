@@ -1,18 +1,17 @@
 //! The finder that settles nodes first, and then makes only the layers that the least route needs.
 
-ghost use Rattle.std.specs.Prelude.{◌≡◌, ◌⊎◌, ℕ, ◌≤◌, ◌<◌, ◌+◌, ◌-◌, ◌*◌, Some, IfOk, IfSome, IfNone, IsTrue, OnErr, length, slice_get};
-ghost use Rattle.sabr_search.specs.declared.pick.Standing.{Standing};
+ghost use Rattle.std.specs.Prelude.{◌≡◌, ◌≤◌, ◌<◌, ◌+◌, ◌-◌, ◌*◌, Some, IfOk, IfSome, IfNone, IsTrue, OnErr, length};
 ghost use Rattle.std.specs.List.Sorted.{IsStrictlyIncreasing};
 ghost use Rattle.sabr_model.specs.Route.{is_prefix};
 ghost use Rattle.sabr_model.specs.Table.{node_count};
 ghost use Rattle.sabr_search.specs.Part.{IsLeast};
 ghost use Rattle.sabr_search.specs.Task.{IsTask, IsBehind, IsAsked, most_nodes};
 ghost use Rattle.sabr_search.specs.Told.{hops_told, IsCut};
-ghost use Rattle.sabr_search.specs.Kept.{IsKept, AreTables};
+ghost use Rattle.sabr_search.specs.Kept.{IsKept};
 ghost use Rattle.sabr_search.specs.Answers.{IsAnswered};
-ghost use Rattle.sabr_search.specs.FirstSteps.{tabled_of, AreFirstSteps, AreAround};
+ghost use Rattle.sabr_search.specs.FirstSteps.{tabled_of};
 
-use crate::answers::{Breadth, is_kept, joined};
+use crate::answers::{Near, breadth_of};
 use crate::best::BestOf;
 use crate::enter::enter;
 use crate::finger::rises;
@@ -22,7 +21,6 @@ use crate::part::Part;
 use crate::question::Question;
 use crate::search::Search;
 use crate::shut::Shut;
-use crate::tables::Tables;
 use crate::task::Task;
 use crate::wide::shut_few;
 use sabr_index::Index;
@@ -37,6 +35,7 @@ impl<A: Allocator + Copy> Search<A> {
         kept: &mut Kept<A>,
         asked: &Question<'_, '_, '_, A>,
         looks: &mut Looks,
+        near: Option<Near>,
     ) -> Result<Option<Option<Route<A>>>, NoMemory>
         requires asked { IsAsked asked.now.task.now asked.now.prefix.now asked.now.max_hops }
         requires few { looks.old.count ≤ 2 * length asked.now.task.now.plan.contacts }
@@ -47,70 +46,23 @@ impl<A: Allocator + Copy> Search<A> {
         ensures told { IfOk result (λ o. IfSome o (IsAnswered asked.now.task.now asked.now.prefix.now (asked.now.max_hops - length asked.now.prefix.now))) }
         ensures looks { IfOk result (λ o. IfSome o (λ answer. looks.new.count ≤ 2 * length asked.now.task.now.plan.contacts + hops_told answer)) }
         ensures counted { IfOk result (λ o. IfSome o (λ answer. hops_told answer ≤ looks.new.count)) }
-        ensures around { IfOk result (λ o. IfNone o (IsTrue self.new.is_around → AreAround asked.now.task.now self.new.first.items)) }
     {
         let task = asked.task;
-        self.is_around = false;
-        if !kept.answers.takes_wide(task, asked.prefix) {
+        if !kept.answers.takes_wide(task, asked.prefix, near) {
             return Ok(None);
         }
         let most = task.two_passes();
         shut_few(&mut kept.wide, task)?;
-        kept.answers.shut_near(&mut kept.wide, task)?;
-        let breadth = kept.answers.breadth();
+        kept.answers.shut_near(&mut kept.wide, task, near)?;
         let left = asked.left();
         let question = task.with_shut(&kept.wide);
-        let whole = question.first_steps(looks, most, &mut self.first)?;
-        if !whole {
-            return Ok(None);
-        }
-        self.is_around = true;
-        let found = self.way_within(&mut kept.tables, &question, looks, most, left)?;
+        let found = self.way_within(&question, looks, most, left)?;
         let Some(way) = found else {
             return Ok(None);
         };
-        kept.answers.keep(&question, left, way, breadth);
-        kept.answers.tell(task, looks, most, asked.prefix, left)
-    }
-
-    /// The least route after the prefix, if tables show when it delivers and a few looks find it. The answer is kept.
-    fn told_exact(
-        &mut self,
-        kept: &mut Kept<A>,
-        asked: &Question<'_, '_, '_, A>,
-        looks: &mut Looks,
-    ) -> Result<Option<Option<Route<A>>>, NoMemory>
-        requires asked { IsAsked asked.now.task.now asked.now.prefix.now asked.now.max_hops }
-        requires inside { (k : ℕ) (s : Standing) → slice_get self.old.first.items k ≡ Some s → s.node < length asked.now.task.now.table }
-        requires steps { AreFirstSteps asked.now.task.now self.old.first.items }
-        requires kept { IsKept (tabled_of asked.now.task.now) asked.now.task.now.request kept.old }
-        ensures first { self.new.first ≡ self.old.first }
-        ensures kept { IsKept (tabled_of asked.now.task.now) asked.now.task.now.request kept.new }
-        ensures refused { OnErr result (looks.new.count ≤ 2 * length asked.now.task.now.plan.contacts) }
-        ensures untold { IfOk result (λ o. IfNone o ((looks.new.count ≡ looks.old.count) ⊎ (looks.new.count ≤ 2 * length asked.now.task.now.plan.contacts))) }
-        ensures told { IfOk result (λ o. IfSome o (IsAnswered asked.now.task.now asked.now.prefix.now (asked.now.max_hops - length asked.now.prefix.now))) }
-        ensures looks { IfOk result (λ o. IfSome o (λ answer. looks.new.count ≤ 2 * length asked.now.task.now.plan.contacts + hops_told answer)) }
-        ensures counted { IfOk result (λ o. IfSome o (λ answer. hops_told answer ≤ looks.new.count)) }
-    {
-        let task = asked.task;
-        let most = task.two_passes();
-        if looks.count > most {
-            return Ok(None);
-        }
-        let left = asked.left();
-        let found = self.exact_way(&mut kept.tables, task, looks, most, left)?;
-        let Some(way) = found else {
-            return Ok(None);
-        };
-        if way.numbers.is_empty() {
-            return Ok(Some(None));
-        }
-        let contacts = joined(self.layers.alloc, asked.prefix, &way.numbers)?;
-        let route = task.record(looks, contacts, way.delivery);
-        if is_kept(asked.prefix, task.excluded()) {
-            kept.answers.keep(task, left, way, Breadth::Own);
-        }
-        Ok(Some(Some(route)))
+        kept.answers.keep(&question, left, way, breadth_of(near));
+        let told = kept.answers.tell(task, looks, most, asked.prefix, left)?;
+        Ok(told.answer)
     }
 
     /// The least route after the prefix: told by the answer to a wide question, or else by a search. The answer is kept.
@@ -119,6 +71,7 @@ impl<A: Allocator + Copy> Search<A> {
         kept: &mut Kept<A>,
         asked: &Question<'_, '_, '_, A>,
         looks: &mut Looks,
+        near: Option<Near>,
     ) -> Result<Option<Route<A>>, NoMemory>
         requires asked { IsAsked asked.now.task.now asked.now.prefix.now asked.now.max_hops }
         requires few { looks.old.count ≤ 2 * length asked.now.task.now.plan.contacts }
@@ -128,20 +81,14 @@ impl<A: Allocator + Copy> Search<A> {
         ensures bound { looks.new.count ≤ (3 * length asked.now.task.now.table + 1) * length asked.now.task.now.plan.contacts }
         ensures counted { IfOk result (λ answer. hops_told answer ≤ looks.new.count) }
         ensures cut { IfOk result (IsCut asked.now.task.now.plan asked.now.max_hops asked.now.prefix.now looks.new.count) }
-        ensures longer { IfOk result (λ answer. IfSome answer (λ route. length asked.now.prefix.now < length route.contacts)) }
     {
         let task = asked.task;
         let left = asked.left();
-        let wide = self.told_wide(kept, asked, looks)?;
+        let wide = self.told_wide(kept, asked, looks, near)?;
         if let Some(answer) = wide {
             return Ok(answer);
         }
-        self.gather_steps(task, looks)?;
-        let exact = self.told_exact(kept, asked, looks)?;
-        if let Some(answer) = exact {
-            return Ok(answer);
-        }
-        let answer = self.least_route(&mut kept.tables, asked, looks)?;
+        let answer = self.least_route(asked, looks)?;
         kept.answers.keep_after(task, asked.prefix, left, &answer);
         Ok(answer)
     }
@@ -167,12 +114,13 @@ impl<A: Allocator + Copy> Search<A> {
         ensures bound { looks.new.count ≤ (3 * length task.now.table + 1) * length task.now.plan.contacts }
         ensures counted { IfOk result (λ answer. hops_told answer ≤ looks.new.count) }
         ensures cut { IfOk result (IsCut task.now.plan max_hops prefix.now looks.new.count) }
-        ensures longer { IfOk result (λ answer. IfSome answer (λ route. length prefix.now < length route.contacts)) }
     {
         let most = task.two_passes();
         let left = max_hops as usize - prefix.len();
         let told = kept.answers.tell(task, looks, most, prefix, left)?;
-        if let Some(answer) = told {
+        let near = told.near;
+        let known = told.answer;
+        if let Some(answer) = known {
             return Ok(answer);
         }
         let asked = Question {
@@ -180,41 +128,7 @@ impl<A: Allocator + Copy> Search<A> {
             prefix,
             max_hops,
         };
-        self.least_searched(kept, &asked, looks)
-    }
-
-    /// Keeps what makes later searches with this answer shorter. It takes at most as many looks as two passes over all
-    /// contacts, and none after a search that took more.
-    fn learn(
-        &mut self,
-        tables: &mut Tables<A>,
-        looks: &mut Looks,
-        index: &Index<'_, A>,
-        request: &Request,
-        answer: &Option<Route<A>>,
-    )
-        requires kept { AreTables index.now request.now tables.old }
-        ensures kept { AreTables index.now request.now tables.new }
-        ensures looked { looks.old.count ≤ looks.new.count }
-        ensures none { IfNone answer.now (looks.new.count ≡ looks.old.count) }
-        ensures looks { (looks.new.count ≡ looks.old.count) ⊎ (looks.new.count ≤ 4 * length index.now.plan.contacts) }
-    {
-        let Some(route) = answer else {
-            return;
-        };
-        let most = 2 * index.plan().contacts().len() as u64;
-        if looks.count > most {
-            return;
-        }
-        let mut making = Looks::new();
-        tables.learn(
-            &mut self.layers,
-            &mut making,
-            index,
-            request,
-            route.delivery,
-        );
-        looks.count += making.count;
+        self.least_searched(kept, &asked, looks, near)
     }
 }
 
@@ -280,7 +194,6 @@ impl<A: Allocator + Copy> Settled<A> {
         ensures called { self.new.calls.count ≡ self.old.calls.count + 1 }
         ensures kept { IsKept index.now request.now kept.new }
         ensures cut { IfOk result (IsCut index.now.plan request.now.max_hops part.entry.prefix.now self.new.looks.count) }
-        ensures longer { IfOk result (λ answer. IfSome answer (λ route. length part.entry.prefix.now < length route.contacts)) }
     {
         self.begin();
         let Some((standing, goal)) = enter(
@@ -309,31 +222,6 @@ impl<A: Allocator + Copy> Settled<A> {
             request.max_hops(),
             part.prefix,
         )
-    }
-
-    /// Finds the least route of a part, and keeps what makes later searches shorter.
-    fn find_beside(
-        &mut self,
-        kept: &mut Kept<A>,
-        index: &Index<'_, A>,
-        request: &Request,
-        part: Part<'_>,
-        in_order: bool,
-    ) -> Result<Option<Route<A>>, NoMemory>
-        requires fits { IsTrue (is_prefix index.now.plan request.now part.prefix.now) }
-        requires rising { IsTrue in_order → IsStrictlyIncreasing part.excluded.now }
-        requires kept { IsKept index.now request.now kept.old }
-        ensures least { IfOk result (IsLeast index.now.plan request.now part.entry.prefix.now part.entry.excluded.now) }
-        ensures bound { self.new.looks.count ≤ (3 * node_count index.now.plan.contacts + 1) * length index.now.plan.contacts }
-        ensures counted { IfOk result (λ answer. hops_told answer ≤ self.new.looks.count) }
-        ensures called { self.new.calls.count ≡ self.old.calls.count + 1 }
-        ensures kept { IsKept index.now request.now kept.new }
-        ensures cut { IfOk result (IsCut index.now.plan request.now.max_hops part.entry.prefix.now self.new.looks.count) }
-    {
-        let answer = self.find(kept, index, request, part, in_order)?;
-        self.search
-            .learn(&mut kept.tables, &mut self.looks, index, request, &answer);
-        Ok(answer)
     }
 }
 
@@ -379,7 +267,7 @@ impl<A: Allocator + Copy> BestOf<A> for Settled<A> {
         ensures kept { IsKept index.now request.now kept.new }
         ensures cut { IfOk result (IsCut index.now.plan request.now.max_hops part.entry.prefix.now self.new.looks.count) }
     {
-        self.find_beside(kept, index, request, part, rises(part.excluded))
+        self.find(kept, index, request, part, rises(part.excluded))
     }
 
     fn best_rising(
@@ -399,7 +287,7 @@ impl<A: Allocator + Copy> BestOf<A> for Settled<A> {
         ensures kept { IsKept index.now request.now kept.new }
         ensures cut { IfOk result (IsCut index.now.plan request.now.max_hops part.entry.prefix.now self.new.looks.count) }
     {
-        self.find_beside(kept, index, request, part, true)
+        self.find(kept, index, request, part, true)
     }
 
     fn looks(&self) -> u64 {

@@ -8,9 +8,9 @@ ghost use Rattle.sabr_search.specs.Lists.{IsKnown};
 ghost use Rattle.sabr_search.specs.Made.{AreOpened};
 ghost use Rattle.sabr_search.specs.Late.{AreArrivals};
 ghost use Rattle.sabr_search.specs.FirstSteps.{AreFirstSteps};
-ghost use Rattle.sabr_search.specs.Settling.{IsBound, AreReal, AreArrivalsBy, settled_count, IsWayTo, IsFirstBefore, AreSettling, AreSettled, IsFallen, AreSettledTaken};
+ghost use Rattle.sabr_search.specs.Settling.{IsBound, AreReal, AreArrivalsBy, settled_count, IsWayTo, IsFirstWay, AreSettling, AreSettled, IsFallen, AreSettledTaken};
 
-use crate::layers::{Best, news_before, open_nodes};
+use crate::layers::{Best, NEVER, news_before, open_nodes};
 use crate::looks::Looks;
 use crate::over_link::{is_soonest, link_passes};
 use crate::pick::Standing;
@@ -20,16 +20,13 @@ use sabr_index::{Link, Links, Pass};
 use sabr_model::NoMemory;
 use std::alloc::Allocator;
 
-/// What nodes are settled for: a delivery before a ceiling.
+/// What nodes are settled for.
 #[derive(Drop)]
 pub struct Forward<'t, 'a, 'b, A: Allocator + Copy> {
     /// The search.
     pub task: &'t Task<'a, A>,
-    /// For each node, a second from which on no way leads to the goal before the ceiling; none is known after the list's
-    /// end.
+    /// For each node, a second from which on no way leads to the goal; none is known after the list's end.
     pub late: &'b [u64],
-    /// The second before which a way has to deliver.
-    pub ceiling: u64,
 }
 
 /// Returns true if, by the bounds of a link, nothing that is at its sender at `at` brings news to its receiver.
@@ -92,9 +89,9 @@ impl<A: Allocator + Copy> Settling<A> {
         requires step { slice_index_or forward.now.task.now.shut step.node false ≡ false → (n : ℕ) × Takes forward.now.task.now n event.node event.at step.node step.at }
         requires real { IsWayTo forward.now.task.now event.node event.hops event.at }
         requires few { event.hops < settled_count self.old.settled.items }
-        requires state { AreSettling forward.now.task.now forward.now.late.now forward.now.ceiling self.old.settled.items event.at self.old.arrival.items self.old.queue best }
+        requires state { AreSettling forward.now.task.now forward.now.late.now self.old.settled.items event.at self.old.arrival.items self.old.queue best }
         ensures settled { self.new.settled ≡ self.old.settled }
-        ensures state { IfOk result (λ b. AreSettling forward.now.task.now forward.now.late.now forward.now.ceiling self.old.settled.items event.at self.new.arrival.items self.new.queue b) }
+        ensures state { IfOk result (λ b. AreSettling forward.now.task.now forward.now.late.now self.old.settled.items event.at self.new.arrival.items self.new.queue b) }
         ensures fallen { IfOk result (λ b. IsFallen self.old.settled.items self.old.arrival.items best self.new.arrival.items b) }
         ensures known { IfOk result (λ b. IsKnown forward.now.task.now.goal self.new.arrival.items b.delivery step.node step.at) }
         ensures pushes { OnOk result (length self.new.queue ≤ length self.old.queue + 1) }
@@ -125,10 +122,10 @@ impl<A: Allocator + Copy> Settling<A> {
         requires real { IsWayTo forward.now.task.now event.node event.hops event.at }
         requires few_hops { event.hops < settled_count self.old.settled.items }
         requires few { looks.old.count + length passes.now ≤ 2 ^ 62 }
-        requires state { AreSettling forward.now.task.now forward.now.late.now forward.now.ceiling self.old.settled.items event.at self.old.arrival.items self.old.queue best }
+        requires state { AreSettling forward.now.task.now forward.now.late.now self.old.settled.items event.at self.old.arrival.items self.old.queue best }
         ensures settled { self.new.settled ≡ self.old.settled }
         ensures looks { looks.new.count ≤ looks.old.count + length passes.now }
-        ensures state { IfOk result (λ b. AreSettling forward.now.task.now forward.now.late.now forward.now.ceiling self.old.settled.items event.at self.new.arrival.items self.new.queue b) }
+        ensures state { IfOk result (λ b. AreSettling forward.now.task.now forward.now.late.now self.old.settled.items event.at self.new.arrival.items self.new.queue b) }
         ensures fallen { IfOk result (λ b. IsFallen self.old.settled.items self.old.arrival.items best self.new.arrival.items b) }
         ensures known { IfOk result (λ b. (n w x : ℕ) → HasNumber passes.now n → Takes forward.now.task.now n event.node event.at w x → IsKnown forward.now.task.now.goal self.new.arrival.items b.delivery w x) }
         ensures pushes { OnOk result (length self.new.queue + looks.old.count ≤ length self.old.queue + looks.new.count) }
@@ -162,11 +159,11 @@ impl<A: Allocator + Copy> Settling<A> {
         requires few_hops { event.hops ≤ settled_count self.old.settled.items }
         requires links { AreLinksAt forward.now.task.now event.node links.links.now links.passes.now }
         requires few { looks.old.count + length links.passes.now ≤ 2 ^ 62 }
-        requires state { AreSettling forward.now.task.now forward.now.late.now forward.now.ceiling (slice_set self.old.settled.items event.node true) event.at self.old.arrival.items self.old.queue best }
+        requires state { AreSettling forward.now.task.now forward.now.late.now (slice_set self.old.settled.items event.node true) event.at self.old.arrival.items self.old.queue best }
         requires taken { AreSettledTaken forward.now.task.now self.old.settled.items self.old.arrival.items best.delivery }
         ensures settled { self.new.settled.items ≡ slice_set self.old.settled.items event.node true }
         ensures looks { looks.new.count ≤ looks.old.count + length links.entry.passes.now }
-        ensures state { IfOk result (λ b. AreSettling forward.now.task.now forward.now.late.now forward.now.ceiling (slice_set self.old.settled.items event.node true) event.at self.new.arrival.items self.new.queue b) }
+        ensures state { IfOk result (λ b. AreSettling forward.now.task.now forward.now.late.now (slice_set self.old.settled.items event.node true) event.at self.new.arrival.items self.new.queue b) }
         ensures fallen { IfOk result (λ b. IsFallen (slice_set self.old.settled.items event.node true) self.old.arrival.items best self.new.arrival.items b) }
         ensures taken { IfOk result (λ b. AreSettledTaken forward.now.task.now (slice_set self.old.settled.items event.node true) self.new.arrival.items b.delivery) }
         ensures pushes { OnOk result (length self.new.queue + looks.old.count ≤ length self.old.queue + looks.new.count) }
@@ -191,7 +188,7 @@ impl<A: Allocator + Copy> Settling<A> {
         first: &[Standing],
     ) -> Result<Best, NoMemory>
         requires task { IsTask forward.now.task.now }
-        requires bound { IsBound forward.now.task.now forward.now.late.now forward.now.ceiling }
+        requires bound { IsBound forward.now.task.now forward.now.late.now }
         requires inside { (k : ℕ) (s : Standing) → slice_get first.now k ≡ Some s → s.node < length forward.now.task.now.table }
         requires steps { AreFirstSteps forward.now.task.now first.now }
         requires real { AreReal forward.now.task.now first.now }
@@ -199,7 +196,7 @@ impl<A: Allocator + Copy> Settling<A> {
         requires settled { self.old.settled.items ≡ replicate (length forward.now.task.now.shut) false }
         requires queue { self.old.queue ≡ [] }
         ensures settled { self.new.settled.items ≡ slice_set self.old.settled.items forward.now.task.now.start true }
-        ensures state { IfOk result (λ b. AreSettled forward.now.task.now forward.now.late.now forward.now.ceiling self.new.settled.items self.new.arrival.items self.new.queue b) }
+        ensures state { IfOk result (λ b. AreSettled forward.now.task.now forward.now.late.now self.new.settled.items self.new.arrival.items self.new.queue b) }
     {
         let event = Event {
             at: forward.task.at(),
@@ -208,7 +205,7 @@ impl<A: Allocator + Copy> Settling<A> {
         };
         self.settled[event.node] = true;
         let mut best = Best {
-            delivery: forward.ceiling,
+            delivery: NEVER,
             hops: 0,
         };
         for place in 0..first.len() {
@@ -221,7 +218,7 @@ impl<A: Allocator + Copy> Settling<A> {
     }
 
     /// Settles nodes in order of their arrival, until no event comes before the first delivery at the goal. Returns
-    /// that delivery and the hops of a way with it; no hops if no way delivers before the ceiling. Looks at each contact
+    /// that delivery and the hops of a way with it; no hops if no way leads there. Looks at each contact
     /// of another node than the start at most once. None if more than `most` looks might be needed.
     fn settle_all(
         &mut self,
@@ -231,7 +228,7 @@ impl<A: Allocator + Copy> Settling<A> {
         most: u64,
     ) -> Result<Option<Best>, NoMemory>
         requires task { IsTask forward.now.task.now }
-        requires bound { IsBound forward.now.task.now forward.now.late.now forward.now.ceiling }
+        requires bound { IsBound forward.now.task.now forward.now.late.now }
         requires inside { (k : ℕ) (s : Standing) → slice_get first.now k ≡ Some s → s.node < length forward.now.task.now.table }
         requires steps { AreFirstSteps forward.now.task.now first.now }
         requires real { AreReal forward.now.task.now first.now }
@@ -240,7 +237,7 @@ impl<A: Allocator + Copy> Settling<A> {
         ensures looks { looks.new.count ≤ most }
         ensures counted { looks.new.count + degree forward.now.task.now forward.now.task.now.start ≤ looks.old.count + length forward.now.task.now.plan.contacts }
         ensures none { IfOk result (λ o. IfNone o (most + degree forward.now.task.now forward.now.task.now.start < looks.old.count + length forward.now.task.now.plan.contacts)) }
-        ensures first { IfOk result (λ o. IfSome o (IsFirstBefore forward.now.task.now forward.now.ceiling)) }
+        ensures first { IfOk result (λ o. IfSome o (IsFirstWay forward.now.task.now)) }
         ensures arrivals { IfOk result (λ o. IfSome o (λ best. AreArrivalsBy forward.now.task.now self.new.arrival.items best.delivery)) }
     {
         self.first_events(forward)?;
@@ -270,9 +267,9 @@ impl<A: Allocator + Copy> Settling<A> {
         }
     }
 
-    /// Settles as many nodes as it takes to find the first delivery at the goal before the ceiling, from where the first
-    /// steps come to. Returns it and the hops of a way with it; no hops if no way delivers before the ceiling. No way
-    /// comes to a node before its arrival. Looks as in `settle_all`, and none as there.
+    /// Settles as many nodes as it takes to find the first delivery at the goal, from where the first steps come to.
+    /// Returns it and the hops of a way with it; no hops if no way leads there. No way comes to a node before its
+    /// arrival. Looks as in `settle_all`, and none as there.
     pub fn run(
         &mut self,
         forward: &Forward<'_, '_, '_, A>,
@@ -281,7 +278,7 @@ impl<A: Allocator + Copy> Settling<A> {
         most: u64,
     ) -> Result<Option<Best>, NoMemory>
         requires task { IsTask forward.now.task.now }
-        requires bound { IsBound forward.now.task.now forward.now.late.now forward.now.ceiling }
+        requires bound { IsBound forward.now.task.now forward.now.late.now }
         requires inside { (k : ℕ) (s : Standing) → slice_get first.now k ≡ Some s → s.node < length forward.now.task.now.table }
         requires steps { AreFirstSteps forward.now.task.now first.now }
         requires real { AreReal forward.now.task.now first.now }
@@ -290,7 +287,7 @@ impl<A: Allocator + Copy> Settling<A> {
         ensures looks { looks.new.count ≤ most }
         ensures counted { looks.new.count + degree forward.now.task.now forward.now.task.now.start ≤ looks.old.count + length forward.now.task.now.plan.contacts }
         ensures none { IfOk result (λ o. IfNone o (most + degree forward.now.task.now forward.now.task.now.start < looks.old.count + length forward.now.task.now.plan.contacts)) }
-        ensures first { IfOk result (λ o. IfSome o (IsFirstBefore forward.now.task.now forward.now.ceiling)) }
+        ensures first { IfOk result (λ o. IfSome o (IsFirstWay forward.now.task.now)) }
         ensures arrivals { IfOk result (λ o. IfSome o (λ best. AreArrivals forward.now.task.now self.new.arrival.items)) }
     {
         let found = self.settle_all(forward, looks, first, most)?;

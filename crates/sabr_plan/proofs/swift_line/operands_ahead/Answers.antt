@@ -1,13 +1,12 @@
 -- Five operands come one after another.
-use Rattle.std.proofs.Common.{◌≡◌, ℕ, List, [], ◌∷◌, Option, Ok, ap, refl, arith, ok_or}
+use Rattle.std.proofs.Common.{◌≡◌, ℕ, List, [], ◌∷◌, Option, Ok, ap, refl, arith, rules, ok_or}
 use Rattle.sabr_plan.specs.Operands.{time_at, node_of, value_of}
 use Rattle.sabr_plan.specs.Commands.{addition_of}
 use Rattle.sabr_plan.specs.declared.command.Addition.{Addition}
 use Rattle.sabr_plan.specs.declared.command.Command.TheVariants.{Add}
 use Rattle.sabr_plan.specs.declared.command.Target.{Target}
 use Rattle.sabr_plan.specs.declared.fault.PlanKind.TheVariants.{BadNode, BadNumber}
-use Rattle.sabr_plan.proofs.PlainWords.{spaced, five, five_parts, graphic, words_of-spaced, plain-spaced}
-use Rattle.sabr_plan.proofs.Lines.{starts_lf}
+use Rattle.sabr_plan.proofs.PlainWords.{no_words, more_words, from_blank}
 use Rattle.sabr_plan.proofs.swift_line.operands_ahead.Goals as goal
 
 -- five words that are operands are an addition
@@ -21,17 +20,15 @@ returns c =
     let first = c.in_ok-first.ensures.word in
     let second = c.in_ok-second.ensures.word in
     let value = c.in_ok-value.ensures.word in
-    let lf = starts_lf c.in_ok-value.rest.now c.in_ok-value.ensures.ended c.if-rest-ne10.false in
-    let words = five start end first second value lf in
-    let all = graphic start end first second value lf in
+    let line = more_words start (more_words end (more_words first (more_words second (more_words value (no_words (c.has_no_word.ensures (search rules))))))) in
     let greatest = c.greatest_value.ensures in
     record {
       value = record {
-        line = spaced words;
-        rest = _;
-        parts = five_parts start end first second value lf;
-        plain = plain-spaced words all;
-        holds = rw (words_of-spaced words all) (added c.args.reference c.args.target start.word end.word first.word second.word value.word _ start.holds end.holds (ap (λ o. ok_or o BadNode) first.holds) (ap (λ o. ok_or o BadNode) second.holds) (ap (λ o. ok_or o BadNumber) (rw greatest at value.holds)));
+        line = line.line;
+        rest = line.rest;
+        parts = line.parts;
+        plain = from_blank line;
+        holds = rw line.has (added c.args.reference c.args.target start.front.word end.front.word first.front.word second.front.word value.front.word _ start.front.holds end.front.holds (ap (λ o. ok_or o BadNode) first.front.holds) (ap (λ o. ok_or o BadNode) second.front.holds) (ap (λ o. ok_or o BadNumber) (rw greatest at value.front.holds)));
       };
       bounds = (omega (arith, c.in_ok-first.ensures.bounds.0), omega (arith, c.in_ok-second.ensures.bounds.0), c.in_ok-end.ensures.bound, rw (← greatest) c.in_ok-value.ensures.bounds.1);
     }

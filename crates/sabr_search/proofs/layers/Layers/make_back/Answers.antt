@@ -1,9 +1,8 @@
-use Rattle.std.proofs.Common.{◌≡◌, inl, inr, ◌+◌, ◌*◌, ◌≤◌, ◌++◌, [], ◌∷◌, Some, length, take, slice_index, ap, sym, subst, ◌∙◌, arith}
+use Rattle.std.proofs.Common.{◌≡◌, inl, inr, ◌+◌, ◌*◌, ◌≤◌, ◌++◌, [], ◌∷◌, Some, length, take, slice_index, ap, sym, ◌∙◌, arith}
 use Rattle.std.proofs.Math.Nat.{mul-le-mul_right}
 use Rattle.sabr_search.proofs.Between.{read_at}
 use Rattle.sabr_search.proofs.LateMade.{late_first, late_next, met_at, take_whole}
-use Rattle.sabr_search.specs.Late.{IsEnded}
-use Rattle.sabr_search.proofs.Ended.{ended}
+use Rattle.sabr_search.proofs.Ended.{none_by}
 use Rattle.sabr_search.proofs.LateLayers.{fewest}
 use Rattle.sabr_search.proofs.layers.Layers.make_back.Goals as goal
 
@@ -58,42 +57,6 @@ loop-left-preserved g c =
           (c.in_ok-push.ensures.items ∙ ap (λ xs. xs ++ c.len-end.result ∷ []) same_ends ∙ ap (λ k. old.ends.items ++ k ∷ []) many);
     }
 
-pub returns-in_default-clause-ended : goal.returns-in_default-clause-ended
-returns-in_default-clause-ended g c = λ empty.
-    let old = c.loop-left.self in
-    let same_ends : c.next_back.new.self.ends.items ≡ old.ends.items = ap (λ v. v.items) c.next_back.ensures.ends in
-    let kept : IsEnded old.ends.items = rw same_ends at empty in
-    ended c.args.aim.now.task.now c.requires.task c.args.aim.now.since.now c.args.aim.now.delivery c.loop-left.left old.ends.items old.late.items old.place.items old.reached.items c.loop-left.invariant.made c.requires.arrivals kept
-
-pub returns-clause-ended : goal.returns-clause-ended
-returns-clause-ended g c = λ empty.
-    let old = c.loop-left.self in
-    ended c.args.aim.now.task.now c.requires.task c.args.aim.now.since.now c.args.aim.now.delivery c.loop-left.left old.ends.items old.late.items old.place.items old.reached.items c.loop-left.invariant.made c.requires.arrivals empty
-
-pub returns-then-index-clause-ended : goal.returns-then-index-clause-ended
-returns-then-index-clause-ended g c = λ empty.
-    let old = c.loop-left.self in
-    ended c.args.aim.now.task.now c.requires.task c.args.aim.now.since.now c.args.aim.now.delivery c.loop-left.left old.ends.items old.late.items old.place.items old.reached.items c.loop-left.invariant.made c.requires.arrivals empty
-
-pub returns-in_default-clause-all : goal.returns-in_default-clause-all
-returns-in_default-clause-all g c = λ empty.
-    let left = c.loop-left.left in
-    let old = c.loop-left.self in
-    let made = c.loop-left.invariant.made in
-    let same_ends : c.next_back.new.self.ends.items ≡ old.ends.items = ap (λ v. v.items) c.next_back.ensures.ends in
-    let kept : IsEnded old.ends.items = rw same_ends at empty in
-    let same : kept.0 ≡ left = omega (arith, kept.1, made.many) in
-    absurd (c.if-index.false (
-    read_at old.ends.items left c.index.result.now (omega (arith, made.many)) c.index.ensures ∙ subst (λ k. slice_index old.ends.items k ≡ slice_index old.ends.items (k + 1)) same kept.2
-    ∙ sym (read_at old.ends.items (left + 1) c.index-in-loop-left.result.now (omega (arith, made.many)) c.index-in-loop-left.ensures)
-    ))
-
-pub returns-then-index-clause-all : goal.returns-then-index-clause-all
-returns-then-index-clause-all g c = λ empty. (c.loop-left.left, c.loop-left.self.place.items, c.loop-left.invariant.made)
-
-pub returns-clause-all : goal.returns-clause-all
-returns-clause-all g c = λ empty. (c.loop-left.left, c.loop-left.self.place.items, c.loop-left.invariant.made)
-
 pub returns-then-index-clause-none : goal.returns-then-index-clause-none
 returns-then-index-clause-none g c =
     let left = c.loop-left.left in
@@ -101,7 +64,7 @@ returns-then-index-clause-none g c =
     let made = c.loop-left.invariant.made in
     let empty : slice_index old.ends.items left ≡ slice_index old.ends.items (left + 1) =
     sym (read_at old.ends.items left c.index.result.now (omega (arith, made.many)) c.index.ensures) ∙ c.if-index.true ∙ read_at old.ends.items (left + 1) c.index-in-loop-left.result.now (omega (arith, made.many)) c.index-in-loop-left.ensures in
-    let none = ended c.args.aim.now.task.now c.requires.task _ _ left old.ends.items old.late.items old.place.items old.reached.items made c.requires.arrivals (left, made.many, empty) in
+    let none = none_by c.args.aim.now.task.now c.requires.task _ _ left old.ends.items old.late.items old.place.items old.reached.items made empty c.requires.arrivals in
     inr (λ ns e le way. omega (arith, none ns e way))
 
 pub returns-in_default-clause-none : goal.returns-in_default-clause-none

@@ -1,10 +1,19 @@
 use Rattle.std.proofs.Common.{arith}
-use Rattle.sabr_search.specs.Task.{never}
-use Rattle.sabr_search.proofs.Tabled.{first_of_all}
+use Rattle.sabr_search.proofs.Front.{degree_at_most}
+use Rattle.sabr_search.proofs.Around.{none_bounds}
 use Rattle.sabr_search.proofs.search.Search.first_way.Goals as goal
 
-pub run-requires-clause-steps : goal.run-requires-clause-steps
-run-requires-clause-steps g c = λ n w b s. rw (c.deref.ensures.value, c.first_by_table.ensures.first) (c.requires.steps n w b s)
+pub run-requires-clause-bound : goal.run-requires-clause-bound
+run-requires-clause-bound g c = none_bounds c.args.task.now c.requires.task
 
-pub returns-clause-way : goal.returns-clause-way
-returns-clause-way g c = first_of_all c.args.task.now c.requires.task never c.in-Some-found.best (rw c.in-Some-found.is at c.in_ok-found.ensures.first) (λ zero_hops. omega arith)
+pub run-requires-clause-steps : goal.run-requires-clause-steps
+run-requires-clause-steps g c = λ n w b s. rw c.deref.ensures.value (c.in_ok-whole.ensures.whole c.if-not-whole.false n w b s)
+
+pub returns-in_err-whole-clause-counted : goal.returns-in_err-whole-clause-counted
+returns-in_err-whole-clause-counted g c = omega (arith, c.first_steps.ensures.counted, degree_at_most c.args.task.now c.args.task.now.start)
+
+pub returns-then-not-whole-clause-counted : goal.returns-then-not-whole-clause-counted
+returns-then-not-whole-clause-counted g c = omega (arith, c.first_steps.ensures.counted, degree_at_most c.args.task.now c.args.task.now.start)
+
+pub returns-then-not-whole-clause-none : goal.returns-then-not-whole-clause-none
+returns-then-not-whole-clause-none g c = omega (arith, c.in_ok-whole.ensures.all c.if-not-whole.true, degree_at_most c.args.task.now c.args.task.now.start)

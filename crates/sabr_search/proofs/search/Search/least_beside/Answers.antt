@@ -2,7 +2,7 @@ use Rattle.std.proofs.Common.{◌-◌, length, arith}
 use Rattle.sabr_search.proofs.Prefixes.{prefix_facts}
 use Rattle.sabr_search.proofs.Law.{contacts_few, prefix_few}
 use Rattle.sabr_search.proofs.FirstLimits.{answers_are_least}
-use Rattle.sabr_search.proofs.Beside.{answered_longer, picks_within, told_least, told_bound, told_cut}
+use Rattle.sabr_search.proofs.Beside.{picks_within, told_least, told_bound, told_cut}
 use Rattle.sabr_search.proofs.search.Search.least_beside.Goals as goal
 
 pub overflow_sub-left : goal.overflow_sub-left
@@ -39,9 +39,6 @@ pub returns-in-Some-clause-cut : goal.returns-in-Some-clause-cut
 returns-in-Some-clause-cut g c = λ most.
     told_cut c.args.task.now c.requires.task c.args.prefix.now c.requires.behind c.requires.fits c.args.max_hops c.requires.hops c.in-Some.answer (rw c.in-Some.is at c.in_ok-told.ensures.told)
     c.tell.new.looks.count (rw c.two_passes-most.ensures.value at (rw c.in-Some.is at c.in_ok-told.ensures.looks))
-
-pub returns-in-Some-clause-longer : goal.returns-in-Some-clause-longer
-returns-in-Some-clause-longer g c = answered_longer c.args.task.now c.args.prefix.now (c.args.max_hops - length c.args.prefix.now) c.in-Some.answer (rw c.in-Some.is at c.in_ok-told.ensures.told)
 
 pub returns-in-Some-clause-least : goal.returns-in-Some-clause-least
 returns-in-Some-clause-least g c =

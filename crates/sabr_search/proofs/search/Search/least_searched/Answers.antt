@@ -1,6 +1,6 @@
-use Rattle.std.proofs.Common.{◌-◌, length, arith}
+use Rattle.std.proofs.Common.{arith}
 use Rattle.sabr_search.proofs.Prefixes.{prefix_facts}
-use Rattle.sabr_search.proofs.Beside.{answered_longer, told_bound, told_cut}
+use Rattle.sabr_search.proofs.Beside.{told_bound, told_cut}
 use Rattle.sabr_search.proofs.search.Search.least_searched.Goals as goal
 
 pub left-left-requires : goal.left-left-requires
@@ -18,24 +18,3 @@ pub returns-in-Some-clause-cut : goal.returns-in-Some-clause-cut
 returns-in-Some-clause-cut g c = λ most.
     told_cut c.args.asked.now.task.now c.requires.asked.task_is c.args.asked.now.prefix.now c.requires.asked.behind c.requires.asked.fits c.args.asked.now.max_hops c.requires.asked.hops c.in-Some.answer (rw c.in-Some.is at c.in_ok-wide.ensures.told)
     c.told_wide.new.looks.count (rw c.in-Some.is at c.in_ok-wide.ensures.looks)
-
-pub returns-in-Some-clause-longer : goal.returns-in-Some-clause-longer
-returns-in-Some-clause-longer g c =
-    answered_longer c.args.asked.now.task.now c.args.asked.now.prefix.now (c.args.asked.now.max_hops - length c.args.asked.now.prefix.now) c.in-Some.answer (rw c.in-Some.is at c.in_ok-wide.ensures.told)
-
-pub returns-in-Some-exact-clause-bound : goal.returns-in-Some-exact-clause-bound
-returns-in-Some-exact-clause-bound g c =
-    told_bound c.args.asked.now.task.now c.requires.asked.task_is c.args.asked.now.prefix.now c.requires.asked.behind c.requires.asked.fits c.args.asked.now.max_hops c.requires.asked.hops c.in-Some-exact.answer (rw c.in-Some-exact.is at c.in_ok-exact.ensures.told)
-    c.told_exact.new.looks.count (rw c.in-Some-exact.is at c.in_ok-exact.ensures.looks)
-
-pub returns-in-Some-exact-clause-cut : goal.returns-in-Some-exact-clause-cut
-returns-in-Some-exact-clause-cut g c = λ most.
-    told_cut c.args.asked.now.task.now c.requires.asked.task_is c.args.asked.now.prefix.now c.requires.asked.behind c.requires.asked.fits c.args.asked.now.max_hops c.requires.asked.hops c.in-Some-exact.answer (rw c.in-Some-exact.is at c.in_ok-exact.ensures.told)
-    c.told_exact.new.looks.count (rw c.in-Some-exact.is at c.in_ok-exact.ensures.looks)
-
-pub returns-in-Some-exact-clause-longer : goal.returns-in-Some-exact-clause-longer
-returns-in-Some-exact-clause-longer g c =
-    answered_longer c.args.asked.now.task.now c.args.asked.now.prefix.now (c.args.asked.now.max_hops - length c.args.asked.now.prefix.now) c.in-Some-exact.answer (rw c.in-Some-exact.is at c.in_ok-exact.ensures.told)
-
-pub least_route-requires-clause-steps : goal.least_route-requires-clause-steps
-least_route-requires-clause-steps g c = λ n w b s. rw c.told_exact.ensures.first (c.in_ok-gather_steps.ensures.steps n w b s)

@@ -1,7 +1,7 @@
 use Rattle.std.proofs.Common.{◌≡◌, suc, ◌<◌, length, slice_index_or, false, refl, sym, ◌∙◌, arith}
 use Rattle.std.proofs.lemmas.List.Sorted.{length_permutation}
 use Rattle.sabr_search.proofs.Queues.{head_inside, head_real, head_few, head_arrives, waits_later, queue_stale}
-use Rattle.sabr_search.proofs.FirstWays.{start_sent, next_most, next_state, next_counted, next_settled, settled_stale, first_before, arrivals_found, read_flag}
+use Rattle.sabr_search.proofs.FirstWays.{start_sent, next_most, next_state, next_counted, next_settled, settled_stale, first_found, arrivals_found, read_flag}
 use Rattle.sabr_search.proofs.settling.Settling.settle_all.Goals as goal
 
 pub loop-event-init : goal.loop-event-init
@@ -42,7 +42,7 @@ settle-requires-clause-state g c =
     let was = c.loop-event.invariant.settled in
     let within : c.in-Some.event.node < length c.loop-event.self.settled.items = omega (arith, was.flags, was.many, head_inside _ _ _ _ _ _ c.in-Some.event was.queue_is c.in-Some.ensures.moved c.in-Some.ensures.first) in
     let off : slice_index_or c.loop-event.self.settled.items c.in-Some.event.node false ≡ false = sym (read_flag c.loop-event.self.settled.items c.in-Some.event.node c.index.result.now within c.index.ensures) ∙ c.if-not-index.true in
-    next_state c.args.forward.now.task.now c.requires.task _ _ _ _ _ _ _ c.in-Some.event was c.in-Some.ensures.moved c.in-Some.ensures.first off
+    next_state c.args.forward.now.task.now c.requires.task _ _ _ _ _ _ c.in-Some.event was c.in-Some.ensures.moved c.in-Some.ensures.first off
 
 pub links-links-requires-clause-node : goal.links-links-requires-clause-node
 links-links-requires-clause-node g c =
@@ -54,7 +54,7 @@ returns-then-links-most-clause-none g c =
     let was = c.loop-event.invariant.settled in
     let within : c.in-Some.event.node < length c.loop-event.self.settled.items = omega (arith, was.flags, was.many, head_inside _ _ _ _ _ _ c.in-Some.event was.queue_is c.in-Some.ensures.moved c.in-Some.ensures.first) in
     let off : slice_index_or c.loop-event.self.settled.items c.in-Some.event.node false ≡ false = sym (read_flag c.loop-event.self.settled.items c.in-Some.event.node c.index.result.now within c.index.ensures) ∙ c.if-not-index.true in
-    let most = next_most c.args.forward.now.task.now c.requires.task _ _ _ _ _ _ _ c.in-Some.event was c.in-Some.ensures.moved c.in-Some.ensures.first off in
+    let most = next_most c.args.forward.now.task.now c.requires.task _ _ _ _ _ _ c.in-Some.event was c.in-Some.ensures.moved c.in-Some.ensures.first off in
     omega (arith, most, c.loop-event.invariant.counted, c.loop-event.invariant.limit, c.if-links-most.true, c.links-links.ensures.few)
 
 pub returns-in_err-best-2-clause-counted : goal.returns-in_err-best-2-clause-counted
@@ -62,7 +62,7 @@ returns-in_err-best-2-clause-counted g c =
     let was = c.loop-event.invariant.settled in
     let within : c.in-Some.event.node < length c.loop-event.self.settled.items = omega (arith, was.flags, was.many, head_inside _ _ _ _ _ _ c.in-Some.event was.queue_is c.in-Some.ensures.moved c.in-Some.ensures.first) in
     let off : slice_index_or c.loop-event.self.settled.items c.in-Some.event.node false ≡ false = sym (read_flag c.loop-event.self.settled.items c.in-Some.event.node c.index.result.now within c.index.ensures) ∙ c.if-not-index.true in
-    let most = next_most c.args.forward.now.task.now c.requires.task _ _ _ _ _ _ _ c.in-Some.event was c.in-Some.ensures.moved c.in-Some.ensures.first off in
+    let most = next_most c.args.forward.now.task.now c.requires.task _ _ _ _ _ _ c.in-Some.event was c.in-Some.ensures.moved c.in-Some.ensures.first off in
     omega (arith, most, c.loop-event.invariant.counted, c.settle.ensures.looks, c.links-links.ensures.few)
 
 pub loop-event-smaller-then-not-index : goal.loop-event-smaller-then-not-index
@@ -70,7 +70,7 @@ loop-event-smaller-then-not-index g c =
     let was = c.loop-event.invariant.settled in
     let within : c.in-Some.event.node < length c.loop-event.self.settled.items = omega (arith, was.flags, was.many, head_inside _ _ _ _ _ _ c.in-Some.event was.queue_is c.in-Some.ensures.moved c.in-Some.ensures.first) in
     let off : slice_index_or c.loop-event.self.settled.items c.in-Some.event.node false ≡ false = sym (read_flag c.loop-event.self.settled.items c.in-Some.event.node c.index.result.now within c.index.ensures) ∙ c.if-not-index.true in
-    let most = next_most c.args.forward.now.task.now c.requires.task _ _ _ _ _ _ _ c.in-Some.event was c.in-Some.ensures.moved c.in-Some.ensures.first off in
+    let most = next_most c.args.forward.now.task.now c.requires.task _ _ _ _ _ _ c.in-Some.event was c.in-Some.ensures.moved c.in-Some.ensures.first off in
     let shorter : length c.loop-event.self.queue ≡ suc (length c.pop.new.self) = sym (length_permutation _ _ c.in-Some.ensures.moved) in
     omega (arith, most, c.settle.ensures.looks, c.links-links.ensures.few, c.loop-event.invariant.counted, c.in_ok-best-2.ensures.pushes)
 
@@ -82,9 +82,9 @@ loop-event-preserved-then-not-index g c =
     let off : slice_index_or c.loop-event.self.settled.items c.in-Some.event.node false ≡ false = sym (read_flag c.loop-event.self.settled.items c.in-Some.event.node c.index.result.now within c.index.ensures) ∙ c.if-not-index.true in
     let settled = c.in_ok-best-2.ensures in
     record {
-      counted = next_counted task c.requires.task _ _ _ _ _ _ _ c.in-Some.event was c.in-Some.ensures.moved c.in-Some.ensures.first off _ _ _ settled.settled (omega (arith, settled.looks, c.links-links.ensures.few, c.loop-event.invariant.counted));
+      counted = next_counted task c.requires.task _ _ _ _ _ _ c.in-Some.event was c.in-Some.ensures.moved c.in-Some.ensures.first off _ _ _ settled.settled (omega (arith, settled.looks, c.links-links.ensures.few, c.loop-event.invariant.counted));
       limit = omega (arith, settled.looks, c.if-links-most.false, c.loop-event.invariant.limit);
-      settled = next_settled task c.requires.task _ _ _ _ _ _ _ c.in-Some.event was c.in-Some.ensures.moved c.in-Some.ensures.first off _ _ _ _
+      settled = next_settled task c.requires.task _ _ _ _ _ _ c.in-Some.event was c.in-Some.ensures.moved c.in-Some.ensures.first off _ _ _ _
           settled.settled settled.state settled.fallen settled.taken;
     }
 
@@ -101,27 +101,27 @@ loop-event-preserved g c =
     record {
       counted = c.loop-event.invariant.counted;
       limit = c.loop-event.invariant.limit;
-      settled = settled_stale _ _ _ _ _ _ _ _ was (queue_stale _ _ _ _ _ _ c.in-Some.event was.queue_is c.in-Some.ensures.moved c.in-Some.ensures.first on);
+      settled = settled_stale _ _ _ _ _ _ _ was (queue_stale _ _ _ _ _ _ c.in-Some.event was.queue_is c.in-Some.ensures.moved c.in-Some.ensures.first on);
     }
 
 pub returns-then-event-best-clause-first : goal.returns-then-event-best-clause-first
 returns-then-event-best-clause-first g c =
     let was = c.loop-event.invariant.settled in
-    first_before c.args.forward.now.task.now c.requires.task _ _ c.requires.bound _ _ _ c.loop-event.best was
+    first_found c.args.forward.now.task.now c.requires.task _ c.requires.bound _ _ _ c.loop-event.best was
     (λ f there. omega (arith, c.if-event-best.true, waits_later _ _ _ _ _ _ c.in-Some.event was.queue_is c.in-Some.ensures.moved c.in-Some.ensures.first f there))
 
 pub returns-clause-first : goal.returns-clause-first
 returns-clause-first g c =
-    first_before c.args.forward.now.task.now c.requires.task _ _ c.requires.bound _ _ _ c.loop-event.best c.loop-event.invariant.settled
+    first_found c.args.forward.now.task.now c.requires.task _ c.requires.bound _ _ _ c.loop-event.best c.loop-event.invariant.settled
     (λ f there. (let none = rw c.in_default.ensures.none at there in absurd (omega (arith, none.1))))
 
 pub returns-then-event-best-clause-arrivals : goal.returns-then-event-best-clause-arrivals
 returns-then-event-best-clause-arrivals g c =
     let was = c.loop-event.invariant.settled in
-    arrivals_found c.args.forward.now.task.now c.requires.task _ _ c.requires.bound _ _ _ c.loop-event.best was
+    arrivals_found c.args.forward.now.task.now c.requires.task _ c.requires.bound _ _ _ c.loop-event.best was
     (λ f there. omega (arith, c.if-event-best.true, waits_later _ _ _ _ _ _ c.in-Some.event was.queue_is c.in-Some.ensures.moved c.in-Some.ensures.first f there))
 
 pub returns-clause-arrivals : goal.returns-clause-arrivals
 returns-clause-arrivals g c =
-    arrivals_found c.args.forward.now.task.now c.requires.task _ _ c.requires.bound _ _ _ c.loop-event.best c.loop-event.invariant.settled
+    arrivals_found c.args.forward.now.task.now c.requires.task _ c.requires.bound _ _ _ c.loop-event.best c.loop-event.invariant.settled
     (λ f there. (let none = rw c.in_default.ensures.none at there in absurd (omega (arith, none.1))))

@@ -1,6 +1,7 @@
 use Rattle.std.proofs.Common.{◌≡◌, inl, inr, Some, slice_get, slice_index_or, ap, sym, ◌∙◌, arith}
 use Rattle.std.proofs.lemmas.Option.{slice_get-get_or, slice_get_within}
 use Rattle.sabr_search.specs.declared.pick.Standing.{Standing}
+use Rattle.sabr_search.specs.Task.{never}
 use Rattle.sabr_search.proofs.Bridge.{same_some}
 use Rattle.sabr_search.proofs.Forward.{known_lower, known_old, known_later, last_or_before}
 use Rattle.sabr_search.proofs.FirstWays.{start_settled}
@@ -54,8 +55,8 @@ returns-clause-state g c =
     let forward = c.args.forward.now in
     let task = forward.task.now in
     let so_far = c.loop-place.invariant in
-    start_settled task c.requires.task c.args.self.now.settled.items c.loop-place.self.settled.items c.start.result c.requires.settled c.start.ensures so_far.settled forward.late.now forward.ceiling c.args.self.now.arrival.items c.requires.arrivals
-    c.at.result c.loop-place.self.arrival.items c.loop-place.self.queue (record { delivery = forward.ceiling; hops = 0 }) c.loop-place.best (rw so_far.settled so_far.state) (rw so_far.settled so_far.fallen)
+    start_settled task c.requires.task c.args.self.now.settled.items c.loop-place.self.settled.items c.start.result c.requires.settled c.start.ensures so_far.settled forward.late.now c.args.self.now.arrival.items c.requires.arrivals
+    c.at.result c.loop-place.self.arrival.items c.loop-place.self.queue (record { delivery = never; hops = 0 }) c.loop-place.best (rw so_far.settled so_far.state) (rw so_far.settled so_far.fallen)
     (λ n w x s.
     (let on = c.requires.steps n w x s in
     known_later task.goal _ _ w on.1.at x on.4 (rw on.3 at (so_far.known on.0 on.1 (omega (arith, slice_get_within c.args.first.now on.0 on.1 on.2, c.loop-place-test.false)) on.2))))

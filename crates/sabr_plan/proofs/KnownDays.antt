@@ -1,0 +1,59 @@
+-- The text of a time is that of its day and of a second of that day; it is a word of a line.
+use Rattle.std.proofs.Common.{◌≡◌, ℕ, ◌+◌, ◌-◌, ◌/◌, ◌%◌, ◌<◌, ◌≤◌, true, false, eqb, List, ◌++◌, take, refl, sym, ap, ◌∙◌, arith, Option, Some, None, Ok, ok_or}
+use Rattle.std.proofs.lemmas.Bool.{ne_eqb}
+use borrow.Author.Tests.{le-leb}
+use Rattle.sabr_model.specs.Plan.{last_time}
+use Rattle.sabr_plan.specs.declared.time.TimeFields.{TimeFields}
+use Rattle.sabr_plan.specs.declared.fault.PlanKind.TheVariants.{BadTime}
+use Rattle.sabr_plan.specs.Times.{day_after_epoch, spelled, fields_of, time_text_of}
+use Rattle.sabr_plan.specs.TimeShape.{HasWidth, date_text, clock_text, IsDate}
+use Rattle.sabr_plan.specs.Operands.{relative_of, after_reference, absolute_time, time_at}
+use Rattle.sabr_plan.specs.PlainWords.{is_graphic, is_graphic_word}
+use Rattle.sabr_plan.proofs.Seconds.{fields_of_width, time_of-text}
+
+text_is : (t : ℕ) → time_text_of t ≡ date_text (day_after_epoch (t / 86400)) ++ clock_text (t % 86400)
+unfolding time_text_of fields_of
+text_is t = refl
+
+-- a second of a known day
+pub known_text : (date clock : List ℕ) (begin s : ℕ) → IsDate date begin → clock ≡ clock_text s → s < 86400 → (date ++ clock ≡ time_text_of (begin + s)) × (begin + s ≤ last_time)
+known_text date clock begin s is e h =
+    let day : (begin + s) / 86400 ≡ begin / 86400 = omega (arith, is.whole) in
+    let rest : (begin + s) % 86400 ≡ s = omega (arith, is.whole) in
+    let texts : date_text (day_after_epoch (begin / 86400)) ++ clock_text s ≡ time_text_of (begin + s) = sym (text_is (begin + s) ∙ rw (day, rest) refl) in
+    (ap (λ d. d ++ clock) is.spelled ∙ ap (λ c. date_text (day_after_epoch (begin / 86400)) ++ c) e ∙ texts, omega (arith, is.whole, is.within))
+
+-- the day of a second
+pub date_of : (text : List ℕ) (t : ℕ) → text ≡ time_text_of t → t ≤ last_time → IsDate (take 10 text) (t - t % 86400)
+date_of text t e h =
+    let day : (t - t % 86400) / 86400 ≡ t / 86400 = omega arith in
+    record {
+      spelled = ap (take 10) (e ∙ text_is t) ∙ sym (ap (λ n. date_text (day_after_epoch n)) day);
+      whole = omega arith;
+      within = omega arith;
+    }
+
+high : (n : ℕ) → n < 100 → is_graphic (48 + n / 10) ≡ true
+high n h = rw (le-leb 33 (48 + n / 10) (omega arith), le-leb (48 + n / 10) 126 (omega arith)) refl
+
+low : (n : ℕ) → is_graphic (48 + n % 10) ≡ true
+low n = rw (le-leb 33 (48 + n % 10) (omega arith), le-leb (48 + n % 10) 126 (omega arith)) refl
+
+graphic_spelled : (f : TimeFields) → HasWidth f → is_graphic_word (spelled f) ≡ true
+graphic_spelled f w =
+    let century = high (f.year / 100) (omega (arith, w.year)) in
+    let year = high (f.year % 100) (omega arith) in
+    rw (century, low (f.year / 100), year, low (f.year % 100), high f.month w.month, low f.month, high f.day w.day, low f.day, high f.hour w.hour, low f.hour, high f.minute w.minute, low f.minute, high f.second w.second, low f.second) refl
+
+pub graphic_time : (t : ℕ) → t ≤ last_time → is_graphic_word (time_text_of t) ≡ true
+unfolding time_text_of
+graphic_time t h = graphic_spelled (fields_of t) (fields_of_width t (omega arith))
+
+-- it is an absolute time in any line
+pub time_at-text : (reference : Option ℕ) (t : ℕ) → t ≤ last_time → time_at reference (time_text_of t) ≡ Ok t
+unfolding time_at time_text_of
+time_at-text reference t h =
+    let digit : eqb (48 + (fields_of t).year / 100 / 10) 43 ≡ false = ne_eqb _ 43 (omega arith) in
+    let none : relative_of (time_text_of t) ≡ None = rw digit refl in
+    ap (λ o. elim o [ Some seconds ↦ after_reference reference seconds | None ↦ absolute_time (time_text_of t) ]) none
+    ∙ ap (λ o. ok_or o BadTime) (time_of-text t h)

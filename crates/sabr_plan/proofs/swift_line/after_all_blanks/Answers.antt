@@ -1,0 +1,38 @@
+-- Blanks don't end a text that has an LF.
+use Rattle.std.proofs.Common.{◌≡◌, ℕ, ◌+◌, ◌-◌, ◌<◌, List, [], ◌∷◌, length, take, drop, get_or, true, false, refl, sym, ◌∙◌, arith, inl, inr, length-drop}
+use Rattle.std.specs.List.{list_all}
+use Rattle.std.proofs.lemmas.Bool.{cases_lt}
+use Rattle.std.proofs.lemmas.List.{take_all, take_more, take-append-drop}
+use Rattle.std.proofs.lemmas.List.Folds.{list_all-append}
+use Rattle.sabr_plan.specs.Words.{is_blank, is_one_line}
+use Rattle.sabr_plan.specs.PlainWords.{IsAfterBlanks}
+use Rattle.sabr_plan.proofs.PlainWords.{plain_blanks, plain_one, ended_blanks}
+use Rattle.sabr_plan.proofs.swift_line.after_all_blanks.Goals as goal
+
+go_on : (text : List ℕ) (count : ℕ) → list_all is_blank (take count text) ≡ true → is_one_line text ≡ false → count < length text
+go_on text count all lf = elim (cases_lt count (length text)) [
+  | inl before ↦ before
+  | inr end ↦ let one = plain_one text (plain_blanks text (rw (take_all count text end) at all)) in absurd (grind (arith, one, lf))
+]
+
+one_more : (text : List ℕ) (count : ℕ) → count < length text → list_all is_blank (take count text) ≡ true → is_blank (get_or text count 0) ≡ true → list_all is_blank (take (count + 1) text) ≡ true
+one_more text count h all one = rw (take_more text count 0 h, list_all-append is_blank (take count text) (get_or text count 0 ∷ []), all, one) refl
+
+pub bounds-text-count : goal.bounds-text-count
+bounds-text-count c = go_on c.args.text.now c.loop-count.count c.loop-count.invariant.blank c.requires
+
+pub loop-count-preserved : goal.loop-count-preserved
+loop-count-preserved c =
+    let range = go_on c.args.text.now c.loop-count.count c.loop-count.invariant.blank c.requires in
+    record {
+      range = omega arith;
+      blank = one_more c.args.text.now c.loop-count.count range c.loop-count.invariant.blank (sym c.is_blank.ensures ∙ c.loop-count-test.true);
+    }
+
+pub returns : goal.returns
+returns c =
+    let text = c.args.text.now in
+    let count = c.loop-count.count in
+    let all : take (length text - count) (drop count text) ≡ drop count text = take_all (length text - count) (drop count text) (omega (arith, length-drop count text)) in
+    let parts : IsAfterBlanks text (take (length text - count) (drop count text)) = record { blanks = take count text; parts = rw all (sym (take-append-drop count text)); blank = c.loop-count.invariant.blank } in
+    record { blanks = parts; ended = ended_blanks parts c.requires }

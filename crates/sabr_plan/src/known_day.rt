@@ -1,0 +1,89 @@
+//! The day of the last absolute time. If the next one has the same date, only its time of day is read.
+
+ghost use Rattle.std.specs.Prelude.{◌≡◌, ◌<◌, ◌≤◌, IfSome, IsTrue, length};
+ghost use Rattle.sabr_model.specs.Plan.{last_time};
+ghost use Rattle.sabr_plan.specs.Times.{time_text_of};
+ghost use Rattle.sabr_plan.specs.TimeShape.{clock_text, IsDate};
+
+use crate::time::{is_pair, pair_at, parse_time};
+
+/// The seconds of a day.
+const DAY_SECONDS: u64 = 86400;
+
+/// A day: the bytes `yyyy/mm/dd`, and its first second.
+#[derive(Clone, Copy)]
+pub struct KnownDay {
+    date: [u8; 10],
+    begin: u64,
+    ghost known: { IsDate date begin },
+}
+
+/// Returns the second of a day that the text after its date names, which is `-hh:mm:ss`.
+#[inline(always)]
+fn clock_of(text: &[u8]) -> Option<u64>
+    requires { length text.now ≡ 9 }
+    ensures { IfSome result (λ s. (text.now ≡ clock_text s) × (s < 86400)) }
+{
+    if text[0] != b'-' || text[3] != b':' || text[6] != b':' {
+        return None;
+    }
+    if !is_pair(text, 1) || !is_pair(text, 4) || !is_pair(text, 7) {
+        return None;
+    }
+    let hour = pair_at(text, 1) as u64;
+    let minute = pair_at(text, 4) as u64;
+    let second = pair_at(text, 7) as u64;
+    if hour > 23 || minute > 59 || second > 59 {
+        return None;
+    }
+    Some(hour * 3600 + minute * 60 + second)
+}
+
+impl KnownDay {
+    /// Knows the first day that a time may have.
+    pub fn new() -> KnownDay {
+        KnownDay {
+            date: *b"1970/01/01",
+            begin: 0,
+        }
+    }
+
+    /// Returns the second of a text of 19 bytes. None says nothing about the text.
+    #[inline(always)]
+    pub fn second_of(&mut self, text: &[u8]) -> Option<u64>
+        requires { length text.now ≡ 19 }
+        ensures { IfSome result (λ t. (text.now ≡ time_text_of t) × (t ≤ last_time)) }
+    {
+        let (date, clock) = text.split_at(10);
+        if !self.has_date(date) {
+            return self.meet(text);
+        }
+        let second = clock_of(clock)?;
+        Some(self.begin + second)
+    }
+
+    /// Returns true only if the day has this date.
+    #[inline(always)]
+    fn has_date(&self, date: &[u8]) -> bool
+        ensures { IsTrue result → date.now ≡ self.now.date }
+    {
+        date == self.date.as_slice()
+    }
+
+    /// Returns the second of a text with another date, and knows that date from then on.
+    #[cold]
+    #[inline(never)]
+    fn meet(&mut self, text: &[u8]) -> Option<u64>
+        requires { length text.now ≡ 19 }
+        ensures { IfSome result (λ t. (text.now ≡ time_text_of t) × (t ≤ last_time)) }
+    {
+        let time = parse_time(text)?;
+        let mut date = [0u8; 10];
+        date.copy_from_slice(&text[..10]);
+        *self = KnownDay {
+            date,
+            begin: time - time % DAY_SECONDS,
+        };
+        Some(time)
+    }
+}

@@ -1,0 +1,234 @@
+"""Routes as the program prints them, and the program itself. The tools have no rules of routes of their own."""
+
+import os
+import re
+import shutil
+import subprocess
+import sys
+import threading
+from concurrent.futures import ThreadPoolExecutor
+from dataclasses import dataclass, replace
+
+import hints
+from contact_plan import BUILT, PLAN_STATUS, SCRIPT, START_STATUS, Progress, Refused, scratch, seconds_of, time_text
+
+# ---- Routes -----------------------------------------------------------------------------------------------------
+
+
+@dataclass(frozen=True)
+class Hop:
+    """A hop of a route: its contact's number and nodes, and the seconds of sending and of arrival."""
+
+    contact: int
+    sender: int
+    receiver: int
+    send: int
+    arrive: int
+
+    @property
+    def link(self):
+        """The sender and the receiver."""
+        return self.sender, self.receiver
+
+
+@dataclass(frozen=True)
+class Route:
+    """A route as the program prints it; with its hops only if the program explained it."""
+
+    rank: int
+    delivery: int
+    entry: int
+    until: int
+    contacts: "tuple[int, ..]"
+    hops: "tuple[Hop, ..]" = ()
+
+    def text(self, time_text=time_text):
+        """What the program prints of it after the rank, with times as a function spells them."""
+        contacts = " ".join(map(str, self.contacts))
+        return (
+            f"delivery {time_text(self.delivery)} hops {len(self.contacts)} entry {self.entry}"
+            f" until {time_text(self.until)} contacts {contacts}"
+        )
+
+
+@dataclass(frozen=True)
+class Report:
+    """The routes of a report, or of several pages, and whether the list ends with them: None if it doesn't say."""
+
+    routes: "tuple[Route, ..]"
+    is_whole: "bool | None"
+
+
+_ROUTE = r"delivery (\S+) hops \d+ entry (\d+) until (\S+) contacts (\d+(?: \d+)*)"
+_REPORTED = re.compile(r"(\d+) " + _ROUTE)
+_EXPLAINED = re.compile(_ROUTE)
+_HOP = re.compile(r"hop \d+ contact (\d+) from (\d+) to (\d+) send (\S+) arrive (\S+)")
+
+
+def _told_second(text):
+    """A time of a report or an explanation."""
+    try:
+        return seconds_of(text)
+    except ValueError as error:
+        raise Refused(f"this is no time of a report: {text}") from error
+
+
+def _route(rank, words, hops=()):
+    delivery, entry, until, contacts = words
+    numbers = tuple(map(int, contacts.split()))
+    return Route(int(rank), _told_second(delivery), int(entry), _told_second(until), numbers, tuple(hops))
+
+
+def report_of(lines):
+    """Reads a report, or pages of one: its routes, without hops, and its last `more` or `end`."""
+    routes, is_whole = [], None
+    for line in map(str.strip, lines):
+        if found := _REPORTED.fullmatch(line):
+            routes.append(_route(found[1], found.groups()[1:]))
+            is_whole = None
+        elif line in ("more", "end"):
+            is_whole = line == "end"
+        elif line:
+            raise Refused(f"this is no line of a report: {line}")
+    return Report(tuple(routes), is_whole)
+
+
+def explained_routes(lines, ranks=None):
+    """Reads explanations, one after the other, as routes. They have the ranks 1, 2, .. if none are given."""
+    routes, hops = [], []
+    for line in map(str.strip, lines):
+        if found := _HOP.fullmatch(line):
+            hops.append(Hop(*map(int, found.groups()[:3]), _told_second(found[4]), _told_second(found[5])))
+        elif found := _EXPLAINED.fullmatch(line):
+            rank = ranks[len(routes)] if ranks else len(routes) + 1
+            routes.append(_route(rank, found.groups(), hops))
+            hops = []
+        elif line:
+            raise Refused(f"this is no line of a route's explanation: {line}")
+    if hops:
+        raise Refused("the explanations are cut: the last one has no line 'delivery'")
+    return routes
+
+
+# ---- The program ------------------------------------------------------------------------------------------------
+
+
+@dataclass(frozen=True)
+class Request:
+    """What the program is asked: two nodes, a time, and limits as words of the program."""
+
+    source: int
+    destination: int
+    at: int
+    limits: "tuple[str, ..]" = ()
+
+    def words(self):
+        """The request as the program takes it."""
+        nodes = ["--from", str(self.source), "--to", str(self.destination)]
+        return [*nodes, "--at", time_text(self.at), *self.limits]
+
+
+def processors():
+    """How many processors this process may use."""
+    return len(os.sched_getaffinity(0))
+
+
+_PROCESSES = threading.BoundedSemaphore(processors())  # no more of them run at a time
+_WITHOUT_TRIAL = {**os.environ, "CGRLIST_TRIAL": "no"}  # the clone's script then runs the proved program or none
+
+
+def program_path(given=None):
+    """The program that is given, or that of the clone in which the tool stands, or the one in the path."""
+    places = [SCRIPT, "cgrlist"] if given is None else [given]
+    path = next(filter(None, map(shutil.which, places)), None)
+    if not path:
+        elsewhere = f"{SCRIPT} and for cgrlist in the path; --program names another place"
+        looked = elsewhere if given is None else given or "''"
+        raise Refused(f"there is no program: looked for {looked}", START_STATUS)
+    return _built(path) if path == SCRIPT and os.access(BUILT, os.X_OK) else path
+
+
+def _built(script):
+    """The program that a clone's script runs, which takes a while to find that it is current."""
+    ran = subprocess.run([script, "--version"], env=_WITHOUT_TRIAL, stdout=subprocess.DEVNULL, stderr=subprocess.PIPE)
+    if ran.returncode == START_STATUS:
+        sys.stderr.write(ran.stderr.decode(errors="replace"))
+        raise Refused(None, START_STATUS)
+    return BUILT
+
+
+@dataclass(frozen=True)
+class Program:
+    """The program over a plan's file. What it prints on standard error goes to the tool's."""
+
+    path: str
+    plan_file: str
+
+    def first(self, request, count):
+        """The report of the first routes of a request."""
+        return report_of(self.run("first", *request.words(), "--count", str(count)).split("\n"))
+
+    def pages(self, request):
+        """The reports of a request, a page at a time, to the end of the list."""
+        asked, count, session = ["first", *request.words()], 100, None
+        while True:
+            before, session = session, scratch()
+            report = report_of(self.run(*asked, "--count", str(count), "--session-out", session).split("\n"))
+            if before:
+                os.unlink(before)
+            yield report
+            if report.is_whole:
+                return
+            asked, count = ["next", "--session", session], min(count * 4, 10000)
+
+    def explained(self, request, routes, plan):
+        """The routes with their hops, each as the program explains it."""
+        part, progress, told = PartOfPlan(self, plan, routes), Progress(), []
+        with ThreadPoolExecutor(processors()) as pool:
+            for route in pool.map(lambda route: part.explained(request, route), routes):
+                told.append(route)
+                progress.tell(f"{len(told)} of {len(routes)} routes are explained")
+        progress.end()
+        return told
+
+    def run(self, command, *words):
+        """What a command prints on standard output; Refused, with its status, if that isn't 0."""
+        asked = [self.path, command, "--plan", self.plan_file, *words]
+        try:
+            with _PROCESSES:
+                ran = subprocess.run(asked, env=_WITHOUT_TRIAL, stdout=subprocess.PIPE, text=True, errors="replace")
+        except OSError as error:
+            raise Refused(f"cannot start {self.path}: {error.strerror}", START_STATUS) from error
+        if ran.returncode < 0:
+            raise Refused(f"cgrlist {command} was ended by signal {-ran.returncode}", 128 - ran.returncode)
+        if ran.returncode == 1:
+            raise Refused(f"cgrlist {command} answers: {[*ran.stdout.splitlines(), 'no'][-1]}")
+        if ran.returncode == PLAN_STATUS:
+            hints.tell_all(hints.of_bytes(self.plan_file))
+        if ran.returncode:
+            raise Refused(None, ran.returncode)
+        return ran.stdout
+
+
+class PartOfPlan:
+    """A plan of some routes' contacts alone, over which the program explains each of them at once."""
+
+    def __init__(self, program, plan, routes):
+        self._numbers = sorted({number for route in routes for number in route.contacts})
+        self._places = {number: place for place, number in enumerate(self._numbers, 1)}
+        self._program = replace(program, plan_file=scratch())
+        with open(self._program.plan_file, "w", encoding="ascii") as file:
+            file.writelines(plan.contact(number).lines() for number in self._numbers)
+
+    def explained(self, request, route):
+        """A route with its hops; refused if the request makes another one of its contacts."""
+        places = ",".join(str(self._places[number]) for number in route.contacts)
+        told = self._program.run("explain", *request.words(), "--contacts", places)
+        (found,) = explained_routes(told.split("\n"), [route.rank])
+        found = replace(found, contacts=route.contacts, hops=tuple(map(self._numbered, found.hops)))
+        if replace(found, hops=()) != replace(route, hops=()):
+            raise Refused(f"route {route.rank} isn't one of this request: cgrlist explain says {found.text()}")
+        return found
+
+    def _numbered(self, hop):
+        return replace(hop, contact=self._numbers[hop.contact - 1])

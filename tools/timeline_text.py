@@ -1,0 +1,107 @@
+"""What tools/timeline prints as text: the picture with characters, and the list of contacts."""
+
+from timeline_axis import Axis
+from timeline_scene import columns_of
+
+# ---- The picture as text ----------------------------------------------------------------------------------------
+
+OVER = 7  # columns right of the rows, for the last label
+SIGNS = {"#": "sending to arrival", ".": "wait"}
+
+
+class Text:
+    """The scene as text: `=` where a window is, `#` from sending to arrival, `.` for the wait before."""
+
+    def __init__(self, scene, columns):
+        self.scene, self.routes = scene, scene.routes
+        labels = [scene.label(row.link, ">") for row in scene.rows] + [route_label(it) for it in self.routes]
+        self.left = max(map(columns_of, labels), default=3) + 2
+        self.width = max(columns - self.left - OVER, 20)
+        self.axis = Axis(scene.span, self.width, 1, 2) if scene.span else None
+        self.by_contact = scene.stages_by(lambda stage: stage.hop.contact)
+
+    def cell(self, second):
+        """The cell of a second; the first or the last for one out of the span."""
+        return min(max(int(self.axis.place(second)), 0), self.width - 1)
+
+    def line(self, label, pieces):
+        """A line with a label and pieces of text from their cells on, or from further left if they don't fit."""
+        cells = [" "] * (self.width + OVER)
+        for at, piece in pieces:
+            at = min(at, len(cells) - len(piece))
+            cells[at : at + len(piece)] = piece
+        return (label + " " * (self.left - columns_of(label)) + "".join(cells)).rstrip()
+
+    def text(self):
+        """The whole text."""
+        lines, traces = self.head() if self.axis else [], []
+        for row in self.scene.rows:
+            label = self.scene.label(row.link, ">")
+            for windows in row.strips:
+                below = list(self.traces(windows))
+                lines += [self.line(label, self.windows(windows)), *below]
+                label, traces = "", [*traces, *below]
+        lines += self.legend(traces) if self.scene.rows else []
+        lines += self.scene.remarks
+        lines += [f"route {route.rank}: {self.scene.told(at)}" for at, route in enumerate(self.routes)]
+        return "\n".join([*lines, ""])
+
+    def legend(self, traces):
+        """What the signs mean that are drawn, of routes those in some of these lines."""
+        cells = "".join(line[self.left :] for line in traces)
+        shown = [f"{sign} {meaning}" for sign, meaning in SIGNS.items() if sign in cells]
+        return ["   ".join(["= contact, with its number", *shown])]
+
+    def head(self):
+        """The axis."""
+        ticks = self.axis.ticks()
+        above = [(self.cell(tick.second), tick.above) for tick in ticks]
+        labels = [(self.cell(tick.second), tick.label) for tick in ticks]
+        return [self.line("", above), self.line("UTC", labels)]
+
+    def windows(self, windows):
+        """The bars of a strip, with numbers if there is room for them."""
+        shown = [it for it in windows if self.scene.span.shows(it)]
+        starts = [self.cell(it.start) for it in shown]
+        for start, it in zip(starts, shown):
+            end = min(int(self.axis.place(it.end)), self.width)
+            yield start, "=" * max(end - start, 1)
+        for start, it, after in zip(starts, shown, [*starts[1:], self.width + 1]):
+            if start + len(str(it.number)) < after:
+                yield start, str(it.number)
+
+    def traces(self, windows):
+        """A line for each route that uses a strip."""
+        stages = [stage for it in windows for stage in self.by_contact[it.number]]
+        for stage in sorted(stages, key=lambda stage: stage.at):
+            start, send, arrive = map(self.cell, (stage.start, stage.hop.send, stage.hop.arrive))
+            sign = "#" if self.scene.span.shows_hop(stage) else "."
+            pieces = [(start, "." * (send - start)), (send, sign * (arrive - send + 1))]
+            yield self.line(route_label(self.routes[stage.at]), pieces)
+
+
+def route_label(route):
+    """What stands left of a route's line."""
+    return f"  route {route.rank}"
+
+
+# ---- The list ---------------------------------------------------------------------------------------------------
+
+
+def list_text(scene, with_names):
+    """Each contact that the rows show, by its number: nodes, start, end, light time, and names if they are wanted."""
+    contacts = [it for row in scene.rows for windows in row.strips for it in windows]
+    contacts.sort(key=lambda it: it.number)
+    rows = [["contact", "from", "to", "start", "end", "light"], *(list_row(it, scene.time_text) for it in contacts)]
+    widths = [max(map(len, column)) for column in zip(*rows)]
+    lines = ["  ".join(word.rjust(width) for word, width in zip(row, widths)) for row in rows]
+    if with_names:
+        links = ["nodes", *(scene.label(it.link, ">") for it in contacts)]
+        lines = [f"{line}  {link}" for line, link in zip(lines, links)]
+    return "\n".join([*lines, ""])
+
+
+def list_row(it, time_text):
+    """The words of a contact's line."""
+    light = "-" if it.light is None else str(it.light)
+    return [str(it.number), str(it.sender), str(it.receiver), time_text(it.start), time_text(it.end), light]
