@@ -34,7 +34,7 @@ length_fresh A best leaf q (y ∷ rest) = ap suc (length_fresh A best leaf (q ++
 pub new_nodes : (A : Type 0) (best : List ℕ → List ℕ → Option RouteRecord) (leaf : ℕ) (s : List ℕ) (d : ℕ) → d < length s → length (fresh_nodes {A = A} best leaf (take (d + 1) s) (drop (d + 1) s)) + 1 ≡ length s - d
 new_nodes A best leaf s d l = omega (arith, length_fresh A best leaf (take (d + 1) s) (drop (d + 1) s), length-drop (d + 1) s)
 
-length_push : {X : Type 0} (xs : List X) (x : X) → length (xs ++ x ∷ []) ≡ length xs + 1
+pub length_push : {X : Type 0} (xs : List X) (x : X) → length (xs ++ x ∷ []) ≡ length xs + 1
 length_push xs x = length-append xs (x ∷ [])
 
 -- a step from one tree to another is the step of the state, and can be undone
@@ -51,7 +51,7 @@ pub record IsGiven {A : Type 0} (p : ContactPlan) (r : RouteRequest) (t u : Shap
 
 module _ {A : Type 0} (p : ContactPlan) (r : RouteRequest) (good : IsPlan p) (t : Shape A) (is : IsTree p r t) where
   module _ (node : NodeId) (n : Node A) (x : RouteRecord) (stands : slice_get t.nodes node.0 ≡ Some n) (carries : n.route ≡ Some x) (least : IsLeast t.nodes x) where
-    abbrev given_by : IsGiven p r t (divided p r t node n x)
+    abbrev pub given_by : IsGiven p r t (divided p r t node n x)
     given_by = record {
       route = x;
       next = next_is p r t is node n x stands carries least;

@@ -3,16 +3,20 @@ use Rattle.std.proofs.Common.{◌≡◌, ℕ, zero, suc, ◌+◌, ◌-◌, ◌<�
 use Rattle.sabr_model.specs.Plan.{ContactPlan, IsPlan}
 use Rattle.sabr_model.specs.Arrival.{RouteRequest}
 use Rattle.sabr_model.specs.Record.{RouteRecord, record_of}
+use Rattle.sabr_frontier.specs.declared.tree.NodeId.{NodeId}
+use Rattle.sabr_frontier.specs.declared.tree.Node.{Node}
 use Rattle.sabr_frontier.specs.State.{State}
-use Rattle.std.specs.Prelude.{is_some, IsTrue, IsFalse}
+use Rattle.std.specs.Prelude.{is_some, IsTrue, IsFalse, slice_get}
 use Rattle.std.proofs.lemmas.List.{reverse-append}
 use Rattle.sabr_frontier.specs.Listing.{one_step, next_route, given_first, steps, searches_for, searches_in}
 use Rattle.sabr_frontier.specs.Shape.{Shape, shown}
 use Rattle.sabr_frontier.specs.Undo.{CanUndoTimes, undone, undone_times}
-use Rattle.sabr_frontier.specs.Winners.{CarriesNone, CarriesSome}
+use Rattle.sabr_frontier.specs.Taking.{divided}
+use Rattle.sabr_frontier.specs.Winners.{CarriesNone, CarriesSome, IsLeast}
 use Rattle.sabr_frontier.specs.Sound.{IsTree}
 use Rattle.sabr_frontier.specs.Session.{IsSoundFor, IsSound, tree_before, former_of}
-use Rattle.sabr_frontier.proofs.Giving.{IsGiven, next_carried, nothing_carried, nothing_given, some_given}
+use Rattle.sabr_frontier.proofs.Giving.{IsGiven, given_by, next_carried, nothing_carried, nothing_given, some_given}
+use Rattle.sabr_frontier.proofs.Refined.{searches_are}
 use Rattle.sabr_frontier.proofs.Undoing.{entries_undone}
 
 pub steps_stop : (p : ContactPlan) (r : RouteRequest) (s : State) (k : ℕ) → one_step p r s ≡ None → steps p r k s ≡ ([], s)
@@ -196,3 +200,20 @@ pub counts_on : {A : Type 0} (p : ContactPlan) (r : RouteRequest) (t u : Shape A
 counts_on p r t u g k n m all c h =
     let go = counts_go p r (shown t) (shown u) g.route.contacts k g.stepped in
     omega (arith, go, c)
+
+-- one step takes no more searches than several
+pub counts_first : (p : ContactPlan) (r : RouteRequest) (s : State) (k : ℕ) → 0 < k → searches_in p r 1 s ≤ searches_in p r k s
+unfolding searches_in
+counts_first p r s zero l = absurd (omega arith)
+counts_first p r s (suc k) l = elim (one_step p r s) as (λ o. elim o [ None ↦ 0 | Some w ↦ searches_for s w.0 + searches_in p r 0 w.1 ] ≤ elim o [ None ↦ 0 | Some w ↦ searches_for s w.0 + searches_in p r k w.1 ]) [
+  | None ↦ omega arith
+  | Some w ↦ omega arith
+]
+
+-- the step that gives what a node carries takes one search for each hop after the node's prefix
+pub counts_one : {A : Type 0} (p : ContactPlan) (r : RouteRequest) (good : IsPlan p) (t : Shape A) (is : IsTree p r t) (id : NodeId) (n : Node A) (x : RouteRecord) → slice_get t.nodes id.0 ≡ Some n → n.route ≡ Some x → IsLeast t.nodes x
+    → searches_in p r 1 (shown t) ≡ length x.contacts - n.length
+counts_one p r good t is id n x stands carries least =
+    let u = divided p r t id n x in
+    let go = counts_go p r (shown t) (shown u) x.contacts 0 (given_by p r good t is id n x stands carries least).stepped in
+    omega (arith, go, counts_none p r (shown u) 0 refl, searches_are p r t is id n x stands carries)

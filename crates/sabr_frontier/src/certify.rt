@@ -68,6 +68,7 @@ impl<A: Allocator + Copy> Tree<A> {
         requires tree { IsTree asker.old.asked.plan.plan asker.old.asked.request (shape_of self.now) }
         ensures least { IfOk result (λ yes. IsTrue yes ↔ CarriesLeast asker.old.asked.plan.plan asker.old.asked.request (shown (shape_of self.now))) }
         ensures called { asker.new.calls ≤ asker.old.calls + length self.now.nodes.items }
+        ensures no_fewer { asker.old.calls ≤ asker.new.calls }
         ensures same { asker.new.asked ≡ asker.old.asked }
     {
         for node in self.nodes.iter() {
@@ -88,6 +89,7 @@ impl<A: Allocator + Copy> Tree<A> {
         requires room { IsRoomy self.now }
         ensures placed { IfOk result (λ yes. IsTrue yes ↔ (shown (shape_of self.now) ≡ state_at asker.old.asked.plan.plan asker.old.asked.request (shown (shape_of self.now)).emitted)) }
         ensures called { asker.new.calls ≤ asker.old.calls + length self.now.nodes.items }
+        ensures no_fewer { asker.old.calls ≤ asker.new.calls }
         ensures same { asker.new.asked ≡ asker.old.asked }
     {
         if let Some(last) = self.last_given() {

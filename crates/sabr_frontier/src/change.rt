@@ -65,27 +65,15 @@ impl<A: Allocator + Copy> Tree<A> {
         ensures ok { OnOk result (HasRoom self.new count) }
         ensures room { IsRoomy self.new }
     {
-        let Ok(()) = self.nodes.reserve(count) else {
-            return Err(NoMemory);
-        };
+        self.nodes.reserve(count)?;
         let nodes = self.nodes.len() + count;
         let late = nodes.saturating_sub(self.index.len());
-        let Ok(()) = self.index.reserve(late) else {
-            return Err(NoMemory);
-        };
-        let Ok(()) = self.late.reserve(late) else {
-            return Err(NoMemory);
-        };
-        let Ok(()) = self.leaves.reserve(1) else {
-            return Err(NoMemory);
-        };
-        let Ok(()) = self.journal.reserve(1) else {
-            return Err(NoMemory);
-        };
+        self.index.reserve(late)?;
+        self.late.reserve(late)?;
+        self.leaves.reserve(1)?;
+        self.journal.reserve(1)?;
         let more = nodes.saturating_sub(self.winners.len());
-        let Ok(()) = self.winners.reserve(more) else {
-            return Err(NoMemory);
-        };
+        self.winners.reserve(more)?;
         Ok(())
     }
 

@@ -21,15 +21,13 @@ use std::alloc::Allocator;
 pub fn copied<A: Allocator + Copy>(alloc: A, route: &Route<A>) -> Result<Route<A>, NoMemory>
     ensures { IfOk result (λ x. x ≡ route.now) }
 {
-    match Vec::from_slice(alloc, route.contacts.as_slice()) {
-        Ok(contacts) => Ok(Route {
-            contacts: Numbers::new(contacts),
-            delivery: route.delivery,
-            until: route.until,
-            entry: route.entry,
-        }),
-        Err(_) => Err(NoMemory),
-    }
+    let contacts = Vec::from_slice(alloc, route.contacts.as_slice())?;
+    Ok(Route {
+        contacts: Numbers::new(contacts),
+        delivery: route.delivery,
+        until: route.until,
+        entry: route.entry,
+    })
 }
 
 /// The contact numbers of a route.
@@ -50,6 +48,8 @@ fn fresh_node<B: BestOf<A>, A: Allocator + Copy>(
     requires longer { count < length route.now }
     ensures node { IfOk result (λ n. n ≡ fresh_node (best_for asker.old.asked) leaf route.now count) }
     ensures called { OnOk result (asker.new.calls ≡ asker.old.calls + 1) }
+    ensures no_fewer { OnErr result (asker.old.calls ≤ asker.new.calls) }
+    ensures at_most { OnErr result (asker.new.calls ≤ asker.old.calls + 1) }
     ensures same { asker.new.asked ≡ asker.old.asked }
 {
     let excluded = Excluded::one(asker.alloc(), route[count])?;
@@ -76,6 +76,8 @@ fn fresh_nodes<B: BestOf<A>, A: Allocator + Copy>(
     requires room { vec_len nodes.old + length route.now ≤ vec_capacity nodes.old + first }
     ensures nodes { OnOk result (nodes.new.items ≡ nodes.old.items ++ fresh_nodes (best_for asker.old.asked) leaf (take first route.now) (drop first route.now)) }
     ensures called { OnOk result (asker.new.calls + vec_len nodes.old ≡ asker.old.calls + vec_len nodes.new) }
+    ensures no_fewer { OnErr result (asker.old.calls ≤ asker.new.calls) }
+    ensures at_most { OnErr result (asker.new.calls + first ≤ asker.old.calls + length route.now) }
     ensures longer { OnOk result (vec_len nodes.old ≤ vec_len nodes.new) }
     ensures same { asker.new.asked ≡ asker.old.asked }
     ensures front { take (length nodes.old.items) nodes.new.items ≡ nodes.old.items }
@@ -104,6 +106,8 @@ fn search<B: BestOf<A>, A: Allocator + Copy>(
     ensures found { IfOk result (λ found. (n : Node A) → slice_get nodes.old.items node.0 ≡ Some n → found ≡ best_for asker.old.asked (take n.length route.now) n.excluded) }
     ensures nodes { OnOk result ((n : Node A) → slice_get nodes.old.items node.0 ≡ Some n → nodes.new.items ≡ nodes.old.items ++ fresh_after (best_for asker.old.asked) leaf n route.now) }
     ensures called { OnOk result (asker.new.calls + vec_len nodes.old ≡ asker.old.calls + (vec_len nodes.new + 1)) }
+    ensures no_fewer { OnErr result (asker.old.calls ≤ asker.new.calls) }
+    ensures at_most { OnErr result ((n : Node A) → slice_get nodes.old.items node.0 ≡ Some n → asker.new.calls + n.length ≤ asker.old.calls + length route.now) }
     ensures longer { OnOk result (vec_len nodes.old ≤ vec_len nodes.new) }
     ensures same { asker.new.asked ≡ asker.old.asked }
     ensures front { take (length nodes.old.items) nodes.new.items ≡ nodes.old.items }
@@ -162,6 +166,8 @@ pub fn divide<B: BestOf<A>, A: Allocator + Copy>(
     ensures found { IfOk result (λ found. (n : Node A) → slice_get nodes.old.items node.0 ≡ Some n → found ≡ best_for asker.old.asked (take n.length route.now) (wide_of n route.now)) }
     ensures ok { OnOk result ((n : Node A) → slice_get nodes.old.items node.0 ≡ Some n → nodes.new.items ≡ modify (excluding route.now) nodes.old.items node.0 ++ fresh_after (best_for asker.old.asked) leaf n route.now) }
     ensures called { OnOk result (asker.new.calls + vec_len nodes.old ≡ asker.old.calls + (vec_len nodes.new + 1)) }
+    ensures no_fewer { OnErr result (asker.old.calls ≤ asker.new.calls) }
+    ensures at_most { OnErr result ((n : Node A) → slice_get nodes.old.items node.0 ≡ Some n → asker.new.calls + n.length ≤ asker.old.calls + length route.now) }
     ensures longer { OnOk result (vec_len nodes.old ≤ vec_len nodes.new) }
     ensures same { asker.new.asked ≡ asker.old.asked }
     ensures err { OnErr result (nodes.new.items ≡ nodes.old.items) }

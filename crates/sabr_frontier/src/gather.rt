@@ -1,6 +1,6 @@
 //! Giving several routes, one after another.
 
-ghost use Rattle.std.specs.Prelude.{◌≡◌, ℕ, ◌+◌, ◌*◌, ◌≤◌, ◌++◌, length, IfOk, OnOk};
+ghost use Rattle.std.specs.Prelude.{◌≡◌, ℕ, ◌+◌, ◌*◌, ◌≤◌, ◌++◌, length, IfOk, OnOk, OnErr};
 ghost use Rattle.sabr_model.specs.Plan.{IsPlan};
 ghost use Rattle.sabr_model.specs.Asking.{most_hops};
 ghost use Rattle.sabr_frontier.specs.Asking.{records_for, steps_for};
@@ -34,6 +34,8 @@ impl<A: Allocator + Copy> Tree<A> {
         ensures entries { OnOk result (length self.new.journal.items ≡ length self.old.journal.items + length (steps_for asker.old.asked count (shown (shape_of self.old))).0) }
         ensures searches { IfOk result (λ n. n ≡ searches_in asker.old.asked.plan.plan asker.old.asked.request count (shown (shape_of self.old))) }
         ensures called { IfOk result (λ n. asker.new.calls ≡ asker.old.calls + n) }
+        ensures no_fewer { OnErr result (asker.old.calls ≤ asker.new.calls) }
+        ensures at_most { OnErr result (asker.new.calls ≤ asker.old.calls + searches_in asker.old.asked.plan.plan asker.old.asked.request count (shown (shape_of self.old))) }
         ensures sound { IsSound asker.old.asked.plan.plan asker.old.asked.request (shape_of self.new) }
         ensures longer { length self.old.journal.items ≤ length self.new.journal.items }
         ensures back { tree_before (length self.old.journal.items) (shape_of self.new) ≡ shape_of self.old }

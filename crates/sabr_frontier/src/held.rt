@@ -152,19 +152,11 @@ impl<A: Allocator + Copy> Held<A> {
         ensures same { holding_of self.new ≡ holding_of self.old }
         ensures ok { OnOk result (HasPlaces self.new numbers leaves onward) }
     {
-        let Ok(()) = self.last.reserve(numbers) else {
-            return Err(NoMemory);
-        };
-        let Ok(()) = self.nodes.reserve(1) else {
-            return Err(NoMemory);
-        };
-        let Ok(()) = self.leaves.reserve(leaves) else {
-            return Err(NoMemory);
-        };
-        match self.owed.reserve(onward) {
-            Ok(()) => Ok(()),
-            Err(_) => Err(NoMemory),
-        }
+        self.last.reserve(numbers)?;
+        self.nodes.reserve(1)?;
+        self.leaves.reserve(leaves)?;
+        self.owed.reserve(onward)?;
+        Ok(())
     }
 
     /// Adds a part after the others, for which there is room.
@@ -264,12 +256,8 @@ impl<A: Allocator + Copy> Held<A> {
         ensures room { IfOk result IsRoomy }
     {
         let count = self.nodes.len();
-        let Ok(mut index) = Vec::with_capacity(alloc, count) else {
-            return Err(NoMemory);
-        };
-        let Ok(mut winners) = Vec::with_capacity(alloc, count) else {
-            return Err(NoMemory);
-        };
+        let mut index = Vec::with_capacity(alloc, count)?;
+        let mut winners = Vec::with_capacity(alloc, count)?;
         push_block(&mut index, 0, count);
         rebuild(self.nodes.as_slice(), &mut winners);
         Ok(Tree {

@@ -26,9 +26,7 @@ fn longer<A: Allocator + Copy>(
 ) -> Result<Vec<u32, A>, NoMemory>
     ensures { IfOk result (λ v. v.items ≡ prefix.now ++ number ∷ []) }
 {
-    let Ok(mut numbers) = Vec::with_capacity(alloc, prefix.len() + 1) else {
-        return Err(NoMemory);
-    };
+    let mut numbers = Vec::with_capacity(alloc, prefix.len() + 1)?;
     let extended = numbers.extend_from_slice(prefix);
     let Ok(()) = extended else { unreachable!() };
     numbers.push_reserved(number);
@@ -67,9 +65,7 @@ impl<A: Allocator + Copy> Judged<A> {
         if lead.here.node == question.request.to() {
             let numbers = longer(question.alloc, prefix, number)?;
             let route = lead.told.route(numbers, lead.here.at);
-            let Ok(()) = self.leaves.push(route) else {
-                return Err(NoMemory);
-            };
+            self.leaves.push(route)?;
             return Ok(true);
         }
         let owed = Owed {
@@ -77,9 +73,7 @@ impl<A: Allocator + Copy> Judged<A> {
             number,
             lead,
         };
-        let Ok(()) = self.onward.push(owed) else {
-            return Err(NoMemory);
-        };
+        self.onward.push(owed)?;
         Ok(true)
     }
 }

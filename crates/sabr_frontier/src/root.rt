@@ -21,15 +21,9 @@ impl<A: Allocator + Copy> Tree<A> {
         let mut nodes = Vec::new(alloc);
         let mut index = Vec::new(alloc);
         let mut winners = Vec::new(alloc);
-        let Ok(()) = nodes.reserve(1) else {
-            return Err(NoMemory);
-        };
-        let Ok(()) = index.reserve(1) else {
-            return Err(NoMemory);
-        };
-        let Ok(()) = winners.reserve(1) else {
-            return Err(NoMemory);
-        };
+        nodes.reserve(1)?;
+        index.reserve(1)?;
+        winners.reserve(1)?;
         index.push_reserved(NodeId(0));
         nodes.push_reserved(Node {
             leaf: 0,

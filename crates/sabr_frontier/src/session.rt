@@ -107,7 +107,8 @@ impl<'p, B: BestOf<A>, A: Allocator + Copy> Session<'p, B, A> {
     ///
     /// # Errors
     ///
-    /// [`NoMemory`] if a growth was refused. All is shown as before, and the same call can be made again.
+    /// [`NoMemory`] if a growth was refused. All is shown as before, and the same call can be made again. It took no more
+    /// searches than the page would have.
     pub fn page(&mut self, count: u32) -> Result<Vec<Route<A>, A>, NoMemory>
         requires { count ≤ most_routes }
         ensures routes { IfOk result (λ given. given.items ≡ map (record_of self.old.plan.plan self.old.request) (steps self.old.plan.plan self.old.request count self.old.state).0) }
@@ -119,6 +120,8 @@ impl<'p, B: BestOf<A>, A: Allocator + Copy> Session<'p, B, A> {
         ensures request { self.new.request ≡ self.old.request }
         ensures new_routes { GivesNewRoutes self.old.plan.plan self.old.request count self.old.state }
         ensures err { OnErr result (self.new ≡ record self.old { calls = self.new.calls }) }
+        ensures no_fewer { OnErr result (self.old.calls ≤ self.new.calls) }
+        ensures at_most { OnErr result (self.new.calls ≤ self.old.calls + searches_in self.old.plan.plan self.old.request count self.old.state) }
         ensures free { (count ≡ 0) ⊎ (next_route self.old.plan.plan self.old.request self.old.state ≡ None) → IsOk result }
     {
         let mut given = Vec::new(self.asker.alloc());
@@ -126,9 +129,7 @@ impl<'p, B: BestOf<A>, A: Allocator + Copy> Session<'p, B, A> {
             self.searches = 0;
             return Ok(given);
         }
-        let Ok(()) = self.pages.reserve(1) else {
-            return Err(NoMemory);
-        };
+        self.pages.reserve(1)?;
         let start = self.tree.journal.len();
         match self.tree.gather(&mut self.asker, count, &mut given) {
             Ok(searches) => {
@@ -173,6 +174,7 @@ impl<'p, B: BestOf<A>, A: Allocator + Copy> Session<'p, B, A> {
     pub fn certify(&mut self) -> Result<bool, NoMemory>
         ensures same { self.new ≡ record self.old { calls = self.new.calls } }
         ensures calls { self.new.calls ≤ self.old.calls + length self.old.state.parts }
+        ensures no_fewer { self.old.calls ≤ self.new.calls }
         ensures ok { IfOk result (λ yes. IsTrue yes ↔ (self.old.state ≡ state_at self.old.plan.plan self.old.request self.old.state.emitted)) }
     {
         self.tree.is_placed(&mut self.asker)

@@ -1,8 +1,9 @@
 //! Giving the least route that the tree carries.
 
-ghost use Rattle.std.specs.Prelude.{◌≡◌, ◌+◌, Some, IsSome, IfOk, OnErr};
+ghost use Rattle.std.specs.Prelude.{◌≡◌, ◌+◌, ◌≤◌, Some, IsSome, IfOk, OnErr};
 ghost use Rattle.sabr_model.specs.Plan.{IsPlan};
-ghost use Rattle.sabr_frontier.specs.Shape.{shape_of, route_at};
+ghost use Rattle.sabr_frontier.specs.Listing.{searches_in};
+ghost use Rattle.sabr_frontier.specs.Shape.{shape_of, route_at, shown};
 ghost use Rattle.sabr_frontier.specs.Undo.{IsRoomy};
 ghost use Rattle.sabr_frontier.specs.Taking.{IsTaken};
 ghost use Rattle.sabr_frontier.specs.Sound.{IsTree};
@@ -41,6 +42,8 @@ impl<A: Allocator + Copy> Tree<A> {
         requires room { IsRoomy self.old }
         ensures ok { IfOk result (IsTaken asker.old.asked.plan.plan asker.old.asked.request (shape_of self.old) (shape_of self.new) given.old.items given.new.items) }
         ensures called { IfOk result (λ n. asker.new.calls ≡ asker.old.calls + n) }
+        ensures no_fewer { OnErr result (asker.old.calls ≤ asker.new.calls) }
+        ensures at_most { OnErr result (asker.new.calls ≤ asker.old.calls + searches_in asker.old.asked.plan.plan asker.old.asked.request 1 (shown (shape_of self.old))) }
         ensures err { OnErr result (shape_of self.new ≡ shape_of self.old) }
         ensures index { self.new.index.items ≡ self.old.index.items }
         ensures same { asker.new.asked ≡ asker.old.asked }
@@ -50,9 +53,7 @@ impl<A: Allocator + Copy> Tree<A> {
             unreachable!()
         };
         let route = self.copy_carried(asker.alloc(), node)?;
-        let Ok(()) = given.reserve(1) else {
-            return Err(NoMemory);
-        };
+        given.reserve(1)?;
         self.reserve(numbers(&route).len())?;
         let found = divide(
             asker,

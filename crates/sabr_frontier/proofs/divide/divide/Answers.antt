@@ -2,6 +2,7 @@ use Rattle.std.proofs.Common.{◌≡◌, ◌<◌, ◌++◌, slice_index, length,
 use Rattle.std.specs.Cmp.{nat_cmp_total}
 use Rattle.std.specs.Ordering.{nat_cmp}
 use Rattle.std.specs.Prelude.{slice_get}
+use Rattle.sabr_model.proofs.Answered.{on_err}
 use Rattle.sabr_frontier.specs.declared.tree.Node.{Node}
 use Rattle.sabr_frontier.specs.Rising.{Rises}
 use Rattle.sabr_frontier.specs.Asking.{best_for}
@@ -56,3 +57,9 @@ returns-in-Err-clause-err g c =
     let count : c.len-count.result ≡ length c.exclude_next.new.nodes.items = omega (arith, c.len-count.ensures) in
     let cut : c.truncate.new.self.items ≡ modify (excluding s) nodes c.args.node.0 = c.truncate.ensures.items ∙ ap (λ n. take n c.search.new.nodes.items) count ∙ c.in-Err.ensures.front ∙ c.in_ok-exclude_next.ensures.ok in
     c.include_next.ensures ∙ included nodes c.truncate.new.self.items c.args.node.0 s w.0 w.1 cut (c.requires.next w.0 w.1)
+
+pub returns-in_err-exclude_next-clause-at_most : goal.returns-in_err-exclude_next-clause-at_most
+returns-in_err-exclude_next-clause-at_most g c = on_err c.from_residual.result (λ n stands. omega (arith, (c.requires.next n stands).longer))
+
+pub returns-in-Err-clause-at_most : goal.returns-in-Err-clause-at_most
+returns-in-Err-clause-at_most g c = λ n stands. c.in-Err.ensures.at_most (excluding c.args.route.now n) (ap (λ z. slice_get z c.args.node.0) c.in_ok-exclude_next.ensures.ok ∙ get_same (excluding c.args.route.now) c.args.nodes.now.items c.args.node.0 n stands)

@@ -11,6 +11,7 @@ pub loop-count-init : goal.loop-count-init
 loop-count-init g c = record {
   whole = refl;
   called = refl;
+  counted = refl;
   room = c.requires.room;
   same = refl;
   long = omega arith;
@@ -25,6 +26,7 @@ loop-count-preserved g c = record {
   whole = fresh_push (best_for c.args.asker.now.asked) c.args.leaf c.args.route.now c.loop-count.count c.loop-count.nodes.items c.push_reserved.new.self.items _ c.in_ok-node.node c.loop-count-test.true c.loop-count.invariant.whole c.push_reserved.ensures.items
       (c.in_ok-node.ensures.node ∙ ap (λ (a : Asked). record { leaf = c.args.leaf; length = c.loop-count.count; excluded = get_or c.args.route.now c.loop-count.count 0 ∷ []; route = best_for a (take c.loop-count.count c.args.route.now) (get_or c.args.route.now c.loop-count.count 0 ∷ []) }) c.loop-count.invariant.same);
   called = omega (arith, c.in_ok-node.ensures.called, c.loop-count.invariant.called, c.push_reserved.ensures.len);
+  counted = omega (arith, c.in_ok-node.ensures.called, c.loop-count.invariant.counted);
   room = omega (arith, c.push_reserved.ensures.len, c.push_reserved.ensures.capacity, c.loop-count.invariant.room);
   same = c.fresh_node.ensures.same ∙ c.loop-count.invariant.same;
   long = omega (arith, ap (length {A = Node g.row.A.Denot}) c.push_reserved.ensures.items, length-append c.loop-count.nodes.items (c.in_ok-node.node ∷ []), c.loop-count.invariant.long);

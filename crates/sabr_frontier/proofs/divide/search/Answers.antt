@@ -5,6 +5,7 @@ use Rattle.sabr_frontier.specs.declared.tree.Node.{Node}
 use Rattle.sabr_frontier.specs.Asking.{Asked, best_for}
 use Rattle.sabr_frontier.specs.Taking.{fresh_after}
 use Rattle.std.specs.List.Sorted.{IsStrictlyIncreasing}
+use Rattle.sabr_model.proofs.Answered.{on_err}
 use Rattle.sabr_frontier.proofs.Ends.{get_there}
 use Rattle.sabr_frontier.proofs.Paths.{route_fits}
 use Rattle.sabr_frontier.proofs.Partition.{increasing}
@@ -41,3 +42,15 @@ returns-clause-nodes g c n stands =
     let here = get_there c.args.nodes.now.items c.args.node.0 m (omega arith) c.index-part.ensures in
     let same : m ≡ n = cc in
     c.in_ok-fresh_nodes.ensures.nodes ∙ (λ i. c.args.nodes.now.items ++ fresh_after (best_for (c.ask.ensures.same i)) c.args.leaf (same i) c.args.route.now)
+
+pub returns-in_err-found-clause-at_most : goal.returns-in_err-found-clause-at_most
+returns-in_err-found-clause-at_most g c = on_err c.from_residual.result (λ n stands. omega (arith, c.requires.longer n stands))
+
+pub returns-in_err-fresh_nodes-clause-at_most : goal.returns-in_err-fresh_nodes-clause-at_most
+returns-in_err-fresh_nodes-clause-at_most g c =
+    on_err c.from_residual-in_err-fresh_nodes.result
+    (λ n stands.
+        let m = c.index-part.result.now in
+        let here = get_there c.args.nodes.now.items c.args.node.0 m (omega arith) c.index-part.ensures in
+        let same : m ≡ n = cc in
+        omega (arith, c.in_err-fresh_nodes.ensures.at_most, ap (λ (k : Node g.row.A.Denot). k.length) same))

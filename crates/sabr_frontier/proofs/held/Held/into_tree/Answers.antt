@@ -9,9 +9,9 @@ returns-clause-shape g c = λ i. record { nodes = c.args.self.nodes.items; index
 pub returns-clause-room : goal.returns-clause-room
 returns-clause-room g c = record {
   space = record {
-    index = omega (arith, c.push_block.ensures.capacity, c.in-Ok.ensures.capacity, c.len-count.ensures);
-    added = omega (arith, c.push_block.ensures.len, c.in-Ok.ensures.len, c.len-count.ensures);
-    places = omega (arith, c.rebuild.ensures.capacity, c.in-Ok-with_capacity.ensures.capacity, c.len-count.ensures);
+    index = omega (arith, c.push_block.ensures.capacity, c.in_ok-index.ensures.capacity, c.len-count.ensures);
+    added = omega (arith, c.push_block.ensures.len, c.in_ok-index.ensures.len, c.len-count.ensures);
+    places = omega (arith, c.rebuild.ensures.capacity, c.in_ok-winners.ensures.capacity, c.len-count.ensures);
   };
   won = subst (λ z. AreWinners z c.rebuild.new.winners.items) c.as_slice.ensures.value c.rebuild.ensures.won;
   count = omega (arith, c.rebuild.ensures.len, c.as_slice.ensures.len);
@@ -20,4 +20,4 @@ returns-clause-room g c = record {
 pub returns-clause-index : goal.returns-clause-index
 returns-clause-index g c =
     let count : c.len-count.result ≡ length c.args.self.nodes.items = omega (arith, c.len-count.ensures) in
-    c.push_block.ensures.items ∙ (λ i. c.in-Ok.ensures.items i ++ ids_from 0 (count i)) ∙ c.requires
+    c.push_block.ensures.items ∙ (λ i. c.in_ok-index.ensures.items i ++ ids_from 0 (count i)) ∙ c.requires

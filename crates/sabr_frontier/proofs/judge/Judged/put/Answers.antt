@@ -26,7 +26,7 @@ returns-then-lead-to-clause-leaves g c _ =
     let old = c.args.self.now.leaves.items in
     let numbers = c.in_ok-numbers.ensures in
     let leaf = leaf_there c.args.question.now.plan.now.plan c.args.question.now.request c.args.prefix.now c.args.number lead c.in-Some.ensures.lead (c.if-lead-to.true ∙ c.to.ensures.value) in
-    c.in-Ok.ensures.items ∙ ap (λ x. old ++ x ∷ []) (c.route-route.ensures ∙ (λ i. record { contacts = numbers i; delivery = lead.here.at; until = lead.told.until; entry = lead.told.entry }))
+    c.in_ok-push.ensures.items ∙ ap (λ x. old ++ x ∷ []) (c.route-route.ensures ∙ (λ i. record { contacts = numbers i; delivery = lead.here.at; until = lead.told.until; entry = lead.told.entry }))
     ∙ sym (ap (λ z. old ++ z) leaf)
 
 pub returns-then-lead-to-clause-onward : goal.returns-then-lead-to-clause-onward
@@ -49,7 +49,7 @@ returns-clause-onward g c _ =
     let old = c.args.self.now.onward.items in
     let owed : Owed = record { length = length q; number = c.args.number; lead = c.in-Some.lead } in
     let there = onward_there c.args.question.now.plan.now.plan c.args.question.now.request q c.args.number c.in-Some.lead c.in-Some.ensures.lead (λ e. c.if-lead-to.false (e ∙ sym c.to.ensures.value)) in
-    ap (map (step_of q)) c.in-Ok-push.ensures.items ∙ map-append (step_of q) old (owed ∷ []) ∙ sym (ap (λ z. map (step_of q) old ++ z) there)
+    ap (map (step_of q)) c.in_ok-push-2.ensures.items ∙ map-append (step_of q) old (owed ∷ []) ∙ sym (ap (λ z. map (step_of q) old ++ z) there)
 
 pub returns-clause-steps : goal.returns-clause-steps
 returns-clause-steps g c known =
@@ -58,7 +58,7 @@ returns-clause-steps g c known =
     let q = c.args.prefix.now in
     let old = c.args.self.now.onward.items in
     let owed : Owed = record { length = length q; number = c.args.number; lead = c.in-Some.lead } in
-    subst (AreSteps p r q) (sym c.in-Ok-push.ensures.items)
+    subst (AreSteps p r q) (sym c.in_ok-push-2.ensures.items)
     (λ o m. elim (Member-append_cases o old (owed ∷ []) m) [
       | inl k ↦ known o k
       | inr k ↦ elim k [

@@ -26,3 +26,6 @@ returns-clause-calls g c =
     let t = shape_of s.tree in
     let few = nodes_are_parts s.asker.asked.plan.plan s.asker.asked.request t (sound_tree s.asker.asked.plan.plan s.asker.asked.request (length t.journal) t c.self.invariant.sound) in
     subst (λ (v : Seen). c.is_placed.new.asker.calls ≤ v.calls + length v.state.parts) c.self.view_is (omega (arith, few, c.is_placed.ensures.called))
+
+pub returns-clause-no_fewer : goal.returns-clause-no_fewer
+returns-clause-no_fewer g c = subst (λ (v : Seen). v.calls ≤ c.is_placed.new.asker.calls) c.self.view_is c.is_placed.ensures.no_fewer

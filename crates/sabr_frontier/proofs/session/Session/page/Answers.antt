@@ -1,4 +1,4 @@
-use Rattle.std.proofs.Common.{◌≡◌, ◌+◌, ◌-◌, ◌<◌, ◌⊎◌, inl, inr, ℕ, List, [], ◌∷◌, ◌++◌, map, length, reverse, arith, ap, sym, subst, ◌∙◌, None}
+use Rattle.std.proofs.Common.{◌≡◌, ◌+◌, ◌-◌, ◌<◌, ◌≤◌, ◌⊎◌, inl, inr, ℕ, List, [], ◌∷◌, ◌++◌, map, length, reverse, arith, ap, sym, subst, ◌∙◌, None}
 use Rattle.sabr_model.specs.Record.{record_of}
 use Rattle.sabr_frontier.specs.Asking.{Asked}
 use Rattle.sabr_frontier.specs.State.{State}
@@ -52,8 +52,8 @@ returns-then-count-eq0-clause-former g c =
     let former = former_of (reverse s.pages.items) t in
     subst (λ (v : Seen). former ≡ former_then (steps v.plan.plan v.request k v.state).0 v.state v.former) c.self.view_is (sym (ap (λ (z : List (List ℕ) × State). former_then z.0 (shown t) former) still))
 
-pub returns-in_default-clause-free : goal.returns-in_default-clause-free
-returns-in_default-clause-free g c h =
+pub returns-in_err-reserve-clause-free : goal.returns-in_err-reserve-clause-free
+returns-in_err-reserve-clause-free g c h =
     let s = c.self.inside in
     let t = shape_of s.tree in
     let some = c.is_empty.ensures.some c.if-is_empty.false in
@@ -64,7 +64,7 @@ pub settle-requires-clause-all : goal.settle-requires-clause-all
 settle-requires-clause-all g c =
     let s = c.self.inside in
     let t = shape_of c.gather.new.self in
-    (sound_tree s.asker.asked.plan.plan s.asker.asked.request (length t.journal) t c.in-Ok-gather.ensures.sound).listed
+    (sound_tree s.asker.asked.plan.plan s.asker.asked.request (length t.journal) t c.in-Ok.ensures.sound).listed
 
 pub settle-requires-clause-part : goal.settle-requires-clause-part
 settle-requires-clause-part g c =
@@ -73,23 +73,23 @@ settle-requires-clause-part g c =
     let r = s.asker.asked.request in
     let t = shape_of c.gather.new.self in
     let first = shape_of s.tree in
-    part_before p r t first (length t.journal - length first.journal) c.gather.new.self.index.items (omega arith) c.in-Ok-gather.ensures.sound c.in-Ok-gather.ensures.back (sound_tree p r (length first.journal) first c.self.invariant.sound)
-    (c.in-Ok-gather.ensures.index ∙ c.self.invariant.index)
+    part_before p r t first (length t.journal - length first.journal) c.gather.new.self.index.items (omega arith) c.in-Ok.ensures.sound c.in-Ok.ensures.back (sound_tree p r (length first.journal) first c.self.invariant.sound)
+    (c.in-Ok.ensures.index ∙ c.self.invariant.index)
 
-pub invariant_of-self-in-Ok-gather : goal.invariant_of-self-in-Ok-gather
-invariant_of-self-in-Ok-gather g c =
+pub invariant_of-self-in-Ok : goal.invariant_of-self-in-Ok
+invariant_of-self-in-Ok g c =
     let s = c.self.inside in
     let t = shape_of s.tree in
     let some = c.is_empty.ensures.some c.if-is_empty.false in
     let given = busy s.asker.asked.plan.plan s.asker.asked.request c.self.invariant.rules t c.self.invariant.sound c.args.count (omega arith) some in
     let start : c.len-start.result ≡ length t.journal = omega (arith, c.len-start.ensures) in
-    let more : c.len-start.result < length c.gather.new.self.journal.items = omega (arith, start, c.in-Ok-gather.ensures.entries, ap (length {A = List ℕ}) given.2) in
+    let more : c.len-start.result < length c.gather.new.self.journal.items = omega (arith, start, c.in-Ok.ensures.entries, ap (length {A = List ℕ}) given.2) in
     let pages : reverse c.push_reserved.new.self.items ≡ c.len-start.result ∷ reverse s.pages.items = ap reverse (c.push_reserved.ensures.items ∙ ap (λ z. z ++ c.len-start.result ∷ []) c.reserve.ensures.items) ∙ last_first s.pages.items c.len-start.result in
     let journal = ap (λ (z : Shape g.row.A.Denot). length z.journal) c.settle.ensures.same in
     subst (λ (a : Asked). IsSession a c.settle.new.self c.push_reserved.new.self.items) (sym c.gather.ensures.same) (record {
       rules = c.self.invariant.rules;
       limits = c.self.invariant.limits;
-      sound = subst (IsSound s.asker.asked.plan.plan s.asker.asked.request) (sym c.settle.ensures.same) c.in-Ok-gather.ensures.sound;
+      sound = subst (IsSound s.asker.asked.plan.plan s.asker.asked.request) (sym c.settle.ensures.same) c.in-Ok.ensures.sound;
       starts = subst (λ z. AreStarts z (length c.settle.new.self.journal.items)) (sym pages) (omega (arith, more, journal), subst (AreStarts (reverse s.pages.items)) (sym start) c.self.invariant.starts);
       index = c.settle.ensures.index ∙ sym (ap (λ (z : Shape g.row.A.Denot). z.index) c.settle.ensures.same);
       room = c.settle.ensures.room;
@@ -111,8 +111,8 @@ undo_to-requires-clause-index g c =
     let same = ap (λ n. tree_before n (shape_of c.gather.new.self)) start ∙ c.in-Err.ensures.back in
     subst (λ (z : Shape g.row.A.Denot). IsIndexBack z c.gather.new.self.index.items) (sym same) (back_before p r first c.gather.new.self.index.items (sound_tree p r (length first.journal) first c.self.invariant.sound) (c.in-Err.ensures.index ∙ c.self.invariant.index))
 
-pub invariant_of-self-in-Err-gather : goal.invariant_of-self-in-Err-gather
-invariant_of-self-in-Err-gather g c =
+pub invariant_of-self-in-Err-1 : goal.invariant_of-self-in-Err-1
+invariant_of-self-in-Err-1 g c =
     let s = c.self.inside in
     let t = shape_of s.tree in
     let start : c.len-start.result ≡ length t.journal = omega (arith, c.len-start.ensures) in
@@ -126,15 +126,15 @@ invariant_of-self-in-Err-gather g c =
       room = c.undo_to.ensures.room;
     })
 
-pub returns-in-Ok-gather-clause-former : goal.returns-in-Ok-gather-clause-former
-returns-in-Ok-gather-clause-former g c =
+pub returns-in-Ok-clause-former : goal.returns-in-Ok-clause-former
+returns-in-Ok-clause-former g c =
     let s = c.self.inside in
     let t = shape_of s.tree in
     let some = c.is_empty.ensures.some c.if-is_empty.false in
     let given = busy s.asker.asked.plan.plan s.asker.asked.request c.self.invariant.rules t c.self.invariant.sound c.args.count (omega arith) some in
     let start : c.len-start.result ≡ length t.journal = omega (arith, c.len-start.ensures) in
     let pages : reverse c.push_reserved.new.self.items ≡ c.len-start.result ∷ reverse s.pages.items = ap reverse (c.push_reserved.ensures.items ∙ ap (λ z. z ++ c.len-start.result ∷ []) c.reserve.ensures.items) ∙ last_first s.pages.items c.len-start.result in
-    let before : tree_before c.len-start.result (shape_of c.settle.new.self) ≡ t = ap (tree_before c.len-start.result) c.settle.ensures.same ∙ ap (λ n. tree_before n (shape_of c.gather.new.self)) start ∙ c.in-Ok-gather.ensures.back in
+    let before : tree_before c.len-start.result (shape_of c.settle.new.self) ≡ t = ap (tree_before c.len-start.result) c.settle.ensures.same ∙ ap (λ n. tree_before n (shape_of c.gather.new.self)) start ∙ c.in-Ok.ensures.back in
     let former = former_of (reverse s.pages.items) t in
     ap (λ z. former_of z (shape_of c.settle.new.self)) pages
     ∙ ap (λ (z : Shape g.row.A.Denot). shown z ∷ former_of (reverse s.pages.items) z) before
@@ -179,15 +179,15 @@ returns-then-count-eq0-clause-new_routes g c =
     subst (λ (v : Seen). GivesNewRoutes v.plan.plan v.request c.args.count v.state) c.self.view_is
     (new_routes s.asker.asked.plan.plan s.asker.asked.request c.self.invariant.rules c.args.count (shown t) (sound_tree s.asker.asked.plan.plan s.asker.asked.request (length t.journal) t c.self.invariant.sound).formed)
 
-pub returns-in_default-clause-new_routes : goal.returns-in_default-clause-new_routes
-returns-in_default-clause-new_routes g c =
+pub returns-in_err-reserve-clause-new_routes : goal.returns-in_err-reserve-clause-new_routes
+returns-in_err-reserve-clause-new_routes g c =
     let s = c.self.inside in
     let t = shape_of s.tree in
     subst (λ (v : Seen). GivesNewRoutes v.plan.plan v.request c.args.count v.state) c.self.view_is
     (new_routes s.asker.asked.plan.plan s.asker.asked.request c.self.invariant.rules c.args.count (shown t) (sound_tree s.asker.asked.plan.plan s.asker.asked.request (length t.journal) t c.self.invariant.sound).formed)
 
-pub returns-in-Ok-gather-clause-new_routes : goal.returns-in-Ok-gather-clause-new_routes
-returns-in-Ok-gather-clause-new_routes g c =
+pub returns-in-Ok-clause-new_routes : goal.returns-in-Ok-clause-new_routes
+returns-in-Ok-clause-new_routes g c =
     let s = c.self.inside in
     let t = shape_of s.tree in
     subst (λ (v : Seen). GivesNewRoutes v.plan.plan v.request c.args.count v.state) c.self.view_is
@@ -199,3 +199,7 @@ returns-in-Err-clause-new_routes g c =
     let t = shape_of s.tree in
     subst (λ (v : Seen). GivesNewRoutes v.plan.plan v.request c.args.count v.state) c.self.view_is
     (new_routes s.asker.asked.plan.plan s.asker.asked.request c.self.invariant.rules c.args.count (shown t) (sound_tree s.asker.asked.plan.plan s.asker.asked.request (length t.journal) t c.self.invariant.sound).formed)
+
+pub returns-in-Err-clause-at_most : goal.returns-in-Err-clause-at_most
+returns-in-Err-clause-at_most g c =
+    subst (λ (v : Seen). c.gather.new.asker.calls ≤ v.calls + searches_in v.plan.plan v.request c.args.count v.state) c.self.view_is c.in-Err.ensures.at_most

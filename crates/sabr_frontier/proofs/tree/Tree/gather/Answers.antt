@@ -1,11 +1,12 @@
-use Rattle.std.proofs.Common.{◌≡◌, refl, ◌-◌, ◌+◌, suc, length, arith, ap, sym, subst, ◌∙◌, inr, zero-add}
+use Rattle.std.proofs.Common.{◌≡◌, refl, ◌-◌, ◌+◌, ◌≤◌, suc, length, arith, ap, sym, subst, ◌∙◌, inr, zero-add}
 use Rattle.sabr_model.specs.Plan.{IsPlan}
+use Rattle.sabr_model.proofs.Answered.{on_err}
 use Rattle.sabr_frontier.specs.Asking.{Asked}
 use Rattle.sabr_frontier.specs.Shape.{shape_of, shown}
 use Rattle.sabr_frontier.specs.Sound.{IsTree}
 use Rattle.sabr_frontier.specs.Taking.{IsTaken}
 use Rattle.sabr_frontier.proofs.Giving.{is_given}
-use Rattle.sabr_frontier.proofs.Pages.{IsOnTheWay, at_first, one_on, at_last, at_end, sound_tree, last_steps, counts_on, counts_idle, counts_none}
+use Rattle.sabr_frontier.proofs.Pages.{IsOnTheWay, at_first, one_on, at_last, at_end, sound_tree, last_steps, counts_on, counts_idle, counts_none, counts_first}
 use Rattle.sabr_frontier.specs.Listing.{searches_in}
 use Rattle.sabr_frontier.proofs.tree.Tree.gather.Goals as goal
 
@@ -101,3 +102,10 @@ returns-clause-searches g c =
     let none : c.args.count - c.loop.counter ≡ 0 = omega (arith, c.loop-test.false) in
     let still = counts_none c.args.asker.now.asked.plan.plan c.args.asker.now.asked.request (shown (shape_of c.loop.self)) (c.args.count - c.loop.counter) none in
     omega (arith, still, c.loop.invariant.sum)
+
+pub returns-in_err-searches-clause-at_most : goal.returns-in_err-searches-clause-at_most
+returns-in_err-searches-clause-at_most g c =
+    let s = shown (shape_of c.loop.self) in
+    let few = subst (λ (a : Asked). c.take.new.asker.calls ≤ c.loop.asker.calls + searches_in a.plan.plan a.request 1 s) c.loop.invariant.same c.in_err-searches.ensures.at_most in
+    let one = counts_first c.args.asker.now.asked.plan.plan c.args.asker.now.asked.request s (c.args.count - c.loop.counter) (omega (arith, c.loop-test.true)) in
+    on_err c.from_residual.result (omega (arith, few, one, c.loop.invariant.sum, c.loop.invariant.called))

@@ -4,6 +4,7 @@ use Rattle.std.specs.Option.{option_and_then}
 use Rattle.std.proofs.lemmas.List.{take_at}
 use Rattle.sabr_model.specs.Record.{RouteRecord}
 use Rattle.sabr_model.specs.Route.{is_route}
+use Rattle.sabr_model.proofs.Answered.{on_err}
 use Rattle.sabr_frontier.specs.declared.tree.Node.{Node}
 use Rattle.sabr_frontier.specs.declared.tree.NodeId.{NodeId}
 use Rattle.sabr_frontier.specs.Shape.{Shape, order_of, shape_of, route_at, route_of, numbers_of}
@@ -20,6 +21,7 @@ use Rattle.sabr_frontier.proofs.Excluding.{carried_then}
 use Rattle.sabr_frontier.proofs.Refined.{standing, inside, can_exclude, route_there}
 use Rattle.sabr_frontier.proofs.Winning.{winners_same}
 use Rattle.sabr_frontier.proofs.Giving.{new_nodes}
+use Rattle.sabr_frontier.proofs.Pages.{counts_one}
 use Rattle.sabr_frontier.proofs.Indexed.{tree_indexed}
 use Rattle.sabr_frontier.proofs.Sounds.{tree_divided}
 use Rattle.sabr_frontier.proofs.tree.Tree.take.Goals as goal
@@ -127,7 +129,7 @@ change-requires-clause-in_range g c =
     let t = shape_of c.args.self.now in
     let w = standing t.nodes c.in-Some.node c.in-Some.ensures.some in
     let l = get_within t.nodes c.in-Some.node.0 w.0 w.2 in
-    omega (arith, l, c.in_ok-reserve.ensures.room.count, ap (λ (z : Shape _). length z.nodes) c.reserve-2.ensures.same)
+    omega (arith, l, c.in_ok-reserve-2.ensures.room.count, ap (λ (z : Shape _). length z.nodes) c.reserve-2.ensures.same)
 
 pub change-requires-clause-carries : goal.change-requires-clause-carries
 change-requires-clause-carries g c =
@@ -141,7 +143,7 @@ change-requires-clause-won g c =
     let t = shape_of c.args.self.now in
     let k = known c.args.asker.now.asked t c.requires.tree c.in-Some.node c.in_ok-route.route c.in-Some.ensures.some c.in_ok-route.ensures in
     let e = then_is k (shape_of c.reserve-2.new.self) c.reserve-2.ensures.same c.numbers-2.ensures (omega (arith, c.len.ensures)) c.in_ok-found.ensures.ok in
-    let room = c.in_ok-reserve.ensures.room in
+    let room = c.in_ok-reserve-2.ensures.room in
     let nodes = ap (λ (z : Shape _). z.nodes) c.reserve-2.ensures.same in
     winners_then k e c.reserve-2.new.self.winners.items (omega (arith, room.count, ap (length {A = Node g.row.A.Denot}) nodes)) (subst (λ z. AreWinners z c.reserve-2.new.self.winners.items) nodes room.won)
 
@@ -150,7 +152,7 @@ change-requires-clause-space g c =
     let t = shape_of c.args.self.now in
     let k = known c.args.asker.now.asked t c.requires.tree c.in-Some.node c.in_ok-route.route c.in-Some.ensures.some c.in_ok-route.ensures in
     let e = then_is k (shape_of c.reserve-2.new.self) c.reserve-2.ensures.same c.numbers-2.ensures (omega (arith, c.len.ensures)) c.in_ok-found.ensures.ok in
-    let room = c.in_ok-reserve.ensures.ok in
+    let room = c.in_ok-reserve-2.ensures.ok in
     let count = ap (λ (z : Shape _). length z.nodes) c.reserve-2.ensures.same in
     record { index = omega (arith, room.index, long_then k e, k.can.longer, count, ap (length {A = ℕ}) (numbers_are k c.numbers.ensures)); added = omega (arith, room.added, long_then k e, k.can.longer, count, ap (length {A = ℕ}) (numbers_are k c.numbers.ensures)); places = omega (arith, room.winners, long_then k e, k.can.longer, count, ap (length {A = ℕ}) (numbers_are k c.numbers.ensures)) }
 
@@ -164,7 +166,7 @@ returns-clause-ok g c =
     let k = known c.args.asker.now.asked t c.requires.tree c.in-Some.node c.in_ok-route.route c.in-Some.ensures.some c.in_ok-route.ensures in
     let e = then_is k (shape_of c.reserve-2.new.self) c.reserve-2.ensures.same c.numbers-2.ensures (omega (arith, c.len.ensures)) c.in_ok-found.ensures.ok in
     let s = numbers_are k c.numbers-2.ensures in
-    let first : length c.reserve-2.new.self.winners.items ≡ length t.nodes = omega (arith, c.in_ok-reserve.ensures.room.count, ap (λ (z : Shape _). length z.nodes) c.reserve-2.ensures.same) in
+    let first : length c.reserve-2.new.self.winners.items ≡ length t.nodes = omega (arith, c.in_ok-reserve-2.ensures.room.count, ap (λ (z : Shape _). length z.nodes) c.reserve-2.ensures.same) in
     let best = c.in_ok-found.ensures.found k.part (there_before k (shape_of c.reserve-2.new.self) c.reserve-2.ensures.same) ∙ (λ i. best_of p r (take k.part.length (s i)) (wide_of k.part (s i))) in
     let nodes = nodes_found k e found ∙ (λ i. nodes_then t.nodes node (wide_of k.part k.route.contacts) (best i) (fresh k)) in
     let D = divided p r t node k.part k.route in
@@ -183,3 +185,12 @@ returns-clause-ok g c =
       given = c.push_reserved.ensures.items ∙ (λ i. c.reserve.ensures.items i ++ k.copied i ∷ []);
       counted = omega (arith, long_then k e, k.can.longer, c.len-2.ensures, c.len-3.ensures, first);
     }
+
+pub returns-in_err-found-clause-at_most : goal.returns-in_err-found-clause-at_most
+returns-in_err-found-clause-at_most g c =
+    let a = c.args.asker.now.asked in
+    let t = shape_of c.args.self.now in
+    let k = known a t c.requires.tree c.in-Some.node c.in_ok-route.route c.in-Some.ensures.some c.in_ok-route.ensures in
+    let few = c.in_err-found.ensures.at_most k.part (there_before k (shape_of c.reserve-2.new.self) c.reserve-2.ensures.same) in
+    let one = counts_one a.plan.plan a.request c.requires.plan t c.requires.tree c.in-Some.node k.part k.route k.stands k.carries k.least in
+    on_err c.from_residual-in_err-found.result (omega (arith, few, one, k.can.longer, ap (length {A = ℕ}) (numbers_are k c.numbers-2.ensures)))
