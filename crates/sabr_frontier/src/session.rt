@@ -107,8 +107,8 @@ impl<'p, B: BestOf<A>, A: Allocator + Copy> Session<'p, B, A> {
     ///
     /// # Errors
     ///
-    /// [`NoMemory`] if a growth was refused. All is shown as before, and the same call can be made again. It took no more
-    /// searches than the page would have.
+    /// [`NoMemory`] if a growth was refused. All is shown as before, and the same call can be made again. It took no
+    /// more searches than the page would have.
     pub fn page(&mut self, count: u32) -> Result<Vec<Route<A>, A>, NoMemory>
         requires { count ≤ most_routes }
         ensures routes { IfOk result (λ given. given.items ≡ map (record_of self.old.plan.plan self.old.request) (steps self.old.plan.plan self.old.request count self.old.state).0) }
