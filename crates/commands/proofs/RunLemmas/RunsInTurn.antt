@@ -101,8 +101,8 @@ module _ (plan : List ℕ) (p : ContactPlan) (r : RouteRequest) (spelled : plan_
       let e = plan_read plan p d.reader t d.reader₁ spelled d.has (subst (λ q. ReadsPlan d.reader q d.reader₁) is d.reads) in
       let goes_on = text_goes_on t i text (subst IsPlan (sym e) good) (subst (λ q. IsAt q r i (from_text text)) (sym e) at) in
       let left = goes_on x.reader x.told x.reader₁ x.has (subst (λ q. ReadsOldSession q x.reader x.told x.reader₁) is x.reads)
-        true run.count d.end d.out d.out₁ d.session d.session₁
-        (subst (λ q. WritesNextPage q (place_of x.told) true run.count d.end d.out d.out₁ d.session d.session₁) is x.writes) in
+      true run.count d.end d.out d.out₁ d.session d.session₁
+      (subst (λ q. WritesNextPage q (place_of x.told) true run.count d.end d.out d.out₁ d.session d.session₁) is x.writes) in
       let from : IsPageFrom t.plan i run = elim left [
         | inl w ↦ page_from t.plan i run d d.end d.done w
         | inr w ↦ absurd (never_done failure.SessionRead (sym (ap status_at w.1) ∙ d.done))

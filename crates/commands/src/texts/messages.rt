@@ -120,7 +120,10 @@ fn write_message<W: Write>(writer: &mut W, failure: Failure) -> Result<(), Write
         Failure::Write => write_text(writer, b"cgrlist: write failed\n"),
         Failure::NoMemory => write_text(writer, b"cgrlist: no memory\n"),
         Failure::NotUtf8 => {
-            write_text(writer, b"cgrlist: a word of the command line is not UTF-8\n")
+            write_text(
+                writer,
+                b"cgrlist: a word of the command line is not UTF-8\n",
+            )
         }
     }
 }

@@ -50,7 +50,7 @@ pub returns-in_err-fresh_nodes-clause-at_most : goal.returns-in_err-fresh_nodes-
 returns-in_err-fresh_nodes-clause-at_most g c =
     on_err c.from_residual-in_err-fresh_nodes.result
     (λ n stands.
-        let m = c.index-part.result.now in
-        let here = get_there c.args.nodes.now.items c.args.node.0 m (omega arith) c.index-part.ensures in
-        let same : m ≡ n = cc in
-        omega (arith, c.in_err-fresh_nodes.ensures.at_most, ap (λ (k : Node g.row.A.Denot). k.length) same))
+    let m = c.index-part.result.now in
+    let here = get_there c.args.nodes.now.items c.args.node.0 m (omega arith) c.index-part.ensures in
+    let same : m ≡ n = cc in
+    omega (arith, c.in_err-fresh_nodes.ensures.at_most, ap (λ (k : Node g.row.A.Denot). k.length) same))
