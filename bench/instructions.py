@@ -8,7 +8,6 @@ Plans and questions are those of listing.py. A run under callgrind takes some fi
 the limit of seconds, the table says `stopped`.
 """
 import argparse
-import os
 import re
 import subprocess
 import sys
@@ -55,7 +54,7 @@ def main():
         for many in given.counts:
             question = listing.question(path, ends, given, many)
             millions = [count(program.words(question), given.most_seconds) for program in programs]
-            name = os.path.splitext(os.path.basename(path))[0]
+            name = listing.name_of(path, ends)
             measure.print_row([name, many, *map(shown, millions), ratio(millions)], widths)
             rows.append({"plan": name, "count": many, **dict(zip((one.name for one in programs), millions))})
     measure.end(given, machine, rows, programs)

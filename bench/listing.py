@@ -5,9 +5,9 @@
                [--repeats N] [--most-seconds S] [--json FILE] [--words TEXT]
 
 The nodes and the time are those of the plan's line `# ask FROM TO TIME`, of --from, --to and --at, or of a file of
-questions: a list in JSON of objects with the words `plan` (a path, from that file's folder), `from`, `to` and `at`;
-these plans come after the others. A program that runs into the limit of seconds isn't asked for greater counts of
-that plan. Status 1: a program failed, or two answers differ.
+questions: a list in JSON of objects with the words `plan` (a path, from that file's folder), `from`, `to`, `at` and, if
+`first` is to have further words, `words`, as '--max-hops 6'; these plans come after the others. A program that runs into
+the limit of seconds isn't asked for greater counts of that plan. Status 1: a program failed, or two answers differ.
 """
 import argparse
 import json
@@ -32,7 +32,7 @@ def asked_in(path):
 
 
 def asked(given):
-    """Each plan that is given, with the two nodes and the time that are asked over it."""
+    """Each plan that is given, with the two nodes and the time that are asked over it, and further words."""
     for path in given.files:
         ends = [mine or own for mine, own in zip((given.source, given.destination, given.at), asked_in(path))]
         if None in ends:
@@ -42,7 +42,7 @@ def asked(given):
         with open(given.questions, encoding="ascii") as file:
             for one in json.load(file):
                 path = os.path.join(os.path.dirname(given.questions), one["plan"])
-                yield path, [str(one["from"]), str(one["to"]), one["at"]]
+                yield path, [str(one["from"]), str(one["to"]), one["at"], *shlex.split(one.get("words", ""))]
 
 
 def add_questions(words):
@@ -55,9 +55,14 @@ def add_questions(words):
 
 
 def question(path, ends, given, count):
-    source, destination, at = ends
+    source, destination, at, *further = ends
     asked_for = ["--from", source, "--to", destination, "--at", at, "--count", str(count)]
-    return ["first", "--plan", path, *asked_for, *shlex.split(given.words)]
+    return ["first", "--plan", path, *asked_for, *further, *shlex.split(given.words)]
+
+
+def name_of(path, ends):
+    """The name of the plan, and the further words of the question."""
+    return " ".join([os.path.splitext(os.path.basename(path))[0], *ends[3:]])
 
 
 def told_of(figures):
@@ -73,7 +78,7 @@ def listed(path, ends, given, programs, widths):
     for count in given.counts:
         figures = {program.name: measure.Figures() for program in programs}
         figures.update(measure.compare(live, question(path, ends, given, count), given.repeats, given.most_seconds))
-        name = os.path.splitext(os.path.basename(path))[0]
+        name = name_of(path, ends)
         agree = measure.agree({who: one for who, one in figures.items() if one.text is not None})
         routes, ending = told_of(figures)
         shown = ending if agree else "DIFFERENT"
