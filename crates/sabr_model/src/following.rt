@@ -56,48 +56,106 @@ fn is_again<A: Allocator + Copy>(
     marks[(node % 64) as usize] && is_received(plan, numbers, node)
 }
 
-/// Adds a hop after those in `front`, which have no fault and lead to `here`.
-fn take_hop<A: Allocator + Copy>(
-    plan: &Plan<A>,
-    request: &Request,
-    marks: &[bool; 64],
-    front: &[u32],
-    here: Reached,
-    number: u32,
-) -> Result<Reached, HopFault>
-    requires place { length front.now + 1 < 2 ^ 64 }
-    requires marks { AreMarked marks.now (receivers plan.now.plan front.now) }
-    requires reached { IsReachedBy plan.now.plan request.now front.now here }
-    ensures good { IfOk result (λ _. fault_at plan.now.plan request.now front.now number ≡ None) }
-    ensures ok { IfOk result (IsReachedBy plan.now.plan request.now (front.now ++ number ∷ [])) }
-    ensures err { IfErr result (λ f. fault_at plan.now.plan request.now front.now number ≡ Some f) }
-{
-    let place = front.len() + 1;
-    let Some((contact, light)) = plan.contact_with_light(number) else {
-        return Err(HopFault::NoSuchContact(place));
-    };
-    if here.node != contact.from {
-        return Err(HopFault::NotChained(place));
+/// What follows lists of contacts: the plan that has them, and the request.
+#[derive(Drop)]
+struct Follower<'a, A: Allocator + Copy> {
+    plan: &'a Plan<A>,
+    request: &'a Request,
+}
+
+impl<'a, A: Allocator + Copy> Follower<'a, A> {
+    /// Adds a hop after those in `front`, which have no fault and lead to `here`.
+    fn take_hop(
+        &self,
+        marks: &[bool; 64],
+        front: &[u32],
+        here: Reached,
+        number: u32,
+    ) -> Result<Reached, HopFault>
+        requires place { length front.now + 1 < 2 ^ 64 }
+        requires marks { AreMarked marks.now (receivers self.now.plan.now.plan front.now) }
+        requires reached { IsReachedBy self.now.plan.now.plan self.now.request.now front.now here }
+        ensures good { IfOk result (λ _. fault_at self.now.plan.now.plan self.now.request.now front.now number ≡ None) }
+        ensures ok { IfOk result (IsReachedBy self.now.plan.now.plan self.now.request.now (front.now ++ number ∷ [])) }
+        ensures err { IfErr result (λ f. fault_at self.now.plan.now.plan self.now.request.now front.now number ≡ Some f) }
+    {
+        let place = front.len() + 1;
+        let Some((contact, light)) = self.plan.contact_with_light(number) else {
+            return Err(HopFault::NoSuchContact(place));
+        };
+        if here.node != contact.from {
+            return Err(HopFault::NotChained(place));
+        }
+        if contact.to == self.request.from() || is_again(self.plan, marks, front, contact.to) {
+            return Err(HopFault::NodeAgain(place));
+        }
+        let Some(light) = light else {
+            return Err(HopFault::NoLight(place));
+        };
+        let Some(at) = self
+            .request
+            .arrive_over(here.at, contact.start, contact.end, light)
+        else {
+            return Err(HopFault::TooLate(place));
+        };
+        if self.request.avoids(contact.to) {
+            return Err(HopFault::AvoidedNode(place));
+        }
+        if place > self.request.max_hops() as usize {
+            return Err(HopFault::TooManyHops(place));
+        }
+        Ok(Reached {
+            node: contact.to,
+            at,
+        })
     }
-    if contact.to == request.from() || is_again(plan, marks, front, contact.to) {
-        return Err(HopFault::NodeAgain(place));
+
+    /// Continues along a list whose first `first` numbers have no fault and lead to `here`.
+    fn follow_rest(
+        &self,
+        marks: &mut [bool; 64],
+        numbers: &[u32],
+        first: usize,
+        mut here: Reached,
+    ) -> Result<Reached, HopFault>
+        requires within { first ≤ length numbers.now }
+        requires path { IsTrue (is_path self.now.plan.now.plan self.now.request.now (take first numbers.now)) }
+        requires reached { IsReachedBy self.now.plan.now.plan self.now.request.now (take first numbers.now) here }
+        requires marks { AreMarked marks.old (receivers self.now.plan.now.plan (take first numbers.now)) }
+        ensures path { IfOk result (λ _. IsTrue (is_path self.now.plan.now.plan self.now.request.now numbers.now)) }
+        ensures reached { IfOk result (IsReachedBy self.now.plan.now.plan self.now.request.now numbers.now) }
+        ensures marks { OnOk result (AreMarked marks.new (receivers self.now.plan.now.plan numbers.now)) }
+        ensures fault { IfErr result (λ f. first_fault self.now.plan.now.plan self.now.request.now [] numbers.now ≡ Some f) }
+    {
+        for i in first..numbers.len() {
+            here = self.take_hop(marks, &numbers[..i], here, numbers[i])?;
+            marks[(here.node % 64) as usize] = true;
+        }
+        Ok(here)
     }
-    let Some(light) = light else {
-        return Err(HopFault::NoLight(place));
-    };
-    let Some(at) = request.arrive_over(here.at, contact.start, contact.end, light) else {
-        return Err(HopFault::TooLate(place));
-    };
-    if request.avoids(contact.to) {
-        return Err(HopFault::AvoidedNode(place));
+
+    /// Returns what [`follow`] returns for a path and one more number. The path leads to `here`, and the classes of its
+    /// receivers are marked.
+    fn end_on(
+        &self,
+        marks: &[bool; 64],
+        prefix: &[u32],
+        here: Reached,
+        number: u32,
+    ) -> Result<u64, HopFault>
+        requires path { IsTrue (is_path self.now.plan.now.plan self.now.request.now prefix.now) }
+        requires marks { AreMarked marks.now (receivers self.now.plan.now.plan prefix.now) }
+        requires reached { IsReachedBy self.now.plan.now.plan self.now.request.now prefix.now here }
+        ensures route { IfOk result (λ _. IsTrue (is_route self.now.plan.now.plan self.now.request.now (prefix.now ++ number ∷ []))) }
+        ensures delivery { IfOk result (λ d. arrival_after self.now.plan.now.plan self.now.request.now self.now.request.now.at (prefix.now ++ number ∷ []) ≡ Some d) }
+        ensures fault { IfErr result (λ f. fault_of self.now.plan.now.plan self.now.request.now (prefix.now ++ number ∷ []) ≡ Some f) }
+    {
+        let here = self.take_hop(marks, prefix, here, number)?;
+        if here.node != self.request.to() {
+            return Err(HopFault::WrongEnd);
+        }
+        Ok(here.at)
     }
-    if place > request.max_hops() as usize {
-        return Err(HopFault::TooManyHops(place));
-    }
-    Ok(Reached {
-        node: contact.to,
-        at,
-    })
 }
 
 /// Returns the best-case delivery time of the route that the contacts of these numbers make, in seconds since
@@ -129,33 +187,9 @@ pub fn follow<A: Allocator + Copy>(
         node: request.from(),
         at: request.at(),
     };
-    let here = follow_rest(plan, request, &mut marks, prefix, 0, start)?;
-    end_on(plan, request, &marks, prefix, here, *last)
-}
-
-/// Continues along a list whose first `first` numbers have no fault and lead to `here`.
-fn follow_rest<A: Allocator + Copy>(
-    plan: &Plan<A>,
-    request: &Request,
-    marks: &mut [bool; 64],
-    numbers: &[u32],
-    first: usize,
-    mut here: Reached,
-) -> Result<Reached, HopFault>
-    requires within { first ≤ length numbers.now }
-    requires path { IsTrue (is_path plan.now.plan request.now (take first numbers.now)) }
-    requires reached { IsReachedBy plan.now.plan request.now (take first numbers.now) here }
-    requires marks { AreMarked marks.old (receivers plan.now.plan (take first numbers.now)) }
-    ensures path { IfOk result (λ _. IsTrue (is_path plan.now.plan request.now numbers.now)) }
-    ensures reached { IfOk result (IsReachedBy plan.now.plan request.now numbers.now) }
-    ensures marks { OnOk result (AreMarked marks.new (receivers plan.now.plan numbers.now)) }
-    ensures fault { IfErr result (λ f. first_fault plan.now.plan request.now [] numbers.now ≡ Some f) }
-{
-    for i in first..numbers.len() {
-        here = take_hop(plan, request, marks, &numbers[..i], here, numbers[i])?;
-        marks[(here.node % 64) as usize] = true;
-    }
-    Ok(here)
+    let follower = Follower { plan, request };
+    let here = follower.follow_rest(&mut marks, prefix, 0, start)?;
+    follower.end_on(&marks, prefix, here, *last)
 }
 
 /// Returns where a path and one more number lead. `here` is where the path leads; the empty path leads to the source,
@@ -179,7 +213,7 @@ pub fn follow_hop<A: Allocator + Copy>(
     ensures reached { IfOk result (IsReachedBy plan.now.plan request.now (prefix.now ++ number ∷ [])) }
     ensures fault { IfErr result (λ f. first_fault plan.now.plan request.now [] (prefix.now ++ number ∷ []) ≡ Some f) }
 {
-    take_hop(plan, request, &[true; 64], prefix, here, number)
+    Follower { plan, request }.take_hop(&[true; 64], prefix, here, number)
 }
 
 /// Marks the classes of these contacts' receivers.
@@ -219,30 +253,7 @@ pub fn follow_behind<A: Allocator + Copy>(
     };
     let mut marks = [false; 64];
     mark_receivers(plan, &mut marks, &front[..first]);
-    let here = follow_rest(plan, request, &mut marks, front, first, here)?;
-    end_on(plan, request, &marks, front, here, *last)
-}
-
-/// Returns what [`follow`] returns for a path and one more number. The path leads to `here`, and the classes of its
-/// receivers are marked.
-fn end_on<A: Allocator + Copy>(
-    plan: &Plan<A>,
-    request: &Request,
-    marks: &[bool; 64],
-    prefix: &[u32],
-    here: Reached,
-    number: u32,
-) -> Result<u64, HopFault>
-    requires path { IsTrue (is_path plan.now.plan request.now prefix.now) }
-    requires marks { AreMarked marks.now (receivers plan.now.plan prefix.now) }
-    requires reached { IsReachedBy plan.now.plan request.now prefix.now here }
-    ensures route { IfOk result (λ _. IsTrue (is_route plan.now.plan request.now (prefix.now ++ number ∷ []))) }
-    ensures delivery { IfOk result (λ d. arrival_after plan.now.plan request.now request.now.at (prefix.now ++ number ∷ []) ≡ Some d) }
-    ensures fault { IfErr result (λ f. fault_of plan.now.plan request.now (prefix.now ++ number ∷ []) ≡ Some f) }
-{
-    let here = take_hop(plan, request, marks, prefix, here, number)?;
-    if here.node != request.to() {
-        return Err(HopFault::WrongEnd);
-    }
-    Ok(here.at)
+    let follower = Follower { plan, request };
+    let here = follower.follow_rest(&mut marks, front, first, here)?;
+    follower.end_on(&marks, front, here, *last)
 }

@@ -8,7 +8,8 @@ ghost use Rattle.sabr_model.specs.RangeOrder.{IsRangeList};
 ghost use Rattle.sabr_model.specs.Stretches.{AreEnds, IsStretchAmong};
 
 use super::ends::Ends;
-use super::stretches::{Stretch, light_in_stretch, stretches_of};
+use super::ranges::light_near;
+use super::stretches::{Stretch, stretches_of};
 use crate::contact::{Contact, Range};
 use crate::node_table::NodeTable;
 use std::alloc::{AllocError, Allocator};
@@ -81,12 +82,14 @@ pub fn light_in_stretches(
     ensures { result.0 ≡ light_of (record { contacts = []; ranges = ranges.now; greatest = 0 }) contact.now }
 {
     let (from, to, start) = (contact.from, contact.to, contact.start);
-    let (light, ahead) = light_in_stretch(ranges, of_sender, from, to, start, guess.ahead);
+    let sent = &ranges[of_sender.first..of_sender.end];
+    let (light, ahead) = light_near(sent, from, to, start, guess.ahead);
     let back = guess.back;
     match light {
         Some(light) => (Some(light), LightGuess { ahead, back }),
         None if from > to => {
-            let (light, back) = light_in_stretch(ranges, of_receiver, to, from, start, back);
+            let received = &ranges[of_receiver.first..of_receiver.end];
+            let (light, back) = light_near(received, to, from, start, back);
             (light, LightGuess { ahead, back })
         }
         None => (None, LightGuess { ahead, back }),

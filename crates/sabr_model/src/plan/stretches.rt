@@ -7,7 +7,6 @@ ghost use Rattle.sabr_model.specs.RangeOrder.{IsRangeList};
 ghost use Rattle.sabr_model.specs.Light.{light_of_pair};
 ghost use Rattle.sabr_model.specs.Stretches.{IsStretchAmong, AreStretches};
 
-use super::ranges::light_near;
 use crate::contact::Range;
 use crate::node_table::NodeTable;
 use std::alloc::{AllocError, Allocator};
@@ -68,21 +67,4 @@ fn with_run(stretch: Stretch, first: usize, end: usize) -> Stretch
         },
         end,
     }
-}
-
-/// Returns the light time of the range of this ordered pair that is in force at `t`, and a guess where those in force
-/// soon after `t` stand. The ranges from `one` stand in the stretch. It takes such a guess, too.
-pub fn light_in_stretch(
-    ranges: &[Range],
-    stretch: Stretch,
-    one: u64,
-    other: u64,
-    t: u64,
-    guess: usize,
-) -> (Option<u32>, usize)
-    requires list { IsRangeList ranges.now }
-    requires stretch { IsStretchAmong ranges.now (length ranges.now) one stretch }
-    ensures { result.0 ≡ light_of_pair ranges.now one other t }
-{
-    light_near(&ranges[stretch.first..stretch.end], one, other, t, guess)
 }
