@@ -2,3 +2,4 @@ pub mod Gathers
 pub mod LastRanges
 pub mod ChainedRanges
 pub mod GatheredOpenings
+pub mod PairRecords

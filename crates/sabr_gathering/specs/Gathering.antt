@@ -1,11 +1,14 @@
 -- Contacts that are gathered with what no two of them share; and ranges that are gathered in any order, most in their
 -- places, and the latest beside them.
-use Rattle.std.specs.Prelude.{◌≡◌, ℕ, ◌≤◌, Bool, false, true, nat_lt, List, [], ◌∷◌, ◌++◌, ⊤, map}
+use Rattle.std.specs.Prelude.{◌≡◌, ℕ, ◌<◌, ◌≤◌, Bool, false, true, nat_lt, List, [], ◌∷◌, ◌++◌, ⊤, map}
 use Rattle.std.specs.List.{list_any, AllByRecursion}
 use Rattle.std.specs.List.Sorted.{IsStrictlySortedBy}
 use Rattle.std.specs.declared.cmp.Ordering.{Ordering}
 use Rattle.std.specs.declared.option.Option.{Option}
 use Rattle.std.specs.declared.option.Option.TheVariants.{Some, None}
+use Rattle.indexmap.specs.IndexMap.{IndexMap}
+use Rattle.sabr_gathering.specs.declared.pair_times.NodePair.{NodePair}
+use Rattle.sabr_gathering.specs.PairTimes.{time_of}
 use Rattle.sabr_model.specs.declared.contact.Contact.{Contact}
 use Rattle.sabr_model.specs.declared.contact.Range.{Range}
 use Rattle.sabr_model.specs.declared.opening.Opening.{Opening}
@@ -19,30 +22,26 @@ use Rattle.sabr_model.specs.Openings.{opening_of}
 abbrev pub plan_of_contacts : List Contact → ℕ → ContactPlan
 plan_of_contacts contacts greatest = record { contacts = contacts; ranges = []; greatest = greatest }
 
--- an opening as one number: by start, then by sender and receiver
-abbrev pub opening_number : Opening → ℕ
-opening_number o = place_number o.start o.from o.to
-
 -- the openings are those of the first contacts
 abbrev pub KnowsFirst : List Opening → List Contact → Type 0
 KnowsFirst [] cs = ⊤
 KnowsFirst (o ∷ os) [] = ⊥
 KnowsFirst (o ∷ os) (c ∷ cs) = (o ≡ opening_of c) × KnowsFirst os cs
 
--- no contact opens after this
-abbrev pub OpenBy : Opening → List Contact → Type 0
-OpenBy last contacts = AllByRecursion (λ c. opening_number (opening_of c) ≤ opening_number last) contacts
+-- each contact opens before its pair's second
+abbrev pub OpenBefore : {S : Type 0} → IndexMap NodePair ℕ S → List Contact → Type 0
+OpenBefore table contacts = AllByRecursion (λ c. c.start < time_of table c.from c.to) contacts
 
--- the openings are those of the first contacts, and if the contacts rise none opens after the last one
-abbrev pub KnowsSome : List Opening → Bool → Opening → List Contact → Type 0
-KnowsSome known rising last contacts = KnowsFirst known contacts × (rising ≡ true → OpenBy last contacts)
+-- the openings are those of the first contacts, and each contact opens before its pair's second
+abbrev pub KnowsSome : {S : Type 0} → List Opening → IndexMap NodePair ℕ S → List Contact → Type 0
+KnowsSome known table contacts = KnowsFirst known contacts × OpenBefore table contacts
 
 -- an opening that no contact has was noted, one that a contact has was found, or neither
-abbrev pub IsNoted : List Contact → Opening → Option Bool → List Opening → Bool → Opening → Type 0
-IsNoted contacts o (Some true) known rising last =
-    (list_any (opens o.from o.to o.start) contacts ≡ false) × ((c : Contact) → opening_of c ≡ o → KnowsSome known rising last (contacts ++ c ∷ []))
-IsNoted contacts o (Some false) known rising last = (list_any (opens o.from o.to o.start) contacts ≡ true) × KnowsSome known rising last contacts
-IsNoted contacts o None known rising last = KnowsSome known rising last contacts
+abbrev pub IsNoted : {S : Type 0} → List Contact → Opening → Option Bool → List Opening → IndexMap NodePair ℕ S → Type 0
+IsNoted contacts o (Some true) known table =
+    (list_any (opens o.from o.to o.start) contacts ≡ false) × ((c : Contact) → opening_of c ≡ o → KnowsSome known table (contacts ++ c ∷ []))
+IsNoted contacts o (Some false) known table = (list_any (opens o.from o.to o.start) contacts ≡ true) × KnowsSome known table contacts
+IsNoted contacts o None known table = KnowsSome known table contacts
 
 -- elements put into a list, one after the other
 abbrev pub put_all : {X : Type 0} → (X → X → Ordering) → List X → List X → List X

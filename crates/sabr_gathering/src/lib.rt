@@ -7,6 +7,7 @@ mod known_openings;
 mod latest_ranges;
 mod merging;
 mod ordered_ranges;
+mod pair_times;
 mod plan;
 mod range_chains;
 
