@@ -1,17 +1,15 @@
 -- What no two gathered contacts share, as the set beside them has it.
-use Rattle.std.proofs.Common.{◌≡◌, ℕ, zero, suc, ◌<◌, ◌≤◌, Bool, true, false, cond, ◌&&◌, ◌||◌, not, eqb, List, [], ◌∷◌, ◌++◌, length, get_or, refl, sym, ap, subst, ◌∙◌, arith}
+use Rattle.std.proofs.Common.{◌≡◌, ℕ, zero, suc, ◌<◌, ◌≤◌, Bool, true, false, cond, ◌&&◌, not, eqb, List, [], ◌∷◌, ◌++◌, length, get_or, refl, sym, ap, subst, ◌∙◌, arith}
 use Rattle.std.specs.List.{filter, list_any}
 use Rattle.sabr_model.specs.declared.contact.Contact.{Contact}
 use Rattle.sabr_model.specs.declared.opening.Opening.{Opening}
-use Rattle.std.proofs.lemmas.Bool.{lt-leb, ne_eqb, and_parts, eqb-true, false_from_ne_true}
+use Rattle.std.proofs.lemmas.Bool.{lt-leb, ne_eqb}
 use Rattle.std.specs.declared.option.Option.TheVariants.{Some, None}
 use Rattle.sabr_model.specs.declared.fault.AddFault.TheVariants.{DuplicateContact}
 use Rattle.sabr_model.specs.Plan.{ContactPlan, opens}
 use Rattle.sabr_model.specs.Adding.{contact_refusal}
 use Rattle.sabr_model.specs.Openings.{opening_of, openings_of}
 use Rattle.sabr_gathering.specs.Gathering.{KnowsFirst}
-use Rattle.sabr_model.proofs.PlanLemmas.{all_push, all_weaker}
-use Rattle.sabr_model.proofs.OpeningLemmas.{openings_push}
 
 -- ---- the openings of the first contacts
 

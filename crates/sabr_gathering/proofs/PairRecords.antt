@@ -1,19 +1,25 @@
 -- What the seconds that pairs have say of records.
-use Rattle.std.proofs.Common.{◌≡◌, ℕ, ◌+◌, ◌<◌, ◌≤◌, Bool, true, false, cond, ◌&&◌, eqb, List, [], ◌∷◌, ◌++◌, sym, ap, subst, refl, arith}
-use Rattle.std.specs.List.{list_any}
+use Rattle.std.proofs.Common.{◌≡◌, ℕ, ◌+◌, ◌<◌, ◌≤◌, Bool, true, false, cond, ◌&&◌, not, eqb, List, [], ◌∷◌, ◌++◌, sym, ap, subst, ◌∙◌, refl, arith, Result, Ok, Err, OnOk, OnErr}
+use Rattle.std.specs.List.{list_any, filter}
 use Rattle.std.specs.Prelude.{unwrap_or}
 use Rattle.std.specs.declared.option.Option.{Option}
-use Rattle.std.specs.declared.option.Option.TheVariants.{Some, None}
-use Rattle.std.proofs.lemmas.Bool.{and_parts, or_from, eqb-true, false_from_ne_true}
+use Rattle.std.specs.declared.option.Option.TheVariants.{Some}
+use Rattle.std.proofs.lemmas.Bool.{and_parts, or_parts, or_from, eqb-true, false_from_ne_true}
 use Rattle.indexmap.specs.IndexMap.{IndexMap, get}
 use Rattle.sabr_gathering.specs.declared.pair_times.NodePair.{NodePair}
 use Rattle.sabr_gathering.specs.PairTimes.{same_pair, time_of, NoneFalls}
 use Rattle.sabr_model.specs.declared.contact.Contact.{Contact}
 use Rattle.sabr_model.specs.declared.opening.Opening.{Opening}
-use Rattle.sabr_model.specs.Plan.{opens}
+use Rattle.sabr_model.specs.declared.contact.Range.{Range}
+use Rattle.sabr_model.specs.Order.{put_in}
+use Rattle.sabr_model.specs.Adding.{by_range_key}
+use Rattle.sabr_model.specs.Plan.{IsPlan, opens, overlap}
 use Rattle.sabr_model.specs.Openings.{opening_of}
-use Rattle.sabr_gathering.specs.Gathering.{OpenBefore}
+use Rattle.sabr_gathering.specs.Gathering.{plan_of_ranges, CanFollow, OpenBefore, EndBy}
 use Rattle.sabr_model.proofs.PlanLemmas.{all_push, all_weaker}
+use Rattle.sabr_model.proofs.Ordered.{all_put}
+use Rattle.sabr_model.proofs.RangeKeys.{overlap_parts}
+use Rattle.sabr_gathering.proofs.InTurn.{plan_more}
 
 -- a pair whose second is put, and no other, has a second as late as before
 put_rises : (p q : NodePair) (old new : Option ℕ) (b : Bool) (end : ℕ) → new ≡ cond b (Some end) old → (b ≡ true → unwrap_or old 0 ≤ end) → unwrap_or old 0 ≤ unwrap_or new 0
@@ -55,3 +61,34 @@ pub before_push : {S : Type 0} (table : IndexMap NodePair ℕ S) (cs : List Cont
 before_push table cs o all lt c is =
     let own : c.start + 1 ≤ time_of table c.from c.to = subst (λ (p : Opening). p.start + 1 ≤ time_of table p.from p.to) (sym is) lt in
     all_push (λ d. d.start < time_of table d.from d.to) cs c all (omega (arith, own))
+
+-- ---- ranges
+
+-- a range that begins no earlier than its pair's second overlaps none of them
+pub overlaps_last : {S : Type 0} (table : IndexMap NodePair ℕ S) (r : Range) (rs : List Range) → EndBy table rs → time_of table r.one r.other ≤ r.start → list_any (overlap r) rs ≡ false
+overlaps_last table r [] all le = refl
+overlaps_last table r (s ∷ rs) all le =
+    or_from (overlap r s) (list_any (overlap r) rs)
+    (false_from_ne_true (overlap r s) (λ t.
+    let parts = overlap_parts r s t in
+    let by : s.end ≤ time_of table r.one r.other = subst (λ n. s.end ≤ time_of table n r.other) (sym parts.0) (subst (λ n. s.end ≤ time_of table s.one n) (sym parts.1) all.0) in
+    omega (arith, parts.2, by, le)))
+    (overlaps_last table r rs all.1 le)
+
+-- ranges end by seconds that don't fall
+pub still_by : {S : Type 0} (old new : IndexMap NodePair ℕ S) (rs : List Range) → NoneFalls old new → EndBy old rs → EndBy new rs
+still_by old new rs kept all =
+    all_weaker (λ r. r.end ≤ time_of old r.one r.other) (λ r. r.end ≤ time_of new r.one r.other) (λ r le. let more = kept.each r.one r.other in omega (arith, le, more)) rs all
+
+-- a range more, or none because memory is refused
+pub added_or_not : {U E S : Type 0} (result : Result U E) (table : IndexMap NodePair ℕ S) (r : Range) (rs new : List Range) → IsPlan (plan_of_ranges rs) → EndBy table rs → CanFollow rs r → r.end ≤ time_of table r.one r.other
+    → OnOk result (new ≡ put_in by_range_key r rs) → OnErr result (new ≡ rs) → IsPlan (plan_of_ranges new) × EndBy table new
+added_or_not (Ok u) table r rs new plan all can own ok err = rw ok (plan_more r rs plan can, all_put by_range_key (λ s. s.end ≤ time_of table s.one s.other) r rs own all)
+added_or_not (Err e) table r rs new plan all can own ok err = rw err (plan, all)
+
+-- nothing is left out where nothing passes
+pub filter_none : (p : Range → Bool) (rs : List Range) → list_any p rs ≡ false → filter (λ r. not (p r)) rs ≡ rs
+filter_none p [] none = refl
+filter_none p (r ∷ rs) none =
+    let parts = or_parts (p r) (list_any p rs) none in
+    ap (λ b. cond (not b) (r ∷ filter (λ s. not (p s)) rs) (filter (λ s. not (p s)) rs)) parts.0 ∙ ap (λ xs. r ∷ xs) (filter_none p rs parts.1)

@@ -1,3 +1,2 @@
 pub mod Gathering
 pub mod PairTimes
-pub mod RangeChains

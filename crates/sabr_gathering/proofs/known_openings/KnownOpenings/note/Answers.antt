@@ -1,4 +1,4 @@
-use Rattle.std.proofs.Common.{◌≡◌, Bool, true, false, Some, not, refl, sym, subst, ◌∙◌}
+use Rattle.std.proofs.Common.{◌≡◌, true, false, Some, not, refl, sym, ◌∙◌}
 use Rattle.sabr_gathering.specs.Gathering.{IsNoted}
 use Rattle.sabr_model.proofs.OpeningLemmas.{opening_known}
 use Rattle.sabr_gathering.proofs.GatheredOpenings.{known_push}

@@ -1,8 +1,7 @@
-use Rattle.std.proofs.Common.{◌≡◌, ℕ, ◌≤◌, ap, sym, ◌∙◌, cond, arith}
+use Rattle.std.proofs.Common.{◌≡◌, ℕ, ap, sym, ◌∙◌, cond, arith}
 use Rattle.std.specs.Prelude.{Some, is_some, unwrap_or}
 use Rattle.std.specs.declared.option.Option.{Option}
 use Rattle.indexmap.specs.IndexMap.{get}
-use Rattle.sabr_gathering.specs.declared.pair_times.NodePair.{NodePair}
 use Rattle.sabr_gathering.specs.PairTimes.{same_pair, time_of}
 use Rattle.sabr_gathering.proofs.PairRecords.{none_falls}
 use Rattle.sabr_gathering.proofs.pair_times.PairTimes.note.Goals as goal
