@@ -1,37 +1,39 @@
-//! A list of ranges in order, which are found and merged by that order.
+//! Ranges in order, in a tree in which an overlap is found in one search.
 
-ghost use Rattle.std.specs.Prelude.{◌≡◌, [], ◌∷◌, ◌++◌, Err, OnOk, OnErr, IsTrue, IsFalse, IsOk, filter, length, not};
+ghost use Rattle.std.specs.Prelude.{◌≡◌, ◌<◌, ◌^◌, [], ◌∷◌, ◌++◌, OnOk, OnErr, filter, length, not};
 ghost use Rattle.std.specs.List.{list_any};
 ghost use Rattle.sabr_model.specs.Plan.{overlap, IsPlan};
-ghost use Rattle.sabr_gathering.specs.Gathering.{plan_of_ranges, gathered, AreGathered};
-ghost use Rattle.sabr_model.specs.declared.fault.AddFault.TheVariants.{NothingToDelete};
-ghost use Rattle.sabr_model.specs.Adding.{begins};
+ghost use Rattle.sabr_model.specs.Order.{put_in};
+ghost use Rattle.sabr_model.specs.Adding.{range_refusal, by_range_key, begins};
+ghost use Rattle.sabr_gathering.specs.Gathering.{plan_of_ranges, CanFollow};
 
-use crate::merging::merge;
-use sabr_model::{AddFault, Range, has_range, overlaps_some};
+use sabr_model::{Range, overlap};
 use std::alloc::{AllocError, Allocator};
+use std::collections::BTreeMap;
 use std::marker::Model;
-use std::mem;
+use std::ops::Bound;
+
+/// A range's pair of nodes and its start.
+type RangeKey = [u64; 3];
 
 /// Ranges that obey the rules of a plan's ranges, by pair of nodes and start.
 #[derive(Drop)]
 pub struct OrderedRanges<A: Allocator + Copy> {
-    ranges: Vec<Range, A>,
-    /// Room for merging; its ranges play no part.
-    spare: Vec<Range, A>,
+    tree: BTreeMap<RangeKey, Range, A>,
 }
 
 impl<A: Allocator + Copy> Model for OrderedRanges<A> {
-    ghost use Rattle.std.specs.Prelude.{List};
+    ghost use Rattle.std.specs.Prelude.{◌≡◌, List};
+    ghost use Rattle.std.specs.BTreeMap.{values};
     ghost use Rattle.sabr_model.specs.declared.contact.Range.{Range};
     ghost use Rattle.sabr_model.specs.Plan.{IsPlan};
-    ghost use Rattle.sabr_gathering.specs.Gathering.{plan_of_ranges};
+    ghost use Rattle.sabr_gathering.specs.Gathering.{plan_of_ranges, keyed};
 
     ghost Value = { List Range };
 
-    ghost view = { λ r. r.ranges.items };
+    ghost view = { λ r. values r.tree };
 
-    ghost invariant = { λ r. IsPlan (plan_of_ranges r.ranges.items) };
+    ghost invariant = { λ r. IsPlan (plan_of_ranges (values r.tree)) × (r.tree.entries ≡ keyed (values r.tree)) };
 }
 
 impl<A: Allocator + Copy> OrderedRanges<A> {
@@ -40,19 +42,7 @@ impl<A: Allocator + Copy> OrderedRanges<A> {
         ensures { result ≡ [] }
     {
         OrderedRanges {
-            ranges: Vec::new(alloc),
-            spare: Vec::new(alloc),
-        }
-    }
-
-    /// Takes a list of ranges in order.
-    pub fn of(alloc: A, ranges: Vec<Range, A>) -> OrderedRanges<A>
-        requires { IsPlan (plan_of_ranges ranges.items) }
-        ensures { result ≡ ranges.items }
-    {
-        OrderedRanges {
-            ranges,
-            spare: Vec::new(alloc),
+            tree: BTreeMap::new(alloc),
         }
     }
 
@@ -60,66 +50,58 @@ impl<A: Allocator + Copy> OrderedRanges<A> {
     pub fn len(&self) -> usize
         ensures { result ≡ length self.now }
     {
-        self.ranges.len()
+        self.tree.len()
     }
 
-    /// Returns true if one of the ranges overlaps a range of the same ordered pair.
+    /// Returns true if one of the ranges overlaps a range of the same ordered pair. It takes one search.
     pub fn overlaps(&self, range: &Range) -> bool
         ensures { result ≡ list_any (overlap range.now) self.now }
     {
-        overlaps_some(&self.ranges, range)
+        let before = (
+            Bound::Unbounded,
+            Bound::Excluded(key(range.one, range.other, range.end)),
+        );
+        match self.tree.range(before).next_back() {
+            Some((_, last)) => overlap(range, last),
+            None => false,
+        }
     }
 
-    /// Adds a range that comes after the others.
-    pub fn push(&mut self, range: Range) -> Result<(), AllocError>
-        requires { IsPlan (plan_of_ranges (self.old ++ range ∷ [])) }
-        ensures ok { OnOk result (self.new ≡ self.old ++ range ∷ []) }
+    /// Adds a range that may follow these.
+    pub fn insert(&mut self, range: Range) -> Result<(), AllocError>
+        requires { CanFollow self.old range }
+        ensures ok { OnOk result (self.new ≡ put_in by_range_key range self.old) }
         ensures err { OnErr result (self.new ≡ self.old) }
     {
-        self.ranges.push(range)?;
+        self.tree
+            .insert([range.one, range.other, range.start], range)?;
         Ok(())
     }
 
-    /// Puts others in their places among these, and leaves none there.
-    pub fn take_in(&mut self, others: &mut OrderedRanges<A>) -> Result<(), AllocError>
-        requires { AreGathered self.old others.old }
-        ensures all { OnOk result (self.new ≡ gathered self.old others.old) }
-        ensures none { OnOk result (others.new ≡ []) }
-        ensures err { OnErr result (self.new ≡ self.old) }
-        ensures err_others { OnErr result (others.new ≡ others.old) }
+    /// Deletes the range of this ordered pair that begins at this start. Returns false if there is none.
+    pub fn delete(&mut self, one: u64, other: u64, start: u64) -> bool
+        ensures found { result ≡ list_any (begins one other start) self.old }
+        ensures left { self.new ≡ filter (λ r. not (begins one other start r)) self.old }
     {
-        if others.ranges.is_empty() {
-            return Ok(());
-        }
-        if self.ranges.is_empty() {
-            mem::swap(&mut self.ranges, &mut others.ranges);
-            return Ok(());
-        }
-        merge(&mut self.spare, &self.ranges, &others.ranges)?;
-        mem::swap(&mut self.ranges, &mut self.spare);
-        others.ranges.clear();
-        Ok(())
+        self.tree.remove(&[one, other, start]).is_some()
     }
 
-    /// Deletes the range of this ordered pair that begins at this start.
-    pub fn delete(&mut self, one: u64, other: u64, start: u64) -> Result<(), AddFault>
-        ensures refused { IsFalse (list_any (begins one other start) self.old) → result ≡ Err NothingToDelete }
-        ensures accepted { IsTrue (list_any (begins one other start) self.old) → IsOk result }
-        ensures ok { OnOk result (self.new ≡ filter (λ r. not (begins one other start r)) self.old) }
-        ensures err { OnErr result (self.new ≡ self.old) }
+    /// Adds the ranges to a list.
+    pub fn add_to(&self, list: &mut Vec<Range, A>) -> Result<(), AllocError>
+        ensures { OnOk result (list.new.items ≡ list.old.items ++ self.now) }
     {
-        if !has_range(&self.ranges, one, other, start) {
-            return Err(AddFault::NothingToDelete);
+        for range in self.tree.values() {
+            list.push(*range)?;
         }
-        self.ranges.retain(|r| !(one == r.one && other == r.other && start == r.start));
         Ok(())
     }
+}
 
-    /// The ranges as a list.
-    pub fn into_list(self) -> Vec<Range, A>
-        ensures { result.items ≡ self }
-    {
-        let OrderedRanges { ranges, spare: _ } = self;
-        ranges
-    }
+/// The key of a range of this pair that begins at a second.
+fn key(one: u64, other: u64, second: u64) -> RangeKey
+    ensures value { result ≡ one ∷ other ∷ second ∷ [] }
+    ensures other { other < 2 ^ 64 }
+    ensures second { second < 2 ^ 64 }
+{
+    [one, other, second]
 }
