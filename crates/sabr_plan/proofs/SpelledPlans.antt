@@ -21,7 +21,7 @@ use Rattle.sabr_plan.specs.Words.{words_of, is_comment, is_plain, has_bytes, lin
 use Rattle.sabr_plan.specs.Numbers.{number_within}
 use Rattle.sabr_plan.specs.Times.{time_of}
 use Rattle.sabr_plan.specs.Operands.{relative_of, after_reference, absolute_time, time_at, node_of, greatest_value, value_of, both_of}
-use Rattle.sabr_plan.specs.Commands.{addition_of, deletion_of, target_of, targeted, reference_of, command_of, line_command}
+use Rattle.sabr_plan.specs.Commands.{addition_of, deletion_of, target_of, targeted, reference_of, command_of, line_command, HasBounds}
 use Rattle.sabr_plan.specs.Reading.{Reading, most_line_bytes, most_lines, nothing_read, changed, obeyed, at_line, limited, judged, read_line, read_lines, ended_line, last_line, plan_of}
 use Rattle.sabr_plan.proofs.Seconds.{time_of_tells}
 use Rattle.sabr_plan.proofs.SpelledNumbers.{number_within-range}
@@ -36,6 +36,10 @@ module _ {A B E : Type 0} where
   given_holds : (P : A → Type 0) (Q : B → Type 0) (f : A → B) (r : Result A E) → IfOk r P → ((x : A) → P x → Q (f x)) → IfOk (given_as f r) Q
   given_holds P Q f (Ok x) p q = q x p
   given_holds P Q f (Err k) p q = tt
+
+any_holds : {A E : Type 0} (r : Result A E) → IfOk r (λ _. Unit {0})
+any_holds (Ok x) = tt
+any_holds (Err k) = tt
 
 module _ {A : Type 0} where
   or_holds : (P : A → Type 0) (o : Option A) (k : PlanKind) → ((x : A) → o ≡ Some x → P x) → IfOk (ok_or o k) P
@@ -80,114 +84,85 @@ value_within target word =
     or_holds (λ v. v ≤ greatest_value target) (number_within 0 (greatest_value target) word) kind.BadNumber
     (λ v e. (number_within-range 0 (greatest_value target) word v e).1)
 
--- ---- each command keeps the rules
+-- ---- so is what a line says
+
+addition_bounds : (reference : Option ℕ) (target : Target) (words : List (List ℕ)) → IfOk (addition_of reference target words) HasBounds
+addition_bounds reference target [] = tt
+addition_bounds reference target (s ∷ []) = tt
+addition_bounds reference target (s ∷ e ∷ []) = tt
+addition_bounds reference target (s ∷ e ∷ x ∷ []) = tt
+addition_bounds reference target (s ∷ e ∷ x ∷ y ∷ []) = tt
+addition_bounds reference target (s ∷ e ∷ x ∷ y ∷ v ∷ []) =
+    then_holds (λ times. (times.0 ≤ last_time) × (times.1 ≤ last_time)) HasBounds (both_of (time_at reference s) (time_at reference e)) _
+    (both_hold (λ t. t ≤ last_time) (time_at reference s) (time_at reference e) (time_within reference s) (time_within reference e))
+    (λ times within. then_holds (λ nodes. IsNode nodes.0 × IsNode nodes.1) HasBounds (both_of (node_of x) (node_of y)) _
+    (both_hold IsNode (node_of x) (node_of y) (node_is x) (node_is y))
+    (λ nodes are. given_holds (λ value. value ≤ greatest_value target) HasBounds _ (value_of target v) (value_within target v)
+    (λ value most. (are.0, are.1, within.1, most))))
+addition_bounds reference target (s ∷ e ∷ x ∷ y ∷ v ∷ w ∷ words) = tt
+
+deletion_bounds : (reference : Option ℕ) (target : Target) (words : List (List ℕ)) → IfOk (deletion_of reference target words) HasBounds
+deletion_bounds reference target [] = tt
+deletion_bounds reference target (s ∷ []) = tt
+deletion_bounds reference target (s ∷ x ∷ []) = tt
+deletion_bounds reference target (s ∷ x ∷ y ∷ []) =
+    then_holds (λ _. Unit {0}) HasBounds (time_at reference s) _ (any_holds (time_at reference s))
+    (λ start _. given_holds (λ _. Unit {0}) HasBounds _ (both_of (node_of x) (node_of y)) (any_holds (both_of (node_of x) (node_of y))) (λ nodes _. tt))
+deletion_bounds reference target (s ∷ x ∷ y ∷ w ∷ words) = tt
+
+targeted_bounds : (command : Target → List (List ℕ) → Result Command PlanKind) (words : List (List ℕ)) → ((target : Target) (operands : List (List ℕ)) → IfOk (command target operands) HasBounds)
+    → IfOk (targeted command words) HasBounds
+targeted_bounds command [] each = tt
+targeted_bounds command (word ∷ operands) each =
+    elim (target_of word) as (λ o. IfOk (elim o [ Some target ↦ command target operands | None ↦ Err kind.UnknownCommand ]) HasBounds) [
+      | Some target ↦ each target operands
+      | None ↦ tt
+    ]
+
+reference_bounds : (words : List (List ℕ)) → IfOk (reference_of words) HasBounds
+reference_bounds [] = tt
+reference_bounds (time ∷ []) = given_holds (λ _. Unit {0}) HasBounds SetReference (absolute_time time) (any_holds (absolute_time time)) (λ t _. tt)
+reference_bounds (time ∷ word ∷ words) = tt
+
+command_bounds : (reference : Option ℕ) (words : List (List ℕ)) → IfOk (command_of reference words) HasBounds
+command_bounds reference [] = tt
+command_bounds reference (word ∷ words) =
+    if_holds HasBounds (bytes_eq word (codes "@")) _ _ (λ _. reference_bounds words)
+    (if_holds HasBounds (bytes_eq word (codes "a")) _ _ (λ _. targeted_bounds (addition_of reference) words (addition_bounds reference))
+    (if_holds HasBounds (bytes_eq word (codes "d")) _ _ (λ _. targeted_bounds (deletion_of reference) words (deletion_bounds reference)) tt))
+
+line_within : (reference : Option ℕ) (line : List ℕ) → IfOk (line_command reference line) HasBounds
+unfolding line_command
+line_within reference line =
+    if_holds HasBounds (is_comment line) _ _ (λ _. tt) (if_holds HasBounds (not (list_all is_plain line)) _ _ (λ _. tt) (command_bounds reference (words_of line)))
+
+pub line_bounds : (reference : Option ℕ) (line : List ℕ) (command : Command) → line_command reference line ≡ Ok command → HasBounds command
+line_bounds reference line command e = rw e at (line_within reference line)
+
+-- ---- such a command keeps the rules
 
 -- the result obeys the rules of a plan
 abbrev Obeys : {E : Type 0} → Result Reading E → Type 0
 Obeys r = IfOk r (λ r₁. IsPlan r₁.plan)
 
--- a command after which a plan still obeys its rules
-abbrev Keeps : Command → Type 0
-Keeps command = (r : Reading) → IsPlan r.plan → Obeys (obeyed r command)
-
 changed_keeps : (refusal : Option AddFault) (reference : Option ℕ) (p : ContactPlan) → (refusal ≡ None → IsPlan p) → Obeys (changed refusal reference p)
 changed_keeps (Some f) reference p good = tt
 changed_keeps None reference p good = good refl
 
-contact_keeps : (start end first second value : ℕ) → end ≤ last_time → IsNode first → IsNode second → value ≤ greatest_value Contact
-    → Keeps (Add Contact (record { start = start; end = end; first = first; second = second; value = value }))
+keeps : (r : Reading) (command : Command) → IsPlan r.plan → HasBounds command → Obeys (obeyed r command)
 unfolding obeyed
-contact_keeps start end first second value ends from to most r good =
-    changed_keeps (contact_refusal r.plan first second start end) r.reference (with_contact r.plan (next_contact r.plan first second start end value))
-    (IsPlan-push r.plan first second start end value good from to (omega arith) ends)
-
-range_keeps : (start end first second value : ℕ) → end ≤ last_time → IsNode first → IsNode second → value ≤ greatest_value Range
-    → Keeps (Add Range (record { start = start; end = end; first = first; second = second; value = value }))
-unfolding obeyed
-range_keeps start end first second value ends one other most r good =
-    let range = new_range first second start end value in
-    changed_keeps (range_refusal r.plan range) r.reference (with_range r.plan range)
-    (IsPlan-range r.plan range good one other ends most)
-
-added_keeps : (target : Target) (start end first second value : ℕ) → end ≤ last_time → IsNode first → IsNode second → value ≤ greatest_value target
-    → Keeps (Add target (record { start = start; end = end; first = first; second = second; value = value }))
-added_keeps Contact = contact_keeps
-added_keeps Range = range_keeps
-
-deleted_keeps : (target : Target) (start first second : ℕ) → Keeps (Delete target (record { start = start; first = first; second = second }))
-unfolding obeyed
-deleted_keeps Contact start first second r good =
-    changed_keeps _ r.reference (without_contact r.plan first second start)
-    (λ _. IsPlan-fewer_contacts r.plan (λ c. not (opens first second start c)) good)
-deleted_keeps Range start first second r good =
-    changed_keeps _ r.reference (without_range r.plan first second start)
-    (λ _. IsPlan-fewer_ranges r.plan (λ s. not (begins first second start s)) good)
-
-nothing_keeps : Keeps Nothing
-unfolding obeyed
-nothing_keeps r good = good
-
-reference_keeps : (t : ℕ) → Keeps (SetReference t)
-unfolding obeyed
-reference_keeps t r good = good
-
--- ---- so does what a line says
-
-addition_keeps : (reference : Option ℕ) (target : Target) (words : List (List ℕ)) → IfOk (addition_of reference target words) Keeps
-addition_keeps reference target [] = tt
-addition_keeps reference target (s ∷ []) = tt
-addition_keeps reference target (s ∷ e ∷ []) = tt
-addition_keeps reference target (s ∷ e ∷ x ∷ []) = tt
-addition_keeps reference target (s ∷ e ∷ x ∷ y ∷ []) = tt
-addition_keeps reference target (s ∷ e ∷ x ∷ y ∷ v ∷ []) =
-    then_holds (λ times. (times.0 ≤ last_time) × (times.1 ≤ last_time)) Keeps (both_of (time_at reference s) (time_at reference e)) _
-    (both_hold (λ t. t ≤ last_time) (time_at reference s) (time_at reference e) (time_within reference s) (time_within reference e))
-    (λ times within. then_holds (λ nodes. IsNode nodes.0 × IsNode nodes.1) Keeps (both_of (node_of x) (node_of y)) _
-    (both_hold IsNode (node_of x) (node_of y) (node_is x) (node_is y))
-    (λ nodes are. given_holds (λ value. value ≤ greatest_value target) Keeps _ (value_of target v) (value_within target v)
-    (λ value most. added_keeps target times.0 times.1 nodes.0 nodes.1 value within.1 are.0 are.1 most)))
-addition_keeps reference target (s ∷ e ∷ x ∷ y ∷ v ∷ w ∷ words) = tt
-
-deletion_keeps : (reference : Option ℕ) (target : Target) (words : List (List ℕ)) → IfOk (deletion_of reference target words) Keeps
-deletion_keeps reference target [] = tt
-deletion_keeps reference target (s ∷ []) = tt
-deletion_keeps reference target (s ∷ x ∷ []) = tt
-deletion_keeps reference target (s ∷ x ∷ y ∷ []) =
-    then_holds (λ t. t ≤ last_time) Keeps (time_at reference s) _ (time_within reference s)
-    (λ start within. given_holds (λ nodes. IsNode nodes.0 × IsNode nodes.1) Keeps _ (both_of (node_of x) (node_of y))
-    (both_hold IsNode (node_of x) (node_of y) (node_is x) (node_is y))
-    (λ nodes are. deleted_keeps target start nodes.0 nodes.1))
-deletion_keeps reference target (s ∷ x ∷ y ∷ w ∷ words) = tt
-
-targeted_keeps : (command : Target → List (List ℕ) → Result Command PlanKind) (words : List (List ℕ)) → ((target : Target) (operands : List (List ℕ)) → IfOk (command target operands) Keeps)
-    → IfOk (targeted command words) Keeps
-targeted_keeps command [] each = tt
-targeted_keeps command (word ∷ operands) each =
-    elim (target_of word) as (λ o. IfOk (elim o [ Some target ↦ command target operands | None ↦ Err kind.UnknownCommand ]) Keeps) [
-      | Some target ↦ each target operands
-      | None ↦ tt
-    ]
-
-said_reference_keeps : (words : List (List ℕ)) → IfOk (reference_of words) Keeps
-said_reference_keeps [] = tt
-said_reference_keeps (time ∷ []) =
-    given_holds (λ t. t ≤ last_time) Keeps SetReference (absolute_time time) (time_within_absolute) (λ t _. reference_keeps t)
-  where
-    time_within_absolute : IfOk (absolute_time time) (λ t. t ≤ last_time)
-    time_within_absolute = or_holds (λ t. t ≤ last_time) (time_of time) kind.BadTime (λ t e. (time_of_tells time t e).1)
-said_reference_keeps (time ∷ word ∷ words) = tt
-
-command_keeps : (reference : Option ℕ) (words : List (List ℕ)) → IfOk (command_of reference words) Keeps
-command_keeps reference [] = nothing_keeps
-command_keeps reference (word ∷ words) =
-    if_holds Keeps (bytes_eq word (codes "@")) _ _ (λ _. said_reference_keeps words)
-    (if_holds Keeps (bytes_eq word (codes "a")) _ _ (λ _. targeted_keeps (addition_of reference) words (addition_keeps reference))
-    (if_holds Keeps (bytes_eq word (codes "d")) _ _ (λ _. targeted_keeps (deletion_of reference) words (deletion_keeps reference)) tt))
-
-line_keeps : (reference : Option ℕ) (line : List ℕ) → IfOk (line_command reference line) Keeps
-unfolding line_command
-line_keeps reference line =
-    if_holds Keeps (is_comment line) _ _ (λ _. nothing_keeps) (if_holds Keeps (not (list_all is_plain line)) _ _ (λ _. tt) (command_keeps reference (words_of line)))
+keeps r Nothing good bounds = good
+keeps r (SetReference t) good bounds = good
+keeps r (Add Contact a) good bounds =
+    changed_keeps (contact_refusal r.plan a.first a.second a.start a.end) r.reference (with_contact r.plan (next_contact r.plan a.first a.second a.start a.end a.value))
+    (IsPlan-push r.plan a.first a.second a.start a.end a.value good bounds.0 bounds.1 (let most = bounds.3 in omega (arith, most)) bounds.2)
+keeps r (Add Range a) good bounds =
+    let range = new_range a.first a.second a.start a.end a.value in
+    changed_keeps (range_refusal r.plan range) r.reference (with_range r.plan range) (IsPlan-range r.plan range good bounds.0 bounds.1 bounds.2 bounds.3)
+keeps r (Delete Contact d) good bounds =
+    changed_keeps _ r.reference (without_contact r.plan d.first d.second d.start) (λ _. IsPlan-fewer_contacts r.plan (λ c. not (opens d.first d.second d.start c)) good)
+keeps r (Delete Range d) good bounds =
+    changed_keeps _ r.reference (without_range r.plan d.first d.second d.start) (λ _. IsPlan-fewer_ranges r.plan (λ s. not (begins d.first d.second d.start s)) good)
 
 -- ---- so do the lines of a text
 
@@ -196,7 +171,7 @@ unfolding limited judged
 limited_obeys n r line good =
     if_holds (λ r₁. IsPlan r₁.plan) (nat_lt most_lines n) _ _ (λ _. tt)
     (if_holds (λ r₁. IsPlan r₁.plan) (nat_lt most_line_bytes (length line)) _ _ (λ _. tt)
-    (then_holds Keeps (λ r₁. IsPlan r₁.plan) (line_command r.reference line) (obeyed r) (line_keeps r.reference line) (λ command keeps. keeps r good)))
+    (then_holds HasBounds (λ r₁. IsPlan r₁.plan) (line_command r.reference line) (obeyed r) (line_within r.reference line) (λ command bounds. keeps r command good bounds)))
 
 line_obeys : (n : ℕ) (r : Reading) (line : List ℕ) → IsPlan r.plan → Obeys (read_line n r line)
 line_obeys n r line good = at_holds (λ r₁. IsPlan r₁.plan) n (limited n r line) (limited_obeys n r line good)

@@ -1,10 +1,10 @@
 -- The command in a line of a plan text (ionrc(5): `a contact`, `a range`, `d contact`, `d range`, `@` and comments).
-use Rattle.std.specs.Prelude.{ℕ, ◌<◌, ◌≤◌, not, List, [], ◌∷◌, Result, Ok, Err, codes, if◌then◌else◌}
+use Rattle.std.specs.Prelude.{ℕ, ◌≤◌, not, List, [], ◌∷◌, Result, Ok, Err, codes, if◌then◌else◌}
 use Rattle.std.specs.List.{list_all}
 use Rattle.std.specs.Str.{bytes_eq}
 use Rattle.std.specs.declared.option.Option.{Option}
 use Rattle.std.specs.declared.option.Option.TheVariants.{Some, None}
-use Rattle.sabr_model.specs.Plan.{last_time}
+use Rattle.sabr_model.specs.Plan.{IsNode, last_time}
 use Rattle.sabr_plan.specs.Steps.{and_then, given_as}
 use Rattle.sabr_plan.specs.Words.{words_of, is_plain, is_comment}
 use Rattle.sabr_plan.specs.Operands.{time_at, absolute_time, node_of, greatest_value, value_of, both_of}
@@ -64,8 +64,7 @@ line_command reference line =
     else if not (list_all is_plain line) then Err BadByte
     else command_of reference (words_of line)
 
--- the nodes are from 1 on, the times and the value are within their limits
+-- what an addition names are nodes, its end and its value are within their limits
 abbrev pub HasBounds : Command → Type 0
-HasBounds (Add target a) = (0 < a.first) × (0 < a.second) × (a.end ≤ last_time) × (a.value ≤ greatest_value target)
-HasBounds (SetReference t) = t ≤ last_time
+HasBounds (Add target a) = IsNode a.first × IsNode a.second × (a.end ≤ last_time) × (a.value ≤ greatest_value target)
 HasBounds _ = Unit {0}

@@ -1,8 +1,8 @@
 //! The command in a line of a plan text.
 
-ghost use Rattle.std.specs.Prelude.{◌≡◌, ◌≢◌, ◌<◌, ◌≤◌, [], ◌∷◌, ◌++◌, Ok, Err, IfOk, IsTrue};
+ghost use Rattle.std.specs.Prelude.{◌≡◌, ◌≢◌, [], ◌∷◌, ◌++◌, IsTrue};
 ghost use Rattle.sabr_plan.specs.Words.{is_one_line, words_of};
-ghost use Rattle.sabr_plan.specs.Commands.{line_command, command_of, reference_of, target_of, targeted, addition_of, deletion_of, HasBounds};
+ghost use Rattle.sabr_plan.specs.Commands.{line_command, command_of, reference_of, target_of, targeted, addition_of, deletion_of};
 
 use crate::fault::PlanKind;
 use crate::known_day::KnownDay;
@@ -54,8 +54,7 @@ pub enum Command {
 #[cold]
 #[inline(never)]
 fn line_command(reference: Option<u64>, line: &[u8]) -> Result<Command, PlanKind>
-    ensures value { result ≡ line_command reference line.now }
-    ensures bounds { IfOk result HasBounds }
+    ensures { result ≡ line_command reference line.now }
 {
     if is_comment(line) {
         return Ok(Command::Nothing);
@@ -74,8 +73,7 @@ pub fn swift_command(
     ended: &[u8],
 ) -> Result<Command, PlanKind>
     requires { ended.now ≢ [] → IsTrue (is_one_line line.now) × (ended.now ≡ line.now ++ 10 ∷ []) }
-    ensures value { result ≡ line_command reference line.now }
-    ensures bounds { IfOk result HasBounds }
+    ensures { result ≡ line_command reference line.now }
 {
     if ended.is_empty() {
         return line_command(reference, line);
@@ -88,8 +86,7 @@ pub fn swift_command(
 
 /// Returns the command in the words of a line.
 fn command_of(reference: Option<u64>, line: &[u8]) -> Result<Command, PlanKind>
-    ensures value { result ≡ command_of reference (words_of line.now) }
-    ensures bounds { IfOk result HasBounds }
+    ensures { result ≡ command_of reference (words_of line.now) }
 {
     let Some((word, rest)) = next_word(line) else {
         return Ok(Command::Nothing);
@@ -107,8 +104,7 @@ fn command_of(reference: Option<u64>, line: &[u8]) -> Result<Command, PlanKind>
 
 /// Reads the absolute time after `@`.
 fn reference_of(text: &[u8]) -> Result<Command, PlanKind>
-    ensures value { result ≡ reference_of (words_of text.now) }
-    ensures bounds { IfOk result HasBounds }
+    ensures { result ≡ reference_of (words_of text.now) }
 {
     let Some(word) = one_word(text) else {
         return Err(PlanKind::WrongOperands);
@@ -134,8 +130,7 @@ fn target_of(word: &[u8]) -> Option<Target>
 
 /// Reads the rest of a line after `a`.
 fn add_command(reference: Option<u64>, text: &[u8]) -> Result<Command, PlanKind>
-    ensures value { result ≡ targeted (addition_of reference) (words_of text.now) }
-    ensures bounds { IfOk result HasBounds }
+    ensures { result ≡ targeted (addition_of reference) (words_of text.now) }
 {
     let Some((word, operands)) = next_word(text) else {
         return Err(PlanKind::UnknownCommand);
@@ -148,8 +143,7 @@ fn add_command(reference: Option<u64>, text: &[u8]) -> Result<Command, PlanKind>
 
 /// Reads the rest of a line after `d`.
 fn delete_command(reference: Option<u64>, text: &[u8]) -> Result<Command, PlanKind>
-    ensures value { result ≡ targeted (deletion_of reference) (words_of text.now) }
-    ensures bounds { IfOk result HasBounds }
+    ensures { result ≡ targeted (deletion_of reference) (words_of text.now) }
 {
     let Some((word, operands)) = next_word(text) else {
         return Err(PlanKind::UnknownCommand);
@@ -162,8 +156,7 @@ fn delete_command(reference: Option<u64>, text: &[u8]) -> Result<Command, PlanKi
 
 /// Reads start, stop, two nodes, and a rate or a light time.
 fn addition_of(reference: Option<u64>, target: Target, text: &[u8]) -> Result<Command, PlanKind>
-    ensures value { result ≡ addition_of reference target (words_of text.now) }
-    ensures bounds { IfOk result HasBounds }
+    ensures { result ≡ addition_of reference target (words_of text.now) }
 {
     let Some((start, end, first, second, value)) = five_words(text) else {
         return Err(PlanKind::WrongOperands);
@@ -185,8 +178,7 @@ fn addition_of(reference: Option<u64>, target: Target, text: &[u8]) -> Result<Co
 
 /// Reads start and two nodes.
 fn deletion_of(reference: Option<u64>, target: Target, text: &[u8]) -> Result<Command, PlanKind>
-    ensures value { result ≡ deletion_of reference target (words_of text.now) }
-    ensures bounds { IfOk result HasBounds }
+    ensures { result ≡ deletion_of reference target (words_of text.now) }
 {
     let Some((start, first, second)) = three_words(text) else {
         return Err(PlanKind::WrongOperands);

@@ -1,7 +1,6 @@
 //! The operands of a plan line.
 
-ghost use Rattle.std.specs.Prelude.{◌≡◌, ◌<◌, ◌≤◌, Some, None, Ok, Err, IfSome, IfOk};
-ghost use Rattle.sabr_model.specs.Plan.{last_time};
+ghost use Rattle.std.specs.Prelude.{◌≡◌, Some, None, Ok, Err};
 ghost use Rattle.sabr_plan.specs.Operands.{relative_of, after_reference, absolute_time, time_at, node_of, greatest_value, value_of, both_of};
 
 use crate::command::Target;
@@ -36,8 +35,7 @@ pub fn after_reference(reference: Option<u64>, seconds: u64) -> Result<u64, Plan
 
 /// Reads an absolute time.
 pub fn absolute_time(word: &[u8]) -> Result<u64, PlanKind>
-    ensures value { result ≡ absolute_time word.now }
-    ensures bound { IfOk result (λ t. t ≤ last_time) }
+    ensures { result ≡ absolute_time word.now }
 {
     parse_time(word).ok_or(PlanKind::BadTime)
 }
@@ -45,8 +43,7 @@ pub fn absolute_time(word: &[u8]) -> Result<u64, PlanKind>
 /// Reads a time, absolute or relative to the reference.
 #[tactic(auto, unfolding(crate::specs::Operands::time_at))]
 pub fn time_at(reference: Option<u64>, word: &[u8]) -> Result<u64, PlanKind>
-    ensures value { result ≡ time_at reference word.now }
-    ensures bound { IfOk result (λ t. t ≤ last_time) }
+    ensures { result ≡ time_at reference word.now }
 {
     match relative_of(word) {
         Some(seconds) => after_reference(reference, seconds),
@@ -56,8 +53,7 @@ pub fn time_at(reference: Option<u64>, word: &[u8]) -> Result<u64, PlanKind>
 
 /// Reads a node.
 pub fn node_of(word: &[u8]) -> Result<u64, PlanKind>
-    ensures value { result ≡ node_of word.now }
-    ensures bound { IfOk result (λ n. 0 < n) }
+    ensures { result ≡ node_of word.now }
 {
     number_within(word, 1, u64::MAX).ok_or(PlanKind::BadNode)
 }
@@ -74,8 +70,7 @@ pub fn greatest_value(target: Target) -> u64
 
 /// Reads a rate or a light time.
 pub fn value_of(target: Target, word: &[u8]) -> Result<u64, PlanKind>
-    ensures value { result ≡ value_of target word.now }
-    ensures bound { IfOk result (λ v. v ≤ greatest_value target) }
+    ensures { result ≡ value_of target word.now }
 {
     number_within(word, 0, greatest_value(target)).ok_or(PlanKind::BadNumber)
 }

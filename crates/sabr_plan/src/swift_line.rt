@@ -1,11 +1,10 @@
 //! A fast reader of additions, in one pass over a line. It says nothing about other lines.
 
-ghost use Rattle.std.specs.Prelude.{◌≡◌, ◌≢◌, ◌≤◌, ℕ, List, Option, [], ◌∷◌, ◌++◌, Ok, Some, IfSome, IsTrue, IsFalse};
-ghost use Rattle.sabr_model.specs.Plan.{last_time};
+ghost use Rattle.std.specs.Prelude.{◌≡◌, ◌≢◌, ℕ, List, Option, [], ◌∷◌, ◌++◌, Ok, Some, IfSome, IsTrue, IsFalse};
 ghost use Rattle.sabr_plan.specs.Numbers.{number_within};
 ghost use Rattle.sabr_plan.specs.PlainWords.{IsAfterBlanks, IsAfterGap, IsAtEnd, IsFront, IsAhead, BeginsWithLine, AddsAhead};
 ghost use Rattle.sabr_plan.specs.Operands.{time_at, greatest_value};
-ghost use Rattle.sabr_plan.specs.Commands.{line_command, addition_of, HasBounds};
+ghost use Rattle.sabr_plan.specs.Commands.{line_command, addition_of};
 ghost use Rattle.sabr_plan.specs.Words.{is_one_line, words_of};
 ghost use Rattle.sabr_plan.specs.declared.command.Command.TheVariants.{Add};
 
@@ -90,7 +89,6 @@ fn after_gap(text: &[u8]) -> Option<&[u8]>
 fn number_ahead(low: u64, high: u64, text: &[u8]) -> Option<(u64, &[u8])>
     requires { IsFalse (is_one_line text.now) }
     ensures word { IfSome result (λ r. IsAhead (λ w. number_within low high w ≡ Some r.0) text.now r.1.now) }
-    ensures bounds { IfSome result (λ r. (low ≤ r.0) × (r.0 ≤ high)) }
     ensures ended { IfSome result (λ r. IsFalse (is_one_line r.1.now)) }
 {
     let (digits, word, rest) = leading_digits(after_gap(text)?, true);
@@ -102,8 +100,7 @@ fn number_ahead(low: u64, high: u64, text: &[u8]) -> Option<(u64, &[u8])>
 #[inline(always)]
 fn relative_front(reference: Option<u64>, text: &[u8]) -> Option<(u64, &[u8])>
     requires { IsFalse (is_one_line text.now) }
-    ensures word { IfSome result (λ r. IsFront (λ w. time_at reference w ≡ Ok r.0) text.now r.1.now) }
-    ensures bound { IfSome result (λ r. r.0 ≤ last_time) }
+    ensures { IfSome result (λ r. IsFront (λ w. time_at reference w ≡ Ok r.0) text.now r.1.now) }
 {
     let (seconds, digits, rest) = leading_digits(behind(text, b'+')?, true);
     if digits.is_empty() || digits.len() > 12 {
@@ -118,8 +115,7 @@ fn relative_front(reference: Option<u64>, text: &[u8]) -> Option<(u64, &[u8])>
 /// Reads an absolute time at the front of a text. Returns the time and the text after it.
 #[inline(always)]
 fn absolute_front<'a>(day: &mut KnownDay, text: &'a [u8]) -> Option<(u64, &'a [u8])>
-    ensures word { IfSome result (λ r. (reference : Option ℕ) → IsFront (λ w. time_at reference w ≡ Ok r.0) text.now r.1.now) }
-    ensures bound { IfSome result (λ r. r.0 ≤ last_time) }
+    ensures { IfSome result (λ r. (reference : Option ℕ) → IsFront (λ w. time_at reference w ≡ Ok r.0) text.now r.1.now) }
 {
     if text.len() < TIME_BYTES {
         return None;
@@ -137,8 +133,7 @@ fn time_front<'a>(
     text: &'a [u8],
 ) -> Option<(u64, &'a [u8])>
     requires { IsFalse (is_one_line text.now) }
-    ensures word { IfSome result (λ r. IsFront (λ w. time_at reference w ≡ Ok r.0) text.now r.1.now) }
-    ensures bound { IfSome result (λ r. r.0 ≤ last_time) }
+    ensures { IfSome result (λ r. IsFront (λ w. time_at reference w ≡ Ok r.0) text.now r.1.now) }
 {
     if text[0] == b'+' {
         return relative_front(reference, text);
@@ -156,7 +151,6 @@ fn time_ahead<'a>(
 ) -> Option<(u64, &'a [u8])>
     requires { IsFalse (is_one_line text.now) }
     ensures word { IfSome result (λ r. IsAhead (λ w. time_at reference w ≡ Ok r.0) text.now r.1.now) }
-    ensures bound { IfSome result (λ r. r.0 ≤ last_time) }
     ensures ended { IfSome result (λ r. IsFalse (is_one_line r.1.now)) }
 {
     let start = after_gap(text)?;
@@ -172,8 +166,7 @@ fn operands_ahead(
     text: &[u8],
 ) -> Option<Addition>
     requires { IsFalse (is_one_line text.now) }
-    ensures value { IfSome result (λ a. BeginsWithLine (λ line. addition_of reference target (words_of line) ≡ Ok (Add target a)) text.now) }
-    ensures bounds { IfSome result (λ a. HasBounds (Add target a)) }
+    ensures { IfSome result (λ a. BeginsWithLine (λ line. addition_of reference target (words_of line) ≡ Ok (Add target a)) text.now) }
 {
     let (start, rest) = time_ahead(reference, day, text)?;
     let (end, rest) = time_ahead(reference, day, rest)?;
@@ -209,8 +202,7 @@ fn target_ahead(line: &[u8]) -> Option<(Target, &[u8])>
 /// Returns the command of a line, given with its LF, if it is an addition that is quick to read. None says nothing.
 pub fn swift_addition(reference: Option<u64>, day: &mut KnownDay, text: &[u8]) -> Option<Command>
     requires { IsFalse (is_one_line text.now) }
-    ensures value { IfSome result (λ c. (line : List ℕ) → text.now ≡ line ++ 10 ∷ [] → IsTrue (is_one_line line) → line_command reference line ≡ Ok c) }
-    ensures bounds { IfSome result HasBounds }
+    ensures { IfSome result (λ c. (line : List ℕ) → text.now ≡ line ++ 10 ∷ [] → IsTrue (is_one_line line) → line_command reference line ≡ Ok c) }
 {
     let (target, text) = target_ahead(text)?;
     let addition = operands_ahead(reference, day, target, text)?;

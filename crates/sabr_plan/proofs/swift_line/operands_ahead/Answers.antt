@@ -1,5 +1,5 @@
 -- Five operands come one after another.
-use Rattle.std.proofs.Common.{◌≡◌, ℕ, List, [], ◌∷◌, Option, Ok, ap, refl, arith, rules, ok_or}
+use Rattle.std.proofs.Common.{◌≡◌, ℕ, List, [], ◌∷◌, Option, Ok, ap, refl, rules, ok_or}
 use Rattle.sabr_plan.specs.Operands.{time_at, node_of, value_of}
 use Rattle.sabr_plan.specs.Commands.{addition_of}
 use Rattle.sabr_plan.specs.declared.command.Addition.{Addition}
@@ -23,12 +23,9 @@ returns c =
     let line = more_words start (more_words end (more_words first (more_words second (more_words value (no_words (c.has_no_word.ensures (search rules))))))) in
     let greatest = c.greatest_value.ensures in
     record {
-      value = record {
-        line = line.line;
-        rest = line.rest;
-        parts = line.parts;
-        plain = from_blank line;
-        holds = rw line.has (added c.args.reference c.args.target start.front.word end.front.word first.front.word second.front.word value.front.word _ start.front.holds end.front.holds (ap (λ o. ok_or o BadNode) first.front.holds) (ap (λ o. ok_or o BadNode) second.front.holds) (ap (λ o. ok_or o BadNumber) (rw greatest at value.front.holds)));
-      };
-      bounds = (omega (arith, c.in_ok-first.ensures.bounds.0), omega (arith, c.in_ok-second.ensures.bounds.0), c.in_ok-end.ensures.bound, rw (← greatest) c.in_ok-value.ensures.bounds.1);
+      line = line.line;
+      rest = line.rest;
+      parts = line.parts;
+      plain = from_blank line;
+      holds = rw line.has (added c.args.reference c.args.target start.front.word end.front.word first.front.word second.front.word value.front.word _ start.front.holds end.front.holds (ap (λ o. ok_or o BadNode) first.front.holds) (ap (λ o. ok_or o BadNode) second.front.holds) (ap (λ o. ok_or o BadNumber) (rw greatest at value.front.holds)));
     }

@@ -17,9 +17,9 @@ unfolding line_command
 said reference Contact line name operands a comment plain words named value = rw (comment, plain, words, named) value
 said reference Range line name operands a comment plain words named value = rw (comment, plain, words, named) value
 
-pub returns-clause-value : goal.returns-clause-value
-returns-clause-value c line is one =
-    let h = c.in_ok-addition.ensures.value in
+pub returns : goal.returns
+returns c line is one =
+    let h = c.in_ok-addition.ensures in
     let adds = c.in_ok-target.ensures.adds in
     let back = from_line h in
     let first = first_a adds.first (more_words adds.name back) in
