@@ -19,7 +19,7 @@ pub mod Between
 pub mod MadeLayers
 pub mod Backward
 pub mod Front
-pub mod Entering
+pub mod Courses
 pub mod Law
 pub mod Queues
 pub mod FirstWays

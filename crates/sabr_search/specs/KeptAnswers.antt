@@ -19,6 +19,16 @@ asked p r a shut goal = record { plan = p.plan; request = r; table = p.table; sh
 abbrev pub AreListed : List Bool → List ℕ → Type 0
 AreListed shut nodes = (k : ℕ) → slice_index_or shut k false ≡ true → (i : ℕ) × (slice_get nodes i ≡ Some k)
 
+-- each of these nodes is shut
+abbrev pub AllShut : List Bool → List ℕ → Type 0
+AllShut shut nodes = (i k : ℕ) → slice_get nodes i ≡ Some k → slice_index_or shut k false ≡ true
+
+-- these nodes are those that are shut, each once
+pub record IsListing (shut : List Bool) (nodes : List ℕ) : Type 0 where
+  pub listed : AreListed shut nodes
+  pub all : AllShut shut nodes
+  pub once : (i j k : ℕ) → slice_get nodes i ≡ Some k → slice_get nodes j ≡ Some k → i ≡ j
+
 -- the numbers of the least way and when it delivers, or no numbers where there is no way
 pub record IsFoundWay (task : SearchTask) (left : ℕ) (numbers : List ℕ) (delivery : ℕ) : Type 0 where
   pub none : numbers ≡ [] → HasNoWayWithin task left
@@ -31,10 +41,6 @@ pub record IsAnswer {A : Type 0} (p : TabledPlan) (r : RouteRequest) (a : Answer
   pub goal_is : slice_get p.table goal ≡ Some r.destination
   pub listed : AreListed flags a.shut.items
   pub found : IsFoundWay (asked p r a flags goal) a.left a.way.items a.delivery
-
--- each of these nodes is shut
-abbrev pub AllShut : List Bool → List ℕ → Type 0
-AllShut shut nodes = (i k : ℕ) → slice_get nodes i ≡ Some k → slice_index_or shut k false ≡ true
 
 -- the search starts at the same node and no earlier, excludes the same numbers, shuts these nodes, too, and leaves no more hops
 pub record Covers {A : Type 0} (a : Answer A) (task : SearchTask) (left : ℕ) : Type 0 where

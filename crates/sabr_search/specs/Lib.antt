@@ -12,7 +12,7 @@ pub mod Limits
 pub mod Deadlines
 pub mod Picks
 pub mod Told
-pub mod Entering
+pub mod Course
 pub mod Part
 pub mod KeptAnswers
 pub mod Kept

@@ -1,11 +1,16 @@
 //! What a session keeps for its searches, all of one plan and request.
 
-ghost use Rattle.sabr_model.specs.Plan.{TabledPlan};
+ghost use Rattle.std.specs.Prelude.{ℕ, List, IfOk, IfSome, IfNone, IsTrue};
+ghost use Rattle.sabr_model.specs.Plan.{TabledPlan, IsPlan};
 ghost use Rattle.sabr_model.specs.Arrival.{RouteRequest};
+ghost use Rattle.sabr_model.specs.Route.{is_route};
+ghost use Rattle.sabr_search.specs.Course.{IsCourse};
 ghost use Rattle.sabr_search.specs.Kept.{IsKept};
 
 use crate::answers::Answers;
+use crate::course::Course;
 use crate::shut::Shut;
+use sabr_model::{NoMemory, Plan, Request};
 use std::alloc::{Allocator, Global};
 
 /// What is kept for the searches of one plan and request.
@@ -17,6 +22,8 @@ pub struct Kept<A: Allocator + Copy = Global> {
     pub answers: Answers<A>,
     /// The nodes that the last wide question shut.
     pub wide: Shut<A>,
+    /// Where the last prefix led, if one is known.
+    pub course: Option<Course<A>>,
 }
 
 impl<A: Allocator + Copy> Kept<A> {
@@ -27,6 +34,27 @@ impl<A: Allocator + Copy> Kept<A> {
         Kept {
             answers: Answers::new(alloc),
             wide: Shut::new(alloc),
+            course: None,
         }
+    }
+
+    /// Takes the course out, or opens one if there is none. None unless the plan has both the source and the destination.
+    pub fn take_course(
+        &mut self,
+        alloc: A,
+        plan: &Plan<A>,
+        request: &Request,
+    ) -> Result<Option<Course<A>>, NoMemory>
+        requires kept { IsKept plan.now request.now self.old }
+        ensures kept { IsKept plan.now request.now self.new }
+        ensures plan { IsPlan plan.now.plan }
+        ensures none { IfOk result (λ o. IfNone o ((s : List ℕ) → IsTrue (is_route plan.now.plan request.now s) → ⊥)) }
+        ensures some { IfOk result (λ o. IfSome o (IsCourse plan.now request.now)) }
+    {
+        plan.tell_rules();
+        if let Some(course) = self.course.take() {
+            return Ok(Some(course));
+        }
+        Course::open(alloc, plan, request)
     }
 }

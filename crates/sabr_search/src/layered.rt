@@ -7,13 +7,12 @@ ghost use Rattle.sabr_search.specs.Part.{IsLeast};
 ghost use Rattle.sabr_search.specs.Told.{hops_told};
 
 use crate::best::BestOf;
-use crate::enter::enter;
+use crate::course::Course;
 use crate::finger::rises;
 use crate::kept::Kept;
 use crate::layers::{Layers, Limits, NEVER};
 use crate::looks::Looks;
 use crate::part::Part;
-use crate::shut::Shut;
 use crate::task::Task;
 use sabr_index::Index;
 use sabr_model::{GhostCount, NoMemory, Plan, Request, Route};
@@ -27,8 +26,6 @@ use std::alloc::{Allocator, Global};
 pub struct Layered<A: Allocator + Copy = Global> {
     /// The allocator of the buffers.
     alloc: A,
-    /// The nodes that no route may pass.
-    shut: Shut<A>,
     /// Layers forward and backward.
     layers: Layers<A>,
     /// For each node, when the search starts.
@@ -47,7 +44,6 @@ impl<A: Allocator + Copy> Layered<A> {
     {
         Layered {
             alloc,
-            shut: Shut::new(alloc),
             layers: Layers::new(alloc),
             since: Vec::new(alloc),
             looks: Looks::new(),
@@ -79,25 +75,20 @@ impl<A: Allocator + Copy> Layered<A> {
     {
         self.begin();
         let plan = index.plan();
-        let Some((standing, goal)) = enter(
-            &mut self.shut,
-            &mut self.looks,
-            plan,
-            request,
-            part.prefix,
-        )?
-        else {
+        let opened = Course::open(self.alloc, plan, request)?;
+        let Some(mut course) = opened else {
             return Ok(None);
         };
+        let standing = course.go(&mut self.looks, plan, request, part.prefix)?;
         let in_order = rises(part.excluded);
         let task = Task::new(
             index,
             request,
-            &self.shut,
+            &course.shut,
             part.excluded,
             in_order,
             standing,
-            goal,
+            course.goal,
         );
         let left = request.max_hops() as usize - part.prefix.len();
         let limits = Limits {

@@ -4,8 +4,9 @@
 mod answer;
 mod answers;
 mod best;
+mod closed;
+mod course;
 mod deadlines;
-mod enter;
 mod finger;
 mod first_steps;
 mod fitting;

@@ -13,14 +13,12 @@ ghost use Rattle.sabr_search.specs.FirstSteps.{tabled_of};
 
 use crate::answers::{Near, breadth_of};
 use crate::best::BestOf;
-use crate::enter::enter;
 use crate::finger::rises;
 use crate::kept::Kept;
 use crate::looks::Looks;
 use crate::part::Part;
 use crate::question::Question;
 use crate::search::Search;
-use crate::shut::Shut;
 use crate::task::Task;
 use crate::wide::shut_few;
 use sabr_index::Index;
@@ -141,8 +139,6 @@ impl<A: Allocator + Copy> Search<A> {
 pub struct Settled<A: Allocator + Copy = Global> {
     /// The allocator of the buffers.
     alloc: A,
-    /// The nodes that no route may pass.
-    shut: Shut<A>,
     /// Nodes in order of arrival, and layers.
     search: Search<A>,
     /// The looks of the last call.
@@ -159,7 +155,6 @@ impl<A: Allocator + Copy> Settled<A> {
     {
         Settled {
             alloc,
-            shut: Shut::new(alloc),
             search: Search::new(alloc),
             looks: Looks::new(),
             calls: GhostCount::new(),
@@ -196,32 +191,30 @@ impl<A: Allocator + Copy> Settled<A> {
         ensures cut { IfOk result (IsCut index.now.plan request.now.max_hops part.entry.prefix.now self.new.looks.count) }
     {
         self.begin();
-        let Some((standing, goal)) = enter(
-            &mut self.shut,
-            &mut self.looks,
-            index.plan(),
-            request,
-            part.prefix,
-        )?
-        else {
+        let plan = index.plan();
+        let taken = kept.take_course(self.alloc, plan, request)?;
+        let Some(mut course) = taken else {
             return Ok(None);
         };
+        let standing = course.go(&mut self.looks, plan, request, part.prefix)?;
         let task = Task::new(
             index,
             request,
-            &self.shut,
+            &course.shut,
             part.excluded,
             in_order,
             standing,
-            goal,
+            course.goal,
         );
-        self.search.least_beside(
+        let answer = self.search.least_beside(
             kept,
             &task,
             &mut self.looks,
             request.max_hops(),
             part.prefix,
-        )
+        );
+        kept.course = Some(course);
+        answer
     }
 }
 

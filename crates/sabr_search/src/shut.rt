@@ -1,7 +1,7 @@
 //! The nodes that a search may not enter.
 
-ghost use Rattle.std.specs.Prelude.{◌≡◌, ℕ, ◌<◌, [], false, true, length, slice_index_or, slice_set, OnOk};
-ghost use Rattle.sabr_search.specs.KeptAnswers.{AreListed};
+ghost use Rattle.std.specs.Prelude.{◌≡◌, ℕ, ◌<◌, [], Some, false, true, length, slice_get, slice_index_or, slice_set, IfSome, IfNone, OnOk};
+ghost use Rattle.sabr_search.specs.KeptAnswers.{IsListing};
 
 use sabr_model::NoMemory;
 use std::alloc::{Allocator, Global};
@@ -16,13 +16,28 @@ pub struct Shut<A: Allocator + Copy = Global> {
 
 impl<A: Allocator + Copy> Model for Shut<A> {
     ghost use Rattle.std.specs.Prelude.{Bool, List};
-    ghost use Rattle.sabr_search.specs.KeptAnswers.{AreListed};
+    ghost use Rattle.sabr_search.specs.KeptAnswers.{IsListing};
 
     ghost Value = { List Bool };
 
     ghost view = { λ s. s.flags.items };
 
-    ghost invariant = { λ s. AreListed s.flags.items s.nodes.items };
+    ghost invariant = { λ s. IsListing s.flags.items s.nodes.items };
+}
+
+/// Returns the last place of a node in a list.
+fn last_place(nodes: &[usize], node: usize) -> Option<usize>
+    ensures some { IfSome result (λ place. slice_get nodes.now place ≡ Some node) }
+    ensures none { IfNone result ((place : ℕ) → slice_get nodes.now place ≡ Some node → ⊥) }
+{
+    let mut end = nodes.len();
+    while 0 < end {
+        end -= 1;
+        if nodes[end] == node {
+            return Some(end);
+        }
+    }
+    None
 }
 
 impl<A: Allocator + Copy> Shut<A> {
@@ -52,9 +67,22 @@ impl<A: Allocator + Copy> Shut<A> {
         requires { node < length self.old }
         ensures { OnOk result (self.new ≡ slice_set self.old node true) }
     {
-        self.nodes.push(node)?;
-        self.flags[node] = true;
+        if !self.flags[node] {
+            self.nodes.push(node)?;
+            self.flags[node] = true;
+        }
         Ok(())
+    }
+
+    /// Opens a node, in one step if it is the one that was shut last.
+    pub fn open(&mut self, node: usize)
+        requires { node < length self.old }
+        ensures { self.new ≡ slice_set self.old node false }
+    {
+        self.flags[node] = false;
+        if let Some(place) = last_place(&self.nodes, node) {
+            self.nodes.swap_remove(place);
+        }
     }
 
     /// By node whether it is shut.
@@ -64,9 +92,9 @@ impl<A: Allocator + Copy> Shut<A> {
         self.flags.as_slice()
     }
 
-    /// The nodes that are shut.
+    /// The nodes that are shut, each once.
     pub fn nodes(&self) -> &[usize]
-        ensures { AreListed self.now result.now }
+        ensures { IsListing self.now result.now }
     {
         self.nodes.as_slice()
     }

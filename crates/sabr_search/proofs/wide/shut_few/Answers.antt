@@ -3,7 +3,7 @@ use Rattle.std.proofs.lemmas.Bool.{cases_lt, both_ways}
 use Rattle.std.proofs.lemmas.Option.{slice_get-get_or}
 use Rattle.std.proofs.lemmas.Grind.{common_steps}
 use Rattle.sabr_search.specs.Task.{SearchTask, IsTask, IsOfRequest, is_closed}
-use Rattle.sabr_search.specs.Entering.{AreShut}
+use Rattle.sabr_search.specs.Course.{AreShut}
 use Rattle.sabr_search.specs.Answers.{narrowed}
 use Rattle.sabr_search.specs.WideTasks.{ShutsFewer}
 use Rattle.sabr_search.proofs.Queues.{flag_here, flag_other, flag_many}

@@ -1,58 +1,61 @@
-use Rattle.std.proofs.Common.{sym, ap, arith}
+use Rattle.std.proofs.Common.{◌+◌, ◌*◌, ◌≤◌, length, sym, subst, ap, arith}
 use Rattle.std.specs.Option.{option_map}
 use Rattle.sabr_model.specs.Record.{record_of}
 use Rattle.sabr_model.specs.Table.{node_count}
-use Rattle.sabr_search.specs.Task.{SearchTask, IsTask, IsBehind, task_of}
+use Rattle.sabr_search.specs.Course.{IsCourse}
 use Rattle.sabr_search.proofs.Prefixes.{prefix_facts}
 use Rattle.sabr_search.proofs.Least.{none_is}
-use Rattle.sabr_search.proofs.Law.{prefix_few, prefix_looks}
+use Rattle.sabr_search.proofs.Law.{prefix_looks}
 use Rattle.sabr_search.proofs.Shortness.{nodes_few}
 use Rattle.sabr_search.proofs.settled.Settled.find.Goals as goal
 
-pub returns-in_err-standing-clause-bound : goal.returns-in_err-standing-clause-bound
-returns-in_err-standing-clause-bound g c =
-    prefix_looks c.args.index.now.plan c.args.request.now c.args.part.prefix.now (prefix_facts c.args.index.now.plan c.args.request.now c.args.part.prefix.now c.requires.fits) (node_count c.args.index.now.plan.contacts) c.enter.new.looks.count (omega (arith, c.enter.ensures.looks, c.begin.ensures.looks))
+pub returns-in_err-taken-clause-kept : goal.returns-in_err-taken-clause-kept
+returns-in_err-taken-clause-kept g c = rw c.plan-plan.ensures at c.take_course.ensures.kept
+
+pub returns-in_default-clause-kept : goal.returns-in_default-clause-kept
+returns-in_default-clause-kept g c = rw c.plan-plan.ensures at c.take_course.ensures.kept
 
 pub returns-in_default-clause-least : goal.returns-in_default-clause-least
 returns-in_default-clause-least g c =
     let p = c.args.index.now.plan in
     let r = c.args.request.now in
-    let none = rw (c.plan.ensures, c.in_default.is) at c.in_ok-standing.ensures.none in
-    sym (ap (option_map (record_of p r)) (none_is p r c.args.part.prefix.now c.args.part.excluded.now (rw c.plan.ensures at c.enter.ensures.plan) (λ m route on. none m route)))
+    let none = rw (c.plan-plan.ensures, c.in_default.is) at c.in_ok-taken.ensures.none in
+    sym (ap (option_map (record_of p r)) (none_is p r c.args.part.prefix.now c.args.part.excluded.now (rw c.plan-plan.ensures at c.take_course.ensures.plan) (λ m route on. none m route)))
 
-pub returns-in_default-clause-bound : goal.returns-in_default-clause-bound
-returns-in_default-clause-bound g c =
-    prefix_looks c.args.index.now.plan c.args.request.now c.args.part.prefix.now (prefix_facts c.args.index.now.plan c.args.request.now c.args.part.prefix.now c.requires.fits) (node_count c.args.index.now.plan.contacts) c.enter.new.looks.count (omega (arith, c.enter.ensures.looks, c.begin.ensures.looks))
+pub go-requires-clause-course : goal.go-requires-clause-course
+go-requires-clause-course g c = rw c.in-Some.is at c.in_ok-taken.ensures.some
 
-pub returns-in_default-clause-cut : goal.returns-in_default-clause-cut
-returns-in_default-clause-cut g c = λ most.
-    let facts = prefix_facts c.args.index.now.plan c.args.request.now c.args.part.prefix.now c.requires.fits in
-    omega (arith, c.enter.ensures.looks, c.begin.ensures.looks, prefix_few c.args.index.now.plan c.args.request.now c.args.part.prefix.now facts)
+pub go-requires-clause-fits : goal.go-requires-clause-fits
+go-requires-clause-fits g c = rw c.plan-plan.ensures c.requires.fits
 
-pub least_beside-requires-clause-task : goal.least_beside-requires-clause-task
-least_beside-requires-clause-task g c =
-    let p = c.args.index.now in
-    let task : SearchTask = task_of p c.args.request.now c.enter.new.shut c.args.part.excluded.now c.in-Some.standing.node c.in-Some.standing.at c.in-Some.goal in
-    let found = rw (c.plan.ensures, c.in-Some.is) at c.in_ok-standing.ensures.some in
-    let both : IsTask task × IsBehind task c.args.part.prefix.now = found c.args.part.excluded.now in
-    rw (c.new-task.ensures) both.0
+pub returns-in_err-standing-clause-bound : goal.returns-in_err-standing-clause-bound
+returns-in_err-standing-clause-bound g c =
+    prefix_looks c.args.index.now.plan c.args.request.now c.args.part.prefix.now (prefix_facts c.args.index.now.plan c.args.request.now c.args.part.prefix.now c.requires.fits) (node_count c.args.index.now.plan.contacts) c.go.new.looks.count (omega (arith, c.go.ensures.looks, c.begin.ensures.looks))
 
-pub least_beside-requires-clause-behind : goal.least_beside-requires-clause-behind
-least_beside-requires-clause-behind g c =
-    let p = c.args.index.now in
-    let task : SearchTask = task_of p c.args.request.now c.enter.new.shut c.args.part.excluded.now c.in-Some.standing.node c.in-Some.standing.at c.in-Some.goal in
-    let found = rw (c.plan.ensures, c.in-Some.is) at c.in_ok-standing.ensures.some in
-    let both : IsTask task × IsBehind task c.args.part.prefix.now = found c.args.part.excluded.now in
-    rw (c.new-task.ensures) both.1
+pub returns-in_err-standing-clause-kept : goal.returns-in_err-standing-clause-kept
+returns-in_err-standing-clause-kept g c = rw c.plan-plan.ensures at c.take_course.ensures.kept
 
-pub least_beside-requires-clause-fits : goal.least_beside-requires-clause-fits
-least_beside-requires-clause-fits g c = rw c.new-task.ensures c.requires.fits
+pub least_beside-answer-requires-clause-task : goal.least_beside-answer-requires-clause-task
+least_beside-answer-requires-clause-task g c =
+    let found = rw c.plan-plan.ensures at c.in_ok-standing.ensures.entered in
+    rw c.new-task.ensures (found c.args.part.excluded.now).0
 
-pub least_beside-requires-clause-nodes : goal.least_beside-requires-clause-nodes
-least_beside-requires-clause-nodes g c = rw c.new-task.ensures (nodes_few c.args.index.now (rw c.plan.ensures at c.enter.ensures.plan) (rw c.plan.ensures at c.enter.ensures.tabled))
+pub least_beside-answer-requires-clause-behind : goal.least_beside-answer-requires-clause-behind
+least_beside-answer-requires-clause-behind g c =
+    let found = rw c.plan-plan.ensures at c.in_ok-standing.ensures.entered in
+    rw c.new-task.ensures (found c.args.part.excluded.now).1
 
-pub least_beside-requires-clause-kept : goal.least_beside-requires-clause-kept
-least_beside-requires-clause-kept g c = rw c.new-task.ensures c.requires.kept
+pub least_beside-answer-requires-clause-nodes : goal.least_beside-answer-requires-clause-nodes
+least_beside-answer-requires-clause-nodes g c =
+    let course : IsCourse c.args.index.now c.args.request.now c.go.new.self = rw c.plan-plan.ensures at c.in_ok-standing.ensures.course in
+    rw c.new-task.ensures (nodes_few c.args.index.now course.plan course.tabled)
 
 pub returns-clause-kept : goal.returns-clause-kept
-returns-clause-kept g c = rw c.new-task.ensures at c.least_beside.ensures.kept
+returns-clause-kept g c =
+    let kept = rw c.new-task.ensures at c.least_beside-answer.ensures.kept in
+    (kept.0, rw c.plan-plan.ensures at c.in_ok-standing.ensures.course)
+
+pub returns-clause-bound : goal.returns-clause-bound
+returns-clause-bound g c =
+    let course : IsCourse c.args.index.now c.args.request.now c.go.new.self = rw c.plan-plan.ensures at c.in_ok-standing.ensures.course in
+    subst (λ n. c.least_beside-answer.new.looks.count ≤ (3 * n + 1) * length c.args.index.now.plan.contacts) course.nodes (rw c.new-task.ensures at c.least_beside-answer.ensures.bound)

@@ -2,9 +2,9 @@ use Rattle.std.proofs.Common.{◌≡◌, Some, take, slice_index, slice_get, ◌
 use Rattle.std.proofs.lemmas.List.{take_all}
 use Rattle.std.proofs.lemmas.Option.{slice_get-get_or}
 use Rattle.sabr_model.specs.Plan.{has}
-use Rattle.sabr_search.proofs.Entering.{shut_more, shut_same, has_more, has_other}
-use Rattle.sabr_search.proofs.enter.shut_avoided.Goals as goal
-use Rattle.sabr_search.proofs.enter.shut_avoided.Goals.{in-Some+in_ok-put, in_default}
+use Rattle.sabr_search.proofs.Courses.{shut_more, shut_same, has_more, has_other}
+use Rattle.sabr_search.proofs.closed.shut_avoided.Goals as goal
+use Rattle.sabr_search.proofs.closed.shut_avoided.Goals.{in-Some+in_ok-put, in_default}
 
 pub loop-node-preserved : goal.loop-node-preserved
 loop-node-preserved g c =

@@ -2,8 +2,8 @@ use Rattle.std.proofs.Common.{◌≡◌, Bool, true, false, ◌||◌, [], refl, 
 use Rattle.std.proofs.lemmas.Bool.{ne_eqb, both_ways}
 use Rattle.sabr_model.specs.Plan.{has}
 use Rattle.sabr_search.specs.Task.{is_closed}
-use Rattle.sabr_search.proofs.Entering.{shut_more, shut_same, closed_none}
-use Rattle.sabr_search.proofs.wide.shut_closed.Goals as goal
+use Rattle.sabr_search.proofs.Courses.{shut_more, shut_same, closed_none}
+use Rattle.sabr_search.proofs.closed.shut_closed.Goals as goal
 
 or_false : (b : Bool) → (b || false) ≡ b
 or_false true = refl

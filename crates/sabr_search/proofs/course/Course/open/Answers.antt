@@ -1,0 +1,38 @@
+use Rattle.std.proofs.Common.{◌≡◌, ◌+◌, [], ◌∷◌, ◌++◌, Some, length, ap, sym, subst, ◌∙◌}
+use Rattle.sabr_model.specs.Plan.{has}
+use Rattle.sabr_model.proofs.Prefixes.{empty_is_prefix}
+use Rattle.sabr_search.specs.declared.pick.Standing.{Standing}
+use Rattle.sabr_search.specs.Course.{AreStops}
+use Rattle.sabr_search.proofs.PlanFacts.{has_nodes}
+use Rattle.sabr_search.proofs.Courses.{no_source, no_destination, first_stop}
+use Rattle.sabr_search.proofs.course.Course.open.Goals as goal
+
+pub returns-in_default-clause-none : goal.returns-in_default-clause-none
+returns-in_default-clause-none g c =
+    no_source c.args.plan.now.plan c.args.request.now c.args.plan.now.table (has_nodes c.args.plan.now c.nodes-nodes.ensures.tabled) (ap (λ x. has x c.args.plan.now.table) (sym c.from.ensures.value) ∙ c.in_default.ensures)
+
+pub returns-in_default-node_index-clause-none : goal.returns-in_default-node_index-clause-none
+returns-in_default-node_index-clause-none g c =
+    no_destination c.args.plan.now.plan c.args.request.now c.args.plan.now.table (has_nodes c.args.plan.now c.nodes-nodes.ensures.tabled) (ap (λ x. has x c.args.plan.now.table) (sym c.to.ensures.value) ∙ c.in_default-node_index.ensures)
+
+pub shut_closed-requires-clause-nodes : goal.shut_closed-requires-clause-nodes
+shut_closed-requires-clause-nodes g c = has_nodes c.args.plan.now c.nodes-nodes.ensures.tabled
+
+pub returns-clause-some : goal.returns-clause-some
+returns-clause-some g c =
+    let p = c.args.plan.now in
+    let r = c.args.request.now in
+    let stop : Standing = record { node = c.in-Some.source; at = c.at.result } in
+    let one : c.push.new.self.items ≡ stop ∷ [] = c.in_ok-push.ensures.items ∙ ap (λ xs. xs ++ stop ∷ []) c.new-stops.ensures.items in
+    let none = c.new.ensures.items in
+    record {
+      plan = c.tell_rules.ensures;
+      tabled = c.nodes-nodes.ensures.tabled;
+      nodes = sym c.nodes-nodes.ensures.table ∙ c.nodes-nodes.ensures.value;
+      asked = c.from.ensures.limits;
+      fits = rw none (empty_is_prefix p.plan r);
+      many = ap length one ∙ ap (λ xs. length xs + 1) (sym none);
+      stops = rw none (subst (AreStops p r []) (sym one) (first_stop p r stop (c.in-Some.ensures ∙ ap Some c.from.ensures.value) c.at.ensures.value));
+      shuts = rw none c.in_ok-shut_closed.ensures;
+      goal_is = c.in-Some-node_index.ensures ∙ ap Some c.to.ensures.value;
+    }

@@ -1,0 +1,118 @@
+//! Where a prefix leads, stop by stop, so that the next one goes on from what both have in common.
+
+ghost use Rattle.std.specs.Prelude.{◌≡◌, ℕ, List, ◌+◌, ◌^◌, ◌≤◌, IfOk, IfSome, IfNone, OnOk, IsTrue, length, take};
+ghost use Rattle.sabr_model.specs.Plan.{IsPlan};
+ghost use Rattle.sabr_model.specs.Route.{is_route, is_prefix};
+ghost use Rattle.sabr_search.specs.Course.{IsCourse, IsEntered};
+
+use crate::closed::shut_closed;
+use crate::looks::Looks;
+use crate::pick::Standing;
+use crate::shut::Shut;
+use sabr_model::{NoMemory, Plan, Request};
+use std::alloc::{Allocator, Global};
+
+/// Where the last prefix of a request over a plan led.
+#[derive(Drop)]
+pub struct Course<A: Allocator + Copy = Global> {
+    /// The numbers of the prefix.
+    numbers: Vec<u32, A>,
+    /// Where its first numbers lead, for each count of them from 0 on.
+    stops: Vec<Standing, A>,
+    /// The nodes that no route goes on to: those of the stops, and those to avoid.
+    pub shut: Shut<A>,
+    /// The index of the destination.
+    pub goal: usize,
+}
+
+/// Returns how many numbers two lists have in common at their fronts.
+fn common_front(one: &[u32], other: &[u32]) -> usize
+    ensures within { result ≤ length one.now }
+    ensures within_other { result ≤ length other.now }
+    ensures same { take result one.now ≡ take result other.now }
+{
+    let most = one.len().min(other.len());
+    for place in 0..most {
+        if one[place] != other[place] {
+            return place;
+        }
+    }
+    most
+}
+
+impl<A: Allocator + Copy> Course<A> {
+    /// Opens a course at the source. None unless the plan has both the source and the destination.
+    pub fn open(alloc: A, plan: &Plan<A>, request: &Request) -> Result<Option<Course<A>>, NoMemory>
+        ensures plan { IsPlan plan.now.plan }
+        ensures none { IfOk result (λ o. IfNone o ((s : List ℕ) → IsTrue (is_route plan.now.plan request.now s) → ⊥)) }
+        ensures some { IfOk result (λ o. IfSome o (IsCourse plan.now request.now)) }
+    {
+        plan.tell_rules();
+        let nodes = plan.nodes();
+        let Some(source) = plan.node_index(request.from()) else {
+            return Ok(None);
+        };
+        let Some(goal) = plan.node_index(request.to()) else {
+            return Ok(None);
+        };
+        let mut shut = Shut::new(alloc);
+        shut.open_all(nodes)?;
+        shut_closed(&mut shut, plan, request)?;
+        let mut stops = Vec::new(alloc);
+        stops.push(Standing {
+            node: source,
+            at: request.at(),
+        })?;
+        Ok(Some(Course {
+            numbers: Vec::new(alloc),
+            stops,
+            shut,
+            goal,
+        }))
+    }
+
+    /// Goes along a prefix that fits, and returns where it leads: one look for each number after those that it has in
+    /// common with the last prefix.
+    ///
+    /// If a growth is refused, the course is of no more use.
+    pub fn go(
+        &mut self,
+        looks: &mut Looks,
+        plan: &Plan<A>,
+        request: &Request,
+        prefix: &[u32],
+    ) -> Result<Standing, NoMemory>
+        requires course { IsCourse plan.now request.now self.old }
+        requires fits { IsTrue (is_prefix plan.now.plan request.now prefix.now) }
+        requires few { looks.old.count + length prefix.now ≤ 2 ^ 62 }
+        ensures looks { looks.new.count ≤ looks.old.count + length prefix.now }
+        ensures course { OnOk result (IsCourse plan.now request.now self.new) }
+        ensures entered { IfOk result (λ standing. IsEntered plan.now request.now prefix.now self.new.shut standing.node standing.at self.new.goal) }
+    {
+        let front = common_front(&self.numbers, prefix);
+        while self.stops.len() > front + 1 {
+            let Some(stop) = self.stops.pop() else {
+                unreachable!();
+            };
+            self.shut.open(stop.node);
+        }
+        let mut standing = self.stops[front];
+        for place in front..prefix.len() {
+            let Some(hop) = looks.hop(plan, prefix[place]) else {
+                unreachable!();
+            };
+            let Some(at) = hop.arrive(request, standing.at) else {
+                unreachable!();
+            };
+            standing = Standing {
+                node: hop.receiver,
+                at,
+            };
+            self.shut.put(standing.node)?;
+            self.stops.push(standing)?;
+        }
+        self.numbers.clear();
+        self.numbers.extend_from_slice(prefix)?;
+        Ok(standing)
+    }
+}
