@@ -29,6 +29,11 @@ returns-in_default-clause-cut g c = λ most.
     let facts = prefix_facts c.args.index.now.plan c.args.request.now c.args.part.prefix.now c.requires.fits in
     omega (arith, c.enter.ensures.looks, c.begin.ensures.looks, prefix_few c.args.index.now.plan c.args.request.now c.args.part.prefix.now facts)
 
+pub open-requires-clause-few : goal.open-requires-clause-few
+open-requires-clause-few g c =
+    let facts = prefix_facts c.args.index.now.plan c.args.request.now c.args.part.prefix.now c.requires.fits in
+    omega (arith, c.enter.ensures.looks, c.begin.ensures.looks, prefix_few c.args.index.now.plan c.args.request.now c.args.part.prefix.now facts)
+
 pub least_beside-requires-clause-task : goal.least_beside-requires-clause-task
 least_beside-requires-clause-task g c =
     let p = c.args.index.now in
@@ -52,7 +57,7 @@ pub least_beside-requires-clause-nodes : goal.least_beside-requires-clause-nodes
 least_beside-requires-clause-nodes g c = rw c.new-task.ensures (nodes_few c.args.index.now (rw c.plan.ensures at c.enter.ensures.plan) (rw c.plan.ensures at c.enter.ensures.tabled))
 
 pub least_beside-requires-clause-kept : goal.least_beside-requires-clause-kept
-least_beside-requires-clause-kept g c = rw c.new-task.ensures c.requires.kept
+least_beside-requires-clause-kept g c = rw c.new-task.ensures c.open.ensures.kept
 
 pub returns-clause-kept : goal.returns-clause-kept
 returns-clause-kept g c = rw c.new-task.ensures at c.least_beside.ensures.kept
