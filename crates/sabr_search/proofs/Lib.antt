@@ -31,6 +31,7 @@ pub mod FirstLimits
 pub mod Cuts
 pub mod FaultsOfPrefixes
 pub mod Around
+pub mod LastSeconds
 pub mod Beside
 pub mod Since
 pub mod Ended

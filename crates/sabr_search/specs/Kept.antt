@@ -4,8 +4,9 @@ use Rattle.sabr_model.specs.Plan.{TabledPlan}
 use Rattle.sabr_model.specs.Arrival.{RouteRequest}
 use Rattle.sabr_search.specs.declared.kept.Kept.{Kept}
 use Rattle.sabr_search.specs.Course.{IsCourse}
+use Rattle.sabr_search.specs.Reach.{IsReach}
 use Rattle.sabr_search.specs.KeptAnswers.{IsAnswer}
 
 -- what is kept is true of the plan and the request
 abbrev pub IsKept : {A : Type 0} → TabledPlan → RouteRequest → Kept A → Type 0
-IsKept p r kept = All (IsAnswer p r) kept.answers.slots.items × IfSome kept.course (IsCourse p r)
+IsKept p r kept = IsReach p r kept.reach × All (IsAnswer p r) kept.answers.slots.items × IfSome kept.course (IsCourse p r)

@@ -15,6 +15,8 @@ pub mod Told
 pub mod Course
 pub mod Part
 pub mod KeptAnswers
+pub mod Reach
+pub mod Latest
 pub mod Kept
 pub mod FirstSteps
 pub mod Answers

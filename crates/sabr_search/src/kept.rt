@@ -1,6 +1,6 @@
 //! What a session keeps for its searches, all of one plan and request.
 
-ghost use Rattle.std.specs.Prelude.{ℕ, List, IfOk, IfSome, IfNone, IsTrue};
+ghost use Rattle.std.specs.Prelude.{◌≤◌, ◌*◌, ℕ, List, IfOk, IfSome, IfNone, IsTrue, length};
 ghost use Rattle.sabr_model.specs.Plan.{TabledPlan, IsPlan};
 ghost use Rattle.sabr_model.specs.Arrival.{RouteRequest};
 ghost use Rattle.sabr_model.specs.Route.{is_route};
@@ -9,7 +9,10 @@ ghost use Rattle.sabr_search.specs.Kept.{IsKept};
 
 use crate::answers::Answers;
 use crate::course::Course;
+use crate::looks::Looks;
+use crate::reach::Reach;
 use crate::shut::Shut;
+use sabr_index::Index;
 use sabr_model::{NoMemory, Plan, Request};
 use std::alloc::{Allocator, Global};
 
@@ -18,6 +21,12 @@ use std::alloc::{Allocator, Global};
 /// An answer doesn't depend on what is kept. If a growth is refused, what it was for is left out.
 #[derive(Drop)]
 pub struct Kept<A: Allocator + Copy = Global> {
+    /// Where it takes its memory.
+    alloc: A,
+    /// What bounds every search.
+    pub reach: Reach<A>,
+    /// Whether that is still to be found.
+    is_new: bool,
     /// Answers to questions so far.
     pub answers: Answers<A>,
     /// The nodes that the last wide question shut.
@@ -32,10 +41,41 @@ impl<A: Allocator + Copy> Kept<A> {
         ensures { (p : TabledPlan) (r : RouteRequest) → IsKept p r result }
     {
         Kept {
+            alloc,
+            reach: Reach::new(alloc),
+            is_new: true,
             answers: Answers::new(alloc),
             wide: Shut::new(alloc),
             course: None,
         }
+    }
+
+    /// Makes an empty value for one search alone, for which nothing is found first. It takes no memory.
+    pub fn for_one(alloc: A) -> Kept<A>
+        ensures { (p : TabledPlan) (r : RouteRequest) → IsKept p r result }
+    {
+        let mut kept = Kept::new(alloc);
+        kept.is_new = false;
+        kept
+    }
+
+    /// Finds what bounds every search, before the first one. Nothing is known if two looks at each contact aren't enough,
+    /// or if a growth is refused.
+    pub fn open(&mut self, looks: &mut Looks, index: &Index<'_, A>, request: &Request)
+        requires kept { IsKept index.now request.now self.old }
+        requires few { looks.old.count ≤ 2 * length index.now.plan.contacts }
+        ensures kept { IsKept index.now request.now self.new }
+        ensures looks { looks.new.count ≤ 2 * length index.now.plan.contacts }
+    {
+        if !self.is_new {
+            return;
+        }
+        self.is_new = false;
+        let most = 2 * index.plan().contacts().len() as u64;
+        let Ok(reach) = Reach::of(self.alloc, looks, index, request, most) else {
+            return;
+        };
+        self.reach = reach;
     }
 
     /// Takes the course out, or opens one if there is none. None unless the plan has both the source and the destination.

@@ -6,7 +6,7 @@ ghost use Rattle.sabr_search.specs.Told.{hops_told, IsCut};
 ghost use Rattle.sabr_search.specs.KeptAnswers.{IsFoundWay};
 ghost use Rattle.sabr_search.specs.Answers.{IsAnswered};
 ghost use Rattle.sabr_search.specs.Late.{AreArrivals};
-ghost use Rattle.sabr_search.specs.Settling.{IsFirstWay};
+ghost use Rattle.sabr_search.specs.Settling.{IsBound, IsFirstWay};
 
 use crate::answers::FoundWay;
 use crate::from_goal::Aim;
@@ -15,6 +15,7 @@ use crate::limits::limits_of;
 use crate::looks::Looks;
 use crate::pick::Standing;
 use crate::question::Question;
+use crate::reach::Reach;
 use crate::settling::{Forward, Settling};
 use crate::task::Task;
 use sabr_model::{NoMemory, Route};
@@ -46,10 +47,12 @@ impl<A: Allocator + Copy> Search<A> {
     fn first_way(
         &mut self,
         task: &Task<'_, A>,
+        reach: &Reach<A>,
         looks: &mut Looks,
         most: u64,
     ) -> Result<Option<Best>, NoMemory>
         requires task { IsTask task.now }
+        requires bound { IsBound task.now reach.now.late.items }
         requires few { looks.old.count ≤ most }
         requires most { most ≤ 2 ^ 62 }
         ensures looks { looks.new.count ≤ most }
@@ -62,7 +65,10 @@ impl<A: Allocator + Copy> Search<A> {
         if !whole {
             return Ok(None);
         }
-        let forward = Forward { task, late: &[] };
+        let forward = Forward {
+            task,
+            late: &reach.late,
+        };
         let found = self.settling.run(&forward, looks, &self.first, most)?;
         Ok(found)
     }
@@ -71,18 +77,20 @@ impl<A: Allocator + Copy> Search<A> {
     pub fn way_within(
         &mut self,
         task: &Task<'_, A>,
+        reach: &Reach<A>,
         looks: &mut Looks,
         most: u64,
         left: usize,
     ) -> Result<Option<FoundWay<A>>, NoMemory>
         requires task { IsTask task.now }
+        requires bound { IsBound task.now reach.now.late.items }
         requires nodes { length task.now.table ≤ most_nodes }
         requires few { looks.old.count ≤ most }
         requires most { most ≤ 2 ^ 60 }
         ensures looks { looks.new.count ≤ most }
         ensures found { IfOk result (λ o. IfSome o (λ found. IsFoundWay task.now left found.numbers.items found.delivery)) }
     {
-        let found = self.first_way(task, looks, most)?;
+        let found = self.first_way(task, reach, looks, most)?;
         let Some(first) = found else {
             return Ok(None);
         };
@@ -109,9 +117,11 @@ impl<A: Allocator + Copy> Search<A> {
     pub fn least_route(
         &mut self,
         asked: &Question<'_, '_, '_, A>,
+        reach: &Reach<A>,
         looks: &mut Looks,
     ) -> Result<Option<Route<A>>, NoMemory>
         requires asked { IsAsked asked.now.task.now asked.now.prefix.now asked.now.max_hops }
+        requires bound { IsBound asked.now.task.now reach.now.late.items }
         requires few { looks.old.count ≤ 2 * length asked.now.task.now.plan.contacts }
         ensures answered { IfOk result (IsAnswered asked.now.task.now asked.now.prefix.now (asked.now.max_hops - length asked.now.prefix.now)) }
         ensures bound { looks.new.count ≤ (3 * length asked.now.task.now.table + 1) * length asked.now.task.now.plan.contacts }
@@ -120,7 +130,7 @@ impl<A: Allocator + Copy> Search<A> {
     {
         let task = asked.task;
         let most = task.three_passes();
-        let found = self.first_way(task, looks, most)?;
+        let found = self.first_way(task, reach, looks, most)?;
         let Some(first) = found else {
             unreachable!();
         };

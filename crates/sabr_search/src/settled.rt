@@ -54,7 +54,7 @@ impl<A: Allocator + Copy> Search<A> {
         kept.answers.shut_near(&mut kept.wide, task, near)?;
         let left = asked.left();
         let question = task.with_shut(&kept.wide);
-        let found = self.way_within(&question, looks, most, left)?;
+        let found = self.way_within(&question, &kept.reach, looks, most, left)?;
         let Some(way) = found else {
             return Ok(None);
         };
@@ -86,7 +86,7 @@ impl<A: Allocator + Copy> Search<A> {
         if let Some(answer) = wide {
             return Ok(answer);
         }
-        let answer = self.least_route(asked, looks)?;
+        let answer = self.least_route(asked, &kept.reach, looks)?;
         kept.answers.keep_after(task, asked.prefix, left, &answer);
         Ok(answer)
     }
@@ -105,7 +105,7 @@ impl<A: Allocator + Copy> Search<A> {
         requires fits { IsTrue (is_prefix task.now.plan task.now.request prefix.now) }
         requires hops { max_hops ≡ task.now.request.max_hops }
         requires nodes { length task.now.table ≤ most_nodes }
-        requires few { looks.old.count ≤ length prefix.now }
+        requires few { looks.old.count ≤ 2 * length task.now.plan.contacts }
         requires kept { IsKept (tabled_of task.now) task.now.request kept.old }
         ensures kept { IsKept (tabled_of task.now) task.now.request kept.new }
         ensures least { IfOk result (IsLeast task.now.plan task.now.request prefix.now task.now.excluded) }
@@ -197,6 +197,7 @@ impl<A: Allocator + Copy> Settled<A> {
             return Ok(None);
         };
         let standing = course.go(&mut self.looks, plan, request, part.prefix)?;
+        kept.open(&mut self.looks, index, request);
         let task = Task::new(
             index,
             request,
@@ -240,7 +241,7 @@ impl<A: Allocator + Copy> BestOf<A> for Settled<A> {
             self.begin();
             return Err(NoMemory);
         };
-        let mut kept = Kept::new(self.alloc);
+        let mut kept = Kept::for_one(self.alloc);
         self.find(&mut kept, &index, request, part, rises(part.excluded))
     }
 

@@ -1,13 +1,9 @@
 use Rattle.std.proofs.Common.{arith}
 use Rattle.sabr_search.proofs.Front.{degree_at_most}
-use Rattle.sabr_search.proofs.Around.{none_bounds}
 use Rattle.sabr_search.proofs.search.Search.first_way.Goals as goal
 
-pub run-requires-clause-bound : goal.run-requires-clause-bound
-run-requires-clause-bound g c = none_bounds c.args.task.now c.requires.task
-
 pub run-requires-clause-steps : goal.run-requires-clause-steps
-run-requires-clause-steps g c = λ n w b s. rw c.deref.ensures.value (c.in_ok-whole.ensures.whole c.if-not-whole.false n w b s)
+run-requires-clause-steps g c = λ n w b s. rw c.deref-2.ensures.value (c.in_ok-whole.ensures.whole c.if-not-whole.false n w b s)
 
 pub returns-in_err-whole-clause-counted : goal.returns-in_err-whole-clause-counted
 returns-in_err-whole-clause-counted g c = omega (arith, c.first_steps.ensures.counted, degree_at_most c.args.task.now c.args.task.now.start)

@@ -1,7 +1,7 @@
 use Rattle.std.proofs.Common.{arith}
 use Rattle.sabr_search.proofs.Prefixes.{prefix_facts}
 use Rattle.sabr_search.proofs.Law.{contacts_few}
-use Rattle.sabr_search.proofs.Around.{of_request}
+use Rattle.sabr_search.proofs.Around.{of_request, late_bounds}
 use Rattle.sabr_search.proofs.search.Search.told_wide.Goals as goal
 
 pub way_within-requires-clause-most : goal.way_within-requires-clause-most
@@ -24,3 +24,6 @@ tell-requires-clause-many g c =
 
 pub shut_few-requires-clause-request : goal.shut_few-requires-clause-request
 shut_few-requires-clause-request g c = of_request c.args.asked.now.task.now c.args.asked.now.prefix.now c.requires.asked.behind
+
+pub way_within-requires-clause-bound : goal.way_within-requires-clause-bound
+way_within-requires-clause-bound g c = rw c.with_shut-question.ensures (late_bounds _ c.requires.asked.task_is.nodes c.in_ok-shut_near.ensures.request _ c.requires.kept.0)

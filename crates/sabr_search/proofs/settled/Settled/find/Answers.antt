@@ -5,7 +5,7 @@ use Rattle.sabr_model.specs.Table.{node_count}
 use Rattle.sabr_search.specs.Course.{IsCourse}
 use Rattle.sabr_search.proofs.Prefixes.{prefix_facts}
 use Rattle.sabr_search.proofs.Least.{none_is}
-use Rattle.sabr_search.proofs.Law.{prefix_looks}
+use Rattle.sabr_search.proofs.Law.{prefix_few, prefix_looks}
 use Rattle.sabr_search.proofs.Shortness.{nodes_few}
 use Rattle.sabr_search.proofs.settled.Settled.find.Goals as goal
 
@@ -32,6 +32,14 @@ pub returns-in_err-standing-clause-bound : goal.returns-in_err-standing-clause-b
 returns-in_err-standing-clause-bound g c =
     prefix_looks c.args.index.now.plan c.args.request.now c.args.part.prefix.now (prefix_facts c.args.index.now.plan c.args.request.now c.args.part.prefix.now c.requires.fits) (node_count c.args.index.now.plan.contacts) c.go.new.looks.count (omega (arith, c.go.ensures.looks, c.begin.ensures.looks))
 
+pub open-requires-clause-kept : goal.open-requires-clause-kept
+open-requires-clause-kept g c = rw c.plan-plan.ensures at c.take_course.ensures.kept
+
+pub open-requires-clause-few : goal.open-requires-clause-few
+open-requires-clause-few g c =
+    let facts = prefix_facts c.args.index.now.plan c.args.request.now c.args.part.prefix.now c.requires.fits in
+    omega (arith, c.go.ensures.looks, c.begin.ensures.looks, prefix_few c.args.index.now.plan c.args.request.now c.args.part.prefix.now facts)
+
 pub returns-in_err-standing-clause-kept : goal.returns-in_err-standing-clause-kept
 returns-in_err-standing-clause-kept g c = rw c.plan-plan.ensures at c.take_course.ensures.kept
 
@@ -50,10 +58,13 @@ least_beside-answer-requires-clause-nodes g c =
     let course : IsCourse c.args.index.now c.args.request.now c.go.new.self = rw c.plan-plan.ensures at c.in_ok-standing.ensures.course in
     rw c.new-task.ensures (nodes_few c.args.index.now course.plan course.tabled)
 
+pub least_beside-answer-requires-clause-kept : goal.least_beside-answer-requires-clause-kept
+least_beside-answer-requires-clause-kept g c = rw c.new-task.ensures c.open.ensures.kept
+
 pub returns-clause-kept : goal.returns-clause-kept
 returns-clause-kept g c =
     let kept = rw c.new-task.ensures at c.least_beside-answer.ensures.kept in
-    (kept.0, rw c.plan-plan.ensures at c.in_ok-standing.ensures.course)
+    (kept.0, kept.1, rw c.plan-plan.ensures at c.in_ok-standing.ensures.course)
 
 pub returns-clause-bound : goal.returns-clause-bound
 returns-clause-bound g c =

@@ -1,0 +1,19 @@
+use Rattle.std.proofs.Common.{refl}
+use Rattle.sabr_search.proofs.FaultsOfPrefixes.{empty_fits}
+use Rattle.sabr_search.proofs.LastSeconds.{whole_task}
+use Rattle.sabr_search.proofs.reach.Reach.of.Goals as goal
+
+pub go-requires-clause-course : goal.go-requires-clause-course
+go-requires-clause-course g c = rw c.in-Some.is at c.in_ok-opened.ensures.some
+
+pub go-requires-clause-fits : goal.go-requires-clause-fits
+go-requires-clause-fits g c = rw c.plan-plan.ensures (empty_fits c.args.index.now.plan c.args.request.now _ refl)
+
+pub latest_of-requires-clause-whole : goal.latest_of-requires-clause-whole
+latest_of-requires-clause-whole g c =
+    let found = rw c.plan-plan.ensures at c.in_ok-source.ensures.entered in
+    let both = found _ in
+    rw c.new-task.ensures (whole_task _ both.0 both.1 refl)
+
+pub returns-clause-reach : goal.returns-clause-reach
+returns-clause-reach g c = rw c.new-task.ensures at c.in_ok-late.ensures.late

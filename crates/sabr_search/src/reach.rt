@@ -1,0 +1,65 @@
+//! What bounds every search of a session, over the whole graph.
+
+ghost use Rattle.std.specs.Prelude.{ℕ, ◌≤◌, ◌^◌, IfOk};
+ghost use Rattle.sabr_model.specs.Plan.{TabledPlan};
+ghost use Rattle.sabr_model.specs.Arrival.{RouteRequest};
+ghost use Rattle.sabr_search.specs.Reach.{IsReach};
+
+use crate::course::Course;
+use crate::latest::latest_of;
+use crate::looks::Looks;
+use crate::task::Task;
+use sabr_index::Index;
+use sabr_model::{NoMemory, Request};
+use std::alloc::Allocator;
+
+/// What is known of the ways of every question of a request.
+#[derive(Drop)]
+pub struct Reach<A: Allocator + Copy> {
+    /// For each node, a second from which on no way leads to the destination; none is known after the list's end.
+    pub late: Vec<u64, A>,
+}
+
+impl<A: Allocator + Copy> Reach<A> {
+    /// Knows nothing of any node. It takes no memory.
+    pub fn new(alloc: A) -> Reach<A>
+        ensures { (p : TabledPlan) (r : RouteRequest) → IsReach p r result }
+    {
+        Reach {
+            late: Vec::new(alloc),
+        }
+    }
+
+    /// Finds what bounds the ways of a request. Nothing is known of any node if the plan hasn't both ends of the request,
+    /// or if more than `most` looks might be needed.
+    pub fn of(
+        alloc: A,
+        looks: &mut Looks,
+        index: &Index<'_, A>,
+        request: &Request,
+        most: u64,
+    ) -> Result<Reach<A>, NoMemory>
+        requires few { looks.old.count ≤ most }
+        requires most { most ≤ 2 ^ 62 }
+        ensures looks { looks.new.count ≤ most }
+        ensures reach { IfOk result (λ reach. IsReach index.now request.now reach) }
+    {
+        let plan = index.plan();
+        let opened = Course::open(alloc, plan, request)?;
+        let Some(mut course) = opened else {
+            return Ok(Reach::new(alloc));
+        };
+        let source = course.go(looks, plan, request, &[])?;
+        let task = Task::new(
+            index,
+            request,
+            &course.shut,
+            &[],
+            false,
+            source,
+            course.goal,
+        );
+        let late = latest_of(alloc, &task, looks, most)?;
+        Ok(Reach { late })
+    }
+}
