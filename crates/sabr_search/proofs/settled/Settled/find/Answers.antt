@@ -29,27 +29,23 @@ returns-in_default-clause-cut g c = λ most.
     let facts = prefix_facts c.args.index.now.plan c.args.request.now c.args.part.prefix.now c.requires.fits in
     omega (arith, c.enter.ensures.looks, c.begin.ensures.looks, prefix_few c.args.index.now.plan c.args.request.now c.args.part.prefix.now facts)
 
-pub least_beside-requires-clause-task : goal.least_beside-requires-clause-task
-least_beside-requires-clause-task g c =
+pub least_beside-requires-clause-asked : goal.least_beside-requires-clause-asked
+least_beside-requires-clause-asked g c =
     let p = c.args.index.now in
     let task : SearchTask = task_of p c.args.request.now c.enter.new.shut c.args.part.excluded.now c.in-Some.standing.node c.in-Some.standing.at c.in-Some.goal in
     let found = rw (c.plan.ensures, c.in-Some.is) at c.in_ok-standing.ensures.some in
     let both : IsTask task × IsBehind task c.args.part.prefix.now = found c.args.part.excluded.now in
-    rw (c.new-task.ensures) both.0
+    rw (c.new-task.ensures) (record {
+      task_is = both.0;
+      behind = both.1;
+      fits = c.requires.fits;
+      nodes = nodes_few p (rw c.plan.ensures at c.enter.ensures.plan) (rw c.plan.ensures at c.enter.ensures.tabled);
+    })
 
-pub least_beside-requires-clause-behind : goal.least_beside-requires-clause-behind
-least_beside-requires-clause-behind g c =
-    let p = c.args.index.now in
-    let task : SearchTask = task_of p c.args.request.now c.enter.new.shut c.args.part.excluded.now c.in-Some.standing.node c.in-Some.standing.at c.in-Some.goal in
-    let found = rw (c.plan.ensures, c.in-Some.is) at c.in_ok-standing.ensures.some in
-    let both : IsTask task × IsBehind task c.args.part.prefix.now = found c.args.part.excluded.now in
-    rw (c.new-task.ensures) both.1
-
-pub least_beside-requires-clause-fits : goal.least_beside-requires-clause-fits
-least_beside-requires-clause-fits g c = rw c.new-task.ensures c.requires.fits
-
-pub least_beside-requires-clause-nodes : goal.least_beside-requires-clause-nodes
-least_beside-requires-clause-nodes g c = rw c.new-task.ensures (nodes_few c.args.index.now (rw c.plan.ensures at c.enter.ensures.plan) (rw c.plan.ensures at c.enter.ensures.tabled))
+pub least_beside-requires-clause-few : goal.least_beside-requires-clause-few
+least_beside-requires-clause-few g c =
+    let facts = prefix_facts c.args.index.now.plan c.args.request.now c.args.part.prefix.now c.requires.fits in
+    rw (c.new-task.ensures) (omega (arith, c.enter.ensures.looks, c.begin.ensures.looks, prefix_few c.args.index.now.plan c.args.request.now c.args.part.prefix.now facts))
 
 pub least_beside-requires-clause-kept : goal.least_beside-requires-clause-kept
 least_beside-requires-clause-kept g c = rw c.new-task.ensures c.requires.kept
