@@ -1,5 +1,5 @@
 -- Picking the least numbers from the front, by layers that were made backward.
-use Rattle.std.proofs.Common.{◌≡◌, inl, inr, ℕ, ◌+◌, ◌-◌, ◌<◌, ◌≤◌, List, [], ◌∷◌, ◌++◌, length, Option, Some, None, slice_index, refl, ap, ◌∙◌, arith, length-append}
+use Rattle.std.proofs.Common.{◌≡◌, inl, inr, ℕ, ◌+◌, ◌-◌, ◌<◌, ◌≤◌, List, [], ◌∷◌, ◌++◌, length, Option, Some, None, slice_index, refl, ◌∙◌, arith, length-append}
 use Rattle.std.specs.Prelude.{IfSome, IfNone, eqb}
 use Rattle.std.proofs.lemmas.Bool.{cases_lt}
 use Rattle.std.proofs.lemmas.List.Sums.{count_by-le-length}
@@ -133,11 +133,3 @@ least_missing task ends reached hops u t (Some s) least = tt
 
 pub degree_at_most : (task : SearchTask) (u : ℕ) → degree task u ≤ length task.plan.contacts
 degree_at_most task u = omega (arith, count_by-le-length (λ k. eqb k u) (senders task), senders_length task)
-
-pub append_none : (xs : List ℕ) → xs ++ [] ≡ xs
-append_none [] = refl
-append_none (x ∷ xs) = ap (λ (l : List ℕ). x ∷ l) (append_none xs)
-
-pub append_back : (xs ys zs : List ℕ) → (xs ++ ys) ++ zs ≡ xs ++ (ys ++ zs)
-append_back [] ys zs = refl
-append_back (x ∷ xs) ys zs = ap (λ (l : List ℕ). x ∷ l) (append_back xs ys zs)

@@ -1,19 +1,18 @@
 -- What an answer that is kept is worth: by the law of answers, to each question that it covers.
-use Rattle.std.proofs.Common.{◌≡◌, inl, inr, ℕ, ◌+◌, ◌<◌, Bool, true, false, List, [], ◌∷◌, ◌++◌, length, take, drop, Some, None, Option, slice_get, slice_index, slice_index_or, refl, ap, sym, subst, ◌∙◌, arith}
-use Rattle.std.specs.Prelude.{All, IfSome, IfNone}
+use Rattle.std.proofs.Common.{◌≡◌, inl, inr, ℕ, ◌+◌, ◌<◌, Bool, true, false, List, [], ◌∷◌, ◌++◌, length, take, drop, Some, slice_get, slice_index, slice_index_or, refl, ap, sym, subst, ◌∙◌, arith}
+use Rattle.std.specs.Prelude.{All}
 use Rattle.std.proofs.lemmas.Bool.{both_ways}
 use Rattle.std.proofs.lemmas.Grind.{common_steps}
 use Rattle.std.proofs.lemmas.Option.{slice_get-get_or, slice_get_within, get_or_from_slice_get}
 use Rattle.sabr_model.specs.declared.contact.Contact.{Contact}
 use Rattle.sabr_model.specs.Plan.{contact_named, has}
-use Rattle.sabr_model.specs.Record.{RouteRecord}
 use Rattle.sabr_search.specs.declared.answers.Answer.{Answer}
 use Rattle.sabr_search.specs.declared.pick.Standing.{Standing}
 use Rattle.sabr_search.specs.Ways.{Leads}
 use Rattle.sabr_search.specs.Task.{SearchTask, Takes, IsTask}
 use Rattle.sabr_search.specs.Picks.{IsLeastWay}
 use Rattle.sabr_search.specs.FirstSteps.{tabled_of}
-use Rattle.sabr_search.specs.Answers.{narrowed, Narrows, HasNoWayWithin, IsAnswered}
+use Rattle.sabr_search.specs.Answers.{narrowed, Narrows, HasNoWayWithin}
 use Rattle.sabr_search.specs.KeptAnswers.{asked, AreListed, IsFoundWay, IsAnswer, Covers, IsAnswerTo, AnswersAt, IsPut, Arrives}
 use Rattle.sabr_search.proofs.Staying.{answers_stay}
 use Rattle.sabr_search.proofs.Ways.{Leads-append}
@@ -145,33 +144,11 @@ module _ {A : Type 0} (task : SearchTask) (is : IsTask task) (goal_is : slice_ge
   to : IsAnswerTo a task left
   to = subst (λ x. IsAnswerTo x task left) (let q : Some at.0 ≡ Some a = sym at.1 ∙ there in cc (q)) at.2
 
-  pub none_told : length a.way.items ≡ 0 → HasNoWayWithin task left
-  none_told none = none_kept task is goal_is a one left to.covers (empty a.way.items none)
-    where
-      empty : (xs : List ℕ) → length xs ≡ 0 → xs ≡ []
-      empty [] none = refl
-      empty (x ∷ xs) none = absurd (omega (arith, none))
-
-  pub way_told : 0 < length a.way.items → IsLeastWay task left (a.delivery + 1) a.way.items a.delivery
-  way_told some = way_kept task is goal_is a one left to some
-
--- the way of an answer after a prefix
-pub way_is : (task : SearchTask) (prefix : List ℕ) (left : ℕ) (o : Option RouteRecord) (numbers : List ℕ) (delivery : ℕ) → IsAnswered task prefix left o →
-    IfNone o (numbers ≡ []) → IfSome o (λ route. numbers ≡ drop (length prefix) route.contacts) → IfSome o (λ route. delivery ≡ route.delivery) → IsFoundWay task left numbers delivery
-way_is task prefix left None numbers delivery answered none some at = record {
-  none = λ empty. answered;
-  some = λ more. absurd (omega (arith, more, ap length none));
-}
-way_is task prefix left (Some route) numbers delivery answered none some at =
-    let way : numbers ≡ answered.0 = some ∙ ap (drop (length prefix)) answered.1 ∙ drop_front prefix answered.0 in
-    let least : IsLeastWay task left (delivery + 1) numbers delivery = rw (way, at) answered.2 in
-    record {
-      none = λ empty. absurd (omega (arith, least.some, ap length empty));
-      some = λ more. least;
-    }
-  where
-    drop_front : (xs ys : List ℕ) → drop (length xs) (xs ++ ys) ≡ ys
-    drop_front xs ys = grind (arith, common_steps)
+  pub found_told : IsFoundWay task left a.way.items a.delivery
+  found_told = record {
+    none = λ empty. none_kept task is goal_is a one left to.covers empty;
+    some = λ some. way_kept task is goal_is a one left to some;
+  }
 
 -- the answer to a question, kept
 pub kept_is : {A : Type 0} (task : SearchTask) (a : Answer A) → slice_get task.table task.goal ≡ Some task.request.destination → IsFoundWay task a.left a.way.items a.delivery →

@@ -1,8 +1,6 @@
 -- From the least way of a search to the law of finders, and the bounds on looks.
-use Rattle.std.proofs.Common.{◌≡◌, inl, inr, ℕ, suc, ◌+◌, ◌-◌, ◌*◌, ◌≤◌, true, eqb, ltb, List, [], ◌∷◌, ◌++◌, length, map, Some, None, Option, refl, ap, sym, subst, ◌∙◌, ⊎_elim, arith, length-append}
-use Rattle.std.specs.Prelude.{IsTrue, min, IfSome, IfNone, IfOk, OnErr, Ok, Err, Result}
-use Rattle.std.proofs.Math.Nat.{mul-le-mul, mul-le-mul_right}
-use Rattle.sabr_model.specs.declared.fault.NoMemory.{NoMemory}
+use Rattle.std.proofs.Common.{◌≡◌, inl, inr, ℕ, suc, ◌+◌, ◌*◌, ◌≤◌, true, eqb, ltb, List, [], ◌∷◌, ◌++◌, length, map, Some, None, refl, ap, sym, subst, ◌∙◌, ⊎_elim, arith, length-append}
+use Rattle.std.specs.Prelude.{IsTrue}
 use Rattle.std.specs.List.{AllByRecursion}
 use Rattle.std.specs.Option.{option_map}
 use Rattle.std.proofs.lemmas.Bool.{and_parts, or_cases, eqb-true, cases_order, ltb-true}
@@ -18,13 +16,12 @@ use Rattle.sabr_model.proofs.Begins.{first_hop, receivers-cons}
 use Rattle.sabr_search.specs.Front.{IsNotAfter}
 use Rattle.sabr_search.specs.Part.{IsLeast}
 use Rattle.sabr_search.specs.Picks.{IsLeastWay}
-use Rattle.sabr_search.specs.Told.{IsTold, hops_told}
+use Rattle.sabr_search.specs.Told.{IsTold}
 use Rattle.sabr_search.specs.Ways.{Leads}
-use Rattle.sabr_search.specs.Task.{SearchTask, Takes, HasNodes, IsTask, IsBehind, latest_arrival, never}
+use Rattle.sabr_search.specs.Task.{SearchTask, Takes, HasNodes, IsTask, IsBehind, latest_arrival}
 use Rattle.sabr_search.proofs.Least.{least_in_part, none_in_part}
 use Rattle.sabr_search.proofs.PlanFacts.{contact_in, takes_early}
 use Rattle.sabr_search.proofs.Prefixes.{IsPrefix}
-use Rattle.sabr_search.proofs.PartWays.{way_is_route}
 use Rattle.sabr_search.proofs.StepLists.{few_different}
 use Rattle.sabr_model.proofs.Tabled.{has_place}
 use Rattle.sabr_model.proofs.Paths.{value_of}
@@ -139,63 +136,8 @@ behind_sizes task is prefix ns route =
     let size : length (prefix ++ ns) ≡ length prefix + length ns = length-append prefix ns in
     (omega (arith, facts.within), omega (arith, route_nodes task.plan task.request task.table is.nodes (prefix ++ ns) route), omega (arith, route_few task.plan task.request (prefix ++ ns) route))
 
--- ---- a finder that takes all hops and deliveries that a route may have
-
-pub least_of_all_hops : (task : SearchTask) → IsTask task → (prefix : List ℕ) → IsBehind task prefix → IsPrefix task.plan task.request prefix → (hops : ℕ) → hops ≡ min (task.request.max_hops - length prefix) (length task.table - 1) → (o : Option RouteRecord) →
-    IfNone o ((ns : List ℕ) (e : ℕ) → length ns ≤ hops → Leads (Takes task) task.start task.at ns task.goal e → never ≤ e) →
-    IfSome o (λ route. (s : List ℕ) × (route.contacts ≡ prefix ++ s) × IsLeastWay task hops never s route.delivery × IsTold task.plan route) →
-    IsLeast task.plan task.request prefix task.excluded o
-least_of_all_hops task is prefix behind facts hops hops_is None none some =
-    none_is_least task is prefix behind (λ ns e route way.
-    (let sizes = behind_sizes task is prefix ns route in
-    omega (arith, none ns e (omega (arith, sizes.0, sizes.1)) way, way_early task is ns task.start task.at task.goal e is.time way)))
-least_of_all_hops task is prefix behind facts hops hops_is (Some route) none some =
-    found_is_least task is prefix behind facts hops never some.0 route some.1 some.2 some.3 (omega (arith, some.2.within, facts.within))
-    (λ ns e listed way. (let sizes = behind_sizes task is prefix ns listed in some.2.least ns e (omega (arith, sizes.0, sizes.1)) way))
-
--- how many contacts a route that is found has
-pub told_few : (task : SearchTask) → IsTask task → (prefix : List ℕ) → IsBehind task prefix → IsPrefix task.plan task.request prefix → (hops ceiling : ℕ) → length prefix + hops ≤ task.request.max_hops → (o : Option RouteRecord) →
-    IfSome o (λ route. (s : List ℕ) × (route.contacts ≡ prefix ++ s) × IsLeastWay task hops ceiling s route.delivery × IsTold task.plan route) → hops_told o ≤ length task.plan.contacts
-told_few task is prefix behind facts hops ceiling short None some = omega arith
-told_few task is prefix behind facts hops ceiling short (Some route) some =
-    let own = way_is_route task prefix behind facts some.0 route.delivery some.2.some some.2.way some.2.fewest (omega (arith, some.2.within)) in
-    omega (arith, ap length some.1, route_few task.plan task.request (prefix ++ some.0) own.0)
-
--- looks within the bound of a finder
-pub looks_within : (n c used hops told looks : ℕ) → used ≤ c → told ≤ c → hops + 1 ≤ n → looks ≤ used + 3 * (hops * c) + told → looks ≤ (3 * n + 1) * c
-looks_within n c used hops told looks few short less le =
-    let product : (hops + 1) * c ≤ n * c = mul-le-mul_right c less in
-    omega (arith, product)
-
-pub answer_looks : (task : SearchTask) → IsTask task → (prefix : List ℕ) → IsBehind task prefix → IsPrefix task.plan task.request prefix → (hops ceiling used looks : ℕ) → length prefix + hops ≤ task.request.max_hops → hops + 1 ≤ length task.table → used ≤ length prefix →
-    (result : Result (Option RouteRecord) NoMemory) →
-    OnErr result (looks ≤ used + 3 * (hops * length task.plan.contacts)) → IfOk result (λ o. looks ≤ used + 3 * (hops * length task.plan.contacts) + hops_told o) →
-    IfOk result (λ o. IfSome o (λ route. (s : List ℕ) × (route.contacts ≡ prefix ++ s) × IsLeastWay task hops ceiling s route.delivery × IsTold task.plan route)) →
-    looks ≤ (3 * length task.table + 1) * length task.plan.contacts
-answer_looks task is prefix behind facts hops ceiling used looks short less few (Ok o) err ok some =
-    looks_within (length task.table) (length task.plan.contacts) used hops (hops_told o) looks (omega (arith, prefix_few task.plan task.request prefix facts)) (told_few task is prefix behind facts hops ceiling short o some) less ok
-answer_looks task is prefix behind facts hops ceiling used looks short less few (Err e) err ok some =
-    looks_within (length task.table) (length task.plan.contacts) used hops 0 looks (omega (arith, prefix_few task.plan task.request prefix facts)) (omega arith) less (omega (arith, err))
-
 pub prefix_looks : (p : ContactPlan) (r : RouteRequest) (prefix : List ℕ) → IsPrefix p r prefix → (n looks : ℕ) → looks ≤ length prefix → looks ≤ (3 * n + 1) * length p.contacts
 prefix_looks p r prefix facts n looks le =
     let c = length p.contacts in
     let few = prefix_few p r prefix facts in
     omega arith
-
--- what the searches of one call may count, in numbers that a machine holds
-pub looks_fit : (task : SearchTask) → IsTask task → (prefix : List ℕ) → IsPrefix task.plan task.request prefix → (most hops used : ℕ) → task.request.max_hops ≤ 20000 → hops ≤ task.request.max_hops → used ≤ length prefix + most * length task.plan.contacts → most ≤ 40000 →
-    used + 3 * (hops * length task.plan.contacts) + length prefix + hops ≤ 2305843009213693952
-looks_fit task is prefix facts most hops used limit le few many =
-    let c = length task.plan.contacts in
-    let small = contacts_few task.plan is.plan in
-    let one : hops * c ≤ 20000 * 20000 = mul-le-mul {n₂ = 20000} {m₂ = 20000} (omega arith) small in
-    let two : most * c ≤ 40000 * 20000 = mul-le-mul {n₂ = 40000} {m₂ = 20000} many small in
-    omega (arith, one, two, facts.within)
-
-pub least_answer : (task : SearchTask) → IsTask task → (prefix : List ℕ) → IsBehind task prefix → IsPrefix task.plan task.request prefix → (hops : ℕ) → hops ≡ min (task.request.max_hops - length prefix) (length task.table - 1) → (result : Result (Option RouteRecord) NoMemory) →
-    IfOk result (λ o. IfNone o ((ns : List ℕ) (e : ℕ) → length ns ≤ hops → Leads (Takes task) task.start task.at ns task.goal e → never ≤ e)) →
-    IfOk result (λ o. IfSome o (λ route. (s : List ℕ) × (route.contacts ≡ prefix ++ s) × IsLeastWay task hops never s route.delivery × IsTold task.plan route)) →
-    IfOk result (IsLeast task.plan task.request prefix task.excluded)
-least_answer task is prefix behind facts hops hops_is (Ok o) none some = least_of_all_hops task is prefix behind facts hops hops_is o none some
-least_answer task is prefix behind facts hops hops_is (Err e) none some = tt

@@ -27,12 +27,10 @@ pub mod LateLayers
 pub mod LateLists
 pub mod LateMade
 pub mod Shortness
-pub mod FirstLimits
-pub mod Cuts
+pub mod Answered
 pub mod FaultsOfPrefixes
 pub mod Around
 pub mod LastSeconds
-pub mod Beside
 pub mod Since
 pub mod Ended
 pub mod Rising

@@ -39,7 +39,7 @@ layer_of bounds p (suc m) first less = elim (cases_lt p (slice_index bounds m)) 
 ]
 
 -- layers with one bound more
-module _ (task : SearchTask) (is : IsTask task) (ceiling hop : ℕ) (bounds arrival place : List ℕ) (reached : List Reached) (best : Best) (made : AreLayers task ceiling hop bounds arrival place reached best)
+module _ (task : SearchTask) (is : IsTask task) (hop : ℕ) (bounds arrival place : List ℕ) (reached : List Reached) (best : Best) (made : AreLayers task hop bounds arrival place reached best)
     (bounds' arrival' place' : List ℕ) (reached' : List Reached) (delivery : ℕ)
     (lowered : IsLowered task.shut task.goal task.at (slice_index bounds (hop + 1)) (GivenFrom task reached (slice_index bounds hop) (slice_index bounds (hop + 1))) arrival reached best.delivery arrival' place' reached' delivery)
     (known : IsKnownFrom task reached (slice_index bounds hop) (slice_index bounds (hop + 1)) arrival' delivery)
@@ -181,7 +181,7 @@ module _ (task : SearchTask) (is : IsTask task) (ceiling hop : ℕ) (bounds arri
   }
 
   -- if the delivery falls, the new layer is the first that reaches the goal by then
-  pub layers_better : delivery < best.delivery → best.delivery ≤ ceiling → AreLayers task ceiling (hop + 1) bounds' arrival' place' reached' (record { delivery = delivery; hops = hop + 1 })
+  pub layers_better : delivery < best.delivery → best.delivery ≤ never → AreLayers task (hop + 1) bounds' arrival' place' reached' (record { delivery = delivery; hops = hop + 1 })
   layers_better sooner below = record {
     lists = lists';
     many = many';
@@ -205,7 +205,7 @@ module _ (task : SearchTask) (is : IsTask task) (ceiling hop : ℕ) (bounds arri
   }
 
   -- if it doesn't, what was found stays
-  pub layers_same : best.delivery ≤ delivery → AreLayers task ceiling (hop + 1) bounds' arrival' place' reached' best
+  pub layers_same : best.delivery ≤ delivery → AreLayers task (hop + 1) bounds' arrival' place' reached' best
   layers_same late = record {
     lists = lists';
     many = many';
@@ -231,12 +231,12 @@ module _ (task : SearchTask) (is : IsTask task) (ceiling hop : ℕ) (bounds arri
       sames : best.delivery ≡ delivery
       sames = omega (arith, lowered.lower)
 
--- what is found is no later than the ceiling
-pub below_ceiling : (task : SearchTask) (ceiling hop : ℕ) (bounds arrival place : List ℕ) (reached : List Reached) (best : Best) → AreLayers task ceiling hop bounds arrival place reached best → best.delivery ≤ ceiling
-below_ceiling task ceiling hop bounds arrival place reached best made = elim made.found [ inl none ↦ omega (arith, none.1) | inr found ↦ omega (arith, found.2) ]
+-- what is found is not later
+pub below_never : (task : SearchTask) (hop : ℕ) (bounds arrival place : List ℕ) (reached : List Reached) (best : Best) → AreLayers task hop bounds arrival place reached best → best.delivery ≤ never
+below_never task hop bounds arrival place reached best made = elim made.found [ inl none ↦ omega (arith, none.1) | inr found ↦ omega (arith, found.2) ]
 
 -- the start is the first entry, and no entry is the goal's
-module _ (task : SearchTask) (is : IsTask task) (ceiling hop : ℕ) (bounds arrival place : List ℕ) (reached : List Reached) (best : Best) (made : AreLayers task ceiling hop bounds arrival place reached best) where
+module _ (task : SearchTask) (is : IsTask task) (hop : ℕ) (bounds arrival place : List ℕ) (reached : List Reached) (best : Best) (made : AreLayers task hop bounds arrival place reached best) where
   start_entry : Entry bounds reached 0 task.start task.at 0
   start_entry = (0, omega (arith, made.first_bound), omega (arith, made.second_bound), made.begins)
 
@@ -277,21 +277,21 @@ module _ (task : SearchTask) (is : IsTask task) (ceiling hop : ℕ) (bounds arri
   }
 
 -- the layers with one more, whatever the new layer brings
-pub layers_next : (task : SearchTask) → IsTask task → (ceiling hop : ℕ) (bounds arrival place : List ℕ) (reached : List Reached) (best : Best) → AreLayers task ceiling hop bounds arrival place reached best →
+pub layers_next : (task : SearchTask) → IsTask task → (hop : ℕ) (bounds arrival place : List ℕ) (reached : List Reached) (best : Best) → AreLayers task hop bounds arrival place reached best →
     (bounds' arrival' place' : List ℕ) (reached' : List Reached) (delivery : ℕ) →
     IsLowered task.shut task.goal task.at (slice_index bounds (hop + 1)) (GivenFrom task reached (slice_index bounds hop) (slice_index bounds (hop + 1))) arrival reached best.delivery arrival' place' reached' delivery →
     IsKnownFrom task reached (slice_index bounds hop) (slice_index bounds (hop + 1)) arrival' delivery →
     bounds' ≡ bounds ++ length reached' ∷ [] → (best' : Best) → ((delivery < best.delivery) × (best' ≡ record { delivery = delivery; hops = hop + 1 })) ⊎ ((best.delivery ≤ delivery) × (best' ≡ best)) →
-    AreLayers task ceiling (hop + 1) bounds' arrival' place' reached' best'
-layers_next task is ceiling hop bounds arrival place reached best made bounds' arrival' place' reached' delivery lowered known bounds_is best' (inl better) =
-    rw better.1 (layers_better task is ceiling hop bounds arrival place reached best made bounds' arrival' place' reached' delivery lowered known bounds_is better.0 (below_ceiling task ceiling hop bounds arrival place reached best made))
-layers_next task is ceiling hop bounds arrival place reached best made bounds' arrival' place' reached' delivery lowered known bounds_is best' (inr same) =
-    rw same.1 (layers_same task is ceiling hop bounds arrival place reached best made bounds' arrival' place' reached' delivery lowered known bounds_is same.0)
+    AreLayers task (hop + 1) bounds' arrival' place' reached' best'
+layers_next task is hop bounds arrival place reached best made bounds' arrival' place' reached' delivery lowered known bounds_is best' (inl better) =
+    rw better.1 (layers_better task is hop bounds arrival place reached best made bounds' arrival' place' reached' delivery lowered known bounds_is better.0 (below_never task hop bounds arrival place reached best made))
+layers_next task is hop bounds arrival place reached best made bounds' arrival' place' reached' delivery lowered known bounds_is best' (inr same) =
+    rw same.1 (layers_same task is hop bounds arrival place reached best made bounds' arrival' place' reached' delivery lowered known bounds_is same.0)
 
 -- what is found within fewer hops is the best within more, if nothing is sooner there
-pub best_within : (task : SearchTask) (ceiling hop : ℕ) (bounds arrival place : List ℕ) (reached : List Reached) (best : Best) → AreLayers task ceiling hop bounds arrival place reached best →
-    (hops : ℕ) → hop ≤ hops → IsNoneSooner task hops best.delivery → IsBestWithin task hops ceiling best
-best_within task ceiling hop bounds arrival place reached best made hops within least = record {
+pub best_within : (task : SearchTask) (hop : ℕ) (bounds arrival place : List ℕ) (reached : List Reached) (best : Best) → AreLayers task hop bounds arrival place reached best →
+    (hops : ℕ) → hop ≤ hops → IsNoneSooner task hops best.delivery → IsBestWithin task hops best
+best_within task hop bounds arrival place reached best made hops within least = record {
   least = least;
   found = elim made.found [ inl none ↦ inl none | inr found ↦ inr (found.0, omega (arith, found.1), found.2, found.3) ];
 }

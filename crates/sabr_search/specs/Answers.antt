@@ -5,7 +5,7 @@ use Rattle.std.specs.declared.option.Option.TheVariants.{Some, None}
 use Rattle.sabr_model.specs.Record.{RouteRecord}
 use Rattle.sabr_search.specs.Told.{IsTold}
 use Rattle.sabr_search.specs.Ways.{Leads}
-use Rattle.sabr_search.specs.Task.{SearchTask, HasNodes, Takes}
+use Rattle.sabr_search.specs.Task.{SearchTask, HasNodes, Takes, left_of}
 use Rattle.sabr_search.specs.Picks.{IsLeastWay}
 
 -- the same search, with these nodes shut and from this second on
@@ -30,11 +30,7 @@ pub record AnswersStay : Type 0 where
   pub none : (task : SearchTask) (shut : List Bool) (at hops fewer : ℕ) → HasNodes task.plan task.table → Narrows task shut at → fewer ≤ hops
       → HasNoWayWithin task hops → HasNoWayWithin (narrowed task shut at) fewer
 
--- the route goes on after the prefix by the least way within a limit on hops, with a delivery before `ceiling`
-abbrev pub IsLeastAfter : SearchTask → List ℕ → ℕ → ℕ → RouteRecord → Type 0
-IsLeastAfter task prefix hops ceiling route = (s : List ℕ) × (route.contacts ≡ prefix ++ s) × IsLeastWay task hops ceiling s route.delivery × IsTold task.plan route
-
--- the answer after a prefix, with a limit on hops left: the route goes on by the least way, or no way leads to the goal
-abbrev pub IsAnswered : SearchTask → List ℕ → ℕ → Option RouteRecord → Type 0
-IsAnswered task prefix left None = HasNoWayWithin task left
-IsAnswered task prefix left (Some route) = IsLeastAfter task prefix left (route.delivery + 1) route
+-- the answer after a prefix: the route goes on by the least way, or no way leads to the goal
+abbrev pub IsAnswered : SearchTask → List ℕ → Option RouteRecord → Type 0
+IsAnswered task prefix None = HasNoWayWithin task (left_of task prefix)
+IsAnswered task prefix (Some route) = (s : List ℕ) × (route.contacts ≡ prefix ++ s) × IsLeastWay task (left_of task prefix) (route.delivery + 1) s route.delivery × IsTold task.plan route

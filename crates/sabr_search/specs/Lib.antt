@@ -8,7 +8,6 @@ pub mod Lists
 pub mod Made
 pub mod Late
 pub mod Settling
-pub mod Limits
 pub mod Deadlines
 pub mod Picks
 pub mod Told

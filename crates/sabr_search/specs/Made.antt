@@ -19,19 +19,19 @@ pub record AreOpened (task : SearchTask) (late arrival : List ℕ) : Type 0 wher
   pub start : slice_index arrival task.start ≡ task.at
   pub unreached : (k : ℕ) → k < length arrival → slice_index_or task.shut k false ≡ false → slice_index arrival k ≡ slice_index_or late k never
 
--- no delivery below the ceiling is found, or one within so many hops
-abbrev pub IsFound : SearchTask → ℕ → ℕ → Best → Type 0
-IsFound task ceiling hop best =
-    ((best.hops ≡ 0) × (best.delivery ≡ ceiling))
-    ⊎ ((0 < best.hops) × (best.hops ≤ hop) × (best.delivery < ceiling) × ((ns : List ℕ) × (length ns ≡ best.hops) × Leads (Takes task) task.start task.at ns task.goal best.delivery))
+-- no delivery is found, or one within so many hops
+abbrev pub IsFound : SearchTask → ℕ → Best → Type 0
+IsFound task hop best =
+    ((best.hops ≡ 0) × (best.delivery ≡ never))
+    ⊎ ((0 < best.hops) × (best.hops ≤ hop) × (best.delivery < never) × ((ns : List ℕ) × (length ns ≡ best.hops) × Leads (Takes task) task.start task.at ns task.goal best.delivery))
 
--- the least delivery within so many hops, if it is below the ceiling, and the hops of a way with it; else no hops
-pub record IsBestWithin (task : SearchTask) (hops ceiling : ℕ) (best : Best) : Type 0 where
+-- the least delivery within so many hops, and the hops of a way with it; no hops if no way leads to the goal
+pub record IsBestWithin (task : SearchTask) (hops : ℕ) (best : Best) : Type 0 where
   pub least : (ns : List ℕ) (e : ℕ) → length ns ≤ hops → Leads (Takes task) task.start task.at ns task.goal e → best.delivery ≤ e
-  pub found : IsFound task ceiling hops best
+  pub found : IsFound task hops best
 
 -- layers up to `hop` are made
-pub record AreLayers (task : SearchTask) (ceiling hop : ℕ) (bounds arrival place : List ℕ) (reached : List Reached) (best : Best) : Type 0 where
+pub record AreLayers (task : SearchTask) (hop : ℕ) (bounds arrival place : List ℕ) (reached : List Reached) (best : Best) : Type 0 where
   pub lists : AreLists task.shut task.goal task.at (slice_index bounds (hop + 1)) arrival place reached
   pub many : length bounds ≡ hop + 2
   pub first_bound : slice_index bounds 0 ≡ 0
@@ -42,4 +42,4 @@ pub record AreLayers (task : SearchTask) (ceiling hop : ℕ) (bounds arrival pla
   pub apart : (h p q : ℕ) (e f : Reached) → h ≤ hop → slice_index bounds h ≤ p → slice_index bounds h ≤ q → p < slice_index bounds (h + 1) → q < slice_index bounds (h + 1) → slice_get reached p ≡ Some e → slice_get reached q ≡ Some f → e.node ≡ f.node → p ≡ q
   pub real : (h v a x : ℕ) → Entry bounds reached h v a x → (ns : List ℕ) × (length ns ≡ h) × Leads (Takes task) task.start task.at ns v a
   pub taken : IsTaken (Takes task) (Entry bounds reached) hop best.delivery
-  pub found : IsFound task ceiling hop best
+  pub found : IsFound task hop best

@@ -1,9 +1,10 @@
 -- The question of a search, and the steps that it may take.
-use Rattle.std.specs.Prelude.{IsTrue, ◌≡◌, ℕ, ◌-◌, ◌^◌, ◌≤◌, ◌<◌, Bool, true, false, ◌||◌, List, [], ◌∷◌, length, slice_get, slice_index_or}
+use Rattle.std.specs.Prelude.{IsTrue, ◌≡◌, ℕ, ◌-◌, ◌^◌, ◌≤◌, ◌<◌, ◌==◌, min, if◌then◌else◌, Bool, true, false, ◌||◌, List, [], ◌∷◌, length, slice_get, slice_index_or}
 use Rattle.std.specs.declared.option.Option.TheVariants.{Some}
 use Rattle.sabr_model.specs.declared.contact.Contact.{Contact}
 use Rattle.sabr_model.specs.Plan.{ContactPlan, TabledPlan, IsPlan, contact_named, has}
 use Rattle.sabr_model.specs.Arrival.{RouteRequest, arrival, arrival_after}
+use Rattle.sabr_model.specs.Asking.{most_hops}
 use Rattle.sabr_model.specs.Route.{chain_end, receivers, is_prefix}
 
 -- the plan, the request, the nodes of the plan in their table, which of them are shut by their places there, the
@@ -82,11 +83,13 @@ pub record IsOfRequest (task : SearchTask) : Type 0 where
   pub goal_is : slice_get task.table task.goal ≡ Some task.request.destination
   pub closes : (k x : ℕ) → slice_get task.table k ≡ Some x → slice_index_or task.shut k false ≡ false → is_closed task.plan task.request [] x ≡ false
 
--- a question after a prefix: the search starts where the prefix ends, and the limit on hops is the request's
-pub record IsAsked (task : SearchTask) (prefix : List ℕ) (max_hops : ℕ) : Type 0 where
+-- a question after a prefix: the search starts where the prefix ends
+pub record IsAsked (task : SearchTask) (prefix : List ℕ) : Type 0 where
   pub task_is : IsTask task
   pub behind : IsBehind task prefix
   pub fits : IsTrue (is_prefix task.plan task.request prefix)
-  pub hops : max_hops ≡ task.request.max_hops
-  pub few : max_hops < 2 ^ 32
   pub nodes : length task.table ≤ most_nodes
+
+-- the most hops that a way after the prefix may have: fewer than there are nodes, and those that a limit leaves
+abbrev pub left_of : SearchTask → List ℕ → ℕ
+left_of task prefix = if task.request.max_hops == most_hops then length task.table - 1 else min (length task.table - 1) (task.request.max_hops - length prefix)

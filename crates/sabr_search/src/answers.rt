@@ -4,22 +4,23 @@
 //! shuts more, starts no earlier and leaves no more hops, as long as its way may be taken and delivers at the same second.
 //! Where there was none, there is none.
 
-ghost use Rattle.std.specs.Prelude.{◌≡◌, ◌+◌, ◌++◌, ◌^◌, ◌≤◌, ◌<◌, [], Some, None, All, IfOk, IfSome, IfNone, IsTrue, OnOk, OnErr, length, slice_get, drop};
+ghost use Rattle.std.specs.Prelude.{◌≡◌, ◌^◌, ◌≤◌, ◌<◌, [], Some, All, IfOk, IfSome, IsTrue, OnOk, length, slice_get};
 ghost use Rattle.sabr_search.specs.Ways.{Leads};
-ghost use Rattle.sabr_search.specs.Task.{IsTask, IsOfRequest, Takes};
+ghost use Rattle.sabr_search.specs.Task.{IsTask, IsAsked, IsOfRequest, Takes, left_of};
 ghost use Rattle.sabr_search.specs.WideTasks.{ShutsFewer};
-ghost use Rattle.sabr_search.specs.Told.{hops_told};
 ghost use Rattle.sabr_search.specs.FirstSteps.{tabled_of};
-ghost use Rattle.sabr_search.specs.Answers.{IsAnswered, narrowed};
+ghost use Rattle.sabr_search.specs.Answers.{narrowed};
 ghost use Rattle.sabr_search.specs.KeptAnswers.{AllShut, Covers, IsAnswerTo, AnswersAt, IsFoundWay, IsAnswer, IsPut};
 
+use crate::least_way::FoundWay;
 use crate::looks::Looks;
 use crate::payoff::Payoff;
 use crate::pick::Standing;
+use crate::question::Question;
 use crate::shut::Shut;
 use crate::task::Task;
 use crate::wide::shut_one;
-use sabr_model::{NoMemory, Route};
+use sabr_model::NoMemory;
 use std::alloc::{Allocator, Global};
 
 /// So many answers are kept; the oldest goes. Not varied.
@@ -73,23 +74,9 @@ pub struct Near {
 /// What the answers that are kept tell of a question: the place of its answer, or else the near one whose question shut most
 /// nodes.
 #[derive(Clone, Copy)]
-struct Lookup {
-    place: Option<usize>,
-    near: Option<Near>,
-}
-
-/// The same with the answer itself.
-#[derive(Drop)]
-pub struct Recall<A: Allocator + Copy = Global> {
-    pub answer: Option<Option<Route<A>>>,
+pub struct Lookup {
+    pub place: Option<usize>,
     pub near: Option<Near>,
-}
-
-/// Nothing is told.
-fn nothing_recalled<A: Allocator + Copy>(near: Option<Near>) -> Recall<A>
-    ensures { result.answer ≡ None }
-{
-    Recall { answer: None, near }
 }
 
 /// What was asked, and the answer.
@@ -155,87 +142,7 @@ fn are_shut(flags: &[bool], nodes: &[usize]) -> bool
     true
 }
 
-/// The contact numbers of the least way of a question, and when it delivers; no numbers where there is no way.
-#[derive(Drop)]
-pub struct FoundWay<A: Allocator + Copy = Global> {
-    pub numbers: Vec<u32, A>,
-    pub delivery: u64,
-}
-
-/// The way of an answer after so many contacts.
-fn way_of<A: Allocator + Copy>(
-    alloc: A,
-    answer: &Option<Route<A>>,
-    prefix: usize,
-) -> Result<FoundWay<A>, NoMemory>
-    requires { IfSome answer.now (λ route. prefix ≤ length route.contacts) }
-    ensures none { IfOk result (λ found. IfNone answer.now (found.numbers.items ≡ [])) }
-    ensures some { IfOk result (λ found. IfSome answer.now (λ route. found.numbers.items ≡ drop prefix route.contacts)) }
-    ensures delivery { IfOk result (λ found. IfSome answer.now (λ route. found.delivery ≡ route.delivery)) }
-{
-    let mut numbers = Vec::new(alloc);
-    let Some(route) = answer else {
-        return Ok(FoundWay {
-            numbers,
-            delivery: 0,
-        });
-    };
-    let contacts = route.contacts.as_slice();
-    numbers.extend_from_slice(&contacts[prefix..])?;
-    Ok(FoundWay {
-        numbers,
-        delivery: route.delivery,
-    })
-}
-
-/// The numbers of a way after those of a prefix.
-fn joined<A: Allocator + Copy>(
-    alloc: A,
-    prefix: &[u32],
-    way: &[u32],
-) -> Result<Vec<u32, A>, NoMemory>
-    ensures { IfOk result (λ v. v.items ≡ prefix.now ++ way.now) }
-{
-    let mut contacts = Vec::with_capacity(alloc, prefix.len() + way.len())?;
-    contacts.extend_from_slice(prefix)?;
-    contacts.extend_from_slice(way)?;
-    Ok(contacts)
-}
-
 impl<A: Allocator + Copy> Answer<A> {
-    /// Makes the answer to a question from its least way.
-    fn of(
-        alloc: A,
-        task: &Task<'_, A>,
-        left: usize,
-        found: FoundWay<A>,
-        breadth: Breadth,
-        next: usize,
-    ) -> Result<Answer<A>, NoMemory>
-        requires goal { slice_get task.now.table task.now.goal ≡ Some task.now.request.destination }
-        requires found { IsFoundWay task.now left found.numbers.items found.delivery }
-        ensures { IfOk result (IsAnswer (tabled_of task.now) task.now.request) }
-    {
-        let mut excluded = Vec::new(alloc);
-        excluded.extend_from_slice(task.excluded())?;
-        let mut shut = Vec::new(alloc);
-        shut.extend_from_slice(task.shut_nodes())?;
-        let from = Standing {
-            node: task.start(),
-            at: task.at(),
-        };
-        Ok(Answer {
-            from,
-            left,
-            excluded,
-            shut,
-            way: found.numbers,
-            delivery: found.delivery,
-            breadth,
-            next,
-        })
-    }
-
     /// Returns whether a question starts at the same node and no earlier, excludes the same numbers, shuts these nodes,
     /// too, and leaves no more hops.
     fn covers(&self, task: &Task<'_, A>, left: usize) -> bool
@@ -311,10 +218,12 @@ impl<A: Allocator + Copy> Answer<A> {
     }
 }
 
-/// Returns whether the answer to a question after this prefix is kept: not if the prefix is empty, since no other one ends at
-/// the source, and not if too many numbers are excluded or the prefix is too long.
-fn is_kept(prefix: &[u32], excluded: &[u32]) -> bool {
-    !prefix.is_empty() && prefix.len() <= MOST_PREFIX && excluded.len() <= MOST_EXCLUDED
+/// Returns whether the answer to a question is kept: not if the prefix is empty, since no other one ends at the source, and
+/// not if too many numbers are excluded or the prefix is too long.
+fn is_kept<A: Allocator + Copy>(asked: &Question<'_, '_, '_, A>) -> bool {
+    !asked.prefix.is_empty()
+        && asked.prefix.len() <= MOST_PREFIX
+        && asked.task.excluded().len() <= MOST_EXCLUDED
 }
 
 /// Which nodes a wide question shuts to which this answer is near.
@@ -349,18 +258,18 @@ impl<A: Allocator + Copy> Answers<A> {
         }
     }
 
-    /// Returns whether a wide question is to be asked for the one after this prefix, to which this answer is near: it shuts
-    /// fewer nodes, its answer is kept, and some answer was kept before, so that others may come.
-    pub fn takes_wide(&mut self, task: &Task<'_, A>, prefix: &[u32], near: Option<Near>) -> bool
+    /// Returns whether a wide question is to be asked for this one, to which this answer is near: it shuts fewer nodes, its
+    /// answer is kept, and some answer was kept before, so that others may come.
+    pub fn takes_wide(&mut self, asked: &Question<'_, '_, '_, A>, near: Option<Near>) -> bool
         ensures { self.new.slots ≡ self.old.slots }
     {
-        if self.slots.is_empty() || prefix.len() < 2 || !is_kept(prefix, task.excluded()) {
+        if self.slots.is_empty() || asked.prefix.len() < 2 || !is_kept(asked) {
             return false;
         }
         let Some(answer) = near else {
             return self.wide.takes(ASKED, ASKED, REST);
         };
-        if answer.shut.saturating_add(1) >= task.shut_nodes().len() {
+        if answer.shut.saturating_add(1) >= asked.task.shut_nodes().len() {
             return false;
         }
         self.nearer.takes(ASKED, ASKED, REST)
@@ -445,49 +354,32 @@ impl<A: Allocator + Copy> Answers<A> {
         Lookup { place: None, near }
     }
 
-    /// The answer to a question after the prefix, with so many hops left, if one that is kept shows it within `most` looks.
-    pub fn tell(
+    /// The same for a question after a prefix, if its answer is kept. Counts an answer that is found.
+    pub fn recall(
         &mut self,
-        task: &Task<'_, A>,
+        asked: &Question<'_, '_, '_, A>,
         looks: &mut Looks,
         most: u64,
-        prefix: &[u32],
-        left: usize,
-    ) -> Result<Recall<A>, NoMemory>
-        requires task { IsTask task.now }
-        requires goal { slice_get task.now.table task.now.goal ≡ Some task.now.request.destination }
-        requires kept { All (IsAnswer (tabled_of task.now) task.now.request) self.old.slots.items }
+    ) -> Lookup
+        requires asked { IsAsked asked.now.task.now asked.now.prefix.now }
+        requires kept { All (IsAnswer (tabled_of asked.now.task.now) asked.now.task.now.request) self.old.slots.items }
         requires few { looks.old.count ≤ most }
         requires most { most ≤ 2 ^ 60 }
-        requires many { length prefix.now + left < 2 ^ 32 }
         ensures slots { self.new.slots ≡ self.old.slots }
-        ensures refused { OnErr result (looks.new.count ≤ most) }
-        ensures untold { IfOk result (λ told. IfNone told.answer (looks.new.count ≤ most)) }
-        ensures told { IfOk result (λ told. IfSome told.answer (IsAnswered task.now prefix.now left)) }
-        ensures looks { IfOk result (λ told. IfSome told.answer (λ answer. looks.new.count ≤ most + hops_told answer)) }
-        ensures counted { IfOk result (λ told. IfSome told.answer (λ answer. hops_told answer ≤ looks.new.count)) }
+        ensures looks { looks.new.count ≤ most }
+        ensures some { IfSome result.place (λ place. AnswersAt self.old.slots.items place asked.now.task.now (left_of asked.now.task.now asked.now.prefix.now)) }
     {
-        if !is_kept(prefix, task.excluded()) {
-            return Ok(nothing_recalled(None));
-        }
-        let found = self.find(task, looks, most, left);
-        let Some(place) = found.place else {
-            return Ok(nothing_recalled(found.near));
-        };
-        self.count_win(place);
-        let answer = &self.slots[place];
-        if answer.way.is_empty() {
-            return Ok(Recall {
-                answer: Some(None),
+        if !is_kept(asked) {
+            return Lookup {
+                place: None,
                 near: None,
-            });
+            };
         }
-        let contacts = joined(self.alloc, prefix, &answer.way)?;
-        let route = task.record(looks, contacts, answer.delivery);
-        Ok(Recall {
-            answer: Some(Some(route)),
-            near: None,
-        })
+        let found = self.find(asked.task, looks, most, asked.left());
+        if let Some(place) = found.place {
+            self.count_win(place);
+        }
+        found
     }
 
     /// Makes the buckets, if there are none; returns whether there are some.
@@ -523,6 +415,38 @@ impl<A: Allocator + Copy> Answers<A> {
         }
     }
 
+    /// Makes the answer to a question from its least way.
+    fn made(
+        &self,
+        task: &Task<'_, A>,
+        left: usize,
+        found: FoundWay<A>,
+        breadth: Breadth,
+    ) -> Result<Answer<A>, NoMemory>
+        requires goal { slice_get task.now.table task.now.goal ≡ Some task.now.request.destination }
+        requires found { IsFoundWay task.now left found.numbers.items found.delivery }
+        ensures { IfOk result (IsAnswer (tabled_of task.now) task.now.request) }
+    {
+        let mut excluded = Vec::new(self.alloc);
+        excluded.extend_from_slice(task.excluded())?;
+        let mut shut = Vec::new(self.alloc);
+        shut.extend_from_slice(task.shut_nodes())?;
+        let from = Standing {
+            node: task.start(),
+            at: task.at(),
+        };
+        Ok(Answer {
+            from,
+            left,
+            excluded,
+            shut,
+            way: found.numbers,
+            delivery: found.delivery,
+            breadth,
+            next: self.head(bucket_of(task.start(), task.excluded())),
+        })
+    }
+
     /// Keeps the answer to a question, if no growth is refused.
     pub fn keep(&mut self, task: &Task<'_, A>, left: usize, found: FoundWay<A>, breadth: Breadth)
         requires goal { slice_get task.now.table task.now.goal ≡ Some task.now.request.destination }
@@ -533,35 +457,23 @@ impl<A: Allocator + Copy> Answers<A> {
         if !self.open() {
             return;
         }
-        let bucket = bucket_of(task.start(), task.excluded());
-        let next = self.head(bucket);
-        let Ok(made) = Answer::of(self.alloc, task, left, found, breadth, next) else {
+        let Ok(answer) = self.made(task, left, found, breadth) else {
             return;
         };
-        if let Some(place) = self.put(made) {
-            self.put_head(bucket, place);
+        if let Some(place) = self.put(answer) {
+            self.put_head(bucket_of(task.start(), task.excluded()), place);
         }
     }
 
-    /// Keeps the answer to a question after the prefix, if it is one that is kept and no growth is refused.
-    pub fn keep_after(
-        &mut self,
-        task: &Task<'_, A>,
-        prefix: &[u32],
-        left: usize,
-        answer: &Option<Route<A>>,
-    )
-        requires goal { slice_get task.now.table task.now.goal ≡ Some task.now.request.destination }
-        requires kept { All (IsAnswer (tabled_of task.now) task.now.request) self.old.slots.items }
-        requires answered { IsAnswered task.now prefix.now left answer.now }
-        ensures { All (IsAnswer (tabled_of task.now) task.now.request) self.new.slots.items }
+    /// Keeps the answer to a question after a prefix, if it is one that is kept and no growth is refused.
+    pub fn keep_after(&mut self, asked: &Question<'_, '_, '_, A>, found: FoundWay<A>)
+        requires asked { IsAsked asked.now.task.now asked.now.prefix.now }
+        requires kept { All (IsAnswer (tabled_of asked.now.task.now) asked.now.task.now.request) self.old.slots.items }
+        requires found { IsFoundWay asked.now.task.now (left_of asked.now.task.now asked.now.prefix.now) found.numbers.items found.delivery }
+        ensures { All (IsAnswer (tabled_of asked.now.task.now) asked.now.task.now.request) self.new.slots.items }
     {
-        if !is_kept(prefix, task.excluded()) {
-            return;
+        if is_kept(asked) {
+            self.keep(asked.task, asked.left(), found, Breadth::Own);
         }
-        let Ok(found) = way_of(self.alloc, answer, prefix.len()) else {
-            return;
-        };
-        self.keep(task, left, found, Breadth::Own);
     }
 }

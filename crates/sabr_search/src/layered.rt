@@ -4,19 +4,54 @@ ghost use Rattle.std.specs.Prelude.{◌≡◌, ◌+◌, ◌*◌, ◌≤◌, IfOk
 ghost use Rattle.sabr_model.specs.Route.{is_prefix};
 ghost use Rattle.sabr_model.specs.Table.{node_count};
 ghost use Rattle.sabr_search.specs.Part.{IsLeast};
+ghost use Rattle.sabr_search.specs.Task.{IsAsked};
+ghost use Rattle.sabr_search.specs.Late.{AreArrivals};
 ghost use Rattle.sabr_search.specs.Told.{hops_told};
 
 use crate::best::BestOf;
 use crate::course::Course;
 use crate::finger::rises;
+use crate::from_goal::Aim;
 use crate::kept::Kept;
-use crate::layers::{Layers, Limits, NEVER};
+use crate::layers::Layers;
+use crate::least_way::MANY_LOOKS;
 use crate::looks::Looks;
 use crate::part::Part;
+use crate::question::Question;
 use crate::task::Task;
 use sabr_index::Index;
 use sabr_model::{GhostCount, NoMemory, Plan, Request, Route};
 use std::alloc::{Allocator, Global};
+
+impl<A: Allocator + Copy> Layers<A> {
+    /// The least route after the prefix, by layers alone. No way comes to a node before the second in `since`.
+    fn least_after(
+        &mut self,
+        since: &[u64],
+        task: &Task<'_, A>,
+        looks: &mut Looks,
+        prefix: &[u32],
+    ) -> Result<Option<Route<A>>, NoMemory>
+        requires asked { IsAsked task.now prefix.now }
+        requires few { looks.old.count ≤ 2 * length task.now.plan.contacts }
+        requires arrivals { AreArrivals task.now since.now }
+        ensures least { IfOk result (IsLeast task.now.plan task.now.request prefix.now task.now.excluded) }
+        ensures bound { looks.new.count ≤ (3 * length task.now.table + 1) * length task.now.plan.contacts }
+        ensures counted { IfOk result (λ answer. hops_told answer ≤ looks.new.count) }
+    {
+        let asked = Question { task, prefix };
+        let aim = Aim {
+            task,
+            since,
+            delivery: 0,
+        };
+        let found = self.least_within(&aim, looks, asked.left(), MANY_LOOKS)?;
+        let Some(way) = found else {
+            unreachable!();
+        };
+        asked.route(self.alloc, looks, &way.numbers, way.delivery)
+    }
+}
 
 /// A finder that makes layers forward for the least delivery, layers backward for its route, and then picks the least
 /// numbers from the front.
@@ -90,16 +125,10 @@ impl<A: Allocator + Copy> Layered<A> {
             standing,
             course.goal,
         );
-        let left = request.max_hops() as usize - part.prefix.len();
-        let limits = Limits {
-            hops: left.min(plan.nodes() - 1),
-            lower: 0,
-            ceiling: NEVER,
-        };
         self.since.clear();
         self.since.resize(plan.nodes(), task.at())?;
         self.layers
-            .answer(&task, &mut self.looks, part.prefix, limits, &self.since)
+            .least_after(&self.since, &task, &mut self.looks, part.prefix)
     }
 }
 

@@ -1,6 +1,6 @@
 //! Hop layers, made forward: for each number of hops, the nodes that it reaches earlier, and when.
 
-ghost use Rattle.std.specs.Prelude.{◌≡◌, ◌≢◌, min, ℕ, [], ◌∷◌, ◌+◌, ◌*◌, ◌^◌, ◌≤◌, ◌<◌, length, take, slice_set, slice_index, slice_index_or, true, false, OnOk, IfOk};
+ghost use Rattle.std.specs.Prelude.{◌≡◌, ◌≢◌, min, ℕ, [], ◌∷◌, ◌+◌, ◌*◌, ◌^◌, ◌≤◌, ◌<◌, length, take, slice_set, slice_index, slice_index_or, true, false, OnOk, IfOk, IfSome, IfNone};
 ghost use Rattle.sabr_search.specs.Task.{IsTask, Takes, never};
 ghost use Rattle.sabr_search.specs.Steps.{degree};
 ghost use Rattle.sabr_search.specs.Linked.{IsLinkWithin, HasNumber};
@@ -28,14 +28,6 @@ pub struct Reached {
 pub struct Best {
     pub delivery: u64,
     pub hops: usize,
-}
-
-/// How far to look: at most `hops` hops, to a delivery before `ceiling`; none is before `lower`.
-#[derive(Clone, Copy)]
-pub struct Limits {
-    pub hops: usize,
-    pub lower: u64,
-    pub ceiling: u64,
 }
 
 /// Later than every arrival.
@@ -292,26 +284,35 @@ impl<A: Allocator + Copy> Layers<A> {
         Ok(())
     }
 
-    /// Makes layers until the goal is reached by `limits.lower`, no node is new, or the hops are used up.
+    /// Makes layers until the goal is reached by `lower`, before which no way delivers, no node is new, or the hops are used
+    /// up. Returns the least delivery; none if more than `most` looks might be needed.
     pub fn make(
         &mut self,
         task: &Task<'_, A>,
         looks: &mut Looks,
-        limits: Limits,
-    ) -> Result<Best, NoMemory>
+        hops: usize,
+        lower: u64,
+        most: u64,
+    ) -> Result<Option<Best>, NoMemory>
         requires task { IsTask task.now }
-        requires few { looks.old.count + limits.hops * length task.now.plan.contacts ≤ 2 ^ 62 }
-        requires sooner { limits.lower < limits.ceiling }
-        requires lower { IsNoneBefore task.now limits.lower }
-        ensures looks { looks.new.count ≤ looks.old.count + limits.hops * length task.now.plan.contacts }
-        ensures best { IfOk result (IsBestWithin task.now limits.hops limits.ceiling) }
+        requires few { looks.old.count ≤ most }
+        requires most { most ≤ 2 ^ 62 }
+        requires sooner { lower < never }
+        requires lower { IsNoneBefore task.now lower }
+        ensures looks { looks.new.count ≤ most }
+        ensures counted { looks.new.count ≤ looks.old.count + hops * length task.now.plan.contacts }
+        ensures none { IfOk result (λ o. IfNone o (most < looks.old.count + hops * length task.now.plan.contacts)) }
+        ensures best { IfOk result (λ o. IfSome o (IsBestWithin task.now hops)) }
     {
         self.first_layer(task)?;
         let mut best = Best {
-            delivery: limits.ceiling,
+            delivery: NEVER,
             hops: 0,
         };
-        for hop in 0..limits.hops {
+        for hop in 0..hops {
+            if task.one_pass() > most - looks.count {
+                return Ok(None);
+            }
             let delivery = self.next_layer(task, looks, hop, best.delivery)?;
             if delivery < best.delivery {
                 best = Best {
@@ -322,13 +323,13 @@ impl<A: Allocator + Copy> Layers<A> {
             let begin = self.bounds[hop + 1];
             let end = self.reached.len();
             self.bounds.push(end)?;
-            if best.delivery <= limits.lower {
-                return Ok(best);
+            if best.delivery <= lower {
+                return Ok(Some(best));
             }
             if end == begin {
-                return Ok(best);
+                return Ok(Some(best));
             }
         }
-        Ok(best)
+        Ok(Some(best))
     }
 }

@@ -1,7 +1,6 @@
 //! The least route of a part of the routes.
 #![tactic(auto)]
 
-mod answer;
 mod answers;
 mod best;
 mod closed;
@@ -17,8 +16,8 @@ mod laws;
 mod layered;
 mod layers;
 mod least_link;
+mod least_way;
 mod leave_link;
-mod limits;
 mod looks;
 mod over_link;
 mod part;

@@ -1,7 +1,7 @@
 //! The least numbers from the front, by the deadlines of layers that were made backward.
 
-ghost use Rattle.std.specs.Prelude.{◌≡◌, ◌++◌, ℕ, List, ◌+◌, ◌*◌, ◌^◌, ◌≤◌, ◌<◌, false, Some, IfOk, IfSome, IfNone, IsTrue, length, slice_index};
-ghost use Rattle.sabr_search.specs.Task.{IsTask, Takes};
+ghost use Rattle.std.specs.Prelude.{◌≡◌, ℕ, ◌+◌, ◌*◌, ◌^◌, ◌≤◌, ◌<◌, false, Some, IfOk, IfSome, IfNone, IsTrue, length, slice_index};
+ghost use Rattle.sabr_search.specs.Task.{IsTask, Takes, most_nodes};
 ghost use Rattle.sabr_search.specs.Linked.{AreLinksAt};
 ghost use Rattle.sabr_search.specs.Late.{AreMet, AreOpen, IsNoneSooner};
 ghost use Rattle.sabr_search.specs.Deadlines.{IsInTime, ArePointed};
@@ -74,30 +74,28 @@ impl<A: Allocator + Copy> Layers<A> {
         least
     }
 
-    /// Returns the least numbers after the prefix that lead from the start to the goal by the layers of an aim, of which
-    /// the last is so many hops from the goal. None if more than `most` looks might be needed.
+    /// Returns the least numbers that lead from the start to the goal by the layers of an aim, of which the last is so many
+    /// hops from the goal. None if more than `most` looks might be needed.
     pub fn pick(
         &mut self,
         aim: &Aim<'_, '_, '_, A>,
         looks: &mut Looks,
         left: usize,
-        prefix: &[u32],
         most: u64,
     ) -> Result<Option<Vec<u32, A>>, NoMemory>
         requires task { IsTask aim.now.task.now }
         requires looked { looks.old.count ≤ most }
         requires most { most ≤ 2 ^ 62 }
-        requires many { length prefix.now + left + 1 < 2 ^ 32 }
+        requires many { left < most_nodes }
         requires met { AreMet aim.now.task.now aim.now.since.now aim.now.delivery left self.old.ends.items self.old.place.items self.old.reached.items }
         requires least { IsNoneSooner aim.now.task.now (left + 1) aim.now.delivery }
         ensures limit { looks.new.count ≤ most }
         ensures looks { looks.new.count ≤ looks.old.count + (left + 1) * length aim.now.task.now.plan.contacts }
         ensures none { IfOk result (λ o. IfNone o (most < looks.old.count + (left + 1) * length aim.now.task.now.plan.contacts)) }
-        ensures picked { IfOk result (λ o. IfSome o (λ v. (s : List ℕ) × (v.items ≡ prefix.now ++ s) × IsPicked aim.now.task.now (left + 1) aim.now.delivery s)) }
+        ensures picked { IfOk result (λ o. IfSome o (λ v. IsPicked aim.now.task.now (left + 1) aim.now.delivery v.items)) }
     {
         let task = aim.task;
-        let mut contacts = Vec::with_capacity(self.alloc, prefix.len() + left + 1)?;
-        contacts.extend_from_slice(prefix)?;
+        let mut numbers = Vec::with_capacity(self.alloc, left + 1)?;
         let mut from = Standing {
             node: task.start(),
             at: task.at(),
@@ -112,12 +110,12 @@ impl<A: Allocator + Copy> Layers<A> {
             let Some(step) = least else {
                 unreachable!();
             };
-            contacts.push(step.number)?;
+            numbers.push(step.number)?;
             from = Standing {
                 node: step.node,
                 at: step.at,
             };
         }
-        Ok(Some(contacts))
+        Ok(Some(numbers))
     }
 }

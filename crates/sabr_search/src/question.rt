@@ -1,8 +1,14 @@
 //! A question after a prefix.
 
-ghost use Rattle.std.specs.Prelude.{◌≡◌, ◌-◌, ◌≤◌, length};
+ghost use Rattle.std.specs.Prelude.{◌≡◌, ◌++◌, ◌+◌, ◌-◌, ◌^◌, ◌≤◌, IfOk, OnErr, length};
+ghost use Rattle.sabr_search.specs.Task.{IsAsked, left_of};
+ghost use Rattle.sabr_search.specs.KeptAnswers.{IsFoundWay};
+ghost use Rattle.sabr_search.specs.Answers.{IsAnswered};
+ghost use Rattle.sabr_search.specs.Told.{hops_told};
 
+use crate::looks::Looks;
 use crate::task::Task;
+use sabr_model::{MOST_HOPS, NoMemory, Route};
 use std::alloc::Allocator;
 
 /// What is asked of a search: the least route that begins with a prefix.
@@ -12,16 +18,56 @@ pub struct Question<'t, 'a, 'p, A: Allocator + Copy> {
     pub task: &'t Task<'a, A>,
     /// The contact numbers that the route begins with.
     pub prefix: &'p [u32],
-    /// The most hops of the route.
-    pub max_hops: u32,
+}
+
+/// The numbers of a way after those of a prefix.
+fn joined<A: Allocator + Copy>(
+    alloc: A,
+    prefix: &[u32],
+    way: &[u32],
+) -> Result<Vec<u32, A>, NoMemory>
+    ensures { IfOk result (λ v. v.items ≡ prefix.now ++ way.now) }
+{
+    let mut contacts = Vec::with_capacity(alloc, prefix.len() + way.len())?;
+    contacts.extend_from_slice(prefix)?;
+    contacts.extend_from_slice(way)?;
+    Ok(contacts)
 }
 
 impl<'t, 'a, 'p, A: Allocator + Copy> Question<'t, 'a, 'p, A> {
-    /// The most hops after the prefix.
+    /// The most hops that a way after the prefix may have: those that the limit leaves, and fewer than there are nodes.
     pub fn left(&self) -> usize
-        requires { length self.now.prefix.now ≤ self.now.max_hops }
-        ensures { result ≡ self.now.max_hops - length self.now.prefix.now }
+        requires { IsAsked self.now.task.now self.now.prefix.now }
+        ensures { result ≡ left_of self.now.task.now self.now.prefix.now }
     {
-        self.max_hops as usize - self.prefix.len()
+        let others = self.task.shut().len() - 1;
+        let max_hops = self.task.request().max_hops();
+        if max_hops == MOST_HOPS {
+            return others;
+        }
+        let left = max_hops as usize - self.prefix.len();
+        others.min(left)
+    }
+
+    /// Returns the route that goes on by a way: one look for each of its contacts. None if there is no way.
+    pub fn route(
+        &self,
+        alloc: A,
+        looks: &mut Looks,
+        way: &[u32],
+        delivery: u64,
+    ) -> Result<Option<Route<A>>, NoMemory>
+        requires few { looks.old.count + length self.now.prefix.now + length way.now ≤ 2 ^ 62 }
+        requires found { IsFoundWay self.now.task.now (left_of self.now.task.now self.now.prefix.now) way.now delivery }
+        ensures refused { OnErr result (looks.new.count ≡ looks.old.count) }
+        ensures looks { IfOk result (λ o. looks.new.count ≡ looks.old.count + hops_told o) }
+        ensures hops { IfOk result (λ o. hops_told o - length self.now.prefix.now ≡ length way.now) }
+        ensures answered { IfOk result (IsAnswered self.now.task.now self.now.prefix.now) }
+    {
+        if way.is_empty() {
+            return Ok(None);
+        }
+        let contacts = joined(alloc, self.prefix, way)?;
+        Ok(Some(self.task.record(looks, contacts, delivery)))
     }
 }

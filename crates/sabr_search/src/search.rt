@@ -1,41 +1,40 @@
 //! One search for the least way of a question.
 
-ghost use Rattle.std.specs.Prelude.{◌+◌, ◌-◌, ◌*◌, ◌^◌, ◌≤◌, ◌<◌, Some, IfOk, IfSome, IfNone, length};
-ghost use Rattle.sabr_search.specs.Task.{IsTask, IsAsked, most_nodes};
-ghost use Rattle.sabr_search.specs.Told.{hops_told, IsCut};
+ghost use Rattle.std.specs.Prelude.{◌+◌, ◌*◌, ◌^◌, ◌≤◌, ◌<◌, Some, IfOk, IfSome, IfNone, length};
+ghost use Rattle.sabr_search.specs.Task.{IsTask, most_nodes};
 ghost use Rattle.sabr_search.specs.KeptAnswers.{IsFoundWay};
-ghost use Rattle.sabr_search.specs.Answers.{IsAnswered};
 ghost use Rattle.sabr_search.specs.Late.{AreArrivals};
 ghost use Rattle.sabr_search.specs.Settling.{IsBound, IsFirstWay};
 
-use crate::answers::FoundWay;
 use crate::from_goal::Aim;
 use crate::layers::{Best, Layers};
-use crate::limits::limits_of;
+use crate::least_way::FoundWay;
 use crate::looks::Looks;
 use crate::pick::Standing;
-use crate::question::Question;
 use crate::reach::Reach;
 use crate::settling::{Forward, Settling};
 use crate::task::Task;
-use sabr_model::{NoMemory, Route};
+use sabr_model::NoMemory;
 use std::alloc::Allocator;
 
 /// What a search keeps from call to call.
 #[derive(Drop)]
 pub struct Search<A: Allocator + Copy> {
+    /// The allocator of the buffers and routes.
+    pub alloc: A,
     /// Where the first steps come to, and when.
     first: Vec<Standing, A>,
     /// Nodes in order of arrival.
     settling: Settling<A>,
     /// Layers backward, and forward.
-    pub layers: Layers<A>,
+    layers: Layers<A>,
 }
 
 impl<A: Allocator + Copy> Search<A> {
     /// Makes an empty value. It takes no memory.
     pub fn new(alloc: A) -> Search<A> {
         Search {
+            alloc,
             first: Vec::new(alloc),
             settling: Settling::new(alloc),
             layers: Layers::new(alloc),
@@ -73,84 +72,43 @@ impl<A: Allocator + Copy> Search<A> {
         Ok(found)
     }
 
-    /// The least way of a question, with so many hops left, as far as `most` looks show it.
-    pub fn way_within(
+    /// Returns the least way of at most so many hops, if there is one. If the first way has no more, its delivery is the
+    /// least, and layers backward find the way. Otherwise layers forward find the least delivery. None if more than `most`
+    /// looks might be needed.
+    pub fn run(
         &mut self,
         task: &Task<'_, A>,
         reach: &Reach<A>,
         looks: &mut Looks,
+        hops: usize,
         most: u64,
-        left: usize,
     ) -> Result<Option<FoundWay<A>>, NoMemory>
         requires task { IsTask task.now }
         requires bound { IsBound task.now reach.now.late.items }
-        requires nodes { length task.now.table ≤ most_nodes }
+        requires nodes { hops ≤ most_nodes }
         requires few { looks.old.count ≤ most }
-        requires most { most ≤ 2 ^ 60 }
+        requires most { most ≤ 2 ^ 62 }
         ensures looks { looks.new.count ≤ most }
-        ensures found { IfOk result (λ o. IfSome o (λ found. IsFoundWay task.now left found.numbers.items found.delivery)) }
+        ensures counted { looks.new.count ≤ looks.old.count + (3 * hops + 1) * length task.now.plan.contacts }
+        ensures none { IfOk result (λ o. IfNone o (most < looks.old.count + (3 * hops + 1) * length task.now.plan.contacts)) }
+        ensures cut { IfOk result (λ o. IfSome o (λ way. length task.now.table ≤ hops + 1 → looks.new.count ≤ looks.old.count + (2 * length way.numbers.items + 1) * length task.now.plan.contacts)) }
+        ensures found { IfOk result (λ o. IfSome o (λ way. IsFoundWay task.now hops way.numbers.items way.delivery)) }
     {
-        let found = self.first_way(task, reach, looks, most)?;
-        let Some(first) = found else {
+        let reached = self.first_way(task, reach, looks, most)?;
+        let Some(first) = reached else {
             return Ok(None);
         };
         if first.hops == 0 {
-            return Ok(Some(FoundWay {
-                numbers: Vec::new(self.layers.alloc),
-                delivery: 0,
-            }));
-        }
-        if first.hops > left {
-            return Ok(None);
+            return Ok(Some(FoundWay::none(self.alloc)));
         }
         let aim = Aim {
             task,
             since: &self.settling.arrival,
             delivery: first.delivery,
         };
-        let way = self.layers.way_by(&aim, looks, first.hops, most)?;
-        Ok(way)
-    }
-
-    /// Returns the least route after the prefix. If the first way has no more hops than are allowed, its delivery is the
-    /// least, and layers backward find the route. Otherwise the least delivery is found by layers forward.
-    pub fn least_route(
-        &mut self,
-        asked: &Question<'_, '_, '_, A>,
-        reach: &Reach<A>,
-        looks: &mut Looks,
-    ) -> Result<Option<Route<A>>, NoMemory>
-        requires asked { IsAsked asked.now.task.now asked.now.prefix.now asked.now.max_hops }
-        requires bound { IsBound asked.now.task.now reach.now.late.items }
-        requires few { looks.old.count ≤ 2 * length asked.now.task.now.plan.contacts }
-        ensures answered { IfOk result (IsAnswered asked.now.task.now asked.now.prefix.now (asked.now.max_hops - length asked.now.prefix.now)) }
-        ensures bound { looks.new.count ≤ (3 * length asked.now.task.now.table + 1) * length asked.now.task.now.plan.contacts }
-        ensures counted { IfOk result (λ answer. hops_told answer ≤ looks.new.count) }
-        ensures cut { IfOk result (IsCut asked.now.task.now.plan asked.now.max_hops asked.now.prefix.now looks.new.count) }
-    {
-        let task = asked.task;
-        let most = task.three_passes();
-        let found = self.first_way(task, reach, looks, most)?;
-        let Some(first) = found else {
-            unreachable!();
-        };
-        if first.hops == 0 {
-            return Ok(None);
+        if first.hops > hops {
+            return self.layers.least_within(&aim, looks, hops, most);
         }
-        let limits = limits_of(asked.max_hops, asked.prefix.len(), first);
-        if limits.hops != first.hops {
-            return self
-                .layers
-                .answer(task, looks, asked.prefix, limits, &self.settling.arrival);
-        }
-        let aim = Aim {
-            task,
-            since: &self.settling.arrival,
-            delivery: first.delivery,
-        };
-        let route = self
-            .layers
-            .answer_by(&aim, looks, asked.prefix, first.hops)?;
-        Ok(Some(route))
+        self.layers.least_by(&aim, looks, hops, most)
     }
 }

@@ -1,23 +1,27 @@
 //! The finder that settles nodes first, and then makes only the layers that the least route needs.
 
-ghost use Rattle.std.specs.Prelude.{◌≡◌, ◌≤◌, ◌<◌, ◌+◌, ◌-◌, ◌*◌, Some, IfOk, IfSome, IfNone, IsTrue, OnErr, length};
+ghost use Rattle.std.specs.Prelude.{◌≡◌, ◌≤◌, ◌+◌, ◌*◌, IfOk, IfSome, IsTrue, length};
 ghost use Rattle.std.specs.List.Sorted.{IsStrictlyIncreasing};
+ghost use Rattle.sabr_model.specs.Asking.{most_hops};
 ghost use Rattle.sabr_model.specs.Route.{is_prefix};
 ghost use Rattle.sabr_model.specs.Table.{node_count};
 ghost use Rattle.sabr_search.specs.Part.{IsLeast};
-ghost use Rattle.sabr_search.specs.Task.{IsTask, IsBehind, IsAsked, most_nodes};
+ghost use Rattle.sabr_search.specs.Task.{IsAsked, left_of};
 ghost use Rattle.sabr_search.specs.Told.{hops_told, IsCut};
 ghost use Rattle.sabr_search.specs.Kept.{IsKept};
-ghost use Rattle.sabr_search.specs.Answers.{IsAnswered};
+ghost use Rattle.sabr_search.specs.KeptAnswers.{IsFoundWay, AnswersAt};
 ghost use Rattle.sabr_search.specs.FirstSteps.{tabled_of};
+ghost use Rattle.sabr_search.specs.Settling.{IsBound};
 
-use crate::answers::{Near, breadth_of};
+use crate::answers::breadth_of;
 use crate::best::BestOf;
 use crate::finger::rises;
 use crate::kept::Kept;
+use crate::least_way::{FoundWay, MANY_LOOKS};
 use crate::looks::Looks;
 use crate::part::Part;
 use crate::question::Question;
+use crate::reach::Reach;
 use crate::search::Search;
 use crate::task::Task;
 use crate::wide::shut_few;
@@ -26,107 +30,91 @@ use sabr_model::{GhostCount, NoMemory, Plan, Request, Route};
 use std::alloc::{Allocator, Global};
 
 impl<A: Allocator + Copy> Search<A> {
-    /// The least route after the prefix, or that there is none, if the answer to a wide question shows it. That answer is
-    /// kept.
-    fn told_wide(
+    /// The place of a kept answer to the question, if there is one. If none is kept, a wide question may come first, and its
+    /// answer is kept.
+    fn find_kept(
         &mut self,
         kept: &mut Kept<A>,
         asked: &Question<'_, '_, '_, A>,
         looks: &mut Looks,
-        near: Option<Near>,
-    ) -> Result<Option<Option<Route<A>>>, NoMemory>
-        requires asked { IsAsked asked.now.task.now asked.now.prefix.now asked.now.max_hops }
+    ) -> Result<Option<usize>, NoMemory>
+        requires asked { IsAsked asked.now.task.now asked.now.prefix.now }
         requires few { looks.old.count ≤ 2 * length asked.now.task.now.plan.contacts }
         requires kept { IsKept (tabled_of asked.now.task.now) asked.now.task.now.request kept.old }
         ensures kept { IsKept (tabled_of asked.now.task.now) asked.now.task.now.request kept.new }
-        ensures refused { OnErr result (looks.new.count ≤ 2 * length asked.now.task.now.plan.contacts) }
-        ensures untold { IfOk result (λ o. IfNone o (looks.new.count ≤ 2 * length asked.now.task.now.plan.contacts)) }
-        ensures told { IfOk result (λ o. IfSome o (IsAnswered asked.now.task.now asked.now.prefix.now (asked.now.max_hops - length asked.now.prefix.now))) }
-        ensures looks { IfOk result (λ o. IfSome o (λ answer. looks.new.count ≤ 2 * length asked.now.task.now.plan.contacts + hops_told answer)) }
-        ensures counted { IfOk result (λ o. IfSome o (λ answer. hops_told answer ≤ looks.new.count)) }
+        ensures looks { looks.new.count ≤ 2 * length asked.now.task.now.plan.contacts }
+        ensures some { IfOk result (λ o. IfSome o (λ place. AnswersAt kept.new.answers.slots.items place asked.now.task.now (left_of asked.now.task.now asked.now.prefix.now))) }
     {
         let task = asked.task;
-        if !kept.answers.takes_wide(task, asked.prefix, near) {
+        let most = task.two_passes();
+        let recalled = kept.answers.recall(asked, looks, most);
+        if let Some(place) = recalled.place {
+            return Ok(Some(place));
+        }
+        let near = recalled.near;
+        if !kept.answers.takes_wide(asked, near) {
             return Ok(None);
         }
-        let most = task.two_passes();
         shut_few(&mut kept.wide, task)?;
         kept.answers.shut_near(&mut kept.wide, task, near)?;
-        let left = asked.left();
         let question = task.with_shut(&kept.wide);
-        let found = self.way_within(&question, &kept.reach, looks, most, left)?;
+        let left = asked.left();
+        let found = self.run(&question, &kept.reach, looks, left, most)?;
         let Some(way) = found else {
             return Ok(None);
         };
         kept.answers.keep(&question, left, way, breadth_of(near));
-        let told = kept.answers.tell(task, looks, most, asked.prefix, left)?;
-        Ok(told.answer)
+        Ok(kept.answers.recall(asked, looks, most).place)
     }
 
-    /// The least route after the prefix: told by the answer to a wide question, or else by a search. The answer is kept.
-    fn least_searched(
+    /// The least way of the question, by a search that never gives up.
+    fn find_own(
         &mut self,
-        kept: &mut Kept<A>,
         asked: &Question<'_, '_, '_, A>,
+        reach: &Reach<A>,
         looks: &mut Looks,
-        near: Option<Near>,
-    ) -> Result<Option<Route<A>>, NoMemory>
-        requires asked { IsAsked asked.now.task.now asked.now.prefix.now asked.now.max_hops }
+    ) -> Result<FoundWay<A>, NoMemory>
+        requires asked { IsAsked asked.now.task.now asked.now.prefix.now }
+        requires bound { IsBound asked.now.task.now reach.now.late.items }
         requires few { looks.old.count ≤ 2 * length asked.now.task.now.plan.contacts }
-        requires kept { IsKept (tabled_of asked.now.task.now) asked.now.task.now.request kept.old }
-        ensures kept { IsKept (tabled_of asked.now.task.now) asked.now.task.now.request kept.new }
-        ensures answered { IfOk result (IsAnswered asked.now.task.now asked.now.prefix.now (asked.now.max_hops - length asked.now.prefix.now)) }
-        ensures bound { looks.new.count ≤ (3 * length asked.now.task.now.table + 1) * length asked.now.task.now.plan.contacts }
-        ensures counted { IfOk result (λ answer. hops_told answer ≤ looks.new.count) }
-        ensures cut { IfOk result (IsCut asked.now.task.now.plan asked.now.max_hops asked.now.prefix.now looks.new.count) }
+        ensures bound { looks.new.count ≤ 3 * length asked.now.task.now.table * length asked.now.task.now.plan.contacts }
+        ensures cut { IfOk result (λ way. asked.now.task.now.request.max_hops ≡ most_hops → looks.new.count ≤ (2 * length way.numbers.items + 3) * length asked.now.task.now.plan.contacts) }
+        ensures found { IfOk result (λ way. IsFoundWay asked.now.task.now (left_of asked.now.task.now asked.now.prefix.now) way.numbers.items way.delivery) }
     {
-        let task = asked.task;
-        let left = asked.left();
-        let wide = self.told_wide(kept, asked, looks, near)?;
-        if let Some(answer) = wide {
-            return Ok(answer);
-        }
-        let answer = self.least_route(asked, &kept.reach, looks)?;
-        kept.answers.keep_after(task, asked.prefix, left, &answer);
-        Ok(answer)
+        let found = self.run(asked.task, reach, looks, asked.left(), MANY_LOOKS)?;
+        let Some(way) = found else {
+            unreachable!();
+        };
+        Ok(way)
     }
 
-    /// The least route after the prefix: told by an answer that is kept, or else as by a search.
+    /// The least route after the prefix: by an answer that is kept, or else by a search, whose answer is kept.
     fn least_beside(
         &mut self,
         kept: &mut Kept<A>,
         task: &Task<'_, A>,
         looks: &mut Looks,
-        max_hops: u32,
         prefix: &[u32],
     ) -> Result<Option<Route<A>>, NoMemory>
-        requires task { IsTask task.now }
-        requires behind { IsBehind task.now prefix.now }
-        requires fits { IsTrue (is_prefix task.now.plan task.now.request prefix.now) }
-        requires hops { max_hops ≡ task.now.request.max_hops }
-        requires nodes { length task.now.table ≤ most_nodes }
+        requires asked { IsAsked task.now prefix.now }
         requires few { looks.old.count ≤ 2 * length task.now.plan.contacts }
         requires kept { IsKept (tabled_of task.now) task.now.request kept.old }
         ensures kept { IsKept (tabled_of task.now) task.now.request kept.new }
         ensures least { IfOk result (IsLeast task.now.plan task.now.request prefix.now task.now.excluded) }
         ensures bound { looks.new.count ≤ (3 * length task.now.table + 1) * length task.now.plan.contacts }
         ensures counted { IfOk result (λ answer. hops_told answer ≤ looks.new.count) }
-        ensures cut { IfOk result (IsCut task.now.plan max_hops prefix.now looks.new.count) }
+        ensures cut { IfOk result (IsCut task.now.plan task.now.request.max_hops prefix.now looks.new.count) }
     {
-        let most = task.two_passes();
-        let left = max_hops as usize - prefix.len();
-        let told = kept.answers.tell(task, looks, most, prefix, left)?;
-        let near = told.near;
-        let known = told.answer;
-        if let Some(answer) = known {
-            return Ok(answer);
+        let asked = Question { task, prefix };
+        let place = self.find_kept(kept, &asked, looks)?;
+        if let Some(place) = place {
+            let answer = &kept.answers.slots[place];
+            return asked.route(self.alloc, looks, &answer.way, answer.delivery);
         }
-        let asked = Question {
-            task,
-            prefix,
-            max_hops,
-        };
-        self.least_searched(kept, &asked, looks, near)
+        let way = self.find_own(&asked, &kept.reach, looks)?;
+        let route = asked.route(self.alloc, looks, &way.numbers, way.delivery)?;
+        kept.answers.keep_after(&asked, way);
+        Ok(route)
     }
 }
 
@@ -207,13 +195,9 @@ impl<A: Allocator + Copy> Settled<A> {
             standing,
             course.goal,
         );
-        let answer = self.search.least_beside(
-            kept,
-            &task,
-            &mut self.looks,
-            request.max_hops(),
-            part.prefix,
-        );
+        let answer = self
+            .search
+            .least_beside(kept, &task, &mut self.looks, part.prefix);
         kept.course = Some(course);
         answer
     }

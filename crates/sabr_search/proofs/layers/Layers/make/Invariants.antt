@@ -4,7 +4,8 @@ use Rattle.sabr_search.proofs.layers.Layers.make.Given as goal
 
 abbrev pub invariant-loop-hop : goal.invariant-loop-hop
 invariant-loop-hop g l = record {
-  layers : AreLayers l.task l.limits.ceiling l.hop l.self.bounds.items l.self.arrival.items l.self.place.items l.self.reached.items l.best;
+  layers : AreLayers l.task l.hop l.self.bounds.items l.self.arrival.items l.self.place.items l.self.reached.items l.best;
+  limit : l.looks.count ≤ l.most;
   counted : l.looks.count ≤ l.fn.looks.count + l.hop * length l.task.plan.contacts;
-  sooner : l.limits.lower < l.best.delivery;
+  sooner : l.lower < l.best.delivery;
 }

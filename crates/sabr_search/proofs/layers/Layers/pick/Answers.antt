@@ -1,4 +1,4 @@
-use Rattle.std.proofs.Common.{ℕ, List, ◌≤◌, ◌<◌, ◌+◌, ◌-◌, ◌*◌, ◌++◌, [], ◌∷◌, length, ap, sym, ◌∙◌, arith}
+use Rattle.std.proofs.Common.{ℕ, List, ◌≤◌, ◌<◌, ◌+◌, ◌-◌, ◌*◌, [], length, arith}
 use Rattle.std.proofs.Math.Nat.{mul-le-mul_right}
 use Rattle.std.proofs.lemmas.Option.{slice_get_within}
 use Rattle.sabr_index.specs.declared.link.Pass.{Pass}
@@ -7,7 +7,7 @@ use Rattle.sabr_search.specs.Task.{SearchTask}
 use Rattle.sabr_search.specs.Linked.{AreLinksAt}
 use Rattle.sabr_search.specs.Late.{AreMet}
 use Rattle.sabr_search.specs.Picks.{IsLeastStep}
-use Rattle.sabr_search.proofs.Front.{IsFront, ends_below, entries_open, front_none, some_step, front_more, front_all, met_place, degree_at_most, append_none, append_back}
+use Rattle.sabr_search.proofs.Front.{IsFront, ends_below, entries_open, front_none, some_step, front_more, front_all, met_place, degree_at_most}
 use Rattle.sabr_search.proofs.layers.Layers.pick.Goals as goal
 
 pub loop-hop-init : goal.loop-hop-init
@@ -19,7 +19,7 @@ loop-hop-init g c =
       limit = c.requires.looked;
       met = c.requires.met;
       node = omega (arith, c.start.ensures, c.requires.task.start_in);
-      chosen = ([], rw (c.in_ok-extend_from_slice.ensures.items, c.in_ok-contacts.ensures.items) (sym (append_none c.args.prefix.now)), started);
+      chosen = rw c.in_ok-numbers.ensures.items started;
     }
 
 pub point_at-requires-clause-bounded : goal.point_at-requires-clause-bounded
@@ -62,7 +62,7 @@ unreachable-requires g c =
     let new = c.point_at.new.self in
     let met : AreMet task c.args.aim.now.since.now c.args.aim.now.delivery c.args.left new.ends.items new.place.items new.reached.items =
     rw (c.point_at.ensures.ends, c.point_at.ensures.reached) (met_place task c.requires.task _ _ _ _ _ _ c.loop-hop.invariant.met new.place.items c.point_at.ensures.many) in
-    some_step task c.requires.task _ _ c.args.left _ _ _ met c.loop-hop.hop c.loop-hop-test.true c.loop-hop.invariant.chosen.0 c.loop-hop.from.node c.loop-hop.from.at c.loop-hop.invariant.chosen.2 (rw c.in_default.is at c.least_step-least.ensures.none)
+    some_step task c.requires.task _ _ c.args.left _ _ _ met c.loop-hop.hop c.loop-hop-test.true c.loop-hop.numbers.items c.loop-hop.from.node c.loop-hop.from.at c.loop-hop.invariant.chosen (rw c.in_default.is at c.least_step-least.ensures.none)
 
 pub returns-in_err-push-clause-looks : goal.returns-in_err-push-clause-looks
 returns-in_err-push-clause-looks g c =
@@ -75,7 +75,6 @@ loop-hop-preserved g c =
     let task = c.args.aim.now.task.now in
     let d = c.args.aim.now.delivery in
     let was = c.loop-hop.invariant.met in
-    let so_far = c.loop-hop.invariant.chosen in
     let new = c.point_at.new.self in
     let passes : length c.links-links.result.passes.now ≤ length task.plan.contacts = few task _ _ _ c.links-links.ensures in
     let met : AreMet task c.args.aim.now.since.now d c.args.left new.ends.items new.place.items new.reached.items =
@@ -86,14 +85,9 @@ loop-hop-preserved g c =
       limit = omega (arith, c.least_step-least.ensures.looks, c.loop-hop.invariant.limit);
       met = met;
       node = slice_get_within task.table c.in-Some.step.node least.step.contact.to least.step.receiver;
-      chosen = (
-        so_far.0 ++ c.in-Some.step.number ∷ [],
-        c.in_ok-push.ensures.items ∙ ap (λ xs. xs ++ c.in-Some.step.number ∷ []) so_far.1 ∙ append_back c.args.prefix.now so_far.0 (c.in-Some.step.number ∷ []),
-        front_more task c.requires.task _ d c.args.left _ _ _ met c.loop-hop.hop (omega arith) so_far.0 c.loop-hop.from.node c.loop-hop.from.at so_far.2 c.in-Some.step least,
-      );
+      chosen = rw c.in_ok-push.ensures.items (front_more task c.requires.task _ d c.args.left _ _ _ met c.loop-hop.hop (omega arith) c.loop-hop.numbers.items c.loop-hop.from.node c.loop-hop.from.at c.loop-hop.invariant.chosen c.in-Some.step least);
     }
 
 pub returns-clause-picked : goal.returns-clause-picked
 returns-clause-picked g c =
-    let so_far = c.loop-hop.invariant.chosen in
-    (so_far.0, so_far.1, front_all c.args.aim.now.task.now (c.args.left + 1) c.args.aim.now.delivery c.loop-hop.hop so_far.0 c.loop-hop.from.node c.loop-hop.from.at so_far.2 (omega arith) c.requires.least)
+    front_all c.args.aim.now.task.now (c.args.left + 1) c.args.aim.now.delivery c.loop-hop.hop c.loop-hop.numbers.items c.loop-hop.from.node c.loop-hop.from.at c.loop-hop.invariant.chosen (omega arith) c.requires.least

@@ -1,4 +1,4 @@
-use Rattle.std.proofs.Common.{◌≡◌, ℕ, List, ◌++◌, ◌+◌, ◌*◌, ◌≤◌, ◌<◌, length}
+use Rattle.std.proofs.Common.{◌+◌, ◌*◌, ◌≤◌, ◌<◌, length}
 use Rattle.sabr_search.specs.Late.{AreMet}
 use Rattle.sabr_search.proofs.Front.{IsFront}
 use Rattle.sabr_search.proofs.layers.Layers.pick.Given as goal
@@ -9,5 +9,5 @@ invariant-loop-hop g l = record {
   limit : l.looks.count ≤ l.most;
   met : AreMet l.aim.task.now l.aim.since.now l.aim.delivery l.left l.self.ends.items l.self.place.items l.self.reached.items;
   node : l.from.node < length l.aim.task.now.table;
-  chosen : (s : List ℕ) × (l.contacts.items ≡ l.prefix ++ s) × IsFront l.aim.task.now (l.left + 1) l.aim.delivery l.hop s l.from.node l.from.at;
+  chosen : IsFront l.aim.task.now (l.left + 1) l.aim.delivery l.hop l.numbers.items l.from.node l.from.at;
 }

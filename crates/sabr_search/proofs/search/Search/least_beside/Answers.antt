@@ -1,61 +1,70 @@
-use Rattle.std.proofs.Common.{◌-◌, length, arith}
-use Rattle.sabr_search.proofs.Prefixes.{prefix_facts}
-use Rattle.sabr_search.proofs.Law.{contacts_few, prefix_few}
-use Rattle.sabr_search.proofs.FirstLimits.{answers_are_least}
-use Rattle.sabr_search.proofs.Beside.{picks_within, told_least, told_bound, told_cut}
+use Rattle.std.proofs.Common.{Option, length, ap, ◌∙◌, arith}
+use Rattle.std.specs.declared.result.Result.{Result}
+use Rattle.std.specs.declared.result.Result.TheVariants.{Ok}
+use Rattle.sabr_model.specs.Record.{RouteRecord}
+use Rattle.sabr_model.specs.declared.fault.NoMemory.{NoMemory}
+use Rattle.sabr_search.specs.Task.{left_of}
+use Rattle.sabr_search.proofs.Answered.{passes_within, route_fits, told_least, told_bound, told_cut}
+use Rattle.sabr_search.proofs.KeptAnswers.{found_told}
+use Rattle.sabr_search.proofs.Around.{of_request, late_bounds}
 use Rattle.sabr_search.proofs.search.Search.least_beside.Goals as goal
 
-pub overflow_sub-left : goal.overflow_sub-left
-overflow_sub-left g c =
-    let facts = prefix_facts c.args.task.now.plan c.args.task.now.request c.args.prefix.now c.requires.fits in
-    omega (arith, facts.within, c.requires.hops)
+pub returns-in_err-place-clause-bound : goal.returns-in_err-place-clause-bound
+returns-in_err-place-clause-bound g c = omega (arith, c.find_kept.ensures.looks, passes_within c.args.task.now c.args.prefix.now c.requires.asked)
 
-pub tell-requires-clause-few : goal.tell-requires-clause-few
-tell-requires-clause-few g c =
-    let task = c.args.task.now in
-    let facts = prefix_facts task.plan task.request c.args.prefix.now c.requires.fits in
-    omega (arith, c.requires.few, c.two_passes-most.ensures.value, prefix_few task.plan task.request c.args.prefix.now facts)
+pub returns-in_err-way-clause-bound : goal.returns-in_err-way-clause-bound
+returns-in_err-way-clause-bound g c = omega (arith, c.find_own.ensures.bound)
 
-pub tell-requires-clause-most : goal.tell-requires-clause-most
-tell-requires-clause-most g c = omega (arith, c.two_passes-most.ensures.value, contacts_few c.args.task.now.plan c.requires.task.plan)
+pub returns-in_err-route-clause-bound : goal.returns-in_err-route-clause-bound
+returns-in_err-route-clause-bound g c = omega (arith, c.find_own.ensures.bound, c.in_err-route.ensures.refused)
 
-pub tell-requires-clause-many : goal.tell-requires-clause-many
-tell-requires-clause-many g c =
-    let facts = prefix_facts c.args.task.now.plan c.args.task.now.request c.args.prefix.now c.requires.fits in
-    omega (arith, facts.within, c.requires.hops)
-
-pub returns-in_err-told-clause-bound : goal.returns-in_err-told-clause-bound
-returns-in_err-told-clause-bound g c =
-    let task = c.args.task.now in
-    picks_within (length task.table) (length task.plan.contacts) 0 0 c.tell.new.looks.count (omega (arith, c.requires.task.start_in)) (omega arith) (omega arith)
-    (omega (arith, c.in_err-told.ensures.refused, c.two_passes-most.ensures.value))
+pub returns-in-Some-clause-least : goal.returns-in-Some-clause-least
+returns-in-Some-clause-least g c = told_least c.args.task.now c.args.prefix.now c.requires.asked c.route.result c.route.ensures.answered
 
 pub returns-in-Some-clause-bound : goal.returns-in-Some-clause-bound
 returns-in-Some-clause-bound g c =
-    told_bound c.args.task.now c.requires.task c.args.prefix.now c.requires.behind c.requires.fits c.args.max_hops c.requires.hops c.in-Some.answer (rw c.in-Some.is at c.in_ok-told.ensures.told)
-    c.tell.new.looks.count (rw c.two_passes-most.ensures.value at (rw c.in-Some.is at c.in_ok-told.ensures.looks))
+    told_bound c.args.task.now c.args.prefix.now c.requires.asked c.route.result c.route.ensures.answered c.find_kept.new.looks.count c.route.new.looks.count c.route.ensures.refused c.route.ensures.looks
+    (omega (arith, c.find_kept.ensures.looks, passes_within c.args.task.now c.args.prefix.now c.requires.asked))
 
 pub returns-in-Some-clause-cut : goal.returns-in-Some-clause-cut
-returns-in-Some-clause-cut g c = λ most.
-    told_cut c.args.task.now c.requires.task c.args.prefix.now c.requires.behind c.requires.fits c.args.max_hops c.requires.hops c.in-Some.answer (rw c.in-Some.is at c.in_ok-told.ensures.told)
-    c.tell.new.looks.count (rw c.two_passes-most.ensures.value at (rw c.in-Some.is at c.in_ok-told.ensures.looks))
-
-pub returns-in-Some-clause-least : goal.returns-in-Some-clause-least
-returns-in-Some-clause-least g c =
-    told_least c.args.task.now c.requires.task c.args.prefix.now c.requires.behind c.requires.fits c.args.max_hops c.requires.hops c.in-Some.answer (rw c.in-Some.is at c.in_ok-told.ensures.told)
+returns-in-Some-clause-cut g c =
+    told_cut c.args.task.now c.args.prefix.now c.requires.asked c.route.result c.route.ensures.answered c.find_kept.new.looks.count c.route.new.looks.count _ c.route.ensures.looks c.route.ensures.hops
+    (λ most. omega (arith, c.find_kept.ensures.looks))
 
 pub returns-clause-least : goal.returns-clause-least
 returns-clause-least g c =
-    let task = c.args.task.now in
-    let facts = prefix_facts task.plan task.request c.args.prefix.now c.requires.fits in
-    answers_are_least task c.requires.task c.args.prefix.now c.requires.behind facts (c.args.max_hops - length c.args.prefix.now) (omega (arith, facts.within, c.requires.hops)) c.least_searched.result c.least_searched.ensures.answered
+    let result : Result (Option RouteRecord) NoMemory = Ok c.in_ok-route.route in
+    told_least c.args.task.now c.args.prefix.now c.requires.asked result c.in_ok-route.ensures.answered
 
-pub least_searched-requires-clause-asked : goal.least_searched-requires-clause-asked
-least_searched-requires-clause-asked g c = record {
-  task_is = c.requires.task;
-  behind = c.requires.behind;
-  fits = c.requires.fits;
-  hops = c.requires.hops;
-  few = c.ranges.max_hops.fits;
-  nodes = c.requires.nodes;
-}
+pub returns-clause-bound : goal.returns-clause-bound
+returns-clause-bound g c =
+    let result : Result (Option RouteRecord) NoMemory = Ok c.in_ok-route.route in
+    told_bound c.args.task.now c.args.prefix.now c.requires.asked result c.in_ok-route.ensures.answered c.find_own.new.looks.count _ tt c.in_ok-route.ensures.looks c.find_own.ensures.bound
+
+pub returns-clause-cut : goal.returns-clause-cut
+returns-clause-cut g c =
+    let result : Result (Option RouteRecord) NoMemory = Ok c.in_ok-route.route in
+    told_cut c.args.task.now c.args.prefix.now c.requires.asked result c.in_ok-route.ensures.answered c.find_own.new.looks.count _ (length c.in_ok-way.way.numbers.items) c.in_ok-route.ensures.looks (c.in_ok-route.ensures.hops ∙ ap length c.deref-2.ensures.value) c.in_ok-way.ensures.cut
+
+pub route-requires-clause-found : goal.route-requires-clause-found
+route-requires-clause-found g c =
+    let task = c.args.task.now in
+    rw c.deref.ensures.value
+    (found_told task c.requires.asked.task_is c.requires.asked.behind.goal_is c.find_kept.new.kept.answers.slots.items c.find_kept.ensures.kept.1 c.in-Some.place (left_of task c.args.prefix.now) (rw c.in-Some.is at c.in_ok-place.ensures.some) c.index-answer.result.now c.index-answer.ensures)
+
+pub route-requires-clause-few : goal.route-requires-clause-few
+route-requires-clause-few g c =
+    let task = c.args.task.now in
+    let prefix = c.args.prefix.now in
+    let answer = c.index-answer.result.now in
+    let found = found_told task c.requires.asked.task_is c.requires.asked.behind.goal_is c.find_kept.new.kept.answers.slots.items c.find_kept.ensures.kept.1 c.in-Some.place (left_of task prefix) (rw c.in-Some.is at c.in_ok-place.ensures.some) answer c.index-answer.ensures in
+    rw c.deref.ensures.value (route_fits task prefix c.requires.asked answer.way.items answer.delivery c.find_kept.new.looks.count found (omega (arith, c.find_kept.ensures.looks, passes_within task prefix c.requires.asked)))
+
+pub route-requires-2-clause-few : goal.route-requires-2-clause-few
+route-requires-2-clause-few g c =
+    rw c.deref-2.ensures.value (route_fits c.args.task.now c.args.prefix.now c.requires.asked c.in_ok-way.way.numbers.items c.in_ok-way.way.delivery c.find_own.new.looks.count c.in_ok-way.ensures.found c.find_own.ensures.bound)
+
+pub find_own-requires-clause-bound : goal.find_own-requires-clause-bound
+find_own-requires-clause-bound g c =
+    let task = c.args.task.now in
+    late_bounds task c.requires.asked.task_is.nodes (of_request task c.args.prefix.now c.requires.asked.behind) _ c.find_kept.ensures.kept.0

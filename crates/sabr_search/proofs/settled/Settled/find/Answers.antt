@@ -43,20 +43,17 @@ open-requires-clause-few g c =
 pub returns-in_err-standing-clause-kept : goal.returns-in_err-standing-clause-kept
 returns-in_err-standing-clause-kept g c = rw c.plan-plan.ensures at c.take_course.ensures.kept
 
-pub least_beside-answer-requires-clause-task : goal.least_beside-answer-requires-clause-task
-least_beside-answer-requires-clause-task g c =
+pub least_beside-answer-requires-clause-asked : goal.least_beside-answer-requires-clause-asked
+least_beside-answer-requires-clause-asked g c =
     let found = rw c.plan-plan.ensures at c.in_ok-standing.ensures.entered in
-    rw c.new-task.ensures (found c.args.part.excluded.now).0
-
-pub least_beside-answer-requires-clause-behind : goal.least_beside-answer-requires-clause-behind
-least_beside-answer-requires-clause-behind g c =
-    let found = rw c.plan-plan.ensures at c.in_ok-standing.ensures.entered in
-    rw c.new-task.ensures (found c.args.part.excluded.now).1
-
-pub least_beside-answer-requires-clause-nodes : goal.least_beside-answer-requires-clause-nodes
-least_beside-answer-requires-clause-nodes g c =
+    let both = found c.args.part.excluded.now in
     let course : IsCourse c.args.index.now c.args.request.now c.go.new.self = rw c.plan-plan.ensures at c.in_ok-standing.ensures.course in
-    rw c.new-task.ensures (nodes_few c.args.index.now course.plan course.tabled)
+    rw c.new-task.ensures (record {
+      task_is = both.0;
+      behind = both.1;
+      fits = c.requires.fits;
+      nodes = nodes_few c.args.index.now course.plan course.tabled;
+    })
 
 pub least_beside-answer-requires-clause-kept : goal.least_beside-answer-requires-clause-kept
 least_beside-answer-requires-clause-kept g c = rw c.new-task.ensures c.open.ensures.kept

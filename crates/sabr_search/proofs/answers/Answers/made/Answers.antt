@@ -1,7 +1,7 @@
 use Rattle.std.proofs.Common.{◌≡◌, refl}
 use Rattle.sabr_search.specs.KeptAnswers.{AreListed}
 use Rattle.sabr_search.proofs.KeptAnswers.{kept_is}
-use Rattle.sabr_search.proofs.answers.Answer.of.Goals as goal
+use Rattle.sabr_search.proofs.answers.Answers.made.Goals as goal
 
 pub returns : goal.returns
 returns g c =

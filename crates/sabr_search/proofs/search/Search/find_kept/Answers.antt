@@ -1,0 +1,26 @@
+use Rattle.std.proofs.Common.{arith}
+use Rattle.sabr_search.proofs.Law.{contacts_few}
+use Rattle.sabr_search.proofs.Around.{of_request, late_bounds}
+use Rattle.sabr_search.proofs.Answered.{left_less}
+use Rattle.sabr_search.proofs.search.Search.find_kept.Goals as goal
+
+pub recall-recalled-requires-clause-most : goal.recall-recalled-requires-clause-most
+recall-recalled-requires-clause-most g c = omega (arith, c.two_passes-most.ensures.value, contacts_few c.args.asked.now.task.now.plan c.requires.asked.task_is.plan)
+
+pub recall-requires-clause-most : goal.recall-requires-clause-most
+recall-requires-clause-most g c = omega (arith, c.two_passes-most.ensures.value, contacts_few c.args.asked.now.task.now.plan c.requires.asked.task_is.plan)
+
+pub run-requires-clause-nodes : goal.run-requires-clause-nodes
+run-requires-clause-nodes g c = omega (arith, c.left-left.ensures, left_less c.args.asked.now.task.now c.args.asked.now.prefix.now c.requires.asked, c.requires.asked.nodes)
+
+pub shut_few-requires-clause-request : goal.shut_few-requires-clause-request
+shut_few-requires-clause-request g c = of_request c.args.asked.now.task.now c.args.asked.now.prefix.now c.requires.asked.behind
+
+pub returns-in-Some-clause-some : goal.returns-in-Some-clause-some
+returns-in-Some-clause-some g c = rw c.recall-recalled.ensures.slots (rw c.in-Some.is at c.recall-recalled.ensures.some)
+
+pub returns-clause-some : goal.returns-clause-some
+returns-clause-some g c = rw c.recall.ensures.slots c.recall.ensures.some
+
+pub run-requires-clause-bound : goal.run-requires-clause-bound
+run-requires-clause-bound g c = rw c.with_shut-question.ensures (late_bounds _ c.requires.asked.task_is.nodes c.in_ok-shut_near.ensures.request _ c.requires.kept.0)

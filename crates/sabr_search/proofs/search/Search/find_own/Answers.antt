@@ -1,0 +1,28 @@
+use Rattle.std.proofs.Common.{arith}
+use Rattle.sabr_search.proofs.Answered.{left_less, left_free, layers_within, search_fits}
+use Rattle.sabr_search.proofs.search.Search.find_own.Goals as goal
+
+pub run-requires-clause-nodes : goal.run-requires-clause-nodes
+run-requires-clause-nodes g c = omega (arith, c.left.ensures, left_less c.args.asked.now.task.now c.args.asked.now.prefix.now c.requires.asked, c.requires.asked.nodes)
+
+pub run-requires-clause-few : goal.run-requires-clause-few
+run-requires-clause-few g c = omega (arith, search_fits c.args.asked.now.task.now c.args.asked.now.prefix.now c.requires.asked c.args.looks.now.count c.requires.few)
+
+pub unreachable-requires : goal.unreachable-requires
+unreachable-requires g c =
+    omega (arith, rw (c.in_default.is, c.left.ensures) at c.in_ok-found.ensures.none, search_fits c.args.asked.now.task.now c.args.asked.now.prefix.now c.requires.asked c.args.looks.now.count c.requires.few)
+
+pub returns-in_err-found-clause-bound : goal.returns-in_err-found-clause-bound
+returns-in_err-found-clause-bound g c =
+    omega (arith, rw c.left.ensures at c.run.ensures.counted, c.requires.few, layers_within c.args.asked.now.task.now c.args.asked.now.prefix.now c.requires.asked)
+
+pub returns-clause-bound : goal.returns-clause-bound
+returns-clause-bound g c =
+    omega (arith, rw c.left.ensures at c.run.ensures.counted, c.requires.few, layers_within c.args.asked.now.task.now c.args.asked.now.prefix.now c.requires.asked)
+
+pub returns-clause-cut : goal.returns-clause-cut
+returns-clause-cut g c = λ most.
+    let task = c.args.asked.now.task.now in
+    let prefix = c.args.asked.now.prefix.now in
+    let few = (rw (c.in-Some.is, c.left.ensures) at c.in_ok-found.ensures.cut) (left_free task prefix c.requires.asked most) in
+    omega (arith, few, c.requires.few)
