@@ -1,5 +1,5 @@
 -- From the least way of a search to the law of finders, and the bounds on looks.
-use Rattle.std.proofs.Common.{◌≡◌, inl, inr, ℕ, suc, ◌+◌, ◌*◌, ◌≤◌, true, eqb, ltb, List, [], ◌∷◌, ◌++◌, length, map, Some, None, refl, ap, sym, subst, ◌∙◌, ⊎_elim, arith, length-append}
+use Rattle.std.proofs.Common.{◌≡◌, inl, inr, ℕ, suc, ◌+◌, ◌≤◌, true, eqb, ltb, List, [], ◌∷◌, ◌++◌, length, map, Some, None, refl, ap, sym, subst, ◌∙◌, ⊎_elim, arith, length-append}
 use Rattle.std.specs.Prelude.{IsTrue}
 use Rattle.std.specs.List.{AllByRecursion}
 use Rattle.std.specs.Option.{option_map}
@@ -135,9 +135,3 @@ behind_sizes task is prefix ns route =
     let facts = route_facts task.plan task.request (prefix ++ ns) route in
     let size : length (prefix ++ ns) ≡ length prefix + length ns = length-append prefix ns in
     (omega (arith, facts.within), omega (arith, route_nodes task.plan task.request task.table is.nodes (prefix ++ ns) route), omega (arith, route_few task.plan task.request (prefix ++ ns) route))
-
-pub prefix_looks : (p : ContactPlan) (r : RouteRequest) (prefix : List ℕ) → IsPrefix p r prefix → (n looks : ℕ) → looks ≤ length prefix → looks ≤ (3 * n + 1) * length p.contacts
-prefix_looks p r prefix facts n looks le =
-    let c = length p.contacts in
-    let few = prefix_few p r prefix facts in
-    omega arith

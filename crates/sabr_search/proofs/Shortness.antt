@@ -1,10 +1,12 @@
 -- A way with the fewest hops is, with its prefix, no longer than the plan; and a plan has few nodes.
-use Rattle.std.proofs.Common.{◌≡◌, ℕ, ◌+◌, ◌*◌, ◌<◌, ◌≤◌, true, not, List, [], ◌∷◌, ◌++◌, length, refl, sym, ap, ◌∙◌, arith, length-append}
-use Rattle.std.proofs.lemmas.Bool.{and_parts, or_parts, both_ways}
+use Rattle.std.proofs.Common.{◌≡◌, ℕ, ◌+◌, ◌*◌, ◌<◌, ◌≤◌, true, not, ◌||◌, List, [], ◌∷◌, ◌++◌, length, refl, sym, ap, ◌∙◌, arith, length-append}
+use Rattle.std.proofs.Math.Nat.{mul-le-mul_right}
+use Rattle.std.proofs.lemmas.Bool.{and_parts, or_parts, both_ways, eq-eqb}
 use Rattle.std.specs.Option.{option_and_then}
 use Rattle.std.specs.declared.option.Option.TheVariants.{Some}
 use Rattle.sabr_model.specs.declared.contact.Contact.{Contact}
 use Rattle.sabr_model.specs.Plan.{TabledPlan, IsPlan, has, are_different}
+use Rattle.sabr_model.specs.Arrival.{RouteRequest}
 use Rattle.sabr_model.specs.Table.{ends_of}
 use Rattle.sabr_model.specs.Tabled.{IsTabled}
 use Rattle.sabr_model.specs.Route.{chain_end, receivers}
@@ -15,7 +17,7 @@ use Rattle.sabr_search.proofs.Prefixes.{IsPrefix}
 use Rattle.sabr_search.proofs.Bridge.{IsChain, chain_of_way}
 use Rattle.sabr_search.proofs.PartWays.{way_differs}
 use Rattle.sabr_search.proofs.StepLists.{few_different}
-use Rattle.sabr_search.proofs.Law.{chain_few, contacts_few}
+use Rattle.sabr_search.proofs.Law.{chain_few, contacts_few, prefix_few}
 use Rattle.sabr_model.proofs.Different.{different_append}
 
 -- a way with the fewest hops by its delivery is, with its prefix, no longer than the plan
@@ -44,3 +46,17 @@ ends_size (c ∷ cs) = omega (arith, ends_size cs)
 pub nodes_few : (p : TabledPlan) → IsPlan p.plan → IsTabled p → length p.table ≤ most_nodes
 nodes_few p good tabled =
     omega (arith, few_different p.table (ends_of p.plan.contacts) tabled.once (λ q h. sym (tabled.nodes q) ∙ h), ends_size p.plan.contacts, contacts_few p.plan good)
+
+-- a plan that has a contact has a node
+nodes_some : (cs : List Contact) (table : List ℕ) → ((x : ℕ) → has x table ≡ has x (ends_of cs)) → length cs ≤ length table * length cs
+nodes_some [] table same = omega arith
+nodes_some (c ∷ cs) [] same = absurd (both_ways (has c.from (ends_of (c ∷ cs))) (sym (same c.from)) (ap (λ b. b || has c.from (c.to ∷ ends_of cs)) (eq-eqb c.from c.from refl)))
+nodes_some (c ∷ cs) (x ∷ table) same =
+    let one : 1 * length (c ∷ cs) ≤ length (x ∷ table) * length (c ∷ cs) = mul-le-mul_right (length (c ∷ cs)) (omega arith) in
+    omega (arith, one)
+
+-- so the looks for the index and a prefix are within the bound of a finder
+pub entered_looks : (p : TabledPlan) (r : RouteRequest) (prefix : List ℕ) → IsTabled p → IsPrefix p.plan r prefix → (n looks : ℕ) → length p.table ≡ n → looks ≤ length p.plan.contacts + length prefix → looks ≤ (3 * n + 1) * length p.plan.contacts
+entered_looks p r prefix tabled facts n looks many le =
+    let some : length p.plan.contacts ≤ n * length p.plan.contacts = rw (← many) (nodes_some p.plan.contacts p.table tabled.nodes) in
+    omega (arith, le, some, prefix_few p.plan r prefix facts)

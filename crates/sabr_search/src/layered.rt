@@ -86,13 +86,13 @@ impl<A: Allocator + Copy> Layered<A> {
         }
     }
 
-    /// Counts a call, which has no looks yet.
-    fn begin(&mut self)
-        ensures looks { self.new.looks.count ≡ 0 }
+    /// Counts a call, which has these looks so far.
+    fn begin(&mut self, looks: Looks)
+        ensures looks { self.new.looks ≡ looks }
         ensures called { self.new.calls.count ≡ self.old.calls.count + 1 }
     {
         self.calls.add();
-        self.looks = Looks::new();
+        self.looks = looks;
     }
 
     /// Finds the least route of a part.
@@ -103,12 +103,12 @@ impl<A: Allocator + Copy> Layered<A> {
         part: Part<'_>,
     ) -> Result<Option<Route<A>>, NoMemory>
         requires fits { IsTrue (is_prefix index.now.plan request.now part.prefix.now) }
+        requires few { self.old.looks.count ≤ length index.now.plan.contacts }
         ensures least { IfOk result (IsLeast index.now.plan request.now part.entry.prefix.now part.entry.excluded.now) }
         ensures bound { self.new.looks.count ≤ (3 * node_count index.now.plan.contacts + 1) * length index.now.plan.contacts }
         ensures counted { IfOk result (λ answer. hops_told answer ≤ self.new.looks.count) }
-        ensures called { self.new.calls.count ≡ self.old.calls.count + 1 }
+        ensures calls { self.new.calls ≡ self.old.calls }
     {
-        self.begin();
         let plan = index.plan();
         let opened = Course::open(self.alloc, plan, request)?;
         let Some(mut course) = opened else {
@@ -143,8 +143,8 @@ impl<A: Allocator + Copy> BestOf<A> for Layered<A> {
         request: &Request,
         part: Part<'_>,
     ) -> Result<Option<Route<A>>, NoMemory> {
+        self.begin(Looks::over(plan));
         let Ok(index) = Index::new(self.alloc, plan) else {
-            self.begin();
             return Err(NoMemory);
         };
         self.find(&index, request, part)
@@ -158,6 +158,7 @@ impl<A: Allocator + Copy> BestOf<A> for Layered<A> {
         part: Part<'_>,
     ) -> Result<Option<Route<A>>, NoMemory> {
         let _kept = kept;
+        self.begin(Looks::new());
         self.find(index, request, part)
     }
 

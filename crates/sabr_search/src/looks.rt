@@ -22,10 +22,19 @@ impl Looks {
         Looks { count: 0 }
     }
 
+    /// One look for each contact of a plan, as making its index takes.
+    pub fn over<A: Allocator + Copy>(plan: &Plan<A>) -> Looks
+        ensures { result.count ≡ length plan.now.plan.contacts }
+    {
+        Looks {
+            count: plan.contacts().len() as u64,
+        }
+    }
+
     /// Counts a look and passes on what leads to the record: the contact's number, or its pass.
     ///
     /// Searches read records only after this call, once for each use. The binary searches of a link compare keys and
-    /// bounds that the index keeps, and read no record. Making the index isn't counted.
+    /// bounds that the index keeps, and read no record.
     pub fn look<T>(&mut self, contact: T) -> T
         requires few { self.old.count < 2 ^ 62 }
         ensures counted { self.new.count ≡ self.old.count + 1 }

@@ -149,13 +149,13 @@ impl<A: Allocator + Copy> Settled<A> {
         }
     }
 
-    /// Counts a call, which has no looks yet.
-    fn begin(&mut self)
-        ensures looks { self.new.looks.count ≡ 0 }
+    /// Counts a call, which has these looks so far.
+    fn begin(&mut self, looks: Looks)
+        ensures looks { self.new.looks ≡ looks }
         ensures called { self.new.calls.count ≡ self.old.calls.count + 1 }
     {
         self.calls.add();
-        self.looks = Looks::new();
+        self.looks = looks;
     }
 
     /// Finds the least route of a part, by what is kept or else by a search. `in_order` says that the excluded numbers
@@ -169,16 +169,16 @@ impl<A: Allocator + Copy> Settled<A> {
         in_order: bool,
     ) -> Result<Option<Route<A>>, NoMemory>
         requires fits { IsTrue (is_prefix index.now.plan request.now part.prefix.now) }
+        requires few { self.old.looks.count ≤ length index.now.plan.contacts }
         requires rising { IsTrue in_order → IsStrictlyIncreasing part.excluded.now }
         requires kept { IsKept index.now request.now kept.old }
         ensures least { IfOk result (IsLeast index.now.plan request.now part.entry.prefix.now part.entry.excluded.now) }
         ensures bound { self.new.looks.count ≤ (3 * node_count index.now.plan.contacts + 1) * length index.now.plan.contacts }
         ensures counted { IfOk result (λ answer. hops_told answer ≤ self.new.looks.count) }
-        ensures called { self.new.calls.count ≡ self.old.calls.count + 1 }
+        ensures calls { self.new.calls ≡ self.old.calls }
         ensures kept { IsKept index.now request.now kept.new }
         ensures cut { IfOk result (IsCut index.now.plan request.now.max_hops part.entry.prefix.now self.new.looks.count) }
     {
-        self.begin();
         let plan = index.plan();
         let taken = kept.take_course(self.alloc, plan, request)?;
         let Some(mut course) = taken else {
@@ -221,8 +221,8 @@ impl<A: Allocator + Copy> BestOf<A> for Settled<A> {
         ensures called { self.new.calls.count ≡ self.old.calls.count + 1 }
         ensures cut { IfOk result (IsCut plan.now.plan request.now.max_hops part.entry.prefix.now self.new.looks.count) }
     {
+        self.begin(Looks::over(plan));
         let Ok(index) = Index::new(self.alloc, plan) else {
-            self.begin();
             return Err(NoMemory);
         };
         let mut kept = Kept::for_one(self.alloc);
@@ -245,6 +245,7 @@ impl<A: Allocator + Copy> BestOf<A> for Settled<A> {
         ensures kept { IsKept index.now request.now kept.new }
         ensures cut { IfOk result (IsCut index.now.plan request.now.max_hops part.entry.prefix.now self.new.looks.count) }
     {
+        self.begin(Looks::new());
         self.find(kept, index, request, part, rises(part.excluded))
     }
 
@@ -265,6 +266,7 @@ impl<A: Allocator + Copy> BestOf<A> for Settled<A> {
         ensures kept { IsKept index.now request.now kept.new }
         ensures cut { IfOk result (IsCut index.now.plan request.now.max_hops part.entry.prefix.now self.new.looks.count) }
     {
+        self.begin(Looks::new());
         self.find(kept, index, request, part, true)
     }
 

@@ -224,14 +224,6 @@ impl<'a, A: Allocator + Copy> Task<'a, A> {
         2 * self.one_pass()
     }
 
-    /// As many looks as three passes over all contacts take.
-    pub fn three_passes(&self) -> u64
-        ensures value { result ≡ 3 * length self.now.plan.contacts }
-        ensures limit { result ≤ 2 ^ 62 }
-    {
-        3 * self.one_pass()
-    }
-
     /// Returns how many passes of a link, from this one on, have numbers that no route takes after the prefix: 0 if a
     /// route may take this one, else at most as many as the pass knows in its row. A walk over passes keeps the finger.
     #[inline(always)]

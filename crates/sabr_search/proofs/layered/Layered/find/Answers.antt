@@ -7,8 +7,8 @@ use Rattle.sabr_search.specs.Course.{IsCourse}
 use Rattle.sabr_search.specs.Task.{SearchTask, IsTask, IsBehind, task_of}
 use Rattle.sabr_search.proofs.Prefixes.{prefix_facts}
 use Rattle.sabr_search.proofs.Least.{none_is}
-use Rattle.sabr_search.proofs.Law.{prefix_few, prefix_looks}
-use Rattle.sabr_search.proofs.Shortness.{nodes_few}
+use Rattle.sabr_search.proofs.Law.{contacts_few, prefix_few}
+use Rattle.sabr_search.proofs.Shortness.{nodes_few, entered_looks}
 use Rattle.sabr_search.proofs.layered.Layered.find.Goals as goal
 
 pub go-requires-clause-course : goal.go-requires-clause-course
@@ -19,11 +19,13 @@ go-requires-clause-fits g c = rw c.plan-plan.ensures c.requires.fits
 
 pub returns-in_err-standing-clause-bound : goal.returns-in_err-standing-clause-bound
 returns-in_err-standing-clause-bound g c =
-    prefix_looks c.args.index.now.plan c.args.request.now c.args.part.prefix.now (prefix_facts c.args.index.now.plan c.args.request.now c.args.part.prefix.now c.requires.fits) (node_count c.args.index.now.plan.contacts) c.go.new.looks.count (omega (arith, c.go.ensures.looks, c.begin.ensures.looks))
+    let course = rw (c.in-Some.is, c.plan-plan.ensures) at c.in_ok-opened.ensures.some in
+    entered_looks c.args.index.now c.args.request.now c.args.part.prefix.now course.tabled (prefix_facts c.args.index.now.plan c.args.request.now c.args.part.prefix.now c.requires.fits) (node_count c.args.index.now.plan.contacts) c.go.new.looks.count course.nodes (omega (arith, c.go.ensures.looks, c.requires.few))
 
 pub returns-in_err-resize-clause-bound : goal.returns-in_err-resize-clause-bound
 returns-in_err-resize-clause-bound g c =
-    prefix_looks c.args.index.now.plan c.args.request.now c.args.part.prefix.now (prefix_facts c.args.index.now.plan c.args.request.now c.args.part.prefix.now c.requires.fits) (node_count c.args.index.now.plan.contacts) c.go.new.looks.count (omega (arith, c.go.ensures.looks, c.begin.ensures.looks))
+    let course = rw (c.in-Some.is, c.plan-plan.ensures) at c.in_ok-opened.ensures.some in
+    entered_looks c.args.index.now c.args.request.now c.args.part.prefix.now course.tabled (prefix_facts c.args.index.now.plan c.args.request.now c.args.part.prefix.now c.requires.fits) (node_count c.args.index.now.plan.contacts) c.go.new.looks.count course.nodes (omega (arith, c.go.ensures.looks, c.requires.few))
 
 pub returns-in_default-clause-least : goal.returns-in_default-clause-least
 returns-in_default-clause-least g c =
@@ -47,7 +49,7 @@ least_after-requires-clause-asked g c =
 pub least_after-requires-clause-few : goal.least_after-requires-clause-few
 least_after-requires-clause-few g c =
     let facts = prefix_facts c.args.index.now.plan c.args.request.now c.args.part.prefix.now c.requires.fits in
-    rw (c.new-task.ensures) (omega (arith, c.go.ensures.looks, c.begin.ensures.looks, prefix_few c.args.index.now.plan c.args.request.now c.args.part.prefix.now facts))
+    rw (c.new-task.ensures) (omega (arith, c.go.ensures.looks, c.requires.few, prefix_few c.args.index.now.plan c.args.request.now c.args.part.prefix.now facts))
 
 pub least_after-requires-clause-arrivals : goal.least_after-requires-clause-arrivals
 least_after-requires-clause-arrivals g c =
@@ -61,3 +63,9 @@ least_after-requires-clause-arrivals g c =
     let n_is : c.nodes.result ≡ length task.shut = omega (arith, both.0.as_many, (rw c.plan-plan.ensures at c.nodes.ensures.table)) in
     let filled : c.resize.new.self.items ≡ replicate c.nodes.result task.at = search rules in
     rw (c.new-task.ensures, c.deref.ensures.value, filled) (arrivals_since task both.0 c.nodes.result n_is)
+
+pub go-requires-clause-few : goal.go-requires-clause-few
+go-requires-clause-few g c =
+    let p = c.args.index.now.plan in
+    let facts = prefix_facts p c.args.request.now c.args.part.prefix.now c.requires.fits in
+    omega (arith, c.requires.few, contacts_few p (rw c.plan-plan.ensures at c.open.ensures.plan), prefix_few p c.args.request.now c.args.part.prefix.now facts)

@@ -5,8 +5,8 @@ use Rattle.sabr_model.specs.Table.{node_count}
 use Rattle.sabr_search.specs.Course.{IsCourse}
 use Rattle.sabr_search.proofs.Prefixes.{prefix_facts}
 use Rattle.sabr_search.proofs.Least.{none_is}
-use Rattle.sabr_search.proofs.Law.{prefix_few, prefix_looks}
-use Rattle.sabr_search.proofs.Shortness.{nodes_few}
+use Rattle.sabr_search.proofs.Law.{contacts_few, prefix_few}
+use Rattle.sabr_search.proofs.Shortness.{nodes_few, entered_looks}
 use Rattle.sabr_search.proofs.settled.Settled.find.Goals as goal
 
 pub returns-in_err-taken-clause-kept : goal.returns-in_err-taken-clause-kept
@@ -30,7 +30,8 @@ go-requires-clause-fits g c = rw c.plan-plan.ensures c.requires.fits
 
 pub returns-in_err-standing-clause-bound : goal.returns-in_err-standing-clause-bound
 returns-in_err-standing-clause-bound g c =
-    prefix_looks c.args.index.now.plan c.args.request.now c.args.part.prefix.now (prefix_facts c.args.index.now.plan c.args.request.now c.args.part.prefix.now c.requires.fits) (node_count c.args.index.now.plan.contacts) c.go.new.looks.count (omega (arith, c.go.ensures.looks, c.begin.ensures.looks))
+    let course = rw (c.in-Some.is, c.plan-plan.ensures) at c.in_ok-taken.ensures.some in
+    entered_looks c.args.index.now c.args.request.now c.args.part.prefix.now course.tabled (prefix_facts c.args.index.now.plan c.args.request.now c.args.part.prefix.now c.requires.fits) (node_count c.args.index.now.plan.contacts) c.go.new.looks.count course.nodes (omega (arith, c.go.ensures.looks, c.requires.few))
 
 pub open-requires-clause-kept : goal.open-requires-clause-kept
 open-requires-clause-kept g c = rw c.plan-plan.ensures at c.take_course.ensures.kept
@@ -38,7 +39,7 @@ open-requires-clause-kept g c = rw c.plan-plan.ensures at c.take_course.ensures.
 pub open-requires-clause-few : goal.open-requires-clause-few
 open-requires-clause-few g c =
     let facts = prefix_facts c.args.index.now.plan c.args.request.now c.args.part.prefix.now c.requires.fits in
-    omega (arith, c.go.ensures.looks, c.begin.ensures.looks, prefix_few c.args.index.now.plan c.args.request.now c.args.part.prefix.now facts)
+    omega (arith, c.go.ensures.looks, c.requires.few, prefix_few c.args.index.now.plan c.args.request.now c.args.part.prefix.now facts)
 
 pub returns-in_err-standing-clause-kept : goal.returns-in_err-standing-clause-kept
 returns-in_err-standing-clause-kept g c = rw c.plan-plan.ensures at c.take_course.ensures.kept
@@ -67,3 +68,9 @@ pub returns-clause-bound : goal.returns-clause-bound
 returns-clause-bound g c =
     let course : IsCourse c.args.index.now c.args.request.now c.go.new.self = rw c.plan-plan.ensures at c.in_ok-standing.ensures.course in
     subst (λ n. c.least_beside-answer.new.looks.count ≤ (3 * n + 1) * length c.args.index.now.plan.contacts) course.nodes (rw c.new-task.ensures at c.least_beside-answer.ensures.bound)
+
+pub go-requires-clause-few : goal.go-requires-clause-few
+go-requires-clause-few g c =
+    let p = c.args.index.now.plan in
+    let facts = prefix_facts p c.args.request.now c.args.part.prefix.now c.requires.fits in
+    omega (arith, c.requires.few, contacts_few p (rw c.plan-plan.ensures at c.take_course.ensures.plan), prefix_few p c.args.request.now c.args.part.prefix.now facts)
