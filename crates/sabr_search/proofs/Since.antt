@@ -1,5 +1,5 @@
 -- Before which second no way comes to a node, and the least way within other limits.
-use Rattle.std.proofs.Common.{◌≡◌, ℕ, zero, suc, ◌≤◌, min, List, length, replicate, slice_index, ◌∙◌, arith}
+use Rattle.std.proofs.Common.{◌≡◌, ℕ, zero, suc, ◌≤◌, min, List, [], ◌∷◌, ◌++◌, length, take, replicate, slice_index, ◌∙◌, arith}
 use Rattle.std.proofs.lemmas.Grind.{common_steps}
 use Rattle.sabr_search.specs.Task.{SearchTask, Takes, IsTask}
 use Rattle.sabr_search.specs.Late.{AreArrivals}
@@ -28,3 +28,9 @@ arrivals_lowered task arrival arrival' d by many lowered = record {
   flags = many ∙ by.flags;
   least = λ ns v t some way. omega (arith, lowered v, by.least ns v t some way);
 }
+
+-- an empty list that is made longer has the new value alone
+pub filled : {A : Type 0} (n k : ℕ) (v : A) (xs ys : List A) → xs ≡ [] → k ≡ n → ys ≡ take n xs ++ replicate k v → ys ≡ replicate n v
+filled zero k v [] ys none many is = rw many at is
+filled (suc n) k v [] ys none many is = rw many at is
+filled n k v (x ∷ xs) ys none many is = absurd cc

@@ -1,12 +1,8 @@
-use Rattle.std.proofs.Common.{◌≡◌, ℕ, zero, suc, false, List, [], ◌∷◌, ◌++◌, length, take, replicate, slice_set, refl, ap, ◌∙◌, arith}
+use Rattle.std.proofs.Common.{◌≡◌, ℕ, zero, suc, false, List, [], ◌∷◌, length, replicate, slice_set, refl, ap, ◌∙◌, arith}
 use Rattle.sabr_search.specs.Task.{never}
 use Rattle.sabr_search.proofs.LastSeconds.{first_rising}
+use Rattle.sabr_search.proofs.Since.{filled}
 use Rattle.sabr_search.proofs.latest.Latest.begin.Goals as goal
-
-filled : {A : Type 0} (n k : ℕ) (v : A) (xs ys : List A) → xs ≡ [] → k ≡ n → ys ≡ take n xs ++ replicate k v → ys ≡ replicate n v
-filled zero k v [] ys none many is = rw many at is
-filled (suc n) k v [] ys none many is = rw many at is
-filled n k v (x ∷ xs) ys none many is = absurd cc
 
 pub returns : goal.returns
 returns g c =

@@ -1,5 +1,5 @@
-use Rattle.std.proofs.Common.{◌≡◌, length, replicate, ap, sym, ◌∙◌, arith, rules}
-use Rattle.sabr_search.proofs.Since.{arrivals_since}
+use Rattle.std.proofs.Common.{◌≡◌, length, replicate, ap, sym, ◌∙◌, arith}
+use Rattle.sabr_search.proofs.Since.{arrivals_since, filled}
 use Rattle.std.specs.Option.{option_map}
 use Rattle.sabr_model.specs.Record.{record_of}
 use Rattle.sabr_model.specs.Table.{node_count}
@@ -61,7 +61,7 @@ least_after-requires-clause-arrivals g c =
     let cleared = c.clear.ensures.items in
     let at : c.at.result ≡ task.at = c.at.ensures ∙ ap (λ (t : SearchTask). t.at) c.new-task.ensures in
     let n_is : c.nodes.result ≡ length task.shut = omega (arith, both.0.as_many, (rw c.plan-plan.ensures at c.nodes.ensures.table)) in
-    let filled : c.resize.new.self.items ≡ replicate c.nodes.result task.at = search rules in
+    let filled : c.resize.new.self.items ≡ replicate c.nodes.result task.at = filled _ _ c.at.result _ _ cleared (omega (arith, ap length cleared)) c.in_ok-resize.ensures.items ∙ ap (replicate c.nodes.result) at in
     rw (c.new-task.ensures, c.deref.ensures.value, filled) (arrivals_since task both.0 c.nodes.result n_is)
 
 pub go-requires-clause-few : goal.go-requires-clause-few
