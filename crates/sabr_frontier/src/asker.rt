@@ -3,7 +3,7 @@
 ghost use Rattle.std.specs.Prelude.{◌≡◌, ◌+◌, IfOk, IsTrue};
 ghost use Rattle.std.specs.List.Sorted.{IsStrictlyIncreasing};
 ghost use Rattle.sabr_model.specs.Route.{is_prefix};
-ghost use Rattle.sabr_frontier.specs.Asking.{asked_of};
+ghost use Rattle.sabr_frontier.specs.Asking.{asked_of, asked_over};
 ghost use Rattle.sabr_frontier.specs.Best.{IsBest};
 
 use crate::question::Question;
@@ -59,6 +59,26 @@ impl<'p, B: BestOf<A>, A: Allocator + Copy> Asker<'p, B, A> {
             finder,
             kept,
         })
+    }
+
+    /// Returns an asker over the same index, with the same finder, for another request. It keeps nothing yet.
+    pub fn with_request(self, request: Request) -> Asker<'p, B, A>
+        ensures { result ≡ record { asked = asked_over self.entry.asked.plan request; calls = self.entry.calls } }
+    {
+        let Asker {
+            alloc,
+            index,
+            request: _,
+            finder,
+            kept: _,
+        } = self;
+        Asker {
+            alloc,
+            index,
+            request,
+            finder,
+            kept: Kept::new(alloc),
+        }
     }
 
     /// The allocator of what is made.

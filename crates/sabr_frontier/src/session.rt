@@ -69,7 +69,37 @@ impl<'p, B: BestOf<A>, A: Allocator + Copy> Session<'p, B, A> {
             plan,
             request,
         };
-        let mut asker = Asker::new(question, finder)?;
+        Session::begin(Asker::new(question, finder)?)
+    }
+
+    /// Starts a session over the same plan for another request, as [`start`](Session::start) does, with this one's index
+    /// and finder.
+    ///
+    /// # Errors
+    ///
+    /// [`NoMemory`] if a growth was refused. The finder is dropped.
+    pub fn start_again(self, request: Request) -> Result<Session<'p, B, A>, NoMemory>
+        ensures { IfOk result (λ s. s ≡ record { plan = self.entry.plan; request = request; state = state_at self.entry.plan.plan request 0; former = []; searches = 1; calls = self.entry.calls + 1 }) }
+    {
+        self.plan().tell_rules();
+        request.tell_limits();
+        let Session {
+            asker,
+            tree: _,
+            pages: _,
+            searches: _,
+        } = self;
+        Session::begin(asker.with_request(request))
+    }
+
+    /// Starts a session of what the asker asks for.
+    fn begin(asker: Asker<'p, B, A>) -> Result<Session<'p, B, A>, NoMemory>
+        requires rules { IsPlan asker.asked.plan.plan }
+        requires limits { IsRequest asker.asked.request }
+        ensures { IfOk result (λ s. s ≡ record { plan = asker.entry.asked.plan; request = asker.entry.asked.request; state = state_at asker.entry.asked.plan.plan asker.entry.asked.request 0; former = []; searches = 1; calls = asker.entry.calls + 1 }) }
+    {
+        let mut asker = asker;
+        let alloc = asker.alloc();
         let found = asker.ask(&[], &[])?;
         let tree = Tree::root(alloc, found)?;
         Ok(Session {
