@@ -1,2 +1,5 @@
--- Lists on the command line.
+-- Lists on the command line, and texts of requests.
 pub mod ListedNumbers
+pub mod RequestWords
+pub mod RequestLines
+pub mod RequestsRead

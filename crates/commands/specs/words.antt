@@ -1,3 +1,4 @@
 -- What the words of the command line say.
 pub mod Lists
 pub mod Values
+pub mod Requests

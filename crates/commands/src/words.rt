@@ -3,7 +3,11 @@
 mod command_line;
 mod first_piece;
 mod lists;
+mod request_line;
+mod request_texts;
 mod request_words;
+mod requests;
+mod requests_fault;
 mod value_fault;
 mod value_name;
 mod values;

@@ -1,6 +1,7 @@
 -- The strict reading of a command's texts. The order in which bad ones are reported is this project's own.
 use Rattle.std.specs.Prelude.{ℕ, ◌<◌, ◌≤◌, Bool, true, false, not, ◌==◌, List, [], Result, Ok, Err, codes, if◌then◌else◌}
 use Rattle.std.specs.Str.{bytes_eq}
+use Rattle.std.specs.Option.{option_copied}
 use Rattle.std.specs.declared.option.Option.{Option}
 use Rattle.std.specs.declared.option.Option.TheVariants.{Some, None}
 use Rattle.clap.specs.declared.parser.matches.Found.{Found}
@@ -15,6 +16,7 @@ use Rattle.commands.specs.declared.words.value_name.ValueName.TheVariants.{From,
 use Rattle.commands.specs.declared.command.CommandName.{CommandName}
 use Rattle.commands.specs.declared.command.CommandName.TheVariants as command
 use Rattle.commands.specs.declared.words.values.Values.{Values}
+use Rattle.commands.specs.declared.words.request_texts.RequestTexts.{RequestTexts}
 use Rattle.commands.specs.declared.words.value_fault.ValueFault.{ValueFault}
 use Rattle.commands.specs.declared.words.value_fault.ValueFault.TheVariants.{Bad, SameNode, BadAvoid}
 use Rattle.sabr_model.specs.declared.request_values.RequestValues.{RequestValues}
@@ -57,32 +59,51 @@ and_then (Ok a) k = k a
 and_then (Err e) k = Err e
 
 -- a required value
-abbrev pub value_of : {A : Type 0} → (List ℕ → Option A) → Found → ValueName → Result A ValueFault
-value_of reads found name = or_bad name (needed reads (text_under found name))
+abbrev pub value_of : {A : Type 0} → (List ℕ → Option A) → ValueName → Option (List ℕ) → Result A ValueFault
+value_of reads name text = or_bad name (needed reads text)
 
 -- an optional value
-abbrev pub value_or : {A : Type 0} → A → (List ℕ → Option A) → Found → ValueName → Result A ValueFault
-value_or otherwise reads found name = or_bad name (given_or otherwise reads (text_under found name))
+abbrev pub value_or : {A : Type 0} → A → (List ℕ → Option A) → ValueName → Option (List ℕ) → Result A ValueFault
+value_or otherwise reads name text = or_bad name (given_or otherwise reads text)
 
--- a node on the command line
+-- the texts that are given for a request
+pub record TextsGiven : Type 0 where
+  pub from : Option (List ℕ)
+  pub to : Option (List ℕ)
+  pub at : Option (List ℕ)
+  pub margin : Option (List ℕ)
+  pub hops : Option (List ℕ)
+  pub avoid : Option (List ℕ)
+
+-- the same, without their places in memory
+abbrev pub texts_given : RequestTexts → TextsGiven
+texts_given t =
+    record { from = option_copied t.from; to = option_copied t.to; at = option_copied t.at; margin = option_copied t.margin_ppm; hops = option_copied t.max_hops; avoid = option_copied t.avoid }
+
+-- those of a command line
+abbrev pub texts_under : Found → TextsGiven
+texts_under found =
+    record { from = text_under found From; to = text_under found To; at = text_under found At; margin = text_under found MarginPpm; hops = text_under found MaxHops; avoid = text_under found Avoid }
+
+-- a node
 abbrev pub node_of : List ℕ → Option ℕ
 node_of text = number_within 1 18446744073709551615 text
 
 -- the limits and avoided nodes, after the values of a request without limits
-unfoldable pub limits_of : ℕ → ℕ → ℕ → ℕ → Found → Result RequestValues ValueFault
-limits_of from to at margin found =
-    and_then (value_or most_hops (number_within 1 most_hops) found MaxHops) (λ hops.
-    and_then (value_or [] nodes_listed found Avoid) (λ avoid.
+unfoldable pub limits_of : ℕ → ℕ → ℕ → ℕ → TextsGiven → Result RequestValues ValueFault
+limits_of from to at margin texts =
+    and_then (value_or most_hops (number_within 1 most_hops) MaxHops texts.hops) (λ hops.
+    and_then (value_or [] nodes_listed Avoid texts.avoid) (λ avoid.
     Ok (record { from = from; to = to; at = at; margin_ppm = margin; max_hops = hops; avoid = avoid })))
 
 -- the values of a request, word by word; the first bad word in this order is reported
-unfoldable pub request_words : Found → Result RequestValues ValueFault
-request_words found =
-    and_then (value_of node_of found From) (λ from.
-    and_then (value_of node_of found To) (λ to.
-    and_then (value_of time_of found At) (λ at.
-    and_then (value_or 0 (number_within 0 most_margin) found MarginPpm) (λ margin.
-    limits_of from to at margin found))))
+unfoldable pub request_words : TextsGiven → Result RequestValues ValueFault
+request_words texts =
+    and_then (value_of node_of From texts.from) (λ from.
+    and_then (value_of node_of To texts.to) (λ to.
+    and_then (value_of time_of At texts.at) (λ at.
+    and_then (value_or 0 (number_within 0 most_margin) MarginPpm texts.margin) (λ margin.
+    limits_of from to at margin texts))))
 
 -- these words lie in the ranges of a request's values
 pub record IsInRange (w : RequestValues) : Type 0 where
@@ -142,7 +163,7 @@ where_asked asked value = if asked then and_then value (λ a. Ok (Some a)) else 
 
 -- the words of a request, if the command has one
 abbrev pub words_where_asked : CommandName → Found → Result (Option RequestValues) ValueFault
-words_where_asked name found = where_asked (has_request name) (request_words found)
+words_where_asked name found = where_asked (has_request name) (request_words (texts_under found))
 
 -- a number of routes that a page may have
 abbrev pub IsCount : ℕ → Type 0
@@ -150,11 +171,11 @@ IsCount n = (1 ≤ n) × (n ≤ most_routes)
 
 -- the count of routes, if the command has one
 abbrev pub count_where_asked : CommandName → Found → Result (Option ℕ) ValueFault
-count_where_asked name found = where_asked (has_count name) (value_of (number_within 1 most_routes) found Count)
+count_where_asked name found = where_asked (has_count name) (value_of (number_within 1 most_routes) Count (text_under found Count))
 
 -- the contacts, if the command has them
 abbrev pub contacts_where_asked : CommandName → Found → Result (List ℕ) ValueFault
-contacts_where_asked name found = if has_contacts name then value_of (numbers_within 1 4294967295) found Contacts else Ok []
+contacts_where_asked name found = if has_contacts name then value_of (numbers_within 1 4294967295) Contacts (text_under found Contacts) else Ok []
 
 -- the request of words that are there
 abbrev pub request_where_asked : Option RequestValues → Result (Option RouteRequest) ValueFault

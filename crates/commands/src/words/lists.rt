@@ -15,7 +15,7 @@ pub fn nodes_listed(text: &[u8]) -> Option<NodeList>
     let mut nodes = NodeList::new();
     let mut rest = Some(text);
     while let Some(after) = rest {
-        let (piece, others) = first_piece(after);
+        let (piece, others) = first_piece(after, b',');
         let node = number_within(piece, 1, u64::MAX)?;
         nodes.push(node)?;
         rest = others;
@@ -37,7 +37,7 @@ pub fn contacts_listed<A: Allocator + Copy>(
     let mut contacts = Vec::new(alloc);
     let mut rest = Some(text);
     while let Some(after) = rest {
-        let (piece, others) = first_piece(after);
+        let (piece, others) = first_piece(after, b',');
         let Some(number) = number_within(piece, 1, 4294967295) else {
             return Ok(None);
         };

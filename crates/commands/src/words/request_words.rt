@@ -1,15 +1,17 @@
 //! The words of a request.
 
 ghost use Rattle.std.specs.Prelude.{◌≡◌, ℕ, ◌≤◌, [], List, Option, option_map, IfOk, IsErrOf};
+ghost use Rattle.std.specs.Option.{option_copied};
 ghost use Rattle.clap.specs.Matches.{found_of};
 ghost use Rattle.sabr_plan.specs.Times.{time_of};
 ghost use Rattle.commands.specs.words.Lists.{nodes_listed};
 ghost use Rattle.sabr_plan.specs.Numbers.{number_within};
-ghost use Rattle.commands.specs.words.Values.{text_under, value_of, value_or, limits_of, request_words, request_of, IsInRange};
+ghost use Rattle.commands.specs.words.Values.{text_under, texts_given, texts_under, value_of, value_or, limits_of, request_words, request_of, IsInRange};
 ghost use Rattle.sabr_model.specs.Plan.{IsNode, last_time};
 ghost use Rattle.sabr_model.specs.Asking.{most_margin};
 
 use crate::words::lists::nodes_listed;
+use crate::words::request_texts::RequestTexts;
 use crate::words::value_fault::ValueFault;
 use crate::words::value_name::ValueName;
 use clap::ArgMatches;
@@ -26,57 +28,71 @@ pub fn text_under<'a>(matches: &ArgMatches<'a>, name: ValueName) -> Option<&'a [
     }
 }
 
+/// Finds the texts that were given for a request.
+pub fn texts_under<'a>(matches: &ArgMatches<'a>) -> RequestTexts<'a>
+    ensures { texts_given result ≡ texts_under (found_of matches.now) }
+{
+    RequestTexts {
+        from: text_under(matches, ValueName::From),
+        to: text_under(matches, ValueName::To),
+        at: text_under(matches, ValueName::At),
+        margin_ppm: text_under(matches, ValueName::MarginPpm),
+        max_hops: text_under(matches, ValueName::MaxHops),
+        avoid: text_under(matches, ValueName::Avoid),
+    }
+}
+
 /// Reads a required number from `low` to `high`.
 ///
 /// # Errors
 ///
 /// [`ValueFault::Bad`] if it is missing, misspelled, or out of its range.
 pub fn number_given(
-    matches: &ArgMatches<'_>,
+    text: Option<&[u8]>,
     name: ValueName,
     low: u64,
     high: u64,
 ) -> Result<u64, ValueFault>
-    ensures value { result ≡ value_of (number_within low high) (found_of matches.now) name }
+    ensures value { result ≡ value_of (number_within low high) name (option_copied text.entry) }
     ensures range { IfOk result (λ n. (low ≤ n) × (n ≤ high)) }
 {
-    let text = text_under(matches, name).ok_or(ValueFault::Bad(name))?;
+    let text = text.ok_or(ValueFault::Bad(name))?;
     number_within(text, low, high).ok_or(ValueFault::Bad(name))
 }
 
 /// Reads an optional number from `low` to `high`.
 fn number_or(
-    matches: &ArgMatches<'_>,
+    text: Option<&[u8]>,
     name: ValueName,
     low: u64,
     high: u64,
     otherwise: u64,
 ) -> Result<u64, ValueFault>
     requires { (low ≤ otherwise) × (otherwise ≤ high) }
-    ensures value { result ≡ value_or otherwise (number_within low high) (found_of matches.now) name }
+    ensures value { result ≡ value_or otherwise (number_within low high) name (option_copied text.entry) }
     ensures range { IfOk result (λ n. (low ≤ n) × (n ≤ high)) }
 {
-    let Some(text) = text_under(matches, name) else {
+    let Some(text) = text else {
         return Ok(otherwise);
     };
     number_within(text, low, high).ok_or(ValueFault::Bad(name))
 }
 
 /// Reads the time at which the bundle is at the source.
-fn time_given(matches: &ArgMatches<'_>) -> Result<u64, ValueFault>
-    ensures value { result ≡ value_of time_of (found_of matches.now) ValueName.At }
+fn time_given(text: Option<&[u8]>) -> Result<u64, ValueFault>
+    ensures value { result ≡ value_of time_of ValueName.At (option_copied text.entry) }
     ensures range { IfOk result (λ t. t ≤ last_time) }
 {
     let bad = ValueFault::Bad(ValueName::At);
-    let text = text_under(matches, ValueName::At).ok_or(bad)?;
+    let text = text.ok_or(bad)?;
     parse_time(text).ok_or(bad)
 }
 
 /// Reads the nodes to avoid.
-fn avoided(matches: &ArgMatches<'_>) -> Result<NodeList, ValueFault>
-    ensures { result ≡ value_or [] nodes_listed (found_of matches.now) ValueName.Avoid }
+fn avoided(text: Option<&[u8]>) -> Result<NodeList, ValueFault>
+    ensures { result ≡ value_or [] nodes_listed ValueName.Avoid (option_copied text.entry) }
 {
-    let Some(text) = text_under(matches, ValueName::Avoid) else {
+    let Some(text) = text else {
         return Ok(NodeList::new());
     };
     nodes_listed(text).ok_or(ValueFault::Bad(ValueName::Avoid))
@@ -89,16 +105,16 @@ fn with_limit_words(
     to: u64,
     at: u64,
     margin_ppm: u32,
-    matches: &ArgMatches<'_>,
+    texts: &RequestTexts<'_>,
 ) -> Result<RequestValues, ValueFault>
     requires { IsNode from × IsNode to × (at ≤ last_time) × (margin_ppm ≤ most_margin) }
-    ensures value { result ≡ limits_of from to at margin_ppm (found_of matches.now) }
+    ensures value { result ≡ limits_of from to at margin_ppm (texts_given texts.now) }
     ensures range { IfOk result IsInRange }
     ensures memory { ¬ IsErrOf result ValueFault.NoMemory }
 {
     let most = MOST_HOPS as u64;
-    let max_hops = number_or(matches, ValueName::MaxHops, 1, most, most)? as u32;
-    let avoid = avoided(matches)?;
+    let max_hops = number_or(texts.max_hops, ValueName::MaxHops, 1, most, most)? as u32;
+    let avoid = avoided(texts.avoid)?;
     Ok(RequestValues {
         from,
         to,
@@ -115,16 +131,17 @@ fn with_limit_words(
 ///
 /// [`ValueFault::Bad`] with the first bad word in the order of [`ValueName`].
 #[tactic(auto, unfolding(crate::specs::words::Values::request_words))]
-pub fn request_words(matches: &ArgMatches<'_>) -> Result<RequestValues, ValueFault>
-    ensures value { result ≡ request_words (found_of matches.now) }
+pub fn request_words(texts: &RequestTexts<'_>) -> Result<RequestValues, ValueFault>
+    ensures value { result ≡ request_words (texts_given texts.now) }
     ensures range { IfOk result IsInRange }
     ensures memory { ¬ IsErrOf result ValueFault.NoMemory }
 {
-    let from = number_given(matches, ValueName::From, 1, u64::MAX)?;
-    let to = number_given(matches, ValueName::To, 1, u64::MAX)?;
-    let at = time_given(matches)?;
-    let margin_ppm = number_or(matches, ValueName::MarginPpm, 0, MOST_MARGIN as u64, 0)? as u32;
-    with_limit_words(from, to, at, margin_ppm, matches)
+    let from = number_given(texts.from, ValueName::From, 1, u64::MAX)?;
+    let to = number_given(texts.to, ValueName::To, 1, u64::MAX)?;
+    let at = time_given(texts.at)?;
+    let most = MOST_MARGIN as u64;
+    let margin_ppm = number_or(texts.margin_ppm, ValueName::MarginPpm, 0, most, 0)? as u32;
+    with_limit_words(from, to, at, margin_ppm, texts)
 }
 
 /// Returns the request of these words.

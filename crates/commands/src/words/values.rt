@@ -7,7 +7,9 @@ ghost use Rattle.commands.specs.words.Values.{command_named, has_request, has_co
 
 use crate::command::{CommandName, command_named};
 use crate::words::lists::contacts_listed;
-use crate::words::request_words::{number_given, request_of, request_words, text_under};
+use crate::words::request_words::{
+    number_given, request_of, request_words, text_under, texts_under,
+};
 use crate::words::value_fault::ValueFault;
 use crate::words::value_name::ValueName;
 use clap::ArgMatches;
@@ -42,7 +44,7 @@ fn words_where_asked(
     if !command.declared().has_request {
         return Ok(None);
     }
-    let words = request_words(matches)?;
+    let words = request_words(&texts_under(matches))?;
     Ok(Some(words))
 }
 
@@ -59,7 +61,8 @@ fn count_where_asked(
     if !command.declared().has_count {
         return Ok(None);
     }
-    let count = number_given(matches, ValueName::Count, 1, MOST_ROUTES)?;
+    let text = text_under(matches, ValueName::Count);
+    let count = number_given(text, ValueName::Count, 1, MOST_ROUTES)?;
     Ok(Some(count as u32))
 }
 

@@ -9,7 +9,7 @@ use Rattle.commands.proofs.words.lists.contacts_listed.Goals as goal
 pub returns-in_default-number_within : goal.returns-in_default-number_within
 unfolding numbers_within
 returns-in_default-number_within g c =
-    sym (with_front-bad (number_within 1 4294967295) _ _ _ _ _ c.loop-rest.invariant (ap (λ o. pieces_after (option_copied o)) c.in-Some.is ∙ c.first_piece.ensures.pieces) (sym c.number_within.ensures.value ∙ c.in_default-number_within.is))
+    sym (with_front-bad (number_within 1 4294967295) _ _ _ _ _ c.loop-rest.invariant (ap (λ o. pieces_after 44 (option_copied o)) c.in-Some.is ∙ c.first_piece.ensures.pieces) (sym c.number_within.ensures.value ∙ c.in_default-number_within.is))
 
 pub overflow_cast-number : goal.overflow_cast-number
 overflow_cast-number g c =
@@ -19,4 +19,4 @@ overflow_cast-number g c =
 pub returns : goal.returns
 unfolding numbers_within
 returns g c =
-    ap Some c.new.ensures ∙ sym (with_front-end (number_within 1 4294967295) _ _ _ c.loop-rest.invariant (ap (λ o. pieces_after (option_copied o)) c.in_default.is))
+    ap Some c.new.ensures ∙ sym (with_front-end (number_within 1 4294967295) _ _ _ c.loop-rest.invariant (ap (λ o. pieces_after 44 (option_copied o)) c.in_default.is))

@@ -8,8 +8,8 @@ use Rattle.commands.proofs.words.lists.contacts_listed.Given as goal
 
 abbrev pub invariant-loop-rest : goal.invariant-loop-rest
 invariant-loop-rest g l =
-    all_of (map (number_within 1 4294967295) (pieces_of l.text))
-    ≡ with_front l.contacts.items (all_of (map (number_within 1 4294967295) (pieces_after (option_copied l.rest))))
+    all_of (map (number_within 1 4294967295) (pieces_of 44 l.text))
+    ≡ with_front l.contacts.items (all_of (map (number_within 1 4294967295) (pieces_after 44 (option_copied l.rest))))
 
 abbrev pub decreases-loop-rest : goal.decreases-loop-rest
-decreases-loop-rest g l = length (pieces_after (option_copied l.rest))
+decreases-loop-rest g l = length (pieces_after 44 (option_copied l.rest))

@@ -9,9 +9,9 @@ use Rattle.commands.proofs.words.lists.nodes_listed.Given as goal
 abbrev pub invariant-loop-rest : goal.invariant-loop-rest
 invariant-loop-rest l = record {
   few : length l.nodes ≤ 16;
-  listed : all_of (map (number_within 1 18446744073709551615) (pieces_of l.text))
-      ≡ with_front l.nodes (all_of (map (number_within 1 18446744073709551615) (pieces_after (option_copied l.rest))));
+  listed : all_of (map (number_within 1 18446744073709551615) (pieces_of 44 l.text))
+      ≡ with_front l.nodes (all_of (map (number_within 1 18446744073709551615) (pieces_after 44 (option_copied l.rest))));
 }
 
 abbrev pub decreases-loop-rest : goal.decreases-loop-rest
-decreases-loop-rest l = length (pieces_after (option_copied l.rest))
+decreases-loop-rest l = length (pieces_after 44 (option_copied l.rest))
