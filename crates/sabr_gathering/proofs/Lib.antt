@@ -1,4 +1,4 @@
+pub mod Gathers
+pub mod LastRanges
+pub mod ChainedRanges
 pub mod GatheredOpenings
-pub mod PairRecords
-pub mod Keyed
-pub mod InTurn

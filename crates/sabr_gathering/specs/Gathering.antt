@@ -1,23 +1,27 @@
 -- Contacts that are gathered with what no two of them share; and ranges that are gathered in any order, most in their
 -- places, and the latest beside them.
-use Rattle.std.specs.Prelude.{◌≡◌, ℕ, ◌<◌, ◌≤◌, Bool, false, true, List, [], ◌∷◌, ◌++◌, ⊤, drop, length, map}
+use Rattle.std.specs.Prelude.{◌≡◌, ℕ, ◌≤◌, Bool, false, true, nat_lt, List, [], ◌∷◌, ◌++◌, ⊤, map}
 use Rattle.std.specs.List.{list_any, AllByRecursion}
+use Rattle.std.specs.List.Sorted.{IsStrictlySortedBy}
+use Rattle.std.specs.declared.cmp.Ordering.{Ordering}
 use Rattle.std.specs.declared.option.Option.{Option}
 use Rattle.std.specs.declared.option.Option.TheVariants.{Some, None}
-use Rattle.indexmap.specs.IndexMap.{IndexMap}
-use Rattle.sabr_gathering.specs.declared.pair_times.NodePair.{NodePair}
-use Rattle.sabr_gathering.specs.PairTimes.{time_of}
 use Rattle.sabr_model.specs.declared.contact.Contact.{Contact}
 use Rattle.sabr_model.specs.declared.contact.Range.{Range}
 use Rattle.sabr_model.specs.declared.opening.Opening.{Opening}
-use Rattle.sabr_model.specs.Order.{put_in}
-use Rattle.sabr_model.specs.Plan.{ContactPlan, IsPlan, IsNode, last_time, most_light, opens, range_key}
-use Rattle.sabr_model.specs.Adding.{by_range_key, range_refusal}
+use Rattle.sabr_model.specs.Order.{by_numbers, put_in}
+use Rattle.sabr_model.specs.Plan.{ContactPlan, IsPlan, IsWindow, opens, overlap, range_key}
+use Rattle.sabr_model.specs.Adding.{by_range_key}
+use Rattle.sabr_model.specs.RangeOrder.{place_number}
 use Rattle.sabr_model.specs.Openings.{opening_of}
 
 -- contacts alone and the greatest number given, as a plan without ranges
 abbrev pub plan_of_contacts : List Contact → ℕ → ContactPlan
 plan_of_contacts contacts greatest = record { contacts = contacts; ranges = []; greatest = greatest }
+
+-- an opening as one number: by start, then by sender and receiver
+abbrev pub opening_number : Opening → ℕ
+opening_number o = place_number o.start o.from o.to
 
 -- the openings are those of the first contacts
 abbrev pub KnowsFirst : List Opening → List Contact → Type 0
@@ -25,57 +29,49 @@ KnowsFirst [] cs = ⊤
 KnowsFirst (o ∷ os) [] = ⊥
 KnowsFirst (o ∷ os) (c ∷ cs) = (o ≡ opening_of c) × KnowsFirst os cs
 
--- each contact opens before its pair's second
-abbrev pub OpenBefore : {S : Type 0} → IndexMap NodePair ℕ S → List Contact → Type 0
-OpenBefore table contacts = AllByRecursion (λ c. c.start < time_of table c.from c.to) contacts
+-- no contact opens after this
+abbrev pub OpenBy : Opening → List Contact → Type 0
+OpenBy last contacts = AllByRecursion (λ c. opening_number (opening_of c) ≤ opening_number last) contacts
 
--- the openings are those of the first contacts, and each contact opens before its pair's second
-abbrev pub KnowsSome : {S : Type 0} → List Opening → IndexMap NodePair ℕ S → List Contact → Type 0
-KnowsSome known table contacts = KnowsFirst known contacts × OpenBefore table contacts
+-- the openings are those of the first contacts, and if the contacts rise none opens after the last one
+abbrev pub KnowsSome : List Opening → Bool → Opening → List Contact → Type 0
+KnowsSome known rising last contacts = KnowsFirst known contacts × (rising ≡ true → OpenBy last contacts)
 
 -- an opening that no contact has was noted, one that a contact has was found, or neither
-abbrev pub IsNoted : {S : Type 0} → List Contact → Opening → Option Bool → List Opening → IndexMap NodePair ℕ S → Type 0
-IsNoted contacts o (Some true) known table =
-    (list_any (opens o.from o.to o.start) contacts ≡ false) × ((c : Contact) → opening_of c ≡ o → KnowsSome known table (contacts ++ c ∷ []))
-IsNoted contacts o (Some false) known table = (list_any (opens o.from o.to o.start) contacts ≡ true) × KnowsSome known table contacts
-IsNoted contacts o None known table = KnowsSome known table contacts
+abbrev pub IsNoted : List Contact → Opening → Option Bool → List Opening → Bool → Opening → Type 0
+IsNoted contacts o (Some true) known rising last =
+    (list_any (opens o.from o.to o.start) contacts ≡ false) × ((c : Contact) → opening_of c ≡ o → KnowsSome known rising last (contacts ++ c ∷ []))
+IsNoted contacts o (Some false) known rising last = (list_any (opens o.from o.to o.start) contacts ≡ true) × KnowsSome known rising last contacts
+IsNoted contacts o None known rising last = KnowsSome known rising last contacts
+
+-- elements put into a list, one after the other
+abbrev pub put_all : {X : Type 0} → (X → X → Ordering) → List X → List X → List X
+put_all cmp [] ys = ys
+put_all cmp (x ∷ xs) ys = put_in cmp x (put_all cmp xs ys)
 
 -- ranges alone, as a plan without contacts
 abbrev pub plan_of_ranges : List Range → ContactPlan
 plan_of_ranges ranges = record { contacts = []; ranges = ranges; greatest = 0 }
 
--- the range obeys the rules of a plan's ranges, and isn't refused after these
-pub record CanFollow (ranges : List Range) (r : Range) : Type 0 where
-  pub one : IsNode r.one
-  pub other : IsNode r.other
-  pub end : r.end ≤ last_time
-  pub light : r.light ≤ most_light
-  pub accepted : range_refusal (plan_of_ranges ranges) r ≡ None
+-- the ranges in their places, and the latest put among them
+abbrev pub gathered : List Range → List Range → List Range
+gathered placed late = put_all by_range_key late placed
 
--- each range with its key
-abbrev pub keyed : List Range → List (List ℕ × Range)
-keyed ranges = map (λ r. (range_key r, r)) ranges
+-- the range ends after a pair and second, given as a number, in the order of ranges
+abbrev pub ends_after : ℕ → Range → Bool
+ends_after number r = nat_lt number (place_number r.one r.other r.end)
 
--- ranges put into a list, the first before the others
-abbrev pub put_in_turn : List Range → List Range → List Range
-put_in_turn [] ys = ys
-put_in_turn (x ∷ xs) ys = put_in_turn xs (put_in by_range_key x ys)
+-- ranges in order, and others in order that share no second of a pair with them
+pub record AreTwoLists (placed late : List Range) : Type 0 where
+  pub placed_rise : IsStrictlySortedBy by_numbers (map range_key placed)
+  pub late_rise : IsStrictlySortedBy by_numbers (map range_key late)
+  pub placed_windows : AllByRecursion (λ r. IsWindow r.start r.end) placed
+  pub late_windows : AllByRecursion (λ r. IsWindow r.start r.end) late
+  pub are_apart : AllByRecursion (λ r. list_any (overlap r) placed ≡ false) late
 
--- each range may follow the list with those before it
-abbrev pub FollowInTurn : List Range → List Range → Type 0
-FollowInTurn [] ys = ⊤
-FollowInTurn (x ∷ xs) ys = CanFollow ys x × FollowInTurn xs (put_in by_range_key x ys)
-
--- ranges in their places, with those of the latest that are not
-abbrev pub kept : List Range → List Range → ℕ → List Range
-kept ordered latest placed = put_in_turn (drop placed latest) ordered
-
--- the ranges in their places obey the rules of a plan's ranges, and the latest that are not may follow them in turn
-pub record AreKept (ordered latest : List Range) (placed : ℕ) : Type 0 where
-  pub within : placed ≤ length latest
-  pub obey : IsPlan (plan_of_ranges ordered)
-  pub follow : FollowInTurn (drop placed latest) ordered
-
--- each range ends by its pair's second
-abbrev pub EndBy : {S : Type 0} → IndexMap NodePair ℕ S → List Range → Type 0
-EndBy table ranges = AllByRecursion (λ r. r.end ≤ time_of table r.one r.other) ranges
+-- both lists and all of them obey the rules of a plan's ranges, and none of the latest overlaps one of the others
+pub record AreGathered (placed late : List Range) : Type 0 where
+  pub placed_obey : IsPlan (plan_of_ranges placed)
+  pub late_obey : IsPlan (plan_of_ranges late)
+  pub all_obey : IsPlan (plan_of_ranges (gathered placed late))
+  pub are_apart : AllByRecursion (λ r. list_any (overlap r) placed ≡ false) late

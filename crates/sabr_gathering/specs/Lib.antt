@@ -1,2 +1,2 @@
 pub mod Gathering
-pub mod PairTimes
+pub mod RangeChains

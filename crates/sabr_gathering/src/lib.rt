@@ -3,11 +3,12 @@
 
 mod gathered_contacts;
 mod gathered_ranges;
-mod kept_ranges;
 mod known_openings;
+mod latest_ranges;
+mod merging;
 mod ordered_ranges;
-mod pair_times;
 mod plan;
+mod range_chains;
 
 pub use gathered_contacts::GatheredContacts;
 pub use gathered_ranges::GatheredRanges;

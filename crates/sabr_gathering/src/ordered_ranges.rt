@@ -1,39 +1,37 @@
-//! Ranges in order, in a tree in which an overlap is found in one search.
+//! A list of ranges in order, which are found and merged by that order.
 
-ghost use Rattle.std.specs.Prelude.{◌≡◌, ◌<◌, ◌^◌, [], ◌∷◌, ◌++◌, OnOk, OnErr, filter, length, not};
+ghost use Rattle.std.specs.Prelude.{◌≡◌, [], ◌∷◌, ◌++◌, Err, OnOk, OnErr, IsTrue, IsFalse, IsOk, filter, length, not};
 ghost use Rattle.std.specs.List.{list_any};
 ghost use Rattle.sabr_model.specs.Plan.{overlap, IsPlan};
-ghost use Rattle.sabr_model.specs.Order.{put_in};
-ghost use Rattle.sabr_model.specs.Adding.{range_refusal, by_range_key, begins};
-ghost use Rattle.sabr_gathering.specs.Gathering.{plan_of_ranges, CanFollow};
+ghost use Rattle.sabr_gathering.specs.Gathering.{plan_of_ranges, gathered, AreGathered};
+ghost use Rattle.sabr_model.specs.declared.fault.AddFault.TheVariants.{NothingToDelete};
+ghost use Rattle.sabr_model.specs.Adding.{begins};
 
-use sabr_model::{Range, overlap};
+use crate::merging::merge;
+use sabr_model::{AddFault, Range, has_range, overlaps_some};
 use std::alloc::{AllocError, Allocator};
-use std::collections::BTreeMap;
 use std::marker::Model;
-use std::ops::Bound;
-
-/// A range's pair of nodes and its start.
-type RangeKey = [u64; 3];
+use std::mem;
 
 /// Ranges that obey the rules of a plan's ranges, by pair of nodes and start.
 #[derive(Drop)]
 pub struct OrderedRanges<A: Allocator + Copy> {
-    tree: BTreeMap<RangeKey, Range, A>,
+    ranges: Vec<Range, A>,
+    /// Room for merging; its ranges play no part.
+    spare: Vec<Range, A>,
 }
 
 impl<A: Allocator + Copy> Model for OrderedRanges<A> {
-    ghost use Rattle.std.specs.Prelude.{◌≡◌, List};
-    ghost use Rattle.std.specs.BTreeMap.{values};
+    ghost use Rattle.std.specs.Prelude.{List};
     ghost use Rattle.sabr_model.specs.declared.contact.Range.{Range};
     ghost use Rattle.sabr_model.specs.Plan.{IsPlan};
-    ghost use Rattle.sabr_gathering.specs.Gathering.{plan_of_ranges, keyed};
+    ghost use Rattle.sabr_gathering.specs.Gathering.{plan_of_ranges};
 
     ghost Value = { List Range };
 
-    ghost view = { λ r. values r.tree };
+    ghost view = { λ r. r.ranges.items };
 
-    ghost invariant = { λ r. IsPlan (plan_of_ranges (values r.tree)) × (r.tree.entries ≡ keyed (values r.tree)) };
+    ghost invariant = { λ r. IsPlan (plan_of_ranges r.ranges.items) };
 }
 
 impl<A: Allocator + Copy> OrderedRanges<A> {
@@ -42,7 +40,19 @@ impl<A: Allocator + Copy> OrderedRanges<A> {
         ensures { result ≡ [] }
     {
         OrderedRanges {
-            tree: BTreeMap::new(alloc),
+            ranges: Vec::new(alloc),
+            spare: Vec::new(alloc),
+        }
+    }
+
+    /// Takes a list of ranges in order.
+    pub fn of(alloc: A, ranges: Vec<Range, A>) -> OrderedRanges<A>
+        requires { IsPlan (plan_of_ranges ranges.items) }
+        ensures { result ≡ ranges.items }
+    {
+        OrderedRanges {
+            ranges,
+            spare: Vec::new(alloc),
         }
     }
 
@@ -50,58 +60,66 @@ impl<A: Allocator + Copy> OrderedRanges<A> {
     pub fn len(&self) -> usize
         ensures { result ≡ length self.now }
     {
-        self.tree.len()
+        self.ranges.len()
     }
 
-    /// Returns true if one of the ranges overlaps a range of the same ordered pair. It takes one search.
+    /// Returns true if one of the ranges overlaps a range of the same ordered pair.
     pub fn overlaps(&self, range: &Range) -> bool
         ensures { result ≡ list_any (overlap range.now) self.now }
     {
-        let before = (
-            Bound::Unbounded,
-            Bound::Excluded(key(range.one, range.other, range.end)),
-        );
-        match self.tree.range(before).next_back() {
-            Some((_, last)) => overlap(range, last),
-            None => false,
-        }
+        overlaps_some(&self.ranges, range)
     }
 
-    /// Adds a range that may follow these.
-    pub fn insert(&mut self, range: Range) -> Result<(), AllocError>
-        requires { CanFollow self.old range }
-        ensures ok { OnOk result (self.new ≡ put_in by_range_key range self.old) }
+    /// Adds a range that comes after the others.
+    pub fn push(&mut self, range: Range) -> Result<(), AllocError>
+        requires { IsPlan (plan_of_ranges (self.old ++ range ∷ [])) }
+        ensures ok { OnOk result (self.new ≡ self.old ++ range ∷ []) }
         ensures err { OnErr result (self.new ≡ self.old) }
     {
-        self.tree
-            .insert([range.one, range.other, range.start], range)?;
+        self.ranges.push(range)?;
         Ok(())
     }
 
-    /// Deletes the range of this ordered pair that begins at this start. Returns false if there is none.
-    pub fn delete(&mut self, one: u64, other: u64, start: u64) -> bool
-        ensures found { result ≡ list_any (begins one other start) self.old }
-        ensures left { self.new ≡ filter (λ r. not (begins one other start r)) self.old }
+    /// Puts others in their places among these, and leaves none there.
+    pub fn take_in(&mut self, others: &mut OrderedRanges<A>) -> Result<(), AllocError>
+        requires { AreGathered self.old others.old }
+        ensures all { OnOk result (self.new ≡ gathered self.old others.old) }
+        ensures none { OnOk result (others.new ≡ []) }
+        ensures err { OnErr result (self.new ≡ self.old) }
+        ensures err_others { OnErr result (others.new ≡ others.old) }
     {
-        self.tree.remove(&[one, other, start]).is_some()
-    }
-
-    /// Adds the ranges to a list.
-    pub fn add_to(&self, list: &mut Vec<Range, A>) -> Result<(), AllocError>
-        ensures { OnOk result (list.new.items ≡ list.old.items ++ self.now) }
-    {
-        for range in self.tree.values() {
-            list.push(*range)?;
+        if others.ranges.is_empty() {
+            return Ok(());
         }
+        if self.ranges.is_empty() {
+            mem::swap(&mut self.ranges, &mut others.ranges);
+            return Ok(());
+        }
+        merge(&mut self.spare, &self.ranges, &others.ranges)?;
+        mem::swap(&mut self.ranges, &mut self.spare);
+        others.ranges.clear();
         Ok(())
     }
-}
 
-/// The key of a range of this pair that begins at a second.
-fn key(one: u64, other: u64, second: u64) -> RangeKey
-    ensures value { result ≡ one ∷ other ∷ second ∷ [] }
-    ensures other { other < 2 ^ 64 }
-    ensures second { second < 2 ^ 64 }
-{
-    [one, other, second]
+    /// Deletes the range of this ordered pair that begins at this start.
+    pub fn delete(&mut self, one: u64, other: u64, start: u64) -> Result<(), AddFault>
+        ensures refused { IsFalse (list_any (begins one other start) self.old) → result ≡ Err NothingToDelete }
+        ensures accepted { IsTrue (list_any (begins one other start) self.old) → IsOk result }
+        ensures ok { OnOk result (self.new ≡ filter (λ r. not (begins one other start r)) self.old) }
+        ensures err { OnErr result (self.new ≡ self.old) }
+    {
+        if !has_range(&self.ranges, one, other, start) {
+            return Err(AddFault::NothingToDelete);
+        }
+        self.ranges.retain(|r| !(one == r.one && other == r.other && start == r.start));
+        Ok(())
+    }
+
+    /// The ranges as a list.
+    pub fn into_list(self) -> Vec<Range, A>
+        ensures { result.items ≡ self }
+    {
+        let OrderedRanges { ranges, spare: _ } = self;
+        ranges
+    }
 }

@@ -2,4 +2,4 @@ use Rattle.sabr_model.proofs.PlanLemmas.{IsPlan-empty}
 use Rattle.sabr_gathering.proofs.gathered_contacts.GatheredContacts.new.Goals as goal
 
 pub invariant_of-result : goal.invariant_of-result
-invariant_of-result g c = rw (c.new.ensures.items, c.new-2.ensures) (IsPlan-empty, (tt, tt))
+invariant_of-result g c = rw (c.new.ensures.items, c.new-2.ensures) (IsPlan-empty, (tt, λ up. tt))

@@ -1,9 +1,9 @@
-use Rattle.std.proofs.Common.{◌<◌, ◌&&◌, sym, subst, not, eqb, rules, filter}
+use Rattle.std.proofs.Common.{◌≤◌, ◌&&◌, sym, subst, not, eqb, rules, filter}
 use Rattle.std.proofs.lemmas.Fn.{filter_same}
 use Rattle.sabr_model.specs.declared.opening.Opening.{Opening}
 use Rattle.sabr_model.specs.Plan.{opens}
-use Rattle.sabr_gathering.specs.PairTimes.{time_of}
-use Rattle.sabr_gathering.specs.Gathering.{KnowsFirst}
+use Rattle.sabr_model.specs.Openings.{opening_of}
+use Rattle.sabr_gathering.specs.Gathering.{opening_number, KnowsFirst}
 use Rattle.sabr_model.proofs.Deletions.{all_filter}
 use Rattle.sabr_gathering.proofs.GatheredOpenings.{known_fewer}
 use Rattle.sabr_gathering.proofs.known_openings.KnownOpenings.forget.Goals as goal
@@ -15,5 +15,5 @@ returns g c = λ contacts h.
     let start = c.args.start in
     let left = filter_same _ (λ (o : Opening). not ((eqb from o.from && eqb to o.to) && eqb start o.start)) _ (λ o b f' k. search rules) _ _ c.retain.ensures.filtered in (
       subst (λ os. KnowsFirst os (filter (λ d. not (opens from to start d)) contacts)) (sym left) (known_fewer from to start c.args.self.now.set.keys contacts h.0),
-      all_filter (λ d. d.start < time_of c.args.self.now.times.table d.from d.to) (λ d. not (opens from to start d)) contacts h.1,
+      λ up. all_filter (λ d. opening_number (opening_of d) ≤ opening_number c.args.self.now.last) (λ d. not (opens from to start d)) contacts (h.1 up),
     )
