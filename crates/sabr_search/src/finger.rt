@@ -4,6 +4,14 @@ ghost use Rattle.std.specs.Prelude.{◌≡◌, ◌↔◌, ℕ, ◌+◌, ◌<◌,
 ghost use Rattle.std.specs.List.Sorted.{IsNonDecreasing, IsStrictlyIncreasing};
 ghost use Rattle.sabr_model.specs.Plan.{has};
 
+/// Numbers that no way takes first.
+#[derive(Clone, Copy)]
+pub struct Excluded<'a> {
+    pub numbers: &'a [u32],
+    /// Whether these are known to rise.
+    pub rising: bool,
+}
+
 /// Where the next number is looked for first. It may be anywhere: the answer rests on what is compared.
 #[derive(Clone, Copy)]
 pub struct Finger {

@@ -8,7 +8,7 @@ ghost use Rattle.sabr_search.specs.Settling.{AreReal};
 
 use crate::layers::NEVER;
 use crate::looks::Looks;
-use crate::over_link::link_passes;
+use crate::over_link::{WalkedLink, link_passes};
 use crate::pick::Standing;
 use crate::task::Task;
 use sabr_model::NoMemory;
@@ -61,15 +61,13 @@ impl<'a, A: Allocator + Copy> Task<'a, A> {
             if self.shut()[link.receiver] {
                 continue;
             }
-            let at = self.arrive_over(
-                looks,
-                from.node,
-                link.receiver,
+            let walked = WalkedLink {
+                from: from.node,
+                to: link.receiver,
                 passes,
-                link.bounds,
-                from.at,
-                NEVER,
-            );
+                bounds: link.bounds,
+            };
+            let at = self.arrive_over(looks, walked, from.at, NEVER);
             let step = Standing {
                 node: link.receiver,
                 at,

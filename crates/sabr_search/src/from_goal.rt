@@ -10,7 +10,7 @@ ghost use Rattle.sabr_search.specs.Late.{InTimeFor, AreLateAfter, StartsInTime, 
 
 use crate::layers::{Layers, Reached};
 use crate::looks::Looks;
-use crate::over_link::rules_out;
+use crate::over_link::{WalkedLink, rules_out};
 use crate::task::Task;
 use sabr_index::{Sender, SenderHead};
 use sabr_model::NoMemory;
@@ -41,15 +41,13 @@ impl<'a, A: Allocator + Copy> Task<'a, A> {
         ensures met { IsTrue result → (n : ℕ) × (b : ℕ) × Takes self.now n self.now.start self.now.at to b × (b < before) }
         ensures told { result ≡ false → (n t w b : ℕ) → self.now.at ≤ t → HasNumber from.entry.passes.now n → Takes self.now n self.now.start t w b → before ≤ b }
     {
-        let at = self.arrive_over(
-            looks,
-            from.node,
+        let link = WalkedLink {
+            from: from.node,
             to,
-            from.passes,
-            from.bounds,
-            self.at(),
-            before,
-        );
+            passes: from.passes,
+            bounds: from.bounds,
+        };
+        let at = self.arrive_over(looks, link, self.at(), before);
         at < before
     }
 }
@@ -139,16 +137,13 @@ impl<A: Allocator + Copy> Layers<A> {
         }
         let latest = self.late[from.node];
         let since = aim.since[from.node];
-        let last = task.leave_over(
-            looks,
-            from.node,
-            to.node,
-            from.passes,
-            from.bounds,
-            since,
-            to.deadline,
-            latest,
-        );
+        let link = WalkedLink {
+            from: from.node,
+            to: to.node,
+            passes: from.passes,
+            bounds: from.bounds,
+        };
+        let last = task.leave_over(looks, link, since, to.deadline, latest);
         if last <= latest || last <= since {
             return Ok(false);
         }

@@ -9,6 +9,7 @@ ghost use Rattle.sabr_search.specs.Latest.{IsWhole, AreRising, AreTaken, IsTaken
 
 use crate::layers::NEVER;
 use crate::looks::Looks;
+use crate::over_link::WalkedLink;
 use crate::queue::{Event, Queue};
 use crate::task::Task;
 use sabr_index::Sender;
@@ -79,7 +80,13 @@ impl<A: Allocator + Copy> Latest<A> {
             return Ok(());
         }
         let latest = self.late[node];
-        let last = task.leave_over(looks, node, to, from.passes, from.bounds, 0, before, latest);
+        let link = WalkedLink {
+            from: node,
+            to,
+            passes: from.passes,
+            bounds: from.bounds,
+        };
+        let last = task.leave_over(looks, link, 0, before, latest);
         if last <= latest {
             return Ok(());
         }

@@ -10,7 +10,7 @@ ghost use Rattle.sabr_search.specs.Told.{hops_told};
 
 use crate::best::BestOf;
 use crate::course::Course;
-use crate::finger::rises;
+use crate::finger::{Excluded, rises};
 use crate::from_goal::Aim;
 use crate::kept::Kept;
 use crate::layers::Layers;
@@ -116,15 +116,11 @@ impl<A: Allocator + Copy> Layered<A> {
         };
         let standing = course.go(&mut self.looks, plan, request, part.prefix)?;
         let in_order = rises(part.excluded);
-        let task = Task::new(
-            index,
-            request,
-            &course.shut,
-            part.excluded,
-            in_order,
-            standing,
-            course.goal,
-        );
+        let excluded = Excluded {
+            numbers: part.excluded,
+            rising: in_order,
+        };
+        let task = Task::new(index, request, &course, excluded, standing);
         self.since.clear();
         self.since.resize(plan.nodes(), task.at())?;
         self.layers

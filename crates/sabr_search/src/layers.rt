@@ -9,9 +9,8 @@ ghost use Rattle.sabr_search.specs.FirstSteps.{IsNoneBefore};
 ghost use Rattle.sabr_search.specs.Made.{AreOpened, IsBestWithin};
 
 use crate::looks::Looks;
-use crate::over_link::link_passes;
+use crate::over_link::{WalkedLink, link_passes};
 use crate::task::Task;
-use sabr_index::{Link, Pass};
 use sabr_model::NoMemory;
 use std::alloc::Allocator;
 
@@ -28,6 +27,13 @@ pub struct Reached {
 pub struct Best {
     pub delivery: u64,
     pub hops: usize,
+}
+
+/// The layer that is made: where its entries begin, and the least delivery so far.
+#[derive(Clone, Copy)]
+struct Layer {
+    begin: usize,
+    best: u64,
 }
 
 /// Later than every arrival.
@@ -166,41 +172,38 @@ impl<A: Allocator + Copy> Layers<A> {
         Ok(())
     }
 
-    /// Takes one link of a node that is reached. Returns the least delivery so far.
+    /// Takes one link of a node that is reached at `at`. Returns the least delivery so far.
     fn take_link(
         &mut self,
         task: &Task<'_, A>,
         looks: &mut Looks,
-        from: Reached,
-        link: &Link,
-        passes: &[Pass],
-        begin: usize,
-        best: u64,
+        at: u64,
+        link: WalkedLink<'_>,
+        layer: Layer,
     ) -> Result<u64, NoMemory>
         requires task { IsTask task.now }
-        requires link { IsLinkWithin task.now from.node link.now.receiver passes.now link.now.bounds }
-        requires receiver { link.now.receiver < length task.now.table }
-        requires since { task.now.at ≤ from.arrival }
-        requires few { looks.old.count + length passes.now ≤ 2 ^ 62 }
-        requires later { 0 < begin }
-        requires lists { AreLists task.now.shut task.now.goal task.now.at begin self.old.arrival.items self.old.place.items self.old.reached.items }
+        requires link { IsLinkWithin task.now link.from link.to link.passes.now link.bounds }
+        requires receiver { link.to < length task.now.table }
+        requires since { task.now.at ≤ at }
+        requires few { looks.old.count + length link.passes.now ≤ 2 ^ 62 }
+        requires later { 0 < layer.begin }
+        requires lists { AreLists task.now.shut task.now.goal task.now.at layer.begin self.old.arrival.items self.old.place.items self.old.reached.items }
         ensures bounds { self.new.bounds ≡ self.old.bounds }
-        ensures looks { looks.new.count ≤ looks.old.count + length passes.now }
-        ensures lowered { IfOk result (λ b. AreLowered task.now begin (GivenAt task.now from.node from.arrival) self.old best self.new b) }
-        ensures known { IfOk result (λ b. (n w x : ℕ) → HasNumber passes.now n → Takes task.now n from.node from.arrival w x → IsKnown task.now.goal self.new.arrival.items b w x) }
+        ensures looks { looks.new.count ≤ looks.old.count + length link.entry.passes.now }
+        ensures lowered { IfOk result (λ b. AreLowered task.now layer.begin (GivenAt task.now link.entry.from at) self.old layer.best self.new b) }
+        ensures known { IfOk result (λ b. (n w x : ℕ) → HasNumber link.entry.passes.now n → Takes task.now n link.entry.from at w x → IsKnown task.now.goal self.new.arrival.items b w x) }
     {
-        let to = link.receiver;
-        let bounds = link.bounds;
-        let before = news_before(&self.arrival, task, to, best);
-        let at = task.arrive_over(looks, from.node, to, passes, bounds, from.arrival, before);
-        if at >= before {
-            return Ok(best);
+        let to = link.to;
+        let before = news_before(&self.arrival, task, to, layer.best);
+        let arrival = task.arrive_over(looks, link, at, before);
+        if arrival >= before {
+            return Ok(layer.best);
         }
         if to == task.goal() {
-            return Ok(at);
+            return Ok(arrival);
         }
-        self.note(to, at, begin)?;
-        Ok(best)
+        self.note(to, arrival, layer.begin)?;
+        Ok(layer.best)
     }
 
     /// Takes every contact of a node that is reached. Returns the least delivery so far.
@@ -227,7 +230,14 @@ impl<A: Allocator + Copy> Layers<A> {
         let mut least = best;
         for link in links.links {
             let passes = link_passes(links, link);
-            least = self.take_link(task, looks, from, link, passes, begin, least)?;
+            let walked = WalkedLink {
+                from: from.node,
+                to: link.receiver,
+                passes,
+                bounds: link.bounds,
+            };
+            let layer = Layer { begin, best: least };
+            least = self.take_link(task, looks, from.arrival, walked, layer)?;
         }
         Ok(least)
     }

@@ -7,10 +7,9 @@ ghost use Rattle.sabr_search.specs.Linked.{IsLinkWithin, HasNumber};
 
 use crate::finger::Finger;
 use crate::looks::Looks;
-use crate::over_link::{first_open, rules_out};
+use crate::over_link::{WalkedLink, first_open, rules_out};
 use crate::pick::{Step, is_at_most};
 use crate::task::Task;
-use sabr_index::{Link, Pass};
 use std::alloc::Allocator;
 
 impl<'a, A: Allocator + Copy> Task<'a, A> {
@@ -20,25 +19,24 @@ impl<'a, A: Allocator + Copy> Task<'a, A> {
     pub fn least_over(
         &self,
         looks: &mut Looks,
-        node: usize,
-        link: &Link,
-        passes: &[Pass],
+        link: WalkedLink<'_>,
         at: u64,
         before: u64,
         least: Option<Step>,
     ) -> Option<Step>
         requires task { IsTask self.now }
-        requires link { IsLinkWithin self.now node link.now.receiver passes.now link.now.bounds }
-        requires few { looks.old.count + length passes.now ≤ 2 ^ 62 }
-        ensures looks { looks.new.count ≤ looks.old.count + length passes.now }
+        requires link { IsLinkWithin self.now link.from link.to link.passes.now link.bounds }
+        requires few { looks.old.count + length link.passes.now ≤ 2 ^ 62 }
+        ensures looks { looks.new.count ≤ looks.old.count + length link.entry.passes.now }
         ensures some_looks { (result ≡ least) ⊎ (looks.old.count < looks.new.count) }
         ensures lower { (n : ℕ) → IsAtMost least n → IsAtMost result n }
-        ensures sound { (result ≡ least) ⊎ IfSome result (IsStepOver self.now node at link.now.receiver before) }
-        ensures full { (n w b : ℕ) → HasNumber passes.now n → Takes self.now n node at w b → b < before → IsAtMost result n }
+        ensures sound { (result ≡ least) ⊎ IfSome result (IsStepOver self.now link.entry.from at link.entry.to before) }
+        ensures full { (n w b : ℕ) → HasNumber link.entry.passes.now n → Takes self.now n link.entry.from at w b → b < before → IsAtMost result n }
     {
         if rules_out(link.bounds, at, before) {
             return least;
         }
+        let passes = link.passes;
         let mut chosen = least;
         let mut finger = Finger::new();
         let mut place = first_open(passes, at);
@@ -47,7 +45,7 @@ impl<'a, A: Allocator + Copy> Task<'a, A> {
             if is_at_most(chosen, pass.least_number_behind) {
                 return chosen;
             }
-            let excluded = self.excluded_from(node, pass, &mut finger);
+            let excluded = self.excluded_from(link.from, pass, &mut finger);
             if excluded > 0 {
                 place += excluded.min(passes.len() - place);
                 continue;
@@ -59,11 +57,11 @@ impl<'a, A: Allocator + Copy> Task<'a, A> {
             if is_at_most(chosen, pass.number) {
                 continue;
             }
-            let hop = self.hop_over(link.receiver, pass);
+            let hop = self.hop_over(link.to, pass);
             if let Some(arrival) = self.arrive_before(at, &hop, before) {
                 chosen = Some(Step {
                     number: pass.number,
-                    node: link.receiver,
+                    node: link.to,
                     at: arrival,
                 });
             }

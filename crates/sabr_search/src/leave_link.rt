@@ -8,9 +8,9 @@ ghost use Rattle.sabr_search.specs.Task.{IsTask, Takes};
 ghost use Rattle.sabr_search.specs.Linked.{IsLinkWithin, AreInOrder, HasNumber};
 
 use crate::looks::Looks;
-use crate::over_link::rules_out;
+use crate::over_link::{WalkedLink, rules_out};
 use crate::task::Task;
-use sabr_index::{LinkBounds, Pass};
+use sabr_index::Pass;
 use std::alloc::Allocator;
 
 /// Returns the number of passes of a link that start before `before`; these come first. A link's only pass is counted
@@ -45,27 +45,25 @@ impl<'a, A: Allocator + Copy> Task<'a, A> {
     pub fn leave_over(
         &self,
         looks: &mut Looks,
-        node: usize,
-        to: usize,
-        passes: &[Pass],
-        bounds: LinkBounds,
+        link: WalkedLink<'_>,
         since: u64,
         before: u64,
         latest: u64,
     ) -> u64
         requires task { IsTask self.now }
-        requires link { IsLinkWithin self.now node to passes.now bounds }
-        requires other { node ≢ self.now.start }
-        requires few { looks.old.count + length passes.now ≤ 2 ^ 62 }
-        ensures looks { looks.new.count ≤ looks.old.count + length passes.now }
+        requires link { IsLinkWithin self.now link.from link.to link.passes.now link.bounds }
+        requires other { link.from ≢ self.now.start }
+        requires few { looks.old.count + length link.passes.now ≤ 2 ^ 62 }
+        ensures looks { looks.new.count ≤ looks.old.count + length link.entry.passes.now }
         ensures some_looks { latest < result → looks.old.count < looks.new.count }
         ensures lower { latest ≤ result }
-        ensures sound { (t : ℕ) → latest ≤ t → t < result → (b : ℕ) × (b < before) × (slice_index_or self.now.shut to false ≡ false → (n : ℕ) × Takes self.now n node t to b) }
-        ensures full { (n t w b : ℕ) → HasNumber passes.now n → since ≤ t → Takes self.now n node t w b → b < before → t < result }
+        ensures sound { (t : ℕ) → latest ≤ t → t < result → (b : ℕ) × (b < before) × (slice_index_or self.now.shut link.entry.to false ≡ false → (n : ℕ) × Takes self.now n link.entry.from t link.entry.to b) }
+        ensures full { (n t w b : ℕ) → HasNumber link.entry.passes.now n → since ≤ t → Takes self.now n link.entry.from t w b → b < before → t < result }
     {
-        if rules_out(bounds, latest.max(since), before) {
+        if rules_out(link.bounds, latest.max(since), before) {
             return latest;
         }
+        let passes = link.passes;
         let mut last = latest;
         let end = begun(passes, before);
         for back in 0..end {
@@ -73,7 +71,7 @@ impl<'a, A: Allocator + Copy> Task<'a, A> {
             if self.leaves_no_later(pass, since, before, last) {
                 return last;
             }
-            let hop = self.hop_over(to, pass);
+            let hop = self.hop_over(link.to, pass);
             last = last.max(self.leave_before(&hop, before));
         }
         last

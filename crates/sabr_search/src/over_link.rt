@@ -16,6 +16,16 @@ use sabr_index::{Link, LinkBounds, Links, Pass};
 use sabr_model::Hop;
 use std::alloc::Allocator;
 
+/// A link that is walked: the indexes of its sender and its receiver in the table of nodes, its passes by start, and
+/// bounds for all of them.
+#[derive(Clone, Copy)]
+pub struct WalkedLink<'a> {
+    pub from: usize,
+    pub to: usize,
+    pub passes: &'a [Pass],
+    pub bounds: LinkBounds,
+}
+
 /// The passes of a link.
 pub fn link_passes<'a>(links: Links<'a>, link: &Link) -> &'a [Pass]
     requires ordered { link.now.first ≤ link.now.end }
@@ -87,36 +97,28 @@ impl<'a, A: Allocator + Copy> Task<'a, A> {
     /// `before`. It takes a binary search and one look for each pass in question, mostly two. Excluded passes with
     /// consecutive numbers take one look.
     #[inline(always)]
-    pub fn arrive_over(
-        &self,
-        looks: &mut Looks,
-        node: usize,
-        to: usize,
-        passes: &[Pass],
-        bounds: LinkBounds,
-        at: u64,
-        before: u64,
-    ) -> u64
+    pub fn arrive_over(&self, looks: &mut Looks, link: WalkedLink<'_>, at: u64, before: u64) -> u64
         requires task { IsTask self.now }
-        requires link { IsLinkWithin self.now node to passes.now bounds }
-        requires few { looks.old.count + length passes.now ≤ 2 ^ 62 }
-        ensures looks { looks.new.count ≤ looks.old.count + length passes.now }
+        requires link { IsLinkWithin self.now link.from link.to link.passes.now link.bounds }
+        requires few { looks.old.count + length link.passes.now ≤ 2 ^ 62 }
+        ensures looks { looks.new.count ≤ looks.old.count + length link.entry.passes.now }
         ensures looked { looks.old.count ≤ looks.new.count }
         ensures some_looks { result < before → looks.old.count < looks.new.count }
         ensures upper { result ≤ before }
         ensures later { result < before → at ≤ result }
-        ensures sound { result < before → slice_index_or self.now.shut to false ≡ false → (n : ℕ) × Takes self.now n node at to result }
-        ensures full { (n w b : ℕ) → HasNumber passes.now n → Takes self.now n node at w b → result ≤ b }
+        ensures sound { result < before → slice_index_or self.now.shut link.entry.to false ≡ false → (n : ℕ) × Takes self.now n link.entry.from at link.entry.to result }
+        ensures full { (n w b : ℕ) → HasNumber link.entry.passes.now n → Takes self.now n link.entry.from at w b → result ≤ b }
     {
-        if rules_out(bounds, at, before) {
+        if rules_out(link.bounds, at, before) {
             return before;
         }
+        let passes = link.passes;
         let mut least = before;
         let mut finger = Finger::new();
         let mut place = first_open(passes, at);
         while place < passes.len() {
             let pass = looks.look(&passes[place]);
-            let excluded = self.excluded_from(node, pass, &mut finger);
+            let excluded = self.excluded_from(link.from, pass, &mut finger);
             if excluded > 0 {
                 place += excluded.min(passes.len() - place);
                 continue;
@@ -124,9 +126,9 @@ impl<'a, A: Allocator + Copy> Task<'a, A> {
             if self.comes_late(pass, at, least) {
                 return least;
             }
-            let hop = self.hop_over(to, pass);
+            let hop = self.hop_over(link.to, pass);
             if let Some(arrival) = self.arrive_before(at, &hop, least) {
-                if is_soonest(bounds, at, arrival) {
+                if is_soonest(link.bounds, at, arrival) {
                     return arrival;
                 }
                 least = arrival;

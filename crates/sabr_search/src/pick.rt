@@ -10,7 +10,7 @@ ghost use Rattle.sabr_search.specs.Picks.{IsAtMost, IsLeastStep, IsPicked};
 use crate::from_goal::Aim;
 use crate::layers::Layers;
 use crate::looks::Looks;
-use crate::over_link::link_passes;
+use crate::over_link::{WalkedLink, link_passes};
 use crate::task::Task;
 use sabr_index::Links;
 use sabr_model::NoMemory;
@@ -69,7 +69,13 @@ impl<A: Allocator + Copy> Layers<A> {
         for link in links.links {
             let passes = link_passes(links, link);
             let before = self.deadline(hops, link.receiver);
-            least = task.least_over(looks, from.node, link, passes, from.at, before, least);
+            let walked = WalkedLink {
+                from: from.node,
+                to: link.receiver,
+                passes,
+                bounds: link.bounds,
+            };
+            least = task.least_over(looks, walked, from.at, before, least);
         }
         least
     }

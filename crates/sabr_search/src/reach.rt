@@ -6,6 +6,7 @@ ghost use Rattle.sabr_model.specs.Arrival.{RouteRequest};
 ghost use Rattle.sabr_search.specs.Reach.{IsReach};
 
 use crate::course::Course;
+use crate::finger::Excluded;
 use crate::latest::latest_of;
 use crate::looks::Looks;
 use crate::task::Task;
@@ -50,15 +51,11 @@ impl<A: Allocator + Copy> Reach<A> {
             return Ok(Reach::new(alloc));
         };
         let source = course.go(looks, plan, request, &[])?;
-        let task = Task::new(
-            index,
-            request,
-            &course.shut,
-            &[],
-            false,
-            source,
-            course.goal,
-        );
+        let excluded = Excluded {
+            numbers: &[],
+            rising: false,
+        };
+        let task = Task::new(index, request, &course, excluded, source);
         let late = latest_of(alloc, &task, looks, most)?;
         Ok(Reach { late })
     }

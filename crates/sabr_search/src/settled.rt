@@ -15,7 +15,7 @@ ghost use Rattle.sabr_search.specs.Settling.{IsBound};
 
 use crate::answers::breadth_of;
 use crate::best::BestOf;
-use crate::finger::rises;
+use crate::finger::{Excluded, rises};
 use crate::kept::Kept;
 use crate::least_way::{FoundWay, MANY_LOOKS};
 use crate::looks::Looks;
@@ -186,15 +186,11 @@ impl<A: Allocator + Copy> Settled<A> {
         };
         let standing = course.go(&mut self.looks, plan, request, part.prefix)?;
         kept.open(&mut self.looks, index, request);
-        let task = Task::new(
-            index,
-            request,
-            &course.shut,
-            part.excluded,
-            in_order,
-            standing,
-            course.goal,
-        );
+        let excluded = Excluded {
+            numbers: part.excluded,
+            rising: in_order,
+        };
+        let task = Task::new(index, request, &course, excluded, standing);
         let answer = self
             .search
             .least_beside(kept, &task, &mut self.looks, part.prefix);

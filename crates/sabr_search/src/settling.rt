@@ -12,11 +12,11 @@ ghost use Rattle.sabr_search.specs.Settling.{IsBound, AreReal, AreArrivalsBy, se
 
 use crate::layers::{Best, NEVER, news_before, open_nodes};
 use crate::looks::Looks;
-use crate::over_link::{is_soonest, link_passes};
+use crate::over_link::{WalkedLink, is_soonest, link_passes};
 use crate::pick::Standing;
 use crate::queue::{Event, Queue};
 use crate::task::Task;
-use sabr_index::{Link, Links, Pass};
+use sabr_index::{Link, Links};
 use sabr_model::NoMemory;
 use std::alloc::Allocator;
 
@@ -112,28 +112,28 @@ impl<A: Allocator + Copy> Settling<A> {
         forward: &Forward<'_, '_, '_, A>,
         looks: &mut Looks,
         event: Event,
-        link: &Link,
-        passes: &[Pass],
+        link: WalkedLink<'_>,
         best: Best,
     ) -> Result<Best, NoMemory>
         requires task { IsTask forward.now.task.now }
-        requires link { IsLinkWithin forward.now.task.now event.node link.now.receiver passes.now link.now.bounds }
-        requires receiver { link.now.receiver < length forward.now.task.now.table }
+        requires from { link.from ≡ event.node }
+        requires link { IsLinkWithin forward.now.task.now link.from link.to link.passes.now link.bounds }
+        requires receiver { link.to < length forward.now.task.now.table }
         requires real { IsWayTo forward.now.task.now event.node event.hops event.at }
         requires few_hops { event.hops < settled_count self.old.settled.items }
-        requires few { looks.old.count + length passes.now ≤ 2 ^ 62 }
+        requires few { looks.old.count + length link.passes.now ≤ 2 ^ 62 }
         requires state { AreSettling forward.now.task.now forward.now.late.now self.old.settled.items event.at self.old.arrival.items self.old.queue best }
         ensures settled { self.new.settled ≡ self.old.settled }
-        ensures looks { looks.new.count ≤ looks.old.count + length passes.now }
+        ensures looks { looks.new.count ≤ looks.old.count + length link.entry.passes.now }
         ensures state { IfOk result (λ b. AreSettling forward.now.task.now forward.now.late.now self.old.settled.items event.at self.new.arrival.items self.new.queue b) }
         ensures fallen { IfOk result (λ b. IsFallen self.old.settled.items self.old.arrival.items best self.new.arrival.items b) }
-        ensures known { IfOk result (λ b. (n w x : ℕ) → HasNumber passes.now n → Takes forward.now.task.now n event.node event.at w x → IsKnown forward.now.task.now.goal self.new.arrival.items b.delivery w x) }
+        ensures known { IfOk result (λ b. (n w x : ℕ) → HasNumber link.entry.passes.now n → Takes forward.now.task.now n link.entry.from event.at w x → IsKnown forward.now.task.now.goal self.new.arrival.items b.delivery w x) }
         ensures pushes { OnOk result (length self.new.queue + looks.old.count ≤ length self.old.queue + looks.new.count) }
     {
         let task = forward.task;
-        let to = link.receiver;
+        let to = link.to;
         let before = news_before(&self.arrival, task, to, best.delivery);
-        let at = task.arrive_over(looks, event.node, to, passes, link.bounds, event.at, before);
+        let at = task.arrive_over(looks, link, event.at, before);
         if at >= before {
             return Ok(best);
         }
@@ -176,7 +176,13 @@ impl<A: Allocator + Copy> Settling<A> {
                 continue;
             }
             let passes = link_passes(links, link);
-            least = self.take_link(forward, looks, event, link, passes, least)?;
+            let walked = WalkedLink {
+                from: event.node,
+                to: link.receiver,
+                passes,
+                bounds: link.bounds,
+            };
+            least = self.take_link(forward, looks, event, walked, least)?;
         }
         Ok(least)
     }

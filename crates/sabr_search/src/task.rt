@@ -12,7 +12,8 @@ ghost use Rattle.sabr_search.specs.FirstSteps.{tabled_of};
 ghost use Rattle.sabr_search.specs.KeptAnswers.{AreListed, Arrives};
 ghost use Rattle.sabr_search.specs.Linked.{AreLinksAt, AreSendersAt};
 
-use crate::finger::Finger;
+use crate::course::Course;
+use crate::finger::{Excluded, Finger};
 use crate::looks::Looks;
 use crate::pick::Standing;
 use crate::shut::Shut;
@@ -56,27 +57,25 @@ impl<'a, A: Allocator + Copy> Model for Task<'a, A> {
 }
 
 impl<'a, A: Allocator + Copy> Task<'a, A> {
-    /// Makes a task from where the search stands. `in_order` says that the excluded numbers are known to rise.
+    /// Makes a task from where the search stands after a course.
     pub fn new(
         index: &'a Index<'a, A>,
         request: &'a Request,
-        shut: &'a Shut<A>,
-        excluded: &'a [u32],
-        in_order: bool,
+        course: &'a Course<A>,
+        excluded: Excluded<'a>,
         standing: Standing,
-        goal: usize,
     ) -> Task<'a, A>
-        requires { IsTrue in_order → IsStrictlyIncreasing excluded.now }
-        ensures { result ≡ task_of index.now request.now shut.now excluded.now standing.node standing.at goal }
+        requires { IsTrue excluded.rising → IsStrictlyIncreasing excluded.numbers.now }
+        ensures { result ≡ task_of index.now request.now course.now.shut excluded.entry.numbers.now standing.node standing.at course.now.goal }
     {
         Task {
             index,
             request,
-            shut,
-            excluded,
-            in_order,
+            shut: &course.shut,
+            excluded: excluded.numbers,
+            in_order: excluded.rising,
             start: standing.node,
-            goal,
+            goal: course.goal,
             at: standing.at,
         }
     }

@@ -1,4 +1,4 @@
-use Rattle.std.proofs.Common.{◌≡◌, ℕ, zero, suc, false, List, [], ◌∷◌, length, replicate, slice_set, refl, ap, ◌∙◌, arith}
+use Rattle.std.proofs.Common.{◌≡◌, false, length, replicate, slice_set, refl, ap, ◌∙◌, arith}
 use Rattle.sabr_search.specs.Task.{never}
 use Rattle.sabr_search.proofs.LastSeconds.{first_rising}
 use Rattle.sabr_search.proofs.Since.{filled}

@@ -6,25 +6,25 @@ use Rattle.sabr_search.proofs.Queues.{set_here, set_falls, set_many}
 use Rattle.sabr_search.proofs.OverLinks.{over_pass, step_over}
 use Rattle.sabr_search.proofs.layers.Layers.take_link.Goals as goal
 
-pub returns-then-at-before-clause-lowered : goal.returns-then-at-before-clause-lowered
-returns-then-at-before-clause-lowered g c = lowered_none _ _ _ _ _ _ _ _ _ c.requires.lists
+pub returns-then-arrival-before-clause-lowered : goal.returns-then-arrival-before-clause-lowered
+returns-then-arrival-before-clause-lowered g c = lowered_none _ _ _ _ _ _ _ _ _ c.requires.lists
 
-pub returns-then-at-before-clause-known : goal.returns-then-at-before-clause-known
-returns-then-at-before-clause-known g c = λ n w x has s.
+pub returns-then-arrival-before-clause-known : goal.returns-then-arrival-before-clause-known
+returns-then-arrival-before-clause-known g c = λ n w x has s.
     let task = c.args.task.now in
-    let u = c.args.from.node in
-    let t = c.args.from.arrival in
-    let over = over_pass task c.requires.task u c.args.link.now.receiver t has.1 w x (c.requires.link.0.each has.0 has.1 has.2) (step_over task c.args.passes.now n u t w x has s) in
-    rw over.receiver (known_old task.goal c.args.self.now.arrival.items c.args.best c.args.link.now.receiver c.news_before-before.result x c.news_before-before.ensures.goal (rw c.deref.ensures.value at c.news_before-before.ensures.other) (omega (arith, c.if-at-before.true, c.arrive_over-at.ensures.full n w x has s)))
+    let u = c.args.link.from in
+    let t = c.args.at in
+    let over = over_pass task c.requires.task u c.args.link.to t has.1 w x (c.requires.link.0.each has.0 has.1 has.2) (step_over task c.args.link.passes.now n u t w x has s) in
+    rw over.receiver (known_old task.goal c.args.self.now.arrival.items c.args.layer.best c.args.link.to c.news_before-before.result x c.news_before-before.ensures.goal (rw c.deref.ensures.value at c.news_before-before.ensures.other) (omega (arith, c.if-arrival-before.true, c.arrive_over-arrival.ensures.full n w x has s)))
 
 pub returns-then-to-goal-clause-lowered : goal.returns-then-to-goal-clause-lowered
 returns-then-to-goal-clause-lowered g c =
     let task = c.args.task.now in
-    let same : c.args.link.now.receiver ≡ task.goal = c.if-to-goal.true ∙ c.goal.ensures in
-    let step = c.arrive_over-at.ensures.sound c.if-at-before.false (ap (λ k. slice_index_or task.shut k false) same ∙ c.requires.task.goal_open) in
+    let same : c.args.link.to ≡ task.goal = c.if-to-goal.true ∙ c.goal.ensures in
+    let step = c.arrive_over-arrival.ensures.sound c.if-arrival-before.false (ap (λ k. slice_index_or task.shut k false) same ∙ c.requires.task.goal_open) in
     record {
       lists = c.requires.lists;
-      lower = omega (arith, c.if-at-before.false, c.news_before-before.ensures.goal same);
+      lower = omega (arith, c.if-arrival-before.false, c.news_before-before.ensures.goal same);
       lowered = λ k. omega arith;
       before = refl;
       adds = λ p d within. inl (within, refl);
@@ -32,20 +32,20 @@ returns-then-to-goal-clause-lowered g c =
     }
 
 pub returns-then-to-goal-clause-known : goal.returns-then-to-goal-clause-known
-returns-then-to-goal-clause-known g c = λ n w x has s. inl (c.arrive_over-at.ensures.full n w x has s)
+returns-then-to-goal-clause-known g c = λ n w x has s. inl (c.arrive_over-arrival.ensures.full n w x has s)
 
 pub returns-clause-lowered : goal.returns-clause-lowered
 returns-clause-lowered g c =
     let task = c.args.task.now in
     let own = c.args.self.now in
-    let w = c.args.link.now.receiver in
-    let b = c.arrive_over-at.result in
+    let w = c.args.link.to in
+    let b = c.arrive_over-arrival.result in
     let was = c.requires.lists in
     let other : w ≢ task.goal = λ same. c.if-to-goal.false (same ∙ sym c.goal.ensures) in
     let within : w < length own.arrival.items = omega (arith, was.flags, c.requires.task.as_many, c.requires.receiver) in
-    let less : b < slice_index own.arrival.items w = omega (arith, c.if-at-before.false, rw c.deref.ensures.value at c.news_before-before.ensures.other other) in
-    let open' : slice_index_or task.shut w false ≡ false = false_from_ne_true (slice_index_or task.shut w false) (λ on. omega (arith, was.closed w on, less, c.arrive_over-at.ensures.later c.if-at-before.false, c.requires.since)) in
-    let step : (n : ℕ) × Takes task n c.args.from.node c.args.from.arrival w b = c.arrive_over-at.ensures.sound c.if-at-before.false open' in
+    let less : b < slice_index own.arrival.items w = omega (arith, c.if-arrival-before.false, rw c.deref.ensures.value at c.news_before-before.ensures.other other) in
+    let open' : slice_index_or task.shut w false ≡ false = false_from_ne_true (slice_index_or task.shut w false) (λ on. omega (arith, was.closed w on, less, c.arrive_over-arrival.ensures.later c.if-arrival-before.false, c.requires.since)) in
+    let step : (n : ℕ) × Takes task n c.args.link.from c.args.at w b = c.arrive_over-arrival.ensures.sound c.if-arrival-before.false open' in
     let noted = c.in_ok-note.ensures in
     record {
       lists = record {
@@ -77,10 +77,10 @@ pub returns-clause-known : goal.returns-clause-known
 returns-clause-known g c = λ n w x has s.
     let task = c.args.task.now in
     let own = c.args.self.now in
-    let u = c.args.from.node in
-    let t = c.args.from.arrival in
-    let to = c.args.link.now.receiver in
+    let u = c.args.link.from in
+    let t = c.args.at in
+    let to = c.args.link.to in
     let other : to ≢ task.goal = λ same. c.if-to-goal.false (same ∙ sym c.goal.ensures) in
     let within : to < length own.arrival.items = omega (arith, c.requires.lists.flags, c.requires.task.as_many, c.requires.receiver) in
-    let over = over_pass task c.requires.task u to t has.1 w x (c.requires.link.0.each has.0 has.1 has.2) (step_over task c.args.passes.now n u t w x has s) in
-    rw (over.receiver, c.in_ok-note.ensures.arrivals) (inr (other, omega (arith, set_here own.arrival.items to c.arrive_over-at.result within, c.arrive_over-at.ensures.full n w x has s)))
+    let over = over_pass task c.requires.task u to t has.1 w x (c.requires.link.0.each has.0 has.1 has.2) (step_over task c.args.link.passes.now n u t w x has s) in
+    rw (over.receiver, c.in_ok-note.ensures.arrivals) (inr (other, omega (arith, set_here own.arrival.items to c.arrive_over-arrival.result within, c.arrive_over-arrival.ensures.full n w x has s)))

@@ -11,7 +11,7 @@ use Rattle.sabr_search.proofs.Bridge.{same_some}
 
 pub returns-then-rules_out-clause-full : goal.returns-then-rules_out-clause-full
 returns-then-rules_out-clause-full g c = λ n w b has s.
-    ruled_out c.args.self.now c.requires.task c.args.node c.args.to c.args.passes.now c.requires.link.0 c.args.bounds c.requires.link.1 c.args.at c.args.before (c.rules_out.ensures.late c.if-rules_out.true) n c.args.at w b has (omega arith) s
+    ruled_out c.args.self.now c.requires.task c.args.link.from c.args.link.to c.args.link.passes.now c.requires.link.0 c.args.link.bounds c.requires.link.1 c.args.at c.args.before (c.rules_out.ensures.late c.if-rules_out.true) n c.args.at w b has (omega arith) s
 
 pub loop-place-init : goal.loop-place-init
 loop-place-init g c = record {
@@ -22,44 +22,44 @@ loop-place-init g c = record {
   later = omega (arith, c.rules_out.ensures.early c.if-rules_out.false);
   upper = omega arith;
   sound = λ less. absurd (omega (arith, less));
-  full = λ k x w b less at s. absurd (none_ended c.args.self.now c.requires.task c.args.node c.args.to c.args.passes.now c.requires.link.0 c.args.at k x w b at (c.first_open-place.ensures.ended k x less at) s);
+  full = λ k x w b less at s. absurd (none_ended c.args.self.now c.requires.task c.args.link.from c.args.link.to c.args.link.passes.now c.requires.link.0 c.args.at k x w b at (c.first_open-place.ensures.ended k x less at) s);
 }
 
 pub comes_late-requires : goal.comes_late-requires
 comes_late-requires g c =
-    let passes = c.args.passes.now in
+    let passes = c.args.link.passes.now in
     let i = c.loop-place.place in
     let pass = c.look-pass.result.now in
     let here : slice_get passes i ≡ Some pass = slice_get-get_or passes i no_pass c.loop-place-test.true ∙ ap (λ (z : Bor Pass). Some z.now) (sym c.look-pass.ensures.same) in
-    record { light = least_light_small c.args.self.now c.requires.task c.args.node c.args.to passes c.requires.link.0 i pass here }
+    record { light = least_light_small c.args.self.now c.requires.task c.args.link.from c.args.link.to passes c.requires.link.0 i pass here }
 
 pub returns-then-comes_late-clause-full : goal.returns-then-comes_late-clause-full
 returns-then-comes_late-clause-full g c = λ n w b has s.
     let task = c.args.self.now in
-    let passes = c.args.passes.now in
+    let passes = c.args.link.passes.now in
     let i = c.loop-place.place in
     let pass = c.look-pass.result.now in
     let here : slice_get passes i ≡ Some pass = slice_get-get_or passes i no_pass c.loop-place-test.true ∙ ap (λ (z : Bor Pass). Some z.now) (sym c.look-pass.ensures.same) in
-    let step = step_over task passes n c.args.node c.args.at w b has s in
+    let step = step_over task passes n c.args.link.from c.args.at w b has s in
     elim (cases_lt has.0 i) [
       | inl before ↦ c.loop-place.invariant.full has.0 has.1 w b before has.2 step
       | inr behind ↦
-          late_over task c.requires.task c.args.node c.args.to passes c.requires.link.0 c.args.at c.loop-place.least i pass here
+          late_over task c.requires.task c.args.link.from c.args.link.to passes c.requires.link.0 c.args.at c.loop-place.least i pass here
           (c.comes_late.ensures c.if-comes_late.true) has.0 has.1 w b behind has.2 step
     ]
 
 pub hop_over-hop-requires-clause-pass : goal.hop_over-hop-requires-clause-pass
 hop_over-hop-requires-clause-pass g c =
-    let passes = c.args.passes.now in
+    let passes = c.args.link.passes.now in
     let i = c.loop-place.place in
     let pass = c.look-pass.result.now in
     let here : slice_get passes i ≡ Some pass = slice_get-get_or passes i no_pass c.loop-place-test.true ∙ ap (λ (z : Bor Pass). Some z.now) (sym c.look-pass.ensures.same) in
-    (c.args.node, c.requires.link.0.each i pass here)
+    (c.args.link.from, c.requires.link.0.each i pass here)
 
 pub loop-place-preserved-then-excluded-gt0 : goal.loop-place-preserved-then-excluded-gt0
 loop-place-preserved-then-excluded-gt0 g c =
     let task = c.args.self.now in
-    let passes = c.args.passes.now in
+    let passes = c.args.link.passes.now in
     let i = c.loop-place.place in
     let pass = c.look-pass.result.now in
     let here : slice_get passes i ≡ Some pass = slice_get-get_or passes i no_pass c.loop-place-test.true ∙ ap (λ (z : Bor Pass). Some z.now) (sym c.look-pass.ensures.same) in
@@ -74,16 +74,16 @@ loop-place-preserved-then-excluded-gt0 g c =
       sound = so_far.sound;
       full = λ k x w b less at s. elim (cases_lt k i) [
         | inl before ↦ so_far.full k x w b before at s
-        | inr behind ↦ absurd (none_excluded task c.requires.task c.args.node c.args.to passes c.requires.link.0 c.args.at i k c.excluded_from-excluded.result pass x w b here behind (omega (arith, less)) at c.excluded_from-excluded.ensures.in_row c.excluded_from-excluded.ensures.some s)
+        | inr behind ↦ absurd (none_excluded task c.requires.task c.args.link.from c.args.link.to passes c.requires.link.0 c.args.at i k c.excluded_from-excluded.result pass x w b here behind (omega (arith, less)) at c.excluded_from-excluded.ensures.in_row c.excluded_from-excluded.ensures.some s)
       ];
     }
 
 pub loop-place-preserved : goal.loop-place-preserved
 loop-place-preserved g c =
     let task = c.args.self.now in
-    let passes = c.args.passes.now in
+    let passes = c.args.link.passes.now in
     let i = c.loop-place.place in
-    let u = c.args.node in
+    let u = c.args.link.from in
     let t = c.args.at in
     let pass = c.look-pass.result.now in
     let here : slice_get passes i ≡ Some pass = slice_get-get_or passes i no_pass c.loop-place-test.true ∙ ap (λ (z : Bor Pass). Some z.now) (sym c.look-pass.ensures.same) in
@@ -101,7 +101,7 @@ loop-place-preserved g c =
             later = omega (arith, (hop_arrives task.request.margin t z.in-Some.arrival hop got.0).sum);
             upper = omega (arith, so_far.upper, got.1);
             sound = λ less open'.
-                (pass.number, pass_takes task c.requires.task u c.args.to t pass z.in-Some.arrival hop (c.requires.link.0.each i pass here) c.hop_over-hop.ensures.receiver is_hop open' (c.excluded_from-excluded.ensures.none (omega (arith, c.if-excluded-gt0.false))) got.0);
+                (pass.number, pass_takes task c.requires.task u c.args.link.to t pass z.in-Some.arrival hop (c.requires.link.0.each i pass here) c.hop_over-hop.ensures.receiver is_hop open' (c.excluded_from-excluded.ensures.none (omega (arith, c.if-excluded-gt0.false))) got.0);
             full = λ k x w b less at s. elim (last_or_before k i less) [
               | inl before ↦ omega (arith, so_far.full k x w b before at s, got.1)
               | inr same ↦
@@ -130,19 +130,19 @@ loop-place-preserved g c =
 pub returns-then-is_soonest-clause-sound : goal.returns-then-is_soonest-clause-sound
 returns-then-is_soonest-clause-sound g c = λ less open'.
     let task = c.args.self.now in
-    let passes = c.args.passes.now in
+    let passes = c.args.link.passes.now in
     let pass = c.look-pass.result.now in
     let here : slice_get passes c.loop-place.place ≡ Some pass = slice_get-get_or passes c.loop-place.place no_pass c.loop-place-test.true ∙ ap (λ (z : Bor Pass). Some z.now) (sym c.look-pass.ensures.same) in
     let got = c.in-Some.ensures.some in (
       pass.number,
-      pass_takes task c.requires.task c.args.node c.args.to c.args.at pass c.in-Some.arrival c.hop_over-hop.result (c.requires.link.0.each c.loop-place.place pass here) c.hop_over-hop.ensures.receiver c.hop_over-hop.ensures.value open' (c.excluded_from-excluded.ensures.none (omega (arith, c.if-excluded-gt0.false))) got.0,
+      pass_takes task c.requires.task c.args.link.from c.args.link.to c.args.at pass c.in-Some.arrival c.hop_over-hop.result (c.requires.link.0.each c.loop-place.place pass here) c.hop_over-hop.ensures.receiver c.hop_over-hop.ensures.value open' (c.excluded_from-excluded.ensures.none (omega (arith, c.if-excluded-gt0.false))) got.0,
     )
 
 pub returns-then-is_soonest-clause-full : goal.returns-then-is_soonest-clause-full
 returns-then-is_soonest-clause-full g c = λ n w b has s.
-    ruled_out c.args.self.now c.requires.task c.args.node c.args.to c.args.passes.now c.requires.link.0 c.args.bounds c.requires.link.1 c.args.at c.in-Some.arrival (inr (c.is_soonest.ensures.late c.if-is_soonest.true)) n c.args.at w b has (omega arith) s
+    ruled_out c.args.self.now c.requires.task c.args.link.from c.args.link.to c.args.link.passes.now c.requires.link.0 c.args.link.bounds c.requires.link.1 c.args.at c.in-Some.arrival (inr (c.is_soonest.ensures.late c.if-is_soonest.true)) n c.args.at w b has (omega arith) s
 
 pub returns-clause-full : goal.returns-clause-full
 returns-clause-full g c = λ n w b has s.
-    let passes = c.args.passes.now in
-    c.loop-place.invariant.full has.0 has.1 w b (omega (arith, slice_get_within passes has.0 has.1 has.2, c.loop-place-test.false)) has.2 (step_over c.args.self.now passes n c.args.node c.args.at w b has s)
+    let passes = c.args.link.passes.now in
+    c.loop-place.invariant.full has.0 has.1 w b (omega (arith, slice_get_within passes has.0 has.1 has.2, c.loop-place-test.false)) has.2 (step_over c.args.self.now passes n c.args.link.from c.args.at w b has s)

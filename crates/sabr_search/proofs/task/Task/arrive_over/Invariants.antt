@@ -11,8 +11,8 @@ invariant-loop-place g l = record {
   some_looks : l.least < l.before → l.fn.looks.count < l.looks.count;
   later : l.at ≤ l.least;
   upper : l.least ≤ l.before;
-  sound : l.least < l.before → slice_index_or l.self.shut l.to false ≡ false → (n : ℕ) × Takes l.self n l.node l.at l.to l.least;
-  full : (k : ℕ) (x : Pass) (w b : ℕ) → k < l.place → slice_get l.passes k ≡ Some x → Takes l.self x.number l.node l.at w b → l.least ≤ b;
+  sound : l.least < l.before → slice_index_or l.self.shut l.link.to false ≡ false → (n : ℕ) × Takes l.self n l.link.from l.at l.link.to l.least;
+  full : (k : ℕ) (x : Pass) (w b : ℕ) → k < l.place → slice_get l.passes k ≡ Some x → Takes l.self x.number l.link.from l.at w b → l.least ≤ b;
 }
 
 abbrev pub decreases-loop-place : goal.decreases-loop-place

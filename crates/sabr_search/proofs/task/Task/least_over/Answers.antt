@@ -8,7 +8,7 @@ use Rattle.sabr_search.proofs.task.Task.least_over.Goals as goal
 
 pub returns-then-rules_out-clause-full : goal.returns-then-rules_out-clause-full
 returns-then-rules_out-clause-full g c = λ n w b has s less.
-    absurd (omega (arith, less, ruled_out c.args.self.now c.requires.task c.args.node c.args.link.now.receiver c.args.passes.now c.requires.link.0 c.args.link.now.bounds c.requires.link.1 c.args.at c.args.before (c.rules_out.ensures.late c.if-rules_out.true) n c.args.at w b has (omega arith) s))
+    absurd (omega (arith, less, ruled_out c.args.self.now c.requires.task c.args.link.from c.args.link.to c.args.link.passes.now c.requires.link.0 c.args.link.bounds c.requires.link.1 c.args.at c.args.before (c.rules_out.ensures.late c.if-rules_out.true) n c.args.at w b has (omega arith) s))
 
 pub loop-place-init : goal.loop-place-init
 loop-place-init g c = record {
@@ -18,29 +18,29 @@ loop-place-init g c = record {
   some_looks = inl refl;
   lower = λ n h. h;
   sound = inl refl;
-  full = λ k x w b less at s early. absurd (none_ended c.args.self.now c.requires.task c.args.node c.args.link.now.receiver c.args.passes.now c.requires.link.0 c.args.at k x w b at (c.first_open-place.ensures.ended k x less at) s);
+  full = λ k x w b less at s early. absurd (none_ended c.args.self.now c.requires.task c.args.link.from c.args.link.to c.args.link.passes.now c.requires.link.0 c.args.at k x w b at (c.first_open-place.ensures.ended k x less at) s);
 }
 
 pub comes_late-requires : goal.comes_late-requires
 comes_late-requires g c =
-    let passes = c.args.passes.now in
+    let passes = c.args.link.passes.now in
     let i = c.loop-place.place in
     let pass = c.look-pass.result.now in
     let here : slice_get passes i ≡ Some pass = slice_get-get_or passes i no_pass c.loop-place-test.true ∙ ap (λ (z : Bor Pass). Some z.now) (sym c.look-pass.ensures.same) in
-    record { light = least_light_small c.args.self.now c.requires.task c.args.node c.args.link.now.receiver passes c.requires.link.0 i pass here }
+    record { light = least_light_small c.args.self.now c.requires.task c.args.link.from c.args.link.to passes c.requires.link.0 i pass here }
 
 pub returns-then-comes_late-clause-full : goal.returns-then-comes_late-clause-full
 returns-then-comes_late-clause-full g c = λ n w b has s early.
     let task = c.args.self.now in
-    let passes = c.args.passes.now in
+    let passes = c.args.link.passes.now in
     let i = c.loop-place.place in
     let pass = c.look-pass.result.now in
     let here : slice_get passes i ≡ Some pass = slice_get-get_or passes i no_pass c.loop-place-test.true ∙ ap (λ (z : Bor Pass). Some z.now) (sym c.look-pass.ensures.same) in
-    let step = step_over task passes n c.args.node c.args.at w b has s in
+    let step = step_over task passes n c.args.link.from c.args.at w b has s in
     rw (← has.3) (elim (cases_lt has.0 i) [
       | inl before ↦ c.loop-place.invariant.full has.0 has.1 w b before has.2 step early
       | inr behind ↦
-          (let late = late_over task c.requires.task c.args.node c.args.link.now.receiver passes c.requires.link.0 c.args.at c.args.before i pass here
+          (let late = late_over task c.requires.task c.args.link.from c.args.link.to passes c.requires.link.0 c.args.at c.args.before i pass here
           (c.comes_late.ensures c.if-comes_late.true) has.0 has.1 w b behind has.2 step in
           absurd (omega (arith, late, early)))
     ])
@@ -48,11 +48,11 @@ returns-then-comes_late-clause-full g c = λ n w b has s early.
 pub returns-then-is_at_most-clause-full : goal.returns-then-is_at_most-clause-full
 returns-then-is_at_most-clause-full g c = λ n w b has s early.
     let task = c.args.self.now in
-    let passes = c.args.passes.now in
+    let passes = c.args.link.passes.now in
     let i = c.loop-place.place in
     let pass = c.look-pass.result.now in
     let here : slice_get passes i ≡ Some pass = slice_get-get_or passes i no_pass c.loop-place-test.true ∙ ap (λ (z : Bor Pass). Some z.now) (sym c.look-pass.ensures.same) in
-    let step = step_over task passes n c.args.node c.args.at w b has s in
+    let step = step_over task passes n c.args.link.from c.args.at w b has s in
     rw (← has.3) (elim (cases_lt has.0 i) [
       | inl before ↦ c.loop-place.invariant.full has.0 has.1 w b before has.2 step early
       | inr behind ↦ at_most_more c.loop-place.chosen pass.least_number_behind has.1.number (c.requires.link.0.kept i has.0 pass has.1 behind here has.2).number_behind (c.is_at_most.ensures.at_most c.if-is_at_most.true)
@@ -60,15 +60,15 @@ returns-then-is_at_most-clause-full g c = λ n w b has s early.
 
 pub hop_over-hop-requires-clause-pass : goal.hop_over-hop-requires-clause-pass
 hop_over-hop-requires-clause-pass g c =
-    let passes = c.args.passes.now in
+    let passes = c.args.link.passes.now in
     let i = c.loop-place.place in
     let pass = c.look-pass.result.now in
     let here : slice_get passes i ≡ Some pass = slice_get-get_or passes i no_pass c.loop-place-test.true ∙ ap (λ (z : Bor Pass). Some z.now) (sym c.look-pass.ensures.same) in
-    (c.args.node, c.requires.link.0.each i pass here)
+    (c.args.link.from, c.requires.link.0.each i pass here)
 
 pub loop-place-preserved-then-is_at_most-2 : goal.loop-place-preserved-then-is_at_most-2
 loop-place-preserved-then-is_at_most-2 g c =
-    let passes = c.args.passes.now in
+    let passes = c.args.link.passes.now in
     let i = c.loop-place.place in
     let pass = c.look-pass.result.now in
     let here : slice_get passes i ≡ Some pass = slice_get-get_or passes i no_pass c.loop-place-test.true ∙ ap (λ (z : Bor Pass). Some z.now) (sym c.look-pass.ensures.same) in
@@ -89,7 +89,7 @@ loop-place-preserved-then-is_at_most-2 g c =
 pub loop-place-preserved-then-excluded-gt0 : goal.loop-place-preserved-then-excluded-gt0
 loop-place-preserved-then-excluded-gt0 g c =
     let task = c.args.self.now in
-    let passes = c.args.passes.now in
+    let passes = c.args.link.passes.now in
     let i = c.loop-place.place in
     let pass = c.look-pass.result.now in
     let here : slice_get passes i ≡ Some pass = slice_get-get_or passes i no_pass c.loop-place-test.true ∙ ap (λ (z : Bor Pass). Some z.now) (sym c.look-pass.ensures.same) in
@@ -103,16 +103,16 @@ loop-place-preserved-then-excluded-gt0 g c =
       sound = so_far.sound;
       full = λ k x w b less at s early. elim (cases_lt k i) [
         | inl before ↦ so_far.full k x w b before at s early
-        | inr behind ↦ absurd (none_excluded task c.requires.task c.args.node c.args.link.now.receiver passes c.requires.link.0 c.args.at i k c.excluded_from-excluded.result pass x w b here behind (omega (arith, less)) at c.excluded_from-excluded.ensures.in_row c.excluded_from-excluded.ensures.some s)
+        | inr behind ↦ absurd (none_excluded task c.requires.task c.args.link.from c.args.link.to passes c.requires.link.0 c.args.at i k c.excluded_from-excluded.result pass x w b here behind (omega (arith, less)) at c.excluded_from-excluded.ensures.in_row c.excluded_from-excluded.ensures.some s)
       ];
     }
 
 pub loop-place-preserved-in-Some : goal.loop-place-preserved-in-Some
 loop-place-preserved-in-Some g c =
     let task = c.args.self.now in
-    let passes = c.args.passes.now in
+    let passes = c.args.link.passes.now in
     let i = c.loop-place.place in
-    let u = c.args.node in
+    let u = c.args.link.from in
     let t = c.args.at in
     let pass = c.look-pass.result.now in
     let here : slice_get passes i ≡ Some pass = slice_get-get_or passes i no_pass c.loop-place-test.true ∙ ap (λ (z : Bor Pass). Some z.now) (sym c.look-pass.ensures.same) in
@@ -125,7 +125,7 @@ loop-place-preserved-in-Some g c =
       looked = omega (arith, so_far.looked, c.look-pass.ensures.counted);
       some_looks = inr (omega (arith, so_far.looked, c.look-pass.ensures.counted));
       lower = λ n h. c.is_at_most-in-loop-place.ensures.above c.if-is_at_most-2.false n (so_far.lower n h);
-      sound = inr (refl, got.1, λ open'. pass_takes task c.requires.task u c.args.link.now.receiver t pass c.in-Some.arrival hop (c.requires.link.0.each i pass here) c.hop_over-hop.ensures.receiver c.hop_over-hop.ensures.value open' (c.excluded_from-excluded.ensures.none (omega (arith, c.if-excluded-gt0.false))) got.0);
+      sound = inr (refl, got.1, λ open'. pass_takes task c.requires.task u c.args.link.to t pass c.in-Some.arrival hop (c.requires.link.0.each i pass here) c.hop_over-hop.ensures.receiver c.hop_over-hop.ensures.value open' (c.excluded_from-excluded.ensures.none (omega (arith, c.if-excluded-gt0.false))) got.0);
       full = λ k x w b less at s early. elim (last_or_before k i less) [
         | inl before ↦ c.is_at_most-in-loop-place.ensures.above c.if-is_at_most-2.false x.number (so_far.full k x w b before at s early)
         | inr same ↦ omega (arith, same_number passes i k pass x here at same)
@@ -135,9 +135,9 @@ loop-place-preserved-in-Some g c =
 pub loop-place-preserved : goal.loop-place-preserved
 loop-place-preserved g c =
     let task = c.args.self.now in
-    let passes = c.args.passes.now in
+    let passes = c.args.link.passes.now in
     let i = c.loop-place.place in
-    let u = c.args.node in
+    let u = c.args.link.from in
     let t = c.args.at in
     let pass = c.look-pass.result.now in
     let here : slice_get passes i ≡ Some pass = slice_get-get_or passes i no_pass c.loop-place-test.true ∙ ap (λ (z : Bor Pass). Some z.now) (sym c.look-pass.ensures.same) in
@@ -160,8 +160,8 @@ loop-place-preserved g c =
 
 pub returns-clause-full : goal.returns-clause-full
 returns-clause-full g c = λ n w b has s early.
-    let passes = c.args.passes.now in
-    rw (← has.3) (c.loop-place.invariant.full has.0 has.1 w b (omega (arith, slice_get_within passes has.0 has.1 has.2, c.loop-place-test.false)) has.2 (step_over c.args.self.now passes n c.args.node c.args.at w b has s) early)
+    let passes = c.args.link.passes.now in
+    rw (← has.3) (c.loop-place.invariant.full has.0 has.1 w b (omega (arith, slice_get_within passes has.0 has.1 has.2, c.loop-place-test.false)) has.2 (step_over c.args.self.now passes n c.args.link.from c.args.at w b has s) early)
 
 pub returns-then-comes_late-clause-some_looks : goal.returns-then-comes_late-clause-some_looks
 returns-then-comes_late-clause-some_looks g c = inr (omega (arith, c.loop-place.invariant.looked, c.look-pass.ensures.counted))

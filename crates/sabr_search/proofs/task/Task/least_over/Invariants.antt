@@ -12,8 +12,8 @@ invariant-loop-place g l = record {
   looked : l.fn.looks.count ≤ l.looks.count;
   some_looks : (l.chosen ≡ l.fn.least) ⊎ (l.fn.looks.count < l.looks.count);
   lower : (n : ℕ) → IsAtMost l.fn.least n → IsAtMost l.chosen n;
-  sound : (l.chosen ≡ l.fn.least) ⊎ IfSome l.chosen (λ s. (s.node ≡ l.link.receiver) × (s.at < l.before) × (slice_index_or l.self.shut l.link.receiver false ≡ false → Takes l.self s.number l.node l.at l.link.receiver s.at));
-  full : (k : ℕ) (x : Pass) (w b : ℕ) → k < l.place → slice_get l.passes k ≡ Some x → Takes l.self x.number l.node l.at w b → b < l.before → IsAtMost l.chosen x.number;
+  sound : (l.chosen ≡ l.fn.least) ⊎ IfSome l.chosen (λ s. (s.node ≡ l.link.to) × (s.at < l.before) × (slice_index_or l.self.shut l.link.to false ≡ false → Takes l.self s.number l.link.from l.at l.link.to s.at));
+  full : (k : ℕ) (x : Pass) (w b : ℕ) → k < l.place → slice_get l.passes k ≡ Some x → Takes l.self x.number l.link.from l.at w b → b < l.before → IsAtMost l.chosen x.number;
 }
 
 abbrev pub decreases-loop-place : goal.decreases-loop-place

@@ -10,7 +10,7 @@ use Rattle.sabr_search.proofs.task.Task.leave_over.Goals as goal
 pub returns-then-rules_out-clause-full : goal.returns-then-rules_out-clause-full
 returns-then-rules_out-clause-full g c = λ n t w b has after s less. elim (cases_lt t c.args.latest) [
   | inl before ↦ before
-  | inr behind ↦ absurd (omega (arith, less, ruled_out c.args.self.now c.requires.task c.args.node c.args.to c.args.passes.now c.requires.link.0 c.args.bounds c.requires.link.1 c.max.result c.args.before (c.rules_out.ensures.late c.if-rules_out.true) n t w b has (omega (arith, behind, after, c.max.ensures)) s))
+  | inr behind ↦ absurd (omega (arith, less, ruled_out c.args.self.now c.requires.task c.args.link.from c.args.link.to c.args.link.passes.now c.requires.link.0 c.args.link.bounds c.requires.link.1 c.max.result c.args.before (c.rules_out.ensures.late c.if-rules_out.true) n t w b has (omega (arith, behind, after, c.max.ensures)) s))
 ]
 
 pub loop-back-init : goal.loop-back-init
@@ -21,39 +21,39 @@ loop-back-init g c = record {
   lower = omega arith;
   sound = λ t from less. absurd (omega (arith, from, less));
   full = λ k x t w b le at after s less.
-      absurd (omega (arith, less, c.begun-end.ensures.late k x (omega (arith, le)) at, (starts_late c.args.self.now c.requires.task c.args.node c.args.to c.args.passes.now c.requires.link.0 t k x w b at s).0));
+      absurd (omega (arith, less, c.begun-end.ensures.late k x (omega (arith, le)) at, (starts_late c.args.self.now c.requires.task c.args.link.from c.args.link.to c.args.link.passes.now c.requires.link.0 t k x w b at s).0));
 }
 
 pub leaves_no_later-requires : goal.leaves_no_later-requires
 leaves_no_later-requires g c =
-    let passes = c.args.passes.now in
+    let passes = c.args.link.passes.now in
     let i = c.begun-end.result - 1 - c.loop-back.back in
     let pass = c.look-pass.result.now in
     let here : slice_get passes i ≡ Some pass = slice_get-get_or passes i no_pass (omega (arith, c.loop-back-test.true, c.begun-end.ensures.within)) ∙ ap (λ (z : Bor Pass). Some z.now) (sym c.look-pass.ensures.same) in
-    record { light = least_before_small c.args.self.now c.requires.task c.args.node c.args.to passes c.requires.link.0 i pass here }
+    record { light = least_before_small c.args.self.now c.requires.task c.args.link.from c.args.link.to passes c.requires.link.0 i pass here }
 
 pub returns-then-leaves_no_later-clause-full : goal.returns-then-leaves_no_later-clause-full
 returns-then-leaves_no_later-clause-full g c = λ n t w b has after s less.
     let task = c.args.self.now in
-    let passes = c.args.passes.now in
+    let passes = c.args.link.passes.now in
     let i = c.begun-end.result - 1 - c.loop-back.back in
     let pass = c.look-pass.result.now in
     let here : slice_get passes i ≡ Some pass = slice_get-get_or passes i no_pass (omega (arith, c.loop-back-test.true, c.begun-end.ensures.within)) ∙ ap (λ (z : Bor Pass). Some z.now) (sym c.look-pass.ensures.same) in
-    let step = step_over task passes n c.args.node t w b has s in
+    let step = step_over task passes n c.args.link.from t w b has s in
     elim (cases_lt i has.0) [
       | inl above ↦ c.loop-back.invariant.full has.0 has.1 t w b (omega (arith, above, c.loop-back-test.true)) has.2 after step less
       | inr below ↦
-          none_later task c.requires.task c.args.node c.args.to passes c.requires.link.0 c.loop-back.last c.args.since c.args.before i pass here
+          none_later task c.requires.task c.args.link.from c.args.link.to passes c.requires.link.0 c.loop-back.last c.args.since c.args.before i pass here
           (c.leaves_no_later.ensures c.if-leaves_no_later.true) has.0 has.1 t w b below has.2 after step less
     ]
 
 pub hop_over-hop-requires-clause-pass : goal.hop_over-hop-requires-clause-pass
 hop_over-hop-requires-clause-pass g c =
-    let passes = c.args.passes.now in
+    let passes = c.args.link.passes.now in
     let i = c.begun-end.result - 1 - c.loop-back.back in
     let pass = c.look-pass.result.now in
     let here : slice_get passes i ≡ Some pass = slice_get-get_or passes i no_pass (omega (arith, c.loop-back-test.true, c.begun-end.ensures.within)) ∙ ap (λ (z : Bor Pass). Some z.now) (sym c.look-pass.ensures.same) in
-    (c.args.node, c.requires.link.0.each i pass here)
+    (c.args.link.from, c.requires.link.0.each i pass here)
 
 pub leave_before-requires-clause-window : goal.leave_before-requires-clause-window
 leave_before-requires-clause-window g c = hop_at_window c.args.self.now c.requires.task _ c.hop_over-hop.result c.hop_over-hop.ensures.value
@@ -61,9 +61,9 @@ leave_before-requires-clause-window g c = hop_at_window c.args.self.now c.requir
 pub loop-back-preserved : goal.loop-back-preserved
 loop-back-preserved g c =
     let task = c.args.self.now in
-    let passes = c.args.passes.now in
+    let passes = c.args.link.passes.now in
     let i = c.begun-end.result - 1 - c.loop-back.back in
-    let u = c.args.node in
+    let u = c.args.link.from in
     let pass = c.look-pass.result.now in
     let here : slice_get passes i ≡ Some pass = slice_get-get_or passes i no_pass (omega (arith, c.loop-back-test.true, c.begun-end.ensures.within)) ∙ ap (λ (z : Bor Pass). Some z.now) (sym c.look-pass.ensures.same) in
     let so_far = c.loop-back.invariant in
@@ -78,7 +78,7 @@ loop-back-preserved g c =
         | inl before ↦ so_far.sound t from before
         | inr behind ↦
             (let kept = c.leave_before.ensures.kept t (omega (arith, c.max-last.ensures, less, behind)) in
-            (kept.0, kept.2, λ open'. (pass.number, pass_takes task c.requires.task u c.args.to t pass kept.0 hop (c.requires.link.0.each i pass here) c.hop_over-hop.ensures.receiver is_hop open' (λ same. absurd (c.requires.other same)) kept.1)))
+            (kept.0, kept.2, λ open'. (pass.number, pass_takes task c.requires.task u c.args.link.to t pass kept.0 hop (c.requires.link.0.each i pass here) c.hop_over-hop.ensures.receiver is_hop open' (λ same. absurd (c.requires.other same)) kept.1)))
       ];
       full = λ k x t w b le at after s less. elim (cases_eq k i) [
         | inl same ↦
@@ -93,7 +93,7 @@ loop-back-preserved g c =
 
 pub returns-clause-full : goal.returns-clause-full
 returns-clause-full g c = λ n t w b has after s less.
-    c.loop-back.invariant.full has.0 has.1 t w b (omega (arith, c.loop-back-test.false)) has.2 after (step_over c.args.self.now c.args.passes.now n c.args.node t w b has s) less
+    c.loop-back.invariant.full has.0 has.1 t w b (omega (arith, c.loop-back-test.false)) has.2 after (step_over c.args.self.now c.args.link.passes.now n c.args.link.from t w b has s) less
 
 pub returns-then-leaves_no_later-clause-some_looks : goal.returns-then-leaves_no_later-clause-some_looks
 returns-then-leaves_no_later-clause-some_looks g c = λ later. omega (arith, c.loop-back.invariant.looked, c.look-pass.ensures.counted)

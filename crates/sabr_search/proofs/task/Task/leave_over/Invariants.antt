@@ -9,6 +9,6 @@ invariant-loop-back g l = record {
   looked : l.fn.looks.count ≤ l.looks.count;
   some_looks : l.fn.latest < l.last → l.fn.looks.count < l.looks.count;
   lower : l.fn.latest ≤ l.last;
-  sound : (t : ℕ) → l.fn.latest ≤ t → t < l.last → (b : ℕ) × (b < l.before) × (slice_index_or l.self.shut l.to false ≡ false → (n : ℕ) × Takes l.self n l.node t l.to b);
-  full : (k : ℕ) (x : Pass) (t w b : ℕ) → l.end ≤ k + l.back → slice_get l.passes k ≡ Some x → l.since ≤ t → Takes l.self x.number l.node t w b → b < l.before → t < l.last;
+  sound : (t : ℕ) → l.fn.latest ≤ t → t < l.last → (b : ℕ) × (b < l.before) × (slice_index_or l.self.shut l.link.to false ≡ false → (n : ℕ) × Takes l.self n l.link.from t l.link.to b);
+  full : (k : ℕ) (x : Pass) (t w b : ℕ) → l.end ≤ k + l.back → slice_get l.passes k ≡ Some x → l.since ≤ t → Takes l.self x.number l.link.from t w b → b < l.before → t < l.last;
 }
