@@ -77,12 +77,8 @@ fn comes_after(opening: &Opening, other: &Opening) -> bool
     ensures { IsTrue result ↔ (opening_number other.now < opening_number opening.now) }
 {
     !comes_by(
-        opening.start,
-        opening.from,
-        opening.to,
-        other.start,
-        other.from,
-        other.to,
+        (opening.start, opening.from, opening.to),
+        (other.start, other.from, other.to),
     )
 }
 

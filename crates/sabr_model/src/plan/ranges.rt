@@ -11,11 +11,11 @@ ghost use Rattle.sabr_model.specs.RangeOrder.{place_number, number_of_range, IsR
 use crate::contact::Range;
 
 /// Returns true if one pair and second come no later than another, in the order of ranges.
-pub fn comes_by(one: u64, other: u64, t: u64, bound_one: u64, bound_other: u64, bound: u64) -> bool
-    ensures { IsTrue result ↔ (place_number one other t ≤ place_number bound_one bound_other bound) }
+pub fn comes_by(place: (u64, u64, u64), bound: (u64, u64, u64)) -> bool
+    ensures { IsTrue result ↔ (place_number place.0 place.1 place.2 ≤ place_number bound.0 bound.1 bound.2) }
 {
-    one < bound_one
-        || (one == bound_one && (other < bound_other || (other == bound_other && t <= bound)))
+    place.0 < bound.0
+        || (place.0 == bound.0 && (place.1 < bound.1 || (place.1 == bound.1 && place.2 <= bound.2)))
 }
 
 /// Returns true if the range at a place comes no later than a pair and second, in the order of ranges.
@@ -24,7 +24,7 @@ fn range_comes_by(ranges: &[Range], place: usize, one: u64, other: u64, t: u64) 
     ensures { (d : Range) → IsTrue result ↔ (number_of_range (slice_index_or ranges.now place d) ≤ place_number one other t) }
 {
     let range = &ranges[place];
-    comes_by(range.one, range.other, range.start, one, other, t)
+    comes_by((range.one, range.other, range.start), (one, other, t))
 }
 
 /// Counts the ranges, from the front, that come no later than a pair and second.
