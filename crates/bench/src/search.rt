@@ -1,7 +1,7 @@
 //! Times a first search and the searches of a page over a plan, and counts their looks.
 
 ghost use Rattle.std.specs.Prelude.{◌≤◌};
-ghost use Rattle.sabr_frontier.specs.Listing.{most_routes};
+ghost use Rattle.sabr_frontier.specs.listing.Listing.{most_routes};
 
 use crate::question::{Question, plan_of};
 use crate::timed::{Searches, Timed};

@@ -5,10 +5,10 @@ use Rattle.std.proofs.lemmas.List.{length-map}
 use Rattle.std.proofs.lemmas.Bool.{and_parts, and_from, lt-ltb, ltb-true, not-true, not_from_false, false_from_ne_true, both_ways}
 use Rattle.std.specs.declared.option.Option.TheVariants.{Some, None}
 use Rattle.sabr_model.specs.declared.contact.Contact.{Contact}
-use Rattle.sabr_model.specs.Plan.{ContactPlan, contact_named, has}
-use Rattle.sabr_model.specs.Arrival.{RouteRequest, arrival, arrival_after}
-use Rattle.sabr_model.specs.Route.{chain_end, receivers, is_path}
-use Rattle.sabr_model.proofs.Paths.{IsHop, path_facts, path_push, hop_facts, value_of}
+use Rattle.sabr_model.specs.plan.Plan.{ContactPlan, contact_named, has}
+use Rattle.sabr_model.specs.routes.Arrival.{RouteRequest, arrival, arrival_after}
+use Rattle.sabr_model.specs.routes.Route.{chain_end, receivers, is_path}
+use Rattle.sabr_model.proofs.RouteLemmas.Paths.{IsHop, path_facts, path_push, hop_facts, value_of}
 use Rattle.sabr_model.specs.declared.following.Reached.{Reached}
 use Rattle.plain_listing.specs.declared.hop.Hop.{Hop}
 use Rattle.plain_listing.specs.Way.{IsWay, numbers_of, nodes_of, last_stop, hop_of, is_passed, may_visit}

@@ -11,13 +11,13 @@ use Rattle.std.specs.declared.option.Option.TheVariants.{Some, None}
 use Rattle.std.specs.declared.cmp.Ordering.{Ordering}
 use Rattle.std.specs.declared.cmp.Ordering.TheVariants.{Less, Equal, Greater}
 use Rattle.sabr_model.specs.declared.contact.Contact.{Contact}
-use Rattle.sabr_model.specs.Plan.{ContactPlan, contact_named}
+use Rattle.sabr_model.specs.plan.Plan.{ContactPlan, contact_named}
 use Rattle.std.proofs.lemmas.Bool.{lt-ltb}
 use Rattle.sabr_model.specs.Order.{by_numbers}
-use Rattle.sabr_model.specs.Route.{delivery_of, by_key}
-use Rattle.sabr_model.specs.Light.{light_of}
-use Rattle.sabr_model.specs.Arrival.{RouteRequest, arrival, arrival_after, cost}
-use Rattle.sabr_model.proofs.Members.{IsIn, all_in}
+use Rattle.sabr_model.specs.routes.Route.{delivery_of, by_key}
+use Rattle.sabr_model.specs.plan.Light.{light_of}
+use Rattle.sabr_model.specs.routes.Arrival.{RouteRequest, arrival, arrival_after, cost}
+use Rattle.sabr_model.proofs.ListLemmas.Members.{IsIn, all_in}
 
 -- what stands at a place of the elements let through is one of the elements
 let_through : {X : Type 0} (test : X → Bool) (xs : List X) (k : ℕ) (w : X) → slice_get (filter test xs) k ≡ Some w → IsIn w xs

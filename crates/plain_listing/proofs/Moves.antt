@@ -10,18 +10,18 @@ use Rattle.std.proofs.lemmas.Bool.{both_ways}
 use Rattle.std.proofs.lemmas.List.{take_all, take-map}
 use Rattle.std.proofs.lemmas.List.Kept.{IsStrictlySortedBy-filter}
 use Rattle.sabr_model.specs.Order.{put_in, numbers_before}
-use Rattle.sabr_model.specs.Plan.{ContactPlan, IsPlan}
-use Rattle.sabr_model.specs.Arrival.{RouteRequest, arrival_after}
-use Rattle.sabr_model.specs.Route.{is_route, is_path, by_key, delivery_of}
-use Rattle.sabr_model.specs.Listing.{routes}
-use Rattle.sabr_model.specs.Record.{record_of, by_record}
-use Rattle.sabr_model.proofs.Begins.{no_route_begins_another}
-use Rattle.sabr_model.proofs.Routes.{empty_route, route_facts}
-use Rattle.sabr_model.proofs.Paths.{arrival_after-append, value_of}
-use Rattle.sabr_model.proofs.Listed.{key_total}
-use Rattle.sabr_model.proofs.RoutesListed.{routes_are_listed}
-use Rattle.sabr_model.proofs.Least.{member_is_route, route_is_member, record_order}
-use Rattle.sabr_model.proofs.Prefixes.{beginning_goes_on}
+use Rattle.sabr_model.specs.plan.Plan.{ContactPlan, IsPlan}
+use Rattle.sabr_model.specs.routes.Arrival.{RouteRequest, arrival_after}
+use Rattle.sabr_model.specs.routes.Route.{is_route, is_path, by_key, delivery_of}
+use Rattle.sabr_model.specs.routes.Listing.{routes}
+use Rattle.sabr_model.specs.routes.Record.{record_of, by_record}
+use Rattle.sabr_model.proofs.ListLemmas.Begins.{no_route_begins_another}
+use Rattle.sabr_model.proofs.RouteLemmas.Routes.{empty_route, route_facts}
+use Rattle.sabr_model.proofs.RouteLemmas.Paths.{arrival_after-append, value_of}
+use Rattle.sabr_model.proofs.RouteLemmas.Listed.{key_total}
+use Rattle.sabr_model.proofs.RouteLemmas.RoutesListed.{routes_are_listed}
+use Rattle.sabr_model.proofs.RouteLemmas.Least.{member_is_route, route_is_member, record_order}
+use Rattle.sabr_model.proofs.RouteLemmas.Prefixes.{beginning_goes_on}
 use Rattle.plain_listing.specs.Before.{routes_before}
 use Rattle.plain_listing.specs.Walk.{first_before}
 use Rattle.plain_listing.proofs.Firsts.{AgreeBut, filter_agrees, filter_none, filter_whole, filter_one_more, take-put_in, map-put_in}

@@ -6,7 +6,7 @@ use Rattle.std.proofs.lemmas.Bool.{and_parts, ltb-true}
 use Rattle.std.proofs.lemmas.Bool.Decides.{nat_tests}
 use Rattle.std.proofs.lemmas.List.Sorted.{IsPartitionedBy-ltb}
 use Rattle.std.specs.declared.option.Option.TheVariants.{Some}
-use Rattle.sabr_model.specs.Plan.{rises_above}
+use Rattle.sabr_model.specs.plan.Plan.{rises_above}
 use Rattle.plain_listing.proofs.Sent.{next_from}
 
 -- a number below low fails the test

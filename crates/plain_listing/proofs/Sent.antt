@@ -6,10 +6,10 @@ use Rattle.std.proofs.lemmas.Bool.{and_parts, and_from, ltb-true, lt-ltb, leb-tr
 use Rattle.std.specs.declared.option.Option.{Option}
 use Rattle.std.specs.declared.option.Option.TheVariants.{Some, None}
 use Rattle.sabr_model.specs.declared.contact.Contact.{Contact}
-use Rattle.sabr_model.specs.Plan.{ContactPlan, IsPlan, contact_named, rises_above}
-use Rattle.sabr_model.specs.Table.{sent_by}
-use Rattle.sabr_model.proofs.Members.{IsIn, in_map, map_in, in_filter, filter_in, all_in}
-use Rattle.sabr_model.proofs.Listed.{named_is}
+use Rattle.sabr_model.specs.plan.Plan.{ContactPlan, IsPlan, contact_named, rises_above}
+use Rattle.sabr_model.specs.plan.Table.{sent_by}
+use Rattle.sabr_model.proofs.ListLemmas.Members.{IsIn, in_map, map_in, in_filter, filter_in, all_in}
+use Rattle.sabr_model.proofs.RouteLemmas.Listed.{named_is}
 
 -- ---- rising numbers
 

@@ -6,15 +6,15 @@ use Rattle.std.specs.List.Sorted.{IsStrictlySortedBy}
 use Rattle.std.proofs.lemmas.Bool.{false_from_ne_true, and_parts, eqb-true, ltb-true}
 use Rattle.std.specs.declared.option.Option.TheVariants.{Some, None}
 use Rattle.sabr_model.specs.Order.{put_in}
-use Rattle.sabr_model.specs.Plan.{ContactPlan, IsPlan}
-use Rattle.sabr_model.specs.Table.{sent_by}
-use Rattle.sabr_model.specs.Arrival.{RouteRequest, arrival_after}
-use Rattle.sabr_model.specs.Route.{is_route, is_path, chain_end, delivery_of}
-use Rattle.sabr_model.specs.Record.{RouteRecord, record_of, by_record}
-use Rattle.sabr_model.proofs.Members.{IsIn}
-use Rattle.sabr_model.proofs.Routes.{route_facts}
-use Rattle.sabr_model.proofs.Paths.{hop_facts, path_facts, route_from_path, value_of}
-use Rattle.sabr_model.proofs.Prefixes.{beginning_goes_on, empty_is_path}
+use Rattle.sabr_model.specs.plan.Plan.{ContactPlan, IsPlan}
+use Rattle.sabr_model.specs.plan.Table.{sent_by}
+use Rattle.sabr_model.specs.routes.Arrival.{RouteRequest, arrival_after}
+use Rattle.sabr_model.specs.routes.Route.{is_route, is_path, chain_end, delivery_of}
+use Rattle.sabr_model.specs.routes.Record.{RouteRecord, record_of, by_record}
+use Rattle.sabr_model.proofs.ListLemmas.Members.{IsIn}
+use Rattle.sabr_model.proofs.RouteLemmas.Routes.{route_facts}
+use Rattle.sabr_model.proofs.RouteLemmas.Paths.{hop_facts, path_facts, route_from_path, value_of}
+use Rattle.sabr_model.proofs.RouteLemmas.Prefixes.{beginning_goes_on, empty_is_path}
 use Rattle.plain_listing.specs.declared.hop.Hop.{Hop}
 use Rattle.plain_listing.specs.Way.{IsWay, numbers_of, hop_of, last_stop, record_over}
 use Rattle.plain_listing.specs.Steps.{left_after, steps_left}

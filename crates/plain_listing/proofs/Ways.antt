@@ -4,12 +4,12 @@ use Rattle.std.specs.Prelude.{◌⊎◌, IsTrue, unwrap_or, slice_get}
 use Rattle.std.specs.Option.{option_map_or}
 use Rattle.std.proofs.lemmas.List.{map-append, append-nil}
 use Rattle.std.specs.declared.option.Option.TheVariants.{Some}
-use Rattle.sabr_model.specs.Plan.{ContactPlan}
-use Rattle.sabr_model.specs.Arrival.{RouteRequest}
-use Rattle.sabr_model.specs.Route.{chain_end, receivers, is_path, delivery_of}
-use Rattle.sabr_model.specs.Record.{record_of}
-use Rattle.sabr_model.proofs.Begins.{receivers-cons}
-use Rattle.sabr_model.proofs.Paths.{IsHop, beginning_is_path, hop_facts, chain_end_push, arrival_after_push}
+use Rattle.sabr_model.specs.plan.Plan.{ContactPlan}
+use Rattle.sabr_model.specs.routes.Arrival.{RouteRequest}
+use Rattle.sabr_model.specs.routes.Route.{chain_end, receivers, is_path, delivery_of}
+use Rattle.sabr_model.specs.routes.Record.{record_of}
+use Rattle.sabr_model.proofs.ListLemmas.Begins.{receivers-cons}
+use Rattle.sabr_model.proofs.RouteLemmas.Paths.{IsHop, beginning_is_path, hop_facts, chain_end_push, arrival_after_push}
 use Rattle.sabr_model.specs.declared.following.Reached.{Reached}
 use Rattle.plain_listing.specs.declared.hop.Hop.{Hop}
 use Rattle.plain_listing.specs.Way.{stop_of, hop_of, hops_after, numbers_of, nodes_of, IsWay, source_stop, last_stop, record_over}

@@ -3,7 +3,7 @@
 ghost use Rattle.std.specs.Prelude.{◌≡◌, ◌≤◌, [], take, length, OnOk};
 ghost use Rattle.std.specs.List.Sorted.{IsStrictlySortedBy};
 ghost use Rattle.sabr_model.specs.Order.{put_in};
-ghost use Rattle.sabr_model.specs.Record.{by_record};
+ghost use Rattle.sabr_model.specs.routes.Record.{by_record};
 ghost use Rattle.plain_listing.specs.Walk.{is_past};
 
 use sabr_model::{NoMemory, Route};

@@ -2,7 +2,7 @@
 
 ghost use Rattle.std.specs.Prelude.{◌≡◌, IsTrue, nat_le};
 ghost use Rattle.std.specs.List.{find};
-ghost use Rattle.sabr_model.specs.Plan.{rises_above};
+ghost use Rattle.sabr_model.specs.plan.Plan.{rises_above};
 
 /// Finds the first of rising numbers that is at least `low`.
 pub fn next_from(numbers: &[u32], low: u32) -> Option<u32>

@@ -1,8 +1,8 @@
 //! The first page of the listing.
 
 ghost use Rattle.std.specs.Prelude.{◌≡◌, ◌≤◌, map, take, length, nat_lt, IfOk};
-ghost use Rattle.sabr_model.specs.Listing.{routes, page_of};
-ghost use Rattle.sabr_model.specs.Record.{record_of};
+ghost use Rattle.sabr_model.specs.routes.Listing.{routes, page_of};
+ghost use Rattle.sabr_model.specs.routes.Record.{record_of};
 ghost use Rattle.plain_listing.specs.Walk.{most_routes};
 
 use crate::hop::Hop;

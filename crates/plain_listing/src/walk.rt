@@ -2,8 +2,8 @@
 
 ghost use Rattle.std.specs.Prelude.{◌≡◌, ◌≢◌, ◌≤◌, length, IfOk};
 ghost use Rattle.std.specs.List.Sorted.{IsStrictlySortedBy};
-ghost use Rattle.sabr_model.specs.Plan.{IsPlan, most_records};
-ghost use Rattle.sabr_model.specs.Record.{by_record};
+ghost use Rattle.sabr_model.specs.plan.Plan.{IsPlan, most_records};
+ghost use Rattle.sabr_model.specs.routes.Record.{by_record};
 ghost use Rattle.plain_listing.specs.Walk.{IsWalk, IsMove, IsLast, GoesOn, Arrives};
 
 use crate::hop::Hop;

@@ -1,8 +1,8 @@
 //! The way on which the walk stands: where it ends, where it may go on, and the route over it.
 
 ghost use Rattle.std.specs.Prelude.{◌≡◌, ℕ, ◌<◌, ◌++◌, [], ◌∷◌, None, Some, IfOk};
-ghost use Rattle.sabr_model.specs.Plan.{IsPlan, has};
-ghost use Rattle.sabr_model.specs.Route.{is_path};
+ghost use Rattle.sabr_model.specs.plan.Plan.{IsPlan, has};
+ghost use Rattle.sabr_model.specs.routes.Route.{is_path};
 ghost use Rattle.plain_listing.specs.Way.{IsWay, numbers_of, last_stop, next_hop, is_passed, may_visit, record_over};
 
 use crate::hop::Hop;

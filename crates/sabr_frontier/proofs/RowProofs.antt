@@ -1,12 +1,12 @@
 -- Worked states and steps, by computation.
 use Rattle.std.specs.Prelude.{◌≡◌, [], ◌∷◌}
 use Rattle.std.proofs.Common.{refl}
-use Rattle.sabr_model.specs.Listing.{routes, candidates, lists_of_length}
-use Rattle.sabr_model.specs.Route.{is_route, is_path}
-use Rattle.sabr_model.specs.Parts.{least_in}
+use Rattle.sabr_model.specs.routes.Listing.{routes, candidates, lists_of_length}
+use Rattle.sabr_model.specs.routes.Route.{is_route, is_path}
+use Rattle.sabr_model.specs.routes.Parts.{least_in}
 use Rattle.sabr_model.specs.Rows.{plan_a, plan_c, from_1_to_3}
-use Rattle.sabr_frontier.specs.Listing.{state_at, steps}
-use Rattle.sabr_frontier.specs.Rows.{start_of_a, a_after_1, a_after_2, a_after_3, c_after_3, c_after_5}
+use Rattle.sabr_frontier.specs.listing.Listing.{state_at, steps}
+use Rattle.sabr_frontier.specs.listing.Rows.{start_of_a, a_after_1, a_after_2, a_after_3, c_after_3, c_after_5}
 
 pub start_a : state_at plan_a from_1_to_3 0 ≡ start_of_a
 unfolding state_at routes candidates lists_of_length is_route is_path least_in

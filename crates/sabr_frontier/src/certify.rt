@@ -4,18 +4,18 @@ ghost use Rattle.std.specs.Prelude.{◌≡◌, ◌↔◌, ◌+◌, ◌≤◌, le
 ghost use Rattle.std.specs.List.{list_any};
 ghost use Rattle.std.specs.Option.{option_and_then, option_copied};
 ghost use Rattle.std.specs.Ordering.{is_lt};
-ghost use Rattle.sabr_model.specs.Plan.{IsPlan};
-ghost use Rattle.sabr_model.specs.Record.{by_record};
-ghost use Rattle.sabr_frontier.specs.Laws.{CarriesLeast};
-ghost use Rattle.sabr_frontier.specs.Listing.{state_at};
-ghost use Rattle.sabr_frontier.specs.Shape.{shape_of, shown};
-ghost use Rattle.sabr_frontier.specs.Sound.{IsTree};
-ghost use Rattle.sabr_frontier.specs.Winners.{CarriesNone, IsNext};
-ghost use Rattle.sabr_frontier.specs.Undo.{IsRoomy};
+ghost use Rattle.sabr_model.specs.plan.Plan.{IsPlan};
+ghost use Rattle.sabr_model.specs.routes.Record.{by_record};
+ghost use Rattle.sabr_frontier.specs.listing.Laws.{CarriesLeast};
+ghost use Rattle.sabr_frontier.specs.listing.Listing.{state_at};
+ghost use Rattle.sabr_frontier.specs.tree.Shape.{shape_of, shown};
+ghost use Rattle.sabr_frontier.specs.tree.Sound.{IsTree};
+ghost use Rattle.sabr_frontier.specs.tree.Winners.{CarriesNone, IsNext};
+ghost use Rattle.sabr_frontier.specs.tree.Undo.{IsRoomy};
 
-use crate::asker::Asker;
-use crate::places::{carried, prefix};
+use crate::giving::asker::Asker;
 use crate::tree::Tree;
+use crate::tree::places::{carried, prefix};
 use sabr_model::{NoMemory, Route};
 use sabr_search::BestOf;
 use std::alloc::Allocator;

@@ -1,17 +1,24 @@
 //! Loads a state, part by part, into a session.
 
+mod carrying;
+mod ghost_lists;
+mod held;
+mod judge;
+mod leading;
+pub mod load_fault;
+
 ghost use Rattle.std.specs.Prelude.{◌≡◌, [], Some, None, Err, IfOk, IfErr, OnOk, OnErr, IsOkUnless};
 ghost use Rattle.std.specs.Option.{option_copied};
-ghost use Rattle.sabr_frontier.specs.declared.load_fault.LoadFault.{LoadFault};
-ghost use Rattle.sabr_frontier.specs.declared.load_fault.LoadFault.TheVariants as load;
-ghost use Rattle.sabr_frontier.specs.Listing.{IsState};
-ghost use Rattle.sabr_frontier.specs.Loading.{IsRefusedBy, part_refusal, session_with, state_with, with_part};
-ghost use Rattle.sabr_frontier.specs.State.{part_with};
+ghost use Rattle.sabr_frontier.specs.declared.loader.load_fault.LoadFault.{LoadFault};
+ghost use Rattle.sabr_frontier.specs.declared.loader.load_fault.LoadFault.TheVariants as load;
+ghost use Rattle.sabr_frontier.specs.listing.Listing.{IsState};
+ghost use Rattle.sabr_frontier.specs.loading.Loading.{IsRefusedBy, part_refusal, session_with, state_with, with_part};
+ghost use Rattle.sabr_frontier.specs.listing.State.{part_with};
 
-use crate::asker::Asker;
-use crate::carrying::carried;
-use crate::held::{Held, last_place};
-use crate::load_fault::LoadFault;
+use crate::giving::asker::Asker;
+use crate::loader::carrying::carried;
+use crate::loader::held::{Held, last_place};
+use crate::loader::load_fault::LoadFault;
 use crate::question::Question;
 use crate::session::Session;
 use sabr_model::{Plan, Request};
@@ -33,8 +40,8 @@ pub struct Loader<'p, B: BestOf<A>, A: Allocator + Copy = Global> {
 }
 
 impl<'p, B: BestOf<A>, A: Allocator + Copy> Model for Loader<'p, B, A> {
-    ghost use Rattle.sabr_frontier.specs.Loading.{Loaded};
-    ghost use Rattle.sabr_frontier.specs.Holding.{IsLoader, loaded};
+    ghost use Rattle.sabr_frontier.specs.loading.Loading.{Loaded};
+    ghost use Rattle.sabr_frontier.specs.loading.Holding.{IsLoader, loaded};
 
     ghost Value = { Loaded };
 

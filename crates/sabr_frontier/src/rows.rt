@@ -2,8 +2,8 @@
 
 ghost use Rattle.std.specs.Prelude.{◌≡◌, [], ◌∷◌, ◌+◌};
 ghost use Rattle.sabr_model.specs.Rows.{plan_a, plan_c, from_1_to_3};
-ghost use Rattle.sabr_frontier.specs.Listing.{state_at, steps};
-ghost use Rattle.sabr_frontier.specs.Rows.{start_of_a, a_after_1, a_after_2, a_after_3, c_after_3, c_after_5};
+ghost use Rattle.sabr_frontier.specs.listing.Listing.{state_at, steps};
+ghost use Rattle.sabr_frontier.specs.listing.Rows.{start_of_a, a_after_1, a_after_2, a_after_3, c_after_3, c_after_5};
 
 /// States what the states of plan A are before any route and after one, two and three.
 pub fn states_of_plan_a()

@@ -1,18 +1,18 @@
 //! A session over a listing of routes: the next routes a page at a time, and back.
 
 ghost use Rattle.std.specs.Prelude.{◌≡◌, ◌≢◌, ℕ, ◌+◌, ◌^◌, ◌<◌, ◌≤◌, ◌⊎◌, ◌↔◌, ◌∷◌, ◌++◌, [], map, length, is_some, None, IfOk, OnOk, OnErr, IsOk, IsTrue, IsFalse};
-ghost use Rattle.sabr_model.specs.Plan.{IsPlan};
-ghost use Rattle.sabr_model.specs.Asking.{IsRequest};
-ghost use Rattle.sabr_model.specs.Record.{record_of};
-ghost use Rattle.sabr_frontier.specs.Fresh.{GivesNewRoutes};
-ghost use Rattle.sabr_frontier.specs.Listing.{most_routes, next_route, searches_in, state_at, steps};
-ghost use Rattle.sabr_frontier.specs.Session.{former_then, told_part};
-ghost use Rattle.sabr_frontier.specs.Shape.{shape_of, shown};
-ghost use Rattle.sabr_frontier.specs.Sound.{IsTree};
-ghost use Rattle.sabr_frontier.specs.Undo.{IsRoomy};
-ghost use Rattle.sabr_frontier.specs.Views.{told_left};
+ghost use Rattle.sabr_model.specs.plan.Plan.{IsPlan};
+ghost use Rattle.sabr_model.specs.routes.Asking.{IsRequest};
+ghost use Rattle.sabr_model.specs.routes.Record.{record_of};
+ghost use Rattle.sabr_frontier.specs.listing.Fresh.{GivesNewRoutes};
+ghost use Rattle.sabr_frontier.specs.listing.Listing.{most_routes, next_route, searches_in, state_at, steps};
+ghost use Rattle.sabr_frontier.specs.session.Session.{former_then, told_part};
+ghost use Rattle.sabr_frontier.specs.tree.Shape.{shape_of, shown};
+ghost use Rattle.sabr_frontier.specs.tree.Sound.{IsTree};
+ghost use Rattle.sabr_frontier.specs.tree.Undo.{IsRoomy};
+ghost use Rattle.sabr_frontier.specs.session.Views.{told_left};
 
-use crate::asker::Asker;
+use crate::giving::asker::Asker;
 use crate::question::Question;
 use crate::tree::Tree;
 use crate::views::Parts;
@@ -39,7 +39,7 @@ pub struct Session<'p, B: BestOf<A>, A: Allocator + Copy = Global> {
 }
 
 impl<'p, B: BestOf<A>, A: Allocator + Copy> Model for Session<'p, B, A> {
-    ghost use Rattle.sabr_frontier.specs.Session.{Seen, IsSession, seen};
+    ghost use Rattle.sabr_frontier.specs.session.Session.{Seen, IsSession, seen};
 
     ghost Value = { Seen };
 

@@ -1,6 +1,15 @@
 //! The parts of a listing as nodes in one vector, with the routes given and a journal of the changes.
 
-use crate::excluded::Excluded;
+mod change;
+pub mod excluded;
+pub mod index;
+pub mod places;
+mod root;
+mod turning;
+mod undo;
+pub mod winners;
+
+use crate::tree::excluded::Excluded;
 use sabr_model::Route;
 use std::alloc::{Allocator, Global};
 

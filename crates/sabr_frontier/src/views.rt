@@ -1,9 +1,9 @@
 //! The parts of a session, one after another, all borrowed.
 
 ghost use Rattle.std.specs.Prelude.{◌≡◌};
-ghost use Rattle.sabr_frontier.specs.Views.{told_at, told_of};
+ghost use Rattle.sabr_frontier.specs.session.Views.{told_at, told_of};
 
-use crate::places::prefix;
+use crate::tree::places::prefix;
 use crate::tree::{Node, NodeId};
 use sabr_model::Route;
 use std::alloc::{Allocator, Global};
@@ -54,7 +54,7 @@ impl<'a, A: Allocator + Copy> Iterator for Parts<'a, A> {
     type Item = PartView<'a, A>;
 
     ghost use Rattle.std.specs.Iterator.{YieldsFirstBy, item_count};
-    ghost use Rattle.sabr_frontier.specs.Views.{told_of, told_left};
+    ghost use Rattle.sabr_frontier.specs.session.Views.{told_of, told_left};
 
     ghost next_gives = { YieldsFirstBy told_of told_left };
 

@@ -6,12 +6,12 @@ use Rattle.sabr_model.specs.declared.opening.Opening.{Opening}
 use Rattle.std.proofs.lemmas.Bool.{lt-leb, ne_eqb, and_parts, eqb-true, false_from_ne_true}
 use Rattle.std.specs.declared.option.Option.TheVariants.{Some, None}
 use Rattle.sabr_model.specs.declared.fault.AddFault.TheVariants.{DuplicateContact}
-use Rattle.sabr_model.specs.Plan.{ContactPlan, opens}
-use Rattle.sabr_model.specs.Adding.{contact_refusal}
-use Rattle.sabr_model.specs.Openings.{opening_of, openings_of}
+use Rattle.sabr_model.specs.plan.Plan.{ContactPlan, opens}
+use Rattle.sabr_model.specs.plan.Adding.{contact_refusal}
+use Rattle.sabr_model.specs.plan.Openings.{opening_of, openings_of}
 use Rattle.sabr_gathering.specs.Gathering.{opening_number, KnowsFirst, OpenBy, KnowsSome}
-use Rattle.sabr_model.proofs.PlanLemmas.{all_push, all_weaker}
-use Rattle.sabr_model.proofs.OpeningLemmas.{openings_push}
+use Rattle.sabr_model.proofs.PlanLemmas.ContactLemmas.{all_push, all_weaker}
+use Rattle.sabr_model.proofs.PlanLemmas.ContactLemmas.OpeningLemmas.{openings_push}
 
 -- ---- the openings of the first contacts
 

@@ -12,13 +12,13 @@ use Rattle.std.specs.declared.cmp.Ordering.TheVariants.{Less, Equal, Greater}
 use Rattle.sabr_model.specs.declared.contact.Range.{Range}
 use Rattle.sabr_model.specs.Order.{put_in, by_numbers}
 use Rattle.sabr_model.specs.declared.fault.AddFault.TheVariants.{EmptyWindow, SelfPair, RangeOverlap, TooMany}
-use Rattle.sabr_model.specs.Plan.{IsPlan, IsWindow, IsNode, overlap, none_twice, range_key, last_time}
-use Rattle.sabr_model.specs.Adding.{range_refusal, by_range_key}
+use Rattle.sabr_model.specs.plan.Plan.{IsPlan, IsWindow, IsNode, overlap, none_twice, range_key, last_time}
+use Rattle.sabr_model.specs.plan.Adding.{range_refusal, by_range_key}
 use Rattle.sabr_gathering.specs.Gathering.{put_all, plan_of_ranges, gathered, AreTwoLists, AreGathered}
-use Rattle.sabr_model.proofs.RangeLemmas.{same_key_overlaps, accepted_range, choice, IsPlan-range}
-use Rattle.sabr_model.proofs.PlanLemmas.{IsPlan-empty}
-use Rattle.sabr_model.proofs.Deletions.{IsPlan-fewer_ranges}
-use Rattle.sabr_model.proofs.Ordered.{all_put}
+use Rattle.sabr_model.proofs.PlanLemmas.ContactLemmas.RangeLemmas.{same_key_overlaps, accepted_range, choice, IsPlan-range}
+use Rattle.sabr_model.proofs.PlanLemmas.ContactLemmas.{IsPlan-empty}
+use Rattle.sabr_model.proofs.PlanLemmas.ContactLemmas.Deletions.{IsPlan-fewer_ranges}
+use Rattle.sabr_model.proofs.ListLemmas.Ordered.{all_put}
 
 -- ---- lists
 

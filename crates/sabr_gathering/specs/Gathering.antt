@@ -10,10 +10,10 @@ use Rattle.sabr_model.specs.declared.contact.Contact.{Contact}
 use Rattle.sabr_model.specs.declared.contact.Range.{Range}
 use Rattle.sabr_model.specs.declared.opening.Opening.{Opening}
 use Rattle.sabr_model.specs.Order.{by_numbers, put_in}
-use Rattle.sabr_model.specs.Plan.{ContactPlan, IsPlan, IsWindow, opens, overlap, range_key}
-use Rattle.sabr_model.specs.Adding.{by_range_key}
-use Rattle.sabr_model.specs.RangeOrder.{place_number}
-use Rattle.sabr_model.specs.Openings.{opening_of}
+use Rattle.sabr_model.specs.plan.Plan.{ContactPlan, IsPlan, IsWindow, opens, overlap, range_key}
+use Rattle.sabr_model.specs.plan.Adding.{by_range_key}
+use Rattle.sabr_model.specs.plan.RangeOrder.{place_number}
+use Rattle.sabr_model.specs.plan.Openings.{opening_of}
 
 -- contacts alone and the greatest number given, as a plan without ranges
 abbrev pub plan_of_contacts : List Contact → ℕ → ContactPlan

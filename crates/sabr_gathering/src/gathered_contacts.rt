@@ -2,10 +2,10 @@
 
 ghost use Rattle.std.specs.Prelude.{◌≡◌, ℕ, ◌<◌, ◌≤◌, ◌+◌, [], None, Some, Err, IfOk, OnOk, OnErr, IsOkUnless, ok_or, unwrap_or, ◌≢◌};
 ghost use Rattle.std.specs.List.{list_any};
-ghost use Rattle.sabr_model.specs.Plan.{last_time, opens, IsPlan, most_records};
+ghost use Rattle.sabr_model.specs.plan.Plan.{last_time, opens, IsPlan, most_records};
 ghost use Rattle.sabr_model.specs.declared.fault.AddFault.{AddFault};
 ghost use Rattle.sabr_model.specs.declared.fault.AddFault.TheVariants.{NoMemory, NothingToDelete};
-ghost use Rattle.sabr_model.specs.Adding.{next_contact, contact_refusal, with_contact, number_of_opening, without_contact};
+ghost use Rattle.sabr_model.specs.plan.Adding.{next_contact, contact_refusal, with_contact, number_of_opening, without_contact};
 
 use crate::known_openings::KnownOpenings;
 use sabr_model::{AddFault, Contact, MOST_RECORDS, Opening, contact_of_opening, refusal};
@@ -23,7 +23,7 @@ pub struct GatheredContacts<A: Allocator + Copy = Global> {
 }
 
 impl<A: Allocator + Copy> Model for GatheredContacts<A> {
-    ghost use Rattle.sabr_model.specs.Plan.{ContactPlan, IsPlan};
+    ghost use Rattle.sabr_model.specs.plan.Plan.{ContactPlan, IsPlan};
     ghost use Rattle.sabr_gathering.specs.Gathering.{plan_of_contacts, KnowsSome};
 
     ghost Value = { ContactPlan };

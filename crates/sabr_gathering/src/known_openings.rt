@@ -2,8 +2,8 @@
 
 ghost use Rattle.std.specs.Prelude.{◌≡◌, ◌<◌, ◌≤◌, ◌↔◌, List, [], IsTrue};
 ghost use Rattle.sabr_model.specs.declared.contact.Contact.{Contact};
-ghost use Rattle.sabr_model.specs.RangeOrder.{place_number};
-ghost use Rattle.sabr_model.specs.Openings.{openings_of, closed};
+ghost use Rattle.sabr_model.specs.plan.RangeOrder.{place_number};
+ghost use Rattle.sabr_model.specs.plan.Openings.{openings_of, closed};
 ghost use Rattle.sabr_gathering.specs.Gathering.{opening_number, KnowsFirst, KnowsSome, IsNoted};
 
 use indexmap::IndexSet;

@@ -2,10 +2,10 @@
 
 ghost use Rattle.std.specs.Prelude.{◌≡◌, [], ◌∷◌, ◌++◌, Err, OnOk, OnErr, IsTrue, IsFalse, IsOk, filter, length, not};
 ghost use Rattle.std.specs.List.{list_any};
-ghost use Rattle.sabr_model.specs.Plan.{overlap, IsPlan};
+ghost use Rattle.sabr_model.specs.plan.Plan.{overlap, IsPlan};
 ghost use Rattle.sabr_gathering.specs.Gathering.{plan_of_ranges, gathered, AreGathered};
 ghost use Rattle.sabr_model.specs.declared.fault.AddFault.TheVariants.{NothingToDelete};
-ghost use Rattle.sabr_model.specs.Adding.{begins};
+ghost use Rattle.sabr_model.specs.plan.Adding.{begins};
 
 use crate::merging::merge;
 use sabr_model::{AddFault, Range, has_range, overlaps_some};
@@ -24,7 +24,7 @@ pub struct OrderedRanges<A: Allocator + Copy> {
 impl<A: Allocator + Copy> Model for OrderedRanges<A> {
     ghost use Rattle.std.specs.Prelude.{List};
     ghost use Rattle.sabr_model.specs.declared.contact.Range.{Range};
-    ghost use Rattle.sabr_model.specs.Plan.{IsPlan};
+    ghost use Rattle.sabr_model.specs.plan.Plan.{IsPlan};
     ghost use Rattle.sabr_gathering.specs.Gathering.{plan_of_ranges};
 
     ghost Value = { List Range };

@@ -2,7 +2,7 @@
 
 ghost use Rattle.std.specs.Prelude.{◌≡◌, ◌<◌, OnOk, length, slice_index};
 ghost use Rattle.std.specs.List.{list_any};
-ghost use Rattle.sabr_model.specs.Plan.{overlap};
+ghost use Rattle.sabr_model.specs.plan.Plan.{overlap};
 ghost use Rattle.sabr_gathering.specs.RangeChains.{bucket_of_pair, IsLastOf, TellsLast, AreLinked};
 
 use sabr_model::{Range, overlap};

@@ -16,16 +16,16 @@ use Rattle.sabr_index.specs.declared.link.Pass.{Pass}
 use Rattle.sabr_index.specs.declared.link.Link.{Link}
 use Rattle.sabr_index.specs.declared.link.NodeLinks.{NodeLinks}
 use Rattle.sabr_index.specs.declared.senders.Incoming.{Incoming}
-use Rattle.sabr_model.specs.Plan.{TabledPlan, contact_named, has, are_different}
-use Rattle.sabr_model.specs.Tabled.{IsTabled}
+use Rattle.sabr_model.specs.plan.Plan.{TabledPlan, contact_named, has, are_different}
+use Rattle.sabr_model.specs.plan.Tabled.{IsTabled}
 use Rattle.sabr_index.specs.Links.{IsPassOf, IsLinkOf, AreLinksOf, numbers_of, received_by, SentLink, IsLinkTo, AreLinksTo}
 use Rattle.sabr_index.specs.Linking.{AreLinked}
 use Rattle.sabr_index.specs.Incoming.{passes_over, passes_at, passes_named, links_named, AllLieOver, HasLink, HaveReceivers, AreIncoming}
-use Rattle.sabr_model.proofs.Different.{different_append, part_at, part_has}
+use Rattle.sabr_model.proofs.ListLemmas.Different.{different_append, part_at, part_has}
 use Rattle.sabr_index.proofs.PassNumbers.{pass_of_number, number_once, numbers_part}
-use Rattle.sabr_model.proofs.Listed.{distinct_from_different}
-use Rattle.sabr_model.proofs.Tabled.{index_tells, index_of_member, place_one}
-use Rattle.sabr_model.proofs.Without.{ends_of_found}
+use Rattle.sabr_model.proofs.RouteLemmas.Listed.{distinct_from_different}
+use Rattle.sabr_model.proofs.PlanLemmas.ContactLemmas.Tabled.{index_tells, index_of_member, place_one}
+use Rattle.sabr_model.proofs.PlanLemmas.ContactLemmas.Without.{ends_of_found}
 
 -- ---- lists
 

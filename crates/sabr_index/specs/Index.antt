@@ -1,7 +1,7 @@
 -- What an index keeps of a plan.
 use Rattle.std.specs.Prelude.{◌≡◌, ℕ, ◌+◌, List, length}
-use Rattle.sabr_model.specs.Plan.{TabledPlan}
-use Rattle.sabr_model.specs.Tabled.{IsTabled}
+use Rattle.sabr_model.specs.plan.Plan.{TabledPlan}
+use Rattle.sabr_model.specs.plan.Tabled.{IsTabled}
 use Rattle.sabr_index.specs.declared.link.SenderHead.{SenderHead}
 use Rattle.sabr_index.specs.declared.link.NodeLinks.{NodeLinks}
 use Rattle.sabr_index.specs.declared.senders.Incoming.{Incoming}

@@ -6,9 +6,9 @@ use Rattle.sabr_model.specs.declared.contact.Contact.{Contact}
 use Rattle.sabr_index.specs.declared.link.Pass.{Pass}
 use Rattle.sabr_index.specs.declared.link.Link.{Link}
 use Rattle.sabr_index.specs.declared.link.LinkBounds.{LinkBounds}
-use Rattle.sabr_model.specs.Plan.{TabledPlan, contact_named, are_different}
-use Rattle.sabr_model.specs.Light.{light_of}
-use Rattle.sabr_model.specs.Table.{sent_by}
+use Rattle.sabr_model.specs.plan.Plan.{TabledPlan, contact_named, are_different}
+use Rattle.sabr_model.specs.plan.Light.{light_of}
+use Rattle.sabr_model.specs.plan.Table.{sent_by}
 
 -- the pass is a standing contact from one node to another that has a light time
 pub record IsPassOf (p : TabledPlan) (node to : ℕ) (x : Pass) : Type 0 where

@@ -1,9 +1,9 @@
 //! The ends of contacts, where the plan doesn't keep them.
 
 ghost use Rattle.std.specs.Prelude.{◌≡◌, Some, IsTrue, IfOk, slice_get};
-ghost use Rattle.sabr_model.specs.Plan.{has};
-ghost use Rattle.sabr_model.specs.Stretches.{AreEnds, AreEndsOf};
-ghost use Rattle.sabr_model.specs.Tabled.{IsTabled};
+ghost use Rattle.sabr_model.specs.plan.Plan.{has};
+ghost use Rattle.sabr_model.specs.plan.Stretches.{AreEnds, AreEndsOf};
+ghost use Rattle.sabr_model.specs.plan.Tabled.{IsTabled};
 
 use sabr_model::{Contact, Ends, Plan};
 use std::alloc::{AllocError, Allocator};

@@ -1,8 +1,8 @@
 //! The index of a plan.
 
 ghost use Rattle.std.specs.Prelude.{◌≡◌, ◌<◌, ℕ, Some, IfOk, length, slice_get};
-ghost use Rattle.sabr_model.specs.Stretches.{AreEnds};
-ghost use Rattle.sabr_model.specs.Tabled.{IsTabled};
+ghost use Rattle.sabr_model.specs.plan.Stretches.{AreEnds};
+ghost use Rattle.sabr_model.specs.plan.Tabled.{IsTabled};
 ghost use Rattle.sabr_index.specs.Links.{AreLinksOf, AreLinksTo};
 
 use crate::building::link_nodes;
@@ -27,7 +27,7 @@ pub struct Index<'p, A: Allocator + Copy = Global> {
 }
 
 impl<'p, A: Allocator + Copy> Model for Index<'p, A> {
-    ghost use Rattle.sabr_model.specs.Plan.{TabledPlan};
+    ghost use Rattle.sabr_model.specs.plan.Plan.{TabledPlan};
     ghost use Rattle.sabr_index.specs.Index.{IsIndex};
 
     ghost Value = { TabledPlan };

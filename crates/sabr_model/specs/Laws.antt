@@ -5,11 +5,11 @@ use Rattle.std.specs.List.Sorted.{IsStrictlySortedBy}
 use Rattle.std.specs.declared.option.Option.TheVariants.{Some, None}
 use Rattle.sabr_model.specs.declared.contact.Contact.{Contact}
 use Rattle.sabr_model.specs.Order.{same_numbers}
-use Rattle.sabr_model.specs.Plan.{ContactPlan, IsPlan, are_different, none_twice}
-use Rattle.sabr_model.specs.Arrival.{RouteRequest, arrival}
-use Rattle.sabr_model.specs.Route.{is_route, by_key}
-use Rattle.sabr_model.specs.Fault.{fault_of}
-use Rattle.sabr_model.specs.Listing.{candidates, routes}
+use Rattle.sabr_model.specs.plan.Plan.{ContactPlan, IsPlan, are_different, none_twice}
+use Rattle.sabr_model.specs.routes.Arrival.{RouteRequest, arrival}
+use Rattle.sabr_model.specs.routes.Route.{is_route, by_key}
+use Rattle.sabr_model.specs.routes.Fault.{fault_of}
+use Rattle.sabr_model.specs.routes.Listing.{candidates, routes}
 
 -- a bundle that is at the sender earlier also arrives, and no later
 abbrev pub ArrivalIsMonotone : Type 0

@@ -1,11 +1,11 @@
 //! Following a list of contacts: when it delivers, or why it is no route.
 
 ghost use Rattle.std.specs.Prelude.{◌≡◌, ℕ, ◌+◌, ◌<◌, ◌≤◌, ◌^◌, [], ◌∷◌, ◌++◌, Some, None, IfOk, IfErr, OnOk, IsTrue, length, take};
-ghost use Rattle.sabr_model.specs.Plan.{has};
-ghost use Rattle.sabr_model.specs.Arrival.{arrival_after};
-ghost use Rattle.sabr_model.specs.Route.{receivers, is_path, is_route};
-ghost use Rattle.sabr_model.specs.Fault.{fault_at, first_fault, fault_of};
-ghost use Rattle.sabr_model.specs.Following.{AreMarked, IsReachedBy, receives};
+ghost use Rattle.sabr_model.specs.plan.Plan.{has};
+ghost use Rattle.sabr_model.specs.routes.Arrival.{arrival_after};
+ghost use Rattle.sabr_model.specs.routes.Route.{receivers, is_path, is_route};
+ghost use Rattle.sabr_model.specs.routes.Fault.{fault_at, first_fault, fault_of};
+ghost use Rattle.sabr_model.specs.routes.Following.{AreMarked, IsReachedBy, receives};
 
 use crate::fault::HopFault;
 use crate::plan::Plan;

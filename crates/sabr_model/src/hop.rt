@@ -1,7 +1,7 @@
 //! A contact as a search reads it.
 
 ghost use Rattle.std.specs.Prelude.{◌≡◌};
-ghost use Rattle.sabr_model.specs.Hops.{IsSmall, hop_arrival};
+ghost use Rattle.sabr_model.specs.routes.Hops.{IsSmall, hop_arrival};
 
 use crate::request::Request;
 

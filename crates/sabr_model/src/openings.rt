@@ -3,8 +3,8 @@
 ghost use Rattle.std.specs.Prelude.{◌≡◌, List, [], false};
 ghost use Rattle.std.specs.List.{list_any};
 ghost use Rattle.sabr_model.specs.declared.contact.Contact.{Contact};
-ghost use Rattle.sabr_model.specs.Plan.{opens};
-ghost use Rattle.sabr_model.specs.Openings.{KnowsOpenings, KnowOneMore, closed};
+ghost use Rattle.sabr_model.specs.plan.Plan.{opens};
+ghost use Rattle.sabr_model.specs.plan.Openings.{KnowsOpenings, KnowOneMore, closed};
 
 use crate::contact::Contact;
 use crate::opening::Opening;

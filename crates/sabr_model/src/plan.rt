@@ -54,10 +54,10 @@ pub struct Plan<A: Allocator + Copy = Global> {
 
 impl<A: Allocator + Copy> Model for Plan<A> {
     ghost use Rattle.indexmap.specs.IndexMap.{keys};
-    ghost use Rattle.sabr_model.specs.Plan.{TabledPlan, IsPlan};
-    ghost use Rattle.sabr_model.specs.Table.{IsTableOf};
-    ghost use Rattle.sabr_model.specs.Known.{IsKnown};
-    ghost use Rattle.sabr_model.specs.Openings.{KnowsOpenings};
+    ghost use Rattle.sabr_model.specs.plan.Plan.{TabledPlan, IsPlan};
+    ghost use Rattle.sabr_model.specs.plan.Table.{IsTableOf};
+    ghost use Rattle.sabr_model.specs.plan.Known.{IsKnown};
+    ghost use Rattle.sabr_model.specs.plan.Openings.{KnowsOpenings};
 
     ghost Value = { TabledPlan };
 

@@ -1,7 +1,7 @@
 //! What the record of a route holds besides its numbers and its delivery.
 
 ghost use Rattle.std.specs.Prelude.{◌≡◌, ◌∷◌, ◌++◌, []};
-ghost use Rattle.sabr_model.specs.Telling.{told_of};
+ghost use Rattle.sabr_model.specs.routes.Telling.{told_of};
 
 use crate::limits::LAST_TIME;
 use crate::numbers::Numbers;

@@ -4,7 +4,7 @@ use Rattle.std.specs.List.{flat_map}
 use Rattle.std.proofs.lemmas.List.{take_more, take-append-drop}
 use Rattle.std.proofs.lemmas.List.Concat.{flat_map-append}
 use Rattle.sabr_model.specs.Devices.{Output, Written, WrittenInPart, WritesText}
-use Rattle.sabr_model.proofs.WrittenTexts.{Written-append, WrittenInPart-after, WrittenInPart-more, WritesText-after}
+use Rattle.sabr_model.proofs.ListLemmas.WrittenTexts.{Written-append, WrittenInPart-after, WrittenInPart-more, WritesText-after}
 
 -- the lines before a record, its own, and those after it
 pub flat_map-parted : {X : Type 0} (line : X → List ℕ) (xs : List X) (i : ℕ) (d : X) → i < length xs → flat_map line xs ≡ (flat_map line (take i xs) ++ line (get_or xs i d)) ++ flat_map line (drop (i + 1) xs)

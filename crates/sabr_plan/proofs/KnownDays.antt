@@ -2,7 +2,7 @@
 use Rattle.std.proofs.Common.{◌≡◌, ℕ, ◌+◌, ◌-◌, ◌/◌, ◌%◌, ◌<◌, ◌≤◌, true, false, eqb, List, ◌++◌, take, refl, sym, ap, ◌∙◌, arith, Option, Some, None, Ok, ok_or}
 use Rattle.std.proofs.lemmas.Bool.{ne_eqb}
 use borrow.Author.Tests.{le-leb}
-use Rattle.sabr_model.specs.Plan.{last_time}
+use Rattle.sabr_model.specs.plan.Plan.{last_time}
 use Rattle.sabr_plan.specs.declared.time.TimeFields.{TimeFields}
 use Rattle.sabr_plan.specs.declared.fault.PlanKind.TheVariants.{BadTime}
 use Rattle.sabr_plan.specs.Times.{day_after_epoch, spelled, fields_of, time_text_of}

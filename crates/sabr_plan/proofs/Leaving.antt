@@ -1,7 +1,7 @@
 -- A change of a plan, as its call returns it.
 use Rattle.std.proofs.Common.{◌≡◌, ℕ, ◌⊎◌, Bool, true, false, inl, inr, refl, sym, ap, ◌∙◌, Option, Some, None, Result, Ok, Err, OnOk, is_some, ok_or}
 use Rattle.std.specs.Result.{IsOkUnless}
-use Rattle.sabr_model.specs.Plan.{ContactPlan}
+use Rattle.sabr_model.specs.plan.Plan.{ContactPlan}
 use Rattle.sabr_model.specs.declared.fault.AddFault.{AddFault}
 use Rattle.sabr_model.specs.declared.fault.AddFault.TheVariants as add
 use Rattle.sabr_plan.specs.declared.fault.PlanKind.TheVariants as kind

@@ -4,7 +4,7 @@ use Rattle.std.specs.Prelude.{nat_lt, nat_le, not, codes, if◌then◌else◌}
 use Rattle.std.specs.List.{list_all}
 use Rattle.std.specs.Str.{bytes_eq}
 use Rattle.sabr_model.specs.Devices.{Input}
-use Rattle.sabr_model.specs.Plan.{ContactPlan, TabledPlan, last_time}
+use Rattle.sabr_model.specs.plan.Plan.{ContactPlan, TabledPlan, last_time}
 use Rattle.sabr_model.specs.declared.fault.AddFault.{AddFault}
 use Rattle.sabr_model.specs.declared.fault.AddFault.TheVariants as add
 use Rattle.sabr_plan.specs.declared.fault.PlanFault.{PlanFault}

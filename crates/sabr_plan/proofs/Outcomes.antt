@@ -4,7 +4,7 @@ use borrow.Author.Tests.{lt-ltb, le-ltb, ltb-true, ltb-false}
 use Rattle.std.proofs.lemmas.List.Folds.{list_all-append}
 use Rattle.std.proofs.Math.Bool.{and-false}
 use Rattle.std.specs.Prelude.{if◌then◌else◌}
-use Rattle.sabr_model.specs.Plan.{ContactPlan}
+use Rattle.sabr_model.specs.plan.Plan.{ContactPlan}
 use Rattle.sabr_plan.specs.declared.fault.PlanFault.{PlanFault}
 use Rattle.sabr_plan.specs.declared.fault.PlanKind.{PlanKind}
 use Rattle.sabr_plan.specs.declared.fault.PlanKind.TheVariants as kind

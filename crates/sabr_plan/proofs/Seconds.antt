@@ -8,7 +8,7 @@ use Rattle.jiff_core.specs.Calendar.{days_from_civil}
 use Rattle.jiff_core.proofs.SignedLemmas.{signed_arith}
 use Rattle.jiff_core.proofs.CalendarLemmas.{days_in_month_bounds}
 use Rattle.sabr_plan.specs.declared.time.TimeFields.{TimeFields}
-use Rattle.sabr_model.specs.Plan.{last_time}
+use Rattle.sabr_model.specs.plan.Plan.{last_time}
 use Rattle.sabr_plan.specs.Times.{CalendarDay, day_after_epoch, fields_of, last_spelled, time_text_of, second_named, time_of}
 use Rattle.sabr_plan.specs.TimeShape.{has_shape, fields_at, HasWidth}
 use Rattle.sabr_plan.proofs.Days.{day_after_epoch_is}

@@ -4,12 +4,12 @@ use Rattle.std.specs.Prelude.{nat_lt, nat_le, not, codes, if◌then◌else◌}
 use Rattle.std.specs.List.{list_all}
 use Rattle.std.specs.Str.{bytes_eq}
 use Rattle.std.proofs.lemmas.Bool.{leb-true}
-use Rattle.sabr_model.specs.Plan.{ContactPlan, IsPlan, IsNode, last_time, opens}
-use Rattle.sabr_model.specs.Adding.{next_contact, contact_refusal, with_contact, without_contact, new_range, range_refusal, with_range, begins, without_range}
+use Rattle.sabr_model.specs.plan.Plan.{ContactPlan, IsPlan, IsNode, last_time, opens}
+use Rattle.sabr_model.specs.plan.Adding.{next_contact, contact_refusal, with_contact, without_contact, new_range, range_refusal, with_range, begins, without_range}
 use Rattle.sabr_model.specs.declared.fault.AddFault.{AddFault}
-use Rattle.sabr_model.proofs.PlanLemmas.{IsPlan-empty, IsPlan-push}
-use Rattle.sabr_model.proofs.RangeLemmas.{IsPlan-range}
-use Rattle.sabr_model.proofs.Deletions.{IsPlan-fewer_contacts, IsPlan-fewer_ranges}
+use Rattle.sabr_model.proofs.PlanLemmas.ContactLemmas.{IsPlan-empty, IsPlan-push}
+use Rattle.sabr_model.proofs.PlanLemmas.ContactLemmas.RangeLemmas.{IsPlan-range}
+use Rattle.sabr_model.proofs.PlanLemmas.ContactLemmas.Deletions.{IsPlan-fewer_contacts, IsPlan-fewer_ranges}
 use Rattle.sabr_plan.specs.declared.fault.PlanKind.{PlanKind}
 use Rattle.sabr_plan.specs.declared.fault.PlanKind.TheVariants as kind
 use Rattle.sabr_plan.specs.declared.command.Command.{Command}

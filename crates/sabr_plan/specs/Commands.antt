@@ -4,7 +4,7 @@ use Rattle.std.specs.List.{list_all}
 use Rattle.std.specs.Str.{bytes_eq}
 use Rattle.std.specs.declared.option.Option.{Option}
 use Rattle.std.specs.declared.option.Option.TheVariants.{Some, None}
-use Rattle.sabr_model.specs.Plan.{IsNode, last_time}
+use Rattle.sabr_model.specs.plan.Plan.{IsNode, last_time}
 use Rattle.sabr_plan.specs.Steps.{and_then, given_as}
 use Rattle.sabr_plan.specs.Words.{words_of, is_plain, is_comment}
 use Rattle.sabr_plan.specs.Operands.{time_at, absolute_time, node_of, greatest_value, value_of, both_of}

@@ -1,6 +1,6 @@
 -- A plan text that is read in pieces: what was read so far, and what comes of the text.
 use Rattle.std.specs.Prelude.{◌≡◌, ℕ, ◌+◌, ◌*◌, Bool, List, [], ◌++◌, length, Result, Ok, Err, ◌⊎◌}
-use Rattle.sabr_model.specs.Plan.{ContactPlan, TabledPlan}
+use Rattle.sabr_model.specs.plan.Plan.{ContactPlan, TabledPlan}
 use Rattle.sabr_plan.specs.Steps.{and_then}
 use Rattle.sabr_plan.specs.Words.{lines_of}
 use Rattle.sabr_plan.specs.Reading.{Reading, most_lines, nothing_read, read_lines, last_line}

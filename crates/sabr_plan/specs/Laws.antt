@@ -1,6 +1,6 @@
 -- A law of plan texts.
 use Rattle.std.specs.Prelude.{◌≡◌, ℕ, Bool, List, Ok}
-use Rattle.sabr_model.specs.Plan.{ContactPlan, IsPlan}
+use Rattle.sabr_model.specs.plan.Plan.{ContactPlan, IsPlan}
 use Rattle.sabr_plan.specs.Reading.{plan_of}
 
 -- the plan that a text spells obeys the rules of a plan

@@ -2,7 +2,7 @@
 use Rattle.std.specs.Prelude.{ℕ, ◌+◌, ◌==◌, nat_le, ◌&&◌, List, [], ◌∷◌, length, Result, Ok, Err, ok_or, if◌then◌else◌}
 use Rattle.std.specs.declared.option.Option.{Option}
 use Rattle.std.specs.declared.option.Option.TheVariants.{Some, None}
-use Rattle.sabr_model.specs.Plan.{last_time, most_light}
+use Rattle.sabr_model.specs.plan.Plan.{last_time, most_light}
 use Rattle.sabr_plan.specs.Digits.{are_digits, digits_value}
 use Rattle.sabr_plan.specs.Numbers.{number_within}
 use Rattle.sabr_plan.specs.Times.{time_of}

@@ -2,7 +2,7 @@
 use Rattle.std.specs.Prelude.{◌≡◌, ℕ, ◌+◌, Bool, true, false, List, ◌++◌, Result, Ok, Err, ◌⊎◌}
 use Rattle.std.specs.Io.KnownBytes.{Consumes, IsAtEnd}
 use Rattle.sabr_model.specs.Devices.{Input}
-use Rattle.sabr_model.specs.Plan.{TabledPlan}
+use Rattle.sabr_model.specs.plan.Plan.{TabledPlan}
 use Rattle.sabr_plan.specs.Reading.{plan_of}
 use Rattle.sabr_plan.specs.Feeding.{Answers}
 use Rattle.sabr_plan.specs.declared.fault.PlanFault.{PlanFault}

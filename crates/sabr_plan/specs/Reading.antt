@@ -5,8 +5,8 @@ use Rattle.std.specs.declared.option.Option.{Option}
 use Rattle.std.specs.declared.option.Option.TheVariants.{Some, None}
 use Rattle.sabr_model.specs.declared.fault.AddFault.{AddFault}
 use Rattle.sabr_model.specs.declared.fault.AddFault.TheVariants as add
-use Rattle.sabr_model.specs.Plan.{ContactPlan}
-use Rattle.sabr_model.specs.Adding.{next_contact, contact_refusal, with_contact, number_of_opening, without_contact, new_range, range_refusal, with_range, begins, without_range}
+use Rattle.sabr_model.specs.plan.Plan.{ContactPlan}
+use Rattle.sabr_model.specs.plan.Adding.{next_contact, contact_refusal, with_contact, number_of_opening, without_contact, new_range, range_refusal, with_range, begins, without_range}
 use Rattle.sabr_plan.specs.Steps.{and_then, given_as}
 use Rattle.sabr_plan.specs.Words.{has_bytes, lines_of}
 use Rattle.sabr_plan.specs.Commands.{line_command}

@@ -1,7 +1,7 @@
 -- The shape of a time's text: digits in pairs, with bytes between them.
 use Rattle.std.specs.Prelude.{◌≡◌, ℕ, ◌+◌, ◌*◌, ◌/◌, ◌%◌, ◌<◌, ◌≤◌, ◌==◌, ◌&&◌, Bool, List, ◌∷◌, ◌++◌, length, slice_index}
 use Rattle.sabr_plan.specs.Digits.{is_digit}
-use Rattle.sabr_model.specs.Plan.{last_time}
+use Rattle.sabr_model.specs.plan.Plan.{last_time}
 use Rattle.sabr_plan.specs.Times.{CalendarDay, day_after_epoch, two_digits, pair_at}
 use Rattle.sabr_plan.specs.declared.time.TimeFields.{TimeFields}
 

@@ -4,7 +4,7 @@ use Rattle.std.specs.Str.{bytes_eq}
 use Rattle.std.specs.declared.option.Option.{Option}
 use Rattle.std.specs.declared.option.Option.TheVariants.{Some, None}
 use Rattle.jiff_core.specs.Calendar.{days_in_month, days_from_civil}
-use Rattle.sabr_model.specs.Plan.{last_time}
+use Rattle.sabr_model.specs.plan.Plan.{last_time}
 use Rattle.sabr_plan.specs.declared.time.TimeFields.{TimeFields}
 
 -- a day of the Gregorian calendar

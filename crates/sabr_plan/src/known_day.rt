@@ -1,7 +1,7 @@
 //! The day of the last absolute time. If the next one has the same date, only its time of day is read.
 
 ghost use Rattle.std.specs.Prelude.{◌≡◌, ◌<◌, ◌≤◌, IfSome, IsTrue, length};
-ghost use Rattle.sabr_model.specs.Plan.{last_time};
+ghost use Rattle.sabr_model.specs.plan.Plan.{last_time};
 ghost use Rattle.sabr_plan.specs.Times.{time_text_of};
 ghost use Rattle.sabr_plan.specs.TimeShape.{clock_text, IsDate};
 

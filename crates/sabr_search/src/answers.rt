@@ -4,22 +4,25 @@
 //! shuts more, starts no earlier and leaves no more hops, as long as its way may be taken and delivers at the same second.
 //! Where there was none, there is none.
 
-ghost use Rattle.std.specs.Prelude.{◌≡◌, ◌^◌, ◌≤◌, ◌<◌, [], Some, All, IfOk, IfSome, IsTrue, OnOk, length, slice_get};
-ghost use Rattle.sabr_search.specs.Ways.{Leads};
-ghost use Rattle.sabr_search.specs.Task.{IsTask, IsAsked, IsOfRequest, Takes, left_of};
-ghost use Rattle.sabr_search.specs.WideTasks.{ShutsFewer};
-ghost use Rattle.sabr_search.specs.FirstSteps.{tabled_of};
-ghost use Rattle.sabr_search.specs.Answers.{narrowed};
-ghost use Rattle.sabr_search.specs.KeptAnswers.{AllShut, Covers, IsAnswerTo, AnswersAt, IsFoundWay, IsAnswer, IsPut};
+mod payoff;
+pub mod wide;
 
-use crate::least_way::FoundWay;
-use crate::looks::Looks;
-use crate::payoff::Payoff;
-use crate::pick::Standing;
+ghost use Rattle.std.specs.Prelude.{◌≡◌, ◌^◌, ◌≤◌, ◌<◌, [], Some, All, IfOk, IfSome, IsTrue, OnOk, length, slice_get};
+ghost use Rattle.sabr_search.specs.questions.Ways.{Leads};
+ghost use Rattle.sabr_search.specs.questions.Task.{IsTask, IsAsked, IsOfRequest, Takes, left_of};
+ghost use Rattle.sabr_search.specs.questions.WideTasks.{ShutsFewer};
+ghost use Rattle.sabr_search.specs.questions.FirstSteps.{tabled_of};
+ghost use Rattle.sabr_search.specs.answers.Answers.{narrowed};
+ghost use Rattle.sabr_search.specs.answers.KeptAnswers.{AllShut, Covers, IsAnswerTo, AnswersAt, IsFoundWay, IsAnswer, IsPut};
+
+use crate::answers::payoff::Payoff;
+use crate::answers::wide::shut_one;
+use crate::backward::least_way::FoundWay;
+use crate::backward::pick::Standing;
+use crate::course::shut::Shut;
+use crate::links::looks::Looks;
 use crate::question::Question;
-use crate::shut::Shut;
 use crate::task::Task;
-use crate::wide::shut_one;
 use sabr_model::NoMemory;
 use std::alloc::{Allocator, Global};
 

@@ -2,11 +2,11 @@
 
 ghost use Rattle.std.specs.Prelude.{◌≡◌, ℕ, ◌+◌, ◌*◌, ◌≤◌, IfOk, IsTrue, length};
 ghost use Rattle.std.specs.List.Sorted.{IsStrictlyIncreasing};
-ghost use Rattle.sabr_search.specs.Part.{IsLeast};
-ghost use Rattle.sabr_search.specs.Kept.{IsKept};
-ghost use Rattle.sabr_model.specs.Route.{is_prefix};
-ghost use Rattle.sabr_model.specs.Table.{node_count};
-ghost use Rattle.sabr_search.specs.Told.{hops_told};
+ghost use Rattle.sabr_search.specs.questions.Part.{IsLeast};
+ghost use Rattle.sabr_search.specs.answers.Kept.{IsKept};
+ghost use Rattle.sabr_model.specs.routes.Route.{is_prefix};
+ghost use Rattle.sabr_model.specs.plan.Table.{node_count};
+ghost use Rattle.sabr_search.specs.questions.Told.{hops_told};
 
 use crate::kept::Kept;
 use crate::part::Part;

@@ -1,14 +1,17 @@
 //! Where a prefix leads, stop by stop, so that the next one goes on from what both have in common.
 
-ghost use Rattle.std.specs.Prelude.{◌≡◌, ℕ, List, ◌+◌, ◌^◌, ◌≤◌, IfOk, IfSome, IfNone, OnOk, IsTrue, length, take};
-ghost use Rattle.sabr_model.specs.Plan.{IsPlan};
-ghost use Rattle.sabr_model.specs.Route.{is_route, is_prefix};
-ghost use Rattle.sabr_search.specs.Course.{IsCourse, IsEntered};
+pub mod closed;
+pub mod shut;
 
-use crate::closed::shut_closed;
-use crate::looks::Looks;
-use crate::pick::Standing;
-use crate::shut::Shut;
+ghost use Rattle.std.specs.Prelude.{◌≡◌, ℕ, List, ◌+◌, ◌^◌, ◌≤◌, IfOk, IfSome, IfNone, OnOk, IsTrue, length, take};
+ghost use Rattle.sabr_model.specs.plan.Plan.{IsPlan};
+ghost use Rattle.sabr_model.specs.routes.Route.{is_route, is_prefix};
+ghost use Rattle.sabr_search.specs.questions.Course.{IsCourse, IsEntered};
+
+use crate::backward::pick::Standing;
+use crate::course::closed::shut_closed;
+use crate::course::shut::Shut;
+use crate::links::looks::Looks;
 use sabr_model::{NoMemory, Plan, Request};
 use std::alloc::{Allocator, Global};
 

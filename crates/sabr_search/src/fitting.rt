@@ -1,8 +1,8 @@
 //! Which parts a search accepts.
 
 ghost use Rattle.std.specs.Prelude.{◌≡◌};
-ghost use Rattle.sabr_model.specs.Plan.{has};
-ghost use Rattle.sabr_model.specs.Route.{receivers, is_prefix};
+ghost use Rattle.sabr_model.specs.plan.Plan.{has};
+ghost use Rattle.sabr_model.specs.routes.Route.{receivers, is_prefix};
 
 use crate::part::Part;
 use sabr_model::{HopFault, Plan, Request, follow};

@@ -1,17 +1,17 @@
 //! What a session keeps for its searches, all of one plan and request.
 
 ghost use Rattle.std.specs.Prelude.{◌≤◌, ◌*◌, ℕ, List, IfOk, IfSome, IfNone, IsTrue, length};
-ghost use Rattle.sabr_model.specs.Plan.{TabledPlan, IsPlan};
-ghost use Rattle.sabr_model.specs.Arrival.{RouteRequest};
-ghost use Rattle.sabr_model.specs.Route.{is_route};
-ghost use Rattle.sabr_search.specs.Course.{IsCourse};
-ghost use Rattle.sabr_search.specs.Kept.{IsKept};
+ghost use Rattle.sabr_model.specs.plan.Plan.{TabledPlan, IsPlan};
+ghost use Rattle.sabr_model.specs.routes.Arrival.{RouteRequest};
+ghost use Rattle.sabr_model.specs.routes.Route.{is_route};
+ghost use Rattle.sabr_search.specs.questions.Course.{IsCourse};
+ghost use Rattle.sabr_search.specs.answers.Kept.{IsKept};
 
 use crate::answers::Answers;
 use crate::course::Course;
-use crate::looks::Looks;
+use crate::course::shut::Shut;
+use crate::links::looks::Looks;
 use crate::reach::Reach;
-use crate::shut::Shut;
 use sabr_index::Index;
 use sabr_model::{NoMemory, Plan, Request};
 use std::alloc::{Allocator, Global};

@@ -1,6 +1,6 @@
 //! The law of kept answers, as the contract of a function that does nothing.
 
-ghost use Rattle.sabr_search.specs.Answers.{AnswersStay};
+ghost use Rattle.sabr_search.specs.answers.Answers.{AnswersStay};
 
 /// States when the answer to one question is also the answer to a later one. The later one shuts more nodes, starts no
 /// earlier and leaves no more hops; the answer may still be taken and delivers at the same second. If the first

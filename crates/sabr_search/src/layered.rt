@@ -1,21 +1,21 @@
 //! A finder by hop layers.
 
 ghost use Rattle.std.specs.Prelude.{◌≡◌, ◌+◌, ◌*◌, ◌≤◌, IfOk, IsTrue, length};
-ghost use Rattle.sabr_model.specs.Route.{is_prefix};
-ghost use Rattle.sabr_model.specs.Table.{node_count};
-ghost use Rattle.sabr_search.specs.Part.{IsLeast};
-ghost use Rattle.sabr_search.specs.Task.{IsAsked};
-ghost use Rattle.sabr_search.specs.Late.{AreArrivals};
-ghost use Rattle.sabr_search.specs.Told.{hops_told};
+ghost use Rattle.sabr_model.specs.routes.Route.{is_prefix};
+ghost use Rattle.sabr_model.specs.plan.Table.{node_count};
+ghost use Rattle.sabr_search.specs.questions.Part.{IsLeast};
+ghost use Rattle.sabr_search.specs.questions.Task.{IsAsked};
+ghost use Rattle.sabr_search.specs.layers.Late.{AreArrivals};
+ghost use Rattle.sabr_search.specs.questions.Told.{hops_told};
 
+use crate::backward::from_goal::Aim;
+use crate::backward::least_way::MANY_LOOKS;
 use crate::best::BestOf;
 use crate::course::Course;
-use crate::finger::{Excluded, rises};
-use crate::from_goal::Aim;
+use crate::forward::layers::Layers;
 use crate::kept::Kept;
-use crate::layers::Layers;
-use crate::least_way::MANY_LOOKS;
-use crate::looks::Looks;
+use crate::links::finger::{Excluded, rises};
+use crate::links::looks::Looks;
 use crate::part::Part;
 use crate::question::Question;
 use crate::task::Task;

@@ -2,36 +2,21 @@
 #![tactic(auto)]
 
 mod answers;
+mod backward;
 mod best;
-mod closed;
 mod course;
-mod deadlines;
-mod finger;
-mod first_steps;
 mod fitting;
-mod from_goal;
+mod forward;
 mod kept;
-mod latest;
 mod laws;
 mod layered;
-mod layers;
-mod least_link;
-mod least_way;
-mod leave_link;
-mod looks;
-mod over_link;
+mod links;
 mod part;
-mod payoff;
-mod pick;
 mod question;
-mod queue;
 mod reach;
 mod search;
 mod settled;
-mod settling;
-mod shut;
 mod task;
-mod wide;
 
 pub use best::BestOf;
 pub use fitting::fits;

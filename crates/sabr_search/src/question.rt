@@ -1,12 +1,12 @@
 //! A question after a prefix.
 
 ghost use Rattle.std.specs.Prelude.{◌≡◌, ◌++◌, ◌+◌, ◌-◌, ◌^◌, ◌≤◌, IfOk, OnErr, length};
-ghost use Rattle.sabr_search.specs.Task.{IsAsked, left_of};
-ghost use Rattle.sabr_search.specs.KeptAnswers.{IsFoundWay};
-ghost use Rattle.sabr_search.specs.Answers.{IsAnswered};
-ghost use Rattle.sabr_search.specs.Told.{hops_told};
+ghost use Rattle.sabr_search.specs.questions.Task.{IsAsked, left_of};
+ghost use Rattle.sabr_search.specs.answers.KeptAnswers.{IsFoundWay};
+ghost use Rattle.sabr_search.specs.answers.Answers.{IsAnswered};
+ghost use Rattle.sabr_search.specs.questions.Told.{hops_told};
 
-use crate::looks::Looks;
+use crate::links::looks::Looks;
 use crate::task::Task;
 use sabr_model::{MOST_HOPS, NoMemory, Route};
 use std::alloc::Allocator;

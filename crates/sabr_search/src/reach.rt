@@ -1,14 +1,14 @@
 //! What bounds every search of a session, over the whole graph.
 
 ghost use Rattle.std.specs.Prelude.{ℕ, ◌≤◌, ◌^◌, IfOk};
-ghost use Rattle.sabr_model.specs.Plan.{TabledPlan};
-ghost use Rattle.sabr_model.specs.Arrival.{RouteRequest};
-ghost use Rattle.sabr_search.specs.Reach.{IsReach};
+ghost use Rattle.sabr_model.specs.plan.Plan.{TabledPlan};
+ghost use Rattle.sabr_model.specs.routes.Arrival.{RouteRequest};
+ghost use Rattle.sabr_search.specs.layers.Reach.{IsReach};
 
+use crate::backward::latest::latest_of;
 use crate::course::Course;
-use crate::finger::Excluded;
-use crate::latest::latest_of;
-use crate::looks::Looks;
+use crate::links::finger::Excluded;
+use crate::links::looks::Looks;
 use crate::task::Task;
 use sabr_index::Index;
 use sabr_model::{NoMemory, Request};

@@ -1,18 +1,18 @@
 //! One search for the least way of a question.
 
 ghost use Rattle.std.specs.Prelude.{◌+◌, ◌*◌, ◌^◌, ◌≤◌, ◌<◌, Some, IfOk, IfSome, IfNone, length};
-ghost use Rattle.sabr_search.specs.Task.{IsTask, most_nodes};
-ghost use Rattle.sabr_search.specs.KeptAnswers.{IsFoundWay};
-ghost use Rattle.sabr_search.specs.Late.{AreArrivals};
-ghost use Rattle.sabr_search.specs.Settling.{IsBound, IsFirstWay};
+ghost use Rattle.sabr_search.specs.questions.Task.{IsTask, most_nodes};
+ghost use Rattle.sabr_search.specs.answers.KeptAnswers.{IsFoundWay};
+ghost use Rattle.sabr_search.specs.layers.Late.{AreArrivals};
+ghost use Rattle.sabr_search.specs.layers.Settling.{IsBound, IsFirstWay};
 
-use crate::from_goal::Aim;
-use crate::layers::{Best, Layers};
-use crate::least_way::FoundWay;
-use crate::looks::Looks;
-use crate::pick::Standing;
+use crate::backward::from_goal::Aim;
+use crate::backward::least_way::FoundWay;
+use crate::backward::pick::Standing;
+use crate::forward::layers::{Best, Layers};
+use crate::forward::settling::{Forward, Settling};
+use crate::links::looks::Looks;
 use crate::reach::Reach;
-use crate::settling::{Forward, Settling};
 use crate::task::Task;
 use sabr_model::NoMemory;
 use std::alloc::Allocator;

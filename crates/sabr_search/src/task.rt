@@ -2,21 +2,21 @@
 
 ghost use Rattle.std.specs.Prelude.{◌≡◌, ℕ, ◌≤◌, ◌<◌, ◌+◌, ◌*◌, ◌^◌, Some, IfSome, IfNone, IsTrue, false, true, length};
 ghost use Rattle.std.specs.List.Sorted.{IsStrictlyIncreasing};
-ghost use Rattle.sabr_model.specs.Arrival.{cost};
-ghost use Rattle.sabr_model.specs.Plan.{has, most_light};
-ghost use Rattle.sabr_model.specs.Route.{until_of, entry_of};
-ghost use Rattle.sabr_model.specs.Hops.{hop_arrival, IsSmall};
-ghost use Rattle.sabr_search.specs.Task.{IsTask, task_of};
-ghost use Rattle.sabr_search.specs.Answers.{narrowed};
-ghost use Rattle.sabr_search.specs.FirstSteps.{tabled_of};
-ghost use Rattle.sabr_search.specs.KeptAnswers.{AreListed, Arrives};
-ghost use Rattle.sabr_search.specs.Linked.{AreLinksAt, AreSendersAt};
+ghost use Rattle.sabr_model.specs.routes.Arrival.{cost};
+ghost use Rattle.sabr_model.specs.plan.Plan.{has, most_light};
+ghost use Rattle.sabr_model.specs.routes.Route.{until_of, entry_of};
+ghost use Rattle.sabr_model.specs.routes.Hops.{hop_arrival, IsSmall};
+ghost use Rattle.sabr_search.specs.questions.Task.{IsTask, task_of};
+ghost use Rattle.sabr_search.specs.answers.Answers.{narrowed};
+ghost use Rattle.sabr_search.specs.questions.FirstSteps.{tabled_of};
+ghost use Rattle.sabr_search.specs.answers.KeptAnswers.{AreListed, Arrives};
+ghost use Rattle.sabr_search.specs.questions.Linked.{AreLinksAt, AreSendersAt};
 
+use crate::backward::pick::Standing;
 use crate::course::Course;
-use crate::finger::{Excluded, Finger};
-use crate::looks::Looks;
-use crate::pick::Standing;
-use crate::shut::Shut;
+use crate::course::shut::Shut;
+use crate::links::finger::{Excluded, Finger};
+use crate::links::looks::Looks;
 use sabr_index::{Index, Links, Pass, Senders};
 use sabr_model::{Hop, Plan, Request, Route, Told};
 use std::alloc::Allocator;
@@ -47,7 +47,7 @@ pub struct Task<'a, A: Allocator + Copy> {
 impl<'a, A: Allocator + Copy> Model for Task<'a, A> {
     ghost use Rattle.std.specs.Prelude.{◌≡◌, true};
     ghost use Rattle.std.specs.List.Sorted.{IsStrictlyIncreasing};
-    ghost use Rattle.sabr_search.specs.Task.{SearchTask};
+    ghost use Rattle.sabr_search.specs.questions.Task.{SearchTask};
 
     ghost Value = { SearchTask };
 

@@ -1,8 +1,8 @@
 -- Pieces of a session text, fed one after the other, are one text.
 use Rattle.std.specs.Prelude.{◌≡◌, ◌≢◌, ℕ, true, false, List, [], ◌∷◌, ◌++◌, flat_map, Result, Ok, Err, IfOk, ◌⊎◌}
-use Rattle.sabr_model.specs.Plan.{TabledPlan}
+use Rattle.sabr_model.specs.plan.Plan.{TabledPlan}
 use Rattle.sabr_plan.specs.Words.{lines_of}
-use Rattle.sabr_frontier.specs.Session.{Seen}
+use Rattle.sabr_frontier.specs.session.Session.{Seen}
 use Rattle.sabr_session.specs.SessionFed.{OpenText, opened_over, IsFed, IsFinished, IsSessionFrom}
 use Rattle.sabr_session.specs.SessionGiven.{said_over}
 use Rattle.sabr_session.specs.declared.session_fault.SessionFault.{SessionFault}

@@ -1,7 +1,7 @@
 -- The report: the routes of a page, a line for each, and whether the list goes on.
 use Rattle.std.specs.Prelude.{ℕ, ◌+◌, ◌≤◌, Bool, List, [], ◌∷◌, ◌++◌, length, decimal, codes, if◌then◌else◌}
 use Rattle.std.specs.List.{concat}
-use Rattle.sabr_model.specs.Record.{RouteRecord}
+use Rattle.sabr_model.specs.routes.Record.{RouteRecord}
 use Rattle.sabr_plan.specs.Times.{last_spelled, time_text_of}
 use Rattle.sabr_session.specs.SpacedNumbers.{spaced_by}
 

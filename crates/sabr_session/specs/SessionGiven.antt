@@ -2,9 +2,9 @@
 use Rattle.std.specs.Prelude.{◌≡◌, ◌≢◌, ℕ, ◌+◌, Bool, true, false, List, ◌++◌, Result, Ok, Err, ◌⊎◌}
 use Rattle.std.specs.Io.KnownBytes.{Consumes, IsAtEnd}
 use Rattle.sabr_model.specs.Devices.{Input}
-use Rattle.sabr_model.specs.Plan.{TabledPlan}
+use Rattle.sabr_model.specs.plan.Plan.{TabledPlan}
 use Rattle.sabr_plan.specs.Canonical.{digest_of}
-use Rattle.sabr_frontier.specs.Session.{Seen}
+use Rattle.sabr_frontier.specs.session.Session.{Seen}
 use Rattle.sabr_session.specs.SessionRead.{Said, said_of}
 use Rattle.sabr_session.specs.SessionFed.{IsSessionFrom}
 use Rattle.sabr_session.specs.declared.session_fault.SessionFault.{SessionFault}

@@ -4,9 +4,9 @@ use Rattle.std.specs.List.{list_all}
 use Rattle.std.specs.Str.{bytes_eq}
 use Rattle.std.specs.declared.option.Option.{Option}
 use Rattle.std.specs.declared.option.Option.TheVariants.{Some, None}
-use Rattle.sabr_model.specs.Asking.{most_hops}
+use Rattle.sabr_model.specs.routes.Asking.{most_hops}
 use Rattle.sabr_plan.specs.Times.{time_of}
-use Rattle.sabr_frontier.specs.State.{PartState}
+use Rattle.sabr_frontier.specs.listing.State.{PartState}
 use Rattle.sabr_session.specs.SessionWords.{words_of, contacts_of, nodes_of, is_slash, before_slash, after_slash}
 use Rattle.sabr_plan.specs.Numbers.{number_within}
 use Rattle.sabr_session.specs.declared.reading.first_lines.Version.{Version}

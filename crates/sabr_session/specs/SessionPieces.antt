@@ -1,11 +1,11 @@
 -- The pieces that make up a session's text.
 use Rattle.std.specs.Prelude.{ℕ, List, [], ◌∷◌, length, decimal, codes}
 use Rattle.std.specs.Option.{option_map}
-use Rattle.sabr_model.specs.Arrival.{RouteRequest}
+use Rattle.sabr_model.specs.routes.Arrival.{RouteRequest}
 use Rattle.sabr_plan.specs.Times.{time_text_of}
-use Rattle.sabr_frontier.specs.State.{PartState, State}
-use Rattle.sabr_frontier.specs.Session.{PartTold}
-use Rattle.sabr_frontier.specs.Shape.{numbers_of}
+use Rattle.sabr_frontier.specs.listing.State.{PartState, State}
+use Rattle.sabr_frontier.specs.session.Session.{PartTold}
+use Rattle.sabr_frontier.specs.tree.Shape.{numbers_of}
 use Rattle.sabr_session.specs.SpacedNumbers.{list_text}
 use Rattle.sabr_session.specs.SessionText.{part_line}
 

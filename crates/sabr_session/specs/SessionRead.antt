@@ -5,18 +5,18 @@ use Rattle.std.specs.Str.{bytes_eq}
 use Rattle.std.specs.declared.option.Option.{Option}
 use Rattle.std.specs.declared.option.Option.TheVariants.{Some, None}
 use Rattle.hex.specs.Hex.{encode_lower}
-use Rattle.sabr_model.specs.Plan.{ContactPlan, rises_above}
+use Rattle.sabr_model.specs.plan.Plan.{ContactPlan, rises_above}
 use Rattle.sabr_model.specs.Order.{numbers_before}
-use Rattle.sabr_model.specs.Parts.{in_part}
-use Rattle.sabr_model.specs.Arrival.{RouteRequest}
-use Rattle.sabr_model.specs.Asking.{request_refusal, limit_refusal, unlimited, with_limits}
-use Rattle.sabr_model.specs.Route.{is_path, is_prefix, is_route}
+use Rattle.sabr_model.specs.routes.Parts.{in_part}
+use Rattle.sabr_model.specs.routes.Arrival.{RouteRequest}
+use Rattle.sabr_model.specs.routes.Asking.{request_refusal, limit_refusal, unlimited, with_limits}
+use Rattle.sabr_model.specs.routes.Route.{is_path, is_prefix, is_route}
 use Rattle.sabr_plan.specs.Steps.{and_then, given_as}
 use Rattle.sabr_plan.specs.Words.{has_bytes, lines_of}
-use Rattle.sabr_frontier.specs.State.{PartState, State, pair_of}
-use Rattle.sabr_frontier.specs.Formed.{IsClosed}
-use Rattle.sabr_frontier.specs.Listing.{IsState}
-use Rattle.sabr_frontier.specs.Undo.{last_item}
+use Rattle.sabr_frontier.specs.listing.State.{PartState, State, pair_of}
+use Rattle.sabr_frontier.specs.listing.Formed.{IsClosed}
+use Rattle.sabr_frontier.specs.listing.Listing.{IsState}
+use Rattle.sabr_frontier.specs.tree.Undo.{last_item}
 use Rattle.sabr_session.specs.SessionLines.{header_of, digest_named, request_of, emitted_of, last_listed, count_of, part_of, is_end}
 use Rattle.sabr_session.specs.declared.reading.first_lines.Version.{Version}
 use Rattle.sabr_session.specs.declared.reading.first_lines.Version.TheVariants.{Two}

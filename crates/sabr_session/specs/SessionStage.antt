@@ -1,11 +1,11 @@
 -- What the lines of a session text lead to, from the request on.
 use Rattle.std.specs.Prelude.{◌≡◌, ℕ, Bool, true, false, List, [], Option, Some, None, unwrap_or}
-use Rattle.sabr_model.specs.Plan.{TabledPlan}
-use Rattle.sabr_model.specs.Arrival.{RouteRequest}
-use Rattle.sabr_model.specs.Asking.{unlimited}
-use Rattle.sabr_frontier.specs.State.{PartState}
-use Rattle.sabr_frontier.specs.Session.{Seen}
-use Rattle.sabr_frontier.specs.Loading.{Loaded, state_with}
+use Rattle.sabr_model.specs.plan.Plan.{TabledPlan}
+use Rattle.sabr_model.specs.routes.Arrival.{RouteRequest}
+use Rattle.sabr_model.specs.routes.Asking.{unlimited}
+use Rattle.sabr_frontier.specs.listing.State.{PartState}
+use Rattle.sabr_frontier.specs.session.Session.{Seen}
+use Rattle.sabr_frontier.specs.loading.Loading.{Loaded, state_with}
 use Rattle.sabr_session.specs.SessionRead.{Said, nothing_said}
 
 -- the plan; how often the finder was called; whether there is a request; the request, and the parts so far

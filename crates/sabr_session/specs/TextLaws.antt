@@ -1,11 +1,11 @@
 -- Laws of session texts.
 use Rattle.std.specs.Prelude.{◌≡◌, ℕ, Bool, true, List, Result, Ok}
-use Rattle.sabr_model.specs.Plan.{ContactPlan, IsPlan}
-use Rattle.sabr_model.specs.Arrival.{RouteRequest}
-use Rattle.sabr_model.specs.Asking.{IsRequest}
+use Rattle.sabr_model.specs.plan.Plan.{ContactPlan, IsPlan}
+use Rattle.sabr_model.specs.routes.Arrival.{RouteRequest}
+use Rattle.sabr_model.specs.routes.Asking.{IsRequest}
 use Rattle.sabr_plan.specs.Canonical.{digest_of}
-use Rattle.sabr_frontier.specs.State.{State}
-use Rattle.sabr_frontier.specs.Listing.{IsState}
+use Rattle.sabr_frontier.specs.listing.State.{State}
+use Rattle.sabr_frontier.specs.listing.Listing.{IsState}
 use Rattle.sabr_session.specs.SessionText.{text_of, old_text_of, HasText, IsUnlimited}
 use Rattle.sabr_session.specs.SessionRead.{IsSessionOf}
 use Rattle.sabr_session.specs.declared.session_fault.SessionFault.{SessionFault}

@@ -2,12 +2,12 @@
 use Rattle.std.specs.Prelude.{◌≡◌, ◌≢◌, ℕ, ◌+◌, ◌≤◌, Bool, false, IsTrue, ◌↔◌, ◌⊎◌, List, ◌++◌, length, Result, Ok, Err}
 use Rattle.std.specs.Io.KnownBytes.{Consumes, IsAtEnd}
 use Rattle.sabr_model.specs.Devices.{Input}
-use Rattle.sabr_model.specs.Plan.{ContactPlan}
-use Rattle.sabr_model.specs.Arrival.{RouteRequest}
-use Rattle.sabr_model.specs.Asking.{IsRequest}
-use Rattle.sabr_model.specs.Listing.{routes}
+use Rattle.sabr_model.specs.plan.Plan.{ContactPlan}
+use Rattle.sabr_model.specs.routes.Arrival.{RouteRequest}
+use Rattle.sabr_model.specs.routes.Asking.{IsRequest}
+use Rattle.sabr_model.specs.routes.Listing.{routes}
 use Rattle.sabr_plan.specs.Canonical.{digest_of}
-use Rattle.sabr_frontier.specs.Listing.{state_at}
+use Rattle.sabr_frontier.specs.listing.Listing.{state_at}
 use Rattle.sabr_session.specs.SessionText.{HasText, IsUnlimited, session_text, old_session_text}
 use Rattle.sabr_session.specs.SessionRead.{said_of}
 use Rattle.sabr_session.specs.declared.session_fault.SessionFault.{SessionFault}

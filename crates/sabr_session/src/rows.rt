@@ -2,7 +2,7 @@
 
 ghost use Rattle.std.specs.Prelude.{◌≡◌};
 ghost use Rattle.sabr_model.specs.Rows.{from_1_to_3};
-ghost use Rattle.sabr_frontier.specs.Rows.{start_of_a, a_after_1, a_after_2, a_after_3};
+ghost use Rattle.sabr_frontier.specs.listing.Rows.{start_of_a, a_after_1, a_after_2, a_after_3};
 ghost use Rattle.sabr_session.specs.SessionText.{text_of, old_text_of};
 ghost use Rattle.sabr_session.specs.SessionRows.{digest_of_a, start_text_of_a, text_of_a_after_1, text_of_a_after_2, text_of_a_after_3, old_text_of_a_after_2};
 

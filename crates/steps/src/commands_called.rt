@@ -1,7 +1,7 @@
 //! The steps that run a command over the plan's text and the session's text.
 
 ghost use Rattle.std.specs.Prelude.{◌≤◌, IfSome};
-ghost use Rattle.sabr_frontier.specs.Listing.{most_routes};
+ghost use Rattle.sabr_frontier.specs.listing.Listing.{most_routes};
 
 use crate::answers::refused;
 use crate::desk::Desk;

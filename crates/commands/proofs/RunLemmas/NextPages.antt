@@ -2,24 +2,24 @@
 use Rattle.std.proofs.Common.{◌≡◌, ℕ, ◌+◌, ◌≤◌, Bool, true, false, List, ◌++◌, length, map, append-nil, refl, sym, ap, subst, ◌∙◌, ◌⊎◌, inl, inr, Option, Some, None, Result, Ok, Err}
 use Rattle.std.specs.Io.KnownBytes.{Consumes, IsAtEnd}
 use Rattle.sabr_model.specs.Devices.{Input, Output}
-use Rattle.sabr_model.specs.Plan.{ContactPlan, TabledPlan, IsPlan}
-use Rattle.sabr_model.specs.Arrival.{RouteRequest}
-use Rattle.sabr_model.specs.Asking.{IsRequest}
-use Rattle.sabr_model.specs.Listing.{routes, page_of}
-use Rattle.sabr_model.specs.Record.{record_of}
+use Rattle.sabr_model.specs.plan.Plan.{ContactPlan, TabledPlan, IsPlan}
+use Rattle.sabr_model.specs.routes.Arrival.{RouteRequest}
+use Rattle.sabr_model.specs.routes.Asking.{IsRequest}
+use Rattle.sabr_model.specs.routes.Listing.{routes, page_of}
+use Rattle.sabr_model.specs.routes.Record.{record_of}
 use Rattle.sabr_plan.specs.Canonical.{digest_of}
-use Rattle.sabr_frontier.specs.State.{State}
-use Rattle.sabr_frontier.specs.Session.{Seen}
-use Rattle.sabr_frontier.specs.Listing.{state_at, steps}
-use Rattle.sabr_frontier.proofs.Lawful.{steps_follow}
-use Rattle.sabr_frontier.proofs.PlacesFormed.{emitted_at}
+use Rattle.sabr_frontier.specs.listing.State.{State}
+use Rattle.sabr_frontier.specs.session.Session.{Seen}
+use Rattle.sabr_frontier.specs.listing.Listing.{state_at, steps}
+use Rattle.sabr_frontier.proofs.ListingLemmas.Lawful.{steps_follow}
+use Rattle.sabr_frontier.proofs.ListingLemmas.PlacesFormed.{emitted_at}
 use Rattle.sabr_session.specs.ReportText.{report_text}
 use Rattle.sabr_session.specs.SessionRead.{Said, ComesTo, IsSessionOf}
 use Rattle.sabr_session.specs.SessionGiven.{ReadsSession, said_over}
 use Rattle.sabr_session.specs.Verifying.{IsSessionText}
 use Rattle.sabr_session.specs.declared.session_fault.SessionFault.{SessionFault}
 use Rattle.sabr_session.specs.declared.session_fault.SessionFault.TheVariants as fault
-use Rattle.sabr_session.proofs.OneAnswer.{answers_once}
+use Rattle.sabr_session.proofs.TextLemmas.OneAnswer.{answers_once}
 use Rattle.commands.specs.declared.failure.Failure.{Failure}
 use Rattle.commands.specs.declared.failure.Failure.TheVariants as failure
 use Rattle.commands.specs.texts.Messages.{failure_of_session}

@@ -1,8 +1,8 @@
 -- What a session shows that was read over a plan.
 use Rattle.std.proofs.Common.{◌≡◌, Ok, ap, inl, inr}
 use Rattle.sabr_model.specs.Devices.{Input}
-use Rattle.sabr_model.specs.Plan.{TabledPlan}
-use Rattle.sabr_frontier.specs.Session.{Seen}
+use Rattle.sabr_model.specs.plan.Plan.{TabledPlan}
+use Rattle.sabr_frontier.specs.session.Session.{Seen}
 use Rattle.sabr_session.specs.SessionGiven.{ReadsSession}
 
 -- it is over that plan

@@ -5,12 +5,12 @@ use Rattle.std.specs.Result.{IsErrAnd}
 use Rattle.std.specs.Io.KnownBytes.{Keeps}
 use Rattle.std.proofs.KnownBytes.{Appends-kept}
 use Rattle.sabr_model.specs.Devices.{Output, Written, WrittenAndFlushed, WrittenInPart}
-use Rattle.sabr_model.specs.Plan.{ContactPlan}
-use Rattle.sabr_model.specs.Arrival.{RouteRequest}
-use Rattle.sabr_model.specs.Record.{RouteRecord, record_of}
-use Rattle.sabr_frontier.specs.State.{State}
-use Rattle.sabr_frontier.specs.Listing.{steps, next_route}
-use Rattle.sabr_frontier.specs.Session.{Seen}
+use Rattle.sabr_model.specs.plan.Plan.{ContactPlan}
+use Rattle.sabr_model.specs.routes.Arrival.{RouteRequest}
+use Rattle.sabr_model.specs.routes.Record.{RouteRecord, record_of}
+use Rattle.sabr_frontier.specs.listing.State.{State}
+use Rattle.sabr_frontier.specs.listing.Listing.{steps, next_route}
+use Rattle.sabr_frontier.specs.session.Session.{Seen}
 use Rattle.sabr_plan.specs.Canonical.{digest_of}
 use Rattle.sabr_session.specs.ReportText.{report_text}
 use Rattle.sabr_session.specs.SessionText.{text_of}

@@ -1,14 +1,14 @@
 -- After any pages, refusals and steps back a session is that of the pages not taken back.
 use Rattle.std.proofs.Common.{◌≡◌, ℕ, zero, suc, ◌+◌, ◌≤◌, List, [], ◌∷◌, length, refl, sym, ap, subst, ◌∙◌, arith, length-append, Option, Some, None}
-use Rattle.sabr_model.specs.Plan.{ContactPlan, IsPlan}
-use Rattle.sabr_model.specs.Arrival.{RouteRequest}
-use Rattle.sabr_model.specs.Asking.{IsRequest}
-use Rattle.sabr_model.specs.Listing.{routes, page_of}
-use Rattle.sabr_frontier.specs.State.{State}
-use Rattle.sabr_frontier.specs.Listing.{state_at, steps, one_step}
-use Rattle.sabr_frontier.specs.Session.{Seen, former_then}
-use Rattle.sabr_frontier.proofs.Lawful.{steps_follow}
-use Rattle.sabr_frontier.proofs.Pages.{steps_stop, steps_go, steps_none}
+use Rattle.sabr_model.specs.plan.Plan.{ContactPlan, IsPlan}
+use Rattle.sabr_model.specs.routes.Arrival.{RouteRequest}
+use Rattle.sabr_model.specs.routes.Asking.{IsRequest}
+use Rattle.sabr_model.specs.routes.Listing.{routes, page_of}
+use Rattle.sabr_frontier.specs.listing.State.{State}
+use Rattle.sabr_frontier.specs.listing.Listing.{state_at, steps, one_step}
+use Rattle.sabr_frontier.specs.session.Session.{Seen, former_then}
+use Rattle.sabr_frontier.proofs.ListingLemmas.Lawful.{steps_follow}
+use Rattle.sabr_frontier.proofs.SessionLemmas.Pages.{steps_stop, steps_go, steps_none}
 use Rattle.commands.specs.runs.PagesLeft.{Act, paged, refused, back, no_back, Leaves, LeaveInTurn, without_latest, pages_left, after_pages, all_asked, PagesStand}
 use Rattle.commands.proofs.RunLemmas.RunsFollow.{next_within, pages_joined}
 

@@ -10,16 +10,16 @@ use Rattle.std.proofs.lemmas.List.{take-append-drop, take_all}
 use Rattle.sabr_model.specs.declared.contact.Contact.{Contact}
 use Rattle.sabr_model.specs.declared.fault.HopFault.{HopFault}
 use Rattle.sabr_model.specs.declared.fault.HopFault.TheVariants.{Empty, NoSuchContact, NotChained, NodeAgain, NoLight, TooLate, WrongEnd, AvoidedNode, TooManyHops}
-use Rattle.sabr_model.specs.Plan.{ContactPlan, IsPlan, contact_named, has}
-use Rattle.sabr_model.specs.Light.{light_of}
-use Rattle.sabr_model.specs.Arrival.{RouteRequest, arrival, arrival_after, cost}
-use Rattle.sabr_model.specs.Asking.{IsRequest}
-use Rattle.sabr_model.specs.Route.{chain_end, receivers, ends_at, is_path, is_route, delivery_of, until_of, entry_of}
-use Rattle.sabr_model.specs.Record.{record_of}
-use Rattle.sabr_model.specs.Fault.{contact_fault, fault_at, fault_or, first_fault, fault_of}
-use Rattle.sabr_model.proofs.Paths.{beginning_is_path, hop_facts, arrival_after_push}
-use Rattle.sabr_model.proofs.Prefixes.{empty_is_path}
-use Rattle.sabr_model.proofs.Faults.{hop_is_good, good_is_path, path_is_good, route_has_no_fault, fault_is_no_route}
+use Rattle.sabr_model.specs.plan.Plan.{ContactPlan, IsPlan, contact_named, has}
+use Rattle.sabr_model.specs.plan.Light.{light_of}
+use Rattle.sabr_model.specs.routes.Arrival.{RouteRequest, arrival, arrival_after, cost}
+use Rattle.sabr_model.specs.routes.Asking.{IsRequest}
+use Rattle.sabr_model.specs.routes.Route.{chain_end, receivers, ends_at, is_path, is_route, delivery_of, until_of, entry_of}
+use Rattle.sabr_model.specs.routes.Record.{record_of}
+use Rattle.sabr_model.specs.routes.Fault.{contact_fault, fault_at, fault_or, first_fault, fault_of}
+use Rattle.sabr_model.proofs.RouteLemmas.Paths.{beginning_is_path, hop_facts, arrival_after_push}
+use Rattle.sabr_model.proofs.RouteLemmas.Prefixes.{empty_is_path}
+use Rattle.sabr_model.proofs.RouteLemmas.Faults.{hop_is_good, good_is_path, path_is_good, route_has_no_fault, fault_is_no_route}
 use Rattle.sabr_plan.specs.Times.{last_spelled}
 use Rattle.sabr_session.specs.ReportText.{route_line}
 use Rattle.commands.specs.texts.Explanation.{hop_line, line_after, hop_lines, fault_line, ending_line}

@@ -8,15 +8,15 @@ use Rattle.std.specs.declared.option.Option.TheVariants.{Some, None}
 use Rattle.std.proofs.lemmas.Nat.{mul-le}
 use Rattle.std.proofs.lemmas.Bool.{ltb-true}
 use Rattle.sabr_model.specs.declared.contact.Contact.{Contact}
-use Rattle.sabr_model.specs.Plan.{ContactPlan, IsPlan, IsWindow, contact_named, last_time}
-use Rattle.sabr_model.specs.Light.{light_of}
-use Rattle.sabr_model.specs.Arrival.{RouteRequest, cost, arrival, arrival_after}
-use Rattle.sabr_model.specs.Asking.{IsRequest}
-use Rattle.sabr_model.specs.Route.{contacts_of}
-use Rattle.sabr_model.specs.Record.{record_of}
-use Rattle.sabr_model.proofs.Deletions.{all_found}
-use Rattle.sabr_model.proofs.RangeLemmas.{all_at}
-use Rattle.sabr_model.proofs.RangeKeys.{light_of_limit}
+use Rattle.sabr_model.specs.plan.Plan.{ContactPlan, IsPlan, IsWindow, contact_named, last_time}
+use Rattle.sabr_model.specs.plan.Light.{light_of}
+use Rattle.sabr_model.specs.routes.Arrival.{RouteRequest, cost, arrival, arrival_after}
+use Rattle.sabr_model.specs.routes.Asking.{IsRequest}
+use Rattle.sabr_model.specs.routes.Route.{contacts_of}
+use Rattle.sabr_model.specs.routes.Record.{record_of}
+use Rattle.sabr_model.proofs.PlanLemmas.ContactLemmas.Deletions.{all_found}
+use Rattle.sabr_model.proofs.PlanLemmas.ContactLemmas.RangeLemmas.{all_at}
+use Rattle.sabr_model.proofs.PlanLemmas.ContactLemmas.RangeKeys.{light_of_limit}
 use Rattle.sabr_session.specs.ReportText.{HasSpelledTimes}
 
 -- a light time and its margin make at most 2000000 seconds

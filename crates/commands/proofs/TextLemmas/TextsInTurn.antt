@@ -2,8 +2,8 @@
 use Rattle.std.proofs.Common.{◌≡◌, ℕ, ◌+◌, ◌<◌, List, Result, Ok, Err, Bor, length, get_or, take}
 use Rattle.std.specs.Result.{IsErr}
 use Rattle.sabr_model.specs.Devices.{Output, Written, WrittenInPart, WritesText}
-use Rattle.sabr_model.proofs.WrittenTexts.{Written-append, WrittenInPart-after, WrittenInPart-more}
-use Rattle.sabr_session.proofs.Pieces.{joined, joined-more, joined-at}
+use Rattle.sabr_model.proofs.ListLemmas.WrittenTexts.{Written-append, WrittenInPart-after, WrittenInPart-more}
+use Rattle.sabr_session.proofs.TextLemmas.Pieces.{joined, joined-more, joined-at}
 
 -- one more text was taken
 pub Written-more : (a b c : Output) (xs : List (Bor (List ℕ))) (i : ℕ) (d : Bor (List ℕ)) (text : List ℕ) → i < length xs

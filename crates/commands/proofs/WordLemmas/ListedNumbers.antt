@@ -6,7 +6,7 @@ use Rattle.std.specs.Prelude.{option_and_then, nat_le, if◌then◌else◌}
 use Rattle.std.specs.declared.option.Option.{Option}
 use Rattle.std.specs.declared.option.Option.TheVariants.{Some, None}
 use Rattle.sabr_session.specs.SessionWords.{all_of}
-use Rattle.sabr_session.proofs.ReadNumbers.{with_front, with_front-on}
+use Rattle.sabr_session.proofs.WordLemmas.ReadNumbers.{with_front, with_front-on}
 
 -- at most 16 of them
 abbrev pub few : Option (List ℕ) → Option (List ℕ)

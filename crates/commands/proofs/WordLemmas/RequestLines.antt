@@ -1,6 +1,6 @@
 -- The lines of a text of requests.
 use Rattle.std.proofs.Common.{◌≡◌, ℕ, ◌+◌, ◌<◌, List, [], ◌∷◌, length, refl, ap, sym, ◌∙◌, arith, Result, Ok, Err, Option, Some, None}
-use Rattle.sabr_model.specs.Arrival.{RouteRequest}
+use Rattle.sabr_model.specs.routes.Arrival.{RouteRequest}
 use Rattle.commands.specs.declared.words.requests_fault.RequestKind.{RequestKind}
 use Rattle.commands.specs.declared.words.requests_fault.RequestsFault.{RequestsFault}
 use Rattle.commands.specs.declared.words.requests_fault.RequestsFault.TheVariants.{Line}

@@ -1,12 +1,12 @@
 -- Runs of a session: what happens to it, where that leads, and what every run gives of the listing.
 use Rattle.std.specs.Prelude.{◌≡◌, ℕ, ◌+◌, nat_lt, true, is_some, List, [], ◌∷◌, ◌++◌, length, Ok}
-use Rattle.sabr_model.specs.Plan.{ContactPlan, IsPlan}
-use Rattle.sabr_model.specs.Arrival.{RouteRequest}
-use Rattle.sabr_model.specs.Asking.{IsRequest}
-use Rattle.sabr_model.specs.Listing.{routes, page_of}
+use Rattle.sabr_model.specs.plan.Plan.{ContactPlan, IsPlan}
+use Rattle.sabr_model.specs.routes.Arrival.{RouteRequest}
+use Rattle.sabr_model.specs.routes.Asking.{IsRequest}
+use Rattle.sabr_model.specs.routes.Listing.{routes, page_of}
 use Rattle.sabr_plan.specs.Canonical.{digest_of}
-use Rattle.sabr_frontier.specs.State.{State}
-use Rattle.sabr_frontier.specs.Listing.{state_at, steps, next_route}
+use Rattle.sabr_frontier.specs.listing.State.{State}
+use Rattle.sabr_frontier.specs.listing.Listing.{state_at, steps, next_route}
 use Rattle.sabr_session.specs.SessionText.{text_of, HasText, session_text}
 use Rattle.sabr_session.specs.SessionRead.{IsSessionOf}
 use Rattle.sabr_session.specs.Verifying.{IsSessionText}

@@ -1,12 +1,12 @@
 -- What a run `next` leaves over the session text of a place of the listing.
 use Rattle.std.specs.Prelude.{◌≡◌, ℕ, ◌+◌, nat_lt, Bool, IsTrue, ◌⊎◌, List, length, map, Some, Result, Ok, Err, IfOk}
 use Rattle.sabr_model.specs.Devices.{Input, Output}
-use Rattle.sabr_model.specs.Plan.{ContactPlan, TabledPlan, IsPlan}
-use Rattle.sabr_model.specs.Arrival.{RouteRequest}
-use Rattle.sabr_model.specs.Listing.{routes, page_of}
-use Rattle.sabr_model.specs.Record.{record_of}
-use Rattle.sabr_frontier.specs.Session.{Seen}
-use Rattle.sabr_frontier.specs.Listing.{state_at}
+use Rattle.sabr_model.specs.plan.Plan.{ContactPlan, TabledPlan, IsPlan}
+use Rattle.sabr_model.specs.routes.Arrival.{RouteRequest}
+use Rattle.sabr_model.specs.routes.Listing.{routes, page_of}
+use Rattle.sabr_model.specs.routes.Record.{record_of}
+use Rattle.sabr_frontier.specs.session.Session.{Seen}
+use Rattle.sabr_frontier.specs.listing.Listing.{state_at}
 use Rattle.sabr_session.specs.ReportText.{report_text}
 use Rattle.sabr_session.specs.SessionText.{session_text}
 use Rattle.sabr_session.specs.Verifying.{IsSessionText}

@@ -1,12 +1,12 @@
 -- What a session is after pages, refusals and steps back, in any order.
 use Rattle.std.specs.Prelude.{◌≡◌, ℕ, ◌+◌, ◌≤◌, List, [], ◌∷◌, length}
-use Rattle.sabr_model.specs.Plan.{ContactPlan, IsPlan}
-use Rattle.sabr_model.specs.Arrival.{RouteRequest}
-use Rattle.sabr_model.specs.Asking.{IsRequest}
-use Rattle.sabr_model.specs.Listing.{routes, page_of}
-use Rattle.sabr_frontier.specs.State.{State}
-use Rattle.sabr_frontier.specs.Listing.{state_at, steps}
-use Rattle.sabr_frontier.specs.Session.{Seen, former_then}
+use Rattle.sabr_model.specs.plan.Plan.{ContactPlan, IsPlan}
+use Rattle.sabr_model.specs.routes.Arrival.{RouteRequest}
+use Rattle.sabr_model.specs.routes.Asking.{IsRequest}
+use Rattle.sabr_model.specs.routes.Listing.{routes, page_of}
+use Rattle.sabr_frontier.specs.listing.State.{State}
+use Rattle.sabr_frontier.specs.listing.Listing.{state_at, steps}
+use Rattle.sabr_frontier.specs.session.Session.{Seen, former_then}
 
 -- what is done to a session: a page of at most so many routes gives these; a page is refused, or the session is
 -- certified; the last page that gave routes is taken back; there is none to take back

@@ -1,10 +1,10 @@
 -- What a run leaves on its writers, over the plan that reading gave.
 use Rattle.std.specs.Prelude.{◌≡◌, ℕ, nat_lt, Bool, List, Result, Ok, Err, map, length, if◌then◌else◌}
 use Rattle.sabr_model.specs.Devices.{Output}
-use Rattle.sabr_model.specs.Plan.{ContactPlan}
-use Rattle.sabr_model.specs.Arrival.{RouteRequest}
-use Rattle.sabr_model.specs.Listing.{routes, page_of}
-use Rattle.sabr_model.specs.Record.{record_of}
+use Rattle.sabr_model.specs.plan.Plan.{ContactPlan}
+use Rattle.sabr_model.specs.routes.Arrival.{RouteRequest}
+use Rattle.sabr_model.specs.routes.Listing.{routes, page_of}
+use Rattle.sabr_model.specs.routes.Record.{record_of}
 use Rattle.sabr_session.specs.ReportText.{report_text}
 use Rattle.commands.specs.declared.status.Status.{Status}
 use Rattle.commands.specs.declared.status.Status.TheVariants as status

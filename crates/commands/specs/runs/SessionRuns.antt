@@ -1,14 +1,14 @@
 -- What a run leaves on its writers that keeps a session, goes on from one, or verifies one.
 use Rattle.std.specs.Prelude.{◌≡◌, ℕ, ◌+◌, ◌⊎◌, Bool, true, false, is_some, IsTrue, List, Result, Ok, Err, map, length, codes, if◌then◌else◌}
-use Rattle.sabr_model.specs.Plan.{ContactPlan, TabledPlan}
-use Rattle.sabr_model.specs.Arrival.{RouteRequest}
-use Rattle.sabr_model.specs.Listing.{page_of}
-use Rattle.sabr_model.specs.Record.{record_of}
+use Rattle.sabr_model.specs.plan.Plan.{ContactPlan, TabledPlan}
+use Rattle.sabr_model.specs.routes.Arrival.{RouteRequest}
+use Rattle.sabr_model.specs.routes.Listing.{page_of}
+use Rattle.sabr_model.specs.routes.Record.{record_of}
 use Rattle.sabr_model.specs.Devices.{Input, Output, WrittenAndFlushed, WrittenInPart}
 use Rattle.sabr_plan.specs.declared.fault.PlanFault.{PlanFault}
-use Rattle.sabr_frontier.specs.State.{State}
-use Rattle.sabr_frontier.specs.Session.{Seen}
-use Rattle.sabr_frontier.specs.Listing.{state_at, steps, next_route}
+use Rattle.sabr_frontier.specs.listing.State.{State}
+use Rattle.sabr_frontier.specs.session.Session.{Seen}
+use Rattle.sabr_frontier.specs.listing.Listing.{state_at, steps, next_route}
 use Rattle.sabr_session.specs.ReportText.{report_text}
 use Rattle.sabr_plan.specs.Canonical.{digest_of}
 use Rattle.sabr_session.specs.SessionText.{text_of, HasText}

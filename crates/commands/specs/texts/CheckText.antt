@@ -3,9 +3,9 @@ use Rattle.std.specs.Prelude.{◌≡◌, ℕ, Bool, List, [], ◌∷◌, ◌++�
 use Rattle.std.specs.List.{concat, filter}
 use Rattle.hex.specs.Hex.{encode_lower}
 use Rattle.sabr_model.specs.declared.contact.Contact.{Contact}
-use Rattle.sabr_model.specs.Plan.{ContactPlan, TabledPlan}
-use Rattle.sabr_model.specs.Light.{light_of}
-use Rattle.sabr_model.specs.Table.{node_count}
+use Rattle.sabr_model.specs.plan.Plan.{ContactPlan, TabledPlan}
+use Rattle.sabr_model.specs.plan.Light.{light_of}
+use Rattle.sabr_model.specs.plan.Table.{node_count}
 use Rattle.sabr_model.specs.Devices.{Output, WrittenAndFlushed, WrittenInPart}
 use Rattle.sabr_plan.specs.declared.fault.PlanFault.{PlanFault}
 use Rattle.sabr_plan.specs.Canonical.{digest_of}

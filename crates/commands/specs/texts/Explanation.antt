@@ -6,11 +6,11 @@ use Rattle.std.specs.declared.option.Option.{Option}
 use Rattle.sabr_model.specs.declared.contact.Contact.{Contact}
 use Rattle.sabr_model.specs.declared.fault.HopFault.{HopFault}
 use Rattle.sabr_model.specs.declared.fault.HopFault.TheVariants.{Empty, NoSuchContact, NotChained, NodeAgain, NoLight, TooLate, WrongEnd, AvoidedNode, TooManyHops}
-use Rattle.sabr_model.specs.Plan.{ContactPlan, TabledPlan, contact_named}
-use Rattle.sabr_model.specs.Arrival.{RouteRequest}
-use Rattle.sabr_model.specs.Route.{delivery_of, is_route}
-use Rattle.sabr_model.specs.Record.{record_of}
-use Rattle.sabr_model.specs.Fault.{fault_at, fault_of}
+use Rattle.sabr_model.specs.plan.Plan.{ContactPlan, TabledPlan, contact_named}
+use Rattle.sabr_model.specs.routes.Arrival.{RouteRequest}
+use Rattle.sabr_model.specs.routes.Route.{delivery_of, is_route}
+use Rattle.sabr_model.specs.routes.Record.{record_of}
+use Rattle.sabr_model.specs.routes.Fault.{fault_at, fault_of}
 use Rattle.sabr_model.specs.Devices.{Output, WrittenAndFlushed, WrittenInPart}
 use Rattle.sabr_plan.specs.Times.{time_text_of}
 use Rattle.sabr_plan.specs.declared.fault.PlanFault.{PlanFault}

@@ -3,10 +3,10 @@ use Rattle.std.specs.Prelude.{◌≡◌, ℕ, ◌-◌, IsTrue, List, Result, Ok,
 use Rattle.std.specs.declared.option.Option.TheVariants.{Some}
 use Rattle.sabr_model.specs.declared.fault.HopFault.{HopFault}
 use Rattle.sabr_model.specs.declared.fault.HopFault.TheVariants.{Empty, NoSuchContact, NotChained, NodeAgain, NoLight, TooLate, WrongEnd, AvoidedNode, TooManyHops}
-use Rattle.sabr_model.specs.Plan.{ContactPlan}
-use Rattle.sabr_model.specs.Arrival.{RouteRequest, arrival_after}
-use Rattle.sabr_model.specs.Route.{is_route}
-use Rattle.sabr_model.specs.Fault.{fault_of}
+use Rattle.sabr_model.specs.plan.Plan.{ContactPlan}
+use Rattle.sabr_model.specs.routes.Arrival.{RouteRequest, arrival_after}
+use Rattle.sabr_model.specs.routes.Route.{is_route}
+use Rattle.sabr_model.specs.routes.Fault.{fault_of}
 
 -- the delivery of a route, or the fault of another list
 abbrev pub Follows : ContactPlan → RouteRequest → List ℕ → Result ℕ HopFault → Type 0

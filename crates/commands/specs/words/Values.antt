@@ -6,11 +6,11 @@ use Rattle.std.specs.declared.option.Option.{Option}
 use Rattle.std.specs.declared.option.Option.TheVariants.{Some, None}
 use Rattle.clap.specs.declared.parser.matches.Found.{Found}
 use Rattle.clap.specs.Matches.{first_value}
-use Rattle.sabr_model.specs.Plan.{IsNode, last_time}
-use Rattle.sabr_model.specs.Arrival.{RouteRequest}
-use Rattle.sabr_model.specs.Asking.{may_avoid, unlimited, with_limits, most_margin, most_hops}
+use Rattle.sabr_model.specs.plan.Plan.{IsNode, last_time}
+use Rattle.sabr_model.specs.routes.Arrival.{RouteRequest}
+use Rattle.sabr_model.specs.routes.Asking.{may_avoid, unlimited, with_limits, most_margin, most_hops}
 use Rattle.sabr_plan.specs.Times.{time_of}
-use Rattle.sabr_frontier.specs.Listing.{most_routes}
+use Rattle.sabr_frontier.specs.listing.Listing.{most_routes}
 use Rattle.commands.specs.declared.words.value_name.ValueName.{ValueName}
 use Rattle.commands.specs.declared.words.value_name.ValueName.TheVariants.{From, To, At, MarginPpm, MaxHops, Avoid, Count, Contacts}
 use Rattle.commands.specs.declared.command.CommandName.{CommandName}

@@ -1,7 +1,7 @@
 //! The run that reports what a plan holds.
 
 ghost use Rattle.std.specs.Prelude.{◌≡◌, Result};
-ghost use Rattle.sabr_model.specs.Plan.{TabledPlan};
+ghost use Rattle.sabr_model.specs.plan.Plan.{TabledPlan};
 ghost use Rattle.sabr_plan.specs.PlanRead.{ReadsPlan};
 ghost use Rattle.sabr_plan.specs.declared.fault.PlanFault.{PlanFault};
 ghost use Rattle.commands.specs.declared.failure.Failure.{Failure};

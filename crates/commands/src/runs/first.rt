@@ -1,10 +1,10 @@
 //! The run that lists the first page, over readers and writers.
 
 ghost use Rattle.std.specs.Prelude.{◌≡◌, ◌≤◌, Result};
-ghost use Rattle.sabr_model.specs.Plan.{TabledPlan};
+ghost use Rattle.sabr_model.specs.plan.Plan.{TabledPlan};
 ghost use Rattle.sabr_plan.specs.PlanRead.{ReadsPlan};
 ghost use Rattle.sabr_plan.specs.declared.fault.PlanFault.{PlanFault};
-ghost use Rattle.sabr_frontier.specs.Listing.{most_routes};
+ghost use Rattle.sabr_frontier.specs.listing.Listing.{most_routes};
 ghost use Rattle.commands.specs.declared.failure.Failure.{Failure};
 ghost use Rattle.commands.specs.runs.Runs.{TellsEnd, status_at};
 ghost use Rattle.commands.specs.words.Values.{IsCount};

@@ -1,11 +1,11 @@
 //! The run that lists the page after an old session, over readers and writers.
 
 ghost use Rattle.std.specs.Prelude.{◌≡◌, ◌≤◌, Result};
-ghost use Rattle.sabr_model.specs.Plan.{TabledPlan};
+ghost use Rattle.sabr_model.specs.plan.Plan.{TabledPlan};
 ghost use Rattle.sabr_plan.specs.PlanRead.{ReadsPlan};
 ghost use Rattle.sabr_plan.specs.declared.fault.PlanFault.{PlanFault};
-ghost use Rattle.sabr_frontier.specs.Listing.{most_routes};
-ghost use Rattle.sabr_frontier.specs.Session.{Seen};
+ghost use Rattle.sabr_frontier.specs.listing.Listing.{most_routes};
+ghost use Rattle.sabr_frontier.specs.session.Session.{Seen};
 ghost use Rattle.sabr_session.specs.declared.session_fault.SessionFault.{SessionFault};
 ghost use Rattle.commands.specs.declared.failure.Failure.{Failure};
 ghost use Rattle.commands.specs.runs.Runs.{TellsEnd, status_at};

@@ -3,7 +3,7 @@
 ghost use Rattle.std.specs.Prelude.{◌≡◌, ℕ, ◌+◌, ◌^◌, ◌<◌, ◌≤◌, All, IfOk, IfSome, IsTrue, is_some, length};
 ghost use Rattle.sabr_model.specs.Devices.{WritesText};
 ghost use Rattle.sabr_plan.specs.Canonical.{digest_of};
-ghost use Rattle.sabr_frontier.specs.Listing.{most_routes};
+ghost use Rattle.sabr_frontier.specs.listing.Listing.{most_routes};
 ghost use Rattle.sabr_session.specs.ReportText.{HasSpelledTimes, report_text};
 ghost use Rattle.sabr_session.specs.SessionText.{text_of_session, HasText};
 ghost use Rattle.commands.specs.runs.SessionRuns.{WritesPageOf};

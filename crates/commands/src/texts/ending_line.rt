@@ -1,7 +1,7 @@
 //! The last line of an explanation: the route that the contacts make, or their fault.
 
-ghost use Rattle.sabr_model.specs.Plan.{IsPlan};
-ghost use Rattle.sabr_model.specs.Asking.{IsRequest};
+ghost use Rattle.sabr_model.specs.plan.Plan.{IsPlan};
+ghost use Rattle.sabr_model.specs.routes.Asking.{IsRequest};
 ghost use Rattle.sabr_session.specs.Gathering.{Puts};
 ghost use Rattle.commands.specs.texts.Explanation.{refused_at, fault_line, ending_line};
 ghost use Rattle.commands.specs.texts.Followed.{Follows};

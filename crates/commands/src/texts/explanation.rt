@@ -1,7 +1,7 @@
 //! The text of an explanation: what a list of contacts does.
 
 ghost use Rattle.std.specs.Prelude.{◌≡◌, ◌≤◌, [], IfOk, IsTrue, length};
-ghost use Rattle.sabr_model.specs.Route.{is_path, is_route};
+ghost use Rattle.sabr_model.specs.routes.Route.{is_path, is_route};
 ghost use Rattle.sabr_model.specs.Devices.{WritesText};
 ghost use Rattle.commands.specs.texts.Explanation.{hop_lines, explanation_text};
 ghost use Rattle.commands.specs.texts.Followed.{hops_before, Follows};

@@ -1,10 +1,10 @@
 //! The lines of hops without a fault.
 
 ghost use Rattle.std.specs.Prelude.{◌≡◌, ◌≤◌, ◌<◌, ◌^◌, ◌+◌, ◌++◌, [], ◌∷◌, Some, IsTrue, length};
-ghost use Rattle.sabr_model.specs.Plan.{IsPlan};
-ghost use Rattle.sabr_model.specs.Asking.{IsRequest};
-ghost use Rattle.sabr_model.specs.Arrival.{arrival_after};
-ghost use Rattle.sabr_model.specs.Route.{is_path};
+ghost use Rattle.sabr_model.specs.plan.Plan.{IsPlan};
+ghost use Rattle.sabr_model.specs.routes.Asking.{IsRequest};
+ghost use Rattle.sabr_model.specs.routes.Arrival.{arrival_after};
+ghost use Rattle.sabr_model.specs.routes.Route.{is_path};
 ghost use Rattle.sabr_plan.specs.Times.{last_spelled};
 ghost use Rattle.sabr_session.specs.Gathering.{Puts};
 ghost use Rattle.commands.specs.texts.Explanation.{hop_line, line_after, hop_lines};

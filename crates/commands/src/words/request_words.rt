@@ -7,8 +7,8 @@ ghost use Rattle.sabr_plan.specs.Times.{time_of};
 ghost use Rattle.commands.specs.words.Lists.{nodes_listed};
 ghost use Rattle.sabr_plan.specs.Numbers.{number_within};
 ghost use Rattle.commands.specs.words.Values.{text_under, texts_given, texts_under, value_of, value_or, limits_of, request_words, request_of, IsInRange};
-ghost use Rattle.sabr_model.specs.Plan.{IsNode, last_time};
-ghost use Rattle.sabr_model.specs.Asking.{most_margin};
+ghost use Rattle.sabr_model.specs.plan.Plan.{IsNode, last_time};
+ghost use Rattle.sabr_model.specs.routes.Asking.{most_margin};
 
 use crate::words::lists::nodes_listed;
 use crate::words::request_texts::RequestTexts;

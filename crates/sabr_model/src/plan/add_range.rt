@@ -1,10 +1,10 @@
 //! Adding ranges, and refusing them.
 
 ghost use Rattle.std.specs.Prelude.{◌≡◌, ℕ, ◌<◌, ◌≤◌, None, Some, Err, OnOk, OnErr, IsOkUnless};
-ghost use Rattle.sabr_model.specs.Plan.{last_time, most_light};
+ghost use Rattle.sabr_model.specs.plan.Plan.{last_time, most_light};
 ghost use Rattle.sabr_model.specs.declared.fault.AddFault.{AddFault};
 ghost use Rattle.sabr_model.specs.declared.fault.AddFault.TheVariants.{NoMemory};
-ghost use Rattle.sabr_model.specs.Adding.{new_range, range_refusal, with_range};
+ghost use Rattle.sabr_model.specs.plan.Adding.{new_range, range_refusal, with_range};
 
 use super::Plan;
 use super::ranges::{overlaps_some, ranges_until};

@@ -1,8 +1,8 @@
 //! The earliest arrival over a contact.
 
 ghost use Rattle.std.specs.Prelude.{◌≡◌, ◌≤◌};
-ghost use Rattle.sabr_model.specs.Plan.{last_time};
-ghost use Rattle.sabr_model.specs.Arrival.{arrival};
+ghost use Rattle.sabr_model.specs.plan.Plan.{last_time};
+ghost use Rattle.sabr_model.specs.routes.Arrival.{arrival};
 
 use super::Plan;
 use crate::contact::Contact;

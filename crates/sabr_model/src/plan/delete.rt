@@ -3,10 +3,10 @@
 ghost use Rattle.std.specs.Prelude.{◌≡◌, ◌==◌, ◌↔◌, IsTrue, OnOk, OnErr, IfErr, IsOk, ok_or, find};
 ghost use Rattle.std.specs.List.{list_any};
 ghost use Rattle.std.specs.Option.{option_map, option_copied};
-ghost use Rattle.sabr_model.specs.Plan.{opens, has};
-ghost use Rattle.sabr_model.specs.Table.{ends_of};
+ghost use Rattle.sabr_model.specs.plan.Plan.{opens, has};
+ghost use Rattle.sabr_model.specs.plan.Table.{ends_of};
 ghost use Rattle.sabr_model.specs.declared.fault.AddFault.TheVariants.{NothingToDelete};
-ghost use Rattle.sabr_model.specs.Adding.{number_of_opening, without_contact, begins, without_range};
+ghost use Rattle.sabr_model.specs.plan.Adding.{number_of_opening, without_contact, begins, without_range};
 
 use super::Plan;
 use super::ranges::has_range;

@@ -2,8 +2,8 @@
 
 ghost use Rattle.std.specs.Prelude.{◌≡◌, ◌<◌, Some, IsTrue, length, slice_get, slice_index_or};
 ghost use Rattle.indexmap.specs.IndexMap.{keys};
-ghost use Rattle.sabr_model.specs.Plan.{has};
-ghost use Rattle.sabr_model.specs.Known.{BeginEnds};
+ghost use Rattle.sabr_model.specs.plan.Plan.{has};
+ghost use Rattle.sabr_model.specs.plan.Known.{BeginEnds};
 
 use super::Plan;
 use crate::contact::Contact;

@@ -1,9 +1,9 @@
 //! The one-way light time in force at a contact's start.
 
 ghost use Rattle.std.specs.Prelude.{◌≡◌, ◌<◌, ◌≤◌, [], Some, None, IfSome, MatchOption, length, slice_index_or};
-ghost use Rattle.sabr_model.specs.Plan.{IsPlan, contact_named, most_light};
-ghost use Rattle.sabr_model.specs.Light.{light_of};
-ghost use Rattle.sabr_model.specs.RangeOrder.{IsRangeList};
+ghost use Rattle.sabr_model.specs.plan.Plan.{IsPlan, contact_named, most_light};
+ghost use Rattle.sabr_model.specs.plan.Light.{light_of};
+ghost use Rattle.sabr_model.specs.plan.RangeOrder.{IsRangeList};
 
 use super::Plan;
 use super::places::place_of_number;

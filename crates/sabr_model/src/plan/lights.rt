@@ -2,10 +2,10 @@
 
 ghost use Rattle.std.specs.Prelude.{◌≡◌, ◌<◌, [], IfOk, length, nat_eq};
 ghost use Rattle.indexmap.specs.IndexMap.{IsUnique, keys};
-ghost use Rattle.sabr_model.specs.Known.{AreLights};
-ghost use Rattle.sabr_model.specs.Light.{light_of};
-ghost use Rattle.sabr_model.specs.RangeOrder.{IsRangeList};
-ghost use Rattle.sabr_model.specs.Stretches.{AreEnds, IsStretchAmong};
+ghost use Rattle.sabr_model.specs.plan.Known.{AreLights};
+ghost use Rattle.sabr_model.specs.plan.Light.{light_of};
+ghost use Rattle.sabr_model.specs.plan.RangeOrder.{IsRangeList};
+ghost use Rattle.sabr_model.specs.plan.Stretches.{AreEnds, IsStretchAmong};
 
 use super::ends::Ends;
 use super::ranges::light_near;

@@ -1,9 +1,9 @@
 //! The nodes of a plan, each by its index in the table, and the contacts that a node sends.
 
 ghost use Rattle.std.specs.Prelude.{◌≡◌, ◌<◌, ℕ, Some, None, MatchOption, IsFalse, length, map, slice_get, slice_index, slice_index_or};
-ghost use Rattle.sabr_model.specs.Plan.{contact_named, has};
-ghost use Rattle.sabr_model.specs.Table.{sent_by, node_count};
-ghost use Rattle.sabr_model.specs.Tabled.{IsTabled, IsHopOf, IsHopNamed};
+ghost use Rattle.sabr_model.specs.plan.Plan.{contact_named, has};
+ghost use Rattle.sabr_model.specs.plan.Table.{sent_by, node_count};
+ghost use Rattle.sabr_model.specs.plan.Tabled.{IsTabled, IsHopOf, IsHopNamed};
 
 use super::Plan;
 use super::places::place_of_number;

@@ -1,7 +1,7 @@
 //! A plan that is made of all its contacts and ranges.
 
 ghost use Rattle.std.specs.Prelude.{◌≡◌, IfOk};
-ghost use Rattle.sabr_model.specs.Plan.{IsPlan};
+ghost use Rattle.sabr_model.specs.plan.Plan.{IsPlan};
 
 use super::Plan;
 use super::lights::lights_of;

@@ -3,7 +3,7 @@
 ghost use Rattle.std.specs.Prelude.{◌≡◌, ℕ, ◌<◌, ◌≤◌, ◌-◌, ◌==◌, IsTrue, map, find, length, slice_index_or};
 ghost use Rattle.std.specs.Option.{option_copied};
 ghost use Rattle.sabr_model.specs.declared.contact.Contact.{Contact};
-ghost use Rattle.sabr_model.specs.Plan.{rises_above, IsPlaceOf};
+ghost use Rattle.sabr_model.specs.plan.Plan.{rises_above, IsPlaceOf};
 
 use crate::contact::Contact;
 

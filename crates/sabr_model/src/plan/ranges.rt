@@ -3,10 +3,10 @@
 ghost use Rattle.std.specs.Prelude.{◌≡◌, ◌<◌, ◌≤◌, ◌-◌, ◌↔◌, ◌==◌, ◌&&◌, Some, None, if◌then◌else◌, IsTrue, length, slice_index_or};
 ghost use Rattle.std.specs.List.{list_any};
 ghost use Rattle.sabr_model.specs.declared.contact.Range.{Range};
-ghost use Rattle.sabr_model.specs.Plan.{overlap};
-ghost use Rattle.sabr_model.specs.Adding.{begins};
-ghost use Rattle.sabr_model.specs.Light.{is_within, light_of_pair};
-ghost use Rattle.sabr_model.specs.RangeOrder.{place_number, number_of_range, IsRangeList, IsCountUntil};
+ghost use Rattle.sabr_model.specs.plan.Plan.{overlap};
+ghost use Rattle.sabr_model.specs.plan.Adding.{begins};
+ghost use Rattle.sabr_model.specs.plan.Light.{is_within, light_of_pair};
+ghost use Rattle.sabr_model.specs.plan.RangeOrder.{place_number, number_of_range, IsRangeList, IsCountUntil};
 
 use crate::contact::Range;
 

@@ -1,7 +1,7 @@
 //! Why a contact or a range is refused.
 
 ghost use Rattle.std.specs.Prelude.{◌≡◌};
-ghost use Rattle.sabr_model.specs.Adding.{first_refusal};
+ghost use Rattle.sabr_model.specs.plan.Adding.{first_refusal};
 
 use crate::fault::AddFault;
 use crate::limits::MOST_RECORDS;

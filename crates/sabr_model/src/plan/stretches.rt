@@ -3,9 +3,9 @@
 ghost use Rattle.std.specs.Prelude.{◌≡◌, ◌<◌, ◌≤◌, ◌==◌, ℕ, IfOk, length, nat_eq, slice_index_or, if◌then◌else◌};
 ghost use Rattle.indexmap.specs.IndexMap.{IsUnique, keys};
 ghost use Rattle.sabr_model.specs.declared.contact.Range.{Range};
-ghost use Rattle.sabr_model.specs.RangeOrder.{IsRangeList};
-ghost use Rattle.sabr_model.specs.Light.{light_of_pair};
-ghost use Rattle.sabr_model.specs.Stretches.{IsStretchAmong, AreStretches};
+ghost use Rattle.sabr_model.specs.plan.RangeOrder.{IsRangeList};
+ghost use Rattle.sabr_model.specs.plan.Light.{light_of_pair};
+ghost use Rattle.sabr_model.specs.plan.Stretches.{IsStretchAmong, AreStretches};
 
 use crate::contact::Range;
 use crate::node_table::NodeTable;

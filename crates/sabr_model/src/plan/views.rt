@@ -2,7 +2,7 @@
 
 ghost use Rattle.std.specs.Prelude.{◌≡◌};
 ghost use Rattle.std.specs.Option.{option_copied};
-ghost use Rattle.sabr_model.specs.Plan.{IsPlan, contact_named};
+ghost use Rattle.sabr_model.specs.plan.Plan.{IsPlan, contact_named};
 
 use super::Plan;
 use super::places::contact_of_number;

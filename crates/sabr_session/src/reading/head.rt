@@ -33,7 +33,7 @@ pub(crate) struct Head<A: Allocator + Copy> {
 
 impl<A: Allocator + Copy> Model for Head<A> {
     ghost use Rattle.std.specs.Prelude.{[]};
-    ghost use Rattle.sabr_model.specs.Asking.{unlimited};
+    ghost use Rattle.sabr_model.specs.routes.Asking.{unlimited};
     ghost use Rattle.sabr_session.specs.SessionRead.{Said};
 
     ghost Value = { Said };

@@ -21,7 +21,7 @@ pub(crate) struct PartLine<A: Allocator + Copy> {
 }
 
 impl<A: Allocator + Copy> Model for PartLine<A> {
-    ghost use Rattle.sabr_frontier.specs.State.{PartState};
+    ghost use Rattle.sabr_frontier.specs.listing.State.{PartState};
     ghost use Rattle.sabr_session.specs.SessionLines.{carried_of};
 
     ghost Value = { PartState };

@@ -1,9 +1,9 @@
 //! A session text that is read in pieces.
 
 ghost use Rattle.std.specs.Prelude.{◌≡◌, ◌+◌, ◌<◌, ◌≤◌, length, Ok, MatchResult, IfOk, OnOk};
-ghost use Rattle.sabr_model.specs.Asking.{IsRequest};
+ghost use Rattle.sabr_model.specs.routes.Asking.{IsRequest};
 ghost use Rattle.sabr_plan.specs.Canonical.{digest_of};
-ghost use Rattle.sabr_frontier.specs.Listing.{IsState};
+ghost use Rattle.sabr_frontier.specs.listing.Listing.{IsState};
 ghost use Rattle.sabr_session.specs.SessionRead.{most_bytes};
 ghost use Rattle.sabr_session.specs.SessionFed.{IsFed, IsFinished, opened_over, weight_of, weight_bound};
 

@@ -1,9 +1,9 @@
 //! Reading a session text from a reader.
 
 ghost use Rattle.std.specs.Prelude.{◌≡◌, ◌+◌, IfOk, IfErr};
-ghost use Rattle.sabr_model.specs.Asking.{IsRequest};
+ghost use Rattle.sabr_model.specs.routes.Asking.{IsRequest};
 ghost use Rattle.sabr_plan.specs.Canonical.{digest_of};
-ghost use Rattle.sabr_frontier.specs.Listing.{IsState};
+ghost use Rattle.sabr_frontier.specs.listing.Listing.{IsState};
 ghost use Rattle.sabr_session.specs.SessionGiven.{ReadsSession};
 ghost use Rattle.sabr_session.specs.declared.session_fault.SessionFault.TheVariants as fault;
 

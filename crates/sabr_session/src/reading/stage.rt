@@ -1,8 +1,8 @@
 //! What the lines of a session text lead to: a loader, once there is a request.
 
 ghost use Rattle.std.specs.Prelude.{◌≡◌, ◌≤◌, [], true, false, Some, None, IfOk, IfErr, OnOk, OnErr};
-ghost use Rattle.sabr_frontier.specs.Listing.{IsState};
-ghost use Rattle.sabr_frontier.specs.Loading.{IsRefusedBy, state_with};
+ghost use Rattle.sabr_frontier.specs.listing.Listing.{IsState};
+ghost use Rattle.sabr_frontier.specs.loading.Loading.{IsRefusedBy, state_with};
 ghost use Rattle.sabr_session.specs.SessionRead.{nothing_said, placed, part_said};
 ghost use Rattle.sabr_session.specs.SessionLeaving.{Leaves};
 ghost use Rattle.sabr_session.specs.SessionStage.{said_to, said_with, session_of, staged};

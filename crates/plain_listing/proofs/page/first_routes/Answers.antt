@@ -1,7 +1,7 @@
 use Rattle.std.proofs.Common.{◌+◌, map, take, ap, ◌∙◌, arith}
 use Rattle.std.proofs.lemmas.List.{take-take, take-map}
-use Rattle.sabr_model.specs.Listing.{routes}
-use Rattle.sabr_model.specs.Record.{record_of}
+use Rattle.sabr_model.specs.routes.Listing.{routes}
+use Rattle.sabr_model.specs.routes.Record.{record_of}
 use Rattle.plain_listing.proofs.page.first_routes.Goals as goal
 
 pub returns-clause-routes : goal.returns-clause-routes

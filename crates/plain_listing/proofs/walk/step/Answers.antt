@@ -3,11 +3,11 @@ use Rattle.std.proofs.lemmas.Bool.{cases_eq}
 use Rattle.std.specs.declared.option.Option.{Option}
 use Rattle.std.specs.declared.option.Option.TheVariants.{None}
 use Rattle.sabr_model.specs.Order.{put_in}
-use Rattle.sabr_model.specs.Arrival.{RouteRequest}
-use Rattle.sabr_model.specs.Record.{by_record}
-use Rattle.sabr_model.specs.Plan.{ContactPlan, rises_above}
-use Rattle.sabr_model.specs.Table.{sent_by}
-use Rattle.sabr_model.specs.Route.{is_path}
+use Rattle.sabr_model.specs.routes.Arrival.{RouteRequest}
+use Rattle.sabr_model.specs.routes.Record.{by_record}
+use Rattle.sabr_model.specs.plan.Plan.{ContactPlan, rises_above}
+use Rattle.sabr_model.specs.plan.Table.{sent_by}
+use Rattle.sabr_model.specs.routes.Route.{is_path}
 use Rattle.sabr_model.specs.declared.following.Reached.{Reached}
 use Rattle.plain_listing.specs.declared.hop.Hop.{Hop}
 use Rattle.plain_listing.specs.Way.{numbers_of, hop_of, last_stop, record_over}

@@ -1,16 +1,16 @@
 use Rattle.std.proofs.Common.{◌≡◌, true, false, cond, sym, ap, ◌∙◌, ◌++◌, [], ◌∷◌}
 use Rattle.std.specs.Option.{option_copied}
 use Rattle.std.specs.declared.option.Option.TheVariants.{Some, None}
-use Rattle.sabr_model.specs.Plan.{contact_named}
-use Rattle.sabr_model.specs.Arrival.{arrival}
-use Rattle.sabr_model.specs.Route.{is_path}
+use Rattle.sabr_model.specs.plan.Plan.{contact_named}
+use Rattle.sabr_model.specs.routes.Arrival.{arrival}
+use Rattle.sabr_model.specs.routes.Route.{is_path}
 use Rattle.sabr_model.specs.declared.following.Reached.{Reached}
 use Rattle.plain_listing.specs.declared.hop.Hop.{Hop}
 use Rattle.plain_listing.specs.Way.{numbers_of, hop_of, last_stop, may_visit}
 use Rattle.plain_listing.proofs.Hops.{closed_unnamed, closed_apart, closed_shut, closed_late, path_open, hop_open}
 use Rattle.plain_listing.proofs.way.hop_over.Goals as goal
 use Rattle.plain_listing.proofs.way.hop_over.Goals.{then-contact-end-via-then-contact-end, then-contact-end-via-else-contact-end+then-not-may_visit}
-use Rattle.sabr_model.proofs.Follows.{ends_in_time}
+use Rattle.sabr_model.proofs.RouteLemmas.Follows.{ends_in_time}
 
 -- the answer if the way and the number begin no route
 none_where : (b : _) (h : Hop) → b ≡ false → None ≡ cond b (Some h) None

@@ -1,8 +1,8 @@
 use Rattle.std.proofs.Common.{ap, ◌∙◌}
 use Rattle.std.specs.Prelude.{◌==◌}
 use Rattle.std.specs.Ordering.{ordering_index}
-use Rattle.sabr_model.specs.Record.{by_record}
-use Rattle.sabr_frontier.proofs.Verdicts.{tie_is, tie_index}
+use Rattle.sabr_model.specs.routes.Record.{by_record}
+use Rattle.sabr_frontier.proofs.SessionLemmas.Verdicts.{tie_is, tie_index}
 use Rattle.sabr_frontier.proofs.certify.is_same.Goals as goal
 
 pub returns-in-Some-Some : goal.returns-in-Some-Some

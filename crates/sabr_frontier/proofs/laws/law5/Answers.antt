@@ -1,4 +1,4 @@
-use Rattle.sabr_frontier.proofs.Lawful.{states_are_told}
+use Rattle.sabr_frontier.proofs.ListingLemmas.Lawful.{states_are_told}
 use Rattle.sabr_frontier.proofs.laws.law5.Goals as goal
 
 pub returns : goal.returns

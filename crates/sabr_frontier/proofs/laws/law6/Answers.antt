@@ -1,4 +1,4 @@
-use Rattle.sabr_frontier.proofs.Lawful.{steps_follow}
+use Rattle.sabr_frontier.proofs.ListingLemmas.Lawful.{steps_follow}
 use Rattle.sabr_frontier.proofs.laws.law6.Goals as goal
 
 pub returns : goal.returns

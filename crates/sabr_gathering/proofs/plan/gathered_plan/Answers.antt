@@ -1,4 +1,4 @@
-use Rattle.sabr_model.proofs.PlanLemmas.{plan_of_both}
+use Rattle.sabr_model.proofs.PlanLemmas.ContactLemmas.{plan_of_both}
 use Rattle.sabr_gathering.specs.Gathering.{plan_of_ranges}
 use Rattle.sabr_gathering.proofs.plan.gathered_plan.Goals as goal
 

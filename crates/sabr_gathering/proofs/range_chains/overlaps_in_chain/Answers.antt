@@ -4,7 +4,7 @@ use Rattle.std.proofs.lemmas.Bool.{cases_lt, cases_eq}
 use Rattle.std.proofs.lemmas.Option.{slice_get-get_or, slice_get_within, same_Some}
 use Rattle.sabr_model.specs.declared.contact.Range.{Range}
 use Rattle.sabr_gathering.specs.declared.range_chains.RangeLink.{RangeLink}
-use Rattle.sabr_model.specs.Plan.{overlap}
+use Rattle.sabr_model.specs.plan.Plan.{overlap}
 use Rattle.sabr_gathering.specs.RangeChains.{IsLastOf}
 use Rattle.sabr_gathering.proofs.ChainedRanges.{any_from_places, other_bucket}
 use Rattle.sabr_gathering.proofs.range_chains.overlaps_in_chain.Goals as goal

@@ -1,7 +1,7 @@
 use Rattle.std.proofs.Common.{◌≡◌, ◌≤◌, ℕ, false, length}
 use Rattle.std.specs.Prelude.{slice_get, Some}
 use Rattle.sabr_model.specs.declared.contact.Range.{Range}
-use Rattle.sabr_model.specs.Plan.{overlap}
+use Rattle.sabr_model.specs.plan.Plan.{overlap}
 use Rattle.sabr_gathering.specs.RangeChains.{bucket_of_pair, IsLastOf}
 use Rattle.sabr_gathering.proofs.range_chains.overlaps_in_chain.Given as goal
 

@@ -1,7 +1,7 @@
 use Rattle.std.proofs.Common.{◌≡◌, ◌∷◌, ◌++◌, [], Some, ap, ◌∙◌, rules}
-use Rattle.sabr_model.specs.Fault.{fault_of}
-use Rattle.sabr_model.proofs.Follows.{fault_in_front}
-use Rattle.sabr_model.proofs.Prefixes.{empty_is_path}
+use Rattle.sabr_model.specs.routes.Fault.{fault_of}
+use Rattle.sabr_model.proofs.RouteLemmas.Follows.{fault_in_front}
+use Rattle.sabr_model.proofs.RouteLemmas.Prefixes.{empty_is_path}
 use Rattle.sabr_model.proofs.following.follow.Goals as goal
 
 pub follow_rest-requires-clause-path : goal.follow_rest-requires-clause-path

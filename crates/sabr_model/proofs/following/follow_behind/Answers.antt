@@ -1,6 +1,6 @@
 use Rattle.std.proofs.Common.{◌≡◌, ◌∷◌, ◌++◌, [], Some, ap, ◌∙◌, rules}
-use Rattle.sabr_model.specs.Fault.{fault_of}
-use Rattle.sabr_model.proofs.Follows.{fault_in_front}
+use Rattle.sabr_model.specs.routes.Fault.{fault_of}
+use Rattle.sabr_model.proofs.RouteLemmas.Follows.{fault_in_front}
 use Rattle.sabr_model.proofs.following.follow_behind.Goals as goal
 
 pub returns-in_err-here-clause-fault : goal.returns-in_err-here-clause-fault

@@ -1,5 +1,5 @@
 use Rattle.std.proofs.Common.{sym, ◌∙◌}
-use Rattle.sabr_model.proofs.Follows.{any_receives, received_behind}
+use Rattle.sabr_model.proofs.RouteLemmas.Follows.{any_receives, received_behind}
 use Rattle.sabr_model.proofs.following.is_received.Goals as goal
 
 pub loop-number-init : goal.loop-number-init

@@ -1,10 +1,10 @@
 use Rattle.std.proofs.Common.{◌≡◌, ◌+◌, ◌++◌, ◌∷◌, [], take, get_or, sym, ap, subst, ◌∙◌, Some, None}
 use Rattle.std.specs.Option.{option_copied}
 use Rattle.std.proofs.lemmas.List.{take_more}
-use Rattle.sabr_model.specs.Plan.{contact_named}
-use Rattle.sabr_model.specs.Route.{receivers}
-use Rattle.sabr_model.specs.Following.{AreMarked}
-use Rattle.sabr_model.proofs.Marks.{marked_contact, marked_still}
+use Rattle.sabr_model.specs.plan.Plan.{contact_named}
+use Rattle.sabr_model.specs.routes.Route.{receivers}
+use Rattle.sabr_model.specs.routes.Following.{AreMarked}
+use Rattle.sabr_model.proofs.RouteLemmas.Marks.{marked_contact, marked_still}
 use Rattle.sabr_model.proofs.following.mark_receivers.Goals as goal
 use Rattle.sabr_model.proofs.following.mark_receivers.Goals.{in-Some, in_default}
 

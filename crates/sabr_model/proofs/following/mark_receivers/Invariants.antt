@@ -1,6 +1,6 @@
 use Rattle.std.proofs.Common.{◌≡◌, length, take}
-use Rattle.sabr_model.specs.Route.{receivers}
-use Rattle.sabr_model.specs.Following.{AreMarked}
+use Rattle.sabr_model.specs.routes.Route.{receivers}
+use Rattle.sabr_model.specs.routes.Following.{AreMarked}
 use Rattle.sabr_model.proofs.following.mark_receivers.Given as goal
 
 abbrev pub invariant-loop-number : goal.invariant-loop-number

@@ -1,4 +1,4 @@
-use Rattle.sabr_model.proofs.Candidates.{candidates_are_listed}
+use Rattle.sabr_model.proofs.RouteLemmas.Candidates.{candidates_are_listed}
 use Rattle.sabr_model.proofs.laws.candidates_hold_each_once.Goals as goal
 
 pub returns : goal.returns

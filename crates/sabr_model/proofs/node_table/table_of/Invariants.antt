@@ -2,8 +2,8 @@ use Rattle.std.proofs.Common.{◌≡◌, ◌<◌, ℕ, length, take, slice_index
 use Rattle.indexmap.specs.IndexMap.{keys}
 use Rattle.sabr_model.specs.declared.contact.Contact.{Contact}
 use Rattle.sabr_model.specs.declared.plan.ends.Ends.{Ends}
-use Rattle.sabr_model.specs.Table.{IsTableOf}
-use Rattle.sabr_model.specs.Stretches.{AreEndsOf}
+use Rattle.sabr_model.specs.plan.Table.{IsTableOf}
+use Rattle.sabr_model.specs.plan.Stretches.{AreEndsOf}
 use Rattle.sabr_model.proofs.node_table.table_of.Given as goal
 
 abbrev pub invariant-loop-contact : goal.invariant-loop-contact

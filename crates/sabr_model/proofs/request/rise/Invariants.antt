@@ -1,5 +1,5 @@
 use Rattle.std.proofs.Common.{◌≡◌, drop}
-use Rattle.sabr_model.specs.Plan.{rises_above}
+use Rattle.sabr_model.specs.plan.Plan.{rises_above}
 use Rattle.sabr_model.proofs.request.rise.Given as goal
 
 abbrev pub invariant-loop-number : goal.invariant-loop-number

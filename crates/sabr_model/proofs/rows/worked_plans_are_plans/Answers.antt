@@ -1,4 +1,4 @@
-use Rattle.sabr_model.proofs.RowPlans.{obeys-a, obeys-b, obeys-c, obeys-and_back, obeys-and_across, obeys-ending_10, obeys-ending_11, obeys-dark, obeys-last, obeys-less, obeys-again, obeys-darker, obeys-as_before, obeys-there_and_back}
+use Rattle.sabr_model.proofs.PlanLemmas.RowPlans.{obeys-a, obeys-b, obeys-c, obeys-and_back, obeys-and_across, obeys-ending_10, obeys-ending_11, obeys-dark, obeys-last, obeys-less, obeys-again, obeys-darker, obeys-as_before, obeys-there_and_back}
 use Rattle.sabr_model.proofs.rows.worked_plans_are_plans.Goals as goal
 
 pub returns : goal.returns

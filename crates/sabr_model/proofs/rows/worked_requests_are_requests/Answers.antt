@@ -1,4 +1,4 @@
-use Rattle.sabr_model.proofs.RowPlans.{asks-plain, asks-at_60, asks-at_100, asks-one_hop, asks-two_hops, asks-without_2, asks-without_4, asks-to_2, asks-last_day}
+use Rattle.sabr_model.proofs.PlanLemmas.RowPlans.{asks-plain, asks-at_60, asks-at_100, asks-one_hop, asks-two_hops, asks-without_2, asks-without_4, asks-to_2, asks-last_day}
 use Rattle.sabr_model.proofs.rows.worked_requests_are_requests.Goals as goal
 
 pub returns : goal.returns

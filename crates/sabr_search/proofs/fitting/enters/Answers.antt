@@ -1,5 +1,5 @@
 use Rattle.std.proofs.Common.{sym}
-use Rattle.sabr_model.proofs.Follows.{any_receives}
+use Rattle.sabr_model.proofs.RouteLemmas.Follows.{any_receives}
 use Rattle.sabr_search.proofs.fitting.enters.Goals as goal
 
 pub loop-number-init : goal.loop-number-init

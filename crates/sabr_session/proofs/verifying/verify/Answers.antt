@@ -1,4 +1,4 @@
-use Rattle.sabr_session.proofs.Verified.{session_verified, fault_verified, break_verified}
+use Rattle.sabr_session.proofs.ReadingLemmas.Verified.{session_verified, fault_verified, break_verified}
 use Rattle.sabr_session.proofs.verifying.verify.Goals as goal
 
 pub returns-in-Ok-certify : goal.returns-in-Ok-certify

@@ -1,7 +1,7 @@
 use Rattle.std.proofs.Common.{◌≡◌, Ok, Err, refl, ap, sym, ◌∙◌}
 use Rattle.std.proofs.lemmas.Result.{err_from_is_err_and}
 use Rattle.std.specs.Prelude.{is_some}
-use Rattle.sabr_model.specs.Plan.{TabledPlan}
+use Rattle.sabr_model.specs.plan.Plan.{TabledPlan}
 use Rattle.sabr_plan.specs.Canonical.{digest_of}
 use Rattle.sabr_session.specs.declared.session_fault.SessionFault.TheVariants.{NoMemory}
 use Rattle.commands.proofs.RunLemmas.OldSessions.{is_over_plan}

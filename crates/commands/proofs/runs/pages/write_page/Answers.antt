@@ -1,7 +1,7 @@
 use Rattle.std.proofs.Common.{true, refl, sym, subst, ◌∙◌}
 use Rattle.std.specs.Prelude.{All}
-use Rattle.sabr_model.specs.Plan.{TabledPlan, IsPlan}
-use Rattle.sabr_model.specs.Asking.{IsRequest}
+use Rattle.sabr_model.specs.plan.Plan.{TabledPlan, IsPlan}
+use Rattle.sabr_model.specs.routes.Asking.{IsRequest}
 use Rattle.sabr_session.specs.ReportText.{HasSpelledTimes}
 use Rattle.commands.proofs.TextLemmas.SpelledTimes.{records_spelled}
 use Rattle.commands.proofs.RunLemmas.PageTexts.{report_of_page, text_of_page, report_failed, session_failed}

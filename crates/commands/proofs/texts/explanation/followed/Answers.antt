@@ -1,6 +1,6 @@
 use Rattle.std.proofs.Common.{sym}
 use Rattle.std.proofs.lemmas.List.{length-take-le}
-use Rattle.sabr_model.proofs.Paths.{route_is_path}
+use Rattle.sabr_model.proofs.RouteLemmas.Paths.{route_is_path}
 use Rattle.commands.proofs.TextLemmas.Explained.{stops_at, stopped_is_path}
 use Rattle.commands.proofs.texts.explanation.followed.Goals as goal
 

@@ -1,6 +1,6 @@
 use Rattle.std.proofs.Common.{ℕ, [], Err, Ok, ◌∙◌, rules}
 use Rattle.std.proofs.lemmas.Result.{err_from_is_err_and}
-use Rattle.sabr_session.proofs.Gathering.{HasPut-append, StopsIn-before, StopsIn-after, WritesText-stopped, WritesText-sent}
+use Rattle.sabr_session.proofs.TextLemmas.Gathering.{HasPut-append, StopsIn-before, StopsIn-after, WritesText-stopped, WritesText-sent}
 use Rattle.commands.specs.texts.Explanation.{hop_lines, ending_line, explanation_text}
 use Rattle.commands.proofs.TextLemmas.Explained.{answered}
 use Rattle.commands.proofs.texts.explanation.write_explanation.Goals as goal

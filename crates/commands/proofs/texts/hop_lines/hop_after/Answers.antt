@@ -1,10 +1,10 @@
 use Rattle.std.proofs.Common.{◌≡◌, ◌≤◌, sym, ap, ◌∙◌, rules, arith}
 use Rattle.std.specs.declared.option.Option.TheVariants.{Some, None}
 use Rattle.sabr_model.specs.declared.contact.Contact.{Contact}
-use Rattle.sabr_model.specs.Plan.{contact_named, last_time}
-use Rattle.sabr_model.specs.Arrival.{arrival}
-use Rattle.sabr_model.proofs.Follows.{ends_in_time}
-use Rattle.sabr_model.proofs.Paths.{arrival_after_push}
+use Rattle.sabr_model.specs.plan.Plan.{contact_named, last_time}
+use Rattle.sabr_model.specs.routes.Arrival.{arrival}
+use Rattle.sabr_model.proofs.RouteLemmas.Follows.{ends_in_time}
+use Rattle.sabr_model.proofs.RouteLemmas.Paths.{arrival_after_push}
 use Rattle.commands.proofs.TextLemmas.SpelledTimes.{arrival_bound}
 use Rattle.commands.proofs.TextLemmas.Explained.{hop_of, line_after_is, sent_before_end}
 use Rattle.commands.proofs.texts.hop_lines.hop_after.Goals as goal

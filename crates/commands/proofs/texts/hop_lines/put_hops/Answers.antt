@@ -1,8 +1,8 @@
 use Rattle.std.proofs.Common.{ℕ, List, [], ◌∷◌, ◌++◌, drop, suc, get_or, take, add-one, ap, ◌∙◌}
 use Rattle.std.proofs.lemmas.List.{take_more}
-use Rattle.sabr_model.specs.Arrival.{arrival_after}
+use Rattle.sabr_model.specs.routes.Arrival.{arrival_after}
 use Rattle.commands.specs.texts.Explanation.{line_after, hop_lines}
-use Rattle.sabr_session.proofs.Gathering.{HasPut-append, Puts-stopped, Puts-after}
+use Rattle.sabr_session.proofs.TextLemmas.Gathering.{HasPut-append, Puts-stopped, Puts-after}
 use Rattle.commands.proofs.TextLemmas.Explained.{path_up_to, hop_lines-at, hop_lines-take}
 use Rattle.commands.proofs.texts.hop_lines.put_hops.Goals as goal
 

@@ -1,6 +1,6 @@
 use Rattle.std.proofs.Common.{◌≡◌, [], take}
 use Rattle.std.specs.declared.option.Option.TheVariants.{Some}
-use Rattle.sabr_model.specs.Arrival.{arrival_after}
+use Rattle.sabr_model.specs.routes.Arrival.{arrival_after}
 use Rattle.sabr_session.specs.Gathering.{HasPut}
 use Rattle.commands.specs.texts.Explanation.{hop_lines}
 use Rattle.commands.proofs.texts.hop_lines.put_hops.Given as goal

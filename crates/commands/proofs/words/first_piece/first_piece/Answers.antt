@@ -1,6 +1,6 @@
 use Rattle.std.proofs.Common.{◌+◌, ◌∷◌, List, ℕ, take, sym, ◌∙◌, ap}
 use Rattle.std.proofs.lemmas.List.{take_rest}
-use Rattle.sabr_session.proofs.SpacedWords.{pieces-at, pieces-one}
+use Rattle.sabr_session.proofs.WordLemmas.SpacedWords.{pieces-at, pieces-one}
 use Rattle.commands.specs.words.Lists.{pieces_of}
 use Rattle.commands.proofs.words.first_piece.first_piece.Goals as goal
 

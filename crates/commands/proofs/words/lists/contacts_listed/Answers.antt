@@ -2,7 +2,7 @@ use Rattle.std.proofs.Common.{Some, ap, sym, ◌∙◌, arith}
 use Rattle.std.specs.Option.{option_copied}
 use Rattle.commands.specs.words.Lists.{numbers_within, pieces_after}
 use Rattle.sabr_plan.specs.Numbers.{number_within}
-use Rattle.sabr_session.proofs.ReadNumbers.{with_front-bad, with_front-end}
+use Rattle.sabr_session.proofs.WordLemmas.ReadNumbers.{with_front-bad, with_front-end}
 use Rattle.sabr_plan.proofs.SpelledNumbers.{number_within-range}
 use Rattle.commands.proofs.words.lists.contacts_listed.Goals as goal
 

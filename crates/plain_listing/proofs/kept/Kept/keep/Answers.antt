@@ -2,7 +2,7 @@ use Rattle.std.proofs.Common.{◌≡◌, ◌<◌, ◌≤◌, length, take, get_o
 use Rattle.std.proofs.lemmas.List.{take_all}
 use Rattle.std.specs.List.Sorted.{IsPartitionPoint, IsStrictlySortedBy}
 use Rattle.std.specs.declared.cmp.Ordering.TheVariants.{Less, Equal, Greater}
-use Rattle.sabr_model.specs.Record.{RouteRecord, by_record, by_record_total}
+use Rattle.sabr_model.specs.routes.Record.{RouteRecord, by_record, by_record_total}
 use Rattle.plain_listing.proofs.Placed.{answers_rise, put_at, put_tied, put_past}
 use Rattle.plain_listing.proofs.kept.Kept.keep.Goals as goal
 

@@ -2,13 +2,13 @@ use Rattle.std.proofs.Common.{◌≡◌, ap, sym, subst, ◌∙◌, Some, None, 
 use Rattle.std.proofs.lemmas.Bool.{and_parts}
 use Rattle.std.specs.Prelude.{Result}
 use Rattle.std.specs.Option.{option_copied}
-use Rattle.sabr_frontier.specs.declared.load_fault.LoadFault.{LoadFault}
-use Rattle.sabr_frontier.specs.declared.load_fault.LoadFault.TheVariants as load
-use Rattle.sabr_frontier.specs.Loading.{Loaded, comes_after, part_refusal, rise_strictly, with_part}
-use Rattle.sabr_frontier.specs.State.{PartState}
-use Rattle.sabr_frontier.specs.Holding.{IsHeld, holding_of, loaded, parts_in}
-use Rattle.sabr_frontier.proofs.Answering.{held_more, parts_then}
-use Rattle.sabr_frontier.proofs.PartRefusals.{accepted, carry_accepted, carry_told, not_refused, order_refused, told}
+use Rattle.sabr_frontier.specs.declared.loader.load_fault.LoadFault.{LoadFault}
+use Rattle.sabr_frontier.specs.declared.loader.load_fault.LoadFault.TheVariants as load
+use Rattle.sabr_frontier.specs.loading.Loading.{Loaded, comes_after, part_refusal, rise_strictly, with_part}
+use Rattle.sabr_frontier.specs.listing.State.{PartState}
+use Rattle.sabr_frontier.specs.loading.Holding.{IsHeld, holding_of, loaded, parts_in}
+use Rattle.sabr_frontier.proofs.LoadingLemmas.Answering.{held_more, parts_then}
+use Rattle.sabr_frontier.proofs.LoadingLemmas.PartRefusals.{accepted, carry_accepted, carry_told, not_refused, order_refused, told}
 use Rattle.sabr_frontier.proofs.loader.Loader.add_part.Goals as goal
 
 pub returns-then-not-is_next-clause-refused : goal.returns-then-not-is_next-clause-refused

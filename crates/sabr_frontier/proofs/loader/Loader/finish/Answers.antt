@@ -1,15 +1,15 @@
 use Rattle.std.proofs.Common.{◌≡◌, [], ap, sym, subst, ◌∙◌}
-use Rattle.sabr_model.specs.Plan.{IsPlan}
-use Rattle.sabr_model.specs.Asking.{IsRequest}
-use Rattle.sabr_frontier.specs.Asking.{Asking}
-use Rattle.sabr_frontier.specs.Listing.{IsState}
-use Rattle.sabr_frontier.specs.Loading.{IsClosedState, IsCounted, Loaded, state_with}
-use Rattle.sabr_frontier.specs.Shape.{shape_of, shown}
-use Rattle.sabr_frontier.specs.Sound.{IsTree}
-use Rattle.sabr_frontier.specs.Holding.{IsLastPlace, IsWrongLast, holding_of, loaded_tree}
-use Rattle.sabr_frontier.proofs.Answering.{paid_closed, unpaid_open}
-use Rattle.sabr_frontier.proofs.Loads.{formed_then, loaded_is_tree, shown_then, wrong_count}
-use Rattle.sabr_frontier.proofs.Indexed.{tree_indexed}
+use Rattle.sabr_model.specs.plan.Plan.{IsPlan}
+use Rattle.sabr_model.specs.routes.Asking.{IsRequest}
+use Rattle.sabr_frontier.specs.tree.Asking.{Asking}
+use Rattle.sabr_frontier.specs.listing.Listing.{IsState}
+use Rattle.sabr_frontier.specs.loading.Loading.{IsClosedState, IsCounted, Loaded, state_with}
+use Rattle.sabr_frontier.specs.tree.Shape.{shape_of, shown}
+use Rattle.sabr_frontier.specs.tree.Sound.{IsTree}
+use Rattle.sabr_frontier.specs.loading.Holding.{IsLastPlace, IsWrongLast, holding_of, loaded_tree}
+use Rattle.sabr_frontier.proofs.LoadingLemmas.Answering.{paid_closed, unpaid_open}
+use Rattle.sabr_frontier.proofs.LoadingLemmas.Loads.{formed_then, loaded_is_tree, shown_then, wrong_count}
+use Rattle.sabr_frontier.proofs.TreeLemmas.Indexed.{tree_indexed}
 use Rattle.sabr_frontier.proofs.loader.Loader.finish.Goals as goal
 
 pub returns-then-not-is_paid-clause-err : goal.returns-then-not-is_paid-clause-err

@@ -1,11 +1,11 @@
 use Rattle.std.proofs.Common.{◌≡◌, [], length, reverse, ap, sym, subst, ◌∙◌}
-use Rattle.sabr_model.proofs.Prefixes.{empty_is_prefix}
-use Rattle.sabr_frontier.specs.Asking.{Asked}
-use Rattle.sabr_frontier.specs.Shape.{Shape, shape_of, shown}
-use Rattle.sabr_frontier.specs.Session.{AreStarts, IsSession, IsSound, former_of}
-use Rattle.sabr_frontier.specs.Root.{root}
-use Rattle.sabr_frontier.specs.Best.{best_of}
-use Rattle.sabr_frontier.proofs.Roots.{root_is_tree, shown_root}
+use Rattle.sabr_model.proofs.RouteLemmas.Prefixes.{empty_is_prefix}
+use Rattle.sabr_frontier.specs.tree.Asking.{Asked}
+use Rattle.sabr_frontier.specs.tree.Shape.{Shape, shape_of, shown}
+use Rattle.sabr_frontier.specs.session.Session.{AreStarts, IsSession, IsSound, former_of}
+use Rattle.sabr_frontier.specs.tree.Root.{root}
+use Rattle.sabr_frontier.specs.tree.Best.{best_of}
+use Rattle.sabr_frontier.proofs.TreeLemmas.Roots.{root_is_tree, shown_root}
 use Rattle.sabr_frontier.proofs.session.Session.begin.Goals as goal
 
 pub ask-requires-clause-fits : goal.ask-requires-clause-fits

@@ -1,11 +1,11 @@
 use Rattle.std.proofs.Common.{◌+◌, ◌≤◌, length, sym, subst, arith}
 use Rattle.std.specs.Prelude.{IfOk, IsTrue, ◌↔◌, ◌≡◌}
-use Rattle.sabr_frontier.specs.Listing.{state_at}
-use Rattle.sabr_frontier.specs.Asking.{Asked}
-use Rattle.sabr_frontier.specs.Session.{IsSession, Seen}
-use Rattle.sabr_frontier.specs.Shape.{shape_of}
-use Rattle.sabr_frontier.proofs.Pages.{sound_tree}
-use Rattle.sabr_frontier.proofs.Verdicts.{nodes_are_parts}
+use Rattle.sabr_frontier.specs.listing.Listing.{state_at}
+use Rattle.sabr_frontier.specs.tree.Asking.{Asked}
+use Rattle.sabr_frontier.specs.session.Session.{IsSession, Seen}
+use Rattle.sabr_frontier.specs.tree.Shape.{shape_of}
+use Rattle.sabr_frontier.proofs.SessionLemmas.Pages.{sound_tree}
+use Rattle.sabr_frontier.proofs.SessionLemmas.Verdicts.{nodes_are_parts}
 use Rattle.sabr_frontier.proofs.session.Session.certify.Goals as goal
 
 pub is_placed-requires-clause-tree : goal.is_placed-requires-clause-tree

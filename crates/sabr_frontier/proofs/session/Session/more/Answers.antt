@@ -1,9 +1,9 @@
 use Rattle.std.proofs.Common.{ap, ◌∙◌}
 use Rattle.std.specs.Prelude.{is_some}
-use Rattle.sabr_frontier.specs.Listing.{next_route}
-use Rattle.sabr_frontier.specs.Shape.{shape_of}
-use Rattle.sabr_frontier.specs.Session.{Seen}
-use Rattle.sabr_frontier.proofs.Pages.{more_is}
+use Rattle.sabr_frontier.specs.listing.Listing.{next_route}
+use Rattle.sabr_frontier.specs.tree.Shape.{shape_of}
+use Rattle.sabr_frontier.specs.session.Session.{Seen}
+use Rattle.sabr_frontier.proofs.SessionLemmas.Pages.{more_is}
 use Rattle.sabr_frontier.proofs.session.Session.more.Goals as goal
 
 pub returns : goal.returns

@@ -1,6 +1,6 @@
 use Rattle.std.proofs.Common.{◌≡◌, length, reverse, ap, sym, subst}
-use Rattle.sabr_frontier.specs.Shape.{shape_of}
-use Rattle.sabr_frontier.specs.Session.{AreStarts, IsSoundFor}
+use Rattle.sabr_frontier.specs.tree.Shape.{shape_of}
+use Rattle.sabr_frontier.specs.session.Session.{AreStarts, IsSoundFor}
 use Rattle.sabr_frontier.proofs.session.Session.of_tree.Goals as goal
 
 pub invariant_of-result : goal.invariant_of-result

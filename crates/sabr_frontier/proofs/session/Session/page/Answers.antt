@@ -1,16 +1,16 @@
 use Rattle.std.proofs.Common.{◌≡◌, ◌+◌, ◌-◌, ◌<◌, ◌≤◌, ◌⊎◌, inl, inr, ℕ, List, [], ◌∷◌, ◌++◌, map, length, reverse, arith, ap, sym, subst, ◌∙◌, None}
-use Rattle.sabr_model.specs.Record.{record_of}
-use Rattle.sabr_frontier.specs.Asking.{Asked}
-use Rattle.sabr_frontier.specs.State.{State}
-use Rattle.sabr_frontier.specs.Listing.{next_route, searches_in, steps}
-use Rattle.sabr_frontier.specs.Shape.{Shape, shape_of, shown}
-use Rattle.sabr_frontier.specs.Session.{Seen, AreStarts, IsSession, IsSound, former_of, former_then, tree_before}
-use Rattle.sabr_frontier.proofs.Pages.{sound_tree, counts_idle, sound_undos, last_first, idle, busy, carried_or_not}
-use Rattle.sabr_frontier.specs.Undo.{IsIndexBack}
-use Rattle.sabr_frontier.specs.Winners.{CarriesNone}
-use Rattle.sabr_frontier.proofs.Settled.{back_before, part_before}
-use Rattle.sabr_frontier.specs.Fresh.{GivesNewRoutes}
-use Rattle.sabr_frontier.proofs.NewRoutes.{new_routes}
+use Rattle.sabr_model.specs.routes.Record.{record_of}
+use Rattle.sabr_frontier.specs.tree.Asking.{Asked}
+use Rattle.sabr_frontier.specs.listing.State.{State}
+use Rattle.sabr_frontier.specs.listing.Listing.{next_route, searches_in, steps}
+use Rattle.sabr_frontier.specs.tree.Shape.{Shape, shape_of, shown}
+use Rattle.sabr_frontier.specs.session.Session.{Seen, AreStarts, IsSession, IsSound, former_of, former_then, tree_before}
+use Rattle.sabr_frontier.proofs.SessionLemmas.Pages.{sound_tree, counts_idle, sound_undos, last_first, idle, busy, carried_or_not}
+use Rattle.sabr_frontier.specs.tree.Undo.{IsIndexBack}
+use Rattle.sabr_frontier.specs.tree.Winners.{CarriesNone}
+use Rattle.sabr_frontier.proofs.TreeLemmas.Settled.{back_before, part_before}
+use Rattle.sabr_frontier.specs.listing.Fresh.{GivesNewRoutes}
+use Rattle.sabr_frontier.proofs.ListingLemmas.NewRoutes.{new_routes}
 use Rattle.sabr_frontier.proofs.session.Session.page.Goals as goal
 use Rattle.sabr_frontier.proofs.session.Session.page.Goals.{then-count-eq0-via-then-count-eq0, then-count-eq0-via-else-count-eq0+then-is_empty}
 

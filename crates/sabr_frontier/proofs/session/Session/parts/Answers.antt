@@ -1,9 +1,9 @@
 use Rattle.std.proofs.Common.{length, map, ap, ◌∙◌}
-use Rattle.sabr_frontier.specs.Shape.{shape_of}
-use Rattle.sabr_frontier.specs.Session.{Seen, told_part}
-use Rattle.sabr_frontier.specs.Views.{told_at}
-use Rattle.sabr_frontier.proofs.Pages.{sound_tree}
-use Rattle.sabr_frontier.proofs.Roots.{told_all}
+use Rattle.sabr_frontier.specs.tree.Shape.{shape_of}
+use Rattle.sabr_frontier.specs.session.Session.{Seen, told_part}
+use Rattle.sabr_frontier.specs.session.Views.{told_at}
+use Rattle.sabr_frontier.proofs.SessionLemmas.Pages.{sound_tree}
+use Rattle.sabr_frontier.proofs.TreeLemmas.Roots.{told_all}
 use Rattle.sabr_frontier.proofs.session.Session.parts.Goals as goal
 
 pub returns : goal.returns

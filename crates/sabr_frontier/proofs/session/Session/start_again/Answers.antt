@@ -1,8 +1,8 @@
 use Rattle.std.proofs.Common.{◌≡◌, ◌+◌, [], subst}
 use Rattle.std.specs.Prelude.{IfOk}
-use Rattle.sabr_frontier.specs.Asking.{Asking}
-use Rattle.sabr_frontier.specs.Listing.{state_at}
-use Rattle.sabr_frontier.specs.Session.{Seen}
+use Rattle.sabr_frontier.specs.tree.Asking.{Asking}
+use Rattle.sabr_frontier.specs.listing.Listing.{state_at}
+use Rattle.sabr_frontier.specs.session.Session.{Seen}
 use Rattle.sabr_frontier.proofs.session.Session.start_again.Goals as goal
 
 pub returns : goal.returns

@@ -2,14 +2,14 @@ use Rattle.std.proofs.Common.{◌≡◌, inl, inr, List, refl, sym, ap, subst, �
 use Rattle.std.specs.Prelude.{IsTrue, slice_get}
 use Rattle.std.specs.List.Sorted.{IsStrictlyIncreasing}
 use Rattle.std.proofs.lemmas.Bool.{cases_lt}
-use Rattle.sabr_model.specs.Route.{is_prefix}
+use Rattle.sabr_model.specs.routes.Route.{is_prefix}
 use Rattle.sabr_frontier.specs.declared.tree.Node.{Node}
-use Rattle.sabr_frontier.specs.Asking.{Asked, best_for}
-use Rattle.sabr_frontier.specs.Shape.{shape_of, prefix_of}
-use Rattle.sabr_frontier.proofs.Ends.{get_there}
-use Rattle.sabr_frontier.proofs.Nodes.{get_within}
-use Rattle.sabr_frontier.proofs.Partition.{increasing}
-use Rattle.sabr_frontier.proofs.Verdicts.{excluded_rise, front_is, least_best, best_least}
+use Rattle.sabr_frontier.specs.tree.Asking.{Asked, best_for}
+use Rattle.sabr_frontier.specs.tree.Shape.{shape_of, prefix_of}
+use Rattle.sabr_frontier.proofs.TreeLemmas.Ends.{get_there}
+use Rattle.sabr_frontier.proofs.TreeLemmas.Nodes.{get_within}
+use Rattle.sabr_frontier.proofs.TreeLemmas.Partition.{increasing}
+use Rattle.sabr_frontier.proofs.SessionLemmas.Verdicts.{excluded_rise, front_is, least_best, best_least}
 use Rattle.sabr_frontier.proofs.tree.Tree.carries_least.Goals as goal
 
 pub ask-requires-clause-fits : goal.ask-requires-clause-fits

@@ -1,13 +1,13 @@
 use Rattle.std.proofs.Common.{◌≡◌, ◌+◌, ◌++◌, ◌∷◌, [], length, take, arith, ap, sym, subst, ◌∙◌, Some}
 use Rattle.std.specs.Option.{option_and_then}
-use Rattle.sabr_model.specs.Record.{RouteRecord}
-use Rattle.sabr_frontier.specs.Shape.{order_of, route_of}
-use Rattle.sabr_frontier.specs.Undo.{modify}
-use Rattle.sabr_frontier.specs.Prepared.{carrying}
-use Rattle.sabr_frontier.specs.Winners.{AreOthersWinners, AreWinners}
-use Rattle.sabr_frontier.proofs.Ends.{get_taken}
-use Rattle.sabr_frontier.proofs.Nodes.{get_other}
-use Rattle.sabr_frontier.proofs.Winning.{others_changed}
+use Rattle.sabr_model.specs.routes.Record.{RouteRecord}
+use Rattle.sabr_frontier.specs.tree.Shape.{order_of, route_of}
+use Rattle.sabr_frontier.specs.tree.Undo.{modify}
+use Rattle.sabr_frontier.specs.tree.Prepared.{carrying}
+use Rattle.sabr_frontier.specs.tree.Winners.{AreOthersWinners, AreWinners}
+use Rattle.sabr_frontier.proofs.TreeLemmas.Ends.{get_taken}
+use Rattle.sabr_frontier.proofs.TreeLemmas.Nodes.{get_other}
+use Rattle.sabr_frontier.proofs.TreeLemmas.Winning.{others_changed}
 use Rattle.sabr_frontier.proofs.tree.Tree.change.Goals as goal
 
 pub renew-requires-clause-others : goal.renew-requires-clause-others

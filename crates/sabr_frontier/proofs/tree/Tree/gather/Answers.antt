@@ -1,13 +1,13 @@
 use Rattle.std.proofs.Common.{◌≡◌, refl, ◌-◌, ◌+◌, ◌≤◌, suc, length, arith, ap, sym, subst, ◌∙◌, inr, zero-add}
-use Rattle.sabr_model.specs.Plan.{IsPlan}
-use Rattle.sabr_model.proofs.Answered.{on_err}
-use Rattle.sabr_frontier.specs.Asking.{Asked}
-use Rattle.sabr_frontier.specs.Shape.{shape_of, shown}
-use Rattle.sabr_frontier.specs.Sound.{IsTree}
-use Rattle.sabr_frontier.specs.Taking.{IsTaken}
-use Rattle.sabr_frontier.proofs.Giving.{is_given}
-use Rattle.sabr_frontier.proofs.Pages.{IsOnTheWay, at_first, one_on, at_last, at_end, sound_tree, last_steps, counts_on, counts_idle, counts_none, counts_first}
-use Rattle.sabr_frontier.specs.Listing.{searches_in}
+use Rattle.sabr_model.specs.plan.Plan.{IsPlan}
+use Rattle.sabr_model.proofs.ListLemmas.Answered.{on_err}
+use Rattle.sabr_frontier.specs.tree.Asking.{Asked}
+use Rattle.sabr_frontier.specs.tree.Shape.{shape_of, shown}
+use Rattle.sabr_frontier.specs.tree.Sound.{IsTree}
+use Rattle.sabr_frontier.specs.tree.Taking.{IsTaken}
+use Rattle.sabr_frontier.proofs.TreeLemmas.Giving.{is_given}
+use Rattle.sabr_frontier.proofs.SessionLemmas.Pages.{IsOnTheWay, at_first, one_on, at_last, at_end, sound_tree, last_steps, counts_on, counts_idle, counts_none, counts_first}
+use Rattle.sabr_frontier.specs.listing.Listing.{searches_in}
 use Rattle.sabr_frontier.proofs.tree.Tree.gather.Goals as goal
 
 pub loop-init : goal.loop-init

@@ -1,8 +1,8 @@
 use Rattle.std.proofs.Common.{◌≡◌, ◌+◌, ◌-◌, ◌*◌, ◌≤◌}
-use Rattle.sabr_frontier.specs.Listing.{searches_in}
-use Rattle.sabr_frontier.specs.Shape.{shape_of, shown}
-use Rattle.sabr_frontier.specs.Undo.{IsRoomy}
-use Rattle.sabr_frontier.proofs.Pages.{IsOnTheWay}
+use Rattle.sabr_frontier.specs.listing.Listing.{searches_in}
+use Rattle.sabr_frontier.specs.tree.Shape.{shape_of, shown}
+use Rattle.sabr_frontier.specs.tree.Undo.{IsRoomy}
+use Rattle.sabr_frontier.proofs.SessionLemmas.Pages.{IsOnTheWay}
 use Rattle.sabr_frontier.proofs.tree.Tree.gather.Given as goal
 
 abbrev pub invariant-loop : goal.invariant-loop

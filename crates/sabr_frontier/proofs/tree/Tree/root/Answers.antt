@@ -1,8 +1,8 @@
 use Rattle.std.proofs.Common.{◌++◌, ◌∷◌, [], arith, ap, sym, subst, ◌∙◌, None}
 use Rattle.sabr_frontier.specs.declared.tree.Node.{Node}
-use Rattle.sabr_frontier.specs.Root.{first_id}
-use Rattle.sabr_frontier.specs.Winners.{AreWinners}
-use Rattle.sabr_frontier.proofs.Indexed.{order_one}
+use Rattle.sabr_frontier.specs.tree.Root.{first_id}
+use Rattle.sabr_frontier.specs.tree.Winners.{AreWinners}
+use Rattle.sabr_frontier.proofs.TreeLemmas.Indexed.{order_one}
 use Rattle.sabr_frontier.proofs.tree.Tree.root.Goals as goal
 
 pub returns-clause-shape : goal.returns-clause-shape

@@ -2,28 +2,28 @@ use Rattle.std.proofs.Common.{◌≡◌, ℕ, ◌+◌, ◌<◌, ◌++◌, length
 use Rattle.std.specs.Prelude.{IsSome, slice_get}
 use Rattle.std.specs.Option.{option_and_then}
 use Rattle.std.proofs.lemmas.List.{take_at}
-use Rattle.sabr_model.specs.Record.{RouteRecord}
-use Rattle.sabr_model.specs.Route.{is_route}
-use Rattle.sabr_model.proofs.Answered.{on_err}
+use Rattle.sabr_model.specs.routes.Record.{RouteRecord}
+use Rattle.sabr_model.specs.routes.Route.{is_route}
+use Rattle.sabr_model.proofs.ListLemmas.Answered.{on_err}
 use Rattle.sabr_frontier.specs.declared.tree.Node.{Node}
 use Rattle.sabr_frontier.specs.declared.tree.NodeId.{NodeId}
-use Rattle.sabr_frontier.specs.Shape.{Shape, order_of, shape_of, route_at, route_of, numbers_of}
-use Rattle.sabr_frontier.specs.Best.{best_of}
-use Rattle.sabr_frontier.specs.Undo.{modify}
-use Rattle.sabr_frontier.specs.Winners.{AreWinners, IsFirst, IsLeast}
-use Rattle.sabr_frontier.specs.Asking.{Asked, best_for}
-use Rattle.sabr_frontier.specs.Sound.{CanExclude, IsTree}
-use Rattle.sabr_frontier.specs.Taking.{changed_by, divided, fresh_after, nodes_then, wide_of}
-use Rattle.sabr_frontier.specs.Prepared.{carrying, excluding, given_by}
-use Rattle.sabr_frontier.proofs.Ends.{length-modify, modify_front}
-use Rattle.sabr_frontier.proofs.Nodes.{get_front, get_same, get_within}
-use Rattle.sabr_frontier.proofs.Excluding.{carried_then}
-use Rattle.sabr_frontier.proofs.Refined.{standing, inside, can_exclude, route_there}
-use Rattle.sabr_frontier.proofs.Winning.{winners_same}
-use Rattle.sabr_frontier.proofs.Giving.{new_nodes}
-use Rattle.sabr_frontier.proofs.Pages.{counts_one}
-use Rattle.sabr_frontier.proofs.Indexed.{tree_indexed}
-use Rattle.sabr_frontier.proofs.Sounds.{tree_divided}
+use Rattle.sabr_frontier.specs.tree.Shape.{Shape, order_of, shape_of, route_at, route_of, numbers_of}
+use Rattle.sabr_frontier.specs.tree.Best.{best_of}
+use Rattle.sabr_frontier.specs.tree.Undo.{modify}
+use Rattle.sabr_frontier.specs.tree.Winners.{AreWinners, IsFirst, IsLeast}
+use Rattle.sabr_frontier.specs.tree.Asking.{Asked, best_for}
+use Rattle.sabr_frontier.specs.tree.Sound.{CanExclude, IsTree}
+use Rattle.sabr_frontier.specs.tree.Taking.{changed_by, divided, fresh_after, nodes_then, wide_of}
+use Rattle.sabr_frontier.specs.tree.Prepared.{carrying, excluding, given_by}
+use Rattle.sabr_frontier.proofs.TreeLemmas.Ends.{length-modify, modify_front}
+use Rattle.sabr_frontier.proofs.TreeLemmas.Nodes.{get_front, get_same, get_within}
+use Rattle.sabr_frontier.proofs.TreeLemmas.Excluding.{carried_then}
+use Rattle.sabr_frontier.proofs.TreeLemmas.Refined.{standing, inside, can_exclude, route_there}
+use Rattle.sabr_frontier.proofs.TreeLemmas.Winning.{winners_same}
+use Rattle.sabr_frontier.proofs.TreeLemmas.Giving.{new_nodes}
+use Rattle.sabr_frontier.proofs.SessionLemmas.Pages.{counts_one}
+use Rattle.sabr_frontier.proofs.TreeLemmas.Indexed.{tree_indexed}
+use Rattle.sabr_frontier.proofs.TreeLemmas.Sounds.{tree_divided}
 use Rattle.sabr_frontier.proofs.tree.Tree.take.Goals as goal
 
 -- a number more excluded changes no route

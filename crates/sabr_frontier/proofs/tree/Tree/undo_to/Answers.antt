@@ -2,9 +2,9 @@ use Rattle.std.proofs.Common.{◌≡◌, ◌-◌, arith, ap, sym, subst, ◌∙�
 use Rattle.std.specs.Prelude.{nat_lt}
 use Rattle.std.specs.List.{filter}
 use Rattle.sabr_frontier.specs.declared.tree.NodeId.{NodeId}
-use Rattle.sabr_frontier.specs.Shape.{Shape, shape_of}
-use Rattle.sabr_frontier.specs.Undo.{undone_times}
-use Rattle.sabr_frontier.specs.Winners.{AreWinners}
+use Rattle.sabr_frontier.specs.tree.Shape.{Shape, shape_of}
+use Rattle.sabr_frontier.specs.tree.Undo.{undone_times}
+use Rattle.sabr_frontier.specs.tree.Winners.{AreWinners}
 use Rattle.sabr_frontier.proofs.tree.Tree.undo_to.Goals as goal
 
 pub returns-clause-index : goal.returns-clause-index

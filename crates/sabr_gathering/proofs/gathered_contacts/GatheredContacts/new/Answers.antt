@@ -1,4 +1,4 @@
-use Rattle.sabr_model.proofs.PlanLemmas.{IsPlan-empty}
+use Rattle.sabr_model.proofs.PlanLemmas.ContactLemmas.{IsPlan-empty}
 use Rattle.sabr_gathering.proofs.gathered_contacts.GatheredContacts.new.Goals as goal
 
 pub invariant_of-result : goal.invariant_of-result

@@ -1,4 +1,4 @@
-use Rattle.sabr_model.proofs.PlanLemmas.{IsPlan-empty}
+use Rattle.sabr_model.proofs.PlanLemmas.ContactLemmas.{IsPlan-empty}
 use Rattle.sabr_gathering.proofs.ordered_ranges.OrderedRanges.new.Goals as goal
 
 pub invariant_of-result : goal.invariant_of-result

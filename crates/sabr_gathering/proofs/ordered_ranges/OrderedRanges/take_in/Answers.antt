@@ -1,7 +1,7 @@
 use Rattle.std.proofs.Common.{◌≡◌, ◌∙◌, [], length, ap, sym, subst, arith}
 use Rattle.std.proofs.lemmas.Bool.{eqb-true}
 use Rattle.sabr_gathering.specs.Gathering.{gathered, AreGathered}
-use Rattle.sabr_model.proofs.PlanLemmas.{IsPlan-empty}
+use Rattle.sabr_model.proofs.PlanLemmas.ContactLemmas.{IsPlan-empty}
 use Rattle.sabr_gathering.proofs.Gathers.{none_placed, none_of_length}
 use Rattle.sabr_gathering.proofs.ordered_ranges.OrderedRanges.take_in.Goals as goal
 

@@ -4,7 +4,7 @@ use Rattle.std.proofs.lemmas.List.{take-append-drop, take_all}
 use Rattle.std.proofs.lemmas.Bool.Decides.{nat_tests}
 use Rattle.sabr_model.specs.Devices.{stall_faults}
 use Rattle.std.proofs.KnownBytes.{Appends-trans, Appends-kept}
-use Rattle.sabr_model.proofs.WrittenTexts.{Keeps-nil}
+use Rattle.sabr_model.proofs.ListLemmas.WrittenTexts.{Keeps-nil}
 use Rattle.sabr_model.proofs.devices.text.write_text.Goals as goal
 
 rest : (text : List ℕ) (at : ℕ) → take (length text - at) (drop at text) ≡ drop at text

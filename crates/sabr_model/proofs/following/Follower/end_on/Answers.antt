@@ -1,6 +1,6 @@
 use Rattle.std.proofs.Common.{◌≡◌, ◌∷◌, ◌++◌, [], Some, sym, ◌∙◌, rules}
-use Rattle.sabr_model.specs.Fault.{fault_of}
-use Rattle.sabr_model.proofs.Follows.{ends_elsewhere, ends_there, fault_behind, path_behind, some_behind}
+use Rattle.sabr_model.specs.routes.Fault.{fault_of}
+use Rattle.sabr_model.proofs.RouteLemmas.Follows.{ends_elsewhere, ends_there, fault_behind, path_behind, some_behind}
 use Rattle.sabr_model.proofs.following.Follower.end_on.Goals as goal
 
 pub returns-in_err-here-clause-fault : goal.returns-in_err-here-clause-fault

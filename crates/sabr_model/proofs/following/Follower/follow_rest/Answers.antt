@@ -1,9 +1,9 @@
 use Rattle.std.proofs.Common.{◌≡◌, ℕ, ◌+◌, List, [], ◌∷◌, ◌++◌, take, get_or, subst, ◌∙◌}
 use Rattle.std.proofs.lemmas.List.{take_all, take_more}
-use Rattle.sabr_model.specs.Route.{receivers}
-use Rattle.sabr_model.specs.Following.{AreMarked}
-use Rattle.sabr_model.proofs.Follows.{all_followed, first_fault_on, front_is_good}
-use Rattle.sabr_model.proofs.Marks.{marked_on, set_many}
+use Rattle.sabr_model.specs.routes.Route.{receivers}
+use Rattle.sabr_model.specs.routes.Following.{AreMarked}
+use Rattle.sabr_model.proofs.RouteLemmas.Follows.{all_followed, first_fault_on, front_is_good}
+use Rattle.sabr_model.proofs.RouteLemmas.Marks.{marked_on, set_many}
 use Rattle.sabr_model.proofs.following.Follower.follow_rest.Goals as goal
 
 pub loop-i-init : goal.loop-i-init

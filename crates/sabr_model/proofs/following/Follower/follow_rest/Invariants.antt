@@ -1,7 +1,7 @@
 use Rattle.std.proofs.Common.{◌≡◌, [], length, take, drop}
-use Rattle.sabr_model.specs.Route.{receivers}
-use Rattle.sabr_model.specs.Fault.{first_fault}
-use Rattle.sabr_model.specs.Following.{AreMarked, IsReachedBy}
+use Rattle.sabr_model.specs.routes.Route.{receivers}
+use Rattle.sabr_model.specs.routes.Fault.{first_fault}
+use Rattle.sabr_model.specs.routes.Following.{AreMarked, IsReachedBy}
 use Rattle.sabr_model.proofs.following.Follower.follow_rest.Given as goal
 
 abbrev pub invariant-loop-i : goal.invariant-loop-i

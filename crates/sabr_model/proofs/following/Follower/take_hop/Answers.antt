@@ -2,10 +2,10 @@ use Rattle.std.proofs.Common.{◌≡◌, ℕ, ◌+◌, ◌≤◌, max, Option, l
 use Rattle.std.specs.Prelude.{IfSome}
 use Rattle.std.specs.Option.{option_map}
 use Rattle.std.specs.declared.option.Option.TheVariants.{Some, None}
-use Rattle.sabr_model.specs.Light.{light_of}
-use Rattle.sabr_model.specs.Arrival.{arrival, cost}
-use Rattle.sabr_model.proofs.RangeKeys.{light_of_limit}
-use Rattle.sabr_model.proofs.Follows.{ends_in_time, reached_on}
+use Rattle.sabr_model.specs.plan.Light.{light_of}
+use Rattle.sabr_model.specs.routes.Arrival.{arrival, cost}
+use Rattle.sabr_model.proofs.PlanLemmas.ContactLemmas.RangeKeys.{light_of_limit}
+use Rattle.sabr_model.proofs.RouteLemmas.Follows.{ends_in_time, reached_on}
 use Rattle.sabr_model.proofs.following.Follower.take_hop.Goals as goal
 
 pub arrive_over-requires : goal.arrive_over-requires

@@ -1,5 +1,5 @@
 -- The count starts at 0.
-use Rattle.sabr_model.proofs.CountWalks.{[], ◌∷◌, refl, proved, ftrue, raw, ‵, ◌$◌, ◌∵◌, !, qed, done, keep, fjoin, suffices, enter, no_more, returns, alloc_all, pass_all, free_all, look_at, sets, nothing, owned, move, on_entry, Stays, walk_of, says, ends_at, agg}
+use Rattle.sabr_model.proofs.ListLemmas.CountWalks.{[], ◌∷◌, refl, proved, ftrue, raw, ‵, ◌$◌, ◌∵◌, !, qed, done, keep, fjoin, suffices, enter, no_more, returns, alloc_all, pass_all, free_all, look_at, sets, nothing, owned, move, on_entry, Stays, walk_of, says, ends_at, agg}
 use mir.Val.{vstruct, vnil}
 use denote.Laws.{Is}
 use denote.Struct.Struct.{Struct, Struct-Makes}

@@ -1,7 +1,7 @@
 use Rattle.std.proofs.Common.{List, sym, subst}
 use Rattle.sabr_model.specs.declared.plan.ends.Ends.{Ends}
-use Rattle.sabr_model.specs.Plan.{TabledPlan}
-use Rattle.sabr_model.specs.Known.{BeginEnds}
+use Rattle.sabr_model.specs.plan.Plan.{TabledPlan}
+use Rattle.sabr_model.specs.plan.Known.{BeginEnds}
 use Rattle.sabr_model.proofs.plan.Plan.known_ends.Goals as goal
 
 pub returns : goal.returns

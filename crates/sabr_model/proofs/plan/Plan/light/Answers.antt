@@ -1,10 +1,10 @@
 use Rattle.std.proofs.Common.{◌≡◌, Option, ℕ, ◌≤◌, List, ap, sym, subst, ◌∙◌}
 use Rattle.std.specs.Prelude.{IfSome}
 use Rattle.sabr_model.specs.declared.contact.Range.{Range}
-use Rattle.sabr_model.specs.Light.{light_of}
-use Rattle.sabr_model.specs.Plan.{ContactPlan, TabledPlan}
-use Rattle.sabr_model.specs.RangeOrder.{IsRangeList}
-use Rattle.sabr_model.proofs.RangeKeys.{range_list, light_of_limit}
+use Rattle.sabr_model.specs.plan.Light.{light_of}
+use Rattle.sabr_model.specs.plan.Plan.{ContactPlan, TabledPlan}
+use Rattle.sabr_model.specs.plan.RangeOrder.{IsRangeList}
+use Rattle.sabr_model.proofs.PlanLemmas.ContactLemmas.RangeKeys.{range_list, light_of_limit}
 use Rattle.sabr_model.proofs.plan.Plan.light.Goals as goal
 
 pub light_of_contact-requires : goal.light_of_contact-requires

@@ -3,13 +3,13 @@ use Rattle.std.proofs.lemmas.Bool.{both_ways}
 use Rattle.indexmap.specs.IndexMap.{keys}
 use Rattle.sabr_model.specs.declared.contact.Contact.{Contact}
 use Rattle.sabr_model.specs.declared.contact.Range.{Range}
-use Rattle.sabr_model.specs.Plan.{ContactPlan}
-use Rattle.sabr_model.specs.RangeOrder.{IsRangeList}
-use Rattle.sabr_model.specs.Table.{IsTableOf}
-use Rattle.sabr_model.specs.Stretches.{AreEnds}
-use Rattle.sabr_model.specs.Known.{BeginLights}
-use Rattle.sabr_model.proofs.RangeKeys.{range_list}
-use Rattle.sabr_model.proofs.KnownLemmas.{all_ends}
+use Rattle.sabr_model.specs.plan.Plan.{ContactPlan}
+use Rattle.sabr_model.specs.plan.RangeOrder.{IsRangeList}
+use Rattle.sabr_model.specs.plan.Table.{IsTableOf}
+use Rattle.sabr_model.specs.plan.Stretches.{AreEnds}
+use Rattle.sabr_model.specs.plan.Known.{BeginLights}
+use Rattle.sabr_model.proofs.PlanLemmas.ContactLemmas.RangeKeys.{range_list}
+use Rattle.sabr_model.proofs.PlanLemmas.ContactLemmas.KnownLemmas.{all_ends}
 use Rattle.sabr_model.proofs.plan.Plan.of_parts.Goals as goal
 
 pub lights_of-requires-clause-ranges : goal.lights_of-requires-clause-ranges

@@ -2,12 +2,12 @@ use Rattle.std.proofs.Common.{◌≡◌, ◌∙◌, List, insert, ap, sym, subst
 use Rattle.std.specs.declared.option.Option.TheVariants.{None}
 use Rattle.sabr_model.specs.declared.contact.Range.{Range}
 use Rattle.sabr_model.specs.Order.{put_in}
-use Rattle.sabr_model.specs.RangeOrder.{number_of_range, IsRangeList, IsCountUntil}
-use Rattle.sabr_model.specs.Plan.{ContactPlan, TabledPlan}
-use Rattle.sabr_model.specs.Adding.{range_refusal, with_range, by_range_key}
-use Rattle.sabr_model.proofs.RangeLemmas.{IsPlan-range}
-use Rattle.sabr_model.proofs.RangeKeys.{range_list, count_is_put}
-use Rattle.sabr_model.proofs.KnownLemmas.{ends_known}
+use Rattle.sabr_model.specs.plan.RangeOrder.{number_of_range, IsRangeList, IsCountUntil}
+use Rattle.sabr_model.specs.plan.Plan.{ContactPlan, TabledPlan}
+use Rattle.sabr_model.specs.plan.Adding.{range_refusal, with_range, by_range_key}
+use Rattle.sabr_model.proofs.PlanLemmas.ContactLemmas.RangeLemmas.{IsPlan-range}
+use Rattle.sabr_model.proofs.PlanLemmas.ContactLemmas.RangeKeys.{range_list, count_is_put}
+use Rattle.sabr_model.proofs.PlanLemmas.ContactLemmas.KnownLemmas.{ends_known}
 use Rattle.sabr_model.proofs.plan.Plan.put_range.Goals as goal
 
 pub ranges_until-place-requires : goal.ranges_until-place-requires

@@ -1,6 +1,6 @@
 use Rattle.std.proofs.Common.{◌≡◌, ◌<◌, ℕ, [], Option, length, slice_index_or}
 use Rattle.sabr_model.specs.declared.contact.Contact.{Contact}
-use Rattle.sabr_model.specs.Light.{light_of}
+use Rattle.sabr_model.specs.plan.Light.{light_of}
 use Rattle.sabr_model.proofs.plan.lights.lights_of.Given as goal
 
 abbrev pub invariant-loop-place : goal.invariant-loop-place

@@ -2,7 +2,7 @@ use Rattle.std.proofs.Common.{◌≡◌, ℕ, ◌-◌, ◌<◌, ◌≤◌, List,
 use Rattle.std.specs.Prelude.{◌⊎◌}
 use Rattle.std.proofs.lemmas.Bool.{both_ways, cases_eq, cases_lt}
 use Rattle.sabr_model.specs.declared.contact.Range.{Range}
-use Rattle.sabr_model.specs.RangeOrder.{place_number, number_of_range, IsRangeList, IsCountUntil}
+use Rattle.sabr_model.specs.plan.RangeOrder.{place_number, number_of_range, IsRangeList, IsCountUntil}
 use Rattle.sabr_model.proofs.plan.ranges.is_count_until.Goals as goal
 use Rattle.sabr_model.proofs.plan.ranges.is_count_until.Goals.{else-count-gt0-via-then-count-gt0+else-not-range_comes_by, else-count-gt0-via-else-count-gt0, else-count-ranges-2-via-then-count-ranges-2+else-range_comes_by, else-count-ranges-2-via-else-count-ranges-2}
 

@@ -1,6 +1,6 @@
 use Rattle.std.proofs.Common.{◌≡◌, ◌+◌, ◌-◌, ◌/◌, ◌<◌, ◌≤◌, length, get_or, inl, inr, arith, ap}
 use Rattle.std.proofs.lemmas.Bool.{cases_order, both_ways, cases_lt}
-use Rattle.sabr_model.specs.RangeOrder.{place_number, number_of_range}
+use Rattle.sabr_model.specs.plan.RangeOrder.{place_number, number_of_range}
 use Rattle.sabr_model.proofs.plan.ranges.ranges_until.Goals as goal
 
 pub loop-low-preserved-then-range_comes_by : goal.loop-low-preserved-then-range_comes_by

@@ -1,6 +1,6 @@
 use Rattle.std.proofs.Common.{◌-◌, ℕ, ◌<◌, ◌≤◌, length, slice_index_or}
 use Rattle.sabr_model.specs.declared.contact.Range.{Range}
-use Rattle.sabr_model.specs.RangeOrder.{place_number, number_of_range}
+use Rattle.sabr_model.specs.plan.RangeOrder.{place_number, number_of_range}
 use Rattle.sabr_model.proofs.plan.ranges.ranges_until.Given as goal
 
 abbrev pub invariant-loop-low : goal.invariant-loop-low

@@ -5,9 +5,9 @@ use Rattle.std.proofs.lemmas.List.{get_or_default}
 use Rattle.std.proofs.lemmas.Option.{slice_get_within}
 use Rattle.indexmap.specs.IndexMap.{keys}
 use Rattle.sabr_model.specs.declared.contact.Range.{Range}
-use Rattle.sabr_model.specs.Plan.{has}
-use Rattle.sabr_model.proofs.Tabled.{index_tells, different_from_distinct}
-use Rattle.sabr_model.proofs.Stretches.{no_stretch, stretches_without, stretches_with}
+use Rattle.sabr_model.specs.plan.Plan.{has}
+use Rattle.sabr_model.proofs.PlanLemmas.ContactLemmas.Tabled.{index_tells, different_from_distinct}
+use Rattle.sabr_model.proofs.PlanLemmas.ContactLemmas.Stretches.{no_stretch, stretches_without, stretches_with}
 use Rattle.sabr_model.proofs.plan.stretches.stretches_of.Goals as goal
 
 pub loop-first-init : goal.loop-first-init

@@ -1,6 +1,6 @@
 use Rattle.std.proofs.Common.{◌-◌, ◌≤◌, length}
 use Rattle.indexmap.specs.IndexMap.{keys}
-use Rattle.sabr_model.specs.Stretches.{AreStretches}
+use Rattle.sabr_model.specs.plan.Stretches.{AreStretches}
 use Rattle.sabr_model.proofs.plan.stretches.stretches_of.Given as goal
 
 abbrev pub invariant-loop-first : goal.invariant-loop-first

@@ -1,8 +1,8 @@
 use Rattle.std.proofs.Common.{◌≡◌, min, Some, None, sym, ap, ◌∙◌}
 use Rattle.std.specs.Option.{option_copied}
-use Rattle.sabr_model.specs.Plan.{contact_named}
+use Rattle.sabr_model.specs.plan.Plan.{contact_named}
 use Rattle.sabr_model.specs.declared.told.Told.{Told}
-use Rattle.sabr_model.proofs.Tellings.{told_first, told_more, told_none}
+use Rattle.sabr_model.proofs.RouteLemmas.Tellings.{told_first, told_more, told_none}
 use Rattle.sabr_model.proofs.told.Told.extended.Goals as goal
 
 pub returns-in_default : goal.returns-in_default

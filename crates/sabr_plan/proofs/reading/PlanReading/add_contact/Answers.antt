@@ -1,8 +1,8 @@
 -- The gathered contacts take the contact or refuse it.
 use Rattle.std.proofs.Common.{ap}
 use Rattle.std.proofs.lemmas.Result.{on_ok_weaker}
-use Rattle.sabr_model.specs.Plan.{ContactPlan}
-use Rattle.sabr_model.specs.Adding.{contact_refusal, next_contact, with_contact}
+use Rattle.sabr_model.specs.plan.Plan.{ContactPlan}
+use Rattle.sabr_model.specs.plan.Adding.{contact_refusal, next_contact, with_contact}
 use Rattle.sabr_plan.specs.Reading.{obeyed}
 use Rattle.sabr_plan.proofs.Leaving.{IsAnswered, changed_ok, changed_err}
 use Rattle.sabr_plan.proofs.reading.PlanReading.add_contact.Goals as goal

@@ -1,9 +1,9 @@
 -- The plan takes the range or refuses it.
 use Rattle.std.proofs.Common.{ap, List}
 use Rattle.sabr_model.specs.declared.contact.Range.{Range}
-use Rattle.sabr_model.specs.Plan.{ContactPlan}
+use Rattle.sabr_model.specs.plan.Plan.{ContactPlan}
 use Rattle.std.proofs.lemmas.Result.{on_ok_weaker}
-use Rattle.sabr_model.specs.Adding.{range_refusal, new_range, with_range}
+use Rattle.sabr_model.specs.plan.Adding.{range_refusal, new_range, with_range}
 use Rattle.sabr_plan.specs.Reading.{obeyed}
 use Rattle.sabr_plan.proofs.Leaving.{IsAnswered, changed_ok, changed_err}
 use Rattle.sabr_plan.proofs.reading.PlanReading.add_range.Goals as goal

@@ -1,8 +1,8 @@
 -- The gathered contacts give the contact up or have none.
 use Rattle.std.proofs.Common.{ap}
 use Rattle.std.proofs.lemmas.Result.{on_ok_weaker}
-use Rattle.sabr_model.specs.Plan.{ContactPlan}
-use Rattle.sabr_model.specs.Adding.{number_of_opening, without_contact}
+use Rattle.sabr_model.specs.plan.Plan.{ContactPlan}
+use Rattle.sabr_model.specs.plan.Adding.{number_of_opening, without_contact}
 use Rattle.sabr_plan.specs.Reading.{obeyed}
 use Rattle.sabr_plan.proofs.Leaving.{changed_ok, changed_err, contact_deleted}
 use Rattle.sabr_plan.proofs.reading.PlanReading.delete_contact.Goals as goal

@@ -1,9 +1,9 @@
 -- The plan gives the range up or has none.
 use Rattle.std.proofs.Common.{ap, List}
 use Rattle.sabr_model.specs.declared.contact.Range.{Range}
-use Rattle.sabr_model.specs.Plan.{ContactPlan}
+use Rattle.sabr_model.specs.plan.Plan.{ContactPlan}
 use Rattle.std.proofs.lemmas.Result.{on_ok_weaker}
-use Rattle.sabr_model.specs.Adding.{begins, without_range}
+use Rattle.sabr_model.specs.plan.Adding.{begins, without_range}
 use Rattle.std.specs.List.{list_any}
 use Rattle.sabr_plan.specs.Reading.{obeyed}
 use Rattle.sabr_plan.proofs.Leaving.{IsDeleted, deleted_ok, deleted_err}

@@ -1,7 +1,7 @@
 use Rattle.std.proofs.Common.{◌≡◌, ◌<◌, Some, length, slice_index, ap, sym, subst, ◌∙◌, arith}
 use Rattle.std.proofs.lemmas.Option.{slice_get-get_or, get_or_from_slice_get}
-use Rattle.sabr_search.specs.KeptAnswers.{Arrives}
-use Rattle.sabr_search.proofs.KeptAnswers.{IsOnWay, on_way_first, on_way_more}
+use Rattle.sabr_search.specs.answers.KeptAnswers.{Arrives}
+use Rattle.sabr_search.proofs.AnswerLemmas.KeptAnswers.{IsOnWay, on_way_first, on_way_more}
 use Rattle.sabr_search.proofs.answers.Answer.leads.Goals as goal
 
 pub loop-place-init : goal.loop-place-init

@@ -1,5 +1,5 @@
 use Rattle.std.proofs.Common.{◌≤◌}
-use Rattle.sabr_search.proofs.KeptAnswers.{IsOnWay}
+use Rattle.sabr_search.proofs.AnswerLemmas.KeptAnswers.{IsOnWay}
 use Rattle.sabr_search.proofs.answers.Answer.leads.Given as goal
 
 abbrev pub invariant-loop-place : goal.invariant-loop-place

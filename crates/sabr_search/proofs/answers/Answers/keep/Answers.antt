@@ -1,6 +1,6 @@
-use Rattle.sabr_search.specs.FirstSteps.{tabled_of}
-use Rattle.sabr_search.specs.KeptAnswers.{IsAnswer}
-use Rattle.sabr_search.proofs.KeptAnswers.{put_all}
+use Rattle.sabr_search.specs.questions.FirstSteps.{tabled_of}
+use Rattle.sabr_search.specs.answers.KeptAnswers.{IsAnswer}
+use Rattle.sabr_search.proofs.AnswerLemmas.KeptAnswers.{put_all}
 use Rattle.sabr_search.proofs.answers.Answers.keep.Goals as goal
 
 pub returns-in-Some : goal.returns-in-Some

@@ -1,6 +1,6 @@
 use Rattle.std.proofs.Common.{◌≡◌, refl}
-use Rattle.sabr_search.specs.KeptAnswers.{AreListed}
-use Rattle.sabr_search.proofs.KeptAnswers.{kept_is}
+use Rattle.sabr_search.specs.answers.KeptAnswers.{AreListed}
+use Rattle.sabr_search.proofs.AnswerLemmas.KeptAnswers.{kept_is}
 use Rattle.sabr_search.proofs.answers.Answers.made.Goals as goal
 
 pub returns : goal.returns

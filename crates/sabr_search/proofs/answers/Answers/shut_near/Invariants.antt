@@ -1,6 +1,6 @@
-use Rattle.sabr_search.specs.Task.{IsOfRequest}
-use Rattle.sabr_search.specs.Answers.{narrowed}
-use Rattle.sabr_search.specs.WideTasks.{ShutsFewer}
+use Rattle.sabr_search.specs.questions.Task.{IsOfRequest}
+use Rattle.sabr_search.specs.answers.Answers.{narrowed}
+use Rattle.sabr_search.specs.questions.WideTasks.{ShutsFewer}
 use Rattle.sabr_search.proofs.answers.Answers.shut_near.Given as goal
 
 abbrev pub invariant-loop-place : goal.invariant-loop-place

@@ -2,14 +2,14 @@ use Rattle.std.proofs.Common.{◌≡◌, ℕ, ◌+◌, ◌-◌, ◌<◌, ◌++�
 use Rattle.std.proofs.lemmas.List.{take_all}
 use Rattle.std.proofs.lemmas.Option.{slice_get-get_or, slice_get_within}
 use Rattle.sabr_model.specs.declared.contact.Contact.{Contact}
-use Rattle.sabr_model.proofs.Different.{part_at}
-use Rattle.sabr_model.proofs.Paths.{IsHop}
-use Rattle.sabr_search.specs.declared.pick.Standing.{Standing}
-use Rattle.sabr_search.specs.Task.{is_closed}
-use Rattle.sabr_search.specs.Course.{AreShut, IsStop, AreStops}
-use Rattle.sabr_search.proofs.PlanFacts.{has_nodes}
-use Rattle.sabr_search.proofs.Prefixes.{prefix_facts}
-use Rattle.sabr_search.proofs.Courses.{shut_more, closed_more, hop_at, stop_after, arrival_at, taken_back, same_stops, stops_more, behind_passed, task_passed}
+use Rattle.sabr_model.proofs.ListLemmas.Different.{part_at}
+use Rattle.sabr_model.proofs.RouteLemmas.Paths.{IsHop}
+use Rattle.sabr_search.specs.declared.backward.pick.Standing.{Standing}
+use Rattle.sabr_search.specs.questions.Task.{is_closed}
+use Rattle.sabr_search.specs.questions.Course.{AreShut, IsStop, AreStops}
+use Rattle.sabr_search.proofs.LinkLemmas.PlanFacts.{has_nodes}
+use Rattle.sabr_search.proofs.WayLemmas.Prefixes.{prefix_facts}
+use Rattle.sabr_search.proofs.WayLemmas.Courses.{shut_more, closed_more, hop_at, stop_after, arrival_at, taken_back, same_stops, stops_more, behind_passed, task_passed}
 use Rattle.sabr_search.proofs.course.Course.go.Goals as goal
 
 pub open-requires : goal.open-requires

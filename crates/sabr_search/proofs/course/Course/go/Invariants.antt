@@ -1,6 +1,6 @@
 use Rattle.std.proofs.Common.{◌≡◌, ◌+◌, ◌-◌, ◌≤◌, take, length, vec_len}
-use Rattle.sabr_search.specs.Task.{is_closed}
-use Rattle.sabr_search.specs.Course.{AreShut, IsStop, AreStops}
+use Rattle.sabr_search.specs.questions.Task.{is_closed}
+use Rattle.sabr_search.specs.questions.Course.{AreShut, IsStop, AreStops}
 use Rattle.sabr_search.proofs.course.Course.go.Given as goal
 
 abbrev pub invariant-loop-self : goal.invariant-loop-self

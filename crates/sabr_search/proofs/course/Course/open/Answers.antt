@@ -1,10 +1,10 @@
 use Rattle.std.proofs.Common.{◌≡◌, ◌+◌, [], ◌∷◌, ◌++◌, Some, length, ap, sym, subst, ◌∙◌}
-use Rattle.sabr_model.specs.Plan.{has}
-use Rattle.sabr_model.proofs.Prefixes.{empty_is_prefix}
-use Rattle.sabr_search.specs.declared.pick.Standing.{Standing}
-use Rattle.sabr_search.specs.Course.{AreStops}
-use Rattle.sabr_search.proofs.PlanFacts.{has_nodes}
-use Rattle.sabr_search.proofs.Courses.{no_source, no_destination, first_stop}
+use Rattle.sabr_model.specs.plan.Plan.{has}
+use Rattle.sabr_model.proofs.RouteLemmas.Prefixes.{empty_is_prefix}
+use Rattle.sabr_search.specs.declared.backward.pick.Standing.{Standing}
+use Rattle.sabr_search.specs.questions.Course.{AreStops}
+use Rattle.sabr_search.proofs.LinkLemmas.PlanFacts.{has_nodes}
+use Rattle.sabr_search.proofs.WayLemmas.Courses.{no_source, no_destination, first_stop}
 use Rattle.sabr_search.proofs.course.Course.open.Goals as goal
 
 pub returns-in_default-clause-none : goal.returns-in_default-clause-none

@@ -1,14 +1,14 @@
 use Rattle.std.proofs.Common.{◌≡◌, length, replicate, ap, sym, ◌∙◌, arith}
-use Rattle.sabr_search.proofs.Since.{arrivals_since, filled}
+use Rattle.sabr_search.proofs.WayLemmas.Since.{arrivals_since, filled}
 use Rattle.std.specs.Option.{option_map}
-use Rattle.sabr_model.specs.Record.{record_of}
-use Rattle.sabr_model.specs.Table.{node_count}
-use Rattle.sabr_search.specs.Course.{IsCourse}
-use Rattle.sabr_search.specs.Task.{SearchTask, IsTask, IsBehind, task_of}
-use Rattle.sabr_search.proofs.Prefixes.{prefix_facts}
-use Rattle.sabr_search.proofs.Least.{none_is}
-use Rattle.sabr_search.proofs.Law.{contacts_few, prefix_few}
-use Rattle.sabr_search.proofs.Shortness.{nodes_few, entered_looks}
+use Rattle.sabr_model.specs.routes.Record.{record_of}
+use Rattle.sabr_model.specs.plan.Table.{node_count}
+use Rattle.sabr_search.specs.questions.Course.{IsCourse}
+use Rattle.sabr_search.specs.questions.Task.{SearchTask, IsTask, IsBehind, task_of}
+use Rattle.sabr_search.proofs.WayLemmas.Prefixes.{prefix_facts}
+use Rattle.sabr_search.proofs.WayLemmas.Least.{none_is}
+use Rattle.sabr_search.proofs.AnswerLemmas.Law.{contacts_few, prefix_few}
+use Rattle.sabr_search.proofs.WayLemmas.Shortness.{nodes_few, entered_looks}
 use Rattle.sabr_search.proofs.layered.Layered.find.Goals as goal
 
 pub go-requires-clause-course : goal.go-requires-clause-course

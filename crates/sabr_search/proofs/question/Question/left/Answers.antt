@@ -1,6 +1,6 @@
 use Rattle.std.proofs.Common.{length, ap, arith}
-use Rattle.sabr_model.specs.Arrival.{RouteRequest}
-use Rattle.sabr_search.proofs.Prefixes.{prefix_facts}
+use Rattle.sabr_model.specs.routes.Arrival.{RouteRequest}
+use Rattle.sabr_search.proofs.WayLemmas.Prefixes.{prefix_facts}
 use Rattle.sabr_search.proofs.question.Question.left.Goals as goal
 
 pub overflow_sub-left : goal.overflow_sub-left

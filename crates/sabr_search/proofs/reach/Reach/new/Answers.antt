@@ -1,4 +1,4 @@
-use Rattle.sabr_search.proofs.LastSeconds.{none_late}
+use Rattle.sabr_search.proofs.BackwardLemmas.LastSeconds.{none_late}
 use Rattle.sabr_search.proofs.reach.Reach.new.Goals as goal
 
 pub returns : goal.returns

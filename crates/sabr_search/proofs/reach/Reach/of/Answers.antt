@@ -1,6 +1,6 @@
 use Rattle.std.proofs.Common.{refl}
-use Rattle.sabr_search.proofs.FaultsOfPrefixes.{empty_fits}
-use Rattle.sabr_search.proofs.LastSeconds.{whole_task}
+use Rattle.sabr_search.proofs.WayLemmas.FaultsOfPrefixes.{empty_fits}
+use Rattle.sabr_search.proofs.BackwardLemmas.LastSeconds.{whole_task}
 use Rattle.sabr_search.proofs.reach.Reach.of.Goals as goal
 
 pub go-requires-clause-course : goal.go-requires-clause-course

@@ -1,7 +1,7 @@
 use Rattle.std.proofs.Common.{arith}
-use Rattle.sabr_search.proofs.Law.{contacts_few}
-use Rattle.sabr_search.proofs.Around.{of_request, late_bounds}
-use Rattle.sabr_search.proofs.Answered.{left_less}
+use Rattle.sabr_search.proofs.AnswerLemmas.Law.{contacts_few}
+use Rattle.sabr_search.proofs.AnswerLemmas.Around.{of_request, late_bounds}
+use Rattle.sabr_search.proofs.AnswerLemmas.Answered.{left_less}
 use Rattle.sabr_search.proofs.search.Search.find_kept.Goals as goal
 
 pub recall-recalled-requires-clause-most : goal.recall-recalled-requires-clause-most

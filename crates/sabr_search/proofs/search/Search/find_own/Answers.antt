@@ -1,5 +1,5 @@
 use Rattle.std.proofs.Common.{arith}
-use Rattle.sabr_search.proofs.Answered.{left_less, left_free, layers_within, search_fits}
+use Rattle.sabr_search.proofs.AnswerLemmas.Answered.{left_less, left_free, layers_within, search_fits}
 use Rattle.sabr_search.proofs.search.Search.find_own.Goals as goal
 
 pub run-requires-clause-nodes : goal.run-requires-clause-nodes

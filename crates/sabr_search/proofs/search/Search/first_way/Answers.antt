@@ -1,5 +1,5 @@
 use Rattle.std.proofs.Common.{arith}
-use Rattle.sabr_search.proofs.Front.{degree_at_most}
+use Rattle.sabr_search.proofs.BackwardLemmas.Front.{degree_at_most}
 use Rattle.sabr_search.proofs.search.Search.first_way.Goals as goal
 
 pub run-requires-clause-steps : goal.run-requires-clause-steps

@@ -1,12 +1,12 @@
 use Rattle.std.proofs.Common.{Option, length, ap, ◌∙◌, arith}
 use Rattle.std.specs.declared.result.Result.{Result}
 use Rattle.std.specs.declared.result.Result.TheVariants.{Ok}
-use Rattle.sabr_model.specs.Record.{RouteRecord}
+use Rattle.sabr_model.specs.routes.Record.{RouteRecord}
 use Rattle.sabr_model.specs.declared.fault.NoMemory.{NoMemory}
-use Rattle.sabr_search.specs.Task.{left_of}
-use Rattle.sabr_search.proofs.Answered.{passes_within, route_fits, told_least, told_bound, told_cut}
-use Rattle.sabr_search.proofs.KeptAnswers.{found_told}
-use Rattle.sabr_search.proofs.Around.{of_request, late_bounds}
+use Rattle.sabr_search.specs.questions.Task.{left_of}
+use Rattle.sabr_search.proofs.AnswerLemmas.Answered.{passes_within, route_fits, told_least, told_bound, told_cut}
+use Rattle.sabr_search.proofs.AnswerLemmas.KeptAnswers.{found_told}
+use Rattle.sabr_search.proofs.AnswerLemmas.Around.{of_request, late_bounds}
 use Rattle.sabr_search.proofs.search.Search.least_beside.Goals as goal
 
 pub returns-in_err-place-clause-bound : goal.returns-in_err-place-clause-bound

@@ -1,4 +1,4 @@
-use Rattle.sabr_search.proofs.OverLinks.{pass_small}
+use Rattle.sabr_search.proofs.LinkLemmas.OverLinks.{pass_small}
 use Rattle.sabr_search.proofs.task.Task.hop_over.Goals as goal
 
 pub returns-clause-small : goal.returns-clause-small

@@ -2,8 +2,8 @@ use Rattle.std.proofs.Common.{◌≡◌, inl, inr, Some, slice_get, refl, arith,
 use Rattle.std.proofs.lemmas.Option.{slice_get-get_or, slice_get_within}
 use Rattle.std.proofs.lemmas.Bool.{cases_lt}
 use Rattle.sabr_index.specs.declared.link.Pass.{Pass}
-use Rattle.sabr_search.proofs.Forward.{step_of_hop, last_or_before}
-use Rattle.sabr_search.proofs.OverLinks.{no_pass, none_ended, none_excluded, least_light_small, late_over, ruled_out, pass_takes, step_at, step_over, same_number, at_most_more}
+use Rattle.sabr_search.proofs.ForwardLemmas.Forward.{step_of_hop, last_or_before}
+use Rattle.sabr_search.proofs.LinkLemmas.OverLinks.{no_pass, none_ended, none_excluded, least_light_small, late_over, ruled_out, pass_takes, step_at, step_over, same_number, at_most_more}
 use Rattle.sabr_search.proofs.task.Task.least_over.Goals as goal
 
 pub returns-then-rules_out-clause-full : goal.returns-then-rules_out-clause-full

@@ -1,8 +1,8 @@
 use Rattle.std.proofs.Common.{◌≡◌, ◌⊎◌, ℕ, ◌+◌, ◌-◌, ◌<◌, ◌≤◌, Some, false, length, slice_get, slice_index_or}
 use Rattle.std.specs.Prelude.{IfSome}
 use Rattle.sabr_index.specs.declared.link.Pass.{Pass}
-use Rattle.sabr_search.specs.Task.{Takes}
-use Rattle.sabr_search.specs.Picks.{IsAtMost}
+use Rattle.sabr_search.specs.questions.Task.{Takes}
+use Rattle.sabr_search.specs.layers.Picks.{IsAtMost}
 use Rattle.sabr_search.proofs.task.Task.least_over.Given as goal
 
 abbrev pub invariant-loop-place : goal.invariant-loop-place

@@ -1,6 +1,6 @@
 use Rattle.std.proofs.Common.{◌+◌, max, arith}
-use Rattle.sabr_model.specs.Arrival.{cost}
-use Rattle.sabr_search.proofs.PlanFacts.{hop_arrives, hop_arrival_there}
+use Rattle.sabr_model.specs.routes.Arrival.{cost}
+use Rattle.sabr_search.proofs.LinkLemmas.PlanFacts.{hop_arrives, hop_arrival_there}
 use Rattle.sabr_search.proofs.task.Task.leave_before.Goals as goal
 
 pub returns-in-Some-clause-kept : goal.returns-in-Some-clause-kept

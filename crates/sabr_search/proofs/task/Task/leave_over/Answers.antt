@@ -2,9 +2,9 @@ use Rattle.std.proofs.Common.{◌≡◌, ◌-◌, inl, inr, Some, slice_get, ari
 use Rattle.std.proofs.lemmas.Option.{slice_get-get_or}
 use Rattle.std.proofs.lemmas.Bool.{cases_lt, cases_eq}
 use Rattle.sabr_index.specs.declared.link.Pass.{Pass}
-use Rattle.sabr_search.proofs.PlanFacts.{hop_at_window}
-use Rattle.sabr_search.proofs.Forward.{step_of_hop}
-use Rattle.sabr_search.proofs.OverLinks.{no_pass, least_before_small, starts_late, ruled_out, none_later, pass_takes, step_at, step_over}
+use Rattle.sabr_search.proofs.LinkLemmas.PlanFacts.{hop_at_window}
+use Rattle.sabr_search.proofs.ForwardLemmas.Forward.{step_of_hop}
+use Rattle.sabr_search.proofs.LinkLemmas.OverLinks.{no_pass, least_before_small, starts_late, ruled_out, none_later, pass_takes, step_at, step_over}
 use Rattle.sabr_search.proofs.task.Task.leave_over.Goals as goal
 
 pub returns-then-rules_out-clause-full : goal.returns-then-rules_out-clause-full

@@ -1,6 +1,6 @@
 use Rattle.std.proofs.Common.{◌≡◌, ℕ, ◌+◌, ◌<◌, ◌≤◌, Some, false, slice_get, slice_index_or}
 use Rattle.sabr_index.specs.declared.link.Pass.{Pass}
-use Rattle.sabr_search.specs.Task.{Takes}
+use Rattle.sabr_search.specs.questions.Task.{Takes}
 use Rattle.sabr_search.proofs.task.Task.leave_over.Given as goal
 
 abbrev pub invariant-loop-back : goal.invariant-loop-back

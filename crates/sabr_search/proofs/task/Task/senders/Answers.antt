@@ -1,6 +1,6 @@
 use Rattle.std.proofs.Common.{◌≡◌, ◌<◌, Some, length, slice_index, slice_get}
 use Rattle.std.proofs.lemmas.Option.{slice_get-get_or}
-use Rattle.sabr_search.proofs.Linking.{senders_at}
+use Rattle.sabr_search.proofs.LinkLemmas.Linking.{senders_at}
 use Rattle.sabr_search.proofs.task.Task.senders.Goals as goal
 
 pub returns : goal.returns

@@ -1,10 +1,10 @@
 use Rattle.std.proofs.Common.{◌≡◌, ◌≤◌, ◌<◌, false, true, inl, inr, slice_index_or, ap, sym, subst, ◌∙◌, arith}
 use Rattle.std.proofs.lemmas.Option.{slice_get_within}
 use Rattle.std.proofs.lemmas.Bool.{both_ways}
-use Rattle.sabr_search.specs.Task.{never}
-use Rattle.sabr_search.proofs.PlanFacts.{takes_early}
-use Rattle.sabr_search.proofs.Forward.{last_or_before}
-use Rattle.sabr_search.proofs.OverLinks.{link_here, link_by_place, no_link}
+use Rattle.sabr_search.specs.questions.Task.{never}
+use Rattle.sabr_search.proofs.LinkLemmas.PlanFacts.{takes_early}
+use Rattle.sabr_search.proofs.ForwardLemmas.Forward.{last_or_before}
+use Rattle.sabr_search.proofs.LinkLemmas.OverLinks.{link_here, link_by_place, no_link}
 use Rattle.sabr_search.proofs.task.Task.steps_from.Goals as goal
 
 pub link_passes-passes-requires-clause-ordered : goal.link_passes-passes-requires-clause-ordered

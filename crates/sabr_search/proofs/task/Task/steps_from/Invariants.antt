@@ -1,9 +1,9 @@
 use Rattle.std.proofs.Common.{◌≡◌, ℕ, ◌+◌, ◌<◌, ◌≤◌, Some, length, slice_get}
 use Rattle.sabr_index.specs.declared.link.Link.{Link}
-use Rattle.sabr_search.specs.declared.pick.Standing.{Standing}
-use Rattle.sabr_search.specs.Task.{Takes}
-use Rattle.sabr_search.specs.Linked.{HasNumber, AreLinksAt, passes_of}
-use Rattle.sabr_search.specs.FirstSteps.{ComesTo}
+use Rattle.sabr_search.specs.declared.backward.pick.Standing.{Standing}
+use Rattle.sabr_search.specs.questions.Task.{Takes}
+use Rattle.sabr_search.specs.questions.Linked.{HasNumber, AreLinksAt, passes_of}
+use Rattle.sabr_search.specs.questions.FirstSteps.{ComesTo}
 use Rattle.sabr_search.proofs.task.Task.steps_from.Given as goal
 
 abbrev pub invariant-loop-link : goal.invariant-loop-link

@@ -3,8 +3,8 @@ use Rattle.std.specs.List.{list_any}
 use Rattle.std.specs.Option.{option_copied}
 use Rattle.sabr_session.specs.SessionWords.{words_after, is_slash, before_slash, after_slash}
 use Rattle.sabr_plan.specs.Numbers.{number_within}
-use Rattle.sabr_session.proofs.ReadNumbers.{with_front-on, with_front-full}
-use Rattle.sabr_session.proofs.SlashLists.{before-on, after-on, has-on, number_no_slash}
+use Rattle.sabr_session.proofs.WordLemmas.ReadNumbers.{with_front-on, with_front-full}
+use Rattle.sabr_session.proofs.WordLemmas.SlashLists.{before-on, after-on, has-on, number_no_slash}
 use Rattle.sabr_session.proofs.reading.contact_list.numbers_to_slash.Goals as goal
 
 pub returns-then-len-eq-MOST_RECORDS : goal.returns-then-len-eq-MOST_RECORDS

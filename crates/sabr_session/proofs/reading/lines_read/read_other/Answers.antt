@@ -1,7 +1,7 @@
 -- A part is taken in as what all lines say.
 use Rattle.std.proofs.Common.{◌+◌, arith}
 use borrow.Author.Tests.{lt-ltb}
-use Rattle.sabr_session.proofs.SaidLines.{part_left}
+use Rattle.sabr_session.proofs.TextLemmas.SaidLines.{part_left}
 use Rattle.sabr_session.proofs.reading.lines_read.read_other.Goals as goal
 
 pub returns-then-number-end-clause-value : goal.returns-then-number-end-clause-value

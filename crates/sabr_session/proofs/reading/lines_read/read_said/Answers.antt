@@ -2,7 +2,7 @@
 use Rattle.std.proofs.Common.{refl, ◌∙◌, arith, inr}
 use Rattle.std.proofs.lemmas.Result.{err_from_is_err_and}
 use Rattle.sabr_session.specs.SessionStage.{said_with}
-use Rattle.sabr_session.proofs.SaidLines.{header_left, digest_left, request_left, request_refused, emitted_left, last_left, count_left, other_line}
+use Rattle.sabr_session.proofs.TextLemmas.SaidLines.{header_left, digest_left, request_left, request_refused, emitted_left, last_left, count_left, other_line}
 use Rattle.sabr_session.proofs.reading.lines_read.read_said.Goals as goal
 
 pub returns-then-number-eq1-clause-value : goal.returns-then-number-eq1-clause-value

@@ -1,7 +1,7 @@
 use Rattle.std.proofs.Common.{◌≡◌, ℕ, ◌<◌, false, List, [], ◌∷◌, length, refl, sym, ap, ◌∙◌, arith}
 use Rattle.std.specs.Option.{option_copied}
 use Rattle.sabr_session.specs.SessionWords.{words_of, words_after, is_dash}
-use Rattle.sabr_session.proofs.SpacedWords.{some_word}
+use Rattle.sabr_session.proofs.WordLemmas.SpacedWords.{some_word}
 use Rattle.sabr_session.proofs.reading.node_list.is_dash.Goals as goal
 
 -- a second word is one too many

@@ -1,6 +1,6 @@
 use Rattle.std.proofs.Common.{ap, arith, length}
-use Rattle.sabr_session.proofs.ReadNumbers.{with_front-nil}
-use Rattle.sabr_session.proofs.SpacedWords.{some_word}
+use Rattle.sabr_session.proofs.WordLemmas.ReadNumbers.{with_front-nil}
+use Rattle.sabr_session.proofs.WordLemmas.SpacedWords.{some_word}
 use Rattle.sabr_session.proofs.reading.node_list.numbers_listed.Goals as goal
 
 pub loop-left-init : goal.loop-left-init

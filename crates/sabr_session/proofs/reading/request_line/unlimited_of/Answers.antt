@@ -3,7 +3,7 @@ use Rattle.std.specs.Option.{option_copied}
 use Rattle.std.specs.declared.option.Option.TheVariants.{None}
 use Rattle.sabr_session.specs.SessionWords.{words_of, words_after}
 use Rattle.sabr_session.specs.SessionLines.{unlimited_of}
-use Rattle.sabr_session.proofs.SpacedWords.{some_word}
+use Rattle.sabr_session.proofs.WordLemmas.SpacedWords.{some_word}
 use Rattle.sabr_session.proofs.reading.request_line.unlimited_of.Goals as goal
 
 -- a fifth word is one too many

@@ -1,7 +1,7 @@
 -- Piece after piece, to the end of the text or its first fault.
 use Rattle.std.proofs.Common.{refl, arith}
 use Rattle.std.proofs.lemmas.Result.{err_from_is_err_and}
-use Rattle.sabr_session.proofs.SessionGivenSoFar.{nothing_given, piece_given, piece_refused, reader_ended, calls_kept, read_failed}
+use Rattle.sabr_session.proofs.ReadingLemmas.SessionGivenSoFar.{nothing_given, piece_given, piece_refused, reader_ended, calls_kept, read_failed}
 use Rattle.sabr_session.proofs.reading.session_given.read_session.Goals as goal
 
 pub loop-feed-init : goal.loop-feed-init

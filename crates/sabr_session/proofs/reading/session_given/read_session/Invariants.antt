@@ -1,6 +1,6 @@
 use Rattle.std.proofs.Common.{◌≡◌, ◌-◌}
 use Rattle.sabr_session.specs.SessionFed.{weight_of, weight_bound}
-use Rattle.sabr_session.proofs.SessionGivenSoFar.{HasFed}
+use Rattle.sabr_session.proofs.ReadingLemmas.SessionGivenSoFar.{HasFed}
 use Rattle.sabr_session.proofs.reading.session_given.read_session.Given as goal
 
 abbrev pub invariant-loop-feed : goal.invariant-loop-feed

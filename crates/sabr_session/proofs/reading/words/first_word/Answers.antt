@@ -1,7 +1,7 @@
 use Rattle.std.proofs.Common.{◌+◌, ◌∷◌, List, ℕ, take, sym, ◌∙◌, ap}
 use Rattle.std.proofs.lemmas.List.{take_rest}
 use Rattle.sabr_session.specs.SessionWords.{words_of}
-use Rattle.sabr_session.proofs.SpacedWords.{words-at, words-one}
+use Rattle.sabr_session.proofs.WordLemmas.SpacedWords.{words-at, words-one}
 use Rattle.sabr_session.proofs.reading.words.first_word.Goals as goal
 
 pub returns-in-Some-clause-words : goal.returns-in-Some-clause-words

@@ -1,4 +1,4 @@
-use Rattle.sabr_session.proofs.Gathering.{Puts-stopped, Puts-after}
+use Rattle.sabr_session.proofs.TextLemmas.Gathering.{Puts-stopped, Puts-after}
 use Rattle.sabr_session.proofs.writing.put_numbers.put_number.Goals as goal
 
 pub returns-in_err-put : goal.returns-in_err-put

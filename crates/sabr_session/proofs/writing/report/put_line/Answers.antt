@@ -1,6 +1,6 @@
 use Rattle.std.proofs.Common.{[], ◌∷◌, decimal}
 use Rattle.sabr_session.specs.ReportText.{route_line}
-use Rattle.sabr_session.proofs.Gathering.{Puts-stopped, Puts-after}
+use Rattle.sabr_session.proofs.TextLemmas.Gathering.{Puts-stopped, Puts-after}
 use Rattle.sabr_session.proofs.writing.report.put_line.Goals as goal
 
 pub returns-in_err-put_digits : goal.returns-in_err-put_digits

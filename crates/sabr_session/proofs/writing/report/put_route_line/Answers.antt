@@ -2,10 +2,10 @@
 use Rattle.std.proofs.Common.{◌≡◌, [], ◌∷◌, ◌++◌, codes, decimal}
 use Rattle.std.specs.List.{concat}
 use Rattle.std.proofs.lemmas.List.Folds.{concat-append}
-use Rattle.sabr_model.specs.Record.{RouteRecord}
+use Rattle.sabr_model.specs.routes.Record.{RouteRecord}
 use Rattle.sabr_session.specs.ReportText.{route_line, told_pieces}
 use Rattle.sabr_session.specs.SpacedNumbers.{spaced_by}
-use Rattle.sabr_session.proofs.Gathering.{Puts-stopped, Puts-after}
+use Rattle.sabr_session.proofs.TextLemmas.Gathering.{Puts-stopped, Puts-after}
 use Rattle.sabr_session.proofs.writing.report.put_route_line.Goals as goal
 
 in_pieces : (r : RouteRecord) → route_line r ≡ concat (told_pieces r) ++ (spaced_by decimal r.contacts ++ codes "\n")

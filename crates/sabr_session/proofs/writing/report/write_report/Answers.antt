@@ -1,6 +1,6 @@
 use Rattle.std.proofs.Common.{rules}
 use Rattle.sabr_session.specs.ReportText.{report_lines, last_line}
-use Rattle.sabr_session.proofs.Gathering.{HasPut-append, StopsIn-before, StopsIn-after, WritesText-stopped, WritesText-sent}
+use Rattle.sabr_session.proofs.TextLemmas.Gathering.{HasPut-append, StopsIn-before, StopsIn-after, WritesText-stopped, WritesText-sent}
 use Rattle.sabr_session.proofs.writing.report.write_report.Goals as goal
 
 pub returns-in_err-put_lines : goal.returns-in_err-put_lines

@@ -1,6 +1,6 @@
 use Rattle.std.proofs.Common.{rules}
 use Rattle.sabr_session.specs.ReportText.{route_line}
-use Rattle.sabr_session.proofs.Gathering.{WritesText-stopped, WritesText-sent}
+use Rattle.sabr_session.proofs.TextLemmas.Gathering.{WritesText-stopped, WritesText-sent}
 use Rattle.sabr_session.proofs.writing.report.write_route.Goals as goal
 
 pub returns-in_err-put_route : goal.returns-in_err-put_route

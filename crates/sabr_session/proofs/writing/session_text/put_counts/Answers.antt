@@ -1,7 +1,7 @@
 use Rattle.std.proofs.Common.{ℕ, List, ◌++◌, codes, decimal, length}
-use Rattle.sabr_frontier.specs.State.{State}
+use Rattle.sabr_frontier.specs.listing.State.{State}
 use Rattle.sabr_session.specs.SpacedNumbers.{list_text}
-use Rattle.sabr_session.proofs.Gathering.{Puts-stopped, Puts-after}
+use Rattle.sabr_session.proofs.TextLemmas.Gathering.{Puts-stopped, Puts-after}
 use Rattle.sabr_session.proofs.writing.session_text.put_counts.Goals as goal
 
 pub returns-in_err-put_number : goal.returns-in_err-put_number

@@ -1,12 +1,12 @@
 use Rattle.std.proofs.Common.{◌+◌, List, map, length, drop, ap}
 use Rattle.std.specs.List.{flat_map}
 use Rattle.std.proofs.lemmas.Iterator.Consumers.{YieldsList-from_first, YieldsList-so_far, YieldsList-turn, YieldsList-end}
-use Rattle.sabr_frontier.specs.Session.{PartTold}
-use Rattle.sabr_frontier.specs.Views.{told_of, told_left}
+use Rattle.sabr_frontier.specs.session.Session.{PartTold}
+use Rattle.sabr_frontier.specs.session.Views.{told_of, told_left}
 use Rattle.sabr_session.specs.SessionPieces.{told_line}
-use Rattle.sabr_session.proofs.Gathering.{HasPut-append, Puts-stopped, Puts-after}
-use Rattle.sabr_session.proofs.Pieces.{lines-at}
-use Rattle.sabr_session.proofs.SessionPieces.{lines-more}
+use Rattle.sabr_session.proofs.TextLemmas.Gathering.{HasPut-append, Puts-stopped, Puts-after}
+use Rattle.sabr_session.proofs.TextLemmas.Pieces.{lines-at}
+use Rattle.sabr_session.proofs.TextLemmas.SessionPieces.{lines-more}
 use Rattle.sabr_session.proofs.writing.session_text.put_parts.Goals as goal
 
 pub returns-in_err-put_part : goal.returns-in_err-put_part

@@ -1,6 +1,6 @@
 use Rattle.std.proofs.Common.{ℕ, List, ◌++◌, codes}
 use Rattle.sabr_session.specs.SessionText.{plan_line, request_line, state_lines, text_of}
-use Rattle.sabr_session.proofs.Gathering.{Puts-stopped, Puts-after}
+use Rattle.sabr_session.proofs.TextLemmas.Gathering.{Puts-stopped, Puts-after}
 use Rattle.sabr_session.proofs.writing.session_text.put_session.Goals as goal
 
 pub returns-in_err-put : goal.returns-in_err-put

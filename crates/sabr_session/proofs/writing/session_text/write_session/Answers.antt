@@ -1,7 +1,7 @@
 use Rattle.std.proofs.Common.{rules}
 use Rattle.sabr_plan.specs.Canonical.{digest_of}
 use Rattle.sabr_session.specs.SessionText.{text_of}
-use Rattle.sabr_session.proofs.Gathering.{WritesText-stopped, WritesText-sent}
+use Rattle.sabr_session.proofs.TextLemmas.Gathering.{WritesText-stopped, WritesText-sent}
 use Rattle.sabr_session.proofs.writing.session_text.write_session.Goals as goal
 
 pub returns-in_err-put_session-clause-text : goal.returns-in_err-put_session-clause-text

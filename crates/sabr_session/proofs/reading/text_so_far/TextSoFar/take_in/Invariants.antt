@@ -1,5 +1,5 @@
 use Rattle.std.proofs.Common.{length}
-use Rattle.sabr_session.proofs.GoingOn.{HasTaken}
+use Rattle.sabr_session.proofs.ReadingLemmas.GoingOn.{HasTaken}
 use Rattle.sabr_session.proofs.reading.text_so_far.TextSoFar.take_in.Given as goal
 
 abbrev pub invariant-loop-end : goal.invariant-loop-end

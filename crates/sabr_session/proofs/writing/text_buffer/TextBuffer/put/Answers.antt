@@ -1,5 +1,5 @@
 use Rattle.std.proofs.Common.{refl}
-use Rattle.sabr_session.proofs.Gathering.{Puts-unheld, Puts-through}
+use Rattle.sabr_session.proofs.TextLemmas.Gathering.{Puts-unheld, Puts-through}
 use Rattle.sabr_session.proofs.writing.text_buffer.TextBuffer.put.Goals as goal
 
 pub returns-in_err-send : goal.returns-in_err-send

@@ -1,0 +1,20 @@
+-- Parts, states and steps of a listing.
+pub mod Rising
+pub mod Beginnings
+pub mod Trees
+pub mod Parting
+pub mod Members
+pub mod Closed
+pub mod Leaves
+pub mod Division
+pub mod NextPlace
+pub mod Certified
+pub mod Formed
+pub mod Owed
+pub mod GoesOn
+pub mod Paths
+pub mod Listed
+pub mod Lawful
+pub mod NewRoutes
+pub mod PlacesFormed
+pub mod Placed

@@ -1,0 +1,124 @@
+-- A step from a well-formed state gives a route that is no leaf, and leaves a well-formed state with that leaf added.
+use Rattle.std.proofs.Common.{◌≡◌, ℕ, ◌+◌, Bool, true, false, cond, List, [], ◌∷◌, ◌++◌, map, length, sym, ap, subst, refl, ◌∙◌, true≢false, ◌⊎◌, inl, inr, Option, Some}
+use Rattle.std.proofs.lemmas.Cmp.{nat_list_cmp_total}
+use Rattle.std.specs.Ordering.{nat_cmp}
+use Rattle.sabr_model.specs.Order.{put_in, by_numbers}
+use Rattle.sabr_model.specs.routes.Parts.{number_after}
+use Rattle.sabr_frontier.specs.listing.Rising.{has, Rises}
+use Rattle.sabr_frontier.specs.listing.Tree.{prefixes, set_of, tree}
+use Rattle.sabr_frontier.specs.listing.State.{PartState, State, pair_of, Member, leaves}
+use Rattle.sabr_frontier.specs.listing.Formed.{IsClosed, Within, InOrder, IsWellFormed}
+use Rattle.sabr_frontier.specs.listing.Step.{same_pair, carried_in, carry, parts_after, given, full, state_of}
+use Rattle.sabr_frontier.proofs.ListingLemmas.Rising.{true_or_false, both_ways, same_members, length-put_in, Rises-put_in}
+use Rattle.sabr_frontier.proofs.ListingLemmas.Beginnings.{lists_exact}
+use Rattle.sabr_frontier.proofs.ListingLemmas.Trees.{In, In-put_in, put_in-In, Rises-numbers_after, Rises-prefixes}
+use Rattle.sabr_frontier.proofs.ListingLemmas.Members.{Member-map_cases}
+use Rattle.sabr_frontier.proofs.ListingLemmas.Closed.{tree_has, leaves_has, Rises-leaves, Rises-set_of, set_of_has, has_set_of, tree_closed, leaves-tree}
+use Rattle.sabr_frontier.proofs.ListingLemmas.Parting.{taken_in_none}
+use Rattle.sabr_frontier.proofs.ListingLemmas.Leaves.{closed_tree, prefixes_of_tree}
+use Rattle.sabr_frontier.proofs.ListingLemmas.Division.{same_pair_is}
+
+tree_in_order : (S : List (List ℕ)) → InOrder (tree S)
+tree_in_order S = record {
+  by_prefix = subst (Rises by_numbers) (sym (prefixes_of_tree S (prefixes S))) (Rises-prefixes S);
+  numbers = λ p X m. subst (Rises nat_cmp) (sym (tree_has p X S m).1) (Rises-numbers_after p S);
+}
+
+-- what carry returns is what was carried before, or the least
+carried_cases : (parts : List PartState) (e : List ℕ × List ℕ) (d : Option (List ℕ)) → (carried_in parts e d ≡ d) ⊎ ((t : PartState) × Member t parts × (pair_of t ≡ e) × (carried_in parts e d ≡ t.carried))
+carried_cases [] e d = inl refl
+carried_cases (t ∷ ts) e d = elim (true_or_false (same_pair (pair_of t) e)) [
+  | inl h ↦ inr (t, inl refl, same_pair_is (pair_of t) e h, ap (λ b. cond b t.carried (carried_in ts e d)) h)
+  | inr h ↦ elim (carried_cases ts e d) [
+    | inl k ↦ inl (ap (λ b. cond b t.carried (carried_in ts e d)) h ∙ k)
+    | inr w ↦ inr (w.0, inr w.1, w.2, ap (λ b. cond b t.carried (carried_in ts e d)) h ∙ w.3)
+  ]
+]
+
+module _ (route chain fits : List ℕ → Bool)
+    (apart : (s t : List ℕ) (x : ℕ) → route s ≡ true → route t ≡ true → number_after s t ≡ Some x → ⊥)
+    (filled : route [] ≡ true → ⊥)
+    (chains : (p s : List ℕ) (x : ℕ) → route s ≡ true → number_after p s ≡ Some x → chain (p ++ x ∷ []) ≡ true)
+    (fitting : (p s : List ℕ) (x : ℕ) → route s ≡ true → number_after p s ≡ Some x → fits p ≡ true)
+    (fits_nil : fits [] ≡ true)
+    (least : List ℕ → List ℕ → Option (List ℕ))
+    (least_in : (p X s : List ℕ) → least p X ≡ Some s → (route s ≡ true) × Within p X s) where
+  -- whatever is carried within its part, the tree of a set of routes makes a well-formed state
+  formed_from : (S : List (List ℕ)) (n : ℕ) (l : List ℕ) (parts : List PartState) → ((s : List ℕ) → In s S → route s ≡ true) → map pair_of parts ≡ tree S → n ≡ length (set_of S) → ((l ≡ []) × (set_of S ≡ [])) ⊎ In l S → ((t : PartState) (r : List ℕ) → Member t parts → t.carried ≡ Some r → (route r ≡ true) × Within t.prefix t.excluded r) → IsWellFormed route chain fits (record { emitted = n; last = l; parts = parts })
+  formed_from S n l parts routes e count right carried =
+      let s1 : leaves route (map pair_of parts) ≡ set_of S = ap (leaves route) e ∙ leaves-tree route chain fits apart filled chains fitting fits_nil S routes in
+      record {
+        order = subst InOrder (sym e) (tree_in_order S);
+        closed = subst (IsClosed route chain fits) (sym e) (tree_closed route chain fits apart filled chains fitting fits_nil S routes);
+        count = count ∙ ap length (sym s1);
+        right = elim right [ inl w ↦ inl (w.0, s1 ∙ w.1) | inr h ↦ inr (ap (has by_numbers l) s1 ∙ has_set_of l S h) ];
+        carried = carried;
+      }
+
+  -- the state before any route is given
+  pub formed_start : IsWellFormed route chain fits (state_of least [])
+  formed_start = formed_from [] 0 [] (map (full least) (tree [])) (λ s h. absurd (true≢false (sym h))) refl refl (inl (refl, refl)) (λ t r m e.
+      let w = Member-map_cases (full least) t (tree []) m in
+      let l = least_in w.0.0 w.0.1 r (ap (λ (z : PartState). z.carried) (sym w.1) ∙ e) in
+      (l.0, subst (λ (z : PartState). Within z.prefix z.excluded r) (sym w.1) l.1))
+
+  module _ (s : State) (formed : IsWellFormed route chain fits s) (t : PartState) (r : List ℕ) (stands : Member t s.parts) (carries : t.carried ≡ Some r) where
+    abbrev S : List (List ℕ)
+    S = leaves route (map pair_of s.parts)
+
+    r_in : (route r ≡ true) × Within t.prefix t.excluded r
+    r_in = formed.carried t r stands carries
+
+    leaf_route : (l : List ℕ) → In l S → route l ≡ true
+    leaf_route l h = (leaves_has route l (map pair_of s.parts) h).6
+
+    pairs_are : map pair_of s.parts ≡ tree S
+    pairs_are = closed_tree route chain fits (map pair_of s.parts) formed.order formed.closed
+
+    -- what is given is no leaf
+    pub given_new : has by_numbers r S ≡ false
+    given_new = elim (true_or_false (has by_numbers r S)) [
+      | inl h ↦
+          let w = tree_has t.prefix t.excluded S (subst (Member (pair_of t)) pairs_are (into s.parts stands)) in
+          absurd (taken_in_none route apart S leaf_route r r_in.0 h t.prefix (subst (λ Z. Within t.prefix Z r) w.1 r_in.1))
+      | inr h ↦ h
+    ]
+      where
+        into : (parts : List PartState) → Member t parts → Member (pair_of t) (map pair_of parts)
+        into [] m = m
+        into (u ∷ parts) (inl e) = inl (ap pair_of e)
+        into (u ∷ parts) (inr m) = inr (into parts m)
+
+    set_of_set : (A : List (List ℕ)) → Rises by_numbers A → set_of A ≡ A
+    set_of_set A h = same_members nat_list_cmp_total lists_exact (set_of A) A (Rises-set_of A) h (λ q. both_ways _ _ (set_of_has q A) (has_set_of q A))
+
+    rises_after : Rises by_numbers (put_in by_numbers r S)
+    rises_after = Rises-put_in nat_list_cmp_total r S (Rises-leaves route (map pair_of s.parts))
+
+    pairs_after : map pair_of (parts_after route least s.parts r) ≡ tree (put_in by_numbers r S)
+    pairs_after = pairs (tree (put_in by_numbers r S))
+      where
+        pairs : (T : List (List ℕ × List ℕ)) → map pair_of (map (carry route least s.parts) T) ≡ T
+        pairs [] = refl
+        pairs (e ∷ T) = ap (λ z. e ∷ z) (pairs T)
+
+    routes_after : (q : List ℕ) → In q (put_in by_numbers r S) → route q ≡ true
+    routes_after q h = elim (In-put_in q r S h) [ inl e ↦ ap route e ∙ r_in.0 | inr m ↦ leaf_route q m ]
+
+    -- the leaves are those before and the route
+    pub leaves_after : leaves route (map pair_of (parts_after route least s.parts r)) ≡ put_in by_numbers r S
+    leaves_after = ap (leaves route) pairs_after ∙ leaves-tree route chain fits apart filled chains fitting fits_nil (put_in by_numbers r S) routes_after ∙ set_of_set (put_in by_numbers r S) rises_after
+
+    pub formed_after : IsWellFormed route chain fits (given route least s r).1
+    formed_after = formed_from (put_in by_numbers r S) (s.emitted + 1) r (parts_after route least s.parts r) routes_after pairs_after
+        (ap (λ n. n + 1) formed.count ∙ sym (length-put_in nat_list_cmp_total r S given_new) ∙ ap length (sym (set_of_set (put_in by_numbers r S) rises_after)))
+        (inr (put_in-In r r S (inl refl)))
+        (λ u q m e.
+        let w = Member-map_cases (carry route least s.parts) u (tree (put_in by_numbers r S)) m in
+        let c : carried_in s.parts w.0 (least w.0.0 w.0.1) ≡ Some q = ap (λ (z : PartState). z.carried) (sym w.1) ∙ e in
+        let P : List ℕ × List ℕ → Type 0 = λ z. (route q ≡ true) × Within z.0 z.1 q in
+        let at : P w.0 = elim (carried_cases s.parts w.0 (least w.0.0 w.0.1)) [
+          | inl k ↦ least_in w.0.0 w.0.1 q (sym k ∙ c)
+          | inr v ↦ subst P v.2 (formed.carried v.0 q v.1 (sym v.3 ∙ c))
+        ] in
+        subst P (ap pair_of (sym w.1)) at)

@@ -1,0 +1,492 @@
+-- What is held stays in order and answered when a part is added after the others. It is paid if and only if the parts
+-- are closed.
+use Rattle.std.proofs.Common.{◌≡◌, ℕ, zero, suc, ◌+◌, ◌-◌, ◌<◌, Bool, true, false, not, ◌&&◌, nat_lt, List, [], ◌∷◌, ◌++◌, map, flat_map, reverse, if◌then◌else◌, ◌≤◌, length, take, drop, refl, sym, ap, subst, ◌∙◌, ◌⊎◌, inl, inr, arith, true≢false, Option, Some, None, length-append, length-take-le, take-append-drop}
+use Rattle.std.specs.Prelude.{◌==◌, slice_get}
+use Rattle.std.specs.Option.{option_map, option_map_or}
+use Rattle.std.specs.Ordering.{nat_cmp, is_lt, is_eq}
+use Rattle.std.specs.declared.cmp.Ordering.TheVariants.{Less}
+use Rattle.std.proofs.lemmas.Bool.{and_parts, false_from_ne_true}
+use Rattle.std.proofs.lemmas.Bool.Decides.{nat_tests}
+use Rattle.std.proofs.lemmas.Cmp.{nat_list_cmp_total, nat_cmp_total}
+use Rattle.std.proofs.lemmas.List.{reverse-append, reverse-reverse, length-reverse, length-map, take-map, take-take, take-append-le}
+use Rattle.std.proofs.lemmas.Option.{slice_get-map}
+use Rattle.std.proofs.lemmas.Grind.{flat_map-append}
+use Rattle.sabr_model.specs.Order.{by_numbers, same_numbers, numbers_before}
+use Rattle.sabr_model.specs.plan.Plan.{ContactPlan, rises_above}
+use Rattle.sabr_model.specs.routes.Arrival.{RouteRequest}
+use Rattle.sabr_model.specs.routes.Route.{is_path, is_prefix, is_route}
+use Rattle.sabr_model.specs.routes.Parts.{goes_on}
+use Rattle.sabr_model.specs.routes.Record.{RouteRecord, record_of}
+use Rattle.sabr_model.proofs.RouteLemmas.Prefixes.{empty_is_prefix, prefix_goes_on}
+use Rattle.sabr_frontier.specs.declared.tree.Node.{Node}
+use Rattle.sabr_frontier.specs.declared.loader.judge.Judged.{Judged}
+use Rattle.sabr_frontier.specs.declared.loader.leading.Owed.{Owed}
+use Rattle.sabr_frontier.specs.listing.Rising.{Below, Rises}
+use Rattle.sabr_frontier.specs.listing.State.{PartState, pair_of, Member, leaves_of}
+use Rattle.sabr_frontier.specs.listing.Formed.{IsClosed, InOrder, Within}
+use Rattle.sabr_frontier.specs.listing.Owing.{Owing, onward, IsGood, Owes}
+use Rattle.sabr_frontier.specs.loading.Leading.{AreOwed, AreSteps, IsLead, prefix_owed, step_of}
+use Rattle.sabr_frontier.specs.loading.Loading.{comes_after, may_carry, rise_strictly}
+use Rattle.sabr_frontier.specs.tree.Shape.{numbers_of}
+use Rattle.sabr_frontier.specs.tree.Undo.{last_item, front}
+use Rattle.sabr_frontier.specs.loading.Holding.{Holding, AreLent, IsAnswered, IsHeld, IsJudged, IsVerdict, held_then, is_due, is_least, is_paid, node_for, nothing_held, owed_in, owing, pairs_in, part_for, parts_in, parts_of}
+use Rattle.sabr_frontier.proofs.ListingLemmas.Rising.{true_or_false, Below-lower}
+use Rattle.sabr_frontier.specs.tree.Queue.{InPairs}
+use Rattle.sabr_frontier.proofs.ListingLemmas.Members.{Member-append_left, Member-append_right, Member-append_cases, Below-member}
+use Rattle.sabr_frontier.proofs.ListingLemmas.Division.{map-append}
+use Rattle.sabr_frontier.proofs.ListingLemmas.Owed.{Owes-push, Owes-front, Owes-one, owes_closed, closed_owes}
+use Rattle.sabr_frontier.proofs.ListingLemmas.Listed.{goes_on_within}
+use Rattle.sabr_frontier.proofs.TreeLemmas.Nodes.{last_split}
+use Rattle.sabr_frontier.proofs.TreeLemmas.Orders.{less_from_test}
+use Rattle.sabr_frontier.proofs.ListingLemmas.Paths.{prefix_no_route}
+use Rattle.sabr_frontier.proofs.TreeLemmas.Nodes.{no_last}
+use Rattle.sabr_model.proofs.ListLemmas.Apart.{same_numbers_tell}
+
+-- ---- order
+
+less_from_lt : (x y : ℕ) → nat_lt x y ≡ true → nat_cmp x y ≡ Less
+less_from_lt x y h = less_from_test (nat_cmp x y) (tests x y ∙ h)
+  where
+    tests : (x y : ℕ) → is_lt (nat_cmp x y) ≡ nat_lt x y
+    tests x y = grind (arith, nat_tests)
+
+rises_from : (x : ℕ) (xs : List ℕ) → rises_above x xs ≡ true → Below nat_cmp x xs × Rises nat_cmp xs
+rises_from x [] h = (tt, tt)
+rises_from x (y ∷ ys) h =
+    let w = and_parts (nat_lt x y) (rises_above y ys) h in
+    let l = less_from_lt x y w.0 in
+    let v = rises_from y ys w.1 in
+    ((l, Below-lower nat_cmp_total x y ys l v.0), v)
+
+rises_strictly : (xs : List ℕ) → rise_strictly xs ≡ true → Rises nat_cmp xs
+rises_strictly [] h = tt
+rises_strictly (x ∷ xs) h = rises_from x xs h
+
+below_more : (y x : List ℕ) (xs : List (List ℕ)) → Below by_numbers y xs → by_numbers y x ≡ Less → Below by_numbers y (xs ++ x ∷ [])
+below_more y x [] b l = (l, tt)
+below_more y x (z ∷ xs) b l = (b.0, below_more y x xs b.1 l)
+
+rises_more : (F : List (List ℕ)) (z x : List ℕ) → Rises by_numbers (F ++ z ∷ []) → by_numbers z x ≡ Less → Rises by_numbers ((F ++ z ∷ []) ++ x ∷ [])
+rises_more [] z x h l = ((l, tt), (tt, tt))
+rises_more (y ∷ F) z x h l = (
+  below_more y x (F ++ z ∷ []) h.0 (nat_list_cmp_total.trans y z x (Below-member nat_list_cmp_total y z (F ++ z ∷ []) h.0 (Member-append_right z F (z ∷ []) (inl refl))) l),
+  rises_more F z x h.1 l,
+)
+
+order_more : (parts : List PartState) (t : PartState) → InOrder (map pair_of parts) → rise_strictly t.excluded ≡ true → comes_after parts t.prefix ≡ true → InOrder (map pair_of parts ++ pair_of t ∷ [])
+order_more parts t h strictly after = record {
+  by_prefix = subst (Rises by_numbers) (sym (map-append (λ (e : List ℕ × List ℕ). e.0) (map pair_of parts) (pair_of t ∷ []))) rising;
+  numbers = λ p X m. elim (Member-append_cases (p, X) (map pair_of parts) (pair_of t ∷ []) m) [
+    | inl n ↦ h.numbers p X n
+    | inr n ↦ elim n [ inl e ↦ subst (Rises nat_cmp) (sym (ap (λ (e : List ℕ × List ℕ). e.1) e)) (rises_strictly t.excluded strictly) | inr z ↦ absurd z ]
+  ];
+}
+  where
+    keys : List PartState → List (List ℕ)
+    keys parts = map (λ (e : List ℕ × List ℕ). e.0) (map pair_of parts)
+
+    keys_more : (F : List PartState) (z : PartState) → keys (F ++ z ∷ []) ≡ keys F ++ z.prefix ∷ []
+    keys_more [] z = refl
+    keys_more (y ∷ F) z = ap (λ k. y.prefix ∷ k) (keys_more F z)
+
+    rising : Rises by_numbers (keys parts ++ t.prefix ∷ [])
+    rising = elim (last_item parts) as (λ o. last_item parts ≡ o → option_map_or (λ (z : PartState). numbers_before z.prefix t.prefix) o true ≡ true → Rises by_numbers (keys parts ++ t.prefix ∷ [])) [
+      | None ↦ λ e _. subst (λ z. Rises by_numbers (keys z ++ t.prefix ∷ [])) (sym (no_last parts e)) (tt, tt)
+      | Some z ↦ λ e k.
+          let split = last_split parts z e in
+          let same : keys parts ≡ keys (front parts) ++ z.prefix ∷ [] = ap keys split ∙ keys_more (front parts) z in
+          subst (λ (k : List (List ℕ)). Rises by_numbers (k ++ t.prefix ∷ [])) (sym same)
+          (rises_more (keys (front parts)) z.prefix t.prefix (subst (Rises by_numbers) same h.by_prefix) (less_from_test (by_numbers z.prefix t.prefix) k))
+    ] refl after
+
+-- ---- parts by prefix and node
+
+pub parts_push : {A : Type 0} (qs : List (List ℕ)) (ns : List (Node A)) (q : List ℕ) (n : Node A) → length qs ≡ length ns → parts_of (qs ++ q ∷ []) (ns ++ n ∷ []) ≡ parts_of qs ns ++ part_for q n ∷ []
+parts_push [] [] q n e = refl
+parts_push [] (m ∷ ns) q n e = absurd (omega (arith, e))
+parts_push (p ∷ qs) [] q n e = absurd (omega (arith, e))
+parts_push (p ∷ qs) (m ∷ ns) q n e = ap (λ z. part_for p m ∷ z) (parts_push qs ns q n (omega (arith, e)))
+
+lent_push : {A : Type 0} (route : List ℕ → Bool) (c : ℕ) (qs : List (List ℕ)) (ns : List (Node A)) (q : List ℕ) (n : Node A) → AreLent route c qs ns → n.leaf ≡ c + length (flat_map (leaves_of route) (map pair_of (parts_of qs ns))) → n.length ≡ length q → AreLent route c (qs ++ q ∷ []) (ns ++ n ∷ [])
+lent_push route c [] [] q n h leaf len = (omega (arith, leaf), len, tt)
+lent_push route c [] (m ∷ ns) q n h leaf len = absurd h
+lent_push route c (p ∷ qs) [] q n h leaf len = absurd h
+lent_push route c (p ∷ qs) (m ∷ ns) q n h leaf len = (
+  h.0,
+  h.1,
+  lent_push route (c + length (leaves_of route (p, m.excluded))) qs ns q n h.2
+      (omega (arith, leaf, length-append (leaves_of route (p, m.excluded)) (flat_map (leaves_of route) (map pair_of (parts_of qs ns))))) len,
+)
+
+no_parts : {A : Type 0} (h : Holding A) → length h.prefixes ≡ length h.nodes → length h.nodes ≡ 0 → parts_in h ≡ []
+no_parts h e none = at h.prefixes (omega (arith, e, none))
+  where
+    at : (qs : List (List ℕ)) → length qs ≡ 0 → parts_of qs h.nodes ≡ []
+    at [] l = refl
+    at (q ∷ qs) l = absurd (omega (arith, l))
+
+some_part : {A : Type 0} (h : Holding A) → length h.prefixes ≡ length h.nodes → 0 < length h.nodes → (t : PartState) × (ts : List PartState) × (parts_in h ≡ t ∷ ts)
+some_part h e some = at h.prefixes h.nodes e some
+  where
+    at : {A : Type 0} (qs : List (List ℕ)) (ns : List (Node A)) → length qs ≡ length ns → 0 < length ns → (t : PartState) × (ts : List PartState) × (parts_of qs ns ≡ t ∷ ts)
+    at [] [] l s = absurd (omega arith)
+    at [] (n ∷ ns) l s = absurd (omega (arith, l))
+    at (q ∷ qs) [] l s = absurd (omega (arith, l))
+    at (q ∷ qs) (n ∷ ns) l s = (part_for q n, parts_of qs ns, refl)
+
+no_numbers : (q : List ℕ) → length q ≡ 0 → q ≡ []
+no_numbers [] l = refl
+no_numbers (x ∷ q) l = absurd (omega (arith, l))
+
+zero_or_more : (n : ℕ) → (n ≡ 0) ⊎ (0 < n)
+zero_or_more zero = inl refl
+zero_or_more (suc n) = inr (omega arith)
+
+zero_test : (n : ℕ) → n ≡ 0 → (n == 0) ≡ true
+zero_test n e = ap (λ n. n == 0) e
+
+more_test : (n : ℕ) → 0 < n → (n == 0) ≡ false
+more_test n l = grind (arith, nat_tests)
+
+test_zero : (n : ℕ) → (n == 0) ≡ true → n ≡ 0
+test_zero n h = elim (zero_or_more n) [ inl e ↦ e | inr l ↦ absurd (true≢false (sym h ∙ more_test n l)) ]
+
+test_more : (n : ℕ) → (n == 0) ≡ false → 0 < n
+test_more n h = elim (zero_or_more n) [ inl e ↦ absurd (true≢false (sym (zero_test n e) ∙ h)) | inr l ↦ l ]
+
+same_itself : (q : List ℕ) → same_numbers q q ≡ true
+same_itself q = ap is_eq (Rattle.std.proofs.lemmas.Cmp.tied_itself nat_list_cmp_total q)
+
+-- ---- what is due
+
+-- a due prefix is the least that is owed, and what is owed after it is smaller
+due_first : {A : Type 0} (h : Holding A) (q : List ℕ) → length h.prefixes ≡ length h.nodes → (parts_in h ≡ [] → owed_in h ≡ []) → is_least h q ≡ true → owing (parts_in h) (owed_in h) ≡ q ∷ reverse (front (owed_in h))
+due_first h q paired first due = elim (zero_or_more (length h.nodes)) [
+  | inl e ↦
+      let none = no_parts h paired e in
+      let d : (length h.nodes == 0 && length q == 0) ≡ true = sym (ap (λ (z : List (List ℕ)). option_map_or (same_numbers q) (last_item z) (length h.nodes == 0 && length q == 0)) (first none)) ∙ due in
+      let empty : q ≡ [] = no_numbers q (test_zero (length q) (and_parts (length h.nodes == 0) (length q == 0) d).1) in
+      ap (λ z. owing z (owed_in h)) none ∙ (λ i. sym empty i ∷ reverse (front (sym (first none) i)))
+  | inr l ↦
+      let some = some_part h paired l in
+      let last : owed_in h ≡ front (owed_in h) ++ q ∷ [] = elim (last_item (owed_in h)) as (λ o. last_item (owed_in h) ≡ o → option_map_or (same_numbers q) o (length h.nodes == 0 && length q == 0) ≡ true → owed_in h ≡ front (owed_in h) ++ q ∷ []) [
+        | None ↦ λ _ k. absurd (true≢false (sym (and_parts (length h.nodes == 0) (length q == 0) k).0 ∙ more_test (length h.nodes) l))
+        | Some o ↦ λ e k. last_split (owed_in h) o e ∙ ap (λ z. front (owed_in h) ++ z ∷ []) (sym (same_numbers_tell q o k))
+      ] refl due in
+      ap (λ z. owing z (owed_in h)) some.2 ∙ ap reverse last ∙ reverse-append (front (owed_in h)) (q ∷ [])
+]
+
+-- and the least that is owed is due
+first_due : {A : Type 0} (h : Holding A) (q : List ℕ) (rest : Owing) → length h.prefixes ≡ length h.nodes → (parts_in h ≡ [] → owed_in h ≡ []) → owing (parts_in h) (owed_in h) ≡ q ∷ rest → is_least h q ≡ true
+first_due h q rest paired first o = elim (zero_or_more (length h.nodes)) [
+  | inl e ↦
+      let none = no_parts h paired e in
+      let is : [] ∷ [] ≡ q ∷ rest = sym (ap (λ z. owing z (owed_in h)) none) ∙ o in
+      let empty : [] ≡ q = cc in
+      ap (λ (z : List (List ℕ)). option_map_or (same_numbers q) (last_item z) (length h.nodes == 0 && length q == 0)) (first none)
+      ∙ (λ i. zero_test (length h.nodes) e i && zero_test (length q) (sym (ap (length {A = ℕ}) empty)) i)
+  | inr l ↦
+      let some = some_part h paired l in
+      let is : reverse (owed_in h) ≡ q ∷ rest = sym (ap (λ z. owing z (owed_in h)) some.2) ∙ o in
+      let back : owed_in h ≡ reverse rest ++ q ∷ [] = sym (reverse-reverse (owed_in h)) ∙ ap reverse is ∙ reverse-append (q ∷ []) rest in
+      let last : last_item (owed_in h) ≡ Some q = Rattle.sabr_frontier.proofs.TreeLemmas.Ends.last_item_push (owed_in h) (reverse rest) q back in
+      ap (λ o. option_map_or (same_numbers q) o (length h.nodes == 0 && length q == 0)) last ∙ same_itself q
+]
+
+-- ---- the prefixes of those that are kept
+
+pub is_member_last : {X : Type 0} (os : List X) (o : X) → last_item os ≡ Some o → Member o os
+is_member_last os o e = subst (Member o) (sym (last_split os o e)) (Member-append_right o (front os) (o ∷ []) (inl refl))
+
+last_of_map : {X Y : Type 0} (f : X → Y) (os : List X) → last_item (map f os) ≡ option_map f (last_item os)
+last_of_map f os = ap (λ n. slice_get (map f os) (n - 1)) (length-map os f) ∙ slice_get-map f os (length os - 1)
+
+module _ {A : Type 0} (h : Holding A) (q : List ℕ) (o : Owed) (last : last_item h.owed ≡ Some o) where
+  least_is : is_least h q ≡ same_numbers q (prefix_owed h.last o)
+  least_is = ap (λ o. option_map_or (same_numbers q) o (length h.nodes == 0 && length q == 0)) (last_of_map (prefix_owed h.last) h.owed ∙ ap (option_map (prefix_owed h.last)) last)
+
+  module _ (sound : h.sound ≡ true) where
+    pub same_is_due : q ≡ prefix_owed h.last o → is_due h q ≡ true
+    same_is_due same = (λ i. sound i && least_is i) ∙ ap (same_numbers q) (sym same) ∙ same_itself q
+
+    pub other_is_not_due : (q ≡ prefix_owed h.last o → ⊥) → is_due h q ≡ false
+    other_is_not_due other = (λ i. sound i && least_is i) ∙ false_from_ne_true (same_numbers q (prefix_owed h.last o)) (λ k. other (same_numbers_tell q (prefix_owed h.last o) k))
+
+map-front : {X Y : Type 0} (f : X → Y) (xs : List X) → map f (front xs) ≡ front (map f xs)
+map-front f xs = sym (ap (λ n. take (n - 1) (map f xs)) (length-map xs f) ∙ take-map f (length xs - 1) xs)
+
+map-reverse : {X Y : Type 0} (f : X → Y) (xs : List X) → map f (reverse xs) ≡ reverse (map f xs)
+map-reverse f [] = refl
+map-reverse f (x ∷ xs) = ap (map f) (reverse-append (x ∷ []) xs) ∙ map-append f (reverse xs) (x ∷ []) ∙ ap (λ z. z ++ f x ∷ []) (map-reverse f xs) ∙ sym (reverse-append (f x ∷ []) (map f xs))
+
+-- ---- those that stay after the least
+
+pub pairs_two : {X : Type 0} (Q : X → X → Type 0) (xs ys : List X) → InPairs Q xs → InPairs Q ys → ((a b : X) → Member a xs → Member b ys → Q a b) → InPairs Q (xs ++ ys)
+pairs_two Q [] ys h k f = k
+pairs_two Q (x ∷ xs) ys h k f = (
+  (λ y m. elim (Member-append_cases y xs ys m) [ inl a ↦ h.0 y a | inr a ↦ f x y (inl refl) a ]),
+  pairs_two Q xs ys h.1 k (λ a b m. f a b (inr m)),
+)
+
+pairs_of_last : {X : Type 0} (Q : X → X → Type 0) (xs : List X) (y : X) → InPairs Q (xs ++ y ∷ []) → ((x : X) → Member x xs → Q x y) × InPairs Q xs
+pairs_of_last Q [] y h = (λ x m. absurd m, tt)
+pairs_of_last Q (x ∷ xs) y h =
+    let w = pairs_of_last Q xs y h.1 in (
+      (λ z m. elim m [ inl e ↦ subst (λ z. Q z y) (sym e) (h.0 y (Member-append_right y xs (y ∷ []) (inl refl))) | inr k ↦ w.0 z k ]),
+      ((λ z m. h.0 z (Member-append_left z xs (y ∷ []) m)), w.1),
+    )
+
+pairs_of_all : {X : Type 0} (Q : X → X → Type 0) (xs : List X) → ((x y : X) → Member x xs → Member y xs → Q x y) → InPairs Q xs
+pairs_of_all Q [] h = tt
+pairs_of_all Q (x ∷ xs) h = ((λ y m. h x y (inl refl) (inr m)), pairs_of_all Q xs (λ y z m k. h y z (inr m) (inr k)))
+
+map_same : {X Y : Type 0} (f g : X → Y) (xs : List X) → ((x : X) → Member x xs → f x ≡ g x) → map f xs ≡ map g xs
+map_same f g [] h = refl
+map_same f g (x ∷ xs) h = λ i. h x (inl refl) i ∷ map_same f g xs (λ y m. h y (inr m)) i
+
+Member-reverse : {X : Type 0} (x : X) (xs : List X) → Member x (reverse xs) → Member x xs
+Member-reverse x [] m = m
+Member-reverse x (y ∷ xs) m = elim (Member-append_cases x (reverse xs) (y ∷ []) (subst (Member x) (reverse-append (y ∷ []) xs) m)) [
+  | inl k ↦ inr (Member-reverse x xs k)
+  | inr k ↦ elim k [ inl e ↦ inl e | inr z ↦ absurd z ]
+]
+
+record Stay (last q : List ℕ) (os : List Owed) : Type 0 where
+  same : (o : Owed) → Member o os → prefix_owed q o ≡ prefix_owed last o
+  within : (o : Owed) → Member o os → o.length ≤ length q
+  nested : InPairs (λ a b. a.length ≤ b.length) os
+
+module _ {A : Type 0} (p : ContactPlan) (r : RouteRequest) (h : Holding A) (q : List ℕ) (due : is_least h q ≡ true) (owed : AreOwed p r h.last h.owed) where
+  -- the others begin with numbers that the least begins with
+  stay : Stay h.last q (front h.owed)
+  stay = elim (last_item h.owed) as (λ z. last_item h.owed ≡ z → Stay h.last q (front h.owed)) [
+    | None ↦ λ e. subst (λ os. Stay h.last q (front os)) (sym (no_last h.owed e)) (record { same = λ o m. absurd m; within = λ o m. absurd m; nested = tt })
+    | Some o ↦ λ e.
+        let is : q ≡ take o.length h.last ++ o.number ∷ [] = same_numbers_tell q (prefix_owed h.last o) (sym (least_is h q o e) ∙ due) in
+        let all : h.owed ≡ front h.owed ++ o ∷ [] = last_split h.owed o e in
+        let w = pairs_of_last (λ (a b : Owed). a.length ≤ b.length) (front h.owed) o (subst (InPairs (λ (a b : Owed). a.length ≤ b.length)) all owed.nested) in
+        let most : o.length ≤ length h.last = owed.within o (is_member_last h.owed o e) in
+        let front_long : length (take o.length h.last) ≡ o.length = length-take-le o.length h.last most in
+        record {
+          same = λ x m.
+              let less : x.length ≤ length (take o.length h.last) = omega (arith, front_long, w.0 x m) in
+              ap (λ z. z ++ x.number ∷ []) (ap (take x.length) is ∙ take-append-le x.length (take o.length h.last) (o.number ∷ []) less ∙ take-take x.length o.length h.last (w.0 x m));
+          within = λ x m. omega (arith, w.0 x m, ap (length {A = ℕ}) is, length-append (take o.length h.last) (o.number ∷ []), front_long);
+          nested = w.1;
+        }
+  ] refl
+
+  take_whole : (xs : List ℕ) → take (length xs) xs ≡ xs
+  take_whole [] = refl
+  take_whole (x ∷ xs) = ap (λ z. x ∷ z) (take_whole xs)
+
+  step_is : (o : Owed) → o.length ≡ length q → prefix_owed q o ≡ step_of q o
+  step_is o e = ap (λ z. z ++ o.number ∷ []) (ap (λ n. take n q) e ∙ take_whole q)
+
+  -- and after them come the steps from it
+  owed_more : (steps : List Owed) → AreSteps p r q steps → AreOwed p r q (front h.owed ++ reverse steps)
+  owed_more steps new = record {
+    leads = λ o m. elim (Member-append_cases o (front h.owed) (reverse steps) m) [
+      | inl k ↦ subst (λ z. IsLead p r z o.lead) (sym (stay.same o k)) (owed.leads o (front_member o k))
+      | inr k ↦ let w = new o (Member-reverse o steps k) in subst (λ z. IsLead p r z o.lead) (sym (step_is o w.0)) w.1
+    ];
+    within = λ o m. elim (Member-append_cases o (front h.owed) (reverse steps) m) [
+      | inl k ↦ stay.within o k
+      | inr k ↦ omega (arith, (new o (Member-reverse o steps k)).0)
+    ];
+    nested = pairs_two (λ (a b : Owed). a.length ≤ b.length) (front h.owed) (reverse steps) stay.nested
+        (pairs_of_all (λ (a b : Owed). a.length ≤ b.length) (reverse steps) (λ a b m k. omega (arith, (new a (Member-reverse a steps m)).0, (new b (Member-reverse b steps k)).0)))
+        (λ a b m k. omega (arith, stay.within a m, (new b (Member-reverse b steps k)).0));
+  }
+    where
+      front_member : (o : Owed) → Member o (front h.owed) → Member o h.owed
+      front_member o m = subst (Member o) (take-append-drop (length h.owed - 1) h.owed) (Member-append_left o (front h.owed) (drop (length h.owed - 1) h.owed) m)
+
+  prefixes_more : (steps : List Owed) → AreSteps p r q steps → map (prefix_owed q) (front h.owed ++ reverse steps) ≡ front (owed_in h) ++ reverse (map (step_of q) steps)
+  prefixes_more steps new = map-append (prefix_owed q) (front h.owed) (reverse steps)
+      ∙ (λ i. (map_same (prefix_owed q) (prefix_owed h.last) (front h.owed) stay.same ∙ map-front (prefix_owed h.last) h.owed) i
+      ++ (map_same (prefix_owed q) (step_of q) (reverse steps) (λ o m. step_is o (new o (Member-reverse o steps m)).0) ∙ map-reverse (step_of q) steps) i)
+
+module _ (p : ContactPlan) (r : RouteRequest) where
+  abbrev route : List ℕ → Bool
+  route = is_route p r
+
+  abbrev path : List ℕ → Bool
+  path = is_path p r
+
+  module _ {A : Type 0} where
+    -- ---- a part more
+
+    module _ (h : Holding A) (held : IsHeld p r h) (q X : List ℕ) (kept : Option RouteRecord) (carried : Option (List ℕ)) (is : kept ≡ option_map (record_of p r) carried) where
+      abbrev e : List ℕ × List ℕ
+      e = (q, X)
+
+      abbrev n : Node A
+      n = node_for h q X kept
+
+      more : parts_of (h.prefixes ++ q ∷ []) (h.nodes ++ n ∷ []) ≡ parts_in h ++ part_for q n ∷ []
+      more = parts_push h.prefixes h.nodes q n held.paired
+
+      pairs_more : map pair_of (parts_of (h.prefixes ++ q ∷ []) (h.nodes ++ n ∷ [])) ≡ pairs_in h ++ e ∷ []
+      pairs_more = ap (map pair_of) more ∙ map-append pair_of (parts_in h) (part_for q n ∷ [])
+
+      not_empty : (parts : List PartState) (t : PartState) → parts ++ t ∷ [] ≡ [] → ⊥
+      not_empty [] t k = cc
+      not_empty (u ∷ parts) t k = cc
+
+      owing_more : (parts : List PartState) (t : PartState) (owed : List (List ℕ)) → owing (parts ++ t ∷ []) owed ≡ reverse owed
+      owing_more [] t owed = refl
+      owing_more (u ∷ parts) t owed = refl
+
+      answered_more : (j : Judged A) → IsAnswered p r h → is_least h q ≡ true → IsGood route path e → IsJudged p r e j → IsAnswered p r (held_then h q X kept (Some j))
+      answered_more j a due good judged = record {
+        owes = subst (λ T. Owes route path ([] ∷ []) T (owing parts (map (prefix_owed q) owed))) (sym pairs_more)
+            (Owes-push route path (pairs_in h) ([] ∷ []) (owing (parts_in h) (owed_in h)) (owing parts (map (prefix_owed q) owed)) e a.owes
+            (reverse (front (owed_in h)), due_first h q held.paired a.first due, good, sym owed_now));
+        leaves = (λ i. a.leaves i ++ judged.leaves_are i) ∙ sym (map-append (record_of p r) (flat_map (leaves_of route) (pairs_in h)) (leaves_of route e))
+            ∙ ap (map (record_of p r)) (ap (λ z. flat_map (leaves_of route) (pairs_in h) ++ z) (sym (append_none (leaves_of route e))) ∙ sym (flat_map-append (leaves_of route) (pairs_in h) (e ∷ [])) ∙ ap (flat_map (leaves_of route)) (sym pairs_more));
+        lent = lent_push route 0 h.prefixes h.nodes q n a.lent (let k = ap (length {A = RouteRecord}) a.leaves ∙ length-map (flat_map (leaves_of route) (pairs_in h)) (record_of p r) in omega (arith, k)) refl;
+        owed = owed_more p r h q due a.owed j.onward.items judged.steps;
+        first = λ k. absurd (not_empty (parts_in h) (part_for q n) (sym more ∙ k));
+      }
+        where
+          parts : List PartState
+          parts = parts_of (h.prefixes ++ q ∷ []) (h.nodes ++ n ∷ [])
+
+          owed : List Owed
+          owed = front h.owed ++ reverse j.onward.items
+
+          append_none : (xs : List (List ℕ)) → xs ++ [] ≡ xs
+          append_none [] = refl
+          append_none (x ∷ xs) = ap (λ z. x ∷ z) (append_none xs)
+
+          owed_now : owing parts (map (prefix_owed q) owed) ≡ onward route path e ++ reverse (front (owed_in h))
+          owed_now = ap (λ z. owing z (map (prefix_owed q) owed)) more ∙ owing_more (parts_in h) (part_for q n) (map (prefix_owed q) owed) ∙ ap reverse (prefixes_more p r h q due a.owed j.onward.items judged.steps)
+              ∙ reverse-append (front (owed_in h)) (reverse (map (step_of q) j.onward.items))
+              ∙ ap (λ z. z ++ reverse (front (owed_in h))) (reverse-reverse (map (step_of q) j.onward.items) ∙ judged.onward_are)
+
+      broken_more : (is_due h q ≡ true → IsGood route path e → ⊥) → (os : Owing) → Owes route path ([] ∷ []) (pairs_in h ++ e ∷ []) os → ⊥
+      broken_more none os o =
+          let w = Owes-front route path (pairs_in h) ([] ∷ []) os e o in
+          elim (true_or_false h.sound) [
+            | inl k ↦
+                let a = held.answered k in
+                none (λ i. k i && first_due h q w.2.0 held.paired a.first (Owes-one route path (pairs_in h) ([] ∷ []) (owing (parts_in h) (owed_in h)) w.0 a.owes w.1 ∙ w.2.1) i) w.2.2
+            | inr k ↦ held.broken k w.0 w.1
+          ]
+
+      numbers_back : (o : Option (List ℕ)) → option_map numbers_of (option_map (record_of p r) o) ≡ o
+      numbers_back None = refl
+      numbers_back (Some s) = refl
+
+      -- the parts then
+      pub parts_then : (j : Option (Judged A)) → parts_in (held_then h q X kept j) ≡ parts_in h ++ record { prefix = q; excluded = X; carried = carried } ∷ []
+      parts_then None = more ∙ ap (λ (o : Option (List ℕ)). parts_in h ++ record { prefix = q; excluded = X; carried = o } ∷ []) (ap (option_map numbers_of) is ∙ numbers_back carried)
+      parts_then (Some j) = more ∙ ap (λ (o : Option (List ℕ)). parts_in h ++ record { prefix = q; excluded = X; carried = o } ∷ []) (ap (option_map numbers_of) is ∙ numbers_back carried)
+
+      carried_in : may_carry p r (record { prefix = q; excluded = X; carried = carried }) ≡ true → (s : List ℕ) → carried ≡ Some s → (route s ≡ true) × Within q X s
+      carried_in may s k =
+          let w = and_parts (route s) (goes_on q X s) (sym (ap (λ o. option_map_or (Rattle.sabr_model.specs.routes.Parts.in_part p r q X) o true) k) ∙ may) in
+          (w.0, goes_on_within q X s w.1)
+
+      module _ (strictly : rise_strictly X ≡ true) (after : comes_after (parts_in h) q ≡ true) (may : may_carry p r (record { prefix = q; excluded = X; carried = carried }) ≡ true) where
+        ordered : InOrder (map pair_of (parts_of (h.prefixes ++ q ∷ []) (h.nodes ++ n ∷ [])))
+        ordered = subst InOrder (sym pairs_more) (order_more (parts_in h) (part_for q n) held.order strictly after)
+
+        counted : length (h.prefixes ++ q ∷ []) ≡ length (h.nodes ++ n ∷ [])
+        counted = omega (arith, held.paired, length-append h.prefixes (q ∷ []), length-append h.nodes (n ∷ []))
+
+        carried_then : (t : PartState) (s : List ℕ) → Member t (parts_of (h.prefixes ++ q ∷ []) (h.nodes ++ n ∷ [])) → t.carried ≡ Some s → (route s ≡ true) × Within t.prefix t.excluded s
+        carried_then t s m k = elim (Member-append_cases t (parts_in h) (part_for q n ∷ []) (subst (Member t) more m)) [
+          | inl a ↦ held.carried t s a k
+          | inr a ↦ elim a [
+            | inl same ↦
+                let c : carried ≡ Some s = sym (numbers_back carried) ∙ ap (option_map numbers_of) (sym is) ∙ sym (ap (λ (z : PartState). z.carried) same) ∙ k in
+                subst (λ (z : PartState). (route s ≡ true) × Within z.prefix z.excluded s) (sym same) (carried_in may s c)
+            | inr z ↦ absurd z
+          ]
+        ]
+
+        last_then : last_item (h.prefixes ++ q ∷ []) ≡ (if length (h.nodes ++ n ∷ []) == 0 then None else Some q)
+        last_then = Rattle.sabr_frontier.proofs.TreeLemmas.Ends.last_item_push (h.prefixes ++ q ∷ []) h.prefixes q refl
+            ∙ sym (ap (λ b. if b then None else Some q) (more_test (length (h.nodes ++ n ∷ [])) (omega (arith, length-append h.nodes (n ∷ [])))))
+
+        told : (o : Option (List ℕ)) (x : RouteRecord) → option_map (record_of p r) o ≡ Some x → x ≡ record_of p r x.contacts
+        told None x k = absurd cc
+        told (Some s) x k = let same : record_of p r s ≡ x = cc in sym same ∙ ap (λ (z : RouteRecord). record_of p r z.contacts) same
+
+        records_then : (m : Node A) (x : RouteRecord) → Member m (h.nodes ++ n ∷ []) → m.route ≡ Some x → x ≡ record_of p r x.contacts
+        records_then m x k a = elim (Member-append_cases m h.nodes (n ∷ []) k) [
+          | inl b ↦ held.records m x b a
+          | inr b ↦ elim b [ inl same ↦ told carried x (sym is ∙ sym (ap (λ (z : Node A). z.route) same) ∙ a) | inr z ↦ absurd z ]
+        ]
+
+        pub held_more : (j : Option (Judged A)) → IsVerdict p r h e j → IsHeld p r (held_then h q X kept j)
+        held_more (Some j) v = record {
+          paired = counted;
+          order = ordered;
+          carried = carried_then;
+          records = records_then;
+          last = last_then;
+          answered = λ _. answered_more j (held.answered due.0) due.1 v.1 v.2;
+          broken = λ k. absurd (true≢false (sym due.0 ∙ k));
+        }
+          where
+            due : (h.sound ≡ true) × (is_least h q ≡ true)
+            due = and_parts h.sound (is_least h q) v.0
+        held_more None v = record {
+          paired = counted;
+          order = ordered;
+          carried = carried_then;
+          records = records_then;
+          last = last_then;
+          answered = λ k. absurd (true≢false (sym k));
+          broken = λ _ os. subst (λ T. Owes route path ([] ∷ []) T os → ⊥) (sym pairs_more) (broken_more v os);
+        }
+
+    -- ---- before any part
+
+    pub nothing_is_held : IsHeld p r (nothing_held {A = A})
+    nothing_is_held = record {
+      paired = refl;
+      order = record { by_prefix = tt; numbers = λ q X m. absurd m };
+      carried = λ t s m. absurd m;
+      records = λ n x m. absurd m;
+      last = refl;
+      answered = λ _. record { owes = refl; leaves = refl; lent = tt; owed = record { leads = λ o m. absurd m; within = λ o m. absurd m; nested = tt }; first = λ _. refl };
+      broken = λ k. absurd (true≢false k);
+    }
+
+    -- ---- the end
+
+    module _ (h : Holding A) (held : IsHeld p r h) where
+      no_owed : (os : List Owed) → length os ≡ 0 → os ≡ []
+      no_owed [] l = refl
+      no_owed (o ∷ os) l = absurd (omega (arith, l))
+
+      pub paid_owes : is_paid h ≡ true → Owes route path ([] ∷ []) (pairs_in h) []
+      paid_owes paid =
+          let w = and_parts h.sound (not (length h.nodes == 0) && (length h.owed == 0)) paid in
+          let v = and_parts (not (length h.nodes == 0)) (length h.owed == 0) w.1 in
+          let some = some_part h held.paired (test_more (length h.nodes) (Rattle.std.proofs.lemmas.Bool.not-true (length h.nodes == 0) v.0)) in
+          subst (Owes route path ([] ∷ []) (pairs_in h)) (ap (λ z. owing z (owed_in h)) some.2 ∙ ap (λ os. reverse (map (prefix_owed h.last) os)) (no_owed h.owed (test_zero (length h.owed) v.1))) (held.answered w.0).owes
+
+      pub paid_closed : is_paid h ≡ true → IsClosed route path (is_prefix p r) (pairs_in h)
+      paid_closed paid = owes_closed route path (is_prefix p r) (empty_is_prefix p r) (prefix_goes_on p r) (prefix_no_route p r) (pairs_in h) (paid_owes paid)
+
+      pub unpaid_open : is_paid h ≡ false → IsClosed route path (is_prefix p r) (pairs_in h) → ⊥
+      unpaid_open unpaid closed =
+          let o = closed_owes route path (is_prefix p r) (empty_is_prefix p r) (prefix_goes_on p r) (prefix_no_route p r) (pairs_in h) held.order closed in
+          elim (true_or_false h.sound) [
+            | inr k ↦ held.broken k [] o
+            | inl k ↦ elim (zero_or_more (length h.nodes)) [
+              | inl none ↦
+                  let is : [] ∷ [] ≡ [] = subst (λ T. Owes route path ([] ∷ []) T []) (ap (map pair_of) (no_parts h held.paired none)) o in cc
+              | inr l ↦
+                  let some = some_part h held.paired l in
+                  let a = held.answered k in
+                  let paid : reverse (owed_in h) ≡ [] = sym (ap (λ z. owing z (owed_in h)) some.2) ∙ Owes-one route path (pairs_in h) ([] ∷ []) (owing (parts_in h) (owed_in h)) [] a.owes o in
+                  let empty : length h.owed ≡ 0 = sym (length-map h.owed (prefix_owed h.last)) ∙ sym (length-reverse (owed_in h)) ∙ ap length paid in
+                  true≢false (sym ((λ i. k i && (not (more_test (length h.nodes) l i) && zero_test (length h.owed) empty i))) ∙ unpaid)
+            ]
+          ]

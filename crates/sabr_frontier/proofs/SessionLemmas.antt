@@ -1,0 +1,4 @@
+-- Pages, and the place of a session.
+pub mod Pages
+pub mod StandingPages
+pub mod Verdicts

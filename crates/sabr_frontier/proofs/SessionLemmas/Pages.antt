@@ -1,0 +1,219 @@
+-- Steps of a tree, one after another, and the trees before them.
+use Rattle.std.proofs.Common.{◌≡◌, ℕ, zero, suc, ◌+◌, ◌-◌, ◌<◌, ◌≤◌, Bool, true, false, not, reverse, ◌⊎◌, inl, inr, List, [], ◌∷◌, ◌++◌, map, length, refl, sym, ap, subst, ◌∙◌, arith, Some, None, append_assoc}
+use Rattle.sabr_model.specs.plan.Plan.{ContactPlan, IsPlan}
+use Rattle.sabr_model.specs.routes.Arrival.{RouteRequest}
+use Rattle.sabr_model.specs.routes.Record.{RouteRecord, record_of}
+use Rattle.sabr_frontier.specs.declared.tree.NodeId.{NodeId}
+use Rattle.sabr_frontier.specs.declared.tree.Node.{Node}
+use Rattle.sabr_frontier.specs.listing.State.{State}
+use Rattle.std.specs.Prelude.{is_some, IsTrue, IsFalse, slice_get}
+use Rattle.std.proofs.lemmas.List.{reverse-append}
+use Rattle.sabr_frontier.specs.listing.Listing.{one_step, next_route, given_first, steps, searches_for, searches_in}
+use Rattle.sabr_frontier.specs.tree.Shape.{Shape, shown}
+use Rattle.sabr_frontier.specs.tree.Undo.{CanUndoTimes, undone, undone_times}
+use Rattle.sabr_frontier.specs.tree.Taking.{divided}
+use Rattle.sabr_frontier.specs.tree.Winners.{CarriesNone, CarriesSome, IsLeast}
+use Rattle.sabr_frontier.specs.tree.Sound.{IsTree}
+use Rattle.sabr_frontier.specs.session.Session.{IsSoundFor, IsSound, tree_before, former_of}
+use Rattle.sabr_frontier.proofs.TreeLemmas.Giving.{IsGiven, given_by, next_carried, nothing_carried, nothing_given, some_given}
+use Rattle.sabr_frontier.proofs.TreeLemmas.Refined.{searches_are}
+use Rattle.sabr_frontier.proofs.TreeLemmas.Undoing.{entries_undone}
+
+pub steps_stop : (p : ContactPlan) (r : RouteRequest) (s : State) (k : ℕ) → one_step p r s ≡ None → steps p r k s ≡ ([], s)
+unfolding steps
+steps_stop p r s zero e = refl
+steps_stop p r s (suc k) e = ap (λ o. elim o [ None ↦ ([], s) | Some w ↦ given_first w.0 (steps p r k w.1) ]) e
+
+pub steps_go : (p : ContactPlan) (r : RouteRequest) (s t : State) (x : List ℕ) (k : ℕ) → one_step p r s ≡ Some (x, t) → steps p r (suc k) s ≡ given_first x (steps p r k t)
+unfolding steps
+steps_go p r s t x k e = ap (λ o. elim o [ None ↦ ([], s) | Some w ↦ given_first w.0 (steps p r k w.1) ]) e
+
+pub steps_none : (p : ContactPlan) (r : RouteRequest) (s : State) → steps p r 0 s ≡ ([], s)
+unfolding steps
+steps_none p r s = refl
+
+module _ {A : Type 0} (p : ContactPlan) (r : RouteRequest) where
+  pub sound_tree : (n : ℕ) (t : Shape A) → IsSoundFor p r n t → IsTree p r t
+  sound_tree zero t h = h
+  sound_tree (suc n) t h = h.0
+
+  pub sound_taken : (t u : Shape A) → IsGiven p r t u → IsSound p r t → IsSound p r u
+  sound_taken t u g h =
+      let next : suc (length t.journal) ≡ length u.journal = omega (arith, g.entries) in
+      subst (λ n. IsSoundFor p r n u) next (g.sound, g.can, subst (IsSoundFor p r (length t.journal)) (sym g.back) h)
+
+  pub before_taken : (t u : Shape A) (start : ℕ) → IsGiven p r t u → start ≤ length t.journal → tree_before start u ≡ tree_before start t
+  before_taken t u start g l =
+      let more : length u.journal - start ≡ suc (length t.journal - start) = omega (arith, g.entries) in
+      ap (λ n. undone_times n u) more ∙ ap (undone_times (length t.journal - start)) g.back
+
+  -- undos are possible, and lead to a sound tree
+  pub sound_undos : (m n : ℕ) (t : Shape A) → m ≤ n → IsSoundFor p r n t → CanUndoTimes m t
+  sound_undos zero n t l h = tt
+  sound_undos (suc m) zero t l h = absurd (omega arith)
+  sound_undos (suc m) (suc n) t l h = (h.1, sound_undos m n (undone t) (omega arith) h.2)
+
+  pub sound_before : (m n : ℕ) (t : Shape A) → m ≤ n → IsSoundFor p r n t → IsSoundFor p r (n - m) (undone_times m t)
+  sound_before zero n t l h = let e : n ≡ n - 0 = omega arith in subst (λ k. IsSoundFor p r k t) e h
+  sound_before (suc m) zero t l h = absurd (omega arith)
+  sound_before (suc m) (suc n) t l h = let e : n - m ≡ suc n - suc m = omega arith in subst (λ k. IsSoundFor p r k (undone_times m (undone t))) e (sound_before m n (undone t) (omega arith) h.2)
+
+-- ---- the loop of a page
+
+-- where the loop is: what is given, and what k further steps give, is what all steps give from the state s
+pub record IsOnTheWay {A : Type 0} (p : ContactPlan) (r : RouteRequest) (s : State) (all : ℕ) (first : Shape A) (before : List RouteRecord) (k : ℕ) (t : Shape A) (given : List RouteRecord) : Type 0 where
+  pub routes : given ++ map (record_of p r) (steps p r k (shown t)).0 ≡ before ++ map (record_of p r) (steps p r all s).0
+  pub state : (steps p r k (shown t)).1 ≡ (steps p r all s).1
+  pub sound : IsSound p r t
+  pub longer : length first.journal ≤ length t.journal
+  pub back : tree_before (length first.journal) t ≡ first
+  pub entries : length t.journal + length (steps p r k (shown t)).0 ≡ length first.journal + length (steps p r all s).0
+
+pub at_first : {A : Type 0} (p : ContactPlan) (r : RouteRequest) (all k : ℕ) (t : Shape A) (given : List RouteRecord) → k ≡ all → IsSound p r t → IsOnTheWay p r (shown t) all t given k t given
+at_first p r all k t given e h =
+    let none : length t.journal - length t.journal ≡ 0 = omega arith in
+    record {
+      routes = ap (λ n. given ++ map (record_of p r) (steps p r n (shown t)).0) e;
+      state = ap (λ n. (steps p r n (shown t)).1) e;
+      sound = h;
+      longer = omega arith;
+      back = ap (λ n. undone_times n t) none;
+      entries = ap (λ n. length t.journal + length (steps p r n (shown t)).0) e;
+    }
+
+pub one_on : {A : Type 0} (p : ContactPlan) (r : RouteRequest) (s : State) (all : ℕ) (first : Shape A) (before : List RouteRecord) (k : ℕ) (t u : Shape A) (given new : List RouteRecord) (g : IsGiven p r t u)
+    → new ≡ given ++ g.route ∷ [] → IsOnTheWay p r s all first before (suc k) t given → IsOnTheWay p r s all first before k u new
+one_on p r s all first before k t u given new g e h =
+    let go = steps_go p r (shown t) (shown u) g.route.contacts k g.stepped in
+    record {
+      routes = ap (λ z. z ++ map (record_of p r) (steps p r k (shown u)).0) e
+          ∙ append_assoc given (g.route ∷ []) (map (record_of p r) (steps p r k (shown u)).0)
+          ∙ ap (λ (z : RouteRecord). given ++ z ∷ map (record_of p r) (steps p r k (shown u)).0) g.told
+          ∙ ap (λ (z : List (List ℕ) × State). given ++ map (record_of p r) z.0) (sym go)
+          ∙ h.routes;
+      state = ap (λ (z : List (List ℕ) × State). z.1) (sym go) ∙ h.state;
+      sound = sound_taken p r t u g h.sound;
+      longer = (let a = h.longer in omega (arith, g.entries));
+      back = before_taken p r t u (length first.journal) g h.longer ∙ h.back;
+      entries = (let a = h.entries in let b = ap (λ (z : List (List ℕ) × State). length z.0) go in omega (arith, g.entries, a, b));
+    }
+
+-- what all steps gave
+pub record IsAllGiven {A : Type 0} (p : ContactPlan) (r : RouteRequest) (s : State) (all : ℕ) (first : Shape A) (before : List RouteRecord) (t : Shape A) (given : List RouteRecord) : Type 0 where
+  pub routes : given ≡ before ++ map (record_of p r) (steps p r all s).0
+  pub state : shown t ≡ (steps p r all s).1
+  pub entries : length t.journal ≡ length first.journal + length (steps p r all s).0
+
+pub at_last : {A : Type 0} (p : ContactPlan) (r : RouteRequest) (s : State) (all : ℕ) (first : Shape A) (before : List RouteRecord) (k : ℕ) (t : Shape A) (given : List RouteRecord)
+    → steps p r k (shown t) ≡ ([], shown t) → IsOnTheWay p r s all first before k t given → IsAllGiven p r s all first before t given
+at_last p r s all first before k t given e h = record {
+  routes = nil_right given ∙ ap (λ (z : List (List ℕ) × State). given ++ map (record_of p r) z.0) (sym e) ∙ h.routes;
+  state = ap (λ (z : List (List ℕ) × State). z.1) (sym e) ∙ h.state;
+  entries = (let a = h.entries in let b = ap (λ (z : List (List ℕ) × State). length z.0) e in omega (arith, a, b));
+}
+  where
+    nil_right : (xs : List RouteRecord) → xs ≡ xs ++ []
+    nil_right [] = refl
+    nil_right (x ∷ xs) = ap (λ z. x ∷ z) (nil_right xs)
+
+-- if no part carries a route, the steps end
+pub at_end : {A : Type 0} (p : ContactPlan) (r : RouteRequest) (good : IsPlan p) (s : State) (all : ℕ) (first : Shape A) (before : List RouteRecord) (k : ℕ) (t : Shape A) (given : List RouteRecord)
+    → CarriesNone t.nodes → IsOnTheWay p r s all first before k t given → IsAllGiven p r s all first before t given
+at_end p r good s all first before k t given e h = at_last p r s all first before k t given (steps_stop p r (shown t) k (nothing_given p r good t (sound_tree p r (length t.journal) t h.sound) e)) h
+
+pub last_steps : (p : ContactPlan) (r : RouteRequest) (s : State) (k : ℕ) → k ≡ 0 → steps p r k s ≡ ([], s)
+last_steps p r s k e = ap (λ n. steps p r n s) e ∙ steps_none p r s
+
+-- ---- pages of a session
+
+module _ {A : Type 0} (p : ContactPlan) (r : RouteRequest) (good : IsPlan p) (t : Shape A) (sound : IsSound p r t) where
+  tree_is : IsTree p r t
+  tree_is = sound_tree p r (length t.journal) t sound
+
+  -- no step, or nothing carried: nothing is given
+  pub idle : (k : ℕ) → (k ≡ 0) ⊎ CarriesNone t.nodes → steps p r k (shown t) ≡ ([], shown t)
+  idle k (inl e) = last_steps p r (shown t) k e
+  idle k (inr e) = steps_stop p r (shown t) k (nothing_given p r good t tree_is e)
+
+  -- a step, and something carried: a route is given
+  pub busy : (k : ℕ) → 0 < k → CarriesSome t.nodes → (x : List ℕ) × (xs : List (List ℕ)) × ((steps p r k (shown t)).0 ≡ x ∷ xs)
+  busy zero l m = absurd (omega arith)
+  busy (suc k) l m =
+      let w = some_given p r good t tree_is m in
+      (w.1.route.contacts, (steps p r k (shown w.0)).0, ap (λ (z : List (List ℕ) × State). z.0) (steps_go p r (shown t) (shown w.0) w.1.route.contacts k w.1.stepped))
+
+  pub carried_or_not : (k : ℕ) → 0 < k → CarriesSome t.nodes → (k ≡ 0) ⊎ (next_route p r (shown t) ≡ None) → ⊥
+  carried_or_not k l m (inl e) = omega arith
+  carried_or_not k l m (inr e) = let a = (next_carried p r good t tree_is m.0 m.1).0 in cc
+
+  pub more_is : (b : Bool) → (IsTrue b → CarriesNone t.nodes) → (IsFalse b → CarriesSome t.nodes) → not b ≡ is_some (next_route p r (shown t))
+  more_is true none some = sym (ap is_some (nothing_carried p r good t tree_is (none refl)))
+  more_is false none some = let w = some refl in sym (ap is_some (next_carried p r good t tree_is w.0 w.1).0)
+
+pub length-former : {A : Type 0} (ss : List ℕ) (t : Shape A) → length (former_of ss t) ≡ length ss
+length-former [] t = refl
+length-former (s ∷ ss) t = ap suc (length-former ss (tree_before s t))
+
+-- how long the journal is after undos
+pub entries_before : {A : Type 0} (p : ContactPlan) (r : RouteRequest) (m : ℕ) (t : Shape A) → m ≤ length t.journal → IsSoundFor p r (length t.journal) t → length (undone_times m t).journal + m ≡ length t.journal
+entries_before p r zero t l h = omega arith
+entries_before p r (suc m) t l h =
+    let n : length t.journal ≡ suc (length t.journal - 1) = omega arith in
+    let h' = subst (λ k. IsSoundFor p r k t) n h in
+    let one = entries_undone t h'.1 (omega arith) in
+    let less : length t.journal - 1 ≡ length (undone t).journal = omega (arith, one) in
+    let rest = entries_before p r m (undone t) (omega (arith, one)) (subst (λ k. IsSoundFor p r k (undone t)) less h'.2) in
+    omega (arith, one, rest)
+
+pub last_first : (xs : List ℕ) (x : ℕ) → reverse (xs ++ x ∷ []) ≡ x ∷ reverse xs
+last_first xs x = reverse-append xs (x ∷ [])
+
+-- the tree before the last page is sound
+pub sound_back : {A : Type 0} (p : ContactPlan) (r : RouteRequest) (t : Shape A) (start : ℕ) → start ≤ length t.journal → IsSound p r t → IsSound p r (tree_before start t) × (length (tree_before start t).journal ≡ start)
+sound_back p r t start l h =
+    let m : ℕ = length t.journal - start in
+    let e = entries_before p r m t (omega arith) h in
+    let left : length t.journal - m ≡ length (undone_times m t).journal = omega (arith, e) in
+    (subst (λ k. IsSoundFor p r k (undone_times m t)) left (sound_before p r m (length t.journal) t (omega arith) h), omega (arith, e))
+
+-- ---- how many searches steps take
+
+pub counts_stop : (p : ContactPlan) (r : RouteRequest) (s : State) (k : ℕ) → one_step p r s ≡ None → searches_in p r k s ≡ 0
+unfolding searches_in
+counts_stop p r s zero e = refl
+counts_stop p r s (suc k) e = ap (λ o. elim o [ None ↦ 0 | Some w ↦ searches_for s w.0 + searches_in p r k w.1 ]) e
+
+pub counts_go : (p : ContactPlan) (r : RouteRequest) (s t : State) (x : List ℕ) (k : ℕ) → one_step p r s ≡ Some (x, t) → searches_in p r (suc k) s ≡ searches_for s x + searches_in p r k t
+unfolding searches_in
+counts_go p r s t x k e = ap (λ o. elim o [ None ↦ 0 | Some w ↦ searches_for s w.0 + searches_in p r k w.1 ]) e
+
+pub counts_none : (p : ContactPlan) (r : RouteRequest) (s : State) (k : ℕ) → k ≡ 0 → searches_in p r k s ≡ 0
+unfolding searches_in
+counts_none p r s zero e = refl
+counts_none p r s (suc k) e = absurd (omega arith)
+
+pub counts_idle : {A : Type 0} (p : ContactPlan) (r : RouteRequest) (good : IsPlan p) (t : Shape A) → IsSound p r t → (k : ℕ) → (k ≡ 0) ⊎ CarriesNone t.nodes → searches_in p r k (shown t) ≡ 0
+counts_idle p r good t sound k (inl e) = counts_none p r (shown t) k e
+counts_idle p r good t sound k (inr e) = counts_stop p r (shown t) k (nothing_given p r good t (sound_tree p r (length t.journal) t sound) e)
+
+pub counts_on : {A : Type 0} (p : ContactPlan) (r : RouteRequest) (t u : Shape A) (g : IsGiven p r t u) (k n m all : ℕ) → m ≡ searches_for (shown t) g.route.contacts → n + searches_in p r (suc k) (shown t) ≡ all → (n + m) + searches_in p r k (shown u) ≡ all
+counts_on p r t u g k n m all c h =
+    let go = counts_go p r (shown t) (shown u) g.route.contacts k g.stepped in
+    omega (arith, go, c)
+
+-- one step takes no more searches than several
+pub counts_first : (p : ContactPlan) (r : RouteRequest) (s : State) (k : ℕ) → 0 < k → searches_in p r 1 s ≤ searches_in p r k s
+unfolding searches_in
+counts_first p r s zero l = absurd (omega arith)
+counts_first p r s (suc k) l = elim (one_step p r s) as (λ o. elim o [ None ↦ 0 | Some w ↦ searches_for s w.0 + searches_in p r 0 w.1 ] ≤ elim o [ None ↦ 0 | Some w ↦ searches_for s w.0 + searches_in p r k w.1 ]) [
+  | None ↦ omega arith
+  | Some w ↦ omega arith
+]
+
+-- the step that gives what a node carries takes one search for each hop after the node's prefix
+pub counts_one : {A : Type 0} (p : ContactPlan) (r : RouteRequest) (good : IsPlan p) (t : Shape A) (is : IsTree p r t) (id : NodeId) (n : Node A) (x : RouteRecord) → slice_get t.nodes id.0 ≡ Some n → n.route ≡ Some x → IsLeast t.nodes x
+    → searches_in p r 1 (shown t) ≡ length x.contacts - n.length
+counts_one p r good t is id n x stands carries least =
+    let u = divided p r t id n x in
+    let go = counts_go p r (shown t) (shown u) x.contacts 0 (given_by p r good t is id n x stands carries least).stepped in
+    omega (arith, go, counts_none p r (shown u) 0 refl, searches_are p r t is id n x stands carries)

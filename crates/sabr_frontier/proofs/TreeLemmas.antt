@@ -1,0 +1,21 @@
+-- The tree that stands for a state.
+pub mod Ends
+pub mod Undoing
+pub mod Partition
+pub mod Fronts
+pub mod Orders
+pub mod Blocks
+pub mod Takes
+pub mod Nodes
+pub mod Winning
+pub mod Excluding
+pub mod Splits
+pub mod Found
+pub mod Refined
+pub mod Indexed
+pub mod Divided
+pub mod Sounds
+pub mod Turns
+pub mod Giving
+pub mod Roots
+pub mod Settled

@@ -1,0 +1,69 @@
+-- The tree before any route is given is sound, and represents the first state.
+use Rattle.std.proofs.Common.{◌≡◌, ◌<◌, List, [], ◌∷◌, map, refl, sym, ap, subst, ◌∙◌, inl, inr, arith, Option, Some, None}
+use Rattle.std.specs.Prelude.{slice_get}
+use Rattle.std.specs.Option.{option_map}
+use Rattle.sabr_model.specs.plan.Plan.{ContactPlan, IsPlan}
+use Rattle.sabr_model.specs.routes.Arrival.{RouteRequest}
+use Rattle.sabr_model.specs.routes.Route.{is_route, is_path, is_prefix}
+use Rattle.sabr_model.specs.routes.Parts.{least_in}
+use Rattle.sabr_model.specs.routes.Record.{RouteRecord, record_of}
+use Rattle.sabr_model.proofs.RouteLemmas.Prefixes.{empty_is_prefix}
+use Rattle.sabr_frontier.specs.declared.tree.NodeId.{NodeId}
+use Rattle.sabr_frontier.specs.declared.tree.Node.{Node}
+use Rattle.sabr_frontier.specs.listing.State.{Member}
+use Rattle.sabr_frontier.specs.listing.Listing.{IsState, leaves_in, state_at}
+use Rattle.sabr_frontier.specs.tree.Shape.{Shape, shown, part_at, numbers_of, route_at}
+use Rattle.sabr_frontier.specs.tree.Best.{best_of}
+use Rattle.sabr_frontier.specs.tree.Sound.{IsTree}
+use Rattle.sabr_frontier.specs.tree.Root.{root, first_id}
+use Rattle.sabr_frontier.specs.session.Session.{told_part}
+use Rattle.sabr_frontier.specs.session.Views.{told_at, told_node}
+use Rattle.sabr_frontier.proofs.ListingLemmas.Formed.{formed_start}
+use Rattle.sabr_frontier.proofs.ListingLemmas.Paths.{route_filled, routes_apart, route_chains, route_fits}
+use Rattle.sabr_frontier.proofs.ListingLemmas.Listed.{least_some}
+use Rattle.sabr_frontier.proofs.TreeLemmas.Divided.{best_numbers}
+use Rattle.sabr_frontier.proofs.TreeLemmas.Sounds.{best_is}
+use Rattle.sabr_frontier.proofs.TreeLemmas.Nodes.{same_node, get_Member}
+
+pub shown_root : (A : Type 0) (p : ContactPlan) (r : RouteRequest) → shown (root {A = A} (best_of p r [] [])) ≡ state_at p r 0
+unfolding state_at
+shown_root A p r = λ i. record { emitted = 0; last = []; parts = record { prefix = []; excluded = []; carried = best_numbers p r [] [] i } ∷ [] }
+
+pub first_formed : (p : ContactPlan) (r : RouteRequest) → IsPlan p → IsState p r (state_at p r 0)
+unfolding state_at
+first_formed p r good = formed_start (is_route p r) (is_path p r) (is_prefix p r) (routes_apart p r) (route_filled p r) (route_chains p r) (route_fits p r) (empty_is_prefix p r) (least_in p r)
+    (λ q X u e. let w = least_some p r good q X u e in (w.0, w.1))
+
+first_only : (id : NodeId) → id.0 < 1 → id ≡ first_id
+first_only id l = same_node id first_id (omega arith)
+
+module _ (A : Type 0) (p : ContactPlan) (r : RouteRequest) (good : IsPlan p) where
+  root_parts : (found : Option RouteRecord) → ((x : RouteRecord) → found ≡ Some x → x ≡ record_of p r x.contacts) → IsState p r (shown (root {A = A} found)) → leaves_in p r (shown (root {A = A} found)) ≡ [] → IsTree p r (root {A = A} found)
+  root_parts found told formed none = record {
+    formed = formed;
+    known = λ id m. elim m [ inl e ↦ (let a : id.0 ≡ 0 = ap (λ (z : NodeId). z.0) e in omega arith) | inr z ↦ absurd z ];
+    listed = λ id l. inl (first_only id l);
+    lent = λ n m. elim m [ inl e ↦ inl (ap (λ (z : Node A). z.length) e) | inr z ↦ absurd z ];
+    records = λ n x m e. elim m [ inl h ↦ told x (sym (ap (λ (z : Node A). z.route) h) ∙ e) | inr z ↦ absurd z ];
+    given = record { counted = λ x m. absurd m; recorded = λ s m. subst (Member s) none m };
+  }
+
+  pub root_is_tree : IsTree p r (root {A = A} (best_of p r [] []))
+  root_is_tree = root_parts (best_of p r [] []) (best_is p r [] []) (subst (IsState p r) (sym (shown_root A p r)) (first_formed p r good)) refl
+
+-- ---- what is told of the parts
+
+module _ {A : Type 0} (p : ContactPlan) (r : RouteRequest) (t : Shape A) (is : IsTree p r t) where
+  pub told_route : (n : Node A) (o : Option RouteRecord) → Member n t.nodes → n.route ≡ o → o ≡ option_map (record_of p r) (option_map numbers_of o)
+  told_route n None m e = refl
+  told_route n (Some x) m e = ap Some (is.records n x m e)
+
+  told_one : (id : NodeId) → told_at t.leaves t.nodes id ≡ told_part p r (part_at t.leaves t.nodes id)
+  told_one id = elim (slice_get t.nodes id.0) as (λ o. slice_get t.nodes id.0 ≡ o → told_node t.leaves o ≡ told_part p r (Rattle.sabr_frontier.specs.tree.Shape.part_of t.leaves o)) [
+    | None ↦ λ _. refl
+    | Some n ↦ λ e. let w = told_route n n.route (get_Member t.nodes id.0 n e) refl in λ i. record { prefix = Rattle.sabr_frontier.specs.tree.Shape.prefix_of t.leaves n; excluded = n.excluded; route = w i }
+  ] refl
+
+  pub told_all : (ids : List NodeId) → map (told_at t.leaves t.nodes) ids ≡ map (told_part p r) (map (part_at t.leaves t.nodes) ids)
+  told_all [] = refl
+  told_all (id ∷ ids) = λ i. told_one id i ∷ told_all ids i

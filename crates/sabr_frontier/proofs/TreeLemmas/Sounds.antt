@@ -1,0 +1,190 @@
+-- A sound tree stays sound where a node's route is given, and the undo of that gives the tree back.
+use Rattle.std.proofs.Common.{◌≡◌, ℕ, ◌+◌, ◌<◌, true, nat_lt, List, [], ◌∷◌, ◌++◌, length, take, drop, refl, sym, ap, subst, ◌∙◌, ◌⊎◌, inl, inr, arith, Option, Some, None, append_assoc, length-append, slice_index}
+use Rattle.std.specs.Prelude.{slice_get, slice_index_or}
+use Rattle.std.specs.Option.{option_map}
+use Rattle.std.proofs.lemmas.Bool.{cases_lt}
+use Rattle.std.proofs.lemmas.List.{take-append-drop}
+use Rattle.std.proofs.lemmas.Option.{get_or_from_slice_get}
+use Rattle.std.proofs.lemmas.Bool.Decides.{nat_tests}
+use Rattle.sabr_model.specs.Order.{put_in, by_numbers}
+use Rattle.sabr_model.specs.plan.Plan.{ContactPlan, IsPlan}
+use Rattle.sabr_model.specs.routes.Arrival.{RouteRequest}
+use Rattle.sabr_model.specs.routes.Route.{is_route, is_path, is_prefix}
+use Rattle.sabr_model.specs.routes.Parts.{least_in}
+use Rattle.sabr_model.specs.routes.Record.{RouteRecord, record_of}
+use Rattle.sabr_model.proofs.RouteLemmas.Prefixes.{empty_is_prefix}
+use Rattle.sabr_frontier.specs.declared.tree.NodeId.{NodeId}
+use Rattle.sabr_frontier.specs.declared.tree.Node.{Node}
+use Rattle.sabr_frontier.specs.listing.State.{Member}
+use Rattle.sabr_frontier.specs.listing.Listing.{IsState, leaves_in}
+use Rattle.sabr_frontier.specs.tree.Shape.{Shape, shown}
+use Rattle.sabr_frontier.specs.tree.Undo.{modify, undone, without, CanUndo, IsIndexed}
+use Rattle.sabr_frontier.specs.tree.Best.{best_of}
+use Rattle.sabr_frontier.specs.tree.Taking.{passing, stands_before, widened, wide_of, fresh_nodes, ids_from, divided}
+use Rattle.sabr_frontier.specs.tree.Sound.{IsTree, IsLent, AreGiven}
+use Rattle.sabr_frontier.proofs.ListingLemmas.Members.{Member-append_left, Member-append_right, Member-append_cases}
+use Rattle.sabr_frontier.proofs.ListingLemmas.Trees.{In-put_in, put_in-In}
+use Rattle.sabr_frontier.proofs.ListingLemmas.Closed.{In_Member, Member_In}
+use Rattle.sabr_frontier.proofs.ListingLemmas.Formed.{formed_after, leaves_after}
+use Rattle.sabr_frontier.proofs.LoadingLemmas.Forget.{forget-put_in}
+use Rattle.sabr_frontier.proofs.ListingLemmas.Paths.{route_filled, routes_apart, route_chains, route_fits}
+use Rattle.sabr_frontier.proofs.ListingLemmas.Listed.{least_some}
+use Rattle.sabr_frontier.proofs.TreeLemmas.Ends.{length-modify, last_item_push}
+use Rattle.sabr_frontier.proofs.TreeLemmas.Takes.{passes_from, take_front, undone-after}
+use Rattle.sabr_frontier.proofs.TreeLemmas.Nodes.{get_Member, get_at_end, get_same, modify_cases, member_cut, member_taken, member_dropped, ids_cases, ids_has}
+use Rattle.sabr_frontier.proofs.TreeLemmas.Splits.{lent_stable}
+use Rattle.sabr_frontier.proofs.TreeLemmas.Refined.{node_within, here, here_in, cut, can_exclude, record_is}
+use Rattle.sabr_frontier.proofs.TreeLemmas.Indexed.{tree_indexed}
+use Rattle.sabr_frontier.proofs.TreeLemmas.Divided.{shown_divided}
+
+-- ---- what the searches' records are
+
+pub best_is : (p : ContactPlan) (r : RouteRequest) (q X : List ℕ) (x : RouteRecord) → best_of p r q X ≡ Some x → x ≡ record_of p r x.contacts
+unfolding best_of
+best_is p r q X x e = elim (least_in p r q X) as (λ o. option_map (record_of p r) o ≡ Some x → x ≡ record_of p r x.contacts) [
+  | None ↦ λ h. absurd cc
+  | Some s ↦ λ h. let same : record_of p r s ≡ x = cc in sym same ∙ ap (λ (z : RouteRecord). record_of p r z.contacts) same
+] e
+
+fresh_records : {A : Type 0} (p : ContactPlan) (r : RouteRequest) (leaf : ℕ) (q rest : List ℕ) (n : Node A) (x : RouteRecord) → Member n (fresh_nodes (best_of p r) leaf q rest) → n.route ≡ Some x → x ≡ record_of p r x.contacts
+fresh_records p r leaf q [] n x m e = absurd m
+fresh_records {A} p r leaf q (y ∷ rest) n x (inl h) e = best_is p r q (y ∷ []) x (sym (ap (λ (z : Node A). z.route) h) ∙ e)
+fresh_records p r leaf q (y ∷ rest) n x (inr m) e = fresh_records p r leaf (q ++ y ∷ []) rest n x m e
+
+fresh_lent : {A : Type 0} (p : ContactPlan) (r : RouteRequest) (leaves : List RouteRecord) (leaf : ℕ) (x : RouteRecord) (is : slice_get leaves leaf ≡ Some x) (q rest : List ℕ) (n : Node A) → x.contacts ≡ q ++ rest → Member n (fresh_nodes (best_of p r) leaf q rest) → IsLent leaves n
+fresh_lent p r leaves leaf x is q [] n e m = absurd m
+fresh_lent {A} p r leaves leaf x is q (y ∷ rest) n e (inl h) =
+    let l : n.leaf ≡ leaf = ap (λ (z : Node A). z.leaf) h in
+    let d : n.length ≡ length q = ap (λ (z : Node A). z.length) h in
+    inr (x, ap (slice_get leaves) l ∙ is, omega (arith, d, ap length e, length-append q (y ∷ rest)))
+fresh_lent p r leaves leaf x is q (y ∷ rest) n e (inr m) = fresh_lent p r leaves leaf x is (q ++ y ∷ []) rest n (e ∙ sym (append_assoc q (y ∷ []) rest)) m
+
+below_test : (a b : ℕ) → a < b → nat_lt a b ≡ true
+below_test a b l = grind (arith, nat_tests)
+
+module _ {A : Type 0} (p : ContactPlan) (r : RouteRequest) (good : IsPlan p) (t : Shape A) (is : IsTree p r t) (node : NodeId)
+    (n : Node A) (x : RouteRecord) (stands : slice_get t.nodes node.0 ≡ Some n) (carries : n.route ≡ Some x) where
+  abbrev D : Shape A
+  D = divided p r t node n x
+
+  abbrev s : List ℕ
+  s = x.contacts
+
+  abbrev q0 : List ℕ
+  q0 = take (n.length + 1) s
+
+  abbrev wide : List ℕ
+  wide = wide_of n s
+
+  abbrev found : Option RouteRecord
+  found = best_of p r (take n.length s) wide
+
+  abbrev new : List (Node A)
+  new = fresh_nodes (best_of p r) (length t.leaves) q0 (drop (n.length + 1) s)
+
+  abbrev N : ℕ
+  N = length t.nodes
+
+  abbrev ids : List NodeId
+  ids = ids_from N (length new)
+
+  within_node : node.0 < N
+  within_node = node_within p r t is node n x stands carries
+
+  count : length D.nodes ≡ N + length new
+  count = omega (arith, length-append (modify (widened wide found) t.nodes node.0) new, length-modify (widened wide found) t.nodes node.0)
+
+  formed_then : IsState p r (shown D)
+  formed_then = subst (IsState p r) (sym (shown_divided p r t is node n x stands carries))
+      (formed_after (is_route p r) (is_path p r) (is_prefix p r) (routes_apart p r) (route_filled p r) (route_chains p r) (route_fits p r) (empty_is_prefix p r) (least_in p r)
+      (λ q X u e. let w = least_some p r good q X u e in (w.0, w.1)) (shown t) is.formed (here p r t is node n x stands carries) s (here_in p r t is node n x stands carries) refl)
+
+  leaves_then : leaves_in p r (shown D) ≡ put_in by_numbers s (leaves_in p r (shown t))
+  leaves_then = ap (leaves_in p r) (shown_divided p r t is node n x stands carries)
+      ∙ leaves_after (is_route p r) (is_path p r) (is_prefix p r) (routes_apart p r) (route_filled p r) (route_chains p r) (route_fits p r) (empty_is_prefix p r) (least_in p r)
+      (λ q X u e. let w = least_some p r good q X u e in (w.0, w.1)) (shown t) is.formed (here p r t is node n x stands carries) s (here_in p r t is node n x stands carries) refl
+
+  leaf_then : (l : List ℕ) → (l ≡ s) ⊎ Member l (leaves_in p r (shown t)) → Member l (leaves_in p r (shown D))
+  leaf_then l m = subst (Member l) (sym leaves_then) (Member_In l (put_in by_numbers s (leaves_in p r (shown t))) (put_in-In l s (leaves_in p r (shown t)) (elim m [ inl e ↦ inl e | inr k ↦ inr (In_Member l (leaves_in p r (shown t)) k) ])))
+
+  given_then : AreGiven p r D
+  given_then = record {
+    counted = λ z m. elim (Member-append_cases z t.leaves (x ∷ []) m) [
+      | inl a ↦ (let w = is.given.counted z a in (w.0, leaf_then z.contacts (inr w.1)))
+      | inr a ↦ elim a [
+        | inl e ↦ (e ∙ record_is p r t is node n x stands carries ∙ ap (λ (k : RouteRecord). record_of p r k.contacts) (sym e), leaf_then z.contacts (inl (ap (λ (k : RouteRecord). k.contacts) e)))
+        | inr b ↦ absurd b
+      ]
+    ];
+    recorded = λ l m. elim (In-put_in l s (leaves_in p r (shown t)) (In_Member l (put_in by_numbers s (leaves_in p r (shown t))) (subst (Member l) leaves_then m))) [
+      | inl e ↦ Member-append_right (record_of p r l) t.leaves (x ∷ []) (inl (ap (record_of p r) e ∙ sym (record_is p r t is node n x stands carries)))
+      | inr a ↦ Member-append_left (record_of p r l) t.leaves (x ∷ []) (is.given.recorded l (Member_In l (leaves_in p r (shown t)) a))
+    ];
+  }
+
+  index_cases : (id : NodeId) → Member id D.index → Member id t.index ⊎ Member id ids
+  index_cases id m = elim (Member-append_cases id (take k t.index ++ ids) (drop k t.index) m) [
+    | inl a ↦ elim (Member-append_cases id (take k t.index) ids a) [ inl b ↦ inl (member_taken k id t.index b) | inr b ↦ inr b ]
+    | inr a ↦ inl (member_dropped k id t.index a)
+  ]
+    where
+      k : ℕ
+      k = passing (stands_before t.leaves t.nodes q0) t.index
+
+  index_has : (id : NodeId) → Member id t.index ⊎ Member id ids → Member id D.index
+  index_has id m = elim m [
+    | inl a ↦ elim (member_cut (passing (stands_before t.leaves t.nodes q0) t.index) id t.index a) [
+      | inl b ↦ Member-append_left id (take (passing (stands_before t.leaves t.nodes q0) t.index) t.index ++ ids) (drop (passing (stands_before t.leaves t.nodes q0) t.index) t.index) (Member-append_left id (take (passing (stands_before t.leaves t.nodes q0) t.index) t.index) ids b)
+      | inr b ↦ Member-append_right id (take (passing (stands_before t.leaves t.nodes q0) t.index) t.index ++ ids) (drop (passing (stands_before t.leaves t.nodes q0) t.index) t.index) b
+    ]
+    | inr a ↦ Member-append_left id (take (passing (stands_before t.leaves t.nodes q0) t.index) t.index ++ ids) (drop (passing (stands_before t.leaves t.nodes q0) t.index) t.index) (Member-append_right id (take (passing (stands_before t.leaves t.nodes q0) t.index) t.index) ids a)
+  ]
+
+  pub tree_divided : IsTree p r D
+  tree_divided = record {
+    formed = formed_then;
+    known = λ id m. elim (index_cases id m) [
+      | inl a ↦ (let l = is.known id a in omega (arith, count))
+      | inr a ↦ (let w = ids_cases id N (length new) a in let l = w.1 in omega (arith, count))
+    ];
+    listed = λ id l. index_has id (elim (cases_lt id.0 N) [
+      | inl a ↦ inl (is.listed id a)
+      | inr a ↦ inr (ids_has id N (length new) a (omega (arith, count)))
+    ]);
+    lent = λ k m. elim (Member-append_cases k (modify (widened wide found) t.nodes node.0) new m) [
+      | inl a ↦ elim (modify_cases (widened wide found) t.nodes node.0 k a) [
+        | inl b ↦ lent_stable t.leaves (x ∷ []) k (is.lent k b)
+        | inr w ↦ subst (IsLent (t.leaves ++ x ∷ [])) (sym w.2) (lent_stable t.leaves (x ∷ []) (widened wide found w.0) (is.lent w.0 (get_Member t.nodes node.0 w.0 w.1)))
+      ]
+      | inr a ↦ fresh_lent p r (t.leaves ++ x ∷ []) (length t.leaves) x (get_at_end t.leaves [] x) q0 (drop (n.length + 1) s) k (sym (take-append-drop (n.length + 1) s)) a
+    ];
+    records = λ k z m e. elim (Member-append_cases k (modify (widened wide found) t.nodes node.0) new m) [
+      | inl a ↦ elim (modify_cases (widened wide found) t.nodes node.0 k a) [
+        | inl b ↦ is.records k z b e
+        | inr w ↦ best_is p r (take n.length s) wide z (sym (ap (λ (v : Node A). v.route) w.2) ∙ e)
+      ]
+      | inr a ↦ fresh_records p r (length t.leaves) q0 (drop (n.length + 1) s) k z a e
+    ];
+    given = given_then;
+  }
+
+  -- ---- and back
+
+  forgets : without (slice_index s n.length) wide ≡ n.excluded
+  forgets = forget-put_in (slice_index s n.length) n.excluded (can_exclude p r t is node n x stands carries).absent
+
+  pub undone_divided : undone D ≡ t
+  undone_divided = undone-after t node n x wide found new (passing (stands_before t.leaves t.nodes q0) t.index) stands carries forgets (passes_from (λ (id : NodeId). nat_lt id.0 N) t.index (λ id m. below_test id.0 N (is.known id m)))
+
+  pub can_undo : CanUndo D
+  can_undo = record {
+    entry = record { node = node; nodes = N; last = t.last };
+    route = x;
+    entry_is = last_item_push D.journal t.journal (record { node = node; nodes = N; last = t.last }) refl;
+    route_is = last_item_push D.leaves t.leaves x refl;
+    in_range = within_node;
+    counted = omega (arith, count);
+    longer = λ k. subst (λ (z : Node A). z.length < length s) (sym (ap (λ z. slice_index_or z node.0 k) (take_front (modify (widened wide found) t.nodes node.0) new N (sym (length-modify (widened wide found) t.nodes node.0)))
+        ∙ get_or_from_slice_get (modify (widened wide found) t.nodes node.0) node.0 (widened wide found n) k (get_same (widened wide found) t.nodes node.0 n stands))) (cut p r t is node n x stands carries).2.inside;
+    indexed = subst IsIndexed (sym undone_divided) (tree_indexed p r t is);
+  }

@@ -1,0 +1,10 @@
+use Rattle.std.proofs.Common.{Some, ap, sym}
+use Rattle.sabr_model.proofs.RouteLemmas.Prefixes.{empty_is_path}
+use Rattle.sabr_frontier.proofs.loader.leading.Lead.start.Goals as goal
+
+pub returns : goal.returns
+returns g c = record {
+  path = empty_is_path c.args.plan.now.plan c.args.request.now;
+  reached = record { node = ap Some (sym c.from.ensures.value); at = ap Some (sym c.at.ensures.value) };
+  told = c.of.ensures;
+}

@@ -1,0 +1,15 @@
+use Rattle.std.proofs.Common.{arith, ℕ, List, ◌≡◌, ap, ◌∙◌, set, Some, slice_index}
+use Rattle.sabr_frontier.specs.tree.Shape.{numbers_of}
+use Rattle.sabr_frontier.specs.tree.Undo.{given_back, without}
+use Rattle.sabr_frontier.proofs.TreeLemmas.Ends.{set-modify}
+use Rattle.sabr_frontier.proofs.tree.undo.give_back.Goals as goal
+
+pub returns : goal.returns
+returns g c =
+    let n = c.index_mut-part.result.now in
+    let r = c.args.route in
+    let items = c.args.nodes.now.items in
+    let forgotten : c.forget.new.self ≡ without (slice_index r.contacts n.length) n.excluded =
+    c.forget.ensures ∙ ap (λ (s : List ℕ). without (slice_index s n.length) n.excluded) (c.as_slice.ensures ∙ ap numbers_of c.route.view_is) in
+    ap (λ (z : List ℕ). set items c.args.node.0 (record { leaf = n.leaf; length = n.length; excluded = z; route = Some r })) forgotten
+    ∙ set-modify (given_back r) items c.args.node.0 n (omega arith) c.index_mut-part.ensures.value

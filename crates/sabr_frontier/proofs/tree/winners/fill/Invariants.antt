@@ -1,0 +1,11 @@
+use Rattle.std.proofs.Common.{◌≡◌, ◌≤◌, length, vec_len, vec_capacity}
+use Rattle.sabr_frontier.specs.tree.Winners.{AreWinners}
+use Rattle.sabr_frontier.proofs.tree.winners.fill.Given as goal
+
+abbrev pub invariant-loop : goal.invariant-loop
+invariant-loop g l = record {
+  won : AreWinners l.nodes l.winners.items;
+  long : vec_len l.winners ≡ l.counter;
+  few : l.counter ≤ length l.nodes;
+  room : vec_capacity l.fn.winners ≤ vec_capacity l.winners;
+}

@@ -1,0 +1,12 @@
+-- Parts, states and steps of a listing.
+pub mod Rising
+pub mod Tree
+pub mod State
+pub mod Formed
+pub mod Owing
+pub mod Step
+pub mod Listing
+pub mod Fresh
+pub mod Standing
+pub mod Laws
+pub mod Rows

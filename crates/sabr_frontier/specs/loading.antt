@@ -1,0 +1,4 @@
+-- A state that is loaded part by part.
+pub mod Leading
+pub mod Loading
+pub mod Holding

@@ -1,0 +1,3 @@
+-- What a session shows.
+pub mod Session
+pub mod Views

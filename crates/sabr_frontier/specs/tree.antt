@@ -1,0 +1,13 @@
+-- The tree that stands for a state, and what giving and undoing a route leave of it.
+pub mod Winners
+pub mod Shape
+pub mod Undo
+pub mod Queue
+pub mod Index
+pub mod Best
+pub mod Asking
+pub mod Taking
+pub mod Room
+pub mod Sound
+pub mod Prepared
+pub mod Root

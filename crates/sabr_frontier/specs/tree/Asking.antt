@@ -1,0 +1,37 @@
+-- What an asker shows.
+use Rattle.std.specs.Prelude.{ℕ, List, map, Option}
+use Rattle.sabr_model.specs.plan.Plan.{TabledPlan}
+use Rattle.sabr_model.specs.routes.Arrival.{RouteRequest}
+use Rattle.sabr_model.specs.routes.Record.{RouteRecord, record_of}
+use Rattle.sabr_frontier.specs.declared.question.Question.{Question}
+use Rattle.sabr_frontier.specs.tree.Best.{best_of}
+use Rattle.sabr_frontier.specs.listing.State.{State}
+use Rattle.sabr_frontier.specs.listing.Listing.{steps}
+
+-- a plan, and a request for its routes
+pub record Asked : Type 0 where
+  pub plan : TabledPlan
+  pub request : RouteRequest
+
+-- what callers see of an asker: what it asks for, and how often its finder was called, by it or before
+pub record Asking : Type 0 where
+  pub asked : Asked
+  pub calls : ℕ
+
+abbrev pub asked_over : TabledPlan → RouteRequest → Asked
+asked_over p r = record { plan = p; request = r }
+
+abbrev pub asked_of : {A : Type 0} → Question A → Asked
+asked_of q = asked_over q.plan.now q.request
+
+-- at most k steps from a state
+abbrev pub steps_for : Asked → ℕ → State → List (List ℕ) × State
+steps_for a k s = steps a.plan.plan a.request k s
+
+-- the records of routes
+abbrev pub records_for : Asked → List (List ℕ) → List RouteRecord
+records_for a routes = map (record_of a.plan.plan a.request) routes
+
+-- the record of the least route of a part
+abbrev pub best_for : Asked → List ℕ → List ℕ → Option RouteRecord
+best_for a = best_of a.plan.plan a.request

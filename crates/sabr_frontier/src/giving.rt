@@ -1,0 +1,6 @@
+//! Giving the least routes that a tree carries, one after another.
+
+pub mod asker;
+mod divide;
+mod gather;
+mod take;

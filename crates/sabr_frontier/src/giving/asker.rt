@@ -1,0 +1,116 @@
+//! Asking a finder for the least routes of parts.
+
+ghost use Rattle.std.specs.Prelude.{◌≡◌, ◌+◌, IfOk, IsTrue};
+ghost use Rattle.std.specs.List.Sorted.{IsStrictlyIncreasing};
+ghost use Rattle.sabr_model.specs.routes.Route.{is_prefix};
+ghost use Rattle.sabr_frontier.specs.tree.Asking.{asked_of, asked_over};
+ghost use Rattle.sabr_frontier.specs.tree.Best.{IsBest};
+
+use crate::question::Question;
+use sabr_index::Index;
+use sabr_model::{NoMemory, Plan, Request, Route};
+use sabr_search::{BestOf, Kept, Part};
+use std::alloc::{Allocator, Global};
+use std::marker::Model;
+
+/// A finder with what it is asked for, and what is kept for its searches. Contracts see the plan, the request, and how
+/// often the finder was called.
+#[derive(Drop)]
+pub struct Asker<'p, B: BestOf<A>, A: Allocator + Copy = Global> {
+    /// The allocator of all that is made.
+    alloc: A,
+    /// The index of the plan.
+    index: Index<'p, A>,
+    /// The request.
+    request: Request,
+    /// The finder of a part's least route.
+    finder: B,
+    /// What is kept for its searches.
+    kept: Kept<A>,
+}
+
+impl<'p, B: BestOf<A>, A: Allocator + Copy> Model for Asker<'p, B, A> {
+    ghost use Rattle.sabr_search.specs.answers.Kept.{IsKept};
+    ghost use Rattle.sabr_frontier.specs.tree.Asking.{Asking, asked_over};
+
+    ghost Value = { Asking };
+
+    ghost view = { λ a. record { asked = asked_over a.index a.request; calls = B.calls_of a.finder } };
+
+    ghost invariant = { λ a. IsKept a.index a.request a.kept };
+}
+
+impl<'p, B: BestOf<A>, A: Allocator + Copy> Asker<'p, B, A> {
+    /// Makes the plan's index, and an asker that keeps nothing yet.
+    ///
+    /// # Errors
+    ///
+    /// [`NoMemory`] if a growth was refused. The finder is dropped.
+    pub fn new(question: Question<'p, A>, finder: B) -> Result<Asker<'p, B, A>, NoMemory>
+        ensures { IfOk result (λ asker. asker ≡ record { asked = asked_of question.entry; calls = B.calls_of finder }) }
+    {
+        let alloc = question.alloc();
+        let index = Index::new(alloc, question.plan)?;
+        let kept = Kept::new(alloc);
+        Ok(Asker {
+            alloc,
+            index,
+            request: question.request,
+            finder,
+            kept,
+        })
+    }
+
+    /// Returns an asker over the same index, with the same finder, for another request. It keeps nothing yet.
+    pub fn with_request(self, request: Request) -> Asker<'p, B, A>
+        ensures { result ≡ record { asked = asked_over self.entry.asked.plan request; calls = self.entry.calls } }
+    {
+        let Asker {
+            alloc,
+            index,
+            request: _,
+            finder,
+            kept: _,
+        } = self;
+        Asker {
+            alloc,
+            index,
+            request,
+            finder,
+            kept: Kept::new(alloc),
+        }
+    }
+
+    /// The allocator of what is made.
+    pub fn alloc(&self) -> A {
+        self.alloc
+    }
+
+    /// The plan.
+    pub fn plan(&self) -> &'p Plan<A>
+        ensures { result.now ≡ self.now.asked.plan }
+    {
+        self.index.plan()
+    }
+
+    /// The request.
+    pub fn request(&self) -> &Request
+        ensures { result.now ≡ self.now.asked.request }
+    {
+        &self.request
+    }
+
+    /// Asks for the least route of a part whose excluded numbers rise.
+    #[tactic(auto, unfolding(crate::specs::Best::best_of))]
+    pub fn ask(&mut self, prefix: &[u32], excluded: &[u32]) -> Result<Option<Route<A>>, NoMemory>
+        requires fits { IsTrue (is_prefix self.old.asked.plan.plan self.old.asked.request prefix.now) }
+        requires rising { IsStrictlyIncreasing excluded.now }
+        ensures best { IfOk result (IsBest self.old.asked.plan.plan self.old.asked.request prefix.now excluded.now) }
+        ensures called { self.new.calls ≡ self.old.calls + 1 }
+        ensures same { self.new.asked ≡ self.old.asked }
+    {
+        let part = Part { prefix, excluded };
+        self.finder
+            .best_rising(&mut self.kept, &self.index, &self.request, part)
+    }
+}

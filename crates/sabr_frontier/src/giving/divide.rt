@@ -1,0 +1,185 @@
+//! Dividing a part by the route that it carries: the number that it then excludes, and all searches.
+
+ghost use Rattle.std.specs.Prelude.{◌≡◌, ◌+◌, ◌≤◌, ◌<◌, ◌++◌, take, drop, slice_index, slice_get, length, vec_len, vec_capacity, Some, [], ◌∷◌, IfOk, OnOk, OnErr, IsTrue};
+ghost use Rattle.std.specs.Ordering.{nat_cmp};
+ghost use Rattle.sabr_model.specs.routes.Route.{is_route};
+ghost use Rattle.sabr_frontier.specs.tree.Asking.{best_for};
+ghost use Rattle.sabr_frontier.specs.listing.Rising.{Rises};
+ghost use Rattle.sabr_frontier.specs.tree.Undo.{modify};
+ghost use Rattle.sabr_frontier.specs.tree.Taking.{fresh_after, fresh_node, fresh_nodes, wide_of};
+ghost use Rattle.sabr_frontier.specs.tree.Sound.{CanExclude};
+ghost use Rattle.sabr_frontier.specs.tree.Prepared.{excluding, including};
+
+use crate::giving::asker::Asker;
+use crate::tree::excluded::Excluded;
+use crate::tree::{Node, NodeId};
+use sabr_model::{NoMemory, Numbers, Route};
+use sabr_search::BestOf;
+use std::alloc::Allocator;
+
+/// Copies a route.
+pub fn copied<A: Allocator + Copy>(alloc: A, route: &Route<A>) -> Result<Route<A>, NoMemory>
+    ensures { IfOk result (λ x. x ≡ route.now) }
+{
+    let contacts = Vec::from_slice(alloc, route.contacts.as_slice())?;
+    Ok(Route {
+        contacts: Numbers::new(contacts),
+        delivery: route.delivery,
+        until: route.until,
+        entry: route.entry,
+    })
+}
+
+/// The contact numbers of a route.
+pub fn numbers<A: Allocator + Copy>(route: &Route<A>) -> &[u32]
+    ensures { result.now ≡ route.now.contacts }
+{
+    route.contacts.as_slice()
+}
+
+/// Makes the node of a leaf for the first `count` numbers of a route, with its next number excluded.
+fn fresh_node<B: BestOf<A>, A: Allocator + Copy>(
+    asker: &mut Asker<'_, B, A>,
+    leaf: usize,
+    route: &[u32],
+    count: usize,
+) -> Result<Node<A>, NoMemory>
+    requires route { IsTrue (is_route asker.old.asked.plan.plan asker.old.asked.request route.now) }
+    requires longer { count < length route.now }
+    ensures node { IfOk result (λ n. n ≡ fresh_node (best_for asker.old.asked) leaf route.now count) }
+    ensures called { OnOk result (asker.new.calls ≡ asker.old.calls + 1) }
+    ensures no_fewer { OnErr result (asker.old.calls ≤ asker.new.calls) }
+    ensures at_most { OnErr result (asker.new.calls ≤ asker.old.calls + 1) }
+    ensures same { asker.new.asked ≡ asker.old.asked }
+{
+    let excluded = Excluded::one(asker.alloc(), route[count])?;
+    let found = asker.ask(&route[..count], excluded.as_slice())?;
+    Ok(Node {
+        leaf,
+        length: count,
+        excluded,
+        route: found,
+    })
+}
+
+/// Adds the nodes of a leaf for the beginnings of a route from `first` numbers on, each with its next number excluded.
+/// There is room for them. After a refusal some may have been added.
+fn fresh_nodes<B: BestOf<A>, A: Allocator + Copy>(
+    asker: &mut Asker<'_, B, A>,
+    nodes: &mut Vec<Node<A>, A>,
+    leaf: usize,
+    route: &[u32],
+    first: usize,
+) -> Result<(), NoMemory>
+    requires route { IsTrue (is_route asker.old.asked.plan.plan asker.old.asked.request route.now) }
+    requires within { first ≤ length route.now }
+    requires room { vec_len nodes.old + length route.now ≤ vec_capacity nodes.old + first }
+    ensures nodes { OnOk result (nodes.new.items ≡ nodes.old.items ++ fresh_nodes (best_for asker.old.asked) leaf (take first route.now) (drop first route.now)) }
+    ensures called { OnOk result (asker.new.calls + vec_len nodes.old ≡ asker.old.calls + vec_len nodes.new) }
+    ensures no_fewer { OnErr result (asker.old.calls ≤ asker.new.calls) }
+    ensures at_most { OnErr result (asker.new.calls + first ≤ asker.old.calls + length route.now) }
+    ensures longer { OnOk result (vec_len nodes.old ≤ vec_len nodes.new) }
+    ensures same { asker.new.asked ≡ asker.old.asked }
+    ensures front { take (length nodes.old.items) nodes.new.items ≡ nodes.old.items }
+{
+    for count in first..route.len() {
+        let node = fresh_node(asker, leaf, route, count)?;
+        nodes.push_reserved(node);
+    }
+    Ok(())
+}
+
+/// Finds what a node carries next, for the numbers that it excludes, and adds the new nodes of its route, which is then
+/// the leaf `leaf`. It takes one search for the node itself, and one for each new node.
+fn search<B: BestOf<A>, A: Allocator + Copy>(
+    asker: &mut Asker<'_, B, A>,
+    nodes: &mut Vec<Node<A>, A>,
+    node: NodeId,
+    route: &[u32],
+    leaf: usize,
+) -> Result<Option<Route<A>>, NoMemory>
+    requires in_range { node.0 < vec_len nodes.old }
+    requires route { IsTrue (is_route asker.old.asked.plan.plan asker.old.asked.request route.now) }
+    requires longer { (n : Node A) → slice_get nodes.old.items node.0 ≡ Some n → n.length < length route.now }
+    requires rising { (n : Node A) → slice_get nodes.old.items node.0 ≡ Some n → Rises nat_cmp n.excluded }
+    requires room { vec_len nodes.old + length route.now ≤ vec_capacity nodes.old }
+    ensures found { IfOk result (λ found. (n : Node A) → slice_get nodes.old.items node.0 ≡ Some n → found ≡ best_for asker.old.asked (take n.length route.now) n.excluded) }
+    ensures nodes { OnOk result ((n : Node A) → slice_get nodes.old.items node.0 ≡ Some n → nodes.new.items ≡ nodes.old.items ++ fresh_after (best_for asker.old.asked) leaf n route.now) }
+    ensures called { OnOk result (asker.new.calls + vec_len nodes.old ≡ asker.old.calls + (vec_len nodes.new + 1)) }
+    ensures no_fewer { OnErr result (asker.old.calls ≤ asker.new.calls) }
+    ensures at_most { OnErr result ((n : Node A) → slice_get nodes.old.items node.0 ≡ Some n → asker.new.calls + n.length ≤ asker.old.calls + length route.now) }
+    ensures longer { OnOk result (vec_len nodes.old ≤ vec_len nodes.new) }
+    ensures same { asker.new.asked ≡ asker.old.asked }
+    ensures front { take (length nodes.old.items) nodes.new.items ≡ nodes.old.items }
+{
+    let part = &nodes[node.0];
+    let count = part.length;
+    let found = asker.ask(&route[..count], part.excluded.as_slice())?;
+    fresh_nodes(asker, nodes, leaf, route, count + 1)?;
+    Ok(found)
+}
+
+/// Excludes the number that a route takes after the node's prefix, or changes nothing if memory was refused.
+fn exclude_next<A: Allocator + Copy>(
+    nodes: &mut Vec<Node<A>, A>,
+    node: NodeId,
+    route: &[u32],
+) -> Result<(), NoMemory>
+    requires in_range { node.0 < vec_len nodes.old }
+    requires next { (n : Node A) → slice_get nodes.old.items node.0 ≡ Some n → CanExclude n route.now }
+    ensures ok { OnOk result (nodes.new.items ≡ modify (excluding route.now) nodes.old.items node.0) }
+    ensures err { OnErr result (nodes.new.items ≡ nodes.old.items) }
+    ensures len { vec_len nodes.new ≡ vec_len nodes.old }
+    ensures capacity { vec_capacity nodes.new ≡ vec_capacity nodes.old }
+{
+    let part = &mut nodes[node.0];
+    let number = route[part.length];
+    part.excluded.put(number)?;
+    Ok(())
+}
+
+/// Includes the number again that a route takes after the node's prefix. It takes no memory.
+fn include_next<A: Allocator + Copy>(nodes: &mut Vec<Node<A>, A>, node: NodeId, route: &[u32])
+    requires in_range { node.0 < vec_len nodes.old }
+    requires longer { (n : Node A) → slice_get nodes.old.items node.0 ≡ Some n → n.length < length route.now }
+    ensures { nodes.new.items ≡ modify (including route.now) nodes.old.items node.0 }
+{
+    let part = &mut nodes[node.0];
+    let number = route[part.length];
+    part.excluded.forget(number);
+}
+
+/// Divides the part of a node by a route of it, which is then the leaf `leaf`: the node excludes one number more, and
+/// the new parts come after the others. There is room for them. It returns what the node carries then. After a refusal
+/// the nodes are as they were.
+pub fn divide<B: BestOf<A>, A: Allocator + Copy>(
+    asker: &mut Asker<'_, B, A>,
+    nodes: &mut Vec<Node<A>, A>,
+    node: NodeId,
+    route: &[u32],
+    leaf: usize,
+) -> Result<Option<Route<A>>, NoMemory>
+    requires in_range { node.0 < vec_len nodes.old }
+    requires route { IsTrue (is_route asker.old.asked.plan.plan asker.old.asked.request route.now) }
+    requires next { (n : Node A) → slice_get nodes.old.items node.0 ≡ Some n → CanExclude n route.now }
+    requires room { vec_len nodes.old + length route.now ≤ vec_capacity nodes.old }
+    ensures found { IfOk result (λ found. (n : Node A) → slice_get nodes.old.items node.0 ≡ Some n → found ≡ best_for asker.old.asked (take n.length route.now) (wide_of n route.now)) }
+    ensures ok { OnOk result ((n : Node A) → slice_get nodes.old.items node.0 ≡ Some n → nodes.new.items ≡ modify (excluding route.now) nodes.old.items node.0 ++ fresh_after (best_for asker.old.asked) leaf n route.now) }
+    ensures called { OnOk result (asker.new.calls + vec_len nodes.old ≡ asker.old.calls + (vec_len nodes.new + 1)) }
+    ensures no_fewer { OnErr result (asker.old.calls ≤ asker.new.calls) }
+    ensures at_most { OnErr result ((n : Node A) → slice_get nodes.old.items node.0 ≡ Some n → asker.new.calls + n.length ≤ asker.old.calls + length route.now) }
+    ensures longer { OnOk result (vec_len nodes.old ≤ vec_len nodes.new) }
+    ensures same { asker.new.asked ≡ asker.old.asked }
+    ensures err { OnErr result (nodes.new.items ≡ nodes.old.items) }
+{
+    exclude_next(nodes, node, route)?;
+    let count = nodes.len();
+    match search(asker, nodes, node, route, leaf) {
+        Ok(found) => Ok(found),
+        Err(refused) => {
+            nodes.truncate(count);
+            include_next(nodes, node, route);
+            Err(refused)
+        }
+    }
+}

@@ -1,0 +1,76 @@
+//! Where the prefixes of parts lead.
+
+ghost use Rattle.std.specs.Prelude.{◌≡◌, ◌≤◌, ◌∷◌, ◌++◌, [], length, IfSome, IfNone, IsTrue, IsFalse};
+ghost use Rattle.sabr_model.specs.routes.Route.{is_path};
+ghost use Rattle.sabr_frontier.specs.loading.Leading.{IsLead, prefix_owed};
+
+use sabr_model::{Plan, Reached, Request, Told, follow_hop};
+use std::alloc::Allocator;
+
+/// Where a path leads, and what its record says besides its numbers and its delivery.
+#[derive(Clone, Copy)]
+pub struct Lead {
+    pub here: Reached,
+    pub told: Told,
+}
+
+/// A prefix that has to come as a part: it begins as the last part's prefix.
+#[derive(Clone, Copy)]
+pub struct Owed {
+    /// The number of contacts at the front that it shares with the last part's prefix.
+    pub length: usize,
+    /// The one number after them.
+    pub number: u32,
+    /// Where it leads.
+    pub lead: Lead,
+}
+
+impl Owed {
+    /// Returns true if this is the prefix: a part of the last prefix, then the one number.
+    pub fn is(&self, last: &[u32], prefix: &[u32]) -> bool
+        requires { self.now.length ≤ length last.now }
+        ensures same { IsTrue result → prefix.now ≡ prefix_owed last.now self.now }
+        ensures other { IsFalse result → prefix.now ≡ prefix_owed last.now self.now → ⊥ }
+    {
+        let Some((number, front)) = prefix.split_last() else {
+            return false;
+        };
+        *number == self.number && front == &last[..self.length]
+    }
+}
+
+impl Lead {
+    /// Starts at the source, with no number.
+    pub fn start<A: Allocator + Copy>(plan: &Plan<A>, request: &Request) -> Lead
+        ensures { IsLead plan.now.plan request.now [] result }
+    {
+        Lead {
+            here: Reached {
+                node: request.from(),
+                at: request.at(),
+            },
+            told: Told::of(plan, &[]),
+        }
+    }
+
+    /// Returns where the path leads with one more number, or none if they make no path.
+    pub fn extended<A: Allocator + Copy>(
+        self,
+        plan: &Plan<A>,
+        request: &Request,
+        prefix: &[u32],
+        number: u32,
+    ) -> Option<Lead>
+        requires { IsLead plan.now.plan request.now prefix.now self }
+        ensures lead { IfSome result (IsLead plan.now.plan request.now (prefix.now ++ number ∷ [])) }
+        ensures none { IfNone result (IsTrue (is_path plan.now.plan request.now (prefix.now ++ number ∷ [])) → ⊥) }
+    {
+        let Ok(here) = follow_hop(plan, request, prefix, self.here, number) else {
+            return None;
+        };
+        Some(Lead {
+            here,
+            told: self.told.extended(plan, prefix, number),
+        })
+    }
+}

@@ -1,0 +1,108 @@
+//! Changing the tree when a route is given, without memory.
+
+ghost use Rattle.std.specs.Prelude.{◌≡◌, ◌<◌, ◌≤◌, take, length, vec_len, vec_capacity, Some, IfSome, IfNone, IsSome, IsTrue, IsFalse, OnOk};
+ghost use Rattle.sabr_model.specs.routes.Record.{RouteRecord};
+ghost use Rattle.sabr_frontier.specs.tree.Shape.{shape_of, route_at};
+ghost use Rattle.sabr_frontier.specs.tree.Undo.{IsRoomy, IsSpacious, modify};
+ghost use Rattle.sabr_frontier.specs.tree.Winners.{AreWinners, CarriesNone, CarriesSome, IsFirst};
+ghost use Rattle.sabr_frontier.specs.tree.Prepared.{carrying, given_by};
+ghost use Rattle.sabr_frontier.specs.tree.Room.{HasRoom};
+
+use crate::tree::places::carried;
+use crate::tree::winners::{fill, renew};
+use crate::tree::{Entry, Node, NodeId, Tree};
+use sabr_model::{NoMemory, Route};
+use std::alloc::Allocator;
+use std::mem;
+
+/// Sets what the node carries, and returns what it carried.
+fn carry<A: Allocator + Copy>(
+    nodes: &mut Vec<Node<A>, A>,
+    node: NodeId,
+    found: Option<Route<A>>,
+) -> Option<Route<A>>
+    requires { node.0 < vec_len nodes.old }
+    ensures nodes { nodes.new.items ≡ modify (carrying found) nodes.old.items node.0 }
+    ensures route { result ≡ route_at nodes.old.items node }
+    ensures len { vec_len nodes.new ≡ vec_len nodes.old }
+{
+    let part = &mut nodes[node.0];
+    mem::replace(&mut part.route, found)
+}
+
+impl<A: Allocator + Copy> Tree<A> {
+    /// The node that carries the least route, if some node carries one.
+    pub fn least(&self) -> Option<NodeId>
+        requires { IsRoomy self.now }
+        ensures some { IfSome result (λ id. (x : RouteRecord) × IsFirst self.now.nodes.items id x) }
+        ensures none { IfNone result (CarriesNone self.now.nodes.items) }
+    {
+        let ids = self.winners.as_slice();
+        if ids.len() == 0 {
+            return None;
+        }
+        let id = ids[0];
+        match carried(self.nodes.as_slice(), id) {
+            Some(_) => Some(id),
+            None => None,
+        }
+    }
+
+    /// Whether no node carries a route.
+    pub fn is_empty(&self) -> bool
+        requires { IsRoomy self.now }
+        ensures none { IsTrue result → CarriesNone self.now.nodes.items }
+        ensures some { IsFalse result → CarriesSome self.now.nodes.items }
+    {
+        self.least().is_none()
+    }
+
+    /// Reserves room for one route given and `count` new nodes.
+    pub fn reserve(&mut self, count: usize) -> Result<(), NoMemory>
+        requires { IsRoomy self.old }
+        ensures same { shape_of self.new ≡ shape_of self.old }
+        ensures index { self.new.index.items ≡ self.old.index.items }
+        ensures ok { OnOk result (HasRoom self.new count) }
+        ensures room { IsRoomy self.new }
+    {
+        self.nodes.reserve(count)?;
+        let nodes = self.nodes.len() + count;
+        let late = nodes.saturating_sub(self.index.len());
+        self.index.reserve(late)?;
+        self.late.reserve(late)?;
+        self.leaves.reserve(1)?;
+        self.journal.reserve(1)?;
+        let more = nodes.saturating_sub(self.winners.len());
+        self.winners.reserve(more)?;
+        Ok(())
+    }
+
+    /// Gives the route of a node: the node carries another or none. Its new nodes stand after the others already, and have
+    /// no winners yet. There is room for all of it.
+    pub fn change(&mut self, node: NodeId, found: Option<Route<A>>)
+        requires in_range { node.0 < vec_len self.old.winners }
+        requires within { vec_len self.old.winners ≤ vec_len self.old.nodes }
+        requires carries { IsSome (route_at self.old.nodes.items node) }
+        requires won { AreWinners (take (length self.old.winners.items) self.old.nodes.items) self.old.winners.items }
+        requires space { IsSpacious self.old }
+        requires leaf { vec_len self.old.leaves < vec_capacity self.old.leaves }
+        requires entry { vec_len self.old.journal < vec_capacity self.old.journal }
+        ensures shape { (x : RouteRecord) → route_at self.old.nodes.items node ≡ Some x → shape_of self.new ≡ given_by (shape_of self.old) node x found (length self.old.winners.items) }
+        ensures index { self.new.index.items ≡ self.old.index.items }
+        ensures room { IsRoomy self.new }
+    {
+        let first = self.winners.len();
+        let Some(route) = carry(&mut self.nodes, node, found) else {
+            unreachable!()
+        };
+        renew(self.nodes.as_slice(), &mut self.winners, node);
+        fill(self.nodes.as_slice(), &mut self.winners);
+        self.journal.push_reserved(Entry {
+            node,
+            nodes: first,
+            last: self.last,
+        });
+        self.last = Some(self.leaves.len());
+        self.leaves.push_reserved(route);
+    }
+}

@@ -1,0 +1,129 @@
+//! The node with the least route, found as in a tournament: slot `k` names the winner among node `k` and the winners of
+//! slots `2k + 1` and `2k + 2`.
+
+ghost use Rattle.std.specs.Prelude.{◌≡◌, ◌+◌, ◌<◌, ◌≤◌, length, vec_len, vec_capacity};
+ghost use Rattle.sabr_frontier.specs.tree.Shape.{route_at};
+ghost use Rattle.sabr_frontier.specs.tree.Winners.{AreOthersWinners, AreWinners, IsLesser, IsRising, IsWinner, is_lesser};
+
+use crate::tree::places::carried;
+use crate::tree::{Node, NodeId};
+use std::alloc::Allocator;
+use std::cmp::Ordering;
+
+/// Whether a node carries a lesser route than another, or the other carries none.
+fn is_lesser<A: Allocator + Copy>(nodes: &[Node<A>], id: NodeId, other: NodeId) -> bool
+    ensures { result ≡ is_lesser (route_at nodes.now id) (route_at nodes.now other) }
+{
+    let Some(route) = carried(nodes, id) else {
+        return false;
+    };
+    match carried(nodes, other) {
+        Some(carried) => route.cmp(carried) == Ordering::Less,
+        None => true,
+    }
+}
+
+/// The node of two that carries the lesser route.
+fn lesser<A: Allocator + Copy>(nodes: &[Node<A>], id: NodeId, other: NodeId) -> NodeId
+    ensures { IsLesser nodes.now id other result }
+{
+    if is_lesser(nodes, other, id) {
+        return other;
+    }
+    id
+}
+
+/// The winner of a slot among its own node and the winners of the two slots below it.
+fn winner<A: Allocator + Copy>(nodes: &[Node<A>], ids: &[NodeId], slot: usize) -> NodeId
+    requires { slot < length ids.now }
+    ensures { IsWinner nodes.now ids.now slot result }
+{
+    if slot >= ids.len() / 2 {
+        return NodeId(slot);
+    }
+    let left = lesser(nodes, NodeId(slot), ids[slot * 2 + 1]);
+    if slot * 2 + 2 >= ids.len() {
+        return left;
+    }
+    lesser(nodes, left, ids[slot * 2 + 2])
+}
+
+/// Settles a slot, and those over it.
+fn settle_up<A: Allocator + Copy>(nodes: &[Node<A>], ids: &mut [NodeId], slot: usize)
+    requires within { slot < length ids.old }
+    requires others { AreOthersWinners nodes.now ids.old slot (slot + 1) }
+    ensures won { AreWinners nodes.now ids.new }
+    ensures len { length ids.new ≡ length ids.old }
+{
+    let mut end = slot + 1;
+    while 0 < end {
+        ids[end - 1] = winner(nodes, ids, end - 1);
+        end /= 2;
+    }
+}
+
+/// Lets a node win the slots over its own, as far as it carries a lesser route than their winners.
+fn rise<A: Allocator + Copy>(nodes: &[Node<A>], ids: &mut [NodeId], id: NodeId)
+    requires { IsRising nodes.now ids.old id.0 id }
+    ensures won { AreWinners nodes.now ids.new }
+    ensures len { length ids.new ≡ length ids.old }
+{
+    let mut slot = id.0;
+    while 0 < slot {
+        let over = (slot - 1) / 2;
+        if !is_lesser(nodes, id, ids[over]) {
+            return;
+        }
+        ids[over] = id;
+        slot = over;
+    }
+}
+
+/// Adds a slot for the next node, for which there is room.
+fn push<A: Allocator + Copy>(nodes: &[Node<A>], winners: &mut Vec<NodeId, A>)
+    requires won { AreWinners nodes.now winners.old.items }
+    requires room { vec_len winners.old < vec_capacity winners.old }
+    ensures won { AreWinners nodes.now winners.new.items }
+    ensures len { vec_len winners.new ≡ vec_len winners.old + 1 }
+    ensures capacity { vec_capacity winners.old ≤ vec_capacity winners.new }
+{
+    let id = NodeId(winners.len());
+    winners.push_reserved(id);
+    rise(nodes, winners.as_mut_slice(), id);
+}
+
+/// Adds a slot for each node that has none, for which there is room.
+pub fn fill<A: Allocator + Copy>(nodes: &[Node<A>], winners: &mut Vec<NodeId, A>)
+    requires won { AreWinners nodes.now winners.old.items }
+    requires within { vec_len winners.old ≤ length nodes.now }
+    requires room { length nodes.now ≤ vec_capacity winners.old }
+    ensures won { AreWinners nodes.now winners.new.items }
+    ensures len { vec_len winners.new ≡ length nodes.now }
+    ensures capacity { vec_capacity winners.old ≤ vec_capacity winners.new }
+{
+    for _ in winners.len()..nodes.len() {
+        push(nodes, winners);
+    }
+}
+
+/// Renews the winners after a node's route changed.
+pub fn renew<A: Allocator + Copy>(nodes: &[Node<A>], winners: &mut Vec<NodeId, A>, node: NodeId)
+    requires within { node.0 < vec_len winners.old }
+    requires others { AreOthersWinners nodes.now winners.old.items node.0 (node.0 + 1) }
+    ensures won { AreWinners nodes.now winners.new.items }
+    ensures len { vec_len winners.new ≡ vec_len winners.old }
+    ensures capacity { vec_capacity winners.new ≡ vec_capacity winners.old }
+{
+    settle_up(nodes, winners.as_mut_slice(), node.0);
+}
+
+/// Finds the winners of all nodes, for which there is room.
+pub fn rebuild<A: Allocator + Copy>(nodes: &[Node<A>], winners: &mut Vec<NodeId, A>)
+    requires { length nodes.now ≤ vec_capacity winners.old }
+    ensures won { AreWinners nodes.now winners.new.items }
+    ensures len { vec_len winners.new ≡ length nodes.now }
+    ensures capacity { vec_capacity winners.old ≤ vec_capacity winners.new }
+{
+    winners.clear();
+    fill(nodes, winners);
+}

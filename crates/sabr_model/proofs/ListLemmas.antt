@@ -1,0 +1,12 @@
+-- Lists, and numbers in them.
+pub mod Monotone
+pub mod Begins
+pub mod Members
+pub mod Ordered
+pub mod Answered
+pub mod Has
+pub mod Apart
+pub mod Different
+pub mod Rises
+pub mod CountWalks
+pub mod WrittenTexts

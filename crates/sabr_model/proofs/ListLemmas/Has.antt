@@ -1,0 +1,26 @@
+-- Membership in lists of numbers, and lists of different numbers.
+use Rattle.std.proofs.Common.{◌≡◌, ℕ, ◌<◌, true, false, cond, not, eqb, List, [], ◌∷◌, length, get_or, refl, sym, ap, ◌∙◌, inl, inr}
+use Rattle.std.specs.List.{filter}
+use Rattle.std.proofs.lemmas.Bool.{or_parts, eqb-true, eq-eqb, both_ways, false_from_ne_true, cases_Bool}
+use Rattle.std.proofs.lemmas.List.Folds.{list_any_at}
+use Rattle.sabr_model.specs.plan.Plan.{has}
+
+-- equality of numbers is symmetric
+pub eqb_flip : (a b : ℕ) → eqb a b ≡ eqb b a
+eqb_flip a b =
+    elim (cases_Bool (eqb a b)) [
+      | inl t ↦ t ∙ sym (eq-eqb b a (sym (eqb-true a b t)))
+      | inr f ↦ f ∙ sym (false_from_ne_true (eqb b a) (λ t. both_ways (eqb a b) f (eq-eqb a b (sym (eqb-true b a t)))))
+    ]
+
+-- the number at a place is in the list
+pub has_at : (xs : List ℕ) (k d : ℕ) → k < length xs → has (get_or xs k d) xs ≡ true
+has_at xs k d lt = list_any_at (λ y. eqb (get_or xs k d) y) xs k d lt (eq-eqb (get_or xs k d) (get_or xs k d) refl)
+
+-- removing a number that is not there changes nothing
+pub without_absent : (xs : List ℕ) (n : ℕ) → has n xs ≡ false → filter (λ k. not (eqb k n)) xs ≡ xs
+without_absent [] n h = refl
+without_absent (x ∷ xs) n h =
+    let parts = or_parts (eqb n x) (has n xs) h in
+    ap (λ b. cond (not b) (x ∷ filter (λ k. not (eqb k n)) xs) (filter (λ k. not (eqb k n)) xs)) (eqb_flip x n ∙ parts.0)
+    ∙ ap (λ ys. x ∷ ys) (without_absent xs n parts.1)

@@ -1,0 +1,86 @@
+-- What a plan keeps of its first contacts.
+use Rattle.std.proofs.Common.{◌≡◌, ℕ, zero, suc, ◌+◌, ◌<◌, ◌≤◌, true, ◌||◌, eqb, List, [], ◌∷◌, ◌++◌, length, get_or, take, refl, sym, ap, subst, ◌∙◌, inl, inr, arith}
+use Rattle.std.specs.Prelude.{slice_get, Some, Vec}
+use Rattle.std.proofs.Math.ListN.{get_or-append}
+use Rattle.std.proofs.Math.Seq.{get_or-append_seam}
+use Rattle.std.proofs.lemmas.Bool.{or_left, or_right, eq-eqb, cases_lt}
+use Rattle.std.proofs.lemmas.List.{get_or_default}
+use Rattle.std.proofs.lemmas.Option.{slice_get_within, slice_get-get_or}
+use Rattle.indexmap.specs.IndexMap.{IndexMap, keys}
+use Rattle.sabr_model.specs.declared.contact.Contact.{Contact}
+use Rattle.sabr_model.specs.declared.contact.Range.{Range}
+use Rattle.sabr_model.specs.declared.plan.ends.Ends.{Ends}
+use Rattle.sabr_model.specs.declared.plan.stretches.Stretch.{Stretch}
+use Rattle.sabr_model.specs.plan.Plan.{ContactPlan, TabledPlan, contact_named, has}
+use Rattle.sabr_model.specs.plan.Table.{ends_of, KeepsPlaces, IsTableOf}
+use Rattle.sabr_model.specs.plan.Stretches.{AreEndsOf, AreEnds, IsStretchAmong, AreStretches}
+use Rattle.sabr_model.specs.plan.Known.{BeginEnds, IsKnown}
+use Rattle.sabr_model.proofs.PlanLemmas.ContactLemmas.TableLemmas.{has_node}
+
+-- all ends are known
+pub all_ends : (table : List ℕ) (contacts : List Contact) (ends : List Ends) → AreEnds table contacts ends → BeginEnds table contacts ends
+all_ends table contacts ends h k d e lt = h.each k d e (omega (arith, lt, h.as_many))
+
+-- where no light times are kept, the ends are all that has to be right
+pub ends_known : (p : TabledPlan) (known : List Ends) → BeginEnds p.table p.plan.contacts known → IsKnown p known []
+ends_known p known begin = record { ends = begin; lights = λ k d t lt. absurd (omega (arith, lt)) }
+
+-- where nothing is kept, nothing has to be right
+pub nothing_known : (p : TabledPlan) → IsKnown p [] []
+nothing_known p = ends_known p [] (λ k d e lt. absurd (omega (arith, lt)))
+
+-- what holds beside each element holds with one more
+module _ {X Y : Type 0} (P : X → Y → Type 0) (xs : List X) (ys : List Y) (x : X) (y : Y) (range : length ys < length xs) (before : (k : ℕ) (d : X) (e : Y) → k < length ys → P (get_or xs k d) (get_or ys k e)) (here : P (get_or xs (length ys) x) y) where
+  pub beside_more : (k : ℕ) (d : X) (e : Y) → k < length ys + 1 → P (get_or xs k d) (get_or (ys ++ y ∷ []) k e)
+  beside_more k d e lt =
+      elim (cases_lt k (length ys)) [
+        | inl early ↦ rw (get_or-append ys (y ∷ []) e k early) (before k d e early)
+        | inr late ↦
+            let is : k ≡ length ys = omega arith in
+            let other : get_or xs (length ys) d ≡ get_or xs (length ys) x = get_or_default xs (length ys) d x range in
+            rw (is, other, get_or-append_seam ys y [] e) here
+      ]
+
+-- each node of the table has a stretch
+pub stretch_within : (table : List ℕ) (rs : List Range) (n : ℕ) (ss : List Stretch) (i node : ℕ) → AreStretches table rs n ss → slice_get table i ≡ Some node → i < length ss
+stretch_within table rs n ss i node h at = rw h.as_many (slice_get_within table i node at)
+
+-- and it is that of its ranges
+pub stretch_at : (table : List ℕ) (rs : List Range) (n : ℕ) (ss : List Stretch) (i node : ℕ) (s : Stretch) → AreStretches table rs n ss → slice_get table i ≡ Some node → s ≡ get_or ss i s → IsStretchAmong rs n node s
+stretch_at table rs n ss i node s h at is = subst (IsStretchAmong rs n node) (sym is) (h.each i node s at)
+
+-- ends stay where the nodes keep their places
+pub ends_kept_at : (old new : List ℕ) (c : Contact) (e : Ends) → KeepsPlaces old new → AreEndsOf old c e → AreEndsOf new c e
+ends_kept_at old new c e places h = record { from = places e.from c.from h.from; to = places e.to c.to h.to }
+
+-- each receiver is one of the nodes
+pub receiver_there : (cs : List Contact) (k : ℕ) (d : Contact) → k < length cs → has (get_or cs k d).to (ends_of cs) ≡ true
+receiver_there [] k d lt = absurd (omega arith)
+receiver_there (c ∷ cs) zero d lt =
+    or_right (eqb c.to c.from) (eqb c.to c.to || has c.to (ends_of cs)) (or_left (eqb c.to c.to) (has c.to (ends_of cs)) (eq-eqb c.to c.to refl))
+receiver_there (c ∷ cs) (suc k) d lt =
+    let to = (get_or cs k d).to in
+    or_right (eqb to c.from) (eqb to c.to || has to (ends_of cs)) (or_right (eqb to c.to) (has to (ends_of cs)) (receiver_there cs k d (omega arith)))
+
+-- and so is each sender
+pub sender_there : (cs : List Contact) (k : ℕ) (d : Contact) → k < length cs → has (get_or cs k d).from (ends_of cs) ≡ true
+sender_there [] k d lt = absurd (omega arith)
+sender_there (c ∷ cs) zero d lt = or_left (eqb c.from c.from) (eqb c.from c.to || has c.from (ends_of cs)) (eq-eqb c.from c.from refl)
+sender_there (c ∷ cs) (suc k) d lt =
+    let from = (get_or cs k d).from in
+    or_right (eqb from c.from) (eqb from c.to || has from (ends_of cs)) (or_right (eqb from c.to) (has from (ends_of cs)) (sender_there cs k d (omega arith)))
+
+-- each receiver is in the table
+pub receiver_in_table : {S A : Type 0} (cs : List Contact) (table : IndexMap ℕ (Vec ℕ A) S) → IsTableOf cs table → (k : ℕ) (d : Contact) → k < length cs → has (get_or cs k d).to (keys table) ≡ true
+receiver_in_table cs table h k d lt = has_node cs table (get_or cs k d).to h ∙ receiver_there cs k d lt
+
+-- the contact at the place of a number is the one that it names
+pub named_at : (p : ContactPlan) (n k : ℕ) (x : Contact) → (k < length p.contacts) × (contact_named p n ≡ slice_get p.contacts k) → x ≡ get_or p.contacts k x → contact_named p n ≡ Some x
+named_at p n k x here is = here.1 ∙ slice_get-get_or p.contacts k x here.0 ∙ ap Some (sym is)
+
+-- to take as many as there are is to take all
+pub take_enough : {X : Type 0} (n : ℕ) (xs : List X) → length xs ≤ n → take n xs ≡ xs
+take_enough zero [] le = refl
+take_enough zero (x ∷ xs) le = absurd (omega arith)
+take_enough (suc n) [] le = refl
+take_enough (suc n) (x ∷ xs) le = ap (λ ys. x ∷ ys) (take_enough n xs (omega arith))

@@ -1,0 +1,168 @@
+-- A plan with one more range that is not refused is a plan, and the place where that range goes.
+use Rattle.std.proofs.Common.{◌≡◌, ◌≢◌, ℕ, zero, suc, ◌+◌, ◌<◌, ◌≤◌, Bool, true, false, cond, ◌||◌, ◌&&◌, not, eqb, ltb, leb, List, [], ◌∷◌, length, get_or, map, refl, sym, ap, subst, ◌∙◌, arith}
+use Rattle.std.specs.List.{insert, list_any, AllByRecursion}
+use Rattle.std.specs.List.Sorted.{IsStrictlySortedBy}
+use Rattle.std.specs.FinMap.{slice_cmp-IsAntisymmetric, nat_cmp-IsAntisymmetric}
+use Rattle.std.proofs.lemmas.Cmp.{nat_list_cmp_total}
+use Rattle.std.proofs.lemmas.Bool.{and_parts, and_from, or_parts, or_from, not-true, not_from_false, lt-ltb, leb-false, eqb-false, eq-eqb, both_ways}
+use Rattle.std.proofs.lemmas.List.Folds.{list_any_at}
+use Rattle.std.specs.declared.option.Option.TheVariants.{Some, None}
+use Rattle.std.specs.declared.cmp.Ordering.{Ordering}
+use Rattle.std.specs.declared.cmp.Ordering.TheVariants.{Less, Equal, Greater}
+use Rattle.sabr_model.specs.declared.contact.Range.{Range}
+use Rattle.sabr_model.specs.declared.fault.AddFault.TheVariants.{EmptyWindow, SelfPair, RangeOverlap, TooMany}
+use Rattle.sabr_model.specs.Order.{put_in, by_numbers}
+use Rattle.sabr_model.specs.plan.Plan.{ContactPlan, IsPlan, IsWindow, IsNode, IsPair, overlap, none_twice, range_key, last_time}
+use Rattle.sabr_model.specs.plan.Adding.{range_refusal, with_range, by_range_key}
+use Rattle.sabr_model.proofs.ListLemmas.Has.{eqb_flip}
+use Rattle.sabr_model.proofs.ListLemmas.Ordered.{all_put, sorted_put}
+
+-- the facts of an accepted range
+pub record IsAcceptedRange (p : ContactPlan) (r : Range) : Type 0 where
+  pub window : r.start < r.end
+  pub apart : eqb r.one r.other ≡ false
+  pub new : list_any (overlap r) p.ranges ≡ false
+  pub room : length p.ranges < 20000
+
+-- if there is no refusal, each test failed
+pub choice : (a b c d : Bool) → cond a (Some EmptyWindow) (cond b (Some SelfPair) (cond c (Some RangeOverlap) (cond d (Some TooMany) None))) ≡ None → (a ≡ false) × (b ≡ false) × (c ≡ false) × (d ≡ false)
+choice true b c d e = absurd cc
+choice false true c d e = absurd cc
+choice false false true d e = absurd cc
+choice false false false true e = absurd cc
+choice false false false false e = (refl, refl, refl, refl)
+
+-- a range that is not refused has these facts
+pub accepted_range : (p : ContactPlan) (r : Range) → range_refusal p r ≡ None → IsAcceptedRange p r
+accepted_range p r e =
+    let parts = choice (leb r.end r.start) (eqb r.one r.other) (list_any (overlap r) p.ranges) (leb 20000 (length p.ranges)) e in
+    record { window = leb-false r.end r.start parts.0; apart = parts.1; new = parts.2; room = leb-false 20000 (length p.ranges) parts.3 }
+
+-- and is commutative
+and_swap : (a b : Bool) → (a && b) ≡ (b && a)
+and_swap true true = refl
+and_swap true false = refl
+and_swap false true = refl
+and_swap false false = refl
+
+-- and is associative
+and_assoc : (a b c : Bool) → ((a && b) && c) ≡ (a && (b && c))
+and_assoc true b c = refl
+and_assoc false b c = refl
+
+-- overlap is symmetric
+pub overlap_flip : (a b : Range) → overlap a b ≡ overlap b a
+overlap_flip a b =
+    ap (λ x. x && eqb a.other b.other && ltb a.start b.end && ltb b.start a.end) (eqb_flip a.one b.one)
+    ∙ ap (λ x. eqb b.one a.one && x && ltb a.start b.end && ltb b.start a.end) (eqb_flip a.other b.other)
+    ∙ and_assoc (eqb b.one a.one && eqb b.other a.other) (ltb a.start b.end) (ltb b.start a.end)
+    ∙ ap (λ x. (eqb b.one a.one && eqb b.other a.other) && x) (and_swap (ltb a.start b.end) (ltb b.start a.end))
+    ∙ sym (and_assoc (eqb b.one a.one && eqb b.other a.other) (ltb b.start a.end) (ltb a.start b.end))
+
+module _ {X : Type 0} (cmp : X → X → Ordering) where
+  pub any_put : (p : X → Bool) (x : X) (ys : List X) → p x ≡ false → list_any p ys ≡ false → list_any p (put_in cmp x ys) ≡ false
+  any_put p x [] one none = or_from (p x) false one refl
+  any_put p x (y ∷ ys) one none =
+      let parts = or_parts (p y) (list_any p ys) none in
+      elim (cmp x y) as (λ o. list_any p (elim o [ Less ↦ x ∷ y ∷ ys | Equal ↦ y ∷ ys | Greater ↦ y ∷ put_in cmp x ys ]) ≡ false) [
+        | Less ↦ or_from (p x) (p y || list_any p ys) one none
+        | Equal ↦ none
+        | Greater ↦ or_from (p y) (list_any p (put_in cmp x ys)) parts.0 (any_put p x ys one parts.1)
+      ]
+
+  -- if no two elements pass a test, no two do after putting in one that passes with none
+  none_twice-put : (same : X → X → Bool) → ((x y : X) → same x y ≡ same y x) → (x : X) (ys : List X) → none_twice same ys ≡ true → list_any (same x) ys ≡ false → none_twice same (put_in cmp x ys) ≡ true
+  none_twice-put same flips x [] none new = refl
+  none_twice-put same flips x (y ∷ ys) none new =
+      let parts = and_parts (not (list_any (same y) ys)) (none_twice same ys) none in
+      let other = or_parts (same x y) (list_any (same x) ys) new in
+      elim (cmp x y) as (λ o. none_twice same (elim o [ Less ↦ x ∷ y ∷ ys | Equal ↦ y ∷ ys | Greater ↦ y ∷ put_in cmp x ys ]) ≡ true) [
+        | Less ↦ and_from (not (list_any (same x) (y ∷ ys))) (none_twice same (y ∷ ys)) (not_from_false (list_any (same x) (y ∷ ys)) new) none
+        | Equal ↦ none
+        | Greater ↦ and_from (not (list_any (same y) (put_in cmp x ys))) (none_twice same (put_in cmp x ys))
+            (not_from_false (list_any (same y) (put_in cmp x ys)) (any_put (same y) x ys (flips y x ∙ other.0) (not-true (list_any (same y) ys) parts.0)))
+            (none_twice-put same flips x ys parts.1 other.1)
+      ]
+
+  -- a put adds at most one element
+  length-put_le : (x : X) (ys : List X) → length (put_in cmp x ys) ≤ length ys + 1
+  length-put_le x [] = omega arith
+  length-put_le x (y ∷ ys) =
+      let rest = length-put_le x ys in
+      elim (cmp x y) as (λ o. length (elim o as (λ _. List X) [ Less ↦ x ∷ y ∷ ys | Equal ↦ y ∷ ys | Greater ↦ y ∷ put_in cmp x ys ]) ≤ length (y ∷ ys) + 1) [ Less ↦ omega arith | Equal ↦ omega arith | Greater ↦ omega (arith, rest) ]
+
+  -- an insert after all elements that come before x, and before one that comes after it, is a put
+  pub insert_is_put : (x : X) (ys : List X) (i : ℕ) → i ≤ length ys → ((k : ℕ) → k < i → cmp x (get_or ys k x) ≡ Greater) → (i < length ys → cmp x (get_or ys i x) ≡ Less) → insert ys i x ≡ put_in cmp x ys
+  insert_is_put x [] zero le before at = refl
+  insert_is_put x [] (suc i) le before at = absurd (omega arith)
+  insert_is_put x (y ∷ ys) zero le before at = ap (λ o. elim o as (λ _. List X) [ Less ↦ x ∷ y ∷ ys | Equal ↦ y ∷ ys | Greater ↦ y ∷ put_in cmp x ys ]) (sym (at (omega arith)))
+  insert_is_put x (y ∷ ys) (suc i) le before at =
+      ap (λ zs. y ∷ zs) (insert_is_put x ys i (omega arith) (λ k lt. before (suc k) (omega arith)) (λ lt. at (omega arith)))
+      ∙ ap (λ o. elim o as (λ _. List X) [ Less ↦ x ∷ y ∷ ys | Equal ↦ y ∷ ys | Greater ↦ y ∷ put_in cmp x ys ]) (sym (before zero (omega arith)))
+
+-- the keys after a put
+keys-put : (r : Range) (rs : List Range) → map range_key (put_in by_range_key r rs) ≡ put_in by_numbers (range_key r) (map range_key rs)
+keys-put r [] = refl
+keys-put r (s ∷ rs) =
+    elim (by_range_key r s) as (λ o. map range_key (elim o [ Less ↦ r ∷ s ∷ rs | Equal ↦ s ∷ rs | Greater ↦ s ∷ put_in by_range_key r rs ]) ≡ elim o [ Less ↦ range_key r ∷ range_key s ∷ map range_key rs | Equal ↦ range_key s ∷ map range_key rs | Greater ↦ range_key s ∷ put_in by_numbers (range_key r) (map range_key rs) ]) [
+      | Less ↦ refl
+      | Equal ↦ refl
+      | Greater ↦ ap (λ ks. range_key s ∷ ks) (keys-put r rs)
+    ]
+
+-- a plan with one more range that is not refused is a plan
+pub IsPlan-range : (p : ContactPlan) (r : Range) → IsPlan p → IsNode r.one → IsNode r.other → r.end ≤ last_time → r.light ≤ 1000000 → range_refusal p r ≡ None → IsPlan (with_range p r)
+IsPlan-range p r h one other ends light accept =
+    let a = accepted_range p r accept in
+    record {
+      contact_windows = h.contact_windows;
+      contact_nodes = h.contact_nodes;
+      rates = h.rates;
+      ranges_rise = subst (IsStrictlySortedBy by_numbers) (sym (keys-put r p.ranges)) (sorted_put by_numbers nat_list_cmp_total (range_key r) (map range_key p.ranges) h.ranges_rise);
+      numbers_rise = h.numbers_rise;
+      numbers_given = h.numbers_given;
+      openings_differ = h.openings_differ;
+      range_windows = all_put by_range_key (λ s. IsWindow s.start s.end) r p.ranges (a.window, ends) h.range_windows;
+      range_nodes = all_put by_range_key (λ s. IsPair s.one s.other) r p.ranges (one, other, eqb-false r.one r.other a.apart) h.range_nodes;
+      lights = all_put by_range_key (λ s. s.light ≤ 1000000) r p.ranges light h.lights;
+      ranges_apart = none_twice-put by_range_key overlap overlap_flip r p.ranges h.ranges_apart a.new;
+      count = h.count;
+      range_count = let most = length-put_le by_range_key r p.ranges in let room = a.room in omega (arith, most, room);
+    }
+
+-- ranges of one key overlap if neither is empty
+pub same_key_overlaps : (r s : Range) → r.start < r.end → s.start < s.end → by_range_key r s ≡ Equal → overlap r s ≡ true
+same_key_overlaps r s a b e =
+    let same : range_key r ≡ range_key s = slice_cmp-IsAntisymmetric nat_cmp-IsAntisymmetric (range_key r) (range_key s) e in
+    let one : r.one ≡ s.one = cc in
+    let other : r.other ≡ s.other = cc in
+    let start : r.start ≡ s.start = cc in
+    and_from (eqb r.one s.one && eqb r.other s.other && ltb r.start s.end) (ltb s.start r.end)
+    (and_from (eqb r.one s.one && eqb r.other s.other) (ltb r.start s.end)
+    (and_from (eqb r.one s.one) (eqb r.other s.other) (eq-eqb r.one s.one one) (eq-eqb r.other s.other other))
+    (lt-ltb r.start s.end (omega (arith, start, b))))
+    (lt-ltb s.start r.end (omega (arith, start, a)))
+
+-- what holds for all elements holds at each place
+pub all_at : {X : Type 0} (P : X → Type 0) (xs : List X) (i : ℕ) (d : X) → AllByRecursion P xs → i < length xs → P (get_or xs i d)
+all_at P [] i d all lt = absurd (omega arith)
+all_at P (x ∷ xs) zero d all lt = all.0
+all_at P (x ∷ xs) (suc i) d all lt = all_at P xs i d all.1 (omega arith)
+
+-- an ordering that is neither greater nor equal is less
+order_left : (o : Ordering) → o ≢ Greater → o ≢ Equal → o ≡ Less
+order_left Less a b = refl
+order_left Equal a b = absurd (b refl)
+order_left Greater a b = absurd (a refl)
+
+-- the range goes to the place of the first that does not come before it
+pub place_is_put : (p : ContactPlan) (r : Range) (i : ℕ) → IsPlan p → range_refusal p r ≡ None → i ≤ length p.ranges
+    → ((k : ℕ) → k < i → by_range_key r (get_or p.ranges k r) ≡ Greater) → (i < length p.ranges → by_range_key r (get_or p.ranges i r) ≢ Greater)
+    → insert p.ranges i r ≡ put_in by_range_key r p.ranges
+place_is_put p r i h accept within before at =
+    let a = accepted_range p r accept in
+    insert_is_put by_range_key r p.ranges i within before
+    (λ lt. order_left (by_range_key r (get_or p.ranges i r)) (at lt)
+    (λ e. both_ways (list_any (overlap r) p.ranges) a.new
+    (list_any_at (overlap r) p.ranges i r lt
+    (same_key_overlaps r (get_or p.ranges i r) a.window (all_at (λ s. IsWindow s.start s.end) p.ranges i r h.range_windows lt).0 e))))

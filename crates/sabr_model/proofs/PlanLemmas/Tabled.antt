@@ -1,0 +1,104 @@
+-- What a plan shows of its table of nodes.
+use Rattle.std.proofs.Common.{◌≡◌, ℕ, zero, suc, Bool, true, false, cond, ◌||◌, not, eqb, ltb, List, [], ◌∷◌, length, get_or, map, refl, sym, ap, subst, ◌∙◌}
+use Rattle.std.specs.Prelude.{nat_eq, slice_get, MatchOption, unwrap_or, Vec}
+use Rattle.std.specs.List.{filter, find, list_any, position, position_or_len, AllByRecursion, IsDistinct}
+use Rattle.std.specs.Map.{keys_of}
+use Rattle.std.proofs.lemmas.Bool.{and_from, and_parts, not-true, or_left, or_right, not_from_false, ltb-false, eqb-true, eq-eqb, both_ways, false_from_ne_true}
+use Rattle.std.proofs.lemmas.List.Folds.{find_at}
+use Rattle.std.proofs.lemmas.List.Quantifiers.{position-Some}
+use Rattle.std.proofs.lemmas.Option.{slice_get-get_or, slice_get_past}
+use Rattle.std.specs.declared.option.Option.{Option}
+use Rattle.std.specs.declared.option.Option.TheVariants.{Some, None}
+use Rattle.indexmap.specs.IndexMap.{IndexMap, keys}
+use Rattle.sabr_model.specs.declared.contact.Contact.{Contact}
+use Rattle.sabr_model.specs.plan.Plan.{ContactPlan, has, are_different}
+use Rattle.sabr_model.specs.plan.Table.{sent_by, IsTableOf}
+use Rattle.sabr_model.specs.plan.Tabled.{IsTabled}
+use Rattle.sabr_model.proofs.ListLemmas.Has.{eqb_flip}
+use Rattle.sabr_model.proofs.PlanLemmas.ContactLemmas.TableLemmas.{has_node}
+
+-- a number unequal to each is not in the list
+none_equal : (n : ℕ) (xs : List ℕ) → AllByRecursion (λ y. nat_eq n y ≡ false) xs → has n xs ≡ false
+none_equal n [] all = refl
+none_equal n (x ∷ xs) all = ap (λ b. b || has n xs) all.0 ∙ none_equal n xs all.1
+
+-- distinct numbers are different
+pub different_from_distinct : (xs : List ℕ) → IsDistinct nat_eq xs → are_different xs ≡ true
+unfolding IsDistinct
+different_from_distinct [] d = refl
+different_from_distinct (x ∷ xs) d = and_from (not (has x xs)) (are_different xs) (not_from_false (has x xs) (none_equal x xs d.0)) (different_from_distinct xs d.1)
+
+-- a plan shows its table of nodes
+pub is_tabled : {S A : Type 0} (p : ContactPlan) (table : IndexMap ℕ (Vec ℕ A) S) → IsTableOf p.contacts table → IsTabled (record { plan = p; table = keys table })
+is_tabled p table h = record { nodes = λ q. has_node p.contacts table q h; once = different_from_distinct (keys_of table.entries) h.unique }
+
+-- ---- the place of a node
+
+-- if nothing is found, no element passes
+none_any : {X : Type 0} (p : X → Bool) (xs : List X) → find p xs ≡ None → list_any p xs ≡ false
+none_any p [] e = refl
+none_any p (x ∷ xs) e =
+    elim (p x) as (λ b. cond b (Some x) (find p xs) ≡ None → (b || list_any p xs) ≡ false) [
+      | true ↦ λ h. absurd cc
+      | false ↦ λ h. none_any p xs h
+    ] e
+
+-- a place that is found holds the node, and None means that the node is missing
+pub index_tells : (xs : List ℕ) (n : ℕ) → MatchOption (position (nat_eq n) xs) (has n xs ≡ false) (λ k. slice_get xs k ≡ Some n)
+index_tells xs n = by (position (nat_eq n) xs) refl
+  where
+    by : (o : Option ℕ) → position (nat_eq n) xs ≡ o → MatchOption o (has n xs ≡ false) (λ k. slice_get xs k ≡ Some n)
+    by (Some k) e =
+        let at = position-Some (nat_eq n) xs k n e in
+        slice_get-get_or xs k n at.0 ∙ ap Some (sym (eqb-true n (get_or xs k n) at.1))
+    by None e =
+        none_any (nat_eq n) xs
+        (find_at (nat_eq n) xs
+        ∙ slice_get_past xs (position_or_len (nat_eq n) xs)
+        (ltb-false (position_or_len (nat_eq n) xs) (length xs)
+        (false_from_ne_true (ltb (position_or_len (nat_eq n) xs) (length xs)) (λ t.
+        let here : Some (position_or_len (nat_eq n) xs) ≡ None = sym (ap (λ b. cond b (Some (position_or_len (nat_eq n) xs)) None) t) ∙ e in absurd cc))))
+
+-- a node of the table is found
+pub index_of_member : (xs : List ℕ) (n : ℕ) (o : Option ℕ) → MatchOption o (has n xs ≡ false) (λ k. slice_get xs k ≡ Some n) → has n xs ≡ true → slice_get xs (unwrap_or o 0) ≡ Some n
+index_of_member xs n None h there = absurd (both_ways (has n xs) h there)
+index_of_member xs n (Some k) h there = h
+
+-- ---- the contacts that a node sends
+
+-- a node sends the number of each contact of which it is the sender
+pub number_sent : (cs : List Contact) (n : ℕ) (c : Contact) → find (λ d. eqb d.number n) cs ≡ Some c → has n (sent_by cs c.from) ≡ true
+number_sent [] n c found = absurd cc
+number_sent (x ∷ cs) n c found =
+    elim (eqb x.number n) as (λ b. eqb x.number n ≡ b → cond b (Some x) (find (λ d. eqb d.number n) cs) ≡ Some c → has n (map (λ (d : Contact). d.number) (cond (eqb c.from x.from) (x ∷ filter (λ d. eqb c.from d.from) cs) (filter (λ d. eqb c.from d.from) cs))) ≡ true) [
+      | true ↦ λ e f.
+          let same : x ≡ c = cc in
+          ap (λ b. has n (map (λ (d : Contact). d.number) (cond b (x ∷ filter (λ d. eqb c.from d.from) cs) (filter (λ d. eqb c.from d.from) cs)))) (eq-eqb c.from x.from (ap (λ (d : Contact). d.from) (sym same)))
+          ∙ or_left (eqb n x.number) (has n (sent_by cs c.from)) (eqb_flip n x.number ∙ e)
+      | false ↦ λ e f.
+          let rest = number_sent cs n c f in
+          elim (eqb c.from x.from) as (λ b. has n (map (λ (d : Contact). d.number) (cond b (x ∷ filter (λ d. eqb c.from d.from) cs) (filter (λ d. eqb c.from d.from) cs))) ≡ true) [
+            | true ↦ or_right (eqb n x.number) (has n (sent_by cs c.from)) rest
+            | false ↦ rest
+          ]
+    ] refl found
+
+-- the number at a place is in the list
+pub has_place : (xs : List ℕ) (k n : ℕ) → slice_get xs k ≡ Some n → has n xs ≡ true
+has_place [] k n e = absurd cc
+has_place (x ∷ xs) zero n e = let same : n ≡ x = cc in or_left (eqb n x) (has n xs) (eq-eqb n x same)
+has_place (x ∷ xs) (suc k) n e = or_right (eqb n x) (has n xs) (has_place xs k n e)
+
+-- a node is at only one place of the table
+pub place_one : (xs : List ℕ) (i j n : ℕ) → are_different xs ≡ true → slice_get xs i ≡ Some n → slice_get xs j ≡ Some n → i ≡ j
+place_one [] i j n d a b = absurd cc
+place_one (x ∷ xs) zero zero n d a b = refl
+place_one (x ∷ xs) zero (suc j) n d a b =
+    let apart = not-true (has x xs) (and_parts (not (has x xs)) (are_different xs) d).0 in
+    let same : x ≡ n = cc in
+    absurd (both_ways (has x xs) apart (subst (λ m. has m xs ≡ true) (sym same) (has_place xs j n b)))
+place_one (x ∷ xs) (suc i) zero n d a b =
+    let apart = not-true (has x xs) (and_parts (not (has x xs)) (are_different xs) d).0 in
+    let same : x ≡ n = cc in
+    absurd (both_ways (has x xs) apart (subst (λ m. has m xs ≡ true) (sym same) (has_place xs i n a)))
+place_one (x ∷ xs) (suc i) (suc j) n d a b = ap suc (place_one xs i j n (and_parts (not (has x xs)) (are_different xs) d).1 a b)

@@ -1,0 +1,28 @@
+-- What a plan keeps of its first contacts: their ends, and their light times.
+use Rattle.std.specs.Prelude.{◌≡◌, ℕ, ◌<◌, List, [], length, slice_index_or}
+use Rattle.std.specs.declared.option.Option.{Option}
+use Rattle.sabr_model.specs.declared.contact.Contact.{Contact}
+use Rattle.sabr_model.specs.declared.contact.Range.{Range}
+use Rattle.sabr_model.specs.declared.plan.ends.Ends.{Ends}
+use Rattle.sabr_model.specs.plan.Plan.{TabledPlan}
+use Rattle.sabr_model.specs.plan.Light.{light_of}
+use Rattle.sabr_model.specs.plan.Stretches.{AreEndsOf}
+
+-- beside the first contacts stand their ends
+abbrev pub BeginEnds : List ℕ → List Contact → List Ends → Type 0
+BeginEnds table contacts ends = (k : ℕ) (d : Contact) (e : Ends) → k < length ends → AreEndsOf table (slice_index_or contacts k d) (slice_index_or ends k e)
+
+-- beside the first contacts stand their light times
+abbrev pub BeginLights : List Range → List Contact → List (Option ℕ) → Type 0
+BeginLights ranges contacts lights =
+    (k : ℕ) (d : Contact) (t : Option ℕ) → k < length lights → slice_index_or lights k t ≡ light_of (record { contacts = []; ranges = ranges; greatest = 0 }) (slice_index_or contacts k d)
+
+-- beside each contact stands its light time
+pub record AreLights (ranges : List Range) (contacts : List Contact) (lights : List (Option ℕ)) : Type 0 where
+  pub as_many : length lights ≡ length contacts
+  pub each : BeginLights ranges contacts lights
+
+-- the ends and the light times that are kept are right
+pub record IsKnown (p : TabledPlan) (known_ends : List Ends) (known_lights : List (Option ℕ)) : Type 0 where
+  pub ends : BeginEnds p.table p.plan.contacts known_ends
+  pub lights : BeginLights p.plan.ranges p.plan.contacts known_lights

@@ -1,0 +1,5 @@
+-- Answers to questions after a prefix, and kept answers.
+pub mod Law
+pub mod Answered
+pub mod Around
+pub mod KeptAnswers

@@ -1,0 +1,170 @@
+-- What an answer that is kept is worth: by the law of answers, to each question that it covers.
+use Rattle.std.proofs.Common.{◌≡◌, inl, inr, ℕ, ◌+◌, ◌<◌, Bool, true, false, List, [], ◌∷◌, ◌++◌, length, take, drop, Some, slice_get, slice_index, slice_index_or, refl, ap, sym, subst, ◌∙◌, arith}
+use Rattle.std.specs.Prelude.{All}
+use Rattle.std.proofs.lemmas.Bool.{both_ways}
+use Rattle.std.proofs.lemmas.Grind.{common_steps}
+use Rattle.std.proofs.lemmas.Option.{slice_get-get_or, slice_get_within, get_or_from_slice_get}
+use Rattle.sabr_model.specs.declared.contact.Contact.{Contact}
+use Rattle.sabr_model.specs.plan.Plan.{contact_named, has}
+use Rattle.sabr_search.specs.declared.answers.Answer.{Answer}
+use Rattle.sabr_search.specs.declared.backward.pick.Standing.{Standing}
+use Rattle.sabr_search.specs.questions.Ways.{Leads}
+use Rattle.sabr_search.specs.questions.Task.{SearchTask, Takes, IsTask}
+use Rattle.sabr_search.specs.layers.Picks.{IsLeastWay}
+use Rattle.sabr_search.specs.questions.FirstSteps.{tabled_of}
+use Rattle.sabr_search.specs.answers.Answers.{narrowed, Narrows, HasNoWayWithin}
+use Rattle.sabr_search.specs.answers.KeptAnswers.{asked, AreListed, IsFoundWay, IsAnswer, Covers, IsAnswerTo, AnswersAt, IsPut, Arrives}
+use Rattle.sabr_search.proofs.WayLemmas.Staying.{answers_stay}
+use Rattle.sabr_search.proofs.WayLemmas.Ways.{Leads-append}
+use Rattle.sabr_search.proofs.WayLemmas.Bridge.{takes_timely}
+
+-- contact n leads from node u to node w, if no node were shut and all were in time
+pub record Joins (task : SearchTask) (n u t w b : ℕ) : Type 0 where
+  pub contact : Contact
+  pub named : contact_named task.plan n ≡ Some contact
+  pub sender : slice_get task.table u ≡ Some contact.from
+  pub receiver : slice_get task.table w ≡ Some contact.to
+  pub allowed : u ≡ task.start → has n task.excluded ≡ false
+
+module _ {A : Type 0} (task : SearchTask) (a : Answer A) (node : a.from.node ≡ task.start) (same : a.excluded.items ≡ task.excluded) where
+  -- the way that was found joins where the question stands, too
+  pub joins : (shut : List Bool) (goal : ℕ) (ns : List ℕ) (u t v e : ℕ) → Leads (Takes (asked (tabled_of task) task.request a shut goal)) u t ns v e → Leads (Joins task) u t ns v e
+  joins shut goal [] u t v e way = way
+  joins shut goal (n ∷ ns) u t v e way =
+      let step : Takes (asked (tabled_of task) task.request a shut goal) n u t way.0 way.1 = way.2 in
+      let joined : Joins task n u t way.0 way.1 = record {
+        contact = step.contact;
+        named = step.named;
+        sender = step.sender;
+        receiver = step.receiver;
+        allowed = λ at. subst (λ xs. has n xs ≡ false) same (step.allowed (at ∙ sym node));
+      } in
+      (way.0, way.1, joined, joins shut goal ns way.0 way.1 v e way.3)
+
+  -- the question is the one that was asked, but for the nodes that are shut and the second
+  pub narrowed_is : (shut : List Bool) (goal : ℕ) → goal ≡ task.goal → narrowed (asked (tabled_of task) task.request a shut goal) task.shut task.at ≡ task
+  narrowed_is shut goal to =
+      let f : List ℕ → ℕ → ℕ → SearchTask = λ xs u v. record { plan = task.plan; request = task.request; table = task.table; shut = task.shut; excluded = xs; start = u; goal = v; at = task.at } in
+      ap (λ xs. f xs a.from.node goal) same ∙ ap (λ u. f task.excluded u goal) node ∙ ap (λ v. f task.excluded task.start v) to
+
+  pub asked_is : a.from.at ≡ task.at → asked (tabled_of task) task.request a task.shut task.goal ≡ task
+  asked_is at =
+      let f : List ℕ → ℕ → ℕ → SearchTask = λ xs u t. record { plan = task.plan; request = task.request; table = task.table; shut = task.shut; excluded = xs; start = u; goal = task.goal; at = t } in
+      ap (λ xs. f xs a.from.node a.from.at) same ∙ ap (λ u. f task.excluded u a.from.at) node ∙ ap (λ t. f task.excluded task.start t) at
+
+-- where a way stands after some of its contacts: they may be taken, and those that are left join
+pub record IsOnWay (task : SearchTask) (way : List ℕ) (i u t : ℕ) : Type 0 where
+  pub gone : Leads (Takes task) task.start task.at (take i way) u t
+  pub before : ℕ
+  pub goal : ℕ
+  pub end : ℕ
+  pub rest : Leads (Joins task) u before (drop i way) goal end
+
+drop_at : (xs : List ℕ) (i : ℕ) → i < length xs → drop i xs ≡ slice_index xs i ∷ drop (i + 1) xs
+drop_at xs i within = grind (arith, common_steps)
+
+take_at : (xs : List ℕ) (i : ℕ) → i < length xs → take (i + 1) xs ≡ take i xs ++ slice_index xs i ∷ []
+take_at xs i within = grind (arith, common_steps)
+
+pub on_way_more : (task : SearchTask) → IsTask task → (way : List ℕ) (i u t : ℕ) → i < length way → IsOnWay task way i u t → (s : Standing) → Arrives task (slice_index way i) t s → IsOnWay task way (i + 1) s.node s.at
+on_way_more task is way i u t within on s arrives =
+    let n = slice_index way i in
+    let rest : Leads (Joins task) u on.before (n ∷ drop (i + 1) way) on.goal on.end = subst (λ xs. Leads (Joins task) u on.before xs on.goal on.end) (drop_at way i within) on.rest in
+    let joined : Joins task n u on.before rest.0 rest.1 = rest.2 in
+    let contact : joined.contact ≡ arrives.contact = (let q : Some joined.contact ≡ Some arrives.contact = sym joined.named ∙ arrives.named in cc (q)) in
+    let to : slice_get task.table rest.0 ≡ Some arrives.contact.to = joined.receiver ∙ ap (λ (c : Contact). Some c.to) contact in
+    let node : rest.0 ≡ s.node = is.nodes.apart rest.0 s.node arrives.contact.to to arrives.receiver in
+    let step : Takes task n u t s.node s.at = record {
+      contact = arrives.contact;
+      named = arrives.named;
+      sender = joined.sender ∙ ap (λ (c : Contact). Some c.from) contact;
+      receiver = arrives.receiver;
+      unshut = arrives.unshut;
+      allowed = joined.allowed;
+      arrives = arrives.arrives;
+    } in
+    record {
+      gone = subst (λ xs. Leads (Takes task) task.start task.at xs s.node s.at) (sym (take_at way i within))
+          (Leads-append (Takes task) (takes_timely task is.nodes) (take i way) (n ∷ []) task.start task.at u t s.node s.at on.gone (s.node, s.at, step, (refl, refl)));
+      before = rest.1;
+      goal = on.goal;
+      end = on.end;
+      rest = subst (λ w. Leads (Joins task) w rest.1 (drop (i + 1) way) on.goal on.end) node rest.3;
+    }
+
+module _ {A : Type 0} (task : SearchTask) (is : IsTask task) (goal_is : slice_get task.table task.goal ≡ Some task.request.destination) (a : Answer A) (answer : IsAnswer (tabled_of task) task.request a) where
+  goals : answer.goal ≡ task.goal
+  goals = is.nodes.apart answer.goal task.goal task.request.destination answer.goal_is goal_is
+
+  narrows : (left : ℕ) → Covers a task left → Narrows (asked (tabled_of task) task.request a answer.flags answer.goal) task.shut task.at
+  narrows left covers = record {
+    later = covers.later;
+    shuts = λ k off. by k off (slice_index_or answer.flags k false) refl;
+  }
+    where
+      by : (k : ℕ) → slice_index_or task.shut k false ≡ false → (b : Bool) → slice_index_or answer.flags k false ≡ b → slice_index_or answer.flags k false ≡ false
+      by k off false at = at
+      by k off true at = let listed = answer.listed k at in absurd (both_ways (slice_index_or task.shut k false) off (covers.shuts listed.0 k listed.1))
+
+  pub none_kept : (left : ℕ) → Covers a task left → a.way.items ≡ [] → HasNoWayWithin task left
+  none_kept left covers none =
+      subst (λ t. HasNoWayWithin t left) (narrowed_is task a covers.node covers.same answer.flags answer.goal goals)
+      (answers_stay.none (asked (tabled_of task) task.request a answer.flags answer.goal) task.shut task.at a.left left is.nodes (narrows left covers) covers.fewer (answer.found.none none))
+
+  pub way_kept : (left : ℕ) → IsAnswerTo a task left → 0 < length a.way.items → IsLeastWay task left (a.delivery + 1) a.way.items a.delivery
+  way_kept left to some =
+      let was = asked (tabled_of task) task.request a answer.flags answer.goal in
+      let same = narrowed_is task a to.covers.node to.covers.same answer.flags answer.goal goals in
+      let way = to.way some in
+      let taken : Leads (Takes (narrowed was task.shut task.at)) a.from.node task.at a.way.items answer.goal a.delivery =
+      subst (λ (t : SearchTask). Leads (Takes t) t.start t.at a.way.items t.goal a.delivery) (sym same) way.1 in
+      subst (λ t. IsLeastWay t left (a.delivery + 1) a.way.items a.delivery) same
+      (answers_stay.least was task.shut task.at a.left left (a.delivery + 1) a.way.items a.delivery is.nodes (narrows left to.covers) to.covers.fewer (answer.found.some some) way.0 taken)
+
+  -- the way stands at the start
+  pub on_way_first : a.from.node ≡ task.start → a.excluded.items ≡ task.excluded → 0 < length a.way.items → IsOnWay task a.way.items 0 task.start task.at
+  on_way_first node same some = record {
+    gone = (refl, refl);
+    before = a.from.at;
+    goal = answer.goal;
+    end = a.delivery;
+    rest = subst (λ u. Leads (Joins task) u a.from.at a.way.items answer.goal a.delivery) node
+        (joins task a node same answer.flags answer.goal a.way.items a.from.node a.from.at answer.goal a.delivery (answer.found.some some).way);
+  }
+
+-- what is told by the answer at a place
+module _ {A : Type 0} (task : SearchTask) (is : IsTask task) (goal_is : slice_get task.table task.goal ≡ Some task.request.destination) (answers : List (Answer A)) (all : All (IsAnswer (tabled_of task) task.request) answers)
+    (place left : ℕ) (at : AnswersAt answers place task left) (a : Answer A) (read : a ≡ slice_index_or answers place a) where
+  there : slice_get answers place ≡ Some a
+  there = slice_get-get_or answers place a (slice_get_within answers place at.0 at.1) ∙ ap Some (sym read)
+
+  one : IsAnswer (tabled_of task) task.request a
+  one = subst (IsAnswer (tabled_of task) task.request) (get_or_from_slice_get answers place a a there) (all place a (slice_get_within answers place a there))
+
+  to : IsAnswerTo a task left
+  to = subst (λ x. IsAnswerTo x task left) (let q : Some at.0 ≡ Some a = sym at.1 ∙ there in cc (q)) at.2
+
+  pub found_told : IsFoundWay task left a.way.items a.delivery
+  found_told = record {
+    none = λ empty. none_kept task is goal_is a one left to.covers empty;
+    some = λ some. way_kept task is goal_is a one left to some;
+  }
+
+-- the answer to a question, kept
+pub kept_is : {A : Type 0} (task : SearchTask) (a : Answer A) → slice_get task.table task.goal ≡ Some task.request.destination → IsFoundWay task a.left a.way.items a.delivery →
+    a.from.node ≡ task.start → a.from.at ≡ task.at → a.excluded.items ≡ task.excluded → AreListed task.shut a.shut.items → IsAnswer (tabled_of task) task.request a
+kept_is task a goal_is found node at same listed = record {
+  flags = task.shut;
+  goal = task.goal;
+  goal_is = goal_is;
+  listed = listed;
+  found = subst (λ t. IsFoundWay t a.left a.way.items a.delivery) (sym (asked_is task a node same at)) found;
+}
+
+-- what holds for those before and for the one that was put holds for all
+pub put_all : {A : Type 0} (P : Answer A → Type 0) (old new : List (Answer A)) (a : Answer A) → All P old → P a → IsPut old new a → All P new
+put_all P old new a all one put = λ k d within. elim (put k (slice_index_or new k d) (slice_get-get_or new k d within)) [
+  | inl is ↦ subst P (sym is) one
+  | inr before ↦ (let there = slice_get_within old before.0 (slice_index_or new k d) before.1 in
+      subst P (get_or_from_slice_get old before.0 (slice_index_or new k d) d before.1) (all before.0 d there))
+]

@@ -1,0 +1,9 @@
+-- From the goal backward.
+pub mod Picks
+pub mod Backward
+pub mod Front
+pub mod LateLayers
+pub mod LateLists
+pub mod LateMade
+pub mod LastSeconds
+pub mod Ended

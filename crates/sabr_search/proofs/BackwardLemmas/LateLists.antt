@@ -1,0 +1,233 @@
+-- The lists of layers that are made backward: one node that is noted to be too late later than before.
+use Rattle.std.proofs.Common.{◌≡◌, ◌≢◌, ◌⊎◌, inl, inr, ℕ, zero, suc, ◌-◌, ◌<◌, ◌≤◌, List, [], ◌∷◌, ◌++◌, length, take, false, Some, slice_get, slice_index, slice_index_or, slice_set, refl, ap, sym, ◌∙◌, arith, length-append}
+use Rattle.std.proofs.lemmas.Bool.{cases_lt, cases_eq}
+use Rattle.std.proofs.lemmas.Grind.{common_steps}
+use Rattle.std.proofs.lemmas.Option.{slice_get-get_or, slice_get_within}
+use Rattle.sabr_search.specs.declared.forward.layers.Reached.{Reached}
+use Rattle.sabr_search.specs.questions.Task.{SearchTask, Takes, IsTask}
+use Rattle.sabr_search.specs.layers.Late.{InTimeFor, IsLateEntry, AreLate, IsNotedLate, IsToldLate}
+use Rattle.sabr_search.proofs.BackwardLemmas.Backward.{get_set_here, get_set_other, set_other}
+use Rattle.sabr_search.proofs.ForwardLemmas.Between.{same_below}
+use Rattle.sabr_search.proofs.WayLemmas.Bridge.{takes_timely, same_some}
+use Rattle.sabr_search.proofs.ForwardLemmas.Queues.{set_here}
+
+pub get_push_here : {X : Type 0} (xs : List X) (y : X) → slice_get (xs ++ y ∷ []) (length xs) ≡ Some y
+get_push_here [] y = refl
+get_push_here (x ∷ xs) y = get_push_here xs y
+
+pub get_push_before : {X : Type 0} (xs : List X) (y : X) (p : ℕ) → p < length xs → slice_get (xs ++ y ∷ []) p ≡ slice_get xs p
+get_push_before [] y p less = absurd (omega arith)
+get_push_before (x ∷ xs) y zero less = refl
+get_push_before (x ∷ xs) y (suc p) less = get_push_before xs y p (omega arith)
+
+-- an element of a list with one more is one of before or that one
+pub push_cases : {X : Type 0} (xs : List X) (y : X) (p : ℕ) (e : X) → slice_get (xs ++ y ∷ []) p ≡ Some e → ((p < length xs) × (slice_get xs p ≡ Some e)) ⊎ ((p ≡ length xs) × (e ≡ y))
+push_cases xs y p e at = elim (cases_lt p (length xs)) [
+  | inl before ↦ inl (before, sym (get_push_before xs y p before) ∙ at)
+  | inr behind ↦
+      (let here : p ≡ length xs = omega (arith, slice_get_within (xs ++ y ∷ []) p e at, length-append xs (y ∷ [])) in
+      inr (here, same_some (sym at ∙ ap (slice_get (xs ++ y ∷ [])) here ∙ get_push_here xs y)))
+]
+
+-- an element of a list with one changed is one of before or that one
+pub set_cases : {X : Type 0} (xs : List X) (k : ℕ) (y : X) (p : ℕ) (e : X) → k < length xs → slice_get (slice_set xs k y) p ≡ Some e → ((p ≢ k) × (slice_get xs p ≡ Some e)) ⊎ ((p ≡ k) × (e ≡ y))
+set_cases xs k y p e less at = elim (cases_eq p k) [
+  | inl same ↦ inr (same, same_some (sym at ∙ ap (slice_get (slice_set xs k y)) same ∙ get_set_here xs k y less))
+  | inr other ↦ inl (other, sym (get_set_other xs k p y other) ∙ at)
+]
+
+take_set : {X : Type 0} (k : ℕ) (xs : List X) (at : ℕ) (y : X) → k ≤ at → take k (slice_set xs at y) ≡ take k xs
+take_set zero xs at y le = refl
+take_set (suc k) [] at y le = refl
+take_set (suc k) (x ∷ xs) zero y le = absurd (omega arith)
+take_set (suc k) (x ∷ xs) (suc at) y le = ap (λ zs. x ∷ zs) (take_set k xs at y (omega arith))
+
+take_push : {X : Type 0} (k : ℕ) (xs : List X) (y : X) → k ≤ length xs → take k (xs ++ y ∷ []) ≡ take k xs
+take_push zero xs y le = refl
+take_push (suc k) [] y le = absurd (omega arith)
+take_push (suc k) (x ∷ xs) y le = ap (λ zs. x ∷ zs) (take_push k xs y (omega arith))
+
+pub set_many : {X : Type 0} (xs : List X) (k : ℕ) (b : X) → length (slice_set xs k b) ≡ length xs
+set_many xs k b = grind (arith, common_steps)
+
+module _ (task : SearchTask) (since : List ℕ) (first begin : ℕ) (late place : List ℕ) (reached : List Reached) (was : AreLate task since first begin late place reached)
+    (u a x : ℕ) (inside : u < length task.table) (unshut : slice_index_or task.shut u false ≡ false) (other : u ≢ task.goal) (a_is : a ≡ slice_index since u) (later : slice_index late u < x)
+    (sound : (t : ℕ) → t < x → (n : ℕ) × (w : ℕ) × (b : ℕ) × Takes task n u t w b × InTimeFor reached first begin w b) where
+  abbrev f : Reached
+  f = record { node = u; arrival = a; deadline = x }
+
+  now_late : slice_index (slice_set late u x) u ≡ x
+  now_late = set_here late u x (omega (arith, was.many))
+
+  pub late_rises : (k : ℕ) → slice_index late k ≤ slice_index (slice_set late u x) k
+  late_rises k = elim (cases_eq k u) [
+    | inl same ↦ rw same (omega (arith, now_late))
+    | inr differs ↦ omega (arith, set_other late u k x differs)
+  ]
+
+  old_entry : (e : Reached) → IsLateEntry task since late e → IsLateEntry task since (slice_set late u x) e
+  old_entry e is = record { inside = is.inside; unshut = is.unshut; other = is.other; soon = is.soon; by = omega (arith, is.by, late_rises e.node) }
+
+  new_entry : (e : Reached) → e ≡ record { node = u; arrival = a; deadline = x } → IsLateEntry task since (slice_set late u x) e
+  new_entry e is = rw is (record { inside = inside; unshut = unshut; other = other; soon = a_is; by = omega (arith, now_late) })
+
+  module _ (above : begin ≤ slice_index place u) where
+    at_within : slice_index place u < length reached
+    at_within = was.within u inside
+
+    -- what stands there
+    abbrev e0 : Reached
+    e0 = slice_index_or reached (slice_index place u) (record { node = u; arrival = a; deadline = x })
+
+    e0_at : slice_get reached (slice_index place u) ≡ Some (slice_index_or reached (slice_index place u) (record { node = u; arrival = a; deadline = x }))
+    e0_at = slice_get-get_or reached (slice_index place u) (record { node = u; arrival = a; deadline = x }) at_within
+
+    e0_node : (slice_index_or reached (slice_index place u) (record { node = u; arrival = a; deadline = x })).node ≡ u
+    e0_node = was.own u (slice_index_or reached (slice_index place u) (record { node = u; arrival = a; deadline = x })) inside (omega (arith, was.later)) e0_at
+
+    e0_by : (slice_index_or reached (slice_index place u) (record { node = u; arrival = a; deadline = x })).deadline < x
+    e0_by = omega (arith, later, (was.each (slice_index place u) (slice_index_or reached (slice_index place u) (record { node = u; arrival = a; deadline = x })) (omega (arith, was.later)) e0_at).by, ap (slice_index late) e0_node)
+
+    in_time_changed : (w b : ℕ) → InTimeFor reached first begin w b → InTimeFor (slice_set reached (slice_index place u) (record { node = u; arrival = a; deadline = x })) first begin w b
+    in_time_changed w b t = (t.0, t.1, t.2, t.3, get_set_other reached (slice_index place u) t.0 (record { node = u; arrival = a; deadline = x }) (λ same. omega (arith, same, t.3)) ∙ t.4, t.5, t.6)
+
+    pub changed_late : AreLate task since first begin (slice_set late u x) place (slice_set reached (slice_index place u) (record { node = u; arrival = a; deadline = x }))
+    changed_late = record {
+      flags = was.flags;
+      many = set_many late u x ∙ was.many;
+      within = λ k less. omega (arith, was.within k less, set_many reached (slice_index place u) f);
+      own = λ k e less some at. elim (set_cases reached (slice_index place u) f (slice_index place k) e at_within at) [
+        | inl old ↦ was.own k e less some old.1
+        | inr here ↦
+            (let k_is : e0.node ≡ k = was.own k e0 less some (ap (slice_get reached) here.0 ∙ e0_at) in
+            ap (λ (y : Reached). y.node) here.1 ∙ sym e0_node ∙ k_is)
+      ];
+      later = was.later;
+      begins = omega (arith, was.begins, set_many reached (slice_index place u) f);
+      top = λ v less some. elim (cases_eq v u) [
+        | inl same ↦ rw (same, now_late) (a, get_set_here reached (slice_index place u) f at_within)
+        | inr differs ↦
+            (let keeps : slice_index (slice_set late u x) v ≡ slice_index late v = set_other late u v x differs in
+            let old = was.top v less (omega (arith, some, keeps)) in
+            let away : slice_index place v ≡ slice_index place u → ⊥ = λ same. differs (ap (λ (y : Reached). y.node) (same_some (sym old.1 ∙ ap (slice_get reached) same ∙ e0_at)) ∙ e0_node) in
+            rw keeps (old.0, get_set_other reached (slice_index place u) (slice_index place v) f away ∙ old.1))
+      ];
+      each = λ p e some at. elim (set_cases reached (slice_index place u) f p e at_within at) [
+        | inl old ↦ old_entry e (was.each p e some old.1)
+        | inr here ↦ new_entry e here.1
+      ];
+      rising = λ p q e g some less at_p at_q same. elim (set_cases reached (slice_index place u) f p e at_within at_p) [
+        | inl old_p ↦ elim (set_cases reached (slice_index place u) f q g at_within at_q) [
+          | inl old_q ↦ was.rising p q e g some less old_p.1 old_q.1 same
+          | inr here_q ↦
+              (let node : e.node ≡ e0.node = same ∙ ap (λ (y : Reached). y.node) here_q.1 ∙ sym e0_node in
+              omega (arith, was.rising p (slice_index place u) e e0 some (omega (arith, here_q.0)) old_p.1 e0_at node, e0_by, ap (λ (y : Reached). y.deadline) here_q.1))
+        ]
+        | inr here_p ↦ elim (set_cases reached (slice_index place u) f q g at_within at_q) [
+          | inl old_q ↦
+              (let g_node : g.node ≡ u = sym same ∙ ap (λ (y : Reached). y.node) here_p.1 in
+              absurd (omega (arith, was.once q g (omega (arith, here_p.0)) old_q.1, ap (slice_index place) g_node, here_p.0)))
+          | inr here_q ↦ absurd (omega (arith, here_p.0, here_q.0))
+        ]
+      ];
+      once = λ p e from at. elim (set_cases reached (slice_index place u) f p e at_within at) [
+        | inl old ↦ was.once p e from old.1
+        | inr here ↦ ap (λ (y : Reached). slice_index place y.node) here.1 ∙ sym here.0
+      ];
+      sound = λ p e t from at less. elim (set_cases reached (slice_index place u) f p e at_within at) [
+        | inl old ↦ (let s = was.sound p e t from old.1 less in (s.0, s.1, s.2, s.3, in_time_changed s.1 s.2 s.4))
+        | inr here ↦
+            (let s = sound t (omega (arith, less, ap (λ (y : Reached). y.deadline) here.1)) in
+            rw here.1 (s.0, s.1, s.2, s.3, in_time_changed s.1 s.2 s.4))
+      ];
+    }
+
+  module _ (below : slice_index place u < begin) where
+    in_time_pushed : (w b : ℕ) → InTimeFor reached first begin w b → InTimeFor (reached ++ record { node = u; arrival = a; deadline = x } ∷ []) first begin w b
+    in_time_pushed w b t = (t.0, t.1, t.2, t.3, get_push_before reached (record { node = u; arrival = a; deadline = x }) t.0 (slice_get_within reached t.0 t.1 t.4) ∙ t.4, t.5, t.6)
+
+    place_many : length (slice_set place u (length reached)) ≡ length task.table
+    place_many = set_many place u (length reached) ∙ was.flags
+
+    place_here : slice_index (slice_set place u (length reached)) u ≡ length reached
+    place_here = set_here place u (length reached) (omega (arith, was.flags))
+
+    pub pushed_late : AreLate task since first begin (slice_set late u x) (slice_set place u (length reached)) (reached ++ record { node = u; arrival = a; deadline = x } ∷ [])
+    pushed_late = record {
+      flags = place_many;
+      many = set_many late u x ∙ was.many;
+      within = λ k less. elim (cases_eq k u) [
+        | inl same ↦ rw same (omega (arith, place_here, length-append reached (f ∷ [])))
+        | inr differs ↦ omega (arith, set_other place u k (length reached) differs, was.within k less, length-append reached (f ∷ []))
+      ];
+      own = λ k e less some at. elim (cases_eq k u) [
+        | inl same ↦
+            (let at' : slice_get (reached ++ f ∷ []) (length reached) ≡ Some e = sym (ap (slice_get (reached ++ f ∷ [])) (ap (slice_index (slice_set place u (length reached))) same ∙ place_here)) ∙ at in
+            ap (λ (y : Reached). y.node) (same_some (sym at' ∙ get_push_here reached f)) ∙ sym same)
+        | inr differs ↦
+            (let keeps : slice_index (slice_set place u (length reached)) k ≡ slice_index place k = set_other place u k (length reached) differs in
+            was.own k e less (omega (arith, some, keeps)) (sym (get_push_before reached f (slice_index place k) (was.within k less)) ∙ ap (slice_get (reached ++ f ∷ [])) (sym keeps) ∙ at))
+      ];
+      later = was.later;
+      begins = omega (arith, was.begins, length-append reached (f ∷ []));
+      top = λ v less some. elim (cases_eq v u) [
+        | inl same ↦ rw (same, now_late, place_here) (a, get_push_here reached f)
+        | inr differs ↦
+            (let keeps : slice_index (slice_set late u x) v ≡ slice_index late v = set_other late u v x differs in
+            let stays : slice_index (slice_set place u (length reached)) v ≡ slice_index place v = set_other place u v (length reached) differs in
+            let old = was.top v less (omega (arith, some, keeps)) in
+            rw (keeps, stays) (old.0, get_push_before reached f (slice_index place v) (was.within v less) ∙ old.1))
+      ];
+      each = λ p e some at. elim (push_cases reached f p e at) [
+        | inl old ↦ old_entry e (was.each p e some old.1)
+        | inr here ↦ new_entry e here.1
+      ];
+      rising = λ p q e g some less at_p at_q same. elim (push_cases reached f q g at_q) [
+        | inl old_q ↦ elim (push_cases reached f p e at_p) [
+          | inl old_p ↦ was.rising p q e g some less old_p.1 old_q.1 same
+          | inr here_p ↦ absurd (omega (arith, here_p.0, old_q.0))
+        ]
+        | inr here_q ↦ elim (push_cases reached f p e at_p) [
+          | inl old_p ↦
+              (let e_node : e.node ≡ u = same ∙ ap (λ (y : Reached). y.node) here_q.1 in
+              omega (arith, (was.each p e some old_p.1).by, ap (slice_index late) e_node, later, ap (λ (y : Reached). y.deadline) here_q.1))
+          | inr here_p ↦ absurd (omega (arith, here_p.0, here_q.0))
+        ]
+      ];
+      once = λ p e from at. elim (push_cases reached f p e at) [
+        | inl old ↦ elim (cases_eq e.node u) [
+          | inl same ↦ absurd (omega (arith, was.once p e from old.1, ap (slice_index place) same))
+          | inr differs ↦ set_other place u e.node (length reached) differs ∙ was.once p e from old.1
+        ]
+        | inr here ↦ ap (λ (y : Reached). slice_index (slice_set place u (length reached)) y.node) here.1 ∙ place_here ∙ sym here.0
+      ];
+      sound = λ p e t from at less. elim (push_cases reached f p e at) [
+        | inl old ↦ (let s = was.sound p e t from old.1 less in (s.0, s.1, s.2, s.3, in_time_pushed s.1 s.2 s.4))
+        | inr here ↦
+            (let s = sound t (omega (arith, less, ap (λ (y : Reached). y.deadline) here.1)) in
+            rw here.1 (s.0, s.1, s.2, s.3, in_time_pushed s.1 s.2 s.4))
+      ];
+    }
+
+  -- either way, what stood before the layer stays
+  pub late_noted : (place' : List ℕ) (reached' : List Reached) → IsNotedLate place reached begin u a x place' reached' → AreLate task since first begin (slice_set late u x) place' reached' × (take begin reached' ≡ take begin reached)
+  late_noted place' reached' (inl here) = rw (here.1, here.2) (changed_late here.0, take_set begin reached (slice_index place u) f here.0)
+  late_noted place' reached' (inr new) = rw (new.1, new.2) (pushed_late new.0, take_push begin reached f was.begins)
+
+-- if a link can be left later than before, each second sooner than that has a step in time
+pub sound_back : (task : SearchTask) → IsTask task → (u to latest last before first begin : ℕ) (reached : List Reached) →
+    ((t : ℕ) → latest ≤ t → t < last → (b : ℕ) × (b < before) × (slice_index_or task.shut to false ≡ false → (n : ℕ) × Takes task n u t to b)) → latest < last → slice_index_or task.shut to false ≡ false →
+    ((b : ℕ) → b < before → InTimeFor reached first begin to b) → (t : ℕ) → t < last → (n : ℕ) × (w : ℕ) × (b : ℕ) × Takes task n u t w b × InTimeFor reached first begin w b
+sound_back task is u to latest last before first begin reached leaves later unshut given t less =
+    let s = leaves (last - 1) (omega arith) (omega arith) in
+    let step = s.2 unshut in
+    let sooner = (takes_timely task is.nodes).earlier step.0 u (last - 1) to s.0 t step.1 (omega arith) in
+    (step.0, to, sooner.0, sooner.2, given sooner.0 (omega (arith, sooner.1, s.1)))
+
+-- what came before the layer is still there
+pub in_time_kept : (first begin : ℕ) (reached reached0 : List Reached) → take begin reached ≡ take begin reached0 → (w b : ℕ) → InTimeFor reached0 first begin w b → InTimeFor reached first begin w b
+in_time_kept first begin reached reached0 kept w b t = (t.0, t.1, t.2, t.3, same_below begin reached0 reached (sym kept) t.0 t.1 t.3 t.4, t.5, t.6)
+
+-- what the layers say of a step stays true
+pub told_rises : (task : SearchTask) (since late late1 : List ℕ) (u t : ℕ) → ((k : ℕ) → slice_index late k ≤ slice_index late1 k) → IsToldLate task since late u t → IsToldLate task since late1 u t
+told_rises task since late late1 u t rises told = (told.0, λ unshut other soon. omega (arith, told.1 unshut other soon, rises u))

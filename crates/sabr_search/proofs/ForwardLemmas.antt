@@ -1,0 +1,9 @@
+-- From the start forward.
+pub mod HopLayers
+pub mod Settles
+pub mod Runs
+pub mod Forward
+pub mod Between
+pub mod MadeLayers
+pub mod Queues
+pub mod FirstWays

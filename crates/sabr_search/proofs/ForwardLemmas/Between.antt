@@ -1,0 +1,108 @@
+-- The entries between two places of a list, their nodes, and how many contacts these send.
+use Rattle.std.proofs.Common.{◌≡◌, ℕ, zero, suc, ◌+◌, ◌-◌, ◌<◌, ◌≤◌, List, [], ◌∷◌, ◌++◌, length, map, take, drop, true, false, cond, ◌||◌, eqb, Some, slice_get, slice_index, slice_index_or, refl, ap, sym, ◌∙◌, ⊎_elim, arith, length-take, length-drop}
+use Rattle.std.specs.List.{count_by}
+use Rattle.std.proofs.lemmas.Bool.{eq-eqb, ne_eqb, cases_Bool, false_from_ne_true, cases_eq}
+use Rattle.std.proofs.lemmas.List.{take_more, drop-append-le, get_or-drop, get_or-take, length-map, map-append}
+use Rattle.std.proofs.lemmas.List.Folds.{list_any-append}
+use Rattle.std.proofs.lemmas.List.Sums.{sum_by-cons, count_by-le-length}
+use Rattle.std.proofs.lemmas.Option.{slice_get-get_or, slice_get_within, get_or_from_slice_get, slice_get_read}
+use Rattle.std.proofs.lemmas.List.Elements.{at_read}
+use Rattle.sabr_model.specs.declared.contact.Contact.{Contact}
+use Rattle.sabr_model.specs.plan.Plan.{has}
+use Rattle.sabr_model.proofs.ListLemmas.Members.{map_in, Contains-from_in}
+use Rattle.sabr_model.proofs.RouteLemmas.Listed.{in_from_has}
+use Rattle.sabr_search.specs.declared.forward.layers.Reached.{Reached}
+use Rattle.sabr_search.specs.questions.Task.{SearchTask}
+use Rattle.sabr_search.specs.questions.Steps.{place_in, senders, degree, sent_by_all, receivers, received, received_by_all}
+use Rattle.sabr_search.specs.layers.Lists.{nodes_between, AreSources}
+use Rattle.sabr_search.specs.layers.Deadlines.{IsApart}
+use Rattle.sabr_search.proofs.LinkLemmas.StepLists.{senders_length}
+
+-- lists that begin alike have the same elements there
+pub same_below : {X : Type 0} (k : ℕ) (xs ys : List X) → take k xs ≡ take k ys → (p : ℕ) (x : X) → p < k → slice_get xs p ≡ Some x → slice_get ys p ≡ Some x
+same_below zero xs ys e p x less at = absurd (omega arith)
+same_below (suc k) [] ys e p x less at = absurd cc
+same_below (suc k) (x' ∷ xs) [] e p x less at = absurd cc
+same_below (suc k) (x' ∷ xs) (y ∷ ys) e zero x less at = let same : x' ≡ y = cc (e) in ap Some (sym same) ∙ at
+same_below (suc k) (x' ∷ xs) (y ∷ ys) e (suc p) x less at = same_below k xs ys (let rest : take k xs ≡ take k ys = cc (e) in rest) p x (omega arith) at
+
+-- an entry more
+pub between_more : (reached : List Reached) (first place : ℕ) (e : Reached) → first ≤ place → slice_get reached place ≡ Some e → nodes_between reached first (place + 1) ≡ nodes_between reached first place ++ e.node ∷ []
+between_more reached first place e le at =
+    let inside : place < length reached = slice_get_within reached place e at in
+    let more : take (place + 1) reached ≡ take place reached ++ e ∷ [] = take_more reached place e inside ∙ ap (λ x. take place reached ++ x ∷ []) (get_or_from_slice_get reached place e e at) in
+    let front : drop first (take place reached ++ e ∷ []) ≡ drop first (take place reached) ++ e ∷ [] = drop-append-le first (take place reached) (e ∷ []) (omega (arith, length-take place reached)) in
+    ap (λ xs. map (λ (x : Reached). x.node) (drop first xs)) more ∙ ap (map (λ (x : Reached). x.node)) front ∙ map-append (λ (x : Reached). x.node) (drop first (take place reached)) (e ∷ [])
+
+-- a node among them is that of an entry there
+pub between_at : (reached : List Reached) (first place u : ℕ) → has u (nodes_between reached first place) ≡ true → (p : ℕ) × (e : Reached) × (first ≤ p) × (p < place) × (slice_get reached p ≡ Some e) × (e.node ≡ u)
+between_at reached first place u h =
+    let m = map_in (λ (x : Reached). x.node) u (drop first (take place reached)) (in_from_has u (nodes_between reached first place) h) in
+    let c = Contains-from_in (drop first (take place reached)) m.0 m.1 in
+    let sizes : length (drop first (take place reached)) ≡ length (take place reached) - first = length-drop first (take place reached) in
+    let below = length-take place reached in
+    let near : first + c.0 < length reached = omega (arith, c.1, sizes, below) in
+    let there : slice_index_or reached (first + c.0) m.0 ≡ m.0 =
+    sym (get_or-take place reached (first + c.0) m.0 (omega (arith, c.1, sizes, below))) ∙ sym (get_or-drop first (take place reached) c.0 m.0) ∙ c.2 in
+    (first + c.0, m.0, omega arith, omega (arith, c.1, sizes, below), slice_get-get_or reached (first + c.0) m.0 near ∙ ap Some there, sym m.2)
+
+count_more : (nodes fs : List ℕ) (u : ℕ) → has u nodes ≡ false → count_by (λ k. has k (nodes ++ u ∷ [])) fs ≡ count_by (λ k. has k nodes) fs + count_by (λ k. eqb k u) fs
+count_more nodes [] u fresh = refl
+count_more nodes (f ∷ fs) u fresh =
+    let more : has f (nodes ++ u ∷ []) ≡ (has f nodes || (eqb f u || false)) = list_any-append (eqb f) nodes (u ∷ []) in
+    let one : cond (has f (nodes ++ u ∷ [])) 1 0 ≡ cond (has f nodes) 1 0 + cond (eqb f u) 1 0 =
+    ⊎_elim
+    (λ same.
+    let out : has f nodes ≡ false = ap (λ w. has w nodes) same ∙ fresh in
+    rw (more, out, eq-eqb f u same) refl)
+    (λ other. rw (more, ne_eqb f u other) (⊎_elim (λ yes'. rw yes' refl) (λ no'. rw no' refl) (cases_Bool (has f nodes))))
+    (cases_eq f u) in
+    omega (arith, sum_by-cons (λ k. cond (has k (nodes ++ u ∷ [])) 1 0) f fs, sum_by-cons (λ k. cond (has k nodes) 1 0) f fs, sum_by-cons (λ k. cond (eqb k u) 1 0) f fs, one, count_more nodes fs u fresh)
+
+-- the contacts of one more node come to those of the others
+pub sent_more : (task : SearchTask) (nodes : List ℕ) (u : ℕ) → has u nodes ≡ false → sent_by_all task (nodes ++ u ∷ []) ≡ sent_by_all task nodes + degree task u
+sent_more task nodes u fresh = count_more nodes (senders task) u fresh
+
+pub sent_at_most : (task : SearchTask) (nodes : List ℕ) → sent_by_all task nodes ≤ length task.plan.contacts
+sent_at_most task nodes = omega (arith, count_by-le-length (λ k. has k nodes) (senders task), senders_length task)
+
+-- an entry that is read below what stays is the one of before
+pub entry_read : (reached reached0 : List Reached) (begin place : ℕ) (e : Reached) → take begin reached ≡ take begin reached0 → place < begin → begin ≤ length reached → e ≡ slice_index_or reached place e → slice_get reached0 place ≡ Some e
+entry_read reached reached0 begin place e before less within is =
+    same_below begin reached reached0 before place e less (slice_get_read reached (length reached) place e refl (omega arith) is)
+
+-- the node of the next entry is not among those of the entries before it
+pub fresh_node : (reached : List Reached) (first begin place : ℕ) (e : Reached) →
+    ((p q : ℕ) (f g : Reached) → first ≤ p → first ≤ q → p < begin → q < begin → slice_get reached p ≡ Some f → slice_get reached q ≡ Some g → f.node ≡ g.node → p ≡ q) →
+    first ≤ place → place < begin → slice_get reached place ≡ Some e → has e.node (nodes_between reached first place) ≡ false
+fresh_node reached first begin place e apart le less at =
+    false_from_ne_true (has e.node (nodes_between reached first place)) (λ h.
+    (let m = between_at reached first place e.node h in
+    let same = apart m.0 place m.1 e m.2 le (omega (arith, m.3)) less m.4 at m.5 in
+    omega (arith, m.3)))
+
+-- so their contacts together are no more than those of the plan
+pub sent_next : (task : SearchTask) (reached : List Reached) (first begin place : ℕ) (e : Reached) → AreSources task reached first begin → first ≤ place → place < begin → slice_get reached place ≡ Some e →
+    sent_by_all task (nodes_between reached first place) + degree task e.node ≡ sent_by_all task (nodes_between reached first (place + 1))
+sent_next task reached first begin place e sources le less at =
+    sym (ap (sent_by_all task) (between_more reached first place e le at) ∙ sent_more task (nodes_between reached first place) e.node (fresh_node reached first begin place e sources.apart le less at))
+
+-- and the contacts that they receive
+pub received_next : (task : SearchTask) (ends : List ℕ) (reached : List Reached) (left place : ℕ) (e : Reached) → IsApart ends reached left → slice_index ends left ≤ place → place < slice_index ends (left + 1) → slice_get reached place ≡ Some e →
+    received_by_all task (nodes_between reached (slice_index ends left) place) + received task e.node ≡ received_by_all task (nodes_between reached (slice_index ends left) (place + 1))
+received_next task ends reached left place e apart le less at =
+    sym (ap (received_by_all task) (between_more reached (slice_index ends left) place e le at)
+    ∙ count_more (nodes_between reached (slice_index ends left) place) (receivers task) e.node (fresh_node reached (slice_index ends left) (slice_index ends (left + 1)) place e apart le less at))
+
+pub received_at_most : (task : SearchTask) (nodes : List ℕ) → received_by_all task nodes ≤ length task.plan.contacts
+received_at_most task nodes = omega (arith, count_by-le-length (λ k. has k nodes) (receivers task), length-map task.plan.contacts (λ (c : Contact). place_in task.table c.to))
+
+-- so up to an entry they are no more than those of the plan
+pub received_within : (task : SearchTask) (ends : List ℕ) (reached : List Reached) (left place : ℕ) (e : Reached) → IsApart ends reached left → slice_index ends left ≤ place → place < slice_index ends (left + 1) → slice_get reached place ≡ Some e →
+    received_by_all task (nodes_between reached (slice_index ends left) place) + received task e.node ≤ length task.plan.contacts
+received_within task ends reached left place e apart le less at =
+    omega (arith, received_next task ends reached left place e apart le less at, received_at_most task (nodes_between reached (slice_index ends left) (place + 1)))
+
+-- what a `Vec` has at an index, at the usual default
+pub read_at : (xs : List ℕ) (i x : ℕ) → i < length xs → x ≡ slice_index_or xs i x → x ≡ slice_index xs i
+read_at xs i x h e = at_read xs (λ y. x ≡ y) i x h e refl 0

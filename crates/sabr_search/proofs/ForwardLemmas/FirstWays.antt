@@ -1,0 +1,307 @@
+-- The search by arrival from its start to its stop: what holds between two events, and what it has found at the end.
+use Rattle.std.proofs.Common.{◌≡◌, ◌≢◌, ◌⊎◌, inl, inr, ℕ, zero, suc, ◌+◌, ◌<◌, ◌≤◌, List, [], ◌∷◌, length, replicate, Bool, true, false, slice_index, slice_index_or, slice_set, All, Contains, refl, ap, sym, ◌∙◌, arith}
+use Rattle.std.specs.List.{count_by}
+use Rattle.std.specs.List.Sorted.{IsPermutation}
+use Rattle.std.proofs.lemmas.Bool.{cases_lt, cases_eq, both_ways, cases_Bool, false_from_ne_true}
+use Rattle.std.proofs.lemmas.Grind.{common_steps}
+use Rattle.std.proofs.lemmas.List.Sums.{count_by-le-length}
+use Rattle.std.proofs.lemmas.List.Elements.{at_read}
+use Rattle.std.proofs.lemmas.Option.{slice_get_within}
+use Rattle.sabr_search.specs.declared.forward.queue.Event.{Event}
+use Rattle.sabr_search.specs.declared.forward.layers.Best.{Best}
+use Rattle.sabr_search.specs.questions.Ways.{Leads}
+use Rattle.sabr_search.specs.questions.Task.{SearchTask, Takes, IsTask, never}
+use Rattle.sabr_search.specs.layers.Lists.{IsKnown}
+use Rattle.sabr_search.specs.questions.Steps.{senders, degree}
+use Rattle.sabr_search.specs.layers.Made.{AreOpened}
+use Rattle.sabr_search.specs.layers.Settling.{IsBound, AreBy, settled_count, AreArrivalsBy, sent_by_settled, IsQueue, AreSettling, IsFallen, AreSettledTaken, AreSettled, IsFirstWay}
+use Rattle.sabr_search.proofs.WayLemmas.Ways.{Leads-later}
+use Rattle.sabr_search.proofs.ForwardLemmas.Settles.{settled_before}
+use Rattle.sabr_search.proofs.LinkLemmas.Counts.{settled_more}
+use Rattle.sabr_search.proofs.WayLemmas.Bridge.{takes_timely}
+use Rattle.sabr_search.proofs.AnswerLemmas.Law.{way_early}
+use Rattle.sabr_search.proofs.LinkLemmas.StepLists.{senders_length}
+use Rattle.sabr_search.proofs.ForwardLemmas.Queues.{flag_here, flag_other, flag_many, count_more, count_short, head_inside, head_other, settles}
+
+-- no flag of a list of flags that are off is on
+all_off : (n k : ℕ) → slice_index_or (replicate n false) k false ≡ false
+all_off zero k = refl
+all_off (suc n) zero = refl
+all_off (suc n) (suc k) = all_off n k
+
+-- the start is no goal
+pub goal_other : (task : SearchTask) → IsTask task → task.goal ≢ task.start
+goal_other task is same = both_ways (slice_index_or task.shut task.start false) (sym (ap (λ k. slice_index_or task.shut k false) same) ∙ is.goal_open) is.start_shut
+
+-- a node is settled and its contacts are taken
+module _ (task : SearchTask) (late : List ℕ) (settled : List Bool) (u t : ℕ) (arrival0 : List ℕ) (best0 : Best) (arrival : List ℕ) (queue : List Event) (best : Best)
+    (state : AreSettling task late (slice_set settled u true) t arrival queue best) (fallen : IsFallen (slice_set settled u true) arrival0 best0 arrival best) (taken : AreSettledTaken task (slice_set settled u true) arrival best.delivery)
+    (many : length settled ≡ length task.shut) (other : task.goal ≢ u) where
+  pub settled_next : slice_index_or (slice_set settled u true) task.start false ≡ true → slice_index arrival0 task.start ≡ task.at → slice_index_or settled task.goal false ≡ false →
+      AreSettled task late (slice_set settled u true) arrival queue best
+  settled_next start reached goal = record {
+    flags = state.flags;
+    many = flag_many settled u ∙ many;
+    start_settled = start;
+    start_reached = fallen.kept task.start start ∙ reached;
+    goal_unsettled = flag_other settled u task.goal other ∙ goal;
+    lowered = state.lowered;
+    queue_is = state.queue_is;
+    found = state.found;
+    sooner = state.sooner;
+    taken = taken;
+  }
+
+-- a flag that is on stays on
+pub flag_stays : (settled : List Bool) (u k : ℕ) → u < length settled → slice_index_or settled k false ≡ true → slice_index_or (slice_set settled u true) k false ≡ true
+flag_stays settled u k within on = elim (cases_eq k u) [
+  | inl same ↦ ap (λ j. slice_index_or (slice_set settled u true) j false) same ∙ flag_here settled u within
+  | inr other ↦ flag_other settled u k other ∙ on
+]
+
+-- the contacts of the settled nodes come to no more than those of the plan
+pub sent_most : (task : SearchTask) (settled : List Bool) → sent_by_settled task settled ≤ length task.plan.contacts
+sent_most task settled = omega (arith, count_by-le-length (λ k. slice_index_or settled k false) (senders task), senders_length task)
+
+pub sent_grows : (task : SearchTask) (settled : List Bool) (u : ℕ) → u < length settled → slice_index_or settled u false ≡ false → sent_by_settled task (slice_set settled u true) ≡ sent_by_settled task settled + degree task u
+sent_grows task settled u within unsettled = settled_more settled u (senders task) within unsettled
+
+-- the search stops when no event comes before the delivery
+module _ (task : SearchTask) (is : IsTask task) (bounds : List ℕ) (bound : IsBound task bounds) (settled : List Bool) (arrival : List ℕ) (queue : List Event) (best : Best) (was : AreSettled task bounds settled arrival queue best) where
+  -- a node is settled with that arrival, or it is too late there
+  abbrev IsKnownAt : ℕ → ℕ → Type 0
+  IsKnownAt v a = ((slice_index_or settled v false ≡ true) × (slice_index arrival v ≡ a)) ⊎ ((slice_index_or task.shut v false ≡ false) × (slice_index_or bounds v never ≤ a))
+
+  goal_known : (a : ℕ) → IsKnownAt task.goal a → best.delivery ≤ a
+  goal_known a known = elim known [
+    | inl s ↦ absurd (both_ways (slice_index_or settled task.goal false) was.goal_unsettled s.0)
+    | inr late ↦ omega (arith, late.1, bound.goal, was.sooner)
+  ]
+
+  -- what waits
+  abbrev IsWaiting : ℕ → ℕ → Type 0
+  IsWaiting v a = (h : ℕ) × Contains queue (record { at = a; hops = h; node = v })
+
+  steps_taken : (v a n w b : ℕ) → IsKnownAt v a → Takes task n v a w b → (best.delivery ≤ b) ⊎ (((c : ℕ) × (c ≤ b) × IsKnownAt w c) ⊎ ((c : ℕ) × (c ≤ b) × IsWaiting w c))
+  steps_taken v a n w b known step = elim known [
+    | inr late ↦ elim (cases_eq v task.goal) [
+      | inl same ↦
+          (let there : IsKnownAt v a = inr late in
+          let at_goal : IsKnownAt task.goal a = rw same at there in
+          inl (omega (arith, goal_known a at_goal, (takes_timely task is.nodes).later n v a w b step)))
+      | inr other ↦ inr (inl (b, omega arith, inr (step.unshut, bound.steps n v a w b step late.0 other late.1)))
+    ]
+    | inl s ↦ elim (was.taken v n w b s.0 (rw s.1 step)) [
+      | inl over ↦ inl over
+      | inr reached ↦ elim (cases_Bool (slice_index_or settled w false)) [
+        | inl on ↦ inr (inl (slice_index arrival w, reached.1, inl (on, refl)))
+        | inr off ↦ elim (cases_lt (slice_index arrival w) (slice_index_or bounds w never)) [
+          | inr le ↦ inr (inl (b, omega arith, inr (step.unshut, omega (arith, le, reached.1))))
+          | inl less ↦
+              (let within : w < length arrival = omega (arith, was.flags, is.as_many, slice_get_within task.table w step.contact.to step.receiver) in
+              inr (inr (slice_index arrival w, reached.1, was.queue_is.waits w within step.unshut off less)))
+        ]
+      ]
+    ]
+  ]
+
+  pub first_found : ((f : Event) → Contains queue f → best.delivery ≤ f.at) → IsFirstWay task best
+  first_found stop = record {
+    least = least;
+    none = λ zero_hops ns e way. elim was.found [
+      | inl none ↦ omega (arith, none.1, least ns e way, way_early task is ns task.start task.at task.goal e is.time way)
+      | inr found ↦ absurd (omega (arith, found.0))
+    ];
+    some = λ hops. elim was.found [
+      | inl none ↦ absurd (omega (arith, none.0))
+      | inr found ↦ found.2
+    ];
+    early = λ hops. elim was.found [
+      | inl none ↦ absurd (omega (arith, none.0))
+      | inr found ↦ way_early task is found.2.0 task.start task.at task.goal best.delivery is.time found.2.2
+    ];
+    few = elim was.found [
+      | inl none ↦ omega (arith, none.0, is.start_in)
+      | inr found ↦ omega (arith, found.1, count_short settled task.goal (omega (arith, was.many, is.as_many, is.goal_in)) was.goal_unsettled, was.many, is.as_many)
+    ];
+  }
+    where
+      least : (ns : List ℕ) (e : ℕ) → Leads (Takes task) task.start task.at ns task.goal e → best.delivery ≤ e
+      least ns e way =
+          let either = settled_before (Takes task) (takes_timely task is.nodes) IsKnownAt IsWaiting
+          task.goal best.delivery goal_known steps_taken ns task.start task.at task.at e (inl (was.start_settled, was.start_reached)) (omega arith) way in
+          elim either [
+            | inl late ↦ late
+            | inr waits ↦ omega (arith, waits.2, stop (record { at = waits.1; hops = waits.3.0; node = waits.0 }) waits.3.1)
+          ]
+
+  -- each way comes to a node no sooner than the arrival that is known there, or than the delivery
+  reached_by : ((f : Event) → Contains queue f → best.delivery ≤ f.at) → (ns : List ℕ) (u a s v t : ℕ) → IsKnownAt u a → a ≤ s → Leads (Takes task) u s ns v t →
+      (best.delivery ≤ t) ⊎ ((c : ℕ) × (c ≤ t) × IsKnownAt v c)
+  reached_by stop [] u a s v t known by way = inr (a, omega (arith, way.1), rw way.0 at known)
+  reached_by stop (n ∷ ns) u a s v t known by way =
+      let timely = takes_timely task is.nodes in
+      let first = timely.earlier n u s way.0 way.1 a way.2 by in
+      let after : way.1 ≤ t = Leads-later (Takes task) timely ns way.0 way.1 v t way.3 in
+      elim (steps_taken u a n way.0 first.0 known first.2) [
+        | inl late ↦ inl (omega (arith, late, first.1, after))
+        | inr found ↦ elim found [
+          | inl on ↦ reached_by stop ns way.0 on.0 way.1 v t on.2 (omega (arith, on.1, first.1)) way.3
+          | inr waits ↦ inl (omega (arith, stop (record { at = waits.0; hops = waits.2.0; node = way.0 }) waits.2.1, waits.1, first.1, after))
+        ]
+      ]
+
+  known_arrival : (v c : ℕ) → IsKnownAt v c → slice_index arrival v ≤ c
+  known_arrival v c known = elim known [
+    | inl s ↦ omega (arith, s.1)
+    | inr late ↦ omega (arith, was.lowered v late.0, late.1)
+  ]
+
+  pub arrivals_found : ((f : Event) → Contains queue f → best.delivery ≤ f.at) → AreArrivalsBy task arrival best.delivery
+  arrivals_found stop = record {
+    flags = omega (arith, was.flags, is.as_many);
+    least = λ ns v t some way. elim (reached_by stop ns task.start task.at task.at v t (inl (was.start_settled, was.start_reached)) (omega arith) way) [
+      | inl late ↦ omega (arith, late)
+      | inr by ↦ omega (arith, by.1, known_arrival v by.0 by.2)
+    ];
+  }
+
+-- an event of a settled node goes
+pub settled_stale : (task : SearchTask) (late : List ℕ) (settled : List Bool) (arrival : List ℕ) (queue queue' : List Event) (best : Best) → AreSettled task late settled arrival queue best → IsQueue task late settled arrival queue' →
+    AreSettled task late settled arrival queue' best
+settled_stale task late settled arrival queue queue' best was rest = record {
+  flags = was.flags;
+  many = was.many;
+  start_settled = was.start_settled;
+  start_reached = was.start_reached;
+  goal_unsettled = was.goal_unsettled;
+  lowered = was.lowered;
+  queue_is = rest;
+  found = was.found;
+  sooner = was.sooner;
+  taken = was.taken;
+}
+
+all_many : (n : ℕ) → length (replicate n false) ≡ n
+all_many n = grind (arith, common_steps)
+
+-- what is past the end of a list of numbers is 0
+past_end : (xs : List ℕ) (k : ℕ) → length xs ≤ k → slice_index xs k ≡ 0
+past_end [] k le = refl
+past_end (x ∷ xs) zero le = absurd (omega (arith, le))
+past_end (x ∷ xs) (suc k) le = past_end xs k (omega (arith, le))
+
+none_on : (n : ℕ) → settled_count (replicate n false) ≡ 0
+none_on zero = refl
+none_on (suc n) = none_on n
+
+-- what holds once the start is settled, and while the first steps are taken
+module _ (task : SearchTask) (is : IsTask task) (off settled : List Bool) (u : ℕ) (off_is : off ≡ replicate (length task.shut) false) (u_is : u ≡ task.start) (settled_is : settled ≡ slice_set off u true) where
+  off_within : u < length off
+  off_within = omega (arith, u_is, is.start_in, is.as_many, ap length off_is, all_many (length task.shut))
+
+  off_at : (k : ℕ) → slice_index_or off k false ≡ false
+  off_at k = ap (λ flags. slice_index_or flags k false) off_is ∙ all_off (length task.shut) k
+
+  -- the start alone is settled
+  pub start_on : slice_index_or settled task.start false ≡ true
+  start_on = rw settled_is (ap (λ k. slice_index_or (slice_set off u true) k false) (sym u_is) ∙ flag_here off u off_within)
+
+  only_start : (k : ℕ) → slice_index_or settled k false ≡ true → k ≡ task.start
+  only_start k on = elim (cases_eq k u) [
+    | inl same ↦ same ∙ u_is
+    | inr other ↦
+        (let there : slice_index_or (slice_set off u true) k false ≡ true = rw settled_is at on in
+        absurd (both_ways (slice_index_or off k false) (off_at k) (sym (flag_other off u k other) ∙ there)))
+  ]
+
+  pub one_settled : settled_count settled ≡ 1
+  one_settled = omega (arith, ap settled_count settled_is, count_more off u off_within (off_at u), ap settled_count off_is, none_on (length task.shut))
+
+  count_none : (ks : List ℕ) → count_by (λ k. slice_index_or off k false) ks ≡ 0
+  count_none [] = refl
+  count_none (k ∷ ks) = rw (off_at k) (count_none ks)
+
+  pub start_sent : sent_by_settled task settled ≡ degree task task.start
+  start_sent = omega (arith, ap (sent_by_settled task) settled_is, sent_grows task off u off_within (off_at u), count_none (senders task), ap (degree task) u_is)
+
+  module _ (late : List ℕ) (arrival : List ℕ) (opened : AreOpened task late arrival) where
+    opened_by : AreBy task late arrival
+    opened_by k open' = elim (cases_lt k (length arrival)) [
+      | inl within ↦ omega (arith, opened.unreached k within open')
+      | inr past ↦ omega (arith, past_end arrival k past)
+    ]
+
+    pub start_state : (queue : List Event) (best : Best) → queue ≡ [] → best.hops ≡ 0 → best.delivery ≡ never → AreSettling task late settled task.at arrival queue best
+    start_state queue best empty hops delivery = rw empty (record {
+      flags = opened.flags;
+      closed = opened.closed;
+      early = λ k on. omega (arith, ap (slice_index arrival) (only_start k on), opened.start);
+      lowered = opened_by;
+      queue_is = record {
+        waits = λ k within open' off' less. absurd (omega (arith, opened.unreached k within open', less));
+        late = λ i d lt. absurd (omega (arith, lt));
+        before = λ i d lt. absurd (omega (arith, lt));
+        order = λ i d lt. absurd (omega (arith, lt));
+        since = λ i d lt. absurd (omega (arith, lt));
+        inside = λ i d lt. absurd (omega (arith, lt));
+        unshut = λ i d lt. absurd (omega (arith, lt));
+        other = λ i d lt. absurd (omega (arith, lt));
+        real = λ i d lt. absurd (omega (arith, lt));
+        few = λ i d lt. absurd (omega (arith, lt));
+      };
+      found = inl (hops, delivery);
+      sooner = omega (arith, delivery);
+    })
+
+    -- and once all of them are taken
+    pub start_settled : (t : ℕ) (arrival' : List ℕ) (queue : List Event) (best0 best : Best) → AreSettling task late settled t arrival' queue best → IsFallen settled arrival best0 arrival' best →
+        ((n w x : ℕ) → Takes task n task.start task.at w x → IsKnown task.goal arrival' best.delivery w x) → AreSettled task late settled arrival' queue best
+    start_settled t arrival' queue best0 best state fallen known =
+        let start_at : slice_index arrival' task.start ≡ task.at = fallen.kept task.start start_on ∙ opened.start in
+        record {
+          flags = state.flags;
+          many = ap length settled_is ∙ flag_many off u ∙ ap length off_is ∙ all_many (length task.shut);
+          start_settled = start_on;
+          start_reached = start_at;
+          goal_unsettled = false_from_ne_true (slice_index_or settled task.goal false) (λ on. goal_other task is (only_start task.goal on));
+          lowered = state.lowered;
+          queue_is = state.queue_is;
+          found = state.found;
+          sooner = state.sooner;
+          taken = λ v n w b on step.
+              (let here : v ≡ task.start = only_start v on in
+              let at : Takes task n task.start (slice_index arrival' task.start) w b = rw here at step in
+              let there : Takes task n task.start task.at w b = rw start_at at at in
+              known n w b there);
+        }
+
+-- what holds after the node of the earliest event is settled
+module _ (task : SearchTask) (is : IsTask task) (late : List ℕ) (settled : List Bool) (arrival0 : List ℕ) (queue0 queue : List Event) (best0 : Best) (e : Event) (was : AreSettled task late settled arrival0 queue0 best0)
+    (moved : IsPermutation queue0 (e ∷ queue)) (first : All (λ (f : Event). e.at ≤ f.at) queue) (unsettled : slice_index_or settled e.node false ≡ false) where
+  pub next_within : e.node < length settled
+  next_within = omega (arith, was.many, was.flags, head_inside task late settled arrival0 queue0 queue e was.queue_is moved first)
+
+  pub next_sent : sent_by_settled task settled + degree task e.node ≡ sent_by_settled task (slice_set settled e.node true)
+  next_sent = sym (sent_grows task settled e.node next_within unsettled)
+
+  pub next_most : sent_by_settled task settled + degree task e.node ≤ length task.plan.contacts
+  next_most = omega (arith, next_sent, sent_most task (slice_set settled e.node true))
+
+  pub next_state : AreSettling task late (slice_set settled e.node true) e.at arrival0 queue best0
+  next_state = settles task late settled arrival0 queue0 queue e was.queue_is moved first next_within unsettled best0 was.flags was.lowered was.sooner was.found
+
+  pub next_counted : (settled' : List Bool) (old new : ℕ) → settled' ≡ slice_set settled e.node true → new ≤ old + sent_by_settled task settled + degree task e.node → new ≤ old + sent_by_settled task settled'
+  next_counted settled' old new settled_is le = omega (arith, ap (sent_by_settled task) settled_is, next_sent)
+
+  pub next_settled : (settled' : List Bool) (arrival : List ℕ) (queue' : List Event) (best : Best) → settled' ≡ slice_set settled e.node true →
+      AreSettling task late (slice_set settled e.node true) e.at arrival queue' best → IsFallen (slice_set settled e.node true) arrival0 best0 arrival best → AreSettledTaken task (slice_set settled e.node true) arrival best.delivery →
+      AreSettled task late settled' arrival queue' best
+  next_settled settled' arrival queue' best settled_is state fallen taken =
+      let other : task.goal ≢ e.node = λ same. head_other task late settled arrival0 queue0 queue e was.queue_is moved first (sym same) in
+      rw settled_is (settled_next task late settled e.node e.at arrival0 best0 arrival queue' best state fallen taken was.many other
+      (flag_stays settled e.node task.start next_within was.start_settled) was.start_reached was.goal_unsettled)
+
+-- what a `Vec` of flags has at an index, at the usual default
+pub read_flag : (xs : List Bool) (i : ℕ) (x : Bool) → i < length xs → x ≡ slice_index_or xs i x → x ≡ slice_index_or xs i false
+read_flag xs i x h e = at_read xs (λ y. x ≡ y) i x h e refl false

@@ -1,0 +1,297 @@
+-- One layer more: what the next layer leaves is again layers.
+use Rattle.std.proofs.Common.{◌≡◌, ◌⊎◌, inl, inr, ℕ, zero, suc, ◌+◌, ◌<◌, ◌≤◌, List, [], ◌∷◌, ◌++◌, length, false, Some, slice_get, slice_index, slice_index_or, refl, ap, sym, ◌∙◌, arith, length-append, add-one}
+use Rattle.std.proofs.lemmas.Bool.{cases_lt, cases_eq}
+use Rattle.std.proofs.lemmas.List.{get_or_append_left, get_or_push}
+use Rattle.std.proofs.lemmas.Option.{slice_get-get_or, slice_get_within, get_or_from_slice_get}
+use Rattle.sabr_search.specs.declared.forward.layers.Reached.{Reached}
+use Rattle.sabr_search.specs.declared.forward.layers.Best.{Best}
+use Rattle.sabr_search.specs.questions.Ways.{Leads}
+use Rattle.sabr_search.specs.layers.Layers.{ReachedBy, IsTaken}
+use Rattle.sabr_search.specs.questions.Task.{SearchTask, Takes, IsTask, never}
+use Rattle.sabr_search.specs.layers.Lists.{AreLists, IsLowered, IsKnownFrom, GivenFrom, AreSources}
+use Rattle.sabr_search.specs.layers.Made.{Entry, AreLayers, IsBestWithin}
+use Rattle.sabr_search.specs.layers.Late.{IsNoneSooner}
+use Rattle.sabr_search.proofs.WayLemmas.Ways.{Leads-append, Leads-later}
+use Rattle.sabr_search.proofs.ForwardLemmas.HopLayers.{none_sooner}
+use Rattle.sabr_search.proofs.ForwardLemmas.Between.{same_below}
+use Rattle.sabr_search.proofs.ForwardLemmas.Forward.{last_or_before}
+use Rattle.sabr_search.proofs.WayLemmas.Bridge.{takes_timely}
+use Rattle.sabr_search.proofs.LinkLemmas.PlanFacts.{takes_early}
+
+-- reading a list with one element more
+pub index_before : (xs : List ℕ) (x i : ℕ) → i < length xs → slice_index (xs ++ x ∷ []) i ≡ slice_index xs i
+index_before xs x i less = get_or_append_left xs (x ∷ []) 0 i less
+
+pub index_at : (xs : List ℕ) (x i : ℕ) → i ≡ length xs → slice_index (xs ++ x ∷ []) i ≡ x
+index_at xs x i e = get_or_push xs x 0 i (sym e)
+
+pub index_past : (xs : List ℕ) (i : ℕ) → length xs ≤ i → slice_index xs i ≡ 0
+index_past [] i le = refl
+index_past (x ∷ xs) zero le = absurd (omega arith)
+index_past (x ∷ xs) (suc i) le = index_past xs i (omega arith)
+
+-- each place below a bound lies in a layer before it
+pub layer_of : (bounds : List ℕ) (p m : ℕ) → slice_index bounds 0 ≡ 0 → p < slice_index bounds m → (j : ℕ) × (j + 1 ≤ m) × (slice_index bounds j ≤ p) × (p < slice_index bounds (j + 1))
+layer_of bounds p zero first less = absurd (omega (arith, first))
+layer_of bounds p (suc m) first less = elim (cases_lt p (slice_index bounds m)) [
+  | inl before ↦ (let r = layer_of bounds p m first before in (r.0, omega (arith, r.1), r.2, r.3))
+  | inr behind ↦ (m, omega arith, behind, rw (add-one) less)
+]
+
+-- layers with one bound more
+module _ (task : SearchTask) (is : IsTask task) (hop : ℕ) (bounds arrival place : List ℕ) (reached : List Reached) (best : Best) (made : AreLayers task hop bounds arrival place reached best)
+    (bounds' arrival' place' : List ℕ) (reached' : List Reached) (delivery : ℕ)
+    (lowered : IsLowered task.shut task.goal task.at (slice_index bounds (hop + 1)) (GivenFrom task reached (slice_index bounds hop) (slice_index bounds (hop + 1))) arrival reached best.delivery arrival' place' reached' delivery)
+    (known : IsKnownFrom task reached (slice_index bounds hop) (slice_index bounds (hop + 1)) arrival' delivery)
+    (bounds_is : bounds' ≡ bounds ++ length reached' ∷ []) where
+  many' : length bounds' ≡ hop + 1 + 2
+  many' = omega (arith, ap length bounds_is, length-append bounds (length reached' ∷ []), made.many)
+
+  bound_before : (j : ℕ) → j ≤ hop + 1 → slice_index bounds' j ≡ slice_index bounds j
+  bound_before j le = ap (λ xs. slice_index xs j) bounds_is ∙ index_before bounds (length reached') j (omega (arith, made.many))
+
+  last' : slice_index bounds' (hop + 1 + 1) ≡ length reached'
+  last' = ap (λ xs. slice_index xs (hop + 1 + 1)) bounds_is ∙ index_at bounds (length reached') (hop + 1 + 1) (omega (arith, made.many))
+
+  kept : (p : ℕ) (e : Reached) → slice_get reached p ≡ Some e → slice_get reached' p ≡ Some e
+  kept p e at = same_below (slice_index bounds (hop + 1)) reached reached' (sym lowered.before) p e (omega (arith, made.last_bound, slice_get_within reached p e at)) at
+
+  was : (p : ℕ) (e : Reached) → p < length reached → slice_get reached' p ≡ Some e → slice_get reached p ≡ Some e
+  was p e less at = same_below (slice_index bounds (hop + 1)) reached' reached lowered.before p e (omega (arith, made.last_bound)) at
+
+  -- an old entry stays in its layer
+  entry_kept : (h v a x : ℕ) → Entry bounds reached h v a x → Entry bounds' reached' h v a x
+  entry_kept h v a x e = elim (cases_lt hop h) [
+    | inr early ↦ (e.0, omega (arith, bound_before h (omega arith), e.1), omega (arith, bound_before (h + 1) (omega arith), e.2), kept e.0 (record { node = v; arrival = a; deadline = x }) e.3)
+    | inl late ↦ absurd (omega (arith, index_past bounds (h + 1) (omega (arith, made.many)), e.2))
+  ]
+
+  -- bounds rise along the layers
+  bounds_rise : (h m : ℕ) → h + 1 ≤ m → m ≤ hop + 1 → slice_index bounds (h + 1) ≤ slice_index bounds m
+  bounds_rise h zero le top = absurd (omega arith)
+  bounds_rise h (suc m) le top = elim (cases_eq h m) [
+    | inl same ↦ rw (same, add-one) (omega arith)
+    | inr other ↦ rw (← add-one m) (omega (arith, bounds_rise h m (omega arith) (omega arith), made.rising m (omega arith)))
+  ]
+
+  -- an entry of an old layer was there
+  entry_was : (h v a x : ℕ) → h ≤ hop → Entry bounds' reached' h v a x → Entry bounds reached h v a x
+  entry_was h v a x le e =
+      let above : slice_index bounds (h + 1) ≤ slice_index bounds (hop + 1) = bounds_rise h (hop + 1) (omega arith) (omega arith) in
+      let below : e.0 < slice_index bounds (h + 1) = omega (arith, bound_before (h + 1) (omega arith), e.2) in
+      (e.0, omega (arith, bound_before h (omega arith), e.1), below, was e.0 (record { node = v; arrival = a; deadline = x }) (omega (arith, made.last_bound)) e.3)
+
+  -- a node that is reached by second b, before every arrival is late, has an entry by then
+  reached_by : (w b : ℕ) → slice_index_or task.shut w false ≡ false → w < length arrival' → slice_index arrival' w ≤ b → b < never → ReachedBy (Entry bounds' reached') (hop + 1) w b
+  reached_by w b unshut within le early =
+      let linked = lowered.lists.linked in
+      let p : ℕ = slice_index place' w in
+      let inside : p < length reached' = lowered.lists.placed.within w (omega (arith, linked.as_many)) in
+      let d : Reached = record { node = 0; arrival = 0; deadline = 0 } in
+      let e : Reached = slice_index_or reached' p d in
+      let at : slice_get reached' p ≡ Some e = slice_get-get_or reached' p d inside in
+      let node : e.node ≡ w = linked.node w d within unshut (omega arith) in
+      let time : e.arrival ≡ slice_index arrival' w = linked.time w d within unshut (omega arith) in
+      let layer = layer_of bounds' p (hop + 1 + 1) (bound_before 0 (omega arith) ∙ made.first_bound) (omega (arith, last')) in
+      (layer.0, e.arrival, e.deadline, omega (arith, layer.1), omega (arith, time), (p, layer.2, layer.3, at ∙ ap (λ k. Some (record { node = k; arrival = e.arrival; deadline = e.deadline })) node))
+
+  -- every step of the layers so far is taken
+  taken' : IsTaken (Takes task) (Entry bounds' reached') (hop + 1) delivery
+  taken' j v a x n w b less e s = elim (last_or_before j hop less) [
+    | inl before ↦ elim (made.taken j v a x n w b before (entry_was j v a x (omega arith) e) s) [
+      | inl late ↦ inl (omega (arith, lowered.lower))
+      | inr r ↦ inr (r.0, r.1, r.2, r.3, r.4, entry_kept r.0 w r.1 r.2 r.5)
+    ]
+    | inr same ↦
+        (let old : Entry bounds reached hop v a x = entry_was hop v a x (omega arith) (rw same at e) in
+        elim (known old.0 (record { node = v; arrival = a; deadline = x }) n w b old.1 old.2 old.3 s) [
+          | inl late ↦ inl late
+          | inr found ↦
+              (let r = reached_by w b s.unshut (omega (arith, lowered.lists.flags, is.as_many, slice_get_within task.table w s.contact.to s.receiver)) found.1 (omega (arith, takes_early task is n v a w b s)) in
+              inr (r.0, r.1, r.2, omega (arith, r.3), r.4, r.5))
+        ])
+  ]
+
+  -- one step more
+  way_on : (w x : ℕ) → GivenFrom task reached (slice_index bounds hop) (slice_index bounds (hop + 1)) w x → (ns : List ℕ) × (length ns ≡ hop + 1) × Leads (Takes task) task.start task.at ns w x
+  way_on w x given =
+      let e : Reached = given.1 in
+      let front = made.real hop e.node e.arrival e.deadline (given.0, given.3, given.4, given.5) in (
+        front.0 ++ given.2 ∷ [],
+        omega (arith, length-append front.0 (given.2 ∷ []), front.1),
+        Leads-append (Takes task) (takes_timely task is.nodes) front.0 (given.2 ∷ []) task.start task.at e.node e.arrival w x front.2 (w, x, given.6, (refl, refl)),
+      )
+
+  real' : (h v a x : ℕ) → Entry bounds' reached' h v a x → (ns : List ℕ) × (length ns ≡ h) × Leads (Takes task) task.start task.at ns v a
+  real' h v a x e = elim (cases_lt hop h) [
+    | inr early ↦ made.real h v a x (entry_was h v a x early e)
+    | inl late ↦ elim (cases_eq h (hop + 1)) [
+      | inr later ↦ absurd (omega (arith, index_past bounds' (h + 1) (omega (arith, many')), e.2))
+      | inl here ↦
+          (let d : Reached = record { node = v; arrival = a; deadline = x } in
+          let lower : slice_index bounds' h ≡ length reached = ap (slice_index bounds') here ∙ bound_before (hop + 1) (omega arith) ∙ made.last_bound in
+          let inside : e.0 < length reached' = slice_get_within reached' e.0 d e.3 in
+          let read : slice_index_or reached' e.0 d ≡ d = get_or_from_slice_get reached' e.0 d d e.3 in
+          elim (lowered.adds e.0 d inside) [
+            | inl old ↦ absurd (omega (arith, old.0, e.1, lower))
+            | inr given ↦ (let way = way_on v a (rw read at given) in (way.0, way.1 ∙ sym here, way.2))
+          ])
+    ]
+  ]
+
+  -- entries of one layer are of different nodes
+  apart' : (h p q : ℕ) (e f : Reached) → h ≤ hop + 1 → slice_index bounds' h ≤ p → slice_index bounds' h ≤ q → p < slice_index bounds' (h + 1) → q < slice_index bounds' (h + 1) → slice_get reached' p ≡ Some e → slice_get reached' q ≡ Some f → e.node ≡ f.node → p ≡ q
+  apart' h p q e f le above_p above_q below_p below_q at_p at_q same = elim (cases_eq h (hop + 1)) [
+    | inl here ↦
+        (let lower : slice_index bounds' h ≡ slice_index bounds (hop + 1) = ap (slice_index bounds') here ∙ bound_before (hop + 1) (omega arith) in
+        let once = lowered.lists.layer.once in
+        let read_p : slice_index_or reached' p e ≡ e = get_or_from_slice_get reached' p e e at_p in
+        let read_q : slice_index_or reached' q f ≡ f = get_or_from_slice_get reached' q f f at_q in
+        let one : slice_index place' e.node ≡ p = rw read_p at (once p e (omega (arith, lower)) (slice_get_within reached' p e at_p)) in
+        let two : slice_index place' f.node ≡ q = rw read_q at (once q f (omega (arith, lower)) (slice_get_within reached' q f at_q)) in
+        sym one ∙ ap (slice_index place') same ∙ two)
+    | inr other ↦
+        (let early : h ≤ hop = omega arith in
+        let rise : slice_index bounds (h + 1) ≤ slice_index bounds (hop + 1) = bounds_rise h (hop + 1) (omega arith) (omega arith) in
+        let one : slice_get reached p ≡ Some e = was p e (omega (arith, made.last_bound, bound_before (h + 1) (omega arith))) at_p in
+        let two : slice_get reached q ≡ Some f = was q f (omega (arith, made.last_bound, bound_before (h + 1) (omega arith))) at_q in
+        made.apart h p q e f early (omega (arith, bound_before h (omega arith))) (omega (arith, bound_before h (omega arith))) (omega (arith, bound_before (h + 1) (omega arith))) (omega (arith, bound_before (h + 1) (omega arith))) one two same)
+  ]
+
+  rising' : (j : ℕ) → j ≤ hop + 1 → slice_index bounds' j ≤ slice_index bounds' (j + 1)
+  rising' j le = elim (cases_eq j (hop + 1)) [
+    | inl here ↦ (let lower : slice_index bounds' j ≡ slice_index bounds (hop + 1) = ap (slice_index bounds') here ∙ bound_before (hop + 1) (omega arith) in
+        let upper : slice_index bounds' (j + 1) ≡ length reached' = ap (λ k. slice_index bounds' (k + 1)) here ∙ last' in
+        omega (arith, lowered.lists.layer.begins))
+    | inr other ↦ omega (arith, bound_before j le, bound_before (j + 1) (omega arith), made.rising j (omega arith))
+  ]
+
+  begins' : slice_get reached' 0 ≡ Some (record { node = task.start; arrival = task.at; deadline = 0 })
+  begins' = kept 0 (record { node = task.start; arrival = task.at; deadline = 0 }) made.begins
+
+  lists' : AreLists task.shut task.goal task.at (slice_index bounds' (hop + 1 + 1)) arrival' place' reached'
+  lists' = record {
+    flags = lowered.lists.flags;
+    closed = lowered.lists.closed;
+    placed = lowered.lists.placed;
+    linked = lowered.lists.linked;
+    layer = record { begins = omega (arith, last'); once = λ p d le less. absurd (omega (arith, last')) };
+    inside = lowered.lists.inside;
+    other = lowered.lists.other;
+  }
+
+  -- if the delivery falls, the new layer is the first that reaches the goal by then
+  pub layers_better : delivery < best.delivery → best.delivery ≤ never → AreLayers task (hop + 1) bounds' arrival' place' reached' (record { delivery = delivery; hops = hop + 1 })
+  layers_better sooner below = record {
+    lists = lists';
+    many = many';
+    first_bound = bound_before 0 (omega arith) ∙ made.first_bound;
+    second_bound = bound_before 1 (omega arith) ∙ made.second_bound;
+    rising = rising';
+    last_bound = last';
+    begins = begins';
+    apart = apart';
+    real = real';
+    taken = taken';
+    found = elim lowered.found [
+      | inl same ↦ absurd (omega (arith, same))
+      | inr given ↦ inr (
+        omega arith,
+        omega arith,
+        omega arith,
+        way_on task.goal delivery given,
+      )
+    ];
+  }
+
+  -- if it doesn't, what was found stays
+  pub layers_same : best.delivery ≤ delivery → AreLayers task (hop + 1) bounds' arrival' place' reached' best
+  layers_same late = record {
+    lists = lists';
+    many = many';
+    first_bound = bound_before 0 (omega arith) ∙ made.first_bound;
+    second_bound = bound_before 1 (omega arith) ∙ made.second_bound;
+    rising = rising';
+    last_bound = last';
+    begins = begins';
+    apart = apart';
+    real = real';
+    taken = rw (sames) taken';
+    found = elim made.found [
+      | inl none ↦ inl none
+      | inr found ↦ inr (
+        found.0,
+        omega (arith, found.1),
+        found.2,
+        found.3,
+      )
+    ];
+  }
+    where
+      sames : best.delivery ≡ delivery
+      sames = omega (arith, lowered.lower)
+
+-- what is found is not later
+pub below_never : (task : SearchTask) (hop : ℕ) (bounds arrival place : List ℕ) (reached : List Reached) (best : Best) → AreLayers task hop bounds arrival place reached best → best.delivery ≤ never
+below_never task hop bounds arrival place reached best made = elim made.found [ inl none ↦ omega (arith, none.1) | inr found ↦ omega (arith, found.2) ]
+
+-- the start is the first entry, and no entry is the goal's
+module _ (task : SearchTask) (is : IsTask task) (hop : ℕ) (bounds arrival place : List ℕ) (reached : List Reached) (best : Best) (made : AreLayers task hop bounds arrival place reached best) where
+  start_entry : Entry bounds reached 0 task.start task.at 0
+  start_entry = (0, omega (arith, made.first_bound), omega (arith, made.second_bound), made.begins)
+
+  goal_never : (h a x : ℕ) → Entry bounds reached h task.goal a x → ⊥
+  goal_never h a x e =
+      let d : Reached = record { node = task.goal; arrival = a; deadline = x } in
+      let read : slice_index_or reached e.0 d ≡ d = get_or_from_slice_get reached e.0 d d e.3 in
+      made.lists.other e.0 d (slice_get_within reached e.0 d e.3) (ap (λ (y : Reached). y.node) read)
+
+  -- no way of at most this number of hops comes before the best
+  pub least_within : (ns : List ℕ) (e : ℕ) → length ns ≤ hop → Leads (Takes task) task.start task.at ns task.goal e → best.delivery ≤ e
+  least_within = none_sooner (Takes task) (takes_timely task is.nodes) (Entry bounds reached) task.start task.at task.goal 0 start_entry goal_never hop best.delivery made.taken
+
+  -- if the last layer is empty, no way of any number of hops does
+  pub least_of_all : slice_index bounds hop ≡ slice_index bounds (hop + 1) → (ns : List ℕ) (e : ℕ) → Leads (Takes task) task.start task.at ns task.goal e → best.delivery ≤ e
+  least_of_all none ns e way =
+      none_sooner (Takes task) (takes_timely task is.nodes) (Entry bounds reached) task.start task.at task.goal 0 start_entry goal_never (length ns) best.delivery all ns e (omega arith) way
+    where
+      all : IsTaken (Takes task) (Entry bounds reached) (length ns) best.delivery
+      all j v a x n w b less en s = elim (cases_lt j hop) [
+        | inl before ↦ made.taken j v a x n w b before en s
+        | inr behind ↦ elim (cases_eq j hop) [
+          | inl here ↦ absurd (omega (arith, en.1, en.2, none, ap (slice_index bounds) here, ap (λ k. slice_index bounds (k + 1)) here))
+          | inr past ↦ absurd (omega (arith, en.2, index_past bounds (j + 1) (omega (arith, made.many))))
+        ]
+      ]
+
+  -- the entries of the last layer are what the next layer comes from
+  pub sources_of : AreSources task reached (slice_index bounds hop) (slice_index bounds (hop + 1))
+  sources_of = record {
+    inside = λ p e at. (let read : slice_index_or reached p e ≡ e = get_or_from_slice_get reached p e e at in
+        omega (arith, is.as_many, ap (λ (y : Reached). y.node) read, made.lists.inside p e (slice_get_within reached p e at)));
+    since = λ p e at.
+        (let layer = layer_of bounds p (hop + 1) made.first_bound (omega (arith, made.last_bound, slice_get_within reached p e at)) in
+        let way = made.real layer.0 e.node e.arrival e.deadline (p, layer.2, layer.3, at) in
+        Leads-later (Takes task) (takes_timely task is.nodes) way.0 task.start task.at e.node e.arrival way.2);
+    apart = λ p q e f above_p above_q below_p below_q at_p at_q same. made.apart hop p q e f (omega arith) above_p above_q below_p below_q at_p at_q same;
+  }
+
+-- the layers with one more, whatever the new layer brings
+pub layers_next : (task : SearchTask) → IsTask task → (hop : ℕ) (bounds arrival place : List ℕ) (reached : List Reached) (best : Best) → AreLayers task hop bounds arrival place reached best →
+    (bounds' arrival' place' : List ℕ) (reached' : List Reached) (delivery : ℕ) →
+    IsLowered task.shut task.goal task.at (slice_index bounds (hop + 1)) (GivenFrom task reached (slice_index bounds hop) (slice_index bounds (hop + 1))) arrival reached best.delivery arrival' place' reached' delivery →
+    IsKnownFrom task reached (slice_index bounds hop) (slice_index bounds (hop + 1)) arrival' delivery →
+    bounds' ≡ bounds ++ length reached' ∷ [] → (best' : Best) → ((delivery < best.delivery) × (best' ≡ record { delivery = delivery; hops = hop + 1 })) ⊎ ((best.delivery ≤ delivery) × (best' ≡ best)) →
+    AreLayers task (hop + 1) bounds' arrival' place' reached' best'
+layers_next task is hop bounds arrival place reached best made bounds' arrival' place' reached' delivery lowered known bounds_is best' (inl better) =
+    rw better.1 (layers_better task is hop bounds arrival place reached best made bounds' arrival' place' reached' delivery lowered known bounds_is better.0 (below_never task hop bounds arrival place reached best made))
+layers_next task is hop bounds arrival place reached best made bounds' arrival' place' reached' delivery lowered known bounds_is best' (inr same) =
+    rw same.1 (layers_same task is hop bounds arrival place reached best made bounds' arrival' place' reached' delivery lowered known bounds_is same.0)
+
+-- what is found within fewer hops is the best within more, if nothing is sooner there
+pub best_within : (task : SearchTask) (hop : ℕ) (bounds arrival place : List ℕ) (reached : List Reached) (best : Best) → AreLayers task hop bounds arrival place reached best →
+    (hops : ℕ) → hop ≤ hops → IsNoneSooner task hops best.delivery → IsBestWithin task hops best
+best_within task hop bounds arrival place reached best made hops within least = record {
+  least = least;
+  found = elim made.found [ inl none ↦ inl none | inr found ↦ inr (found.0, omega (arith, found.1), found.2, found.3) ];
+}

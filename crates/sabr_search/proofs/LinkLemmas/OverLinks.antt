@@ -1,0 +1,222 @@
+-- What the bounds beside the passes of a link say of the steps over them.
+use Rattle.std.proofs.Common.{◌≡◌, ℕ, ◌+◌, ◌-◌, ◌<◌, ◌≤◌, max, ◌⊎◌, inl, inr, List, length, drop, true, false, Some, slice_get, slice_index_or, refl, sym, ap, subst, ◌∙◌, arith}
+use Rattle.std.specs.Prelude.{IfSome}
+use Rattle.std.specs.List.Sorted.{IsNonDecreasingBy}
+use Rattle.std.specs.declared.option.Option.{Option}
+use Rattle.std.specs.declared.option.Option.TheVariants.{None}
+use Rattle.sabr_search.specs.declared.forward.layers.Reached.{Reached}
+use Rattle.sabr_search.specs.declared.backward.pick.Step.{Step}
+use Rattle.sabr_search.specs.layers.Late.{AreOpen}
+use Rattle.sabr_search.specs.layers.Deadlines.{IsInTime}
+use Rattle.sabr_search.specs.layers.Picks.{IsAtMost}
+use Rattle.std.proofs.lemmas.Option.{slice_get-get_or}
+use Rattle.std.proofs.lemmas.Bool.{both_ways}
+use Rattle.sabr_model.specs.declared.contact.Contact.{Contact}
+use Rattle.sabr_model.specs.declared.hop.Hop.{Hop}
+use Rattle.sabr_index.specs.declared.link.Pass.{Pass}
+use Rattle.sabr_index.specs.declared.link.Link.{Link}
+use Rattle.sabr_index.specs.declared.link.LinkBounds.{LinkBounds}
+use Rattle.sabr_index.specs.Links.{AreWithin}
+use Rattle.std.proofs.lemmas.List.{length-take, length-drop}
+use Rattle.sabr_model.specs.routes.Arrival.{cost}
+use Rattle.sabr_model.specs.plan.Light.{light_of}
+use Rattle.sabr_model.specs.plan.Plan.{has}
+use Rattle.sabr_search.specs.questions.Task.{SearchTask, IsTask, Takes}
+use Rattle.sabr_model.specs.routes.Hops.{hop_arrival, IsSmall}
+use Rattle.sabr_search.specs.questions.Steps.{IsHopAt}
+use Rattle.sabr_search.specs.questions.Linked.{IsPassAt, IsLinkAt, IsLinkWithin, AreInOrder, HasNumber, passes_of, AreLinksAt}
+use Rattle.sabr_search.proofs.LinkLemmas.Arrivals.{arrival_parts}
+use Rattle.sabr_search.proofs.LinkLemmas.PlanFacts.{hop_small, light_small}
+use Rattle.sabr_search.proofs.ForwardLemmas.Forward.{hop_takes}
+use Rattle.sabr_search.proofs.LinkLemmas.Linking.{cost_rises}
+use Rattle.sabr_search.proofs.WayLemmas.Bridge.{same_some}
+
+-- the default after the end of a list of passes
+abbrev pub no_pass : Pass
+no_pass = record { number = 0; receiver = 0; light = 0; start = 0; end = 0; latest_end = 0; least_light_before = 0; least_light_behind = 0; least_number_behind = 0; in_row_behind = 0 }
+
+abbrev pub no_link : Link
+no_link = record { receiver = 0; first = 0; end = 0; bounds = record { latest_end = 0; least_light = 0; soonest = 0 } }
+
+pub passes_length : (passes : List Pass) (l : Link) → l.end ≤ length passes → length (passes_of passes l) ≡ l.end - l.first
+passes_length passes l within = omega (arith, length-take (l.end - l.first) (drop l.first passes), length-drop l.first passes)
+
+-- the hop of a pass
+abbrev pub hop_of : Pass → ℕ → Hop
+hop_of x to = record { start = x.start; end = x.end; receiver = to; light = Some x.light }
+
+pub pass_small : (task : SearchTask) → IsTask task → (u to : ℕ) (x : Pass) → IsPassAt task u to x → IsSmall (hop_of x to)
+pass_small task is u to x p =
+    hop_small (record { plan = task.plan; table = task.table }) is.plan x.number (hop_of x to) (record {
+      contact = p.contact;
+      named = p.named;
+      is = record { start = p.start; end = p.end; receiver = p.receiver; light = sym p.light };
+    })
+
+-- what a step over a pass is
+pub record IsOver (task : SearchTask) (to t : ℕ) (x : Pass) (w b : ℕ) : Type 0 where
+  pub receiver : w ≡ to
+  pub before_end : max t x.start < x.end
+  pub sum : b ≡ max t x.start + cost task.request.margin x.light
+
+pub over_pass : (task : SearchTask) → IsTask task → (u to t : ℕ) (x : Pass) (w b : ℕ) → IsPassAt task u to x → Takes task x.number u t w b → IsOver task to t x w b
+over_pass task is u to t x w b p s =
+    let same : s.contact ≡ p.contact = same_some (sym s.named ∙ p.named) in
+    let a = arrival_parts task.plan task.request t s.contact b s.arrives in
+    let light : a.light ≡ x.light = same_some (sym a.in_force ∙ ap (light_of task.plan) same ∙ p.light) in
+    let start : s.contact.start ≡ x.start = ap (λ (c : Contact). c.start) same ∙ sym p.start in
+    let end : s.contact.end ≡ x.end = ap (λ (c : Contact). c.end) same ∙ sym p.end in
+    record {
+      receiver = is.nodes.apart w to p.contact.to (s.receiver ∙ ap (λ (c : Contact). Some c.to) same) p.receiver;
+      before_end = omega (arith, a.before_end, start, end);
+      sum = rw (← light) (omega (arith, a.sum, start));
+    }
+
+-- a pass in time to an open node is a step
+pub pass_takes : (task : SearchTask) → IsTask task → (u to t : ℕ) (x : Pass) (b : ℕ) (h : Hop) → IsPassAt task u to x → h.receiver ≡ to → IsHopAt task x.number h → slice_index_or task.shut to false ≡ false →
+    (u ≡ task.start → has x.number task.excluded ≡ false) → hop_arrival task.request.margin t h ≡ Some b → Takes task x.number u t to b
+pass_takes task is u to t x b h p same hop open' allowed arrives =
+    rw same at (hop_takes task is x.number h hop u t b (p.contact, p.named, p.sender) (ap (λ k. slice_index_or task.shut k false) same ∙ open') allowed arrives)
+
+-- a step over a pass, however its place is given
+pub step_at : (task : SearchTask) (passes : List Pass) (u t i k : ℕ) (x y : Pass) (w b : ℕ) → slice_get passes i ≡ Some x → slice_get passes k ≡ Some y → k ≡ i → Takes task y.number u t w b → Takes task x.number u t w b
+step_at task passes u t i k x y w b at_i at_k same s =
+    let is : x ≡ y = same_some (sym at_i ∙ ap (slice_get passes) (sym same) ∙ at_k) in
+    let number : x.number ≡ y.number = ap (λ (p : Pass). p.number) is in
+    rw (← number) at s
+
+-- a step over a number that some pass has
+pub step_over : (task : SearchTask) (passes : List Pass) (n u t w b : ℕ) (h : HasNumber passes n) → Takes task n u t w b → Takes task h.1.number u t w b
+step_over task passes n u t w b h s = rw (← h.3) at s
+
+module _ (passes : List Pass) (kept : AreInOrder passes) where
+  pub ends_rise : IsNonDecreasingBy (λ (x : Pass). x.latest_end) passes
+  ends_rise i j d le within =
+      (kept i j (slice_index_or passes i d) (slice_index_or passes j d) le (slice_get-get_or passes i d (omega (arith, le, within))) (slice_get-get_or passes j d within)).latest_end
+
+  pub end_within : (k : ℕ) (x : Pass) → slice_get passes k ≡ Some x → x.end ≤ x.latest_end
+  end_within k x at = (kept k k x x (omega arith) at at).end
+
+  pub starts_rise : IsNonDecreasingBy (λ (x : Pass). x.start) passes
+  starts_rise i j d le within =
+      (kept i j (slice_index_or passes i d) (slice_index_or passes j d) le (slice_get-get_or passes i d (omega (arith, le, within))) (slice_get-get_or passes j d within)).start
+
+module _ (task : SearchTask) (is : IsTask task) (u to : ℕ) (passes : List Pass) (link : IsLinkAt task u to passes) where
+  -- a pass that has ended takes nothing
+  pub none_ended : (t k : ℕ) (x : Pass) (w b : ℕ) → slice_get passes k ≡ Some x → x.end ≤ t → Takes task x.number u t w b → ⊥
+  none_ended t k x w b at ended s = let o = over_pass task is u to t x w b (link.each k x at) s in omega (arith, o.before_end, ended)
+
+  pub least_light_small : (k : ℕ) (x : Pass) → slice_get passes k ≡ Some x → x.least_light_behind ≤ 1000000
+  least_light_small k x at =
+      let p = link.each k x at in
+      omega (arith, (link.kept k k x x (omega arith) at at).light_behind, light_small task.plan is.plan p.contact x.light p.light)
+
+  -- what a walk jumps over takes nothing
+  pub none_excluded : (t i k r : ℕ) (x y : Pass) (w b : ℕ) → slice_get passes i ≡ Some x → i ≤ k → k < i + r → slice_get passes k ≡ Some y → r ≤ x.in_row_behind + 1 →
+      ((j : ℕ) → j < r → (u ≡ task.start) × (has (x.number + j) task.excluded ≡ true)) → Takes task y.number u t w b → ⊥
+  none_excluded t i k r x y w b at_i le less at_k few out s =
+      let there : i + (k - i) ≡ k = omega (arith, le) in
+      let number : y.number ≡ x.number + (k - i) = link.in_rows i (k - i) x y at_i (ap (slice_get passes) there ∙ at_k) (omega (arith, few, less, le)) in
+      let here = out (k - i) (omega (arith, less, le)) in
+      both_ways (has y.number task.excluded) (s.allowed here.0) (ap (λ n. has n task.excluded) number ∙ here.1)
+
+  -- if a pass and the lightest contact after it arrive late, all after it do
+  pub late_over : (t before i : ℕ) (x : Pass) → slice_get passes i ≡ Some x → before ≤ max t x.start + cost task.request.margin x.least_light_behind →
+      (k : ℕ) (y : Pass) (w b : ℕ) → i ≤ k → slice_get passes k ≡ Some y → Takes task y.number u t w b → before ≤ b
+  late_over t before i x at_i late k y w b le at_k s =
+      let o = over_pass task is u to t y w b (link.each k y at_k) s in
+      let kept = link.kept i k x y le at_i at_k in
+      omega (arith, o.sum, late, kept.start, cost_rises task.request.margin x.least_light_behind y.light kept.light_behind)
+
+  pub least_before_small : (k : ℕ) (x : Pass) → slice_get passes k ≡ Some x → x.least_light_before ≤ 1000000
+  least_before_small k x at =
+      let p = link.each k x at in
+      omega (arith, (link.kept k k x x (omega arith) at at).light_before, light_small task.plan is.plan p.contact x.light p.light)
+
+  -- nothing arrives before its pass starts, or before it is sent
+  pub starts_late : (t k : ℕ) (x : Pass) (w b : ℕ) → slice_get passes k ≡ Some x → Takes task x.number u t w b → (x.start ≤ b) × (t ≤ b)
+  starts_late t k x w b at s = let o = over_pass task is u to t x w b (link.each k x at) s in (omega (arith, o.sum), omega (arith, o.sum))
+
+  -- if a pass ends early, or arrives late with the lightest contact before it, none before it leaves later
+  pub none_later : (latest since before i : ℕ) (x : Pass) → slice_get passes i ≡ Some x → (x.latest_end ≤ max latest since) ⊎ (before ≤ latest + cost task.request.margin x.least_light_before) →
+      (k : ℕ) (y : Pass) (t w b : ℕ) → k ≤ i → slice_get passes k ≡ Some y → since ≤ t → Takes task y.number u t w b → b < before → t < latest
+  none_later latest since before i x at_i early k y t w b le at_k after s less =
+      let o = over_pass task is u to t y w b (link.each k y at_k) s in
+      let kept = link.kept k i y x le at_k at_i in
+      elim early [
+        | inl ended ↦ omega (arith, o.before_end, kept.end, ended, after)
+        | inr near ↦ omega (arith, o.sum, near, less, cost_rises task.request.margin x.least_light_before y.light kept.light_before)
+      ]
+
+  -- if the bounds of the link rule it out, nothing arrives over it before a second
+  pub ruled_out : (b : LinkBounds) → AreWithin b passes → (at before : ℕ) → (b.latest_end ≤ at) ⊎ ((before ≤ b.soonest) ⊎ (before ≤ at + b.least_light)) →
+      (n t w x : ℕ) → HasNumber passes n → at ≤ t → Takes task n u t w x → before ≤ x
+  ruled_out b within at before why n t w x has after s =
+      let o = over_pass task is u to t has.1 w x (link.each has.0 has.1 has.2) (step_over task passes n u t w x has s) in
+      let kept = within has.0 has.1 has.2 in
+      let light : has.1.light ≤ cost task.request.margin has.1.light = omega arith in
+      elim why [
+        | inl ended ↦ absurd (omega (arith, o.before_end, kept.ends, ended, after))
+        | inr rest ↦ elim rest [
+          | inl late ↦ omega (arith, o.sum, kept.soonest, late, light)
+          | inr far ↦ omega (arith, o.sum, kept.light, far, after, light)
+        ]
+      ]
+
+-- a step over a link of a node leads to the link's receiver
+pub link_receiver : (task : SearchTask) → IsTask task → (u : ℕ) (links : List Link) (passes : List Pass) → AreLinksAt task u links passes → (i : ℕ) (l : Link) → slice_get links i ≡ Some l →
+    (n t w b : ℕ) → HasNumber (passes_of passes l) n → Takes task n u t w b → w ≡ l.receiver
+link_receiver task is u links passes are i l at n t w b has s =
+    (over_pass task is u l.receiver t has.1 w b ((are.each i l at).each has.0 has.1 has.2) (step_over task (passes_of passes l) n u t w b has s)).receiver
+
+-- the link at a place among those of a node, and the passes on it
+pub record IsLinkHere (task : SearchTask) (u : ℕ) (links : List Link) (passes : List Pass) (i : ℕ) (l : Link) (over : List Pass) : Type 0 where
+  pub here : slice_get links i ≡ Some l
+  pub receiver : l.receiver < length task.table
+  pub ordered : l.first ≤ l.end
+  pub within : l.end ≤ length passes
+  pub link : IsLinkWithin task u l.receiver over l.bounds
+  pub few : l.first + length over ≤ length passes
+  pub next : (m : Link) → slice_get links (i + 1) ≡ Some m → l.first + length over ≤ m.first
+  pub own : (j : ℕ) (x : Link) (n : ℕ) → slice_get links j ≡ Some x → j ≡ i → HasNumber (passes_of passes x) n → HasNumber over n
+  pub to : IsTask task → (n t w b : ℕ) → HasNumber over n → Takes task n u t w b → w ≡ l.receiver
+
+pub link_here : (task : SearchTask) (u : ℕ) (links : List Link) (passes : List Pass) → AreLinksAt task u links passes → (i : ℕ) → i < length links → (over : List Pass) → over ≡ passes_of passes (slice_index_or links i no_link) → IsLinkHere task u links passes i (slice_index_or links i no_link) over
+link_here task u links passes are i less over is =
+    let l = slice_index_or links i no_link in
+    let here : slice_get links i ≡ Some l = slice_get-get_or links i no_link less in
+    let many : length over ≡ l.end - l.first = rw is (passes_length passes l (are.within i l here)) in
+    record {
+      here = here;
+      receiver = are.receivers i l here;
+      ordered = are.ordered i l here;
+      within = are.within i l here;
+      link = rw is (are.each i l here, are.bounds i l here);
+      few = omega (arith, many, are.ordered i l here, are.within i l here);
+      next = λ m after. omega (arith, many, are.ordered i l here, are.in_row i l m here after);
+      own = λ j x n at same has.
+          (let one : x ≡ l = same_some (sym at ∙ ap (slice_get links) same ∙ here) in
+          rw is (subst (λ (y : Link). HasNumber (passes_of passes y) n) one has));
+      to = λ task_is n t w b has s. link_receiver task task_is u links passes are i l here n t w b (rw is at has) s;
+    }
+
+pub link_by_place : (task : SearchTask) (u : ℕ) (links : List Link) (passes : List Pass) → AreLinksAt task u links passes → (i : ℕ) → i < length links → IsLinkHere task u links passes i (slice_index_or links i no_link) (passes_of passes (slice_index_or links i no_link))
+link_by_place task u links passes are i less = link_here task u links passes are i less (passes_of passes (slice_index_or links i no_link)) refl
+
+-- what is at most a number is at most a greater one
+pub at_most_more : (o : Option Step) (m n : ℕ) → m ≤ n → IsAtMost o m → IsAtMost o n
+at_most_more None m n le h = absurd h
+at_most_more (Some s) m n le h = omega (arith, h)
+
+pub same_number : (passes : List Pass) (i k : ℕ) (x y : Pass) → slice_get passes i ≡ Some x → slice_get passes k ≡ Some y → k ≡ i → x.number ≡ y.number
+same_number passes i k x y at_i at_k same = ap (λ (p : Pass). p.number) (same_some (sym at_i ∙ ap (slice_get passes) (sym same) ∙ at_k))
+
+-- a step over a link that arrives before its deadline is a step in time
+pub chosen_from : (task : SearchTask) (ends : List ℕ) (reached : List Reached) (hops : ℕ) → AreOpen task reached → (u t to before : ℕ) → ((b : ℕ) → b < before → IsInTime ends reached hops to b) → (o : Option Step) →
+    IfSome o (λ s. (s.node ≡ to) × (s.at < before) × (slice_index_or task.shut to false ≡ false → Takes task s.number u t to s.at)) →
+    IfSome o (λ s. Takes task s.number u t s.node s.at × IsInTime ends reached hops s.node s.at)
+chosen_from task ends reached hops opens u t to before in_time None h = tt
+chosen_from task ends reached hops opens u t to before in_time (Some s) h =
+    let admits = in_time s.at h.1 in
+    let step = h.2 (opens admits.2.0 (record { node = to; arrival = admits.0; deadline = admits.1 }) admits.2.3).1 in
+    rw h.0 (step, admits)

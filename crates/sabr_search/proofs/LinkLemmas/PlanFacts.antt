@@ -1,0 +1,151 @@
+-- What a plan's rules say of a contact of a number, of its hop, and of the table of nodes.
+use Rattle.std.proofs.Common.{◌≡◌, ℕ, zero, suc, ◌+◌, ◌*◌, ◌<◌, ◌≤◌, max, Bool, true, false, ◌&&◌, cond, not, eqb, ltb, List, [], ◌∷◌, slice_get, refl, sym, ap, subst, ◌∙◌, inl, inr, ⊎_elim, arith}
+use Rattle.std.specs.Prelude.{IfSome, Contains, ◌↔◌}
+use Rattle.std.proofs.lemmas.Bool.{and_parts, not-true, both_ways, false_from_ne_true, ltb-true, cond-true, lt-ltb}
+use Rattle.std.specs.List.{find}
+use Rattle.std.specs.Option.{option_map}
+use Rattle.std.specs.declared.option.Option.{Option}
+use Rattle.std.specs.declared.option.Option.TheVariants.{Some, None}
+use Rattle.sabr_model.specs.declared.contact.Contact.{Contact}
+use Rattle.sabr_model.specs.declared.contact.Range.{Range}
+use Rattle.sabr_model.specs.declared.hop.Hop.{Hop}
+use Rattle.sabr_model.specs.plan.Plan.{ContactPlan, TabledPlan, IsPlan, IsWindow, contact_named, has, are_different}
+use Rattle.sabr_model.specs.plan.Light.{light_of, light_of_pair, or_else, is_within}
+use Rattle.sabr_model.specs.routes.Arrival.{RouteRequest, cost, arrival}
+use Rattle.sabr_model.specs.plan.Table.{ends_of}
+use Rattle.sabr_model.specs.plan.Tabled.{IsTabled, IsHopOf, IsHopNamed}
+use Rattle.sabr_model.proofs.ListLemmas.Members.{IsIn, all_in, in_flat_map, in_from_Contains, Contains-from_in}
+use Rattle.sabr_model.proofs.RouteLemmas.Listed.{in_from_has, has_from_in}
+use Rattle.sabr_model.specs.routes.Hops.{hop_arrival, IsSmall}
+use Rattle.std.proofs.Math.Nat.{mul-le-mul}
+use Rattle.sabr_search.specs.questions.Task.{HasNodes, SearchTask, IsTask, Takes, latest_arrival}
+use Rattle.sabr_search.specs.questions.Steps.{IsHopAt}
+use Rattle.sabr_search.proofs.LinkLemmas.Arrivals.{arrival_parts}
+use Rattle.sabr_model.proofs.PlanLemmas.ContactLemmas.Tabled.{has_place}
+
+-- what a search through a list finds is in the list and passes
+pub found_in : {X : Type 0} (test : X → Bool) (xs : List X) (x : X) → find test xs ≡ Some x → IsIn x xs × (test x ≡ true)
+found_in test [] x h = absurd cc
+found_in test (y ∷ ys) x h =
+    elim (test y) as (λ b. test y ≡ b → cond b (Some y) (find test ys) ≡ Some x → IsIn x (y ∷ ys) × (test x ≡ true)) [
+      | true ↦ λ e g. (let same : y ≡ x = cc (g) in (inl (sym same), ap test (sym same) ∙ e))
+      | false ↦ λ e g. (let m = found_in test ys x g in (inr m.0, m.1))
+    ] refl h
+
+pub contact_in : (p : ContactPlan) (n : ℕ) (c : Contact) → contact_named p n ≡ Some c → IsIn c p.contacts
+contact_in p n c h = (found_in (λ (d : Contact). eqb d.number n) p.contacts c h).0
+
+pub contact_window : (p : ContactPlan) → IsPlan p → (n : ℕ) (c : Contact) → contact_named p n ≡ Some c → IsWindow c.start c.end
+contact_window p good n c h = all_in (λ (d : Contact). IsWindow d.start d.end) p.contacts good.contact_windows c (contact_in p n c h)
+
+light_of_pair_small : (p : ContactPlan) → IsPlan p → (one other t l : ℕ) → light_of_pair p.ranges one other t ≡ Some l → l ≤ 1000000
+light_of_pair_small p good one other t l h =
+    elim (find (λ (r : Range). eqb r.one one && eqb r.other other && is_within r.start r.end t) p.ranges) as
+    (λ o. find (λ (r : Range). eqb r.one one && eqb r.other other && is_within r.start r.end t) p.ranges ≡ o → option_map (λ (r : Range). r.light) o ≡ Some l → l ≤ 1000000) [
+      | None ↦ λ e g. absurd cc
+      | Some r ↦ λ e g.
+          (let small = all_in (λ (r : Range). r.light ≤ 1000000) p.ranges good.lights r (found_in (λ (r : Range). eqb r.one one && eqb r.other other && is_within r.start r.end t) p.ranges r e).0 in
+          let same : r.light ≡ l = cc (g) in omega arith)
+    ] refl h
+
+pub light_small : (p : ContactPlan) → IsPlan p → (c : Contact) (l : ℕ) → light_of p c ≡ Some l → l ≤ 1000000
+light_small p good c l h =
+    elim (light_of_pair p.ranges c.from c.to c.start) as
+    (λ o. light_of_pair p.ranges c.from c.to c.start ≡ o → or_else o (cond (ltb c.to c.from) (light_of_pair p.ranges c.to c.from c.start) None) ≡ Some l → l ≤ 1000000) [
+      | Some x ↦ λ e g. light_of_pair_small p good c.from c.to c.start l (e ∙ g)
+      | None ↦ λ e g. elim (ltb c.to c.from) as (λ b. cond b (light_of_pair p.ranges c.to c.from c.start) None ≡ Some l → l ≤ 1000000) [
+        | true ↦ λ f. light_of_pair_small p good c.to c.from c.start l f
+        | false ↦ λ f. absurd cc
+      ] g
+    ] refl h
+
+some_light : (o : Option ℕ) → ((l : ℕ) → o ≡ Some l → l ≤ 1000000) → IfSome o (λ l. l ≤ 1000000)
+some_light None h = tt
+some_light (Some l) h = h l refl
+
+-- the hop of a standing contact is small
+pub hop_small : (p : TabledPlan) → IsPlan p.plan → (n : ℕ) (h : Hop) → IsHopNamed p n h → IsSmall h
+hop_small p good n h named =
+    record {
+      ends = (let w = contact_window p.plan good n named.contact named.named in omega (arith, w.1, named.is.end));
+      near = some_light h.light (λ l e. light_small p.plan good named.contact l (sym named.is.light ∙ e));
+    }
+
+-- the arrival over a contact is that over its hop
+pub hop_arrival_is : (p : TabledPlan) (r : RouteRequest) (t : ℕ) (c : Contact) (h : Hop) → IsHopOf p c h → arrival p.plan r t c ≡ hop_arrival r.margin t h
+hop_arrival_is p r t c h is =
+    let a : ℕ → ℕ → Option ℕ → Option ℕ = λ start end light. cond (ltb (max t start) end) (option_map (λ l. max t start + cost r.margin l) light) None in
+    let at_start : a c.start c.end (light_of p.plan c) ≡ a h.start c.end (light_of p.plan c) = ap (λ s. a s c.end (light_of p.plan c)) (sym is.start) in
+    let at_end : a h.start c.end (light_of p.plan c) ≡ a h.start h.end (light_of p.plan c) = ap (λ e. a h.start e (light_of p.plan c)) (sym is.end) in
+    at_start ∙ at_end ∙ ap (a h.start h.end) (sym is.light)
+
+-- no two places of a list without repetition have one element
+pub places_apart : (xs : List ℕ) → are_different xs ≡ true → (i j x : ℕ) → slice_get xs i ≡ Some x → slice_get xs j ≡ Some x → i ≡ j
+places_apart [] d i j x e f = absurd cc
+places_apart (y ∷ ys) d zero zero x e f = refl
+places_apart (y ∷ ys) d zero (suc j) x e f =
+    let parts = and_parts (not (has y ys)) (are_different ys) d in
+    let same : y ≡ x = cc (e) in
+    absurd (both_ways (has y ys) (not-true (has y ys) parts.0) (subst (λ w. has w ys ≡ true) (sym same) (has_place ys j x f)))
+places_apart (y ∷ ys) d (suc i) zero x e f =
+    let parts = and_parts (not (has y ys)) (are_different ys) d in
+    let same : y ≡ x = cc (f) in
+    absurd (both_ways (has y ys) (not-true (has y ys) parts.0) (subst (λ w. has w ys ≡ true) (sym same) (has_place ys i x e)))
+places_apart (y ∷ ys) d (suc i) (suc j) x e f = ap suc (places_apart ys (and_parts (not (has y ys)) (are_different ys) d).1 i j x e f)
+
+pub place_of : (xs : List ℕ) (x : ℕ) → IsIn x xs → (k : ℕ) × (slice_get xs k ≡ Some x)
+place_of [] x h = absurd h
+place_of (y ∷ ys) x h = ⊎_elim (λ e. (0, ap Some (sym e))) (λ k. let p = place_of ys x k in (suc p.0, p.1)) h
+
+end_in : (p : ContactPlan) (n : ℕ) (c : Contact) → contact_named p n ≡ Some c → (x : ℕ) → IsIn x (c.from ∷ c.to ∷ []) → has x (ends_of p.contacts) ≡ true
+end_in p n c h x e = has_from_in x (ends_of p.contacts) (in_flat_map (λ (d : Contact). d.from ∷ d.to ∷ []) x c p.contacts (contact_in p n c h) e)
+
+-- the table of a plan has the ends of each standing contact
+pub has_nodes : (p : TabledPlan) → IsTabled p → HasNodes p.plan p.table
+has_nodes p tabled = record {
+  apart = places_apart p.table tabled.once;
+  senders = λ n c h. place_of p.table c.from (in_from_has c.from p.table (tabled.nodes c.from ∙ end_in p.plan n c h c.from (inl refl)));
+  receivers = λ n c h. place_of p.table c.to (in_from_has c.to p.table (tabled.nodes c.to ∙ end_in p.plan n c h c.to (inr (inl refl))));
+}
+
+-- a test that is true if and only if a number is in a list is that of the list
+pub has_from_iff : (b : Bool) (xs : List ℕ) (n : ℕ) → (b ≡ true) ↔ Contains xs n → b ≡ has n xs
+has_from_iff true xs n h = sym (has_from_in n xs (in_from_Contains xs n (h.0 refl)))
+has_from_iff false xs n h = sym (false_from_ne_true (has n xs) (λ e. let no : false ≡ true = h.1 (Contains-from_in xs n (in_from_has n xs e)) in cc))
+
+-- when a hop arrives
+pub record HopArrives (margin t b : ℕ) (h : Hop) : Type 0 where
+  pub light : ℕ
+  pub in_force : h.light ≡ Some light
+  pub before_end : max t h.start < h.end
+  pub sum : b ≡ max t h.start + cost margin light
+
+pub hop_arrives : (margin t b : ℕ) (h : Hop) → hop_arrival margin t h ≡ Some b → HopArrives margin t b h
+hop_arrives margin t b h e =
+    elim (ltb (max t h.start) h.end) as (λ w. ltb (max t h.start) h.end ≡ w → cond w (option_map (λ l. max t h.start + cost margin l) h.light) None ≡ Some b → HopArrives margin t b h) [
+      | false ↦ λ q g. absurd cc
+      | true ↦ λ q g. elim h.light as (λ o. h.light ≡ o → option_map (λ l. max t h.start + cost margin l) o ≡ Some b → HopArrives margin t b h) [
+        | None ↦ λ f k. absurd cc
+        | Some l ↦ λ f k. (let same : max t h.start + cost margin l ≡ b = cc (k) in record { light = l; in_force = f; before_end = ltb-true (max t h.start) h.end q; sum = omega (arith, same) })
+      ] refl g
+    ] refl e
+
+pub hop_arrival_there : (margin t l : ℕ) (h : Hop) → h.light ≡ Some l → max t h.start < h.end → hop_arrival margin t h ≡ Some (max t h.start + cost margin l)
+hop_arrival_there margin t l h light less =
+    cond-true (ltb (max t h.start) h.end) (option_map (λ k. max t h.start + cost margin k) h.light) None (lt-ltb (max t h.start) h.end less)
+    ∙ ap (option_map (λ k. max t h.start + cost margin k)) light
+
+pub cost_small : (margin l : ℕ) → l ≤ 1000000 → margin ≤ 1000000 → cost margin l ≤ 2000000
+cost_small margin l a b =
+    let product : l * margin ≤ 1000000 * 1000000 = mul-le-mul a b in
+    omega (arith, product)
+
+-- no step arrives after the latest arrival
+pub takes_early : (task : SearchTask) → IsTask task → (n u t w x : ℕ) → Takes task n u t w x → x ≤ latest_arrival
+takes_early task is n u t w x s =
+    let a = arrival_parts task.plan task.request t s.contact x s.arrives in
+    let window = contact_window task.plan is.plan n s.contact s.named in
+    omega (arith, a.sum, a.before_end, window.1, cost_small task.request.margin a.light (light_small task.plan is.plan s.contact a.light a.in_force) is.margin)
+
+pub hop_at_window : (task : SearchTask) → IsTask task → (n : ℕ) (h : Hop) → IsHopAt task n h → h.start < h.end
+hop_at_window task is n h hop = let w = contact_window task.plan is.plan n hop.contact hop.named in omega (arith, w.0, hop.is.start, hop.is.end)

@@ -1,0 +1,29 @@
+use Rattle.std.proofs.Common.{◌≡◌, ℕ, ◌≤◌, List, [], ◌∷◌, ◌++◌, refl, sym, ◌∙◌, arith}
+use Rattle.sabr_search.specs.questions.Ways.{StepRelation, Leads, IsTimely}
+
+module _ (T : StepRelation) (timely : IsTimely T) where
+  pub Leads-append : (xs ys : List ℕ) (u t v e w f : ℕ) → Leads T u t xs v e → Leads T v e ys w f → Leads T u t (xs ++ ys) w f
+  Leads-append [] ys u t v e w f h k = rw (h.0, h.1) k
+  Leads-append (x ∷ xs) ys u t v e w f h k = (h.0, h.1, h.2, Leads-append xs ys h.0 h.1 v e w f h.3 k)
+
+  pub Leads-split : (xs ys : List ℕ) (u t w f : ℕ) → Leads T u t (xs ++ ys) w f → (v : ℕ) × (e : ℕ) × Leads T u t xs v e × Leads T v e ys w f
+  Leads-split [] ys u t w f h = (u, t, (refl, refl), h)
+  Leads-split (x ∷ xs) ys u t w f h =
+      let r = Leads-split xs ys h.0 h.1 w f h.3 in (r.0, r.1, (h.0, h.1, h.2, r.2), r.3)
+
+  pub Leads-later : (ns : List ℕ) (u t v e : ℕ) → Leads T u t ns v e → t ≤ e
+  Leads-later [] u t v e h = omega (arith, h.1)
+  Leads-later (n ∷ ns) u t v e h = omega (arith, timely.later n u t h.0 h.1 h.2, Leads-later ns h.0 h.1 v e h.3)
+
+  pub Leads-earlier : (ns : List ℕ) (u t v e s : ℕ) → Leads T u t ns v e → s ≤ t → (d : ℕ) × (d ≤ e) × Leads T u s ns v d
+  Leads-earlier [] u t v e s h le = (s, omega (arith, h.1), (h.0, refl))
+  Leads-earlier (n ∷ ns) u t v e s h le =
+      let first = timely.earlier n u t h.0 h.1 s h.2 le in
+      let rest = Leads-earlier ns h.0 h.1 v e first.0 h.3 first.1 in
+      (rest.0, rest.1, (h.0, first.0, first.2, rest.2))
+
+  pub Leads-one : (ns : List ℕ) (u t v e w f : ℕ) → Leads T u t ns v e → Leads T u t ns w f → (v ≡ w) × (e ≡ f)
+  Leads-one [] u t v e w f h k = (sym h.0 ∙ k.0, sym h.1 ∙ k.1)
+  Leads-one (n ∷ ns) u t v e w f h k =
+      let same = timely.one n u t h.0 h.1 k.0 k.1 h.2 k.2 in
+      Leads-one ns h.0 h.1 v e w f h.3 (rw (same.0, same.1) k.3)

@@ -1,0 +1,46 @@
+use Rattle.std.proofs.Common.{◌≡◌, true, false, slice_index, slice_index_or, ap, sym, subst, ◌∙◌, arith}
+use Rattle.std.proofs.lemmas.Bool.{both_ways}
+use Rattle.sabr_search.proofs.BackwardLemmas.Backward.{not_start}
+use Rattle.sabr_search.proofs.ForwardLemmas.Between.{read_at}
+use Rattle.sabr_search.proofs.WayLemmas.Bridge.{takes_timely}
+use Rattle.sabr_search.proofs.BackwardLemmas.LastSeconds.{risen, late_rises}
+use Rattle.sabr_search.proofs.ForwardLemmas.Queues.{set_here, set_other}
+use Rattle.sabr_search.proofs.backward.latest.Latest.take_sender.Goals as goal
+
+pub returns-then-node-to-clause-told : goal.returns-then-node-to-clause-told
+returns-then-node-to-clause-told g c = λ n t b has s less open' other.
+    omega (arith, less, (takes_timely c.args.task.now c.requires.task.nodes).later n c.args.from.node t c.args.to b s, c.requires.same, ap (slice_index c.args.self.now.late.items) c.if-node-to.true)
+
+pub returns-then-node-goal-clause-told : goal.returns-then-node-goal-clause-told
+returns-then-node-goal-clause-told g c = λ n t b has s less open' other. absurd (other (c.if-node-goal.true ∙ c.goal.ensures))
+
+pub returns-then-shut-node-clause-told : goal.returns-then-shut-node-clause-told
+returns-then-shut-node-clause-told g c = λ n t b has s less open' other.
+    absurd (both_ways (slice_index_or c.args.task.now.shut c.args.from.node false) open' (subst (λ xs. slice_index_or xs c.args.from.node false ≡ true) c.shut.ensures c.if-shut-node.true))
+
+pub leave_over-last-requires-clause-other : goal.leave_over-last-requires-clause-other
+leave_over-last-requires-clause-other g c = not_start c.args.task.now c.requires.task c.args.from.node (subst (λ xs. slice_index_or xs c.args.from.node false ≡ false) c.shut.ensures c.if-shut-node.false)
+
+pub returns-then-last-latest-clause-told : goal.returns-then-last-latest-clause-told
+returns-then-last-latest-clause-told g c = λ n t b has s less open' other.
+    let latest = read_at c.args.self.now.late.items c.args.from.node c.index-latest.result.now (omega (arith, c.requires.node, c.requires.rising.many)) c.index-latest.ensures in
+    omega (arith, c.leave_over-last.ensures.full n t c.args.to b has (omega arith) s less, c.if-last-latest.true, latest)
+
+pub returns-clause-rising : goal.returns-clause-rising
+returns-clause-rising g c =
+    let latest = read_at c.args.self.now.late.items c.args.from.node c.index-latest.result.now (omega (arith, c.requires.node, c.requires.rising.many)) c.index-latest.ensures in
+    risen c.args.task.now c.args.self.now.late.items c.args.self.now.taken.items c.args.self.now.queue _ c.args.to c.args.from.node c.leave_over-last.result _ 0 c.requires.rising c.requires.node
+    (λ same. c.if-node-goal.false (same ∙ sym c.goal.ensures)) (omega (arith, latest, c.if-last-latest.false)) c.in_ok-push.ensures.ok
+
+pub returns-clause-same : goal.returns-clause-same
+returns-clause-same g c = set_other c.args.self.now.late.items c.args.from.node c.leave_over-last.result c.args.to (λ same. c.if-node-to.false (sym same)) ∙ c.requires.same
+
+pub returns-clause-rises : goal.returns-clause-rises
+returns-clause-rises g c =
+    let latest = read_at c.args.self.now.late.items c.args.from.node c.index-latest.result.now (omega (arith, c.requires.node, c.requires.rising.many)) c.index-latest.ensures in
+    late_rises c.args.task.now c.args.self.now.late.items c.args.self.now.taken.items c.args.self.now.queue _ c.args.to c.args.from.node c.leave_over-last.result _ 0 c.requires.rising c.requires.node
+    (λ same. c.if-node-goal.false (same ∙ sym c.goal.ensures)) (omega (arith, latest, c.if-last-latest.false)) c.in_ok-push.ensures.ok
+
+pub returns-clause-told : goal.returns-clause-told
+returns-clause-told g c = λ n t b has s less open' other.
+    omega (arith, set_here c.args.self.now.late.items c.args.from.node c.leave_over-last.result (omega (arith, c.requires.node, c.requires.rising.many)), c.leave_over-last.ensures.full n t c.args.to b has (omega arith) s less)

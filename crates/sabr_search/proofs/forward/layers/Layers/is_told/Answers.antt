@@ -1,0 +1,23 @@
+use Rattle.std.proofs.Common.{◌≡◌, inl, inr, slice_index, sym, ◌∙◌, arith}
+use Rattle.std.proofs.lemmas.Bool.{cases_lt}
+use Rattle.sabr_search.proofs.ForwardLemmas.Between.{read_at}
+use Rattle.sabr_search.proofs.LinkLemmas.OverLinks.{ruled_out}
+use Rattle.sabr_search.proofs.forward.layers.Layers.is_told.Goals as goal
+
+pub returns-then-node-goal : goal.returns-then-node-goal
+returns-then-node-goal g c = λ told to passes n t w b link has s less. (
+  λ same since. absurd (c.if-node-start.false (same ∙ sym c.start.ensures)),
+  λ unshut other soon. absurd (other (c.if-node-goal.true ∙ c.goal.ensures)),
+)
+
+pub returns : goal.returns
+returns g c = λ told to passes n t w b link has s less. (
+  λ same since. absurd (c.if-node-start.false (same ∙ sym c.start.ensures)),
+  λ unshut other soon.
+      (let latest : c.index.result.now ≡ slice_index c.args.self.now.late.items c.args.head.node = read_at c.args.self.now.late.items c.args.head.node c.index.result.now (omega (arith, c.requires.node, c.requires.many)) c.index.ensures in
+      elim (cases_lt t (slice_index c.args.self.now.late.items c.args.head.node)) [
+        | inl before ↦ before
+        | inr behind ↦
+            absurd (omega (arith, less, ruled_out c.args.aim.now.task.now c.requires.task c.args.head.node to passes link.0 c.args.head.bounds link.1 c.max-at.result c.args.before (c.rules_out.ensures.late told) n t w b has (omega (arith, behind, soon, latest, c.max-at.ensures)) s))
+      ]),
+)

@@ -1,0 +1,21 @@
+use Rattle.std.proofs.Common.{◌+◌, length, ap, arith, inl, inr}
+use Rattle.sabr_search.proofs.BackwardLemmas.Front.{least_way}
+use Rattle.sabr_search.proofs.forward.layers.Layers.least_by.Goals as goal
+
+pub returns-in_default-clause-none : goal.returns-in_default-clause-none
+returns-in_default-clause-none g c =
+    let aim = c.args.aim.now in
+    elim (rw c.in_default.is at c.in_ok-made.ensures.none) [
+      | inl many ↦ omega (arith, many)
+      | inr none ↦ (let way = c.requires.way in absurd (omega (arith, none way.0 aim.delivery way.1 way.2)))
+    ]
+
+pub returns-clause-found : goal.returns-clause-found
+returns-clause-found g c =
+    let aim = c.args.aim.now in
+    let within = rw c.in-Some.is at c.in_ok-made.ensures.within in
+    let picked = rw c.in-Some-picked.is at c.in_ok-picked.ensures.picked in
+    record {
+      none = λ empty. absurd (omega (arith, ap length empty, picked.many));
+      some = λ some. least_way aim.task.now c.requires.task aim.since.now aim.delivery c.in-Some.left _ _ _ (rw c.in-Some.is at c.in_ok-made.ensures.met) c.args.hops (aim.delivery + 1) (omega (arith, within)) (omega arith) c.requires.least c.in-Some-picked.numbers.items picked;
+    }

@@ -1,0 +1,12 @@
+use Rattle.std.proofs.Common.{◌≡◌, ◌+◌, ◌≤◌}
+use Rattle.sabr_search.specs.questions.Steps.{sent_by_all}
+use Rattle.sabr_search.specs.layers.Lists.{IsLowered, GivenFrom, IsKnownFrom, nodes_between}
+use Rattle.sabr_search.proofs.forward.layers.Layers.next_layer.Given as goal
+
+abbrev pub invariant-loop-place : goal.invariant-loop-place
+invariant-loop-place g l = record {
+  bounds : l.self.bounds ≡ l.fn.self.bounds;
+  counted : l.looks.count ≤ l.fn.looks.count + sent_by_all l.task (nodes_between l.fn.self.reached.items l.first l.place);
+  lowered : IsLowered l.task.shut l.task.goal l.task.at l.begin (GivenFrom l.task l.fn.self.reached.items l.first l.begin) l.fn.self.arrival.items l.fn.self.reached.items l.best l.self.arrival.items l.self.place.items l.self.reached.items l.least;
+  known : IsKnownFrom l.task l.fn.self.reached.items l.first l.place l.self.arrival.items l.least;
+}

@@ -1,0 +1,90 @@
+use Rattle.std.proofs.Common.{◌≡◌, ◌+◌, inl, inr, length, slice_get, slice_index, sym, ap, ◌∙◌, arith}
+use Rattle.sabr_index.specs.Links.{SentLink}
+use Rattle.std.proofs.lemmas.Option.{slice_get_within}
+use Rattle.sabr_search.proofs.ForwardLemmas.Forward.{last_or_before}
+use Rattle.sabr_search.proofs.BackwardLemmas.LateLists.{in_time_kept, told_rises}
+use Rattle.sabr_search.proofs.LinkLemmas.Linking.{passes_within}
+use Rattle.sabr_search.proofs.LinkLemmas.StepLists.{sum_taken_le}
+use Rattle.sabr_search.proofs.forward.layers.Layers.take_senders.Goals as goal
+use Rattle.sabr_search.proofs.WayLemmas.Bridge.{same_some}
+
+pub take_sender-requires-clause-link : goal.take_sender-requires-clause-link
+take_sender-requires-clause-link g c = (c.senders-senders.ensures.each c.loop-place.place (record { sender = c.at-from.result.node; passes = c.at-from.result.passes.now }) c.at-from.ensures.link, c.at-from.ensures.bounds)
+
+pub take_sender-requires-clause-bounded : goal.take_sender-requires-clause-bounded
+take_sender-requires-clause-bounded g c = rw c.loop-place.invariant.ends c.requires.bounded
+
+pub take_sender-requires-clause-lists : goal.take_sender-requires-clause-lists
+take_sender-requires-clause-lists g c = rw c.loop-place.invariant.ends c.loop-place.invariant.lists
+
+pub take_sender-requires-clause-given : goal.take_sender-requires-clause-given
+take_sender-requires-clause-given g c = λ b less.
+    rw c.loop-place.invariant.ends (in_time_kept (slice_index c.args.self.now.ends.items c.args.left) (slice_index c.args.self.now.ends.items (c.args.left + 1)) c.loop-place.self.reached.items c.args.self.now.reached.items c.loop-place.invariant.kept c.args.to.node b (c.requires.given b less))
+
+pub is_told-requires-clause-node : goal.is_told-requires-clause-node
+is_told-requires-clause-node g c = c.senders-senders.ensures.senders c.loop-place.place (record { sender = c.head-head.result.node; passes = c.head-head.ensures.0 }) c.head-head.ensures.1
+
+pub loop-place-preserved-then-is_told : goal.loop-place-preserved-then-is_told
+loop-place-preserved-then-is_told g c =
+    let so_far = c.loop-place.invariant in
+    let here = c.head-head.ensures in
+    let link = c.senders-senders.ensures.each c.loop-place.place (record { sender = c.head-head.result.node; passes = here.0 }) here.1 in
+    record {
+      ends = so_far.ends;
+      limit = so_far.limit;
+      counted = omega (arith, so_far.counted, (passes_within c.args.aim.now.task.now c.args.to.node c.senders-senders.result c.senders-senders.ensures c.loop-place.place _ here.1).0);
+      lists = so_far.lists;
+      kept = so_far.kept;
+      rises = so_far.rises;
+      told = λ j s n t w b less at has step by. elim (last_or_before j c.loop-place.place less) [
+        | inl before ↦ so_far.told j s n t w b before at has step by
+        | inr same ↦
+            (let is : s ≡ record { sender = c.head-head.result.node; passes = here.0 } = same_some (sym at ∙ ap (slice_get c.senders-senders.result) same ∙ here.1) in
+            rw is (c.is_told.ensures c.if-is_told.true c.args.to.node here.0 n t w b (link, here.2) (rw is at has) (rw is at step) by))
+      ];
+    }
+
+pub loop-place-preserved : goal.loop-place-preserved
+loop-place-preserved g c =
+    let task = c.args.aim.now.task.now in
+    let so_far = c.loop-place.invariant in
+    let one = c.in_ok-met.ensures in
+    record {
+      ends = c.take_sender.ensures.ends ∙ so_far.ends;
+      limit = omega (arith, so_far.limit, c.take_sender.ensures.looks, c.if-from-most.false);
+      counted = omega (arith, so_far.counted, c.take_sender.ensures.looks, (passes_within task c.args.to.node c.senders-senders.result c.senders-senders.ensures c.loop-place.place _ c.at-from.ensures.link).0);
+      lists = rw so_far.ends at one.lists;
+      kept = rw so_far.ends at one.kept ∙ so_far.kept;
+      rises = λ k. omega (arith, so_far.rises k, one.rises k);
+      told = λ j s n t w b less at has step by. elim (last_or_before j c.loop-place.place less) [
+        | inl before ↦ told_rises task c.args.aim.now.since.now _ _ s.sender t one.rises (so_far.told j s n t w b before at has step by)
+        | inr same ↦
+            (let is : s ≡ record { sender = c.at-from.result.node; passes = c.at-from.result.passes.now } = same_some (sym at ∙ ap (slice_get c.senders-senders.result) same ∙ c.at-from.ensures.link) in
+            rw is (one.told c.if-met.false n t w b (rw is at has) (rw is at step) by))
+      ];
+    }
+
+pub returns-then-from-most-clause-none : goal.returns-then-from-most-clause-none
+returns-then-from-most-clause-none g c =
+    omega (arith, c.if-from-most.true, c.loop-place.invariant.counted, (passes_within c.args.aim.now.task.now c.args.to.node c.senders-senders.result c.senders-senders.ensures c.loop-place.place _ c.at-from.ensures.link).1)
+
+pub returns-then-from-most-clause-counted : goal.returns-then-from-most-clause-counted
+returns-then-from-most-clause-counted g c =
+    omega (arith, c.loop-place.invariant.counted, (passes_within c.args.aim.now.task.now c.args.to.node c.senders-senders.result c.senders-senders.ensures c.loop-place.place _ c.at-from.ensures.link).1)
+
+pub returns-in_err-met-clause-counted : goal.returns-in_err-met-clause-counted
+returns-in_err-met-clause-counted g c =
+    omega (arith, c.take_sender.ensures.looks, c.loop-place.invariant.counted, (passes_within c.args.aim.now.task.now c.args.to.node c.senders-senders.result c.senders-senders.ensures c.loop-place.place _ c.at-from.ensures.link).1)
+
+pub returns-then-met-clause-counted : goal.returns-then-met-clause-counted
+returns-then-met-clause-counted g c =
+    omega (arith, c.take_sender.ensures.looks, c.loop-place.invariant.counted, (passes_within c.args.aim.now.task.now c.args.to.node c.senders-senders.result c.senders-senders.ensures c.loop-place.place _ c.at-from.ensures.link).1)
+
+pub returns-clause-counted : goal.returns-clause-counted
+returns-clause-counted g c =
+    omega (arith, c.loop-place.invariant.counted, sum_taken_le (λ (x : SentLink). length x.passes) c.senders-senders.result c.loop-place.place, c.senders-senders.ensures.few)
+
+pub returns-clause-told : goal.returns-clause-told
+returns-clause-told g c = λ same n u t b step by.
+    let on = c.senders-senders.ensures.whole n u t b step in
+    rw (← on.3) (c.loop-place.invariant.told on.0 on.1 n t c.args.to.node b (omega (arith, slice_get_within c.senders-senders.result on.0 on.1 on.2, c.loop-place-test.false, c.len-place-end.ensures)) on.2 on.4 (rw (← on.3) at step) by)

@@ -1,0 +1,62 @@
+use Rattle.std.proofs.Common.{◌≡◌, inl, inr, Some, slice_get, slice_index_or, ap, sym, ◌∙◌, arith}
+use Rattle.std.proofs.lemmas.Option.{slice_get-get_or, slice_get_within}
+use Rattle.sabr_search.specs.declared.backward.pick.Standing.{Standing}
+use Rattle.sabr_search.specs.questions.Task.{never}
+use Rattle.sabr_search.proofs.WayLemmas.Bridge.{same_some}
+use Rattle.sabr_search.proofs.ForwardLemmas.Forward.{known_lower, known_old, known_later, last_or_before}
+use Rattle.sabr_search.proofs.ForwardLemmas.FirstWays.{start_settled}
+use Rattle.sabr_search.proofs.ForwardLemmas.Queues.{fallen_more}
+use Rattle.sabr_search.proofs.forward.settling.Settling.settle_start.Goals as goal
+use Rattle.sabr_search.proofs.forward.settling.Settling.settle_start.Goals.{then-step-news_before+in_ok-best, else-step-news_before}
+
+pub reach-requires-clause-step : goal.reach-requires-clause-step
+reach-requires-clause-step g c = λ open'.
+    let none : Standing = record { node = 0; at = 0 } in
+    let at = slice_get-get_or c.args.first.now c.loop-place.place none c.loop-place-test.true in
+    rw (c.start.ensures, c.at.ensures) (c.requires.real c.loop-place.place _ at)
+
+pub loop-place-preserved : goal.loop-place-preserved
+loop-place-preserved g c =
+    let task = c.args.forward.now.task.now in
+    let first = c.args.first.now in
+    let i = c.loop-place.place in
+    let none : Standing = record { node = 0; at = 0 } in
+    let step : Standing = slice_index_or first i none in
+    let here : slice_get first i ≡ Some step = slice_get-get_or first i none c.loop-place-test.true in
+    let so_far = c.loop-place.invariant in
+    elim c.if-step-news_before.branch [
+      | then-step-news_before+in_ok-best w ↦ rw (w.self-is, w.best-is)
+          (let gained = rw so_far.settled at w.in_ok-best.ensures.fallen in
+          record {
+            settled = ap (λ v. v.items) w.reach.ensures.settled ∙ so_far.settled;
+            state = rw so_far.settled at w.in_ok-best.ensures.state;
+            fallen = fallen_more _ _ _ _ _ _ _ so_far.fallen gained;
+            known = λ k s less at. elim (last_or_before k i less) [
+              | inl before ↦ known_lower task.goal _ _ _ _ s.node s.at gained.lowered gained.lower (so_far.known k s before at)
+              | inr same ↦ rw (same_some (sym at ∙ ap (slice_get first) same ∙ here)) w.in_ok-best.ensures.known
+            ];
+          })
+      | else-step-news_before w ↦ rw (w.self-is, w.best-is)
+          (record {
+            settled = so_far.settled;
+            state = so_far.state;
+            fallen = so_far.fallen;
+            known = λ k s less at. elim (last_or_before k i less) [
+              | inl before ↦ so_far.known k s before at
+              | inr same ↦
+                  rw (same_some (sym at ∙ ap (slice_get first) same ∙ here))
+                  (known_old task.goal c.loop-place.self.arrival.items c.loop-place.best.delivery step.node c.news_before.result step.at c.news_before.ensures.goal (rw c.deref.ensures.value at c.news_before.ensures.other) (omega (arith, w.if-step-news_before.false)))
+            ];
+          })
+    ]
+
+pub returns-clause-state : goal.returns-clause-state
+returns-clause-state g c =
+    let forward = c.args.forward.now in
+    let task = forward.task.now in
+    let so_far = c.loop-place.invariant in
+    start_settled task c.requires.task c.args.self.now.settled.items c.loop-place.self.settled.items c.start.result c.requires.settled c.start.ensures so_far.settled forward.late.now c.args.self.now.arrival.items c.requires.arrivals
+    c.at.result c.loop-place.self.arrival.items c.loop-place.self.queue (record { delivery = never; hops = 0 }) c.loop-place.best (rw so_far.settled so_far.state) (rw so_far.settled so_far.fallen)
+    (λ n w x s.
+    (let on = c.requires.steps n w x s in
+    known_later task.goal _ _ w on.1.at x on.4 (rw on.3 at (so_far.known on.0 on.1 (omega (arith, slice_get_within c.args.first.now on.0 on.1 on.2, c.loop-place-test.false)) on.2))))

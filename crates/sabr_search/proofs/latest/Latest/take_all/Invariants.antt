@@ -1,9 +1,0 @@
-use Rattle.std.proofs.Common.{◌≤◌, length}
-use Rattle.sabr_search.specs.Latest.{AreRising}
-use Rattle.sabr_search.proofs.latest.Latest.take_all.Given as goal
-
-abbrev pub invariant-loop : goal.invariant-loop
-invariant-loop g l = record {
-  limit : l.looks.count ≤ l.most;
-  rising : AreRising l.task l.self.late.items l.self.taken.items l.self.queue (length l.task.table);
-}

@@ -1,0 +1,4 @@
+-- What is kept from one question for later ones.
+pub mod KeptAnswers
+pub mod Kept
+pub mod Answers

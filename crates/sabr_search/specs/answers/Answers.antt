@@ -1,0 +1,36 @@
+-- The law of kept answers: an answer to one question answers later ones, too.
+use Rattle.std.specs.Prelude.{◌≡◌, ℕ, ◌+◌, ◌≤◌, Bool, false, List, ◌++◌, length, slice_index_or}
+use Rattle.std.specs.declared.option.Option.{Option}
+use Rattle.std.specs.declared.option.Option.TheVariants.{Some, None}
+use Rattle.sabr_model.specs.routes.Record.{RouteRecord}
+use Rattle.sabr_search.specs.questions.Told.{IsTold}
+use Rattle.sabr_search.specs.questions.Ways.{Leads}
+use Rattle.sabr_search.specs.questions.Task.{SearchTask, HasNodes, Takes, left_of}
+use Rattle.sabr_search.specs.layers.Picks.{IsLeastWay}
+
+-- the same search, with these nodes shut and from this second on
+abbrev pub narrowed : SearchTask → List Bool → ℕ → SearchTask
+narrowed task shut at = record task { shut = shut; at = at }
+
+-- the search starts no earlier, and each node that was shut is still shut
+pub record Narrows (task : SearchTask) (shut : List Bool) (at : ℕ) : Type 0 where
+  pub later : task.at ≤ at
+  pub shuts : (k : ℕ) → slice_index_or shut k false ≡ false → slice_index_or task.shut k false ≡ false
+
+-- no way of at most h hops leads to the goal
+abbrev pub HasNoWayWithin : SearchTask → ℕ → Type 0
+HasNoWayWithin task hops = (ns : List ℕ) (e : ℕ) → length ns ≤ hops → Leads (Takes task) task.start task.at ns task.goal e → ⊥
+
+-- The least way stays the least if more nodes are shut, the search starts no earlier and no more hops are left. It has
+-- to be one that may still be taken and delivers at the same second. If there was no way, there still is none.
+pub record AnswersStay : Type 0 where
+  pub least : (task : SearchTask) (shut : List Bool) (at hops fewer ceiling : ℕ) (s : List ℕ) (d : ℕ) → HasNodes task.plan task.table → Narrows task shut at → fewer ≤ hops
+      → IsLeastWay task hops ceiling s d → length s ≤ fewer → Leads (Takes (narrowed task shut at)) task.start at s task.goal d
+      → IsLeastWay (narrowed task shut at) fewer ceiling s d
+  pub none : (task : SearchTask) (shut : List Bool) (at hops fewer : ℕ) → HasNodes task.plan task.table → Narrows task shut at → fewer ≤ hops
+      → HasNoWayWithin task hops → HasNoWayWithin (narrowed task shut at) fewer
+
+-- the answer after a prefix: the route goes on by the least way, or no way leads to the goal
+abbrev pub IsAnswered : SearchTask → List ℕ → Option RouteRecord → Type 0
+IsAnswered task prefix None = HasNoWayWithin task (left_of task prefix)
+IsAnswered task prefix (Some route) = (s : List ℕ) × (route.contacts ≡ prefix ++ s) × IsLeastWay task (left_of task prefix) (route.delivery + 1) s route.delivery × IsTold task.plan route

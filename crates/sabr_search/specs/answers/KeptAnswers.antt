@@ -1,0 +1,72 @@
+-- Answers that are kept: of which question each is the answer, and which questions it answers by the law of answers.
+use Rattle.std.specs.Prelude.{◌≡◌, ◌⊎◌, ℕ, ◌+◌, ◌≤◌, ◌<◌, Bool, true, false, List, [], length, slice_get, slice_index_or}
+use Rattle.std.specs.declared.option.Option.TheVariants.{Some}
+use Rattle.sabr_model.specs.declared.contact.Contact.{Contact}
+use Rattle.sabr_model.specs.plan.Plan.{TabledPlan, contact_named}
+use Rattle.sabr_model.specs.routes.Arrival.{RouteRequest, arrival}
+use Rattle.sabr_search.specs.declared.answers.Answer.{Answer}
+use Rattle.sabr_search.specs.declared.backward.pick.Standing.{Standing}
+use Rattle.sabr_search.specs.questions.Ways.{Leads}
+use Rattle.sabr_search.specs.questions.Task.{SearchTask, Takes}
+use Rattle.sabr_search.specs.layers.Picks.{IsLeastWay}
+use Rattle.sabr_search.specs.answers.Answers.{HasNoWayWithin}
+
+-- what was asked, with these nodes shut and this goal
+abbrev pub asked : {A : Type 0} → TabledPlan → RouteRequest → Answer A → List Bool → ℕ → SearchTask
+asked p r a shut goal = record { plan = p.plan; request = r; table = p.table; shut = shut; excluded = a.excluded.items; start = a.from.node; goal = goal; at = a.from.at }
+
+-- the places of the nodes that are shut are listed
+abbrev pub AreListed : List Bool → List ℕ → Type 0
+AreListed shut nodes = (k : ℕ) → slice_index_or shut k false ≡ true → (i : ℕ) × (slice_get nodes i ≡ Some k)
+
+-- each of these nodes is shut
+abbrev pub AllShut : List Bool → List ℕ → Type 0
+AllShut shut nodes = (i k : ℕ) → slice_get nodes i ≡ Some k → slice_index_or shut k false ≡ true
+
+-- these nodes are those that are shut, each once
+pub record IsListing (shut : List Bool) (nodes : List ℕ) : Type 0 where
+  pub listed : AreListed shut nodes
+  pub all : AllShut shut nodes
+  pub once : (i j k : ℕ) → slice_get nodes i ≡ Some k → slice_get nodes j ≡ Some k → i ≡ j
+
+-- the numbers of the least way and when it delivers, or no numbers where there is no way
+pub record IsFoundWay (task : SearchTask) (left : ℕ) (numbers : List ℕ) (delivery : ℕ) : Type 0 where
+  pub none : numbers ≡ [] → HasNoWayWithin task left
+  pub some : 0 < length numbers → IsLeastWay task left (delivery + 1) numbers delivery
+
+-- the answer to a question to the destination: the least way, or no numbers where there is none
+pub record IsAnswer {A : Type 0} (p : TabledPlan) (r : RouteRequest) (a : Answer A) : Type 0 where
+  pub flags : List Bool
+  pub goal : ℕ
+  pub goal_is : slice_get p.table goal ≡ Some r.destination
+  pub listed : AreListed flags a.shut.items
+  pub found : IsFoundWay (asked p r a flags goal) a.left a.way.items a.delivery
+
+-- the search starts at the same node and no earlier, excludes the same numbers, shuts these nodes, too, and leaves no more hops
+pub record Covers {A : Type 0} (a : Answer A) (task : SearchTask) (left : ℕ) : Type 0 where
+  pub node : a.from.node ≡ task.start
+  pub later : a.from.at ≤ task.at
+  pub fewer : left ≤ a.left
+  pub same : a.excluded.items ≡ task.excluded
+  pub shuts : AllShut task.shut a.shut.items
+
+-- and its way, if it has one, may be taken still, and delivers at the same second
+pub record IsAnswerTo {A : Type 0} (a : Answer A) (task : SearchTask) (left : ℕ) : Type 0 where
+  pub covers : Covers a task left
+  pub way : 0 < length a.way.items → (length a.way.items ≤ left) × Leads (Takes task) task.start task.at a.way.items task.goal a.delivery
+
+-- so the answer at this place
+abbrev pub AnswersAt : {A : Type 0} → List (Answer A) → ℕ → SearchTask → ℕ → Type 0
+AnswersAt {A} answers place task left = (a : Answer A) × (slice_get answers place ≡ Some a) × IsAnswerTo a task left
+
+-- each of these is the one that was put there, or was among them before
+abbrev pub IsPut : {A : Type 0} → List (Answer A) → List (Answer A) → Answer A → Type 0
+IsPut {A} old new a = (k : ℕ) (x : Answer A) → slice_get new k ≡ Some x → (x ≡ a) ⊎ ((j : ℕ) × (slice_get old j ≡ Some x))
+
+-- contact n takes what is at its sender at second t to an open node
+pub record Arrives (task : SearchTask) (n t : ℕ) (s : Standing) : Type 0 where
+  pub contact : Contact
+  pub named : contact_named task.plan n ≡ Some contact
+  pub receiver : slice_get task.table s.node ≡ Some contact.to
+  pub unshut : slice_index_or task.shut s.node false ≡ false
+  pub arrives : arrival task.plan task.request t contact ≡ Some s.at

@@ -1,0 +1,11 @@
+-- Layers by hops, forward and backward, arrivals in order, and the last seconds.
+pub mod Layers
+pub mod Front
+pub mod Lists
+pub mod Made
+pub mod Late
+pub mod Settling
+pub mod Deadlines
+pub mod Picks
+pub mod Reach
+pub mod Latest

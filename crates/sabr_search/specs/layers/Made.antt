@@ -1,0 +1,45 @@
+-- Hop layers while they are made: the layers as entries, and what holds once some are made.
+use Rattle.std.specs.Prelude.{◌≡◌, ◌⊎◌, ℕ, ◌+◌, ◌≤◌, ◌<◌, List, length, false, slice_get, slice_index, slice_index_or}
+use Rattle.std.specs.declared.option.Option.TheVariants.{Some}
+use Rattle.sabr_search.specs.declared.forward.layers.Reached.{Reached}
+use Rattle.sabr_search.specs.declared.forward.layers.Best.{Best}
+use Rattle.sabr_search.specs.questions.Ways.{Leads}
+use Rattle.sabr_search.specs.layers.Layers.{Entries, IsTaken}
+use Rattle.sabr_search.specs.questions.Task.{SearchTask, Takes, never}
+use Rattle.sabr_search.specs.layers.Lists.{AreLists, AreClosed}
+
+-- layer h is made of the entries from its bound to before the next
+abbrev pub Entry : List ℕ → List Reached → Entries
+Entry bounds reached h v a x = (p : ℕ) × (slice_index bounds h ≤ p) × (p < slice_index bounds (h + 1)) × (slice_get reached p ≡ Some (record { node = v; arrival = a; deadline = x }))
+
+-- nothing is reached but the start; an open node is as if it were reached when it is too late there
+pub record AreOpened (task : SearchTask) (late arrival : List ℕ) : Type 0 where
+  pub flags : length arrival ≡ length task.shut
+  pub closed : AreClosed task.shut arrival task.at
+  pub start : slice_index arrival task.start ≡ task.at
+  pub unreached : (k : ℕ) → k < length arrival → slice_index_or task.shut k false ≡ false → slice_index arrival k ≡ slice_index_or late k never
+
+-- no delivery is found, or one within so many hops
+abbrev pub IsFound : SearchTask → ℕ → Best → Type 0
+IsFound task hop best =
+    ((best.hops ≡ 0) × (best.delivery ≡ never))
+    ⊎ ((0 < best.hops) × (best.hops ≤ hop) × (best.delivery < never) × ((ns : List ℕ) × (length ns ≡ best.hops) × Leads (Takes task) task.start task.at ns task.goal best.delivery))
+
+-- the least delivery within so many hops, and the hops of a way with it; no hops if no way leads to the goal
+pub record IsBestWithin (task : SearchTask) (hops : ℕ) (best : Best) : Type 0 where
+  pub least : (ns : List ℕ) (e : ℕ) → length ns ≤ hops → Leads (Takes task) task.start task.at ns task.goal e → best.delivery ≤ e
+  pub found : IsFound task hops best
+
+-- layers up to `hop` are made
+pub record AreLayers (task : SearchTask) (hop : ℕ) (bounds arrival place : List ℕ) (reached : List Reached) (best : Best) : Type 0 where
+  pub lists : AreLists task.shut task.goal task.at (slice_index bounds (hop + 1)) arrival place reached
+  pub many : length bounds ≡ hop + 2
+  pub first_bound : slice_index bounds 0 ≡ 0
+  pub second_bound : slice_index bounds 1 ≡ 1
+  pub rising : (j : ℕ) → j ≤ hop → slice_index bounds j ≤ slice_index bounds (j + 1)
+  pub last_bound : slice_index bounds (hop + 1) ≡ length reached
+  pub begins : slice_get reached 0 ≡ Some (record { node = task.start; arrival = task.at; deadline = 0 })
+  pub apart : (h p q : ℕ) (e f : Reached) → h ≤ hop → slice_index bounds h ≤ p → slice_index bounds h ≤ q → p < slice_index bounds (h + 1) → q < slice_index bounds (h + 1) → slice_get reached p ≡ Some e → slice_get reached q ≡ Some f → e.node ≡ f.node → p ≡ q
+  pub real : (h v a x : ℕ) → Entry bounds reached h v a x → (ns : List ℕ) × (length ns ≡ h) × Leads (Takes task) task.start task.at ns v a
+  pub taken : IsTaken (Takes task) (Entry bounds reached) hop best.delivery
+  pub found : IsFound task hop best

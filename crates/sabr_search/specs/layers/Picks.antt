@@ -1,0 +1,41 @@
+-- The least numbers from the front, and the least way of a search.
+use Rattle.std.specs.Prelude.{◌≡◌, ℕ, ◌≤◌, ◌<◌, List, length, false, slice_index_or}
+use Rattle.std.specs.declared.option.Option.{Option}
+use Rattle.std.specs.declared.option.Option.TheVariants.{Some, None}
+use Rattle.sabr_search.specs.declared.forward.layers.Reached.{Reached}
+use Rattle.sabr_search.specs.declared.backward.pick.Step.{Step}
+use Rattle.sabr_search.specs.questions.Ways.{Leads}
+use Rattle.sabr_search.specs.layers.Front.{IsNotAfter}
+use Rattle.sabr_search.specs.questions.Task.{SearchTask, Takes}
+use Rattle.sabr_search.specs.layers.Deadlines.{IsInTime}
+
+-- there is a step, and its number is at most n
+abbrev pub IsAtMost : Option Step → ℕ → Type 0
+IsAtMost None n = ⊥
+IsAtMost (Some s) n = s.number ≤ n
+
+-- a step from node u at t that arrives at node w before a second, if that node is open
+abbrev pub IsStepOver : SearchTask → ℕ → ℕ → ℕ → ℕ → Step → Type 0
+IsStepOver task u t w before s = (s.node ≡ w) × (s.at < before) × (slice_index_or task.shut w false ≡ false → Takes task s.number u t w s.at)
+
+-- a step in time from node u at t, with the least number
+pub record IsLeastStep (task : SearchTask) (ends : List ℕ) (reached : List Reached) (hops u t : ℕ) (s : Step) : Type 0 where
+  pub step : Takes task s.number u t s.node s.at
+  pub in_time : IsInTime ends reached hops s.node s.at
+  pub least : (n w b : ℕ) → Takes task n u t w b → IsInTime ends reached hops w b → s.number ≤ n
+
+-- the numbers lead to the goal with this delivery and number of hops, and no others that do come before them
+pub record IsPicked (task : SearchTask) (hops d : ℕ) (s : List ℕ) : Type 0 where
+  pub many : length s ≡ hops
+  pub way : Leads (Takes task) task.start task.at s task.goal d
+  pub front : (ns : List ℕ) (e : ℕ) → length ns ≡ hops → Leads (Takes task) task.start task.at ns task.goal e → e ≤ d → IsNotAfter s ns
+
+-- the way of the least delivery, hops and numbers among those of at most `hops` hops, with a delivery before `ceiling`
+pub record IsLeastWay (task : SearchTask) (hops ceiling : ℕ) (s : List ℕ) (d : ℕ) : Type 0 where
+  pub some : 0 < length s
+  pub within : length s ≤ hops
+  pub below : d < ceiling
+  pub way : Leads (Takes task) task.start task.at s task.goal d
+  pub fewest : (ns : List ℕ) (e : ℕ) → length ns < length s → Leads (Takes task) task.start task.at ns task.goal e → d < e
+  pub least : (ns : List ℕ) (e : ℕ) → length ns ≤ hops → Leads (Takes task) task.start task.at ns task.goal e → d ≤ e
+  pub front : (ns : List ℕ) (e : ℕ) → length ns ≡ length s → Leads (Takes task) task.start task.at ns task.goal e → e ≤ d → IsNotAfter s ns

@@ -1,0 +1,35 @@
+-- What bounds every search of a request over a plan, over the whole graph.
+use Rattle.std.specs.Prelude.{◌≡◌, ◌≢◌, ℕ, ◌≤◌, List, [], false, slice_get, slice_index_or}
+use Rattle.std.specs.declared.option.Option.TheVariants.{Some}
+use Rattle.sabr_model.specs.declared.contact.Contact.{Contact}
+use Rattle.sabr_model.specs.plan.Plan.{TabledPlan, contact_named}
+use Rattle.sabr_model.specs.routes.Arrival.{RouteRequest, arrival}
+use Rattle.sabr_search.specs.declared.reach.Reach.{Reach}
+use Rattle.sabr_search.specs.questions.Task.{is_closed, never}
+
+-- contact n takes what is there at second t from the node at place u to the node at place w at second b, which is neither
+-- the source nor avoided
+pub record Goes (p : TabledPlan) (r : RouteRequest) (n u t w b : ℕ) : Type 0 where
+  pub contact : Contact
+  pub named : contact_named p.plan n ≡ Some contact
+  pub sender : slice_get p.table u ≡ Some contact.from
+  pub receiver : slice_get p.table w ≡ Some contact.to
+  pub unshut : is_closed p.plan r [] contact.to ≡ false
+  pub arrives : arrival p.plan r t contact ≡ Some b
+
+-- the node at the place is neither the source nor avoided nor the destination
+pub record IsBetween (p : TabledPlan) (r : RouteRequest) (v : ℕ) : Type 0 where
+  pub node : ℕ
+  pub stands : slice_get p.table v ≡ Some node
+  pub unshut : is_closed p.plan r [] node ≡ false
+  pub other : node ≢ r.destination
+
+-- by node a second from which on no way over the whole graph leads to the destination, as far as the list goes: no step
+-- leads from there to where it isn't too late
+pub record AreLateFor (p : TabledPlan) (r : RouteRequest) (late : List ℕ) : Type 0 where
+  pub goal : (g : ℕ) → slice_get p.table g ≡ Some r.destination → never ≤ slice_index_or late g never
+  pub steps : (n u t w b : ℕ) → Goes p r n u t w b → IsBetween p r u → slice_index_or late u never ≤ t → slice_index_or late w never ≤ b
+
+-- what is known of the ways of every question of the request is true
+abbrev pub IsReach : {A : Type 0} → TabledPlan → RouteRequest → Reach A → Type 0
+IsReach p r reach = AreLateFor p r reach.late.items

@@ -1,0 +1,10 @@
+-- The question of a part, its ways, and the least of them.
+pub mod Ways
+pub mod Task
+pub mod Steps
+pub mod Linked
+pub mod Told
+pub mod Course
+pub mod Part
+pub mod FirstSteps
+pub mod WideTasks

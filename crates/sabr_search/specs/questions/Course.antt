@@ -1,0 +1,45 @@
+-- Where a prefix leads, stop by stop, and which nodes are shut after it.
+use Rattle.std.specs.Prelude.{◌≡◌, ℕ, ◌+◌, Bool, false, List, length, take, slice_get, slice_index_or, IsTrue}
+use Rattle.std.specs.declared.option.Option.TheVariants.{Some}
+use Rattle.sabr_model.specs.plan.Plan.{TabledPlan, IsPlan}
+use Rattle.sabr_model.specs.plan.Table.{node_count}
+use Rattle.sabr_model.specs.plan.Tabled.{IsTabled}
+use Rattle.sabr_model.specs.routes.Arrival.{RouteRequest, arrival_after}
+use Rattle.sabr_model.specs.routes.Asking.{IsRequest}
+use Rattle.sabr_model.specs.routes.Route.{chain_end, is_prefix}
+use Rattle.sabr_search.specs.declared.course.Course.{Course}
+use Rattle.sabr_search.specs.declared.backward.pick.Standing.{Standing}
+use Rattle.sabr_search.specs.questions.Task.{IsTask, IsBehind, task_of, is_closed}
+
+-- the nodes that pass the test are shut, and no other
+pub record AreShut (table : List ℕ) (shut : List Bool) (test : ℕ → Bool) : Type 0 where
+  pub many : length shut ≡ length table
+  pub flag : (k x : ℕ) → slice_get table k ≡ Some x → slice_index_or shut k false ≡ test x
+
+-- the numbers lead to this node, and arrive there at this second
+pub record IsStop (p : TabledPlan) (r : RouteRequest) (numbers : List ℕ) (stop : Standing) : Type 0 where
+  pub last_node : ℕ
+  pub chained : chain_end p.plan r.source numbers ≡ Some last_node
+  pub stands : slice_get p.table stop.node ≡ Some last_node
+  pub arrives : arrival_after p.plan r r.at numbers ≡ Some stop.at
+
+-- each stop is where as many of the numbers lead as there are stops before it
+abbrev pub AreStops : TabledPlan → RouteRequest → List ℕ → List Standing → Type 0
+AreStops p r numbers stops = (i : ℕ) (stop : Standing) → slice_get stops i ≡ Some stop → IsStop p r (take i numbers) stop
+
+-- the course is of this plan and request, which keep their rules: its numbers fit, it has their stops and no other, and
+-- shuts the nodes that no route goes on to after them
+pub record IsCourse {A : Type 0} (p : TabledPlan) (r : RouteRequest) (course : Course A) : Type 0 where
+  pub plan : IsPlan p.plan
+  pub tabled : IsTabled p
+  pub nodes : length p.table ≡ node_count p.plan.contacts
+  pub asked : IsRequest r
+  pub fits : IsTrue (is_prefix p.plan r course.numbers.items)
+  pub many : length course.stops.items ≡ length course.numbers.items + 1
+  pub stops : AreStops p r course.numbers.items course.stops.items
+  pub shuts : AreShut p.table course.shut (is_closed p.plan r course.numbers.items)
+  pub goal_is : slice_get p.table course.goal ≡ Some r.destination
+
+-- the search that starts and goes there keeps the rules and starts where the prefix ends, whatever is excluded
+abbrev pub IsEntered : TabledPlan → RouteRequest → List ℕ → List Bool → ℕ → ℕ → ℕ → Type 0
+IsEntered p r prefix shut start at goal = (excluded : List ℕ) → IsTask (task_of p r shut excluded start at goal) × IsBehind (task_of p r shut excluded start at goal) prefix

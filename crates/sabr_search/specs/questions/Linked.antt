@@ -1,0 +1,65 @@
+-- The links that a search walks at one node: the contacts that it sends, by receiver, as passes.
+use Rattle.std.specs.Prelude.{◌≡◌, ℕ, ◌+◌, ◌-◌, ◌<◌, ◌≤◌, List, length, take, drop, slice_get}
+use Rattle.std.specs.List.{sum_by}
+use Rattle.std.specs.declared.option.Option.TheVariants.{Some}
+use Rattle.sabr_model.specs.declared.contact.Contact.{Contact}
+use Rattle.sabr_index.specs.declared.link.Pass.{Pass}
+use Rattle.sabr_index.specs.declared.link.Link.{Link}
+use Rattle.sabr_index.specs.declared.link.LinkBounds.{LinkBounds}
+use Rattle.sabr_model.specs.plan.Plan.{contact_named}
+use Rattle.sabr_model.specs.plan.Light.{light_of}
+use Rattle.sabr_index.specs.Links.{IsBefore, IsInRow, AreWithin, SentLink}
+use Rattle.sabr_search.specs.questions.Task.{SearchTask, Takes}
+use Rattle.sabr_search.specs.questions.Steps.{degree, received}
+
+-- the pass is a standing contact with a light time, from the node at place u to the node at place w
+pub record IsPassAt (task : SearchTask) (u w : ℕ) (x : Pass) : Type 0 where
+  pub contact : Contact
+  pub named : contact_named task.plan x.number ≡ Some contact
+  pub sender : slice_get task.table u ≡ Some contact.from
+  pub receiver : slice_get task.table w ≡ Some contact.to
+  pub start : x.start ≡ contact.start
+  pub end : x.end ≡ contact.end
+  pub light : light_of task.plan contact ≡ Some x.light
+
+-- passes sorted by start, each within the bounds that are kept beside the others
+abbrev pub AreInOrder : List Pass → Type 0
+AreInOrder passes = (i k : ℕ) (x y : Pass) → i ≤ k → slice_get passes i ≡ Some x → slice_get passes k ≡ Some y → IsBefore x y
+
+-- passes from the node at place u to the node at place w, in order; each keeps how many consecutive numbers follow it
+pub record IsLinkAt (task : SearchTask) (u w : ℕ) (passes : List Pass) : Type 0 where
+  pub each : (k : ℕ) (x : Pass) → slice_get passes k ≡ Some x → IsPassAt task u w x
+  pub kept : AreInOrder passes
+  pub in_rows : (i j : ℕ) (x y : Pass) → slice_get passes i ≡ Some x → slice_get passes (i + j) ≡ Some y → IsInRow x j y
+
+-- the same, and within the bounds of the link
+abbrev pub IsLinkWithin : SearchTask → ℕ → ℕ → List Pass → LinkBounds → Type 0
+IsLinkWithin task u w passes bounds = IsLinkAt task u w passes × AreWithin bounds passes
+
+-- one of the passes has the number
+abbrev pub HasNumber : List Pass → ℕ → Type 0
+HasNumber passes n = (k : ℕ) × (x : Pass) × (slice_get passes k ≡ Some x) × (x.number ≡ n)
+
+-- the passes at the places of the link
+abbrev pub passes_of : List Pass → Link → List Pass
+passes_of passes l = take (l.end - l.first) (drop l.first passes)
+
+-- the links of the node at place u, one after another, each within its bounds: every step from there is over a pass of
+-- one of them, and there are no more passes than the node has contacts
+pub record AreLinksAt (task : SearchTask) (u : ℕ) (links : List Link) (passes : List Pass) : Type 0 where
+  pub receivers : (j : ℕ) (l : Link) → slice_get links j ≡ Some l → l.receiver < length task.table
+  pub ordered : (j : ℕ) (l : Link) → slice_get links j ≡ Some l → l.first ≤ l.end
+  pub within : (j : ℕ) (l : Link) → slice_get links j ≡ Some l → l.end ≤ length passes
+  pub each : (j : ℕ) (l : Link) → slice_get links j ≡ Some l → IsLinkAt task u l.receiver (passes_of passes l)
+  pub bounds : (j : ℕ) (l : Link) → slice_get links j ≡ Some l → AreWithin l.bounds (passes_of passes l)
+  pub in_row : (j : ℕ) (l m : Link) → slice_get links j ≡ Some l → slice_get links (j + 1) ≡ Some m → l.end ≤ m.first
+  pub whole : (n t w b : ℕ) → Takes task n u t w b → (j : ℕ) × (l : Link) × (slice_get links j ≡ Some l) × HasNumber (passes_of passes l) n
+  pub few : length passes ≤ degree task u
+
+-- the links to the node at place w: each goes from its sender to there, every step to there is over a pass of one of
+-- them, and together they have no more passes than the node receives contacts
+pub record AreSendersAt (task : SearchTask) (w : ℕ) (links : List SentLink) : Type 0 where
+  pub senders : (j : ℕ) (s : SentLink) → slice_get links j ≡ Some s → s.sender < length task.table
+  pub each : (j : ℕ) (s : SentLink) → slice_get links j ≡ Some s → IsLinkAt task s.sender w s.passes
+  pub whole : (n u t b : ℕ) → Takes task n u t w b → (j : ℕ) × (s : SentLink) × (slice_get links j ≡ Some s) × (s.sender ≡ u) × HasNumber s.passes n
+  pub few : sum_by (λ s. length s.passes) links ≤ received task w

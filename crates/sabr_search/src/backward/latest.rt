@@ -1,0 +1,183 @@
+//! For each node, the second from which on no way leads to the destination: from the goal backward over the whole graph.
+
+ghost use Rattle.std.specs.Prelude.{◌≡◌, ◌≢◌, ℕ, ◌+◌, ◌*◌, ◌^◌, ◌≤◌, ◌<◌, [], Some, IfOk, OnOk, IsTrue, false, length, slice_get, slice_index, slice_index_or};
+ghost use Rattle.sabr_search.specs.questions.Task.{IsTask, Takes};
+ghost use Rattle.sabr_search.specs.questions.Linked.{IsLinkWithin, HasNumber};
+ghost use Rattle.sabr_search.specs.questions.FirstSteps.{tabled_of};
+ghost use Rattle.sabr_search.specs.layers.Reach.{AreLateFor};
+ghost use Rattle.sabr_search.specs.layers.Latest.{IsWhole, AreRising, AreTaken, IsTakenBy, IsLeftBy};
+
+use crate::forward::layers::NEVER;
+use crate::forward::queue::{Event, Queue};
+use crate::links::looks::Looks;
+use crate::links::over_link::WalkedLink;
+use crate::task::Task;
+use sabr_index::Sender;
+use sabr_model::NoMemory;
+use std::alloc::Allocator;
+
+/// The seconds so far, and the nodes whose links are to be taken.
+#[derive(Drop)]
+pub struct Latest<A: Allocator + Copy> {
+    /// For each node, the first second that is too late so far.
+    late: Vec<u64, A>,
+    /// For each node, whether its links were taken since that second last rose.
+    taken: Vec<bool, A>,
+    /// The nodes whose links are to be taken, the latest first.
+    queue: Queue<A>,
+}
+
+impl<A: Allocator + Copy> Latest<A> {
+    /// Begins with the goal alone, where it is never too late.
+    fn begin(alloc: A, task: &Task<'_, A>) -> Result<Latest<A>, NoMemory>
+        requires task { IsTask task.now }
+        ensures { IfOk result (λ l. AreRising task.now l.late.items l.taken.items l.queue (length task.now.table)) }
+    {
+        let nodes = task.shut().len();
+        let mut late = Vec::new(alloc);
+        late.resize(nodes, 0)?;
+        late[task.goal()] = NEVER;
+        let mut taken = Vec::new(alloc);
+        taken.resize(nodes, false)?;
+        let mut queue = Queue::new(alloc);
+        queue.push(Event {
+            at: 0,
+            hops: 0,
+            node: task.goal(),
+        })?;
+        Ok(Latest { late, taken, queue })
+    }
+
+    /// Takes one link to a node that is left in time before `before`.
+    fn take_sender(
+        &mut self,
+        task: &Task<'_, A>,
+        looks: &mut Looks,
+        from: Sender<'_>,
+        to: usize,
+        before: u64,
+    ) -> Result<(), NoMemory>
+        requires task { IsTask task.now }
+        requires link { IsLinkWithin task.now from.node to from.passes.now from.bounds }
+        requires node { from.node < length task.now.table }
+        requires few { looks.old.count + length from.passes.now ≤ 2 ^ 62 }
+        requires rising { AreRising task.now self.old.late.items self.old.taken.items self.old.queue to }
+        requires same { slice_index self.old.late.items to ≡ before }
+        ensures looks { looks.new.count ≤ looks.old.count + length from.entry.passes.now }
+        ensures rising { OnOk result (AreRising task.now self.new.late.items self.new.taken.items self.new.queue to) }
+        ensures same { OnOk result (slice_index self.new.late.items to ≡ before) }
+        ensures rises { OnOk result ((k : ℕ) → slice_index self.old.late.items k ≤ slice_index self.new.late.items k) }
+        ensures told { OnOk result ((n t b : ℕ) → HasNumber from.entry.passes.now n → Takes task.now n from.entry.node t to b → b < before → IsLeftBy task.now self.new.late.items from.entry.node t) }
+    {
+        let node = from.node;
+        if node == to {
+            return Ok(());
+        }
+        if node == task.goal() {
+            return Ok(());
+        }
+        if task.shut()[node] {
+            return Ok(());
+        }
+        let latest = self.late[node];
+        let link = WalkedLink {
+            from: node,
+            to,
+            passes: from.passes,
+            bounds: from.bounds,
+        };
+        let last = task.leave_over(looks, link, 0, before, latest);
+        if last <= latest {
+            return Ok(());
+        }
+        self.queue.push(Event {
+            at: NEVER - last,
+            hops: 0,
+            node,
+        })?;
+        self.late[node] = last;
+        self.taken[node] = false;
+        Ok(())
+    }
+
+    /// Takes every link to a node. Returns false if more than `most` looks might be needed.
+    fn take_senders(
+        &mut self,
+        task: &Task<'_, A>,
+        looks: &mut Looks,
+        to: usize,
+        most: u64,
+    ) -> Result<bool, NoMemory>
+        requires task { IsTask task.now }
+        requires node { to < length task.now.table }
+        requires few { looks.old.count ≤ most }
+        requires most { most ≤ 2 ^ 62 }
+        requires rising { AreRising task.now self.old.late.items self.old.taken.items self.old.queue to }
+        ensures looks { looks.new.count ≤ most }
+        ensures rising { OnOk result (AreRising task.now self.new.late.items self.new.taken.items self.new.queue to) }
+        ensures taken { IfOk result (λ all. IsTrue all → IsTakenBy task.now self.new.late.items to) }
+    {
+        let before = self.late[to];
+        let senders = task.senders(to);
+        for place in 0..senders.len() {
+            let from = senders.at(place);
+            if from.passes.len() as u64 > most - looks.count {
+                return Ok(false);
+            }
+            self.take_sender(task, looks, from, to, before)?;
+        }
+        Ok(true)
+    }
+
+    /// Takes the links of the nodes that wait, until none does. Returns false if more than `most` looks might be needed.
+    fn take_all(
+        &mut self,
+        task: &Task<'_, A>,
+        looks: &mut Looks,
+        most: u64,
+    ) -> Result<bool, NoMemory>
+        requires task { IsTask task.now }
+        requires few { looks.old.count ≤ most }
+        requires most { most ≤ 2 ^ 62 }
+        requires rising { AreRising task.now self.old.late.items self.old.taken.items self.old.queue (length task.now.table) }
+        ensures looks { looks.new.count ≤ most }
+        ensures taken { IfOk result (λ all. IsTrue all → AreTaken task.now self.new.late.items) }
+    {
+        for _ in 0..most {
+            let Some(event) = self.queue.pop() else {
+                return Ok(true);
+            };
+            if self.taken[event.node] {
+                continue;
+            }
+            self.taken[event.node] = true;
+            let all = self.take_senders(task, looks, event.node, most)?;
+            if !all {
+                return Ok(false);
+            }
+        }
+        Ok(false)
+    }
+}
+
+/// Returns for each node a second from which on no way over the whole graph leads to the destination. Nothing is known of
+/// any node if more than `most` looks might be needed.
+pub fn latest_of<A: Allocator + Copy>(
+    alloc: A,
+    task: &Task<'_, A>,
+    looks: &mut Looks,
+    most: u64,
+) -> Result<Vec<u64, A>, NoMemory>
+    requires whole { IsWhole task.now }
+    requires few { looks.old.count ≤ most }
+    requires most { most ≤ 2 ^ 62 }
+    ensures looks { looks.new.count ≤ most }
+    ensures late { IfOk result (λ v. AreLateFor (tabled_of task.now) task.now.request v.items) }
+{
+    let mut latest = Latest::begin(alloc, task)?;
+    let all = latest.take_all(task, looks, most)?;
+    if !all {
+        return Ok(Vec::new(alloc));
+    }
+    Ok(latest.late)
+}

@@ -1,0 +1,111 @@
+//! The least way for a delivery, from layers made backward and picks; and within a limit on hops, from layers forward first.
+
+ghost use Rattle.std.specs.Prelude.{◌≡◌, [], ◌+◌, ◌*◌, ◌^◌, ◌≤◌, ◌<◌, IfOk, IfSome, IfNone, length};
+ghost use Rattle.sabr_search.specs.questions.Task.{IsTask, never, most_nodes};
+ghost use Rattle.sabr_search.specs.answers.KeptAnswers.{IsFoundWay};
+ghost use Rattle.sabr_search.specs.layers.Late.{AreArrivals, IsNoneSooner, HasWayAt};
+ghost use Rattle.sabr_search.specs.questions.FirstSteps.{IsNoneBefore};
+
+use crate::backward::from_goal::Aim;
+use crate::forward::layers::Layers;
+use crate::links::looks::Looks;
+use sabr_model::NoMemory;
+use std::alloc::{Allocator, Global};
+
+/// More looks than a search ever needs.
+pub const MANY_LOOKS: u64 = 1 << 60;
+
+/// The contact numbers of the least way of a question, and when it delivers; no numbers if there is no way.
+#[derive(Drop)]
+pub struct FoundWay<A: Allocator + Copy = Global> {
+    pub numbers: Vec<u32, A>,
+    pub delivery: u64,
+}
+
+impl<A: Allocator + Copy> FoundWay<A> {
+    /// There is no way. It takes no memory.
+    pub fn none(alloc: A) -> FoundWay<A>
+        ensures { result.numbers.items ≡ [] }
+    {
+        FoundWay {
+            numbers: Vec::new(alloc),
+            delivery: 0,
+        }
+    }
+}
+
+impl<A: Allocator + Copy> Layers<A> {
+    /// Returns the least way of at most so many hops. Some such way delivers as is aimed at, and none sooner. None if more
+    /// than `most` looks might be needed.
+    pub fn least_by(
+        &mut self,
+        aim: &Aim<'_, '_, '_, A>,
+        looks: &mut Looks,
+        hops: usize,
+        most: u64,
+    ) -> Result<Option<FoundWay<A>>, NoMemory>
+        requires task { IsTask aim.now.task.now }
+        requires nodes { hops ≤ most_nodes }
+        requires few { looks.old.count ≤ most }
+        requires most { most ≤ 2 ^ 62 }
+        requires early { aim.now.delivery < never }
+        requires arrivals { AreArrivals aim.now.task.now aim.now.since.now }
+        requires least { IsNoneSooner aim.now.task.now hops aim.now.delivery }
+        requires way { HasWayAt aim.now.task.now hops aim.now.delivery }
+        ensures looks { looks.new.count ≤ most }
+        ensures counted { looks.new.count ≤ looks.old.count + 2 * (hops * length aim.now.task.now.plan.contacts) }
+        ensures none { IfOk result (λ o. IfNone o (most < looks.old.count + 2 * (hops * length aim.now.task.now.plan.contacts))) }
+        ensures cut { IfOk result (λ o. IfSome o (λ way. looks.new.count ≤ looks.old.count + 2 * (length way.numbers.items * length aim.now.task.now.plan.contacts))) }
+        ensures found { IfOk result (λ o. IfSome o (λ way. IsFoundWay aim.now.task.now hops way.numbers.items way.delivery)) }
+    {
+        let made = self.make_back(aim, looks, hops, most)?;
+        let Some(left) = made else {
+            return Ok(None);
+        };
+        let picked = self.pick(aim, looks, left, most)?;
+        let Some(numbers) = picked else {
+            return Ok(None);
+        };
+        Ok(Some(FoundWay {
+            numbers,
+            delivery: aim.delivery,
+        }))
+    }
+
+    /// Returns the least way of at most so many hops, if there is one. No way delivers sooner than is aimed at. None if more
+    /// than `most` looks might be needed.
+    pub fn least_within(
+        &mut self,
+        aim: &Aim<'_, '_, '_, A>,
+        looks: &mut Looks,
+        hops: usize,
+        most: u64,
+    ) -> Result<Option<FoundWay<A>>, NoMemory>
+        requires task { IsTask aim.now.task.now }
+        requires nodes { hops ≤ most_nodes }
+        requires few { looks.old.count ≤ most }
+        requires most { most ≤ 2 ^ 62 }
+        requires early { aim.now.delivery < never }
+        requires arrivals { AreArrivals aim.now.task.now aim.now.since.now }
+        requires lower { IsNoneBefore aim.now.task.now aim.now.delivery }
+        ensures looks { looks.new.count ≤ most }
+        ensures counted { looks.new.count ≤ looks.old.count + 3 * (hops * length aim.now.task.now.plan.contacts) }
+        ensures none { IfOk result (λ o. IfNone o (most < looks.old.count + 3 * (hops * length aim.now.task.now.plan.contacts))) }
+        ensures found { IfOk result (λ o. IfSome o (λ way. IsFoundWay aim.now.task.now hops way.numbers.items way.delivery)) }
+    {
+        let task = aim.task;
+        let made = self.make(task, looks, hops, aim.delivery, most)?;
+        let Some(best) = made else {
+            return Ok(None);
+        };
+        if best.hops == 0 {
+            return Ok(Some(FoundWay::none(self.alloc)));
+        }
+        let least = Aim {
+            task,
+            since: aim.since,
+            delivery: best.delivery,
+        };
+        self.least_by(&least, looks, hops, most)
+    }
+}

@@ -1,0 +1,127 @@
+//! The least numbers from the front, by the deadlines of layers that were made backward.
+
+ghost use Rattle.std.specs.Prelude.{◌≡◌, ℕ, ◌+◌, ◌*◌, ◌^◌, ◌≤◌, ◌<◌, false, Some, IfOk, IfSome, IfNone, IsTrue, length, slice_index};
+ghost use Rattle.sabr_search.specs.questions.Task.{IsTask, Takes, most_nodes};
+ghost use Rattle.sabr_search.specs.questions.Linked.{AreLinksAt};
+ghost use Rattle.sabr_search.specs.layers.Late.{AreMet, AreOpen, IsNoneSooner};
+ghost use Rattle.sabr_search.specs.layers.Deadlines.{IsInTime, ArePointed};
+ghost use Rattle.sabr_search.specs.layers.Picks.{IsAtMost, IsLeastStep, IsPicked};
+
+use crate::backward::from_goal::Aim;
+use crate::forward::layers::Layers;
+use crate::links::looks::Looks;
+use crate::links::over_link::{WalkedLink, link_passes};
+use crate::task::Task;
+use sabr_index::Links;
+use sabr_model::NoMemory;
+use std::alloc::Allocator;
+
+/// A node, and when the bundle is there.
+#[derive(Clone, Copy)]
+pub struct Standing {
+    pub node: usize,
+    pub at: u64,
+}
+
+/// A contact that is taken, by number, and where and when it arrives.
+#[derive(Clone, Copy)]
+pub struct Step {
+    pub number: u32,
+    pub node: usize,
+    pub at: u64,
+}
+
+/// Returns true if there is a step and its number is at most this.
+pub fn is_at_most(least: Option<Step>, number: u32) -> bool
+    ensures at_most { IsTrue result → IsAtMost least number }
+    ensures above { result ≡ false → (n : ℕ) → IsAtMost least n → number ≤ n }
+{
+    match least {
+        Some(step) => step.number <= number,
+        None => false,
+    }
+}
+
+impl<A: Allocator + Copy> Layers<A> {
+    /// Returns the step of least number from a node after which the goal is still reached in time, with so many hops
+    /// left then.
+    fn least_step(
+        &self,
+        task: &Task<'_, A>,
+        looks: &mut Looks,
+        hops: usize,
+        from: Standing,
+        links: Links<'_>,
+    ) -> Option<Step>
+        requires task { IsTask task.now }
+        requires links { AreLinksAt task.now from.node links.links.now links.passes.now }
+        requires few { looks.old.count + length links.passes.now ≤ 2 ^ 62 }
+        requires bounded { hops + 1 < length self.now.ends.items }
+        requires many { length self.now.place.items ≡ length task.now.table }
+        requires ends { slice_index self.now.ends.items (hops + 1) ≤ length self.now.reached.items }
+        requires pointed { ArePointed self.now.ends.items self.now.place.items self.now.reached.items hops }
+        requires open { AreOpen task.now self.now.reached.items }
+        ensures looks { looks.new.count ≤ looks.old.count + length links.entry.passes.now }
+        ensures some { IfSome result (IsLeastStep task.now self.now.ends.items self.now.reached.items hops from.node from.at) }
+        ensures none { IfNone result ((n w b : ℕ) → Takes task.now n from.node from.at w b → IsInTime self.now.ends.items self.now.reached.items hops w b → ⊥) }
+    {
+        let mut least: Option<Step> = None;
+        for link in links.links {
+            let passes = link_passes(links, link);
+            let before = self.deadline(hops, link.receiver);
+            let walked = WalkedLink {
+                from: from.node,
+                to: link.receiver,
+                passes,
+                bounds: link.bounds,
+            };
+            least = task.least_over(looks, walked, from.at, before, least);
+        }
+        least
+    }
+
+    /// Returns the least numbers that lead from the start to the goal by the layers of an aim, of which the last is so many
+    /// hops from the goal. None if more than `most` looks might be needed.
+    pub fn pick(
+        &mut self,
+        aim: &Aim<'_, '_, '_, A>,
+        looks: &mut Looks,
+        left: usize,
+        most: u64,
+    ) -> Result<Option<Vec<u32, A>>, NoMemory>
+        requires task { IsTask aim.now.task.now }
+        requires looked { looks.old.count ≤ most }
+        requires most { most ≤ 2 ^ 62 }
+        requires many { left < most_nodes }
+        requires met { AreMet aim.now.task.now aim.now.since.now aim.now.delivery left self.old.ends.items self.old.place.items self.old.reached.items }
+        requires least { IsNoneSooner aim.now.task.now (left + 1) aim.now.delivery }
+        ensures limit { looks.new.count ≤ most }
+        ensures looks { looks.new.count ≤ looks.old.count + (left + 1) * length aim.now.task.now.plan.contacts }
+        ensures none { IfOk result (λ o. IfNone o (most < looks.old.count + (left + 1) * length aim.now.task.now.plan.contacts)) }
+        ensures picked { IfOk result (λ o. IfSome o (λ v. IsPicked aim.now.task.now (left + 1) aim.now.delivery v.items)) }
+    {
+        let task = aim.task;
+        let mut numbers = Vec::with_capacity(self.alloc, left + 1)?;
+        let mut from = Standing {
+            node: task.start(),
+            at: task.at(),
+        };
+        for hop in 0..left + 1 {
+            self.point_at(left - hop);
+            let links = task.links(from.node);
+            if links.passes.len() as u64 > most - looks.count {
+                return Ok(None);
+            }
+            let least = self.least_step(task, looks, left - hop, from, links);
+            let Some(step) = least else {
+                unreachable!();
+            };
+            numbers.push(step.number)?;
+            from = Standing {
+                node: step.node,
+                at: step.at,
+            };
+        }
+        Ok(Some(numbers))
+    }
+}

@@ -1,0 +1,101 @@
+//! The nodes that a search may not enter.
+
+ghost use Rattle.std.specs.Prelude.{◌≡◌, ℕ, ◌<◌, [], Some, false, true, length, slice_get, slice_index_or, slice_set, IfSome, IfNone, OnOk};
+ghost use Rattle.sabr_search.specs.answers.KeptAnswers.{IsListing};
+
+use sabr_model::NoMemory;
+use std::alloc::{Allocator, Global};
+use std::marker::Model;
+
+/// The nodes that a search may not enter: a flag by node, and a list of those that are shut. Contracts see the flags.
+#[derive(Drop)]
+pub struct Shut<A: Allocator + Copy = Global> {
+    flags: Vec<bool, A>,
+    nodes: Vec<usize, A>,
+}
+
+impl<A: Allocator + Copy> Model for Shut<A> {
+    ghost use Rattle.std.specs.Prelude.{Bool, List};
+    ghost use Rattle.sabr_search.specs.answers.KeptAnswers.{IsListing};
+
+    ghost Value = { List Bool };
+
+    ghost view = { λ s. s.flags.items };
+
+    ghost invariant = { λ s. IsListing s.flags.items s.nodes.items };
+}
+
+/// Returns the last place of a node in a list.
+fn last_place(nodes: &[usize], node: usize) -> Option<usize>
+    ensures some { IfSome result (λ place. slice_get nodes.now place ≡ Some node) }
+    ensures none { IfNone result ((place : ℕ) → slice_get nodes.now place ≡ Some node → ⊥) }
+{
+    let mut end = nodes.len();
+    while 0 < end {
+        end -= 1;
+        if nodes[end] == node {
+            return Some(end);
+        }
+    }
+    None
+}
+
+impl<A: Allocator + Copy> Shut<A> {
+    /// Has no node. It takes no memory.
+    pub fn new(alloc: A) -> Shut<A>
+        ensures { result ≡ [] }
+    {
+        Shut {
+            flags: Vec::new(alloc),
+            nodes: Vec::new(alloc),
+        }
+    }
+
+    /// Begins anew with `count` nodes, all open.
+    pub fn open_all(&mut self, count: usize) -> Result<(), NoMemory>
+        ensures many { OnOk result (length self.new ≡ count) }
+        ensures none { OnOk result ((k : ℕ) → slice_index_or self.new k false ≡ false) }
+    {
+        self.flags.clear();
+        self.nodes.clear();
+        self.flags.resize(count, false)?;
+        Ok(())
+    }
+
+    /// Shuts a node.
+    pub fn put(&mut self, node: usize) -> Result<(), NoMemory>
+        requires { node < length self.old }
+        ensures { OnOk result (self.new ≡ slice_set self.old node true) }
+    {
+        if !self.flags[node] {
+            self.nodes.push(node)?;
+            self.flags[node] = true;
+        }
+        Ok(())
+    }
+
+    /// Opens a node, in one step if it is the one that was shut last.
+    pub fn open(&mut self, node: usize)
+        requires { node < length self.old }
+        ensures { self.new ≡ slice_set self.old node false }
+    {
+        self.flags[node] = false;
+        if let Some(place) = last_place(&self.nodes, node) {
+            self.nodes.swap_remove(place);
+        }
+    }
+
+    /// By node whether it is shut.
+    pub fn flags(&self) -> &[bool]
+        ensures { result.now ≡ self.now }
+    {
+        self.flags.as_slice()
+    }
+
+    /// The nodes that are shut, each once.
+    pub fn nodes(&self) -> &[usize]
+        ensures { IsListing self.now result.now }
+    {
+        self.nodes.as_slice()
+    }
+}

@@ -1,0 +1,6 @@
+//! From the start forward: arrivals in order, and layers by hops.
+
+mod first_steps;
+pub mod layers;
+pub mod queue;
+pub mod settling;

@@ -1,0 +1,104 @@
+//! Where the first steps of a search come to, and when.
+
+ghost use Rattle.std.specs.Prelude.{◌≡◌, ◌⊎◌, ℕ, ◌+◌, ◌^◌, ◌≤◌, ◌<◌, Some, IfOk, OnOk, IsTrue, false, length, slice_get};
+ghost use Rattle.sabr_search.specs.questions.Task.{IsTask, Takes, never};
+ghost use Rattle.sabr_search.specs.questions.Steps.{degree};
+ghost use Rattle.sabr_search.specs.questions.FirstSteps.{ComesTo, AreFirstSteps};
+ghost use Rattle.sabr_search.specs.layers.Settling.{AreReal};
+
+use crate::backward::pick::Standing;
+use crate::forward::layers::NEVER;
+use crate::links::looks::Looks;
+use crate::links::over_link::{WalkedLink, link_passes};
+use crate::task::Task;
+use sabr_model::NoMemory;
+use std::alloc::Allocator;
+
+/// Adds a node and when it is reached, if it is reached at all.
+fn put_step<A: Allocator + Copy>(
+    first: &mut Vec<Standing, A>,
+    step: Standing,
+) -> Result<(), NoMemory>
+    ensures kept { OnOk result ((k : ℕ) (s : Standing) → slice_get first.old.items k ≡ Some s → slice_get first.new.items k ≡ Some s) }
+    ensures put { OnOk result (step.at < never → (k : ℕ) × (slice_get first.new.items k ≡ Some step)) }
+    ensures only { OnOk result ((k : ℕ) (s : Standing) → slice_get first.new.items k ≡ Some s → (slice_get first.old.items k ≡ Some s) ⊎ ((step ≡ s) × (step.at < never))) }
+{
+    if step.at == NEVER {
+        return Ok(());
+    }
+    first.push(step)?;
+    Ok(())
+}
+
+impl<'a, A: Allocator + Copy> Task<'a, A> {
+    /// Gathers where the steps from a node come to, and when. Returns true if these are all, and false if more than
+    /// `most` looks might be needed.
+    fn steps_from(
+        &self,
+        looks: &mut Looks,
+        most: u64,
+        from: Standing,
+        first: &mut Vec<Standing, A>,
+    ) -> Result<bool, NoMemory>
+        requires task { IsTask self.now }
+        requires node { from.node < length self.now.table }
+        requires few { looks.old.count ≤ most }
+        requires most { most ≤ 2 ^ 62 }
+        ensures looks { looks.new.count ≤ most }
+        ensures counted { looks.new.count ≤ looks.old.count + degree self.now from.node }
+        ensures all { IfOk result (λ all. all ≡ false → most < looks.old.count + degree self.now from.node) }
+        ensures inside { IfOk result (λ all. (k : ℕ) (s : Standing) → slice_get first.new.items k ≡ Some s → s.node < length self.now.table) }
+        ensures real { IfOk result (λ all. (k : ℕ) (s : Standing) → slice_get first.new.items k ≡ Some s → (n : ℕ) × Takes self.now n from.node from.at s.node s.at) }
+        ensures whole { IfOk result (λ all. IsTrue all → (n w b : ℕ) → Takes self.now n from.node from.at w b → ComesTo first.new.items w b) }
+    {
+        first.clear();
+        let links = self.links(from.node);
+        for link in links.links {
+            let passes = link_passes(links, link);
+            if passes.len() as u64 > most - looks.count {
+                return Ok(false);
+            }
+            if self.shut()[link.receiver] {
+                continue;
+            }
+            let walked = WalkedLink {
+                from: from.node,
+                to: link.receiver,
+                passes,
+                bounds: link.bounds,
+            };
+            let at = self.arrive_over(looks, walked, from.at, NEVER);
+            let step = Standing {
+                node: link.receiver,
+                at,
+            };
+            put_step(first, step)?;
+        }
+        Ok(true)
+    }
+
+    /// Gathers where the first steps come to, and when. Returns true if these are all, and false if more than `most`
+    /// looks might be needed.
+    pub fn first_steps(
+        &self,
+        looks: &mut Looks,
+        most: u64,
+        first: &mut Vec<Standing, A>,
+    ) -> Result<bool, NoMemory>
+        requires task { IsTask self.now }
+        requires few { looks.old.count ≤ most }
+        requires most { most ≤ 2 ^ 62 }
+        ensures looks { looks.new.count ≤ most }
+        ensures counted { looks.new.count ≤ looks.old.count + degree self.now self.now.start }
+        ensures all { IfOk result (λ all. all ≡ false → most < looks.old.count + degree self.now self.now.start) }
+        ensures inside { IfOk result (λ all. (k : ℕ) (s : Standing) → slice_get first.new.items k ≡ Some s → s.node < length self.now.table) }
+        ensures real { IfOk result (λ all. AreReal self.now first.new.items) }
+        ensures whole { IfOk result (λ all. IsTrue all → AreFirstSteps self.now first.new.items) }
+    {
+        let from = Standing {
+            node: self.start(),
+            at: self.at(),
+        };
+        self.steps_from(looks, most, from, first)
+    }
+}

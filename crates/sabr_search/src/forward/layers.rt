@@ -1,0 +1,345 @@
+//! Hop layers, made forward: for each number of hops, the nodes that it reaches earlier, and when.
+
+ghost use Rattle.std.specs.Prelude.{◌≡◌, ◌≢◌, min, ℕ, [], ◌∷◌, ◌+◌, ◌*◌, ◌^◌, ◌≤◌, ◌<◌, length, take, slice_set, slice_index, slice_index_or, true, false, OnOk, IfOk, IfSome, IfNone};
+ghost use Rattle.sabr_search.specs.questions.Task.{IsTask, Takes, never};
+ghost use Rattle.sabr_search.specs.questions.Steps.{degree};
+ghost use Rattle.sabr_search.specs.questions.Linked.{IsLinkWithin, HasNumber};
+ghost use Rattle.sabr_search.specs.layers.Lists.{IsPlaced, StayLinked, IsLayer, AddsOnly, AreLists, AreLowered, IsKnown, AreSources, GivenAt, GivenByLayer, IsKnownFrom};
+ghost use Rattle.sabr_search.specs.questions.FirstSteps.{IsNoneBefore};
+ghost use Rattle.sabr_search.specs.layers.Made.{AreOpened, IsBestWithin};
+
+use crate::links::looks::Looks;
+use crate::links::over_link::{WalkedLink, link_passes};
+use crate::task::Task;
+use sabr_model::NoMemory;
+use std::alloc::Allocator;
+
+/// A node that a layer reaches, when, and the first second that is too late there for the rest.
+#[derive(Clone, Copy)]
+pub struct Reached {
+    pub node: usize,
+    pub arrival: u64,
+    pub deadline: u64,
+}
+
+/// A delivery, and the number of hops with which it is reached; no hops if there is none.
+#[derive(Clone, Copy)]
+pub struct Best {
+    pub delivery: u64,
+    pub hops: usize,
+}
+
+/// The layer that is made: where its entries begin, and the least delivery so far.
+#[derive(Clone, Copy)]
+struct Layer {
+    begin: usize,
+    best: u64,
+}
+
+/// Later than every arrival.
+pub const NEVER: u64 = u64::MAX;
+
+/// Makes a list with the first second that is too late at each node, as far as the list `late` goes.
+fn too_late<A: Allocator + Copy>(
+    arrival: &mut Vec<u64, A>,
+    count: usize,
+    late: &[u64],
+) -> Result<(), NoMemory>
+    ensures many { OnOk result (length arrival.new.items ≡ count) }
+    ensures filled { OnOk result ((k : ℕ) → k < count → slice_index arrival.new.items k ≡ slice_index_or late.now k never) }
+{
+    arrival.clear();
+    arrival.extend_from_slice(late)?;
+    arrival.resize(count, NEVER)?;
+    Ok(())
+}
+
+/// Lets nothing improve a node that is shut.
+fn shut_out<A: Allocator + Copy>(arrival: &mut Vec<u64, A>, shut: &[bool], node: usize)
+    requires { length arrival.old.items ≡ length shut.now }
+    ensures many { length arrival.new.items ≡ length arrival.old.items }
+    ensures kept { (k : ℕ) → slice_index_or shut.now k false ≡ false → slice_index arrival.new.items k ≡ slice_index arrival.old.items k }
+    ensures falls { (k : ℕ) → slice_index arrival.new.items k ≤ slice_index arrival.old.items k }
+    ensures zero { slice_index_or shut.now node false ≡ true → slice_index arrival.new.items node ≡ 0 }
+{
+    if node < shut.len() && shut[node] {
+        arrival[node] = 0;
+    }
+}
+
+/// Marks every open node as reached when it is too late there, and lets nothing improve a shut one.
+pub fn open_nodes<A: Allocator + Copy>(
+    arrival: &mut Vec<u64, A>,
+    task: &Task<'_, A>,
+    late: &[u64],
+) -> Result<(), NoMemory>
+    requires { IsTask task.now }
+    ensures { OnOk result (AreOpened task.now late.now arrival.new.items) }
+{
+    let shut = task.shut();
+    too_late(arrival, shut.len(), late)?;
+    let nodes = task.shut_nodes();
+    for place in 0..nodes.len() {
+        shut_out(arrival, shut, nodes[place]);
+    }
+    arrival[task.start()] = task.at();
+    Ok(())
+}
+
+/// Returns the second before which an arrival at a node is news.
+pub fn news_before<A: Allocator + Copy>(
+    arrival: &[u64],
+    task: &Task<'_, A>,
+    to: usize,
+    best: u64,
+) -> u64
+    requires many { length arrival.now ≡ length task.now.shut }
+    requires task { IsTask task.now }
+    requires node { to < length task.now.table }
+    ensures goal { to ≡ task.now.goal → result ≡ best }
+    ensures other { to ≢ task.now.goal → result ≡ min best (slice_index arrival.now to) }
+{
+    if to == task.goal() {
+        best
+    } else {
+        best.min(arrival[to])
+    }
+}
+
+/// The layers and what is known of each node. Forward layers use the arrivals, the places, the entries and their
+/// bounds. Layers made backward keep for each node the first second that is too late so far, and where each of them
+/// begins.
+#[derive(Drop)]
+pub struct Layers<A: Allocator + Copy> {
+    /// The allocator of the buffers.
+    pub alloc: A,
+    /// For each node, the least arrival so far.
+    pub arrival: Vec<u64, A>,
+    /// For each node, the place of an entry, or 0.
+    pub place: Vec<usize, A>,
+    /// The entries, layer by layer; the first is the start.
+    pub reached: Vec<Reached, A>,
+    /// Where each layer begins.
+    pub bounds: Vec<usize, A>,
+    /// For each node, the first second that is too late so far, in layers made backward.
+    pub late: Vec<u64, A>,
+    /// Where each of the layers made backward begins.
+    pub ends: Vec<usize, A>,
+}
+
+impl<A: Allocator + Copy> Layers<A> {
+    /// Starts without layers. It takes no memory.
+    pub fn new(alloc: A) -> Layers<A> {
+        Layers {
+            alloc,
+            arrival: Vec::new(alloc),
+            place: Vec::new(alloc),
+            reached: Vec::new(alloc),
+            bounds: Vec::new(alloc),
+            late: Vec::new(alloc),
+            ends: Vec::new(alloc),
+        }
+    }
+
+    /// Notes an earlier arrival at a node in the layer that begins at `begin`, once for each node.
+    fn note(&mut self, node: usize, arrival: u64, begin: usize) -> Result<(), NoMemory>
+        requires node { node < length self.old.arrival.items }
+        requires placed { IsPlaced self.old.place.items self.old.reached.items }
+        requires many { length self.old.place.items ≡ length self.old.arrival.items }
+        requires layer { IsLayer begin self.old.place.items self.old.reached.items }
+        requires later { 0 < begin }
+        ensures bounds { self.new.bounds ≡ self.old.bounds }
+        ensures arrivals { OnOk result (self.new.arrival.items ≡ slice_set self.old.arrival.items node arrival) }
+        ensures placed { OnOk result (IsPlaced self.new.place.items self.new.reached.items) }
+        ensures linked { OnOk result (StayLinked self.old self.new) }
+        ensures layer { OnOk result (IsLayer begin self.new.place.items self.new.reached.items) }
+        ensures before { OnOk result (take begin self.new.reached.items ≡ take begin self.old.reached.items) }
+        ensures entries { OnOk result (AddsOnly self.old.reached.items self.new.reached.items node arrival) }
+    {
+        let at = self.place[node];
+        if at >= begin {
+            self.reached[at].arrival = arrival;
+        } else {
+            let end = self.reached.len();
+            self.reached.push(Reached {
+                node,
+                arrival,
+                deadline: 0,
+            })?;
+            self.place[node] = end;
+        }
+        self.arrival[node] = arrival;
+        Ok(())
+    }
+
+    /// Takes one link of a node that is reached at `at`. Returns the least delivery so far.
+    fn take_link(
+        &mut self,
+        task: &Task<'_, A>,
+        looks: &mut Looks,
+        at: u64,
+        link: WalkedLink<'_>,
+        layer: Layer,
+    ) -> Result<u64, NoMemory>
+        requires task { IsTask task.now }
+        requires link { IsLinkWithin task.now link.from link.to link.passes.now link.bounds }
+        requires receiver { link.to < length task.now.table }
+        requires since { task.now.at ≤ at }
+        requires few { looks.old.count + length link.passes.now ≤ 2 ^ 62 }
+        requires later { 0 < layer.begin }
+        requires lists { AreLists task.now.shut task.now.goal task.now.at layer.begin self.old.arrival.items self.old.place.items self.old.reached.items }
+        ensures bounds { self.new.bounds ≡ self.old.bounds }
+        ensures looks { looks.new.count ≤ looks.old.count + length link.entry.passes.now }
+        ensures lowered { IfOk result (λ b. AreLowered task.now layer.begin (GivenAt task.now link.entry.from at) self.old layer.best self.new b) }
+        ensures known { IfOk result (λ b. (n w x : ℕ) → HasNumber link.entry.passes.now n → Takes task.now n link.entry.from at w x → IsKnown task.now.goal self.new.arrival.items b w x) }
+    {
+        let to = link.to;
+        let before = news_before(&self.arrival, task, to, layer.best);
+        let arrival = task.arrive_over(looks, link, at, before);
+        if arrival >= before {
+            return Ok(layer.best);
+        }
+        if to == task.goal() {
+            return Ok(arrival);
+        }
+        self.note(to, arrival, layer.begin)?;
+        Ok(layer.best)
+    }
+
+    /// Takes every contact of a node that is reached. Returns the least delivery so far.
+    fn take_all(
+        &mut self,
+        task: &Task<'_, A>,
+        looks: &mut Looks,
+        from: Reached,
+        begin: usize,
+        best: u64,
+    ) -> Result<u64, NoMemory>
+        requires task { IsTask task.now }
+        requires node { from.node < length task.now.table }
+        requires since { task.now.at ≤ from.arrival }
+        requires few { looks.old.count + degree task.now from.node ≤ 2 ^ 62 }
+        requires later { 0 < begin }
+        requires lists { AreLists task.now.shut task.now.goal task.now.at begin self.old.arrival.items self.old.place.items self.old.reached.items }
+        ensures bounds { self.new.bounds ≡ self.old.bounds }
+        ensures looks { looks.new.count ≤ looks.old.count + degree task.now from.node }
+        ensures lowered { IfOk result (λ b. AreLowered task.now begin (GivenAt task.now from.node from.arrival) self.old best self.new b) }
+        ensures known { IfOk result (λ b. (n w x : ℕ) → Takes task.now n from.node from.arrival w x → IsKnown task.now.goal self.new.arrival.items b w x) }
+    {
+        let links = task.links(from.node);
+        let mut least = best;
+        for link in links.links {
+            let passes = link_passes(links, link);
+            let walked = WalkedLink {
+                from: from.node,
+                to: link.receiver,
+                passes,
+                bounds: link.bounds,
+            };
+            let layer = Layer { begin, best: least };
+            least = self.take_link(task, looks, from.arrival, walked, layer)?;
+        }
+        Ok(least)
+    }
+
+    /// Takes every contact of every node of layer `hop`. Returns the least delivery so far.
+    fn next_layer(
+        &mut self,
+        task: &Task<'_, A>,
+        looks: &mut Looks,
+        hop: usize,
+        best: u64,
+    ) -> Result<u64, NoMemory>
+        requires task { IsTask task.now }
+        requires few { looks.old.count + length task.now.plan.contacts ≤ 2 ^ 62 }
+        requires bounded { hop + 1 < length self.old.bounds.items }
+        requires last { slice_index self.old.bounds.items (hop + 1) ≡ length self.old.reached.items }
+        requires later { 0 < slice_index self.old.bounds.items (hop + 1) }
+        requires sources { AreSources task.now self.old.reached.items (slice_index self.old.bounds.items hop) (slice_index self.old.bounds.items (hop + 1)) }
+        requires lists { AreLists task.now.shut task.now.goal task.now.at (slice_index self.old.bounds.items (hop + 1)) self.old.arrival.items self.old.place.items self.old.reached.items }
+        ensures bounds { self.new.bounds ≡ self.old.bounds }
+        ensures looks { looks.new.count ≤ looks.old.count + length task.now.plan.contacts }
+        ensures lowered { IfOk result (λ b. AreLowered task.now (slice_index self.old.bounds.items (hop + 1)) (GivenByLayer task.now self.old hop) self.old best self.new b) }
+        ensures known { IfOk result (λ b. IsKnownFrom task.now self.old.reached.items (slice_index self.old.bounds.items hop) (slice_index self.old.bounds.items (hop + 1)) self.new.arrival.items b) }
+    {
+        let mut least = best;
+        let first = self.bounds[hop];
+        let begin = self.bounds[hop + 1];
+        for place in first..begin {
+            let from = self.reached[place];
+            least = self.take_all(task, looks, from, begin, least)?;
+        }
+        Ok(least)
+    }
+
+    /// Makes layer 0: the start alone.
+    fn first_layer(&mut self, task: &Task<'_, A>) -> Result<(), NoMemory>
+        requires { IsTask task.now }
+        ensures bounds { OnOk result (self.new.bounds.items ≡ 0 ∷ 1 ∷ []) }
+        ensures reached { OnOk result (self.new.reached.items ≡ record { node = task.now.start; arrival = task.now.at; deadline = 0 } ∷ []) }
+        ensures lists { OnOk result (AreLists task.now.shut task.now.goal task.now.at 1 self.new.arrival.items self.new.place.items self.new.reached.items) }
+    {
+        open_nodes(&mut self.arrival, task, &[])?;
+        self.place.clear();
+        self.place.resize(task.shut().len(), 0)?;
+        self.reached.clear();
+        self.reached.push(Reached {
+            node: task.start(),
+            arrival: task.at(),
+            deadline: 0,
+        })?;
+        self.bounds.clear();
+        self.bounds.push(0)?;
+        self.bounds.push(1)?;
+        Ok(())
+    }
+
+    /// Makes layers until the goal is reached by `lower`, before which no way delivers, no node is new, or the hops are used
+    /// up. Returns the least delivery; none if more than `most` looks might be needed.
+    pub fn make(
+        &mut self,
+        task: &Task<'_, A>,
+        looks: &mut Looks,
+        hops: usize,
+        lower: u64,
+        most: u64,
+    ) -> Result<Option<Best>, NoMemory>
+        requires task { IsTask task.now }
+        requires few { looks.old.count ≤ most }
+        requires most { most ≤ 2 ^ 62 }
+        requires sooner { lower < never }
+        requires lower { IsNoneBefore task.now lower }
+        ensures looks { looks.new.count ≤ most }
+        ensures counted { looks.new.count ≤ looks.old.count + hops * length task.now.plan.contacts }
+        ensures none { IfOk result (λ o. IfNone o (most < looks.old.count + hops * length task.now.plan.contacts)) }
+        ensures best { IfOk result (λ o. IfSome o (IsBestWithin task.now hops)) }
+    {
+        self.first_layer(task)?;
+        let mut best = Best {
+            delivery: NEVER,
+            hops: 0,
+        };
+        for hop in 0..hops {
+            if task.one_pass() > most - looks.count {
+                return Ok(None);
+            }
+            let delivery = self.next_layer(task, looks, hop, best.delivery)?;
+            if delivery < best.delivery {
+                best = Best {
+                    delivery,
+                    hops: hop + 1,
+                };
+            }
+            let begin = self.bounds[hop + 1];
+            let end = self.reached.len();
+            self.bounds.push(end)?;
+            if best.delivery <= lower {
+                return Ok(Some(best));
+            }
+            if end == begin {
+                return Ok(Some(best));
+            }
+        }
+        Ok(Some(best))
+    }
+}

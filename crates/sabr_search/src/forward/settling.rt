@@ -1,0 +1,306 @@
+//! Nodes settled in order of their arrival, up to the first delivery at the goal.
+
+ghost use Rattle.std.specs.Prelude.{◌≡◌, ◌≢◌, ◌⊎◌, IsTrue, ℕ, min, [], ◌+◌, ◌^◌, ◌≤◌, ◌<◌, length, slice_get, slice_set, slice_index, slice_index_or, replicate, Some, OnOk, IfOk, IfSome, IfNone, true, false};
+ghost use Rattle.sabr_search.specs.questions.Task.{IsTask, Takes};
+ghost use Rattle.sabr_search.specs.questions.Steps.{degree};
+ghost use Rattle.sabr_search.specs.questions.Linked.{AreLinksAt, IsLinkWithin, HasNumber};
+ghost use Rattle.sabr_search.specs.layers.Lists.{IsKnown};
+ghost use Rattle.sabr_search.specs.layers.Made.{AreOpened};
+ghost use Rattle.sabr_search.specs.layers.Late.{AreArrivals};
+ghost use Rattle.sabr_search.specs.questions.FirstSteps.{AreFirstSteps};
+ghost use Rattle.sabr_search.specs.layers.Settling.{IsBound, AreReal, AreArrivalsBy, settled_count, IsWayTo, IsFirstWay, AreSettling, AreSettled, IsFallen, AreSettledTaken};
+
+use crate::backward::pick::Standing;
+use crate::forward::layers::{Best, NEVER, news_before, open_nodes};
+use crate::forward::queue::{Event, Queue};
+use crate::links::looks::Looks;
+use crate::links::over_link::{WalkedLink, is_soonest, link_passes};
+use crate::task::Task;
+use sabr_index::{Link, Links};
+use sabr_model::NoMemory;
+use std::alloc::Allocator;
+
+/// What nodes are settled for.
+#[derive(Drop)]
+pub struct Forward<'t, 'a, 'b, A: Allocator + Copy> {
+    /// The search.
+    pub task: &'t Task<'a, A>,
+    /// For each node, a second from which on no way leads to the goal; none is known after the list's end.
+    pub late: &'b [u64],
+}
+
+/// Returns true if, by the bounds of a link, nothing that is at its sender at `at` brings news to its receiver.
+#[inline(always)]
+fn is_told(arrival: &[u64], goal: usize, link: &Link, at: u64, best: u64) -> bool
+    requires { link.now.receiver < length arrival.now }
+    ensures goal { IsTrue result → link.now.receiver ≡ goal → (best ≤ link.now.bounds.soonest) ⊎ (best ≤ at + link.now.bounds.least_light) }
+    ensures other { IsTrue result → link.now.receiver ≢ goal → (slice_index arrival.now link.now.receiver ≤ link.now.bounds.soonest) ⊎ (slice_index arrival.now link.now.receiver ≤ at + link.now.bounds.least_light) }
+{
+    let to = link.receiver;
+    let known = if to == goal { best } else { arrival[to] };
+    is_soonest(link.bounds, at, known)
+}
+
+/// For each node, its least arrival so far and whether it is settled; and the waiting arrivals.
+#[derive(Drop)]
+pub struct Settling<A: Allocator + Copy> {
+    pub arrival: Vec<u64, A>,
+    settled: Vec<bool, A>,
+    queue: Queue<A>,
+}
+
+impl<A: Allocator + Copy> Settling<A> {
+    /// Makes an empty value. It takes no memory.
+    pub fn new(alloc: A) -> Settling<A> {
+        Settling {
+            arrival: Vec::new(alloc),
+            settled: Vec::new(alloc),
+            queue: Queue::new(alloc),
+        }
+    }
+
+    /// Starts with no node settled, no event waiting, and nothing reached but the start.
+    fn first_events(&mut self, forward: &Forward<'_, '_, '_, A>) -> Result<(), NoMemory>
+        requires { IsTask forward.now.task.now }
+        ensures arrivals { OnOk result (AreOpened forward.now.task.now forward.now.late.now self.new.arrival.items) }
+        ensures settled { OnOk result (self.new.settled.items ≡ replicate (length forward.now.task.now.shut) false) }
+        ensures queue { OnOk result (self.new.queue ≡ []) }
+    {
+        open_nodes(&mut self.arrival, forward.task, forward.late)?;
+        self.settled.clear();
+        self.settled.resize(forward.task.shut().len(), false)?;
+        self.queue.clear();
+        Ok(())
+    }
+
+    /// Notes an arrival that is news. Returns the first delivery so far.
+    fn reach(
+        &mut self,
+        forward: &Forward<'_, '_, '_, A>,
+        event: Event,
+        step: Standing,
+        best: Best,
+    ) -> Result<Best, NoMemory>
+        requires task { IsTask forward.now.task.now }
+        requires receiver { step.node < length forward.now.task.now.table }
+        requires later { event.at ≤ step.at }
+        requires sooner { step.at < best.delivery }
+        requires news { step.node ≢ forward.now.task.now.goal → step.at < slice_index self.old.arrival.items step.node }
+        requires step { slice_index_or forward.now.task.now.shut step.node false ≡ false → (n : ℕ) × Takes forward.now.task.now n event.node event.at step.node step.at }
+        requires real { IsWayTo forward.now.task.now event.node event.hops event.at }
+        requires few { event.hops < settled_count self.old.settled.items }
+        requires state { AreSettling forward.now.task.now forward.now.late.now self.old.settled.items event.at self.old.arrival.items self.old.queue best }
+        ensures settled { self.new.settled ≡ self.old.settled }
+        ensures state { IfOk result (λ b. AreSettling forward.now.task.now forward.now.late.now self.old.settled.items event.at self.new.arrival.items self.new.queue b) }
+        ensures fallen { IfOk result (λ b. IsFallen self.old.settled.items self.old.arrival.items best self.new.arrival.items b) }
+        ensures known { IfOk result (λ b. IsKnown forward.now.task.now.goal self.new.arrival.items b.delivery step.node step.at) }
+        ensures pushes { OnOk result (length self.new.queue ≤ length self.old.queue + 1) }
+    {
+        let Standing { node, at } = step;
+        let hops = event.hops + 1;
+        if node == forward.task.goal() {
+            return Ok(Best { delivery: at, hops });
+        }
+        self.queue.push(Event { at, hops, node })?;
+        self.arrival[node] = at;
+        Ok(best)
+    }
+
+    /// Takes one link of a settled node. Returns the first delivery so far.
+    fn take_link(
+        &mut self,
+        forward: &Forward<'_, '_, '_, A>,
+        looks: &mut Looks,
+        event: Event,
+        link: WalkedLink<'_>,
+        best: Best,
+    ) -> Result<Best, NoMemory>
+        requires task { IsTask forward.now.task.now }
+        requires from { link.from ≡ event.node }
+        requires link { IsLinkWithin forward.now.task.now link.from link.to link.passes.now link.bounds }
+        requires receiver { link.to < length forward.now.task.now.table }
+        requires real { IsWayTo forward.now.task.now event.node event.hops event.at }
+        requires few_hops { event.hops < settled_count self.old.settled.items }
+        requires few { looks.old.count + length link.passes.now ≤ 2 ^ 62 }
+        requires state { AreSettling forward.now.task.now forward.now.late.now self.old.settled.items event.at self.old.arrival.items self.old.queue best }
+        ensures settled { self.new.settled ≡ self.old.settled }
+        ensures looks { looks.new.count ≤ looks.old.count + length link.entry.passes.now }
+        ensures state { IfOk result (λ b. AreSettling forward.now.task.now forward.now.late.now self.old.settled.items event.at self.new.arrival.items self.new.queue b) }
+        ensures fallen { IfOk result (λ b. IsFallen self.old.settled.items self.old.arrival.items best self.new.arrival.items b) }
+        ensures known { IfOk result (λ b. (n w x : ℕ) → HasNumber link.entry.passes.now n → Takes forward.now.task.now n link.entry.from event.at w x → IsKnown forward.now.task.now.goal self.new.arrival.items b.delivery w x) }
+        ensures pushes { OnOk result (length self.new.queue + looks.old.count ≤ length self.old.queue + looks.new.count) }
+    {
+        let task = forward.task;
+        let to = link.to;
+        let before = news_before(&self.arrival, task, to, best.delivery);
+        let at = task.arrive_over(looks, link, event.at, before);
+        if at >= before {
+            return Ok(best);
+        }
+        let least = self.reach(forward, event, Standing { node: to, at }, best)?;
+        Ok(least)
+    }
+
+    /// Settles a node that is reached at the event, and takes every contact of it. Returns the first delivery so far.
+    fn settle(
+        &mut self,
+        forward: &Forward<'_, '_, '_, A>,
+        looks: &mut Looks,
+        event: Event,
+        links: Links<'_>,
+        best: Best,
+    ) -> Result<Best, NoMemory>
+        requires task { IsTask forward.now.task.now }
+        requires node { event.node < length forward.now.task.now.table }
+        requires many { length self.old.settled.items ≡ length forward.now.task.now.table }
+        requires unsettled { slice_index_or self.old.settled.items event.node false ≡ false }
+        requires reached { slice_index self.old.arrival.items event.node ≡ event.at }
+        requires real { IsWayTo forward.now.task.now event.node event.hops event.at }
+        requires few_hops { event.hops ≤ settled_count self.old.settled.items }
+        requires links { AreLinksAt forward.now.task.now event.node links.links.now links.passes.now }
+        requires few { looks.old.count + length links.passes.now ≤ 2 ^ 62 }
+        requires state { AreSettling forward.now.task.now forward.now.late.now (slice_set self.old.settled.items event.node true) event.at self.old.arrival.items self.old.queue best }
+        requires taken { AreSettledTaken forward.now.task.now self.old.settled.items self.old.arrival.items best.delivery }
+        ensures settled { self.new.settled.items ≡ slice_set self.old.settled.items event.node true }
+        ensures looks { looks.new.count ≤ looks.old.count + length links.entry.passes.now }
+        ensures state { IfOk result (λ b. AreSettling forward.now.task.now forward.now.late.now (slice_set self.old.settled.items event.node true) event.at self.new.arrival.items self.new.queue b) }
+        ensures fallen { IfOk result (λ b. IsFallen (slice_set self.old.settled.items event.node true) self.old.arrival.items best self.new.arrival.items b) }
+        ensures taken { IfOk result (λ b. AreSettledTaken forward.now.task.now (slice_set self.old.settled.items event.node true) self.new.arrival.items b.delivery) }
+        ensures pushes { OnOk result (length self.new.queue + looks.old.count ≤ length self.old.queue + looks.new.count) }
+    {
+        self.settled[event.node] = true;
+        let goal = forward.task.goal();
+        let mut least = best;
+        for link in links.links {
+            if is_told(&self.arrival, goal, link, event.at, least.delivery) {
+                continue;
+            }
+            let passes = link_passes(links, link);
+            let walked = WalkedLink {
+                from: event.node,
+                to: link.receiver,
+                passes,
+                bounds: link.bounds,
+            };
+            least = self.take_link(forward, looks, event, walked, least)?;
+        }
+        Ok(least)
+    }
+
+    /// Settles the start, from where its first steps come to. Returns the first delivery among them.
+    fn settle_start(
+        &mut self,
+        forward: &Forward<'_, '_, '_, A>,
+        first: &[Standing],
+    ) -> Result<Best, NoMemory>
+        requires task { IsTask forward.now.task.now }
+        requires bound { IsBound forward.now.task.now forward.now.late.now }
+        requires inside { (k : ℕ) (s : Standing) → slice_get first.now k ≡ Some s → s.node < length forward.now.task.now.table }
+        requires steps { AreFirstSteps forward.now.task.now first.now }
+        requires real { AreReal forward.now.task.now first.now }
+        requires arrivals { AreOpened forward.now.task.now forward.now.late.now self.old.arrival.items }
+        requires settled { self.old.settled.items ≡ replicate (length forward.now.task.now.shut) false }
+        requires queue { self.old.queue ≡ [] }
+        ensures settled { self.new.settled.items ≡ slice_set self.old.settled.items forward.now.task.now.start true }
+        ensures state { IfOk result (λ b. AreSettled forward.now.task.now forward.now.late.now self.new.settled.items self.new.arrival.items self.new.queue b) }
+    {
+        let event = Event {
+            at: forward.task.at(),
+            hops: 0,
+            node: forward.task.start(),
+        };
+        self.settled[event.node] = true;
+        let mut best = Best {
+            delivery: NEVER,
+            hops: 0,
+        };
+        for place in 0..first.len() {
+            let step = first[place];
+            if step.at < news_before(&self.arrival, forward.task, step.node, best.delivery) {
+                best = self.reach(forward, event, step, best)?;
+            }
+        }
+        Ok(best)
+    }
+
+    /// Settles nodes in order of their arrival, until no event comes before the first delivery at the goal. Returns
+    /// that delivery and the hops of a way with it; no hops if no way leads there. Looks at each contact
+    /// of another node than the start at most once. None if more than `most` looks might be needed.
+    fn settle_all(
+        &mut self,
+        forward: &Forward<'_, '_, '_, A>,
+        looks: &mut Looks,
+        first: &[Standing],
+        most: u64,
+    ) -> Result<Option<Best>, NoMemory>
+        requires task { IsTask forward.now.task.now }
+        requires bound { IsBound forward.now.task.now forward.now.late.now }
+        requires inside { (k : ℕ) (s : Standing) → slice_get first.now k ≡ Some s → s.node < length forward.now.task.now.table }
+        requires steps { AreFirstSteps forward.now.task.now first.now }
+        requires real { AreReal forward.now.task.now first.now }
+        requires few { looks.old.count ≤ most }
+        requires most { most ≤ 2 ^ 62 }
+        ensures looks { looks.new.count ≤ most }
+        ensures counted { looks.new.count + degree forward.now.task.now forward.now.task.now.start ≤ looks.old.count + length forward.now.task.now.plan.contacts }
+        ensures none { IfOk result (λ o. IfNone o (most + degree forward.now.task.now forward.now.task.now.start < looks.old.count + length forward.now.task.now.plan.contacts)) }
+        ensures first { IfOk result (λ o. IfSome o (IsFirstWay forward.now.task.now)) }
+        ensures arrivals { IfOk result (λ o. IfSome o (λ best. AreArrivalsBy forward.now.task.now self.new.arrival.items best.delivery)) }
+    {
+        self.first_events(forward)?;
+        let mut best = self.settle_start(forward, first)?;
+        while let Some(event) = self.queue.pop() {
+            if event.at >= best.delivery {
+                return Ok(Some(best));
+            }
+            if !self.settled[event.node] {
+                let links = forward.task.links(event.node);
+                if links.passes.len() as u64 > most - looks.count {
+                    return Ok(None);
+                }
+                best = self.settle(forward, looks, event, links, best)?;
+            }
+        }
+        Ok(Some(best))
+    }
+
+    /// Lowers each arrival to a second at the most.
+    fn lower(&mut self, most: u64)
+        ensures many { length self.new.arrival.items ≡ length self.old.arrival.items }
+        ensures lowered { (k : ℕ) → slice_index self.new.arrival.items k ≤ min (slice_index self.old.arrival.items k) most }
+    {
+        for place in 0..self.arrival.len() {
+            self.arrival[place] = self.arrival[place].min(most);
+        }
+    }
+
+    /// Settles as many nodes as it takes to find the first delivery at the goal, from where the first steps come to.
+    /// Returns it and the hops of a way with it; no hops if no way leads there. No way comes to a node before its
+    /// arrival. Looks as in `settle_all`, and none as there.
+    pub fn run(
+        &mut self,
+        forward: &Forward<'_, '_, '_, A>,
+        looks: &mut Looks,
+        first: &[Standing],
+        most: u64,
+    ) -> Result<Option<Best>, NoMemory>
+        requires task { IsTask forward.now.task.now }
+        requires bound { IsBound forward.now.task.now forward.now.late.now }
+        requires inside { (k : ℕ) (s : Standing) → slice_get first.now k ≡ Some s → s.node < length forward.now.task.now.table }
+        requires steps { AreFirstSteps forward.now.task.now first.now }
+        requires real { AreReal forward.now.task.now first.now }
+        requires few { looks.old.count ≤ most }
+        requires most { most ≤ 2 ^ 62 }
+        ensures looks { looks.new.count ≤ most }
+        ensures counted { looks.new.count + degree forward.now.task.now forward.now.task.now.start ≤ looks.old.count + length forward.now.task.now.plan.contacts }
+        ensures none { IfOk result (λ o. IfNone o (most + degree forward.now.task.now forward.now.task.now.start < looks.old.count + length forward.now.task.now.plan.contacts)) }
+        ensures first { IfOk result (λ o. IfSome o (IsFirstWay forward.now.task.now)) }
+        ensures arrivals { IfOk result (λ o. IfSome o (λ best. AreArrivals forward.now.task.now self.new.arrival.items)) }
+    {
+        let found = self.settle_all(forward, looks, first, most)?;
+        let Some(best) = found else {
+            return Ok(None);
+        };
+        self.lower(best.delivery);
+        Ok(Some(best))
+    }
+}

@@ -1,0 +1,114 @@
+//! A search in a list of numbers that begins where the last one ended.
+
+ghost use Rattle.std.specs.Prelude.{◌≡◌, ◌↔◌, ℕ, ◌+◌, ◌<◌, ◌≤◌, Contains, IsTrue, true, false};
+ghost use Rattle.std.specs.List.Sorted.{IsNonDecreasing, IsStrictlyIncreasing};
+ghost use Rattle.sabr_model.specs.plan.Plan.{has};
+
+/// Numbers that no way takes first.
+#[derive(Clone, Copy)]
+pub struct Excluded<'a> {
+    pub numbers: &'a [u32],
+    /// Whether these are known to rise.
+    pub rising: bool,
+}
+
+/// Where the next number is looked for first. It may be anywhere: the answer rests on what is compared.
+#[derive(Clone, Copy)]
+pub struct Finger {
+    place: usize,
+}
+
+impl Finger {
+    /// Starts at the front of the list.
+    pub fn new() -> Finger {
+        Finger { place: 0 }
+    }
+
+    /// Returns how many consecutive numbers from this one on are in the list: 0 if this one isn't, else at least half
+    /// of them. At most `behind` after this one are asked for. If the list isn't known to rise, only this number is
+    /// looked for.
+    #[inline(always)]
+    pub fn counts(&mut self, numbers: &[u32], rising: bool, number: u32, behind: u32) -> usize
+        requires { IsTrue rising → IsStrictlyIncreasing numbers.now }
+        ensures none { result ≡ 0 → has number numbers.now ≡ false }
+        ensures some { (j : ℕ) → j < result → has (number + j) numbers.now ≡ true }
+        ensures limit { result ≤ behind + 1 }
+    {
+        if !self.finds(numbers, rising, number) {
+            return 0;
+        }
+        if !rising || behind == 0 {
+            return 1;
+        }
+        let more = row_behind(numbers, self.place, number, behind);
+        self.place = self.place.saturating_add(more);
+        more + 1
+    }
+
+    /// Returns true if the number is in the list. It takes one comparison if the number stands after the one that was
+    /// found last, else a binary search.
+    #[inline(always)]
+    fn finds(&mut self, numbers: &[u32], in_order: bool, number: u32) -> bool
+        requires { IsTrue in_order → IsNonDecreasing numbers.now }
+        ensures { IsTrue result ↔ Contains numbers.now number }
+    {
+        if self.place < numbers.len() && numbers[self.place] == number {
+            self.place += 1;
+            return true;
+        }
+        self.seeks(numbers, in_order, number)
+    }
+
+    /// Does the same by binary search. The finger then stands after the number, or where it would stand.
+    #[inline(never)]
+    fn seeks(&mut self, numbers: &[u32], in_order: bool, number: u32) -> bool
+        requires { IsTrue in_order → IsNonDecreasing numbers.now }
+        ensures { IsTrue result ↔ Contains numbers.now number }
+    {
+        if !in_order {
+            return numbers.contains(&number);
+        }
+        match numbers.binary_search(&number) {
+            Ok(place) => {
+                self.place = place + 1;
+                true
+            }
+            Err(place) => {
+                self.place = place;
+                false
+            }
+        }
+    }
+}
+
+/// Returns true if each number is greater than the one before it. It compares all of them, several at a time.
+pub fn rises(numbers: &[u32]) -> bool
+    ensures { IsTrue result → IsStrictlyIncreasing numbers.now }
+{
+    let mut rising = true;
+    for place in 1..numbers.len() {
+        rising &= numbers[place - 1] < numbers[place];
+    }
+    rising
+}
+
+/// Returns how many of the numbers after this one stand one by one in a rising list from a place on: at least half of
+/// them, and at most `most`.
+#[inline(never)]
+fn row_behind(numbers: &[u32], place: usize, number: u32, most: u32) -> usize
+    requires { IsStrictlyIncreasing numbers.now }
+    ensures some { (j : ℕ) → j < result → has (number + 1 + j) numbers.now ≡ true }
+    ensures limit { result ≤ most }
+{
+    if place >= numbers.len() || numbers[place] as u64 != number as u64 + 1 {
+        return 0;
+    }
+    let mut more = (most as usize).min(numbers.len() - place);
+    while more > 1 {
+        if numbers[place + more - 1] as u64 == number as u64 + more as u64 {
+            return more;
+        }
+        more /= 2;
+    }
+    more
+}

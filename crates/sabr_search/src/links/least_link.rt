@@ -1,0 +1,71 @@
+//! The least number of a link that arrives in time.
+
+ghost use Rattle.std.specs.Prelude.{◌≡◌, ◌⊎◌, ℕ, ◌+◌, ◌^◌, ◌≤◌, ◌<◌, IfSome, length};
+ghost use Rattle.sabr_search.specs.questions.Task.{IsTask, Takes};
+ghost use Rattle.sabr_search.specs.layers.Picks.{IsAtMost, IsStepOver};
+ghost use Rattle.sabr_search.specs.questions.Linked.{IsLinkWithin, HasNumber};
+
+use crate::backward::pick::{Step, is_at_most};
+use crate::links::finger::Finger;
+use crate::links::looks::Looks;
+use crate::links::over_link::{WalkedLink, first_open, rules_out};
+use crate::task::Task;
+use std::alloc::Allocator;
+
+impl<'a, A: Allocator + Copy> Task<'a, A> {
+    /// Returns the step of least number over a link, for what is at its sender at `at`. It arrives before `before`, and
+    /// its number is less than that of `least`. If there is no such step, returns `least`.
+    #[inline(always)]
+    pub fn least_over(
+        &self,
+        looks: &mut Looks,
+        link: WalkedLink<'_>,
+        at: u64,
+        before: u64,
+        least: Option<Step>,
+    ) -> Option<Step>
+        requires task { IsTask self.now }
+        requires link { IsLinkWithin self.now link.from link.to link.passes.now link.bounds }
+        requires few { looks.old.count + length link.passes.now ≤ 2 ^ 62 }
+        ensures looks { looks.new.count ≤ looks.old.count + length link.entry.passes.now }
+        ensures some_looks { (result ≡ least) ⊎ (looks.old.count < looks.new.count) }
+        ensures lower { (n : ℕ) → IsAtMost least n → IsAtMost result n }
+        ensures sound { (result ≡ least) ⊎ IfSome result (IsStepOver self.now link.entry.from at link.entry.to before) }
+        ensures full { (n w b : ℕ) → HasNumber link.entry.passes.now n → Takes self.now n link.entry.from at w b → b < before → IsAtMost result n }
+    {
+        if rules_out(link.bounds, at, before) {
+            return least;
+        }
+        let passes = link.passes;
+        let mut chosen = least;
+        let mut finger = Finger::new();
+        let mut place = first_open(passes, at);
+        while place < passes.len() {
+            let pass = looks.look(&passes[place]);
+            if is_at_most(chosen, pass.least_number_behind) {
+                return chosen;
+            }
+            let excluded = self.excluded_from(link.from, pass, &mut finger);
+            if excluded > 0 {
+                place += excluded.min(passes.len() - place);
+                continue;
+            }
+            if self.comes_late(pass, at, before) {
+                return chosen;
+            }
+            place += 1;
+            if is_at_most(chosen, pass.number) {
+                continue;
+            }
+            let hop = self.hop_over(link.to, pass);
+            if let Some(arrival) = self.arrive_before(at, &hop, before) {
+                chosen = Some(Step {
+                    number: pass.number,
+                    node: link.to,
+                    at: arrival,
+                });
+            }
+        }
+        chosen
+    }
+}

@@ -1,0 +1,79 @@
+//! The last second at which a link can be left in time, from its last passes backward.
+
+ghost use Rattle.std.specs.Prelude.{◌≡◌, ◌≢◌, ◌⊎◌, ℕ, ◌+◌, ◌^◌, ◌≤◌, ◌<◌, max, IsTrue, false, Some, length, slice_get, slice_index_or};
+ghost use Rattle.sabr_index.specs.declared.link.Pass.{Pass};
+ghost use Rattle.sabr_model.specs.routes.Arrival.{cost};
+ghost use Rattle.sabr_model.specs.plan.Plan.{most_light};
+ghost use Rattle.sabr_search.specs.questions.Task.{IsTask, Takes};
+ghost use Rattle.sabr_search.specs.questions.Linked.{IsLinkWithin, AreInOrder, HasNumber};
+
+use crate::links::looks::Looks;
+use crate::links::over_link::{WalkedLink, rules_out};
+use crate::task::Task;
+use sabr_index::Pass;
+use std::alloc::Allocator;
+
+/// Returns the number of passes of a link that start before `before`; these come first. A link's only pass is counted
+/// even if it starts later. A binary search: it compares the starts, by which a link's passes are sorted.
+fn begun(passes: &[Pass], before: u64) -> usize
+    requires { AreInOrder passes.now }
+    ensures within { result ≤ length passes.now }
+    ensures late { (k : ℕ) (x : Pass) → result ≤ k → slice_get passes.now k ≡ Some x → before ≤ x.start }
+{
+    if passes.len() == 1 {
+        return 1;
+    }
+    passes.partition_point(|pass| pass.start < before)
+}
+
+impl<'a, A: Allocator + Copy> Task<'a, A> {
+    /// Returns true if nothing that is at the sender at `since` or later, and at `latest` or later, arrives before
+    /// `before` over this pass or an earlier one.
+    fn leaves_no_later(&self, pass: &Pass, since: u64, before: u64, latest: u64) -> bool
+        requires light { pass.now.least_light_before ≤ most_light }
+        ensures { IsTrue result → (pass.now.latest_end ≤ max latest since) ⊎ (before ≤ latest + cost self.now.request.margin pass.now.least_light_before) }
+    {
+        if pass.latest_end <= latest.max(since) || before <= latest {
+            return true;
+        }
+        before - latest <= self.cost(pass.least_light_before)
+    }
+
+    /// Returns the first second from which on nothing leaves over a link and arrives before `before`, if that is later
+    /// than `latest`; otherwise `latest`. Nothing is said of what is at the sender before `since`. It takes a binary
+    /// search and one look for each pass in question.
+    pub fn leave_over(
+        &self,
+        looks: &mut Looks,
+        link: WalkedLink<'_>,
+        since: u64,
+        before: u64,
+        latest: u64,
+    ) -> u64
+        requires task { IsTask self.now }
+        requires link { IsLinkWithin self.now link.from link.to link.passes.now link.bounds }
+        requires other { link.from ≢ self.now.start }
+        requires few { looks.old.count + length link.passes.now ≤ 2 ^ 62 }
+        ensures looks { looks.new.count ≤ looks.old.count + length link.entry.passes.now }
+        ensures some_looks { latest < result → looks.old.count < looks.new.count }
+        ensures lower { latest ≤ result }
+        ensures sound { (t : ℕ) → latest ≤ t → t < result → (b : ℕ) × (b < before) × (slice_index_or self.now.shut link.entry.to false ≡ false → (n : ℕ) × Takes self.now n link.entry.from t link.entry.to b) }
+        ensures full { (n t w b : ℕ) → HasNumber link.entry.passes.now n → since ≤ t → Takes self.now n link.entry.from t w b → b < before → t < result }
+    {
+        if rules_out(link.bounds, latest.max(since), before) {
+            return latest;
+        }
+        let passes = link.passes;
+        let mut last = latest;
+        let end = begun(passes, before);
+        for back in 0..end {
+            let pass = looks.look(&passes[end - 1 - back]);
+            if self.leaves_no_later(pass, since, before, last) {
+                return last;
+            }
+            let hop = self.hop_over(link.to, pass);
+            last = last.max(self.leave_before(&hop, before));
+        }
+        last
+    }
+}

@@ -1,0 +1,140 @@
+//! The arrival over a whole link: a binary search and a few looks instead of one look for each of its contacts.
+
+ghost use Rattle.std.specs.Prelude.{◌≡◌, ◌⊎◌, ℕ, ◌+◌, ◌^◌, ◌≤◌, ◌<◌, max, IsTrue, false, Some, length, slice_get, slice_index_or};
+ghost use Rattle.sabr_index.specs.declared.link.Pass.{Pass};
+ghost use Rattle.sabr_model.specs.routes.Arrival.{cost};
+ghost use Rattle.sabr_model.specs.routes.Hops.{IsSmall};
+ghost use Rattle.sabr_model.specs.plan.Plan.{most_light};
+ghost use Rattle.sabr_search.specs.questions.Task.{IsTask, Takes};
+ghost use Rattle.sabr_search.specs.questions.Steps.{IsHopAt};
+ghost use Rattle.sabr_search.specs.questions.Linked.{IsPassAt, IsLinkWithin, AreInOrder, HasNumber, passes_of};
+
+use crate::links::finger::Finger;
+use crate::links::looks::Looks;
+use crate::task::Task;
+use sabr_index::{Link, LinkBounds, Links, Pass};
+use sabr_model::Hop;
+use std::alloc::Allocator;
+
+/// A link that is walked: the indexes of its sender and its receiver in the table of nodes, its passes by start, and
+/// bounds for all of them.
+#[derive(Clone, Copy)]
+pub struct WalkedLink<'a> {
+    pub from: usize,
+    pub to: usize,
+    pub passes: &'a [Pass],
+    pub bounds: LinkBounds,
+}
+
+/// The passes of a link.
+pub fn link_passes<'a>(links: Links<'a>, link: &Link) -> &'a [Pass]
+    requires ordered { link.now.first ≤ link.now.end }
+    requires within { link.now.end ≤ length links.passes.now }
+    ensures { result.now ≡ passes_of links.entry.passes.now link.now }
+{
+    &links.passes[link.first..link.end]
+}
+
+/// Returns true if, by what bounds the arrivals over the whole link, nothing that is at its sender at `at` or later
+/// arrives before `before`.
+pub fn is_soonest(bounds: LinkBounds, at: u64, before: u64) -> bool
+    ensures late { IsTrue result → (before ≤ bounds.soonest) ⊎ (before ≤ at + bounds.least_light) }
+    ensures early { result ≡ false → at < before }
+{
+    before <= bounds.soonest || before.saturating_sub(at) <= bounds.least_light as u64
+}
+
+/// Returns true if, by the bounds of the whole link, nothing that is at its sender at `at` or later arrives before
+/// `before`.
+pub fn rules_out(bounds: LinkBounds, at: u64, before: u64) -> bool
+    ensures late { IsTrue result → (bounds.latest_end ≤ at) ⊎ ((before ≤ bounds.soonest) ⊎ (before ≤ at + bounds.least_light)) }
+    ensures early { result ≡ false → at < before }
+{
+    bounds.latest_end <= at || is_soonest(bounds, at, before)
+}
+
+/// Returns the number of passes at the front of a link that have ended by `at`. Those after them, or the only one, may
+/// have ended as well. A binary search: it compares the bounds that stand beside the passes.
+pub fn first_open(passes: &[Pass], at: u64) -> usize
+    requires { AreInOrder passes.now }
+    ensures within { result ≤ length passes.now }
+    ensures ended { (k : ℕ) (x : Pass) → k < result → slice_get passes.now k ≡ Some x → x.end ≤ at }
+{
+    if passes.len() <= 1 || passes[0].latest_end > at {
+        return 0;
+    }
+    passes.partition_point(|pass| pass.latest_end <= at)
+}
+
+impl<'a, A: Allocator + Copy> Task<'a, A> {
+    /// Returns the record of a pass that was looked at.
+    pub fn hop_over(&self, to: usize, pass: &Pass) -> Hop
+        requires pass { (node : ℕ) × IsPassAt self.now node to pass.now }
+        requires task { IsTask self.now }
+        ensures value { IsHopAt self.now pass.now.number result }
+        ensures small { IsSmall result }
+        ensures receiver { result.receiver ≡ to }
+    {
+        Hop {
+            start: pass.start,
+            end: pass.end,
+            receiver: to,
+            light: Some(pass.light),
+        }
+    }
+
+    /// Returns true if what is at the sender at `at` arrives at `before` or later over this pass and over each one
+    /// after it.
+    pub fn comes_late(&self, pass: &Pass, at: u64, before: u64) -> bool
+        requires light { pass.now.least_light_behind ≤ most_light }
+        ensures { IsTrue result → before ≤ max at pass.now.start + cost self.now.request.margin pass.now.least_light_behind }
+    {
+        let sent = at.max(pass.start);
+        sent >= before || self.cost(pass.least_light_behind) >= before - sent
+    }
+
+    /// Returns the least arrival over a link of what is at its sender at `at`, if it is before `before`; otherwise
+    /// `before`. It takes a binary search and one look for each pass in question, mostly two. Excluded passes with
+    /// consecutive numbers take one look.
+    #[inline(always)]
+    pub fn arrive_over(&self, looks: &mut Looks, link: WalkedLink<'_>, at: u64, before: u64) -> u64
+        requires task { IsTask self.now }
+        requires link { IsLinkWithin self.now link.from link.to link.passes.now link.bounds }
+        requires few { looks.old.count + length link.passes.now ≤ 2 ^ 62 }
+        ensures looks { looks.new.count ≤ looks.old.count + length link.entry.passes.now }
+        ensures looked { looks.old.count ≤ looks.new.count }
+        ensures some_looks { result < before → looks.old.count < looks.new.count }
+        ensures upper { result ≤ before }
+        ensures later { result < before → at ≤ result }
+        ensures sound { result < before → slice_index_or self.now.shut link.entry.to false ≡ false → (n : ℕ) × Takes self.now n link.entry.from at link.entry.to result }
+        ensures full { (n w b : ℕ) → HasNumber link.entry.passes.now n → Takes self.now n link.entry.from at w b → result ≤ b }
+    {
+        if rules_out(link.bounds, at, before) {
+            return before;
+        }
+        let passes = link.passes;
+        let mut least = before;
+        let mut finger = Finger::new();
+        let mut place = first_open(passes, at);
+        while place < passes.len() {
+            let pass = looks.look(&passes[place]);
+            let excluded = self.excluded_from(link.from, pass, &mut finger);
+            if excluded > 0 {
+                place += excluded.min(passes.len() - place);
+                continue;
+            }
+            if self.comes_late(pass, at, least) {
+                return least;
+            }
+            let hop = self.hop_over(link.to, pass);
+            if let Some(arrival) = self.arrive_before(at, &hop, least) {
+                if is_soonest(link.bounds, at, arrival) {
+                    return arrival;
+                }
+                least = arrival;
+            }
+            place += 1;
+        }
+        least
+    }
+}

@@ -1,0 +1,8 @@
+-- What reading and verifying a session text come to.
+pub mod NeverRead
+pub mod GoingOn
+pub mod SessionGivenSoFar
+pub mod SessionOutcomes
+pub mod ShortStates
+pub mod StepsTaken
+pub mod Verified

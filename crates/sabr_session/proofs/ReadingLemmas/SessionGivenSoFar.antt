@@ -1,0 +1,108 @@
+-- What reading a session text leaves, call by call.
+use Rattle.std.proofs.Common.{◌≡◌, ◌≢◌, ℕ, ◌+◌, Bool, true, false, List, [], ◌++◌, ◌⊎◌, inl, inr, sym, ap, ◌∙◌, refl, append_assoc, Result, Ok, Err, IfOk, IfErr}
+use Rattle.std.specs.Io.KnownBytes.{Consumes, IsAtEnd}
+use Rattle.sabr_model.specs.Devices.{Input}
+use Rattle.sabr_model.specs.plan.Plan.{TabledPlan}
+use Rattle.sabr_plan.specs.Canonical.{digest_of}
+use Rattle.sabr_plan.proofs.Consumed.{Consumes-append, Consumes-nil}
+use Rattle.sabr_frontier.specs.session.Session.{Seen}
+use Rattle.sabr_session.specs.declared.session_fault.SessionFault.{SessionFault}
+use Rattle.sabr_session.specs.declared.session_fault.SessionFault.TheVariants as fault
+use Rattle.sabr_session.specs.SessionRead.{Said, ComesTo}
+use Rattle.sabr_session.specs.SessionFed.{OpenText, nothing_fed, opened_over, outcome_of, IsRefusedPiece, IsFed, IsFinished}
+use Rattle.sabr_session.specs.SessionGiven.{ReadsSession, said_over}
+use Rattle.sabr_session.proofs.ReadingLemmas.SessionOutcomes.{said_of-outcome, outcome-read}
+use Rattle.sabr_session.proofs.ReadingLemmas.NeverRead.{text_not_read}
+
+-- these bytes were read of a text over the plan that wasn't refused, and whatever comes after them, it comes to the same
+pub record HasGiven (plan : TabledPlan) (calls : ℕ) (old new : Input) (t : OpenText) : Type 0 where
+  pub given : List ℕ
+  pub consumed : Consumes old.remaining new.remaining given
+  pub over : t.plan ≡ plan
+  pub counted : t.calls ≡ calls
+  pub same : (more : List ℕ) (ended : Bool) → said_over plan (given ++ more) ended ≡ outcome_of t more ended
+  pub fine : outcome_of t [] false ≡ Err fault.Read
+
+-- the text that a feed holds is such
+abbrev pub HasFed : TabledPlan → ℕ → Input → Input → Result OpenText SessionFault → Type 0
+HasFed plan calls old new (Ok t) = HasGiven plan calls old new t
+HasFed plan calls old new (Err f) = ⊥
+
+-- nothing was read at first
+pub nothing_given : (plan : TabledPlan) (calls : ℕ) (old : Input) (feed : Result OpenText SessionFault) → feed ≡ Ok (opened_over plan calls) → HasFed plan calls old old feed
+nothing_given plan calls old feed is = rw is (record {
+  given = [];
+  consumed = Consumes-nil old.remaining;
+  over = refl;
+  counted = refl;
+  same = λ more ended. said_of-outcome plan.plan (digest_of plan.plan) more ended;
+  fine = outcome-read plan.plan (digest_of plan.plan) nothing_fed refl refl;
+})
+
+-- one more piece
+pub piece_given : {U : Type 0} (plan : TabledPlan) (calls : ℕ) (old mid new : Input) (feed next : Result OpenText SessionFault) (piece : List ℕ) (u : U)
+    → HasFed plan calls old mid feed → Consumes mid.remaining new.remaining piece → IsFed {U = U} feed piece (Ok u) next → HasFed plan calls old new next
+piece_given plan calls old mid new (Err f) next piece u was consumed fed = absurd was
+piece_given plan calls old mid new (Ok t) (Err f) piece u was consumed fed = absurd fed
+piece_given plan calls old mid new (Ok t) (Ok s) piece u was consumed fed = record {
+  given = was.given ++ piece;
+  consumed = Consumes-append old.remaining mid.remaining new.remaining was.given piece was.consumed consumed;
+  over = fed.plan ∙ was.over;
+  counted = fed.calls ∙ was.counted;
+  same = λ more ended. ap (λ bytes. said_over plan bytes ended) (append_assoc was.given piece more) ∙ was.same (piece ++ more) ended ∙ fed.same more ended;
+  fine = fed.fine;
+}
+
+-- a piece is refused
+pub piece_refused : (plan : TabledPlan) (calls : ℕ) (old mid new : Input) (feed next : Result OpenText SessionFault) (piece : List ℕ) (f : SessionFault)
+    → HasFed plan calls old mid feed → Consumes mid.remaining new.remaining piece → new.failures ≡ old.failures → IsFed {U = Unit {0}} feed piece (Err f) next → ReadsSession plan old (Err f) new
+piece_refused plan calls old mid new (Err g) next piece f was consumed fine fed = absurd was
+piece_refused plan calls old mid new (Ok t) next piece f was consumed fine fed = record {
+  given = was.given ++ piece;
+  consumed = Consumes-append old.remaining mid.remaining new.remaining was.given piece was.consumed consumed;
+  told = inr (inr (fine, for_good fed.1));
+}
+  where
+    for_good : IsRefusedPiece t piece f → (f ≡ fault.NoMemory) ⊎ ((f ≢ fault.Read) × ((more : List ℕ) (ended : Bool) → said_over plan ((was.given ++ piece) ++ more) ended ≡ Err f))
+    for_good (inl memory) = inl memory
+    for_good (inr (other, refused)) =
+        inr (other, λ more ended. ap (λ bytes. said_over plan bytes ended) (append_assoc was.given piece more) ∙ was.same (piece ++ more) ended ∙ refused more ended)
+
+-- the reader ended
+pub reader_ended : (plan : TabledPlan) (calls : ℕ) (old mid new : Input) (feed : Result OpenText SessionFault) (answer : Result Seen SessionFault)
+    → HasFed plan calls old mid feed → Consumes mid.remaining new.remaining [] → IsAtEnd new.remaining → new.failures ≡ old.failures → IsFinished feed answer → ReadsSession plan old answer new
+reader_ended plan calls old mid new (Err f) answer was consumed end fine finished = absurd was
+reader_ended plan calls old mid new (Ok t) answer was consumed end fine finished = record {
+  given = was.given ++ [];
+  consumed = Consumes-append old.remaining mid.remaining new.remaining was.given [] was.consumed consumed;
+  told = inl (end, fine, rw (was.same [] true, ← was.over) finished);
+}
+
+-- and the session's finder was called as often as the one handed in
+pub calls_kept : (plan : TabledPlan) (calls : ℕ) (old new : Input) (feed : Result OpenText SessionFault) (answer : Result Seen SessionFault)
+    → HasFed plan calls old new feed → IfOk feed (λ t. IfOk answer (λ s. s.calls ≡ t.calls)) → IfOk answer (λ s. s.calls ≡ calls)
+calls_kept plan calls old new (Err f) answer was told = absurd was
+calls_kept plan calls old new (Ok t) (Err f) was told = tt
+calls_kept plan calls old new (Ok t) (Ok s) was told = told ∙ was.counted
+
+-- the fault of a session is Read only if its reader failed
+pub read_failed : (plan : TabledPlan) (old : Input) (answer : Result Seen SessionFault) (new : Input) → ReadsSession plan old answer new → IfErr answer (λ f. f ≡ fault.Read → new.failures ≡ old.failures + 1)
+read_failed plan old (Ok s) new reads = tt
+read_failed plan old (Err f) new reads = λ e.
+    elim reads.told [
+      | inl (end, fine, inl memory) ↦ absurd (no_memory (sym memory ∙ e))
+      | inl (end, fine, inr from) ↦ absurd (not_from reads.given e (said_over plan reads.given true) refl from)
+      | inr (inl (failed, so, broken)) ↦ failed
+      | inr (inr (fine, inl memory)) ↦ absurd (no_memory (sym memory ∙ e))
+      | inr (inr (fine, inr (other, refused))) ↦ absurd (other e)
+    ]
+  where
+    no_memory : fault.NoMemory ≢ fault.Read
+    no_memory e = cc
+
+    not_from : (given : List ℕ) → f ≡ fault.Read → (said : Result Said SessionFault) → said_over plan given true ≡ said → ComesTo plan.plan said (Err f) → ⊥
+    not_from given e (Ok s) is (inl (closed, never)) = absurd cc
+    not_from given e (Ok s) is (inr (count, closed, never)) = absurd cc
+    not_from given e (Err g) is told =
+        let same : f ≡ g = cc in
+        text_not_read plan.plan (digest_of plan.plan) given g is (sym same ∙ e)

@@ -1,0 +1,195 @@
+-- The first six lines of a session text, as they are spelled, say what they were written of.
+use Rattle.std.proofs.Common.{◌≡◌, ℕ, ◌<◌, ◌≤◌, ◌^◌, true, false, ◌&&◌, not, eqb, ltb, leb, List, [], ◌∷◌, ◌++◌, length, rules, refl, sym, ap, ◌∙◌, arith, append-nil, decimal, codes, Ok}
+use Rattle.std.specs.List.{AllByRecursion}
+use Rattle.std.proofs.lemmas.Bool.{and_parts, leb-true}
+use Rattle.std.proofs.lemmas.Bool.Decides.{nat_tests}
+use Rattle.std.specs.declared.option.Option.TheVariants.{Some, None}
+use Rattle.hex.specs.Hex.{encode_lower}
+use Rattle.sha2.specs.Sha256.{sha256}
+use Rattle.sabr_model.specs.plan.Plan.{IsNode, last_time, rises_above, has}
+use Rattle.sabr_model.specs.routes.Arrival.{RouteRequest}
+use Rattle.sabr_model.specs.routes.Asking.{most_hops, most_margin, request_refusal, limit_refusal, unlimited, IsRequest}
+use Rattle.sabr_plan.specs.Times.{time_text_of}
+use Rattle.sabr_plan.proofs.Seconds.{time_of-text}
+use Rattle.sabr_session.specs.SpacedNumbers.{list_text}
+use Rattle.sabr_session.specs.SessionText.{IsUnlimited}
+use Rattle.sabr_session.specs.SessionWords.{words_of, nodes_of, contacts_of}
+use Rattle.sabr_plan.specs.Numbers.{number_within}
+use Rattle.sabr_session.specs.SessionLines.{digest_named, request_of, emitted_of, last_listed, count_of, after_label}
+use Rattle.sabr_session.specs.SessionRead.{asked}
+use Rattle.sabr_session.specs.declared.reading.first_lines.Version.TheVariants.{One, Two}
+use Rattle.sabr_model.specs.declared.request_values.RequestValues.{RequestValues}
+use Rattle.sabr_session.proofs.WordLemmas.Labels.{label-front}
+use Rattle.sabr_plan.proofs.SpelledNumbers.{same_text, number_within-spelled_within}
+use Rattle.sabr_session.proofs.WordLemmas.SpelledWords.{IsWord, AreWithin, list_words, words-apart, words-word, words-list, list-read, decimal_is_word}
+use Rattle.sabr_session.proofs.WordLemmas.SpelledDigests.{digest_is}
+use Rattle.std.proofs.Math.Seq.{take-append_seam, drop-append_seam}
+
+-- a list of contact numbers that a text can hold
+pub record IsContactList (ns : List ℕ) : Type 0 where
+  pub within : AreWithin 1 4294967295 ns
+  pub few : length ns ≤ 20000
+
+-- ---- words
+
+-- a time's text is a word
+pub time_word : (t : ℕ) → IsWord (time_text_of t)
+unfolding time_text_of
+time_word t = search rules
+
+-- a word, a space and a text
+pub word-apart : (w u : List ℕ) → IsWord w → words_of (w ++ 32 ∷ u) ≡ w ∷ words_of u
+word-apart w u h = words-apart w u ∙ ap (λ ws. ws ++ words_of u) (words-word w h)
+
+number-apart : (n : ℕ) (u : List ℕ) → n < 10 ^ 64 → words_of (decimal n ++ 32 ∷ u) ≡ decimal n ∷ words_of u
+number-apart n u h = word-apart (decimal n) u (decimal_is_word n h)
+
+-- what stands after a label
+pub label-there : (label text : List ℕ) → after_label label (label ++ text) ≡ Some text
+label-there label text = label-front label (label ++ text) label text true (sym (take-append_seam label text)) (sym (drop-append_seam label text)) (same_text label label refl)
+
+-- ---- the lines of numbers and of the digest
+
+pub digest_read : (m : List ℕ) → digest_named (codes "plan " ++ encode_lower (sha256 m)) ≡ Some (encode_lower (sha256 m))
+unfolding digest_named
+digest_read m = rw (label-there (codes "plan ") (encode_lower (sha256 m)), digest_is m) refl
+
+pub emitted_read : (n : ℕ) → n ≤ 340282366920938463463374607431768211455 → emitted_of (codes "emitted " ++ decimal n) ≡ Some n
+unfolding emitted_of
+emitted_read n h = rw (label-there (codes "emitted ") (decimal n)) (number_within-spelled_within 0 340282366920938463463374607431768211455 (decimal n) n (omega arith) refl (omega arith) h)
+
+pub count_read : (n : ℕ) → n ≤ 18446744073709551615 → count_of (codes "parts " ++ decimal n) ≡ Some n
+unfolding count_of
+count_read n h = rw (label-there (codes "parts ") (decimal n)) (number_within-spelled_within 0 18446744073709551615 (decimal n) n (omega arith) refl (omega arith) h)
+
+-- the words of a list of contact numbers
+pub contacts_words : (ns : List ℕ) → IsContactList ns → words_of (list_text ns) ≡ list_words ns
+contacts_words ns h = words-list 1 4294967295 (omega arith) ns h.within
+
+pub contacts_read : (ns : List ℕ) → IsContactList ns → contacts_of (list_words ns) ≡ Some ns
+contacts_read ns h = list-read 1 4294967295 (omega arith) 20000 ns h.within h.few
+
+pub last_read : (ns : List ℕ) → IsContactList ns → last_listed (codes "last " ++ list_text ns) ≡ Some ns
+unfolding last_listed
+last_read ns h = rw (label-there (codes "last ") (list_text ns), contacts_words ns h) (contacts_read ns h)
+
+-- ---- the line of the request
+
+-- the first four words, before a text
+abbrev pub four_onto : RouteRequest → List ℕ → List ℕ
+four_onto r u = decimal r.source ++ 32 ∷ (decimal r.destination ++ 32 ∷ (time_text_of r.at ++ 32 ∷ (decimal r.margin ++ u)))
+
+-- what stands after the label, in version 2 and in version 1
+abbrev pub request_text : RouteRequest → List ℕ
+request_text r = four_onto r (32 ∷ (decimal r.max_hops ++ 32 ∷ (47 ∷ 32 ∷ list_text r.avoided)))
+
+abbrev pub old_request_text : RouteRequest → List ℕ
+old_request_text r = four_onto r []
+
+-- its values
+abbrev values : RouteRequest → ℕ → List ℕ → RequestValues
+values r hops avoid = record { from = r.source; to = r.destination; at = r.at; margin_ppm = r.margin; max_hops = hops; avoid = avoid }
+
+differ : (a b : ℕ) → (a ≡ b → ⊥) → eqb a b ≡ false
+differ a b h = grind (arith, nat_tests)
+
+some : (a : ℕ) → 0 < a → a ≡ 0 → ⊥
+some a h e = omega arith
+
+within : (high a : ℕ) → a ≤ high → ltb high a ≡ false
+within high a h = grind (arith, nat_tests)
+
+nodes_within : (ns : List ℕ) → AllByRecursion IsNode ns → AreWithin 0 18446744073709551615 ns
+nodes_within [] h = tt
+nodes_within (n ∷ ns) h = ((omega arith, omega (arith, h.0.1)), nodes_within ns h.1)
+
+-- the avoided nodes of an accepted request
+pub accepted_nodes : (r : RouteRequest) → IsRequest r → AreWithin 0 18446744073709551615 r.avoided
+accepted_nodes r h = nodes_within r.avoided h.nodes
+
+pub accepted_few : (r : RouteRequest) → IsRequest r → length r.avoided ≤ 16
+accepted_few r h =
+    let some = leb (length r.avoided) 16 in
+    let rises = rises_above 0 r.avoided in
+    let source = not (has r.source r.avoided) in
+    let destination = not (has r.destination r.avoided) in
+    let a = and_parts (some && rises && source) destination h.avoids in
+    let b = and_parts (some && rises) source a.0 in
+    leb-true (length r.avoided) 16 (and_parts some rises b.0).0
+
+module _ (r : RouteRequest) (h : IsRequest r) where
+  source_short : r.source < 10 ^ 64
+  source_short = let b = h.source.1 in omega arith
+
+  destination_short : r.destination < 10 ^ 64
+  destination_short = let b = h.destination.1 in omega arith
+
+  margin_short : r.margin < 10 ^ 64
+  margin_short = let b = h.margin in omega arith
+
+  hops_short : r.max_hops < 10 ^ 64
+  hops_short = let b = h.hops.1 in omega arith
+
+  three_apart : (u : List ℕ) → words_of (four_onto r u) ≡ decimal r.source ∷ decimal r.destination ∷ time_text_of r.at ∷ words_of (decimal r.margin ++ u)
+  three_apart u =
+      number-apart r.source (decimal r.destination ++ 32 ∷ (time_text_of r.at ++ 32 ∷ (decimal r.margin ++ u))) source_short
+      ∙ ap (λ ws. decimal r.source ∷ ws) (number-apart r.destination (time_text_of r.at ++ 32 ∷ (decimal r.margin ++ u)) destination_short)
+      ∙ ap (λ ws. decimal r.source ∷ decimal r.destination ∷ ws) (word-apart (time_text_of r.at) (decimal r.margin ++ u) (time_word r.at))
+
+  request_words : words_of (request_text r) ≡ decimal r.source ∷ decimal r.destination ∷ time_text_of r.at ∷ decimal r.margin ∷ decimal r.max_hops ∷ codes "/" ∷ list_words r.avoided
+  request_words =
+      three_apart (32 ∷ (decimal r.max_hops ++ 32 ∷ (47 ∷ 32 ∷ list_text r.avoided)))
+      ∙ ap (λ ws. decimal r.source ∷ decimal r.destination ∷ time_text_of r.at ∷ ws) (
+      number-apart r.margin (decimal r.max_hops ++ 32 ∷ (47 ∷ 32 ∷ list_text r.avoided)) margin_short
+      ∙ ap (λ ws. decimal r.margin ∷ ws) (number-apart r.max_hops (47 ∷ 32 ∷ list_text r.avoided) hops_short)
+      ∙ ap (λ ws. decimal r.margin ∷ decimal r.max_hops ∷ ws) (word-apart (codes "/") (list_text r.avoided) (omega arith, tt))
+      ∙ ap (λ ws. decimal r.margin ∷ decimal r.max_hops ∷ codes "/" ∷ ws) (words-list 0 18446744073709551615 (omega arith) r.avoided (accepted_nodes r h))
+      )
+
+  old_request_words : words_of (old_request_text r) ≡ decimal r.source ∷ decimal r.destination ∷ time_text_of r.at ∷ decimal r.margin ∷ []
+  old_request_words =
+      three_apart [] ∙ ap (λ ws. decimal r.source ∷ decimal r.destination ∷ time_text_of r.at ∷ ws)
+      (ap words_of (append-nil (decimal r.margin)) ∙ words-word (decimal r.margin) (decimal_is_word r.margin margin_short))
+
+  source_read : number_within 0 18446744073709551615 (decimal r.source) ≡ Some r.source
+  source_read = let b = h.source.1 in number_within-spelled_within 0 18446744073709551615 (decimal r.source) r.source source_short refl (omega arith) (omega arith)
+
+  destination_read : number_within 0 18446744073709551615 (decimal r.destination) ≡ Some r.destination
+  destination_read = let b = h.destination.1 in number_within-spelled_within 0 18446744073709551615 (decimal r.destination) r.destination destination_short refl (omega arith) (omega arith)
+
+  margin_read : number_within 0 4294967295 (decimal r.margin) ≡ Some r.margin
+  margin_read = let b = h.margin in number_within-spelled_within 0 4294967295 (decimal r.margin) r.margin margin_short refl (omega arith) (omega arith)
+
+  hops_read : number_within 0 4294967295 (decimal r.max_hops) ≡ Some r.max_hops
+  hops_read = let b = h.hops.1 in number_within-spelled_within 0 4294967295 (decimal r.max_hops) r.max_hops hops_short refl (omega arith) (omega arith)
+
+  nodes_read : nodes_of (list_words r.avoided) ≡ Some r.avoided
+  nodes_read = list-read 0 18446744073709551615 (omega arith) 16 r.avoided (accepted_nodes r h) (accepted_few r h)
+
+  pub request_read : request_of Two (codes "request " ++ request_text r) ≡ Some (values r r.max_hops r.avoided)
+  unfolding request_of
+  request_read = rw (label-there (codes "request ") (request_text r), request_words, nodes_read, hops_read, source_read, destination_read, time_of-text r.at h.time, margin_read) refl
+
+  pub old_request_read : request_of One (codes "request " ++ old_request_text r) ≡ Some (values r 20000 [])
+  unfolding request_of
+  old_request_read = rw (label-there (codes "request ") (old_request_text r), old_request_words, source_read, destination_read, time_of-text r.at h.time, margin_read) refl
+
+  -- an accepted request is not refused
+  unrefused : request_refusal r.source r.destination r.at r.margin ≡ None
+  unrefused =
+      let apart : eqb r.source r.destination ≡ false = differ r.source r.destination h.apart in
+      let one : eqb r.source 0 ≡ false = differ r.source 0 (some r.source h.source.0) in
+      let other : eqb r.destination 0 ≡ false = differ r.destination 0 (some r.destination h.destination.0) in
+      rw (apart, one, other, within last_time r.at h.time, within most_margin r.margin h.margin) refl
+
+  unlimited_unrefused : limit_refusal (unlimited r.source r.destination r.at r.margin) r.max_hops r.avoided ≡ None
+  unlimited_unrefused =
+      let hops : eqb r.max_hops 0 ≡ false = differ r.max_hops 0 (some r.max_hops h.hops.0) in
+      rw (hops, within most_hops r.max_hops h.hops.1, h.avoids) refl
+
+  pub asked_is : asked (values r r.max_hops r.avoided) ≡ Ok r
+  asked_is = rw (unrefused, unlimited_unrefused) refl
+
+  pub old_asked_is : IsUnlimited r → asked (values r 20000 []) ≡ Ok r
+  old_asked_is free =
+      ap (λ (q : RouteRequest). asked (values r q.max_hops q.avoided)) (sym free) ∙ asked_is
