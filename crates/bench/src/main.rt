@@ -3,7 +3,7 @@
 //! It prints what was done on standard output, and the times on standard error.
 #![tactic(auto)]
 
-mod question;
+mod bench_question;
 mod search;
 mod session_text;
 mod timed;

@@ -3,7 +3,7 @@
 ghost use Rattle.std.specs.Prelude.{◌≤◌};
 ghost use Rattle.sabr_frontier.specs.listing.Listing.{most_routes};
 
-use crate::question::{Question, plan_of};
+use crate::bench_question::{BenchQuestion, plan_of};
 use crate::timed::{Searches, Timed};
 use crate::watch::Watch;
 use sabr_frontier::Session;
@@ -51,7 +51,7 @@ fn paged<R: Clock, B: BestOf<Global>>(
 fn measured<R: Clock + AllocGlobal, B: BestOf<Global>>(
     rt: &R,
     plan: &Plan,
-    question: Question,
+    question: BenchQuestion,
     finder: B,
 ) -> Option<SearchFigures> {
     let watch = Watch::new(rt);
@@ -65,7 +65,7 @@ fn measured<R: Clock + AllocGlobal, B: BestOf<Global>>(
 fn measured_by<R: Clock + AllocGlobal>(
     rt: &R,
     plan: &Plan,
-    question: Question,
+    question: BenchQuestion,
     finder: &str,
 ) -> Option<SearchFigures> {
     match finder {
@@ -82,7 +82,7 @@ pub fn time_searches<R: Files + Clock + AllocGlobal>(
 ) -> Option<SearchFigures> {
     let (finder, words) = words.split_first()?;
     let (file, words) = words.split_first()?;
-    let question = Question::of(words)?;
+    let question = BenchQuestion::of(words)?;
     let plan = plan_of(rt, file.as_str())?;
     measured_by(rt, &plan, question, finder.as_str())
 }

@@ -3,7 +3,7 @@
 ghost use Rattle.std.specs.Prelude.{◌≡◌};
 ghost use Rattle.sabr_plan.specs.Canonical.{digest_of};
 
-use crate::question::{Question, plan_of};
+use crate::bench_question::{BenchQuestion, plan_of};
 use crate::watch::Watch;
 use sabr_frontier::Session;
 use sabr_model::{Device, Plan, Read};
@@ -125,7 +125,7 @@ fn write_again<R: Files + Clock + AllocGlobal>(
 fn written<R: Files + Clock + AllocGlobal>(
     rt: &R,
     plan: &Plan,
-    question: Question,
+    question: BenchQuestion,
     path: &str,
 ) -> Option<TextFigures> {
     let watch = Watch::new(rt);
@@ -207,7 +207,7 @@ pub fn time_text<R: Files + Clock + AllocGlobal>(rt: &R, words: &[String]) -> Op
     }
     let (file, words) = words.split_first()?;
     let (text, words) = words.split_first()?;
-    let question = Question::of(words)?;
+    let question = BenchQuestion::of(words)?;
     let plan = plan_of(rt, file.as_str())?;
     written(rt, &plan, question, text.as_str())
 }

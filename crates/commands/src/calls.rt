@@ -40,7 +40,7 @@ fn begin<R: Files>(
 
 /// What a page is listed with, whatever it begins with.
 #[derive(Drop)]
-struct Page<'a, F, O, E> {
+struct ListingFiles<'a, F, O, E> {
     plan: &'a mut Device<F>,
     count: u32,
     out: &'a mut O,
@@ -50,14 +50,14 @@ struct Page<'a, F, O, E> {
 /// Lists a page over opened files.
 fn list_over<F: io::Read + Drop, O: Write, S: Write, E: Write>(
     alloc: Global,
-    page: Page<'_, F, O, E>,
+    page: ListingFiles<'_, F, O, E>,
     beginning: Beginning<F>,
     keep: bool,
     session: &mut S,
 ) -> Status
     requires { IsCount page.count }
 {
-    let Page {
+    let ListingFiles {
         plan,
         count,
         out,
@@ -89,7 +89,7 @@ pub fn list<R: Files + AllocGlobal, O: Write, E: Write>(
     let count = values.count.unwrap();
     let mut plan = open_plan(rt, words)?;
     let beginning = begin(rt, words, values.request)?;
-    let page = Page {
+    let page = ListingFiles {
         plan: &mut plan,
         count,
         out,

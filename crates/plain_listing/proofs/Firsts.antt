@@ -9,7 +9,7 @@ use Rattle.std.specs.declared.cmp.Ordering.{Ordering}
 use Rattle.std.specs.declared.cmp.Ordering.TheVariants.{Less, Equal, Greater}
 use Rattle.sabr_model.specs.Order.{put_in}
 use Rattle.sabr_model.proofs.ListLemmas.Members.{IsIn, all_in}
-use Rattle.sabr_model.proofs.PlanLemmas.ContactLemmas.Deletions.{all_filter}
+use Rattle.sabr_model.proofs.PlanLemmas.Deletions.{all_filter}
 
 -- the first k of the first k
 pub take_again : {X : Type 0} (k : ℕ) (xs : List X) → take k (take k xs) ≡ take k xs

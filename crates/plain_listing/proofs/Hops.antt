@@ -10,16 +10,16 @@ use Rattle.sabr_model.specs.routes.Arrival.{RouteRequest, arrival, arrival_after
 use Rattle.sabr_model.specs.routes.Route.{chain_end, receivers, is_path}
 use Rattle.sabr_model.proofs.RouteLemmas.Paths.{IsHop, path_facts, path_push, hop_facts, value_of}
 use Rattle.sabr_model.specs.declared.following.Reached.{Reached}
-use Rattle.plain_listing.specs.declared.hop.Hop.{Hop}
+use Rattle.plain_listing.specs.declared.way_hop.WayHop.{WayHop}
 use Rattle.plain_listing.specs.Way.{IsWay, numbers_of, nodes_of, last_stop, hop_of, is_passed, may_visit}
 use Rattle.plain_listing.proofs.Ways.{last_stop_is, nodes_are, hop_is}
 
 -- the nodes that are passed
-passed_is : (hops : List Hop) (node : ℕ) → is_passed hops node ≡ has node (nodes_of hops)
+passed_is : (hops : List WayHop) (node : ℕ) → is_passed hops node ≡ has node (nodes_of hops)
 passed_is [] node = refl
 passed_is (h ∷ hops) node = ap (λ b. eqb node h.stop.node || b) (passed_is hops node)
 
-module _ (p : ContactPlan) (r : RouteRequest) (hops : List Hop) (way : IsWay p r hops) where
+module _ (p : ContactPlan) (r : RouteRequest) (hops : List WayHop) (way : IsWay p r hops) where
   -- a way leads to the node of its last stop
   pub way_end : chain_end p r.source (numbers_of hops) ≡ Some (last_stop r hops).node
   way_end =
@@ -63,7 +63,7 @@ module _ (p : ContactPlan) (r : RouteRequest) (hops : List Hop) (way : IsWay p r
           let fresh : (eqb c.to r.source || is_passed hops c.to) ≡ false =
           ap (λ b. eqb c.to r.source || b) (passed_is hops c.to) ∙ ap (λ w. has c.to (r.source ∷ w)) (nodes_are p r hops way) ∙ ap (λ (d : Contact). has d.to (r.source ∷ receivers p (numbers_of hops))) (sym same) ∙ hop.fresh in
           let allowed : has c.to r.avoided ≡ false = ap (λ (d : Contact). has d.to r.avoided) (sym same) ∙ hop.allowed in
-          let count : length (numbers_of hops) ≡ length hops = length-map hops (λ (h : Hop). h.number) in
+          let count : length (numbers_of hops) ≡ length hops = length-map hops (λ (h : WayHop). h.number) in
           let room : length hops < r.max_hops = (let h = hop.room in omega arith) in
           both_ways (may_visit r hops c.to) shut
           (and_from (ltb (length hops) r.max_hops && not (eqb c.to r.source || is_passed hops c.to)) (not (has c.to r.avoided))
@@ -87,7 +87,7 @@ module _ (p : ContactPlan) (r : RouteRequest) (hops : List Hop) (way : IsWay p r
         hop =
             let parts = and_parts (ltb (length hops) r.max_hops && not (eqb c.to r.source || is_passed hops c.to)) (not (has c.to r.avoided)) visits in
             let more = and_parts (ltb (length hops) r.max_hops) (not (eqb c.to r.source || is_passed hops c.to)) parts.0 in
-            let count : length (numbers_of hops) ≡ length hops = length-map hops (λ (h : Hop). h.number) in
+            let count : length (numbers_of hops) ≡ length hops = length-map hops (λ (h : WayHop). h.number) in
             let room = ltb-true (length hops) r.max_hops more.0 in
             record {
               contact = c;

@@ -15,7 +15,7 @@ use Rattle.sabr_model.proofs.ListLemmas.Members.{IsIn}
 use Rattle.sabr_model.proofs.RouteLemmas.Routes.{route_facts}
 use Rattle.sabr_model.proofs.RouteLemmas.Paths.{hop_facts, path_facts, route_from_path, value_of}
 use Rattle.sabr_model.proofs.RouteLemmas.Prefixes.{beginning_goes_on, empty_is_path}
-use Rattle.plain_listing.specs.declared.hop.Hop.{Hop}
+use Rattle.plain_listing.specs.declared.way_hop.WayHop.{WayHop}
 use Rattle.plain_listing.specs.Way.{IsWay, numbers_of, hop_of, last_stop, record_over}
 use Rattle.plain_listing.specs.Steps.{left_after, steps_left}
 use Rattle.plain_listing.specs.Before.{routes_before}
@@ -54,7 +54,7 @@ last_kept limit (x ∷ xs) time h =
 
 module _ (p : ContactPlan) (r : RouteRequest) (good : IsPlan p) where
   -- if a route goes on, the node at the way's end sends the contact
-  goes_on_sent : (hops : List Hop) → IsWay p r hops → (k : ℕ) (u : List ℕ) → IsTrue (is_route p r (numbers_of hops ++ k ∷ u)) → IsIn k (sent_by p.contacts (last_stop r hops).node)
+  goes_on_sent : (hops : List WayHop) → IsWay p r hops → (k : ℕ) (u : List ℕ) → IsTrue (is_route p r (numbers_of hops ++ k ∷ u)) → IsIn k (sent_by p.contacts (last_stop r hops).node)
   goes_on_sent hops way k u route =
       let hop = hop_facts p r (numbers_of hops) k (beginning_goes_on p r (numbers_of hops) k u route) in
       let end = way_end p r hops way in
@@ -63,7 +63,7 @@ module _ (p : ContactPlan) (r : RouteRequest) (good : IsPlan p) where
       subst (λ a. IsIn k (sent_by p.contacts a)) node (is_sent p k hop.contact hop.named)
 
   -- the next number that the node sends is the next with which a route can go on
-  pub next_is : (hops : List Hop) (low n : ℕ) → IsWay p r hops → next_from low (sent_by p.contacts (last_stop r hops).node) ≡ Some n → IsNext p r (numbers_of hops) low n
+  pub next_is : (hops : List WayHop) (low n : ℕ) → IsWay p r hops → next_from low (sent_by p.contacts (last_stop r hops).node) ≡ Some n → IsNext p r (numbers_of hops) low n
   next_is hops low n way e =
       let node = (last_stop r hops).node in
       let next = next_some 0 low (sent_by p.contacts node) n (sent_rises p node good) e in
@@ -74,7 +74,7 @@ module _ (p : ContactPlan) (r : RouteRequest) (good : IsPlan p) where
       }
 
   -- if the node sends no further number, no route goes on
-  pub over_is : (hops : List Hop) (low : ℕ) → IsWay p r hops → next_from low (sent_by p.contacts (last_stop r hops).node) ≡ None → IsOver p r (numbers_of hops) low
+  pub over_is : (hops : List WayHop) (low : ℕ) → IsWay p r hops → next_from low (sent_by p.contacts (last_stop r hops).node) ≡ None → IsOver p r (numbers_of hops) low
   over_is hops low way e k u route from =
       let less = next_none low (sent_by p.contacts (last_stop r hops).node) k e (goes_on_sent hops way k u route) in absurd (omega arith)
 
@@ -82,7 +82,7 @@ module _ (p : ContactPlan) (r : RouteRequest) (good : IsPlan p) where
   pub walk_begins : (limit : ℕ) → IsWalk p r limit [] 0 []
   walk_begins limit = record { way = record { told = refl; path = empty_is_path p r }; least = omega arith; first = sym (begins p r good limit) }
 
-  module _ (limit : ℕ) (hops : List Hop) (low : ℕ) (kept : List RouteRecord) (walk : IsWalk p r limit hops low kept) where
+  module _ (limit : ℕ) (hops : List WayHop) (low : ℕ) (kept : List RouteRecord) (walk : IsWalk p r limit hops low kept) where
     -- what is kept is in order
     pub walk_rises : IsStrictlySortedBy by_record kept
     walk_rises = subst (IsStrictlySortedBy by_record) (sym walk.first) (kept_rises p r good limit (numbers_of hops ++ low ∷ []))
@@ -92,14 +92,14 @@ module _ (p : ContactPlan) (r : RouteRequest) (good : IsPlan p) where
     short = (path_facts p r (numbers_of hops) walk.way.path).within
 
     -- the number of the last hop was given
-    pub last_given : (front : List Hop) (h : Hop) → hops ≡ front ++ h ∷ [] → h.number ≤ p.greatest
+    pub last_given : (front : List WayHop) (h : WayHop) → hops ≡ front ++ h ∷ [] → h.number ≤ p.greatest
     last_given front h e =
         let numbers : numbers_of hops ≡ numbers_of front ++ h.number ∷ [] = ap numbers_of e ∙ numbers_push front h in
         let last = hop_facts p r (numbers_of front) h.number (subst (λ w. IsTrue (is_path p r w)) numbers walk.way.path) in
         named_is_given p h.number last.contact good last.named
 
     -- no number is left: the walk goes back
-    pub move_back : (front : List Hop) (h : Hop) → hops ≡ front ++ h ∷ [] → IsOver p r (numbers_of hops) low → IsMove p r limit hops low front (Some (h.number + 1)) kept
+    pub move_back : (front : List WayHop) (h : WayHop) → hops ≡ front ++ h ∷ [] → IsOver p r (numbers_of hops) low → IsMove p r limit hops low front (Some (h.number + 1)) kept
     move_back front h e over =
         let s = numbers_of front in
         let way = (way_pop p r front h (subst (IsWay p r) e walk.way)).0 in
@@ -220,7 +220,7 @@ module _ (p : ContactPlan) (r : RouteRequest) (good : IsPlan p) where
             }
 
 -- a move to where the walk is
-pub move_to : (p : ContactPlan) (r : RouteRequest) (limit : ℕ) (hops : List Hop) (low : ℕ) (further there : List Hop) (next least : ℕ) (kept more : List RouteRecord)
+pub move_to : (p : ContactPlan) (r : RouteRequest) (limit : ℕ) (hops : List WayHop) (low : ℕ) (further there : List WayHop) (next least : ℕ) (kept more : List RouteRecord)
     → IsMove p r limit hops low further (Some next) kept → there ≡ further → least ≡ next → more ≡ kept → IsMove p r limit hops low there (Some least) more
 move_to p r limit hops low further there next least kept more move e f g =
     subst (λ x. IsMove p r limit hops low x (Some least) more) (sym e)

@@ -11,7 +11,7 @@ use Rattle.sabr_model.specs.routes.Record.{record_of}
 use Rattle.sabr_model.proofs.ListLemmas.Begins.{receivers-cons}
 use Rattle.sabr_model.proofs.RouteLemmas.Paths.{IsHop, beginning_is_path, hop_facts, chain_end_push, arrival_after_push}
 use Rattle.sabr_model.specs.declared.following.Reached.{Reached}
-use Rattle.plain_listing.specs.declared.hop.Hop.{Hop}
+use Rattle.plain_listing.specs.declared.way_hop.WayHop.{WayHop}
 use Rattle.plain_listing.specs.Way.{stop_of, hop_of, hops_after, numbers_of, nodes_of, IsWay, source_stop, last_stop, record_over}
 
 -- ---- lists by their last element
@@ -47,8 +47,8 @@ last_of_push (y ∷ xs) x (suc k) e = last_of_push xs x k (omega arith)
 -- ---- hops one after the other
 
 -- the numbers after one hop more
-pub numbers_push : (hops : List Hop) (h : Hop) → numbers_of (hops ++ h ∷ []) ≡ numbers_of hops ++ h.number ∷ []
-numbers_push hops h = map-append (λ (x : Hop). x.number) hops (h ∷ [])
+pub numbers_push : (hops : List WayHop) (h : WayHop) → numbers_of (hops ++ h ∷ []) ≡ numbers_of hops ++ h.number ∷ []
+numbers_push hops h = map-append (λ (x : WayHop). x.number) hops (h ∷ [])
 
 module _ (p : ContactPlan) (r : RouteRequest) where
   -- the hops after one number more
@@ -58,7 +58,7 @@ module _ (p : ContactPlan) (r : RouteRequest) where
       ap (λ hops. hop_of p r front m ∷ hops) (hops_push (front ++ m ∷ []) s n ∙ ap (λ w. hops_after p r (front ++ m ∷ []) s ++ hop_of p r w n ∷ []) (append_assoc front (m ∷ []) s))
 
   -- one hop more
-  pub way_push : (hops : List Hop) (n : ℕ) → IsWay p r hops → IsTrue (is_path p r (numbers_of hops ++ n ∷ [])) → IsWay p r (hops ++ hop_of p r (numbers_of hops) n ∷ [])
+  pub way_push : (hops : List WayHop) (n : ℕ) → IsWay p r hops → IsTrue (is_path p r (numbers_of hops ++ n ∷ [])) → IsWay p r (hops ++ hop_of p r (numbers_of hops) n ∷ [])
   way_push hops n way longer =
       let numbers = numbers_push hops (hop_of p r (numbers_of hops) n) in
       record {
@@ -70,7 +70,7 @@ module _ (p : ContactPlan) (r : RouteRequest) where
       }
 
   -- one hop less
-  pub way_pop : (hops : List Hop) (h : Hop) → IsWay p r (hops ++ h ∷ []) → IsWay p r hops × (h ≡ hop_of p r (numbers_of hops) h.number)
+  pub way_pop : (hops : List WayHop) (h : WayHop) → IsWay p r (hops ++ h ∷ []) → IsWay p r hops × (h ≡ hop_of p r (numbers_of hops) h.number)
   way_pop hops h way =
       let numbers = numbers_push hops h in
       let both = same_push hops (hops_after p r [] (numbers_of hops)) h (hop_of p r (numbers_of hops) h.number)
@@ -83,7 +83,7 @@ module _ (p : ContactPlan) (r : RouteRequest) where
       )
 
   -- the last stop of a way is where its numbers lead
-  pub last_stop_is : (hops : List Hop) → IsWay p r hops → last_stop r hops ≡ stop_of p r (numbers_of hops)
+  pub last_stop_is : (hops : List WayHop) → IsWay p r hops → last_stop r hops ≡ stop_of p r (numbers_of hops)
   last_stop_is hops way =
       ⊎_elim
       (λ none. ap (last_stop r) none ∙ ap (λ w. stop_of p r (numbers_of w)) (sym none))
@@ -94,8 +94,8 @@ module _ (p : ContactPlan) (r : RouteRequest) where
       let count : length (front ++ h ∷ []) - 1 ≡ length front = omega (arith, length-append front (h ∷ [])) in
       let is = (way_pop front h (subst (IsWay p r) e way)).1 in
       ap (last_stop r) e
-      ∙ ap (λ o. option_map_or (λ (x : Hop). x.stop) o (source_stop r)) (last_of_push front h (length (front ++ h ∷ []) - 1) count)
-      ∙ ap (λ (x : Hop). x.stop) is
+      ∙ ap (λ o. option_map_or (λ (x : WayHop). x.stop) o (source_stop r)) (last_of_push front h (length (front ++ h ∷ []) - 1) count)
+      ∙ ap (λ (x : WayHop). x.stop) is
       ∙ ap (stop_of p r) (sym (numbers_push front h))
       ∙ ap (λ w. stop_of p r (numbers_of w)) (sym e))
       (by_last hops)
@@ -112,11 +112,11 @@ module _ (p : ContactPlan) (r : RouteRequest) where
       ∙ sym (receivers-cons p n s hop.contact hop.named)
 
   -- the nodes of a way are the receivers of its contacts
-  pub nodes_are : (hops : List Hop) → IsWay p r hops → nodes_of hops ≡ receivers p (numbers_of hops)
+  pub nodes_are : (hops : List WayHop) → IsWay p r hops → nodes_of hops ≡ receivers p (numbers_of hops)
   nodes_are hops way = ap nodes_of way.told ∙ nodes_after [] (numbers_of hops) way.path
 
   -- what a hop over a contact comes to
-  pub hop_is : (hops : List Hop) (n : ℕ) (hop : IsHop p r (numbers_of hops) n)
+  pub hop_is : (hops : List WayHop) (n : ℕ) (hop : IsHop p r (numbers_of hops) n)
       → hop_of p r (numbers_of hops) n ≡ record { number = n; stop = record { node = hop.contact.to; at = hop.arrived } }
   hop_is hops n hop =
       let s = numbers_of hops in
@@ -125,5 +125,5 @@ module _ (p : ContactPlan) (r : RouteRequest) where
       λ i. record { number = n; stop = record { node = node i; at = arrival i } }
 
   -- the record over a way is that of its numbers
-  pub record_is : (hops : List Hop) → IsWay p r hops → record_over p r hops ≡ record_of p r (numbers_of hops)
+  pub record_is : (hops : List WayHop) → IsWay p r hops → record_over p r hops ≡ record_of p r (numbers_of hops)
   record_is hops way = ap (λ (x : Reached). record (record_of p r (numbers_of hops)) { delivery = x.at }) (last_stop_is hops way)

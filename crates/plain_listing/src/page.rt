@@ -5,9 +5,9 @@ ghost use Rattle.sabr_model.specs.routes.Listing.{routes, page_of};
 ghost use Rattle.sabr_model.specs.routes.Record.{record_of};
 ghost use Rattle.plain_listing.specs.Walk.{most_routes};
 
-use crate::hop::Hop;
-use crate::kept::Kept;
+use crate::best_routes::BestRoutes;
 use crate::walk::step;
+use crate::way_hop::WayHop;
 use sabr_model::{NoMemory, Plan, Request, Route};
 use std::alloc::{Allocator, Global};
 
@@ -26,12 +26,12 @@ fn gather<A: Allocator + Copy>(
     plan: &Plan<A>,
     request: &Request,
     limit: usize,
-) -> Result<Kept<A>, NoMemory>
+) -> Result<BestRoutes<A>, NoMemory>
     ensures { IfOk result (λ kept. kept.routes.items ≡ take limit (map (record_of plan.now.plan request.now) (routes plan.now.plan request.now))) }
 {
     plan.tell_rules();
-    let mut kept = Kept::new(alloc, limit);
-    let mut hops: Vec<Hop, A> = Vec::new(alloc);
+    let mut kept = BestRoutes::new(alloc, limit);
+    let mut hops: Vec<WayHop, A> = Vec::new(alloc);
     let mut next = Some(0);
     while let Some(low) = next {
         next = step(plan, request, &mut kept, &mut hops, low)?;
@@ -58,7 +58,7 @@ pub fn first_routes<A: Allocator + Copy>(
     ensures more { IfOk result (λ page. page.more ≡ nat_lt count (length (routes plan.now.plan request.now))) }
 {
     let count = count as usize;
-    let Kept { mut routes, .. } = gather(alloc, plan, request, count + 1)?;
+    let BestRoutes { mut routes, .. } = gather(alloc, plan, request, count + 1)?;
     let more = routes.len() > count;
     routes.truncate(count);
     Ok(Page { routes, more })

@@ -6,10 +6,10 @@ ghost use Rattle.sabr_model.specs.plan.Plan.{IsPlan, most_records};
 ghost use Rattle.sabr_model.specs.routes.Record.{by_record};
 ghost use Rattle.plain_listing.specs.Walk.{IsWalk, IsMove, IsLast, GoesOn, Arrives};
 
-use crate::hop::Hop;
-use crate::kept::Kept;
+use crate::best_routes::BestRoutes;
 use crate::next::next_from;
 use crate::way::{end_of, hop_over, route_over};
+use crate::way_hop::WayHop;
 use sabr_model::{NoMemory, Plan, Request};
 use std::alloc::Allocator;
 
@@ -18,9 +18,9 @@ use std::alloc::Allocator;
 fn take_hop<A: Allocator + Copy>(
     plan: &Plan<A>,
     request: &Request,
-    kept: &mut Kept<A>,
-    hops: &mut Vec<Hop, A>,
-    hop: Hop,
+    kept: &mut BestRoutes<A>,
+    hops: &mut Vec<WayHop, A>,
+    hop: WayHop,
 ) -> Result<u32, NoMemory>
     requires number { hop.number ≤ most_records }
     requires rising { IsStrictlySortedBy by_record kept.old.routes.items }
@@ -45,8 +45,8 @@ fn take_hop<A: Allocator + Copy>(
 pub fn step<A: Allocator + Copy>(
     plan: &Plan<A>,
     request: &Request,
-    kept: &mut Kept<A>,
-    hops: &mut Vec<Hop, A>,
+    kept: &mut BestRoutes<A>,
+    hops: &mut Vec<WayHop, A>,
     low: u32,
 ) -> Result<Option<u32>, NoMemory>
     requires rules { IsPlan plan.now.plan }

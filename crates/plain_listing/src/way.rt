@@ -5,12 +5,12 @@ ghost use Rattle.sabr_model.specs.plan.Plan.{IsPlan, has};
 ghost use Rattle.sabr_model.specs.routes.Route.{is_path};
 ghost use Rattle.plain_listing.specs.Way.{IsWay, numbers_of, last_stop, next_hop, is_passed, may_visit, record_over};
 
-use crate::hop::Hop;
+use crate::way_hop::WayHop;
 use sabr_model::{NoMemory, Plan, Reached, Request, Route, Told, arrive};
 use std::alloc::Allocator;
 
 /// Returns where the way ends: at the source, or after the last hop.
-pub fn end_of(request: &Request, hops: &[Hop]) -> Reached
+pub fn end_of(request: &Request, hops: &[WayHop]) -> Reached
     ensures { result ≡ last_stop request.now hops.now }
 {
     match hops.last() {
@@ -30,14 +30,14 @@ fn is_among(nodes: &[u64], node: u64) -> bool
 }
 
 /// Returns true if a hop arrives at the node.
-fn is_passed(hops: &[Hop], node: u64) -> bool
+fn is_passed(hops: &[WayHop], node: u64) -> bool
     ensures { result ≡ is_passed hops.now node }
 {
     hops.iter().any(|hop| node == hop.stop.node)
 }
 
 /// Returns true if the way may go on to the node, within the limits and to no node twice.
-fn may_visit(request: &Request, hops: &[Hop], node: u64) -> bool
+fn may_visit(request: &Request, hops: &[WayHop], node: u64) -> bool
     ensures { result ≡ may_visit request.now hops.now node }
 {
     hops.len() < request.max_hops() as usize
@@ -49,9 +49,9 @@ fn may_visit(request: &Request, hops: &[Hop], node: u64) -> bool
 pub fn hop_over<A: Allocator + Copy>(
     plan: &Plan<A>,
     request: &Request,
-    hops: &[Hop],
+    hops: &[WayHop],
     number: u32,
-) -> Option<Hop>
+) -> Option<WayHop>
     requires rules { IsPlan plan.now.plan }
     requires way { IsWay plan.now.plan request.now hops.now }
     ensures { result ≡ next_hop plan.now.plan request.now hops.now number }
@@ -62,7 +62,7 @@ pub fn hop_over<A: Allocator + Copy>(
         return None;
     }
     let at = arrive(plan, request, end.at, contact)?;
-    Some(Hop {
+    Some(WayHop {
         number,
         stop: Reached {
             node: contact.to,
@@ -76,7 +76,7 @@ pub fn route_over<A: Allocator + Copy>(
     alloc: A,
     plan: &Plan<A>,
     request: &Request,
-    hops: &[Hop],
+    hops: &[WayHop],
 ) -> Result<Route<A>, NoMemory>
     ensures { IfOk result (λ route. route ≡ record_over plan.now.plan request.now hops.now) }
 {

@@ -5,7 +5,7 @@ mod certify;
 mod giving;
 mod laws;
 mod loader;
-mod question;
+mod plan_request;
 mod rows;
 mod session;
 mod tree;

@@ -19,7 +19,7 @@ use crate::giving::asker::Asker;
 use crate::loader::carrying::carried;
 use crate::loader::held::{Held, last_place};
 use crate::loader::load_fault::LoadFault;
-use crate::question::Question;
+use crate::plan_request::PlanRequest;
 use crate::session::Session;
 use sabr_model::{Plan, Request};
 use sabr_search::BestOf;
@@ -32,7 +32,7 @@ use std::marker::Model;
 #[derive(Drop)]
 pub struct Loader<'p, B: BestOf<A>, A: Allocator + Copy = Global> {
     /// What the session will be asked for.
-    question: Question<'p, A>,
+    question: PlanRequest<'p, A>,
     /// The finder that the session will ask.
     finder: B,
     /// The parts so far.
@@ -57,7 +57,7 @@ impl<'p, B: BestOf<A>, A: Allocator + Copy> Loader<'p, B, A> {
     {
         plan.tell_rules();
         request.tell_limits();
-        let question = Question {
+        let question = PlanRequest {
             alloc,
             plan,
             request,

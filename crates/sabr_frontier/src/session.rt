@@ -13,7 +13,7 @@ ghost use Rattle.sabr_frontier.specs.tree.Undo.{IsRoomy};
 ghost use Rattle.sabr_frontier.specs.session.Views.{told_left};
 
 use crate::giving::asker::Asker;
-use crate::question::Question;
+use crate::plan_request::PlanRequest;
 use crate::tree::Tree;
 use crate::views::Parts;
 use sabr_model::{NoMemory, Plan, Request, Route};
@@ -64,7 +64,7 @@ impl<'p, B: BestOf<A>, A: Allocator + Copy> Session<'p, B, A> {
     {
         plan.tell_rules();
         request.tell_limits();
-        let question = Question {
+        let question = PlanRequest {
             alloc,
             plan,
             request,

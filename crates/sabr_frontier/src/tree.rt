@@ -1,7 +1,7 @@
 //! The parts of a listing as nodes in one vector, with the routes given and a journal of the changes.
 
 mod change;
-pub mod excluded;
+pub mod excluded_numbers;
 pub mod index;
 pub mod places;
 mod root;
@@ -9,7 +9,7 @@ mod turning;
 mod undo;
 pub mod winners;
 
-use crate::tree::excluded::Excluded;
+use crate::tree::excluded_numbers::ExcludedNumbers;
 use sabr_model::Route;
 use std::alloc::{Allocator, Global};
 
@@ -25,7 +25,7 @@ pub struct Node<A: Allocator + Copy = Global> {
     /// How many of its numbers are the prefix.
     pub length: usize,
     /// The numbers that no route of the part takes right after the prefix.
-    pub excluded: Excluded<A>,
+    pub excluded: ExcludedNumbers<A>,
     /// The least route of the part, if it has one.
     pub route: Option<Route<A>>,
 }

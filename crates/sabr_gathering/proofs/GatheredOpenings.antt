@@ -11,7 +11,7 @@ use Rattle.sabr_model.specs.plan.Adding.{contact_refusal}
 use Rattle.sabr_model.specs.plan.Openings.{opening_of, openings_of}
 use Rattle.sabr_gathering.specs.Gathering.{opening_number, KnowsFirst, OpenBy, KnowsSome}
 use Rattle.sabr_model.proofs.PlanLemmas.ContactLemmas.{all_push, all_weaker}
-use Rattle.sabr_model.proofs.PlanLemmas.ContactLemmas.OpeningLemmas.{openings_push}
+use Rattle.sabr_model.proofs.PlanLemmas.OpeningLemmas.{openings_push}
 
 -- ---- the openings of the first contacts
 

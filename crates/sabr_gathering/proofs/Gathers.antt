@@ -15,9 +15,9 @@ use Rattle.sabr_model.specs.declared.fault.AddFault.TheVariants.{EmptyWindow, Se
 use Rattle.sabr_model.specs.plan.Plan.{IsPlan, IsWindow, IsNode, overlap, none_twice, range_key, last_time}
 use Rattle.sabr_model.specs.plan.Adding.{range_refusal, by_range_key}
 use Rattle.sabr_gathering.specs.Gathering.{put_all, plan_of_ranges, gathered, AreTwoLists, AreGathered}
-use Rattle.sabr_model.proofs.PlanLemmas.ContactLemmas.RangeLemmas.{same_key_overlaps, accepted_range, choice, IsPlan-range}
+use Rattle.sabr_model.proofs.PlanLemmas.RangeLemmas.{same_key_overlaps, accepted_range, choice, IsPlan-range}
 use Rattle.sabr_model.proofs.PlanLemmas.ContactLemmas.{IsPlan-empty}
-use Rattle.sabr_model.proofs.PlanLemmas.ContactLemmas.Deletions.{IsPlan-fewer_ranges}
+use Rattle.sabr_model.proofs.PlanLemmas.Deletions.{IsPlan-fewer_ranges}
 use Rattle.sabr_model.proofs.ListLemmas.Ordered.{all_put}
 
 -- ---- lists

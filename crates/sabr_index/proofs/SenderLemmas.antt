@@ -24,8 +24,8 @@ use Rattle.sabr_index.specs.Incoming.{passes_over, passes_at, passes_named, link
 use Rattle.sabr_model.proofs.ListLemmas.Different.{different_append, part_at, part_has}
 use Rattle.sabr_index.proofs.PassNumbers.{pass_of_number, number_once, numbers_part}
 use Rattle.sabr_model.proofs.RouteLemmas.Listed.{distinct_from_different}
-use Rattle.sabr_model.proofs.PlanLemmas.ContactLemmas.Tabled.{index_tells, index_of_member, place_one}
-use Rattle.sabr_model.proofs.PlanLemmas.ContactLemmas.Without.{ends_of_found}
+use Rattle.sabr_model.proofs.PlanLemmas.Tabled.{index_tells, index_of_member, place_one}
+use Rattle.sabr_model.proofs.PlanLemmas.Without.{ends_of_found}
 
 -- ---- lists
 

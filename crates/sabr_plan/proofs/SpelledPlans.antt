@@ -8,8 +8,8 @@ use Rattle.sabr_model.specs.plan.Plan.{ContactPlan, IsPlan, IsNode, last_time, o
 use Rattle.sabr_model.specs.plan.Adding.{next_contact, contact_refusal, with_contact, without_contact, new_range, range_refusal, with_range, begins, without_range}
 use Rattle.sabr_model.specs.declared.fault.AddFault.{AddFault}
 use Rattle.sabr_model.proofs.PlanLemmas.ContactLemmas.{IsPlan-empty, IsPlan-push}
-use Rattle.sabr_model.proofs.PlanLemmas.ContactLemmas.RangeLemmas.{IsPlan-range}
-use Rattle.sabr_model.proofs.PlanLemmas.ContactLemmas.Deletions.{IsPlan-fewer_contacts, IsPlan-fewer_ranges}
+use Rattle.sabr_model.proofs.PlanLemmas.RangeLemmas.{IsPlan-range}
+use Rattle.sabr_model.proofs.PlanLemmas.Deletions.{IsPlan-fewer_contacts, IsPlan-fewer_ranges}
 use Rattle.sabr_plan.specs.declared.fault.PlanKind.{PlanKind}
 use Rattle.sabr_plan.specs.declared.fault.PlanKind.TheVariants as kind
 use Rattle.sabr_plan.specs.declared.command.Command.{Command}

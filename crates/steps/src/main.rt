@@ -10,7 +10,7 @@ mod commands_called;
 mod desk;
 mod devices;
 mod fresh;
-mod held;
+mod held_session;
 mod loading;
 mod over_plan;
 mod parts;

@@ -3,7 +3,7 @@
 use crate::answers::done;
 use crate::desk::Desk;
 use crate::fresh::Fresh;
-use crate::held::Held;
+use crate::held_session::HeldSession;
 use crate::parts::part_step;
 use crate::words::Words;
 use sabr_model::Plan;
@@ -16,7 +16,7 @@ pub fn steps_over<A: Allocator + Copy, B: Fresh<A>>(
     finder: &mut B,
     desk: &mut Desk<'_>,
 ) {
-    let mut held = Held::new(alloc, plan);
+    let mut held = HeldSession::new(alloc, plan);
     let begun = done(desk.alloc);
     desk.say(begun);
     for _ in 0..u64::MAX {
@@ -35,7 +35,7 @@ pub fn steps_over<A: Allocator + Copy, B: Fresh<A>>(
 
 /// Does a step that makes a session, one of the session that was made last, one of the finder, or one that needs no plan.
 fn step<A: Allocator + Copy, B: Fresh<A>>(
-    held: &mut Held<'_, B, A>,
+    held: &mut HeldSession<'_, B, A>,
     finder: &mut B,
     desk: &mut Desk<'_>,
     name: &str,

@@ -14,9 +14,9 @@ use Rattle.sabr_model.specs.routes.Arrival.{RouteRequest, cost, arrival, arrival
 use Rattle.sabr_model.specs.routes.Asking.{IsRequest}
 use Rattle.sabr_model.specs.routes.Route.{contacts_of}
 use Rattle.sabr_model.specs.routes.Record.{record_of}
-use Rattle.sabr_model.proofs.PlanLemmas.ContactLemmas.Deletions.{all_found}
-use Rattle.sabr_model.proofs.PlanLemmas.ContactLemmas.RangeLemmas.{all_at}
-use Rattle.sabr_model.proofs.PlanLemmas.ContactLemmas.RangeKeys.{light_of_limit}
+use Rattle.sabr_model.proofs.PlanLemmas.Deletions.{all_found}
+use Rattle.sabr_model.proofs.PlanLemmas.RangeLemmas.{all_at}
+use Rattle.sabr_model.proofs.PlanLemmas.RangeKeys.{light_of_limit}
 use Rattle.sabr_session.specs.ReportText.{HasSpelledTimes}
 
 -- a light time and its margin make at most 2000000 seconds

@@ -17,7 +17,7 @@ use std::alloc::Allocator;
 
 /// A hop without a fault. Its times are seconds since 1970-01-01T00:00:00Z.
 #[derive(Drop)]
-struct Hop<'p> {
+struct FollowedHop<'p> {
     /// Its place in the list, from 1.
     place: usize,
     contact: &'p Contact,
@@ -32,7 +32,7 @@ fn hop_after<'p, A: Allocator + Copy>(
     front: &[u32],
     at: u64,
     number: u32,
-) -> Hop<'p>
+) -> FollowedHop<'p>
     requires rules { IsPlan plan.now.plan }
     requires limits { IsRequest request.now }
     requires place { length front.now + 1 < 2 ^ 64 }
@@ -48,7 +48,7 @@ fn hop_after<'p, A: Allocator + Copy>(
     let Some(arrived) = arrive(plan, request, at, contact) else {
         unreachable!()
     };
-    Hop {
+    FollowedHop {
         place: front.len() + 1,
         contact,
         sent: at.max(contact.start),
@@ -57,7 +57,7 @@ fn hop_after<'p, A: Allocator + Copy>(
 }
 
 /// Puts the line of a hop.
-fn put_hop<W: Write>(text: &mut TextBuffer<'_, W>, hop: &Hop<'_>) -> Result<(), WriteFault>
+fn put_hop<W: Write>(text: &mut TextBuffer<'_, W>, hop: &FollowedHop<'_>) -> Result<(), WriteFault>
     requires { (hop.now.sent ≤ last_spelled) × (hop.now.arrived ≤ last_spelled) }
     ensures { Puts W.output text.old (hop_line hop.now.place hop.now.contact.now hop.now.sent hop.now.arrived) result text.new }
 {

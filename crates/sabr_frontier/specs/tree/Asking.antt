@@ -3,7 +3,7 @@ use Rattle.std.specs.Prelude.{ℕ, List, map, Option}
 use Rattle.sabr_model.specs.plan.Plan.{TabledPlan}
 use Rattle.sabr_model.specs.routes.Arrival.{RouteRequest}
 use Rattle.sabr_model.specs.routes.Record.{RouteRecord, record_of}
-use Rattle.sabr_frontier.specs.declared.question.Question.{Question}
+use Rattle.sabr_frontier.specs.declared.plan_request.PlanRequest.{PlanRequest}
 use Rattle.sabr_frontier.specs.tree.Best.{best_of}
 use Rattle.sabr_frontier.specs.listing.State.{State}
 use Rattle.sabr_frontier.specs.listing.Listing.{steps}
@@ -21,7 +21,7 @@ pub record Asking : Type 0 where
 abbrev pub asked_over : TabledPlan → RouteRequest → Asked
 asked_over p r = record { plan = p; request = r }
 
-abbrev pub asked_of : {A : Type 0} → Question A → Asked
+abbrev pub asked_of : {A : Type 0} → PlanRequest A → Asked
 asked_of q = asked_over q.plan.now q.request
 
 -- at most k steps from a state

@@ -6,7 +6,7 @@ ghost use Rattle.sabr_model.specs.routes.Route.{is_prefix};
 ghost use Rattle.sabr_frontier.specs.tree.Asking.{asked_of, asked_over};
 ghost use Rattle.sabr_frontier.specs.tree.Best.{IsBest};
 
-use crate::question::Question;
+use crate::plan_request::PlanRequest;
 use sabr_index::Index;
 use sabr_model::{NoMemory, Plan, Request, Route};
 use sabr_search::{BestOf, Kept, Part};
@@ -46,7 +46,7 @@ impl<'p, B: BestOf<A>, A: Allocator + Copy> Asker<'p, B, A> {
     /// # Errors
     ///
     /// [`NoMemory`] if a growth was refused. The finder is dropped.
-    pub fn new(question: Question<'p, A>, finder: B) -> Result<Asker<'p, B, A>, NoMemory>
+    pub fn new(question: PlanRequest<'p, A>, finder: B) -> Result<Asker<'p, B, A>, NoMemory>
         ensures { IfOk result (λ asker. asker ≡ record { asked = asked_of question.entry; calls = B.calls_of finder }) }
     {
         let alloc = question.alloc();

@@ -11,7 +11,7 @@ ghost use Rattle.sabr_frontier.specs.tree.Sound.{CanExclude};
 ghost use Rattle.sabr_frontier.specs.tree.Prepared.{excluding, including};
 
 use crate::giving::asker::Asker;
-use crate::tree::excluded::Excluded;
+use crate::tree::excluded_numbers::ExcludedNumbers;
 use crate::tree::{Node, NodeId};
 use sabr_model::{NoMemory, Numbers, Route};
 use sabr_search::BestOf;
@@ -52,7 +52,7 @@ fn fresh_node<B: BestOf<A>, A: Allocator + Copy>(
     ensures at_most { OnErr result (asker.new.calls ≤ asker.old.calls + 1) }
     ensures same { asker.new.asked ≡ asker.old.asked }
 {
-    let excluded = Excluded::one(asker.alloc(), route[count])?;
+    let excluded = ExcludedNumbers::one(asker.alloc(), route[count])?;
     let found = asker.ask(&route[..count], excluded.as_slice())?;
     Ok(Node {
         leaf,

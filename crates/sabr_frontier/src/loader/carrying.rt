@@ -14,7 +14,7 @@ ghost use Rattle.sabr_frontier.specs.listing.State.{part_with};
 
 use crate::loader::leading::Lead;
 use crate::loader::load_fault::LoadFault;
-use crate::question::Question;
+use crate::plan_request::PlanRequest;
 use sabr_model::{HopFault, Plan, Request, Route, Told, follow, follow_behind};
 use std::alloc::Allocator;
 
@@ -67,7 +67,7 @@ fn delivery<A: Allocator + Copy>(
 ///
 /// [`LoadFault::BadRoute`] if it is no route of the part, else [`LoadFault::NoMemory`] if a growth was refused.
 pub fn carried<A: Allocator + Copy>(
-    question: &Question<'_, A>,
+    question: &PlanRequest<'_, A>,
     prefix: &[u32],
     excluded: &[u32],
     lead: Option<Lead>,

@@ -12,8 +12,8 @@ ghost use Rattle.sabr_frontier.specs.loading.Holding.{HasPlaces, IsLastPlace, Is
 use crate::loader::ghost_lists::GhostLists;
 use crate::loader::judge::{Judged, judge};
 use crate::loader::leading::{Lead, Owed};
-use crate::question::Question;
-use crate::tree::excluded::{Excluded, rise};
+use crate::plan_request::PlanRequest;
+use crate::tree::excluded_numbers::{ExcludedNumbers, rise};
 use crate::tree::index::push_block;
 use crate::tree::winners::rebuild;
 use crate::tree::{Node, Tree};
@@ -103,7 +103,7 @@ impl<A: Allocator + Copy> Held<A> {
     }
 
     /// Returns where a prefix leads if it is the least that is owed, or none. The first that is owed is empty.
-    pub fn due(&self, question: &Question<'_, A>, prefix: &[u32]) -> Option<Lead>
+    pub fn due(&self, question: &PlanRequest<'_, A>, prefix: &[u32]) -> Option<Lead>
         requires { IsTrue self.now.sound → AreOwed question.now.plan.now.plan question.now.request self.now.last.items self.now.owed.items }
         ensures due { is_some result ≡ is_due (holding_of self.now) prefix.now }
         ensures lead { IfSome result (IsLead question.now.plan.now.plan question.now.request prefix.now) }
@@ -127,7 +127,7 @@ impl<A: Allocator + Copy> Held<A> {
     /// no path, or if it excludes none and isn't the first.
     fn judge(
         &mut self,
-        question: &Question<'_, A>,
+        question: &PlanRequest<'_, A>,
         prefix: &[u32],
         excluded: &[u32],
         due: Option<Lead>,
@@ -160,7 +160,7 @@ impl<A: Allocator + Copy> Held<A> {
     }
 
     /// Adds a part after the others, for which there is room.
-    fn push(&mut self, prefix: &[u32], excluded: Excluded<A>, route: Option<Route<A>>)
+    fn push(&mut self, prefix: &[u32], excluded: ExcludedNumbers<A>, route: Option<Route<A>>)
         requires numbers { length prefix.now ≤ vec_capacity self.old.last }
         requires node { vec_len self.old.nodes < vec_capacity self.old.nodes }
         ensures held { holding_of self.new ≡ with_node (holding_of self.old) prefix.now excluded route }
@@ -183,7 +183,7 @@ impl<A: Allocator + Copy> Held<A> {
     fn answer(
         &mut self,
         prefix: &[u32],
-        excluded: Excluded<A>,
+        excluded: ExcludedNumbers<A>,
         route: Option<Route<A>>,
         mut judged: Judged<A>,
     ) -> Result<(), NoMemory>
@@ -206,7 +206,7 @@ impl<A: Allocator + Copy> Held<A> {
     fn add(
         &mut self,
         prefix: &[u32],
-        excluded: Excluded<A>,
+        excluded: ExcludedNumbers<A>,
         route: Option<Route<A>>,
     ) -> Result<(), NoMemory>
         ensures ok { OnOk result (holding_of self.new ≡ held_then (holding_of self.old) prefix.now excluded route None) }
@@ -222,7 +222,7 @@ impl<A: Allocator + Copy> Held<A> {
     /// least that is owed, `due` is where that leads.
     pub fn take_in(
         &mut self,
-        question: &Question<'_, A>,
+        question: &PlanRequest<'_, A>,
         prefix: &[u32],
         excluded: &[u32],
         due: Option<Lead>,
@@ -234,7 +234,7 @@ impl<A: Allocator + Copy> Held<A> {
         ensures err { OnErr result (holding_of self.new ≡ holding_of self.old) }
     {
         let judged = self.judge(question, prefix, excluded, due)?;
-        let excluded = Excluded::of(question.alloc, excluded)?;
+        let excluded = ExcludedNumbers::of(question.alloc, excluded)?;
         match judged {
             Some(judged) => self.answer(prefix, excluded, route, judged),
             None => self.add(prefix, excluded, route),

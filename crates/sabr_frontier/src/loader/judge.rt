@@ -7,7 +7,7 @@ ghost use Rattle.sabr_frontier.specs.loading.Leading.{IsLead, step_of};
 ghost use Rattle.sabr_frontier.specs.loading.Holding.{AllGoOn, AreStepsStill, GoesOnTo, leaves_with, onward_with};
 
 use crate::loader::leading::{Lead, Owed};
-use crate::question::Question;
+use crate::plan_request::PlanRequest;
 use sabr_model::{NoMemory, Route};
 use std::alloc::{Allocator, Global};
 
@@ -48,7 +48,7 @@ impl<A: Allocator + Copy> Judged<A> {
     /// Appends the path of a prefix and one more number to the others of its kind; false if they make none.
     fn put(
         &mut self,
-        question: &Question<'_, A>,
+        question: &PlanRequest<'_, A>,
         prefix: &[u32],
         lead: Lead,
         number: u32,
@@ -81,7 +81,7 @@ impl<A: Allocator + Copy> Judged<A> {
 /// Returns where the excluded numbers of a prefix lead, or none if one of them makes no path. The result is gathered in
 /// `judged`, in place of what that held. The prefix leads to `lead`.
 pub fn judge<A: Allocator + Copy>(
-    question: &Question<'_, A>,
+    question: &PlanRequest<'_, A>,
     prefix: &[u32],
     excluded: &[u32],
     lead: Lead,

@@ -5,7 +5,7 @@ ghost use Rattle.sabr_frontier.specs.tree.Root.{root};
 ghost use Rattle.sabr_frontier.specs.tree.Shape.{shape_of};
 ghost use Rattle.sabr_frontier.specs.tree.Undo.{IsRoomy};
 
-use crate::tree::excluded::Excluded;
+use crate::tree::excluded_numbers::ExcludedNumbers;
 use crate::tree::winners::rebuild;
 use crate::tree::{Node, NodeId, Tree};
 use sabr_model::{NoMemory, Route};
@@ -28,7 +28,7 @@ impl<A: Allocator + Copy> Tree<A> {
         nodes.push_reserved(Node {
             leaf: 0,
             length: 0,
-            excluded: Excluded::none(alloc),
+            excluded: ExcludedNumbers::none(alloc),
             route: found,
         });
         rebuild(nodes.as_slice(), &mut winners);

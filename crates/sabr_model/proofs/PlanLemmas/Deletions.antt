@@ -10,7 +10,7 @@ use Rattle.sabr_model.specs.declared.contact.Range.{Range}
 use Rattle.sabr_model.specs.Order.{by_numbers}
 use Rattle.sabr_model.specs.plan.Plan.{ContactPlan, IsPlan, IsWindow, IsPair, rises_above, opens, same_opening, overlap, none_twice, range_key}
 use Rattle.sabr_model.specs.plan.Table.{without_number}
-use Rattle.sabr_model.proofs.PlanLemmas.ContactLemmas.Without.{all_above, is_one}
+use Rattle.sabr_model.proofs.PlanLemmas.Without.{all_above, is_one}
 
 module _ {X : Type 0} where
   pub all_filter : (P : X → Type 0) (t : X → Bool) (xs : List X) → AllByRecursion P xs → AllByRecursion P (filter t xs)

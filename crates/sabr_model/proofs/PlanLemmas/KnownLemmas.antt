@@ -15,7 +15,7 @@ use Rattle.sabr_model.specs.plan.Plan.{ContactPlan, TabledPlan, contact_named, h
 use Rattle.sabr_model.specs.plan.Table.{ends_of, KeepsPlaces, IsTableOf}
 use Rattle.sabr_model.specs.plan.Stretches.{AreEndsOf, AreEnds, IsStretchAmong, AreStretches}
 use Rattle.sabr_model.specs.plan.Known.{BeginEnds, IsKnown}
-use Rattle.sabr_model.proofs.PlanLemmas.ContactLemmas.TableLemmas.{has_node}
+use Rattle.sabr_model.proofs.PlanLemmas.TableLemmas.{has_node}
 
 -- all ends are known
 pub all_ends : (table : List ℕ) (contacts : List Contact) (ends : List Ends) → AreEnds table contacts ends → BeginEnds table contacts ends

@@ -17,8 +17,8 @@ use Rattle.sabr_model.specs.Order.{by_numbers, put_in}
 use Rattle.sabr_model.specs.plan.Plan.{ContactPlan, IsPlan, IsWindow, IsPair, overlap, none_twice, range_key}
 use Rattle.sabr_model.specs.plan.Light.{is_within, light_of_pair, or_else, light_of}
 use Rattle.sabr_model.specs.plan.RangeOrder.{place_number, number_of_range, IsRangeList, IsCountUntil}
-use Rattle.sabr_model.proofs.PlanLemmas.ContactLemmas.Deletions.{any_none, all_found}
-use Rattle.sabr_model.proofs.PlanLemmas.ContactLemmas.RangeLemmas.{all_at, accepted_range, same_key_overlaps, place_is_put}
+use Rattle.sabr_model.proofs.PlanLemmas.Deletions.{any_none, all_found}
+use Rattle.sabr_model.proofs.PlanLemmas.RangeLemmas.{all_at, accepted_range, same_key_overlaps, place_is_put}
 
 -- ---- keys as numbers
 

@@ -14,7 +14,7 @@ use Rattle.sabr_model.specs.plan.RangeOrder.{IsRangeList}
 use Rattle.sabr_model.specs.plan.Light.{is_within, light_of_pair}
 use Rattle.sabr_model.specs.plan.Stretches.{IsStretchAmong, AreStretches}
 use Rattle.sabr_model.specs.plan.Plan.{has, are_different}
-use Rattle.sabr_model.proofs.PlanLemmas.ContactLemmas.Tabled.{has_place, place_one}
+use Rattle.sabr_model.proofs.PlanLemmas.Tabled.{has_place, place_one}
 
 -- ---- stretches that grow
 

@@ -14,7 +14,7 @@ use Rattle.indexmap.proofs.CallerLemmas.{insert_entry-new, keys-with_value_at, u
 use Rattle.sabr_model.specs.plan.Plan.{has}
 use Rattle.sabr_model.specs.plan.Table.{list_at, with_number, KeepsPlaces}
 use Rattle.sabr_model.proofs.ListLemmas.Has.{eqb_flip}
-use Rattle.sabr_model.proofs.PlanLemmas.ContactLemmas.Tabled.{index_tells}
+use Rattle.sabr_model.proofs.PlanLemmas.Tabled.{index_tells}
 
 -- the place that is found is the node's
 pub found_at : (xs : List ℕ) (n k : ℕ) → Some k ≡ position (nat_eq n) xs → slice_get xs k ≡ Some n

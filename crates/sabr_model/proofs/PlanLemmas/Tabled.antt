@@ -15,7 +15,7 @@ use Rattle.sabr_model.specs.plan.Plan.{ContactPlan, has, are_different}
 use Rattle.sabr_model.specs.plan.Table.{sent_by, IsTableOf}
 use Rattle.sabr_model.specs.plan.Tabled.{IsTabled}
 use Rattle.sabr_model.proofs.ListLemmas.Has.{eqb_flip}
-use Rattle.sabr_model.proofs.PlanLemmas.ContactLemmas.TableLemmas.{has_node}
+use Rattle.sabr_model.proofs.PlanLemmas.TableLemmas.{has_node}
 
 -- a number unequal to each is not in the list
 none_equal : (n : ℕ) (xs : List ℕ) → AllByRecursion (λ y. nat_eq n y ≡ false) xs → has n xs ≡ false

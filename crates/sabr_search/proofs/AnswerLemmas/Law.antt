@@ -23,7 +23,7 @@ use Rattle.sabr_search.proofs.WayLemmas.Least.{least_in_part, none_in_part}
 use Rattle.sabr_search.proofs.LinkLemmas.PlanFacts.{contact_in, takes_early}
 use Rattle.sabr_search.proofs.WayLemmas.Prefixes.{IsPrefix}
 use Rattle.sabr_search.proofs.LinkLemmas.StepLists.{few_different}
-use Rattle.sabr_model.proofs.PlanLemmas.ContactLemmas.Tabled.{has_place}
+use Rattle.sabr_model.proofs.PlanLemmas.Tabled.{has_place}
 use Rattle.sabr_model.proofs.RouteLemmas.Paths.{value_of}
 
 -- no way arrives late

@@ -1,7 +1,7 @@
 -- Layers backward from the goal that end with an empty one: no way leads from the start.
 use Rattle.std.proofs.Common.{◌≡◌, inl, inr, ℕ, ◌+◌, ◌<◌, ◌≤◌, false, List, [], ◌∷◌, ◌++◌, length, slice_index, slice_index_or, refl, ap, sym, arith, length-append}
 use Rattle.std.proofs.lemmas.Bool.{cases_lt, cases_eq}
-use Rattle.sabr_search.specs.declared.forward.layers.Reached.{Reached}
+use Rattle.sabr_search.specs.declared.forward.layers.LayerEntry.{LayerEntry}
 use Rattle.sabr_search.specs.questions.Ways.{Leads}
 use Rattle.sabr_search.specs.questions.Task.{SearchTask, Takes, IsTask}
 use Rattle.sabr_search.specs.layers.Made.{Entry}
@@ -12,7 +12,7 @@ use Rattle.sabr_search.proofs.WayLemmas.Bridge.{takes_timely}
 use Rattle.sabr_search.proofs.ForwardLemmas.FirstWays.{goal_other}
 use Rattle.sabr_search.proofs.ForwardLemmas.MadeLayers.{index_past}
 
-module _ (task : SearchTask) (is : IsTask task) (since : List ℕ) (d left : ℕ) (ends late place : List ℕ) (reached : List Reached)
+module _ (task : SearchTask) (is : IsTask task) (since : List ℕ) (d left : ℕ) (ends late place : List ℕ) (reached : List LayerEntry)
     (made : AreLateLayers task since d left ends late place reached) (last : slice_index ends left ≡ slice_index ends (left + 1)) where
   -- no entry is in the last layer or after it
   pub inside : (j v a x : ℕ) → Entry ends reached j v a x → j < left

@@ -3,7 +3,7 @@ use Rattle.std.proofs.Common.{◌≡◌, inl, inr, ℕ, ◌+◌, ◌-◌, ◌<�
 use Rattle.std.specs.Prelude.{IfSome, IfNone, eqb}
 use Rattle.std.proofs.lemmas.Bool.{cases_lt}
 use Rattle.std.proofs.lemmas.List.Sums.{count_by-le-length}
-use Rattle.sabr_search.specs.declared.forward.layers.Reached.{Reached}
+use Rattle.sabr_search.specs.declared.forward.layers.LayerEntry.{LayerEntry}
 use Rattle.sabr_search.specs.declared.backward.pick.Step.{Step}
 use Rattle.sabr_search.specs.questions.Ways.{Leads}
 use Rattle.sabr_search.specs.layers.Front.{IsNotAfter}
@@ -36,7 +36,7 @@ pub record IsFront (task : SearchTask) (r d hop : ℕ) (chosen : List ℕ) (u t 
   pub front : (ns : List ℕ) (e : ℕ) → length ns ≡ r → Leads (Takes task) task.start task.at ns task.goal e → e ≤ d → IsNotAfter chosen ns
   pub on : GoesOn task d u t (r - hop)
 
-module _ (task : SearchTask) (is : IsTask task) (since : List ℕ) (d left : ℕ) (ends place : List ℕ) (reached : List Reached) (met : AreMet task since d left ends place reached) where
+module _ (task : SearchTask) (is : IsTask task) (since : List ℕ) (d left : ℕ) (ends place : List ℕ) (reached : List LayerEntry) (met : AreMet task since d left ends place reached) where
   -- no layer ends after the entries
   pub ends_below : (j : ℕ) → slice_index ends j ≤ length reached
   ends_below j = elim (cases_lt (left + 1) j) [
@@ -121,12 +121,12 @@ front_all task r d hop chosen u t front all least =
 
 -- ---- the least step at one node
 
-pub least_found : (task : SearchTask) (ends : List ℕ) (reached : List Reached) (hops u t : ℕ) (least : Option Step) → IfSome least (λ s. Takes task s.number u t s.node s.at × IsInTime ends reached hops s.node s.at) →
+pub least_found : (task : SearchTask) (ends : List ℕ) (reached : List LayerEntry) (hops u t : ℕ) (least : Option Step) → IfSome least (λ s. Takes task s.number u t s.node s.at × IsInTime ends reached hops s.node s.at) →
     ((n w b : ℕ) → Takes task n u t w b → IsInTime ends reached hops w b → IsAtMost least n) → IfSome least (IsLeastStep task ends reached hops u t)
 least_found task ends reached hops u t None chosen least = tt
 least_found task ends reached hops u t (Some s) chosen least = record { step = chosen.0; in_time = chosen.1; least = least }
 
-pub least_missing : (task : SearchTask) (ends : List ℕ) (reached : List Reached) (hops u t : ℕ) (least : Option Step) →
+pub least_missing : (task : SearchTask) (ends : List ℕ) (reached : List LayerEntry) (hops u t : ℕ) (least : Option Step) →
     ((n w b : ℕ) → Takes task n u t w b → IsInTime ends reached hops w b → IsAtMost least n) → IfNone least ((n w b : ℕ) → Takes task n u t w b → IsInTime ends reached hops w b → ⊥)
 least_missing task ends reached hops u t None least = least
 least_missing task ends reached hops u t (Some s) least = tt

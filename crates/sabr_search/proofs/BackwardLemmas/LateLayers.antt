@@ -1,7 +1,7 @@
 -- What layers made backward say: a way on for each entry in time, and an entry for each way on.
 use Rattle.std.proofs.Common.{◌≡◌, inl, inr, ℕ, zero, suc, ◌+◌, ◌<◌, ◌≤◌, List, [], ◌∷◌, ◌++◌, length, slice_get, refl, ap, sym, ◌∙◌, arith, length-append, add-one}
 use Rattle.std.proofs.lemmas.Bool.{cases_lt, cases_eq}
-use Rattle.sabr_search.specs.declared.forward.layers.Reached.{Reached}
+use Rattle.sabr_search.specs.declared.forward.layers.LayerEntry.{LayerEntry}
 use Rattle.sabr_search.specs.questions.Ways.{Leads}
 use Rattle.sabr_search.specs.questions.Task.{SearchTask, Takes, IsTask}
 use Rattle.sabr_search.specs.layers.Made.{Entry}
@@ -12,13 +12,13 @@ use Rattle.sabr_search.proofs.ForwardLemmas.FirstWays.{goal_other}
 use Rattle.sabr_search.proofs.BackwardLemmas.Backward.{way_open}
 use Rattle.sabr_search.proofs.ForwardLemmas.Forward.{last_or_before}
 
-module _ (task : SearchTask) (is : IsTask task) (since : List ℕ) (d left : ℕ) (ends late place : List ℕ) (reached : List Reached) (made : AreLateLayers task since d left ends late place reached) where
+module _ (task : SearchTask) (is : IsTask task) (since : List ℕ) (d left : ℕ) (ends late place : List ℕ) (reached : List LayerEntry) (made : AreLateLayers task since d left ends late place reached) where
   -- layer 0 is the goal
   pub base : (v a x : ℕ) → Entry ends reached 0 v a x → (v ≡ task.goal) × (x ≡ d + 1)
   base v a x e =
       let zero_is : e.0 ≡ 0 = omega (arith, e.2, made.second_end) in
       let same : record { node = v; arrival = a; deadline = x } ≡ record { node = task.goal; arrival = made.goal_first.0; deadline = d + 1 } = same_some (sym e.3 ∙ ap (slice_get reached) zero_is ∙ made.goal_first.1) in
-      (ap (λ (y : Reached). y.node) same, ap (λ (y : Reached). y.deadline) same)
+      (ap (λ (y : LayerEntry). y.node) same, ap (λ (y : LayerEntry). y.deadline) same)
 
   goal_entry : Entry ends reached 0 task.goal made.goal_first.0 (d + 1)
   goal_entry = (0, omega (arith, made.first_end), omega (arith, made.second_end), made.goal_first.1)

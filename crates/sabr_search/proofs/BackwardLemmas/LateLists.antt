@@ -3,7 +3,7 @@ use Rattle.std.proofs.Common.{◌≡◌, ◌≢◌, ◌⊎◌, inl, inr, ℕ, ze
 use Rattle.std.proofs.lemmas.Bool.{cases_lt, cases_eq}
 use Rattle.std.proofs.lemmas.Grind.{common_steps}
 use Rattle.std.proofs.lemmas.Option.{slice_get-get_or, slice_get_within}
-use Rattle.sabr_search.specs.declared.forward.layers.Reached.{Reached}
+use Rattle.sabr_search.specs.declared.forward.layers.LayerEntry.{LayerEntry}
 use Rattle.sabr_search.specs.questions.Task.{SearchTask, Takes, IsTask}
 use Rattle.sabr_search.specs.layers.Late.{InTimeFor, IsLateEntry, AreLate, IsNotedLate, IsToldLate}
 use Rattle.sabr_search.proofs.BackwardLemmas.Backward.{get_set_here, get_set_other, set_other}
@@ -50,10 +50,10 @@ take_push (suc k) (x ∷ xs) y le = ap (λ zs. x ∷ zs) (take_push k xs y (omeg
 pub set_many : {X : Type 0} (xs : List X) (k : ℕ) (b : X) → length (slice_set xs k b) ≡ length xs
 set_many xs k b = grind (arith, common_steps)
 
-module _ (task : SearchTask) (since : List ℕ) (first begin : ℕ) (late place : List ℕ) (reached : List Reached) (was : AreLate task since first begin late place reached)
+module _ (task : SearchTask) (since : List ℕ) (first begin : ℕ) (late place : List ℕ) (reached : List LayerEntry) (was : AreLate task since first begin late place reached)
     (u a x : ℕ) (inside : u < length task.table) (unshut : slice_index_or task.shut u false ≡ false) (other : u ≢ task.goal) (a_is : a ≡ slice_index since u) (later : slice_index late u < x)
     (sound : (t : ℕ) → t < x → (n : ℕ) × (w : ℕ) × (b : ℕ) × Takes task n u t w b × InTimeFor reached first begin w b) where
-  abbrev f : Reached
+  abbrev f : LayerEntry
   f = record { node = u; arrival = a; deadline = x }
 
   now_late : slice_index (slice_set late u x) u ≡ x
@@ -65,10 +65,10 @@ module _ (task : SearchTask) (since : List ℕ) (first begin : ℕ) (late place 
     | inr differs ↦ omega (arith, set_other late u k x differs)
   ]
 
-  old_entry : (e : Reached) → IsLateEntry task since late e → IsLateEntry task since (slice_set late u x) e
+  old_entry : (e : LayerEntry) → IsLateEntry task since late e → IsLateEntry task since (slice_set late u x) e
   old_entry e is = record { inside = is.inside; unshut = is.unshut; other = is.other; soon = is.soon; by = omega (arith, is.by, late_rises e.node) }
 
-  new_entry : (e : Reached) → e ≡ record { node = u; arrival = a; deadline = x } → IsLateEntry task since (slice_set late u x) e
+  new_entry : (e : LayerEntry) → e ≡ record { node = u; arrival = a; deadline = x } → IsLateEntry task since (slice_set late u x) e
   new_entry e is = rw is (record { inside = inside; unshut = unshut; other = other; soon = a_is; by = omega (arith, now_late) })
 
   module _ (above : begin ≤ slice_index place u) where
@@ -76,7 +76,7 @@ module _ (task : SearchTask) (since : List ℕ) (first begin : ℕ) (late place 
     at_within = was.within u inside
 
     -- what stands there
-    abbrev e0 : Reached
+    abbrev e0 : LayerEntry
     e0 = slice_index_or reached (slice_index place u) (record { node = u; arrival = a; deadline = x })
 
     e0_at : slice_get reached (slice_index place u) ≡ Some (slice_index_or reached (slice_index place u) (record { node = u; arrival = a; deadline = x }))
@@ -100,7 +100,7 @@ module _ (task : SearchTask) (since : List ℕ) (first begin : ℕ) (late place 
         | inl old ↦ was.own k e less some old.1
         | inr here ↦
             (let k_is : e0.node ≡ k = was.own k e0 less some (ap (slice_get reached) here.0 ∙ e0_at) in
-            ap (λ (y : Reached). y.node) here.1 ∙ sym e0_node ∙ k_is)
+            ap (λ (y : LayerEntry). y.node) here.1 ∙ sym e0_node ∙ k_is)
       ];
       later = was.later;
       begins = omega (arith, was.begins, set_many reached (slice_index place u) f);
@@ -109,7 +109,7 @@ module _ (task : SearchTask) (since : List ℕ) (first begin : ℕ) (late place 
         | inr differs ↦
             (let keeps : slice_index (slice_set late u x) v ≡ slice_index late v = set_other late u v x differs in
             let old = was.top v less (omega (arith, some, keeps)) in
-            let away : slice_index place v ≡ slice_index place u → ⊥ = λ same. differs (ap (λ (y : Reached). y.node) (same_some (sym old.1 ∙ ap (slice_get reached) same ∙ e0_at)) ∙ e0_node) in
+            let away : slice_index place v ≡ slice_index place u → ⊥ = λ same. differs (ap (λ (y : LayerEntry). y.node) (same_some (sym old.1 ∙ ap (slice_get reached) same ∙ e0_at)) ∙ e0_node) in
             rw keeps (old.0, get_set_other reached (slice_index place u) (slice_index place v) f away ∙ old.1))
       ];
       each = λ p e some at. elim (set_cases reached (slice_index place u) f p e at_within at) [
@@ -120,24 +120,24 @@ module _ (task : SearchTask) (since : List ℕ) (first begin : ℕ) (late place 
         | inl old_p ↦ elim (set_cases reached (slice_index place u) f q g at_within at_q) [
           | inl old_q ↦ was.rising p q e g some less old_p.1 old_q.1 same
           | inr here_q ↦
-              (let node : e.node ≡ e0.node = same ∙ ap (λ (y : Reached). y.node) here_q.1 ∙ sym e0_node in
-              omega (arith, was.rising p (slice_index place u) e e0 some (omega (arith, here_q.0)) old_p.1 e0_at node, e0_by, ap (λ (y : Reached). y.deadline) here_q.1))
+              (let node : e.node ≡ e0.node = same ∙ ap (λ (y : LayerEntry). y.node) here_q.1 ∙ sym e0_node in
+              omega (arith, was.rising p (slice_index place u) e e0 some (omega (arith, here_q.0)) old_p.1 e0_at node, e0_by, ap (λ (y : LayerEntry). y.deadline) here_q.1))
         ]
         | inr here_p ↦ elim (set_cases reached (slice_index place u) f q g at_within at_q) [
           | inl old_q ↦
-              (let g_node : g.node ≡ u = sym same ∙ ap (λ (y : Reached). y.node) here_p.1 in
+              (let g_node : g.node ≡ u = sym same ∙ ap (λ (y : LayerEntry). y.node) here_p.1 in
               absurd (omega (arith, was.once q g (omega (arith, here_p.0)) old_q.1, ap (slice_index place) g_node, here_p.0)))
           | inr here_q ↦ absurd (omega (arith, here_p.0, here_q.0))
         ]
       ];
       once = λ p e from at. elim (set_cases reached (slice_index place u) f p e at_within at) [
         | inl old ↦ was.once p e from old.1
-        | inr here ↦ ap (λ (y : Reached). slice_index place y.node) here.1 ∙ sym here.0
+        | inr here ↦ ap (λ (y : LayerEntry). slice_index place y.node) here.1 ∙ sym here.0
       ];
       sound = λ p e t from at less. elim (set_cases reached (slice_index place u) f p e at_within at) [
         | inl old ↦ (let s = was.sound p e t from old.1 less in (s.0, s.1, s.2, s.3, in_time_changed s.1 s.2 s.4))
         | inr here ↦
-            (let s = sound t (omega (arith, less, ap (λ (y : Reached). y.deadline) here.1)) in
+            (let s = sound t (omega (arith, less, ap (λ (y : LayerEntry). y.deadline) here.1)) in
             rw here.1 (s.0, s.1, s.2, s.3, in_time_changed s.1 s.2 s.4))
       ];
     }
@@ -163,7 +163,7 @@ module _ (task : SearchTask) (since : List ℕ) (first begin : ℕ) (late place 
       own = λ k e less some at. elim (cases_eq k u) [
         | inl same ↦
             (let at' : slice_get (reached ++ f ∷ []) (length reached) ≡ Some e = sym (ap (slice_get (reached ++ f ∷ [])) (ap (slice_index (slice_set place u (length reached))) same ∙ place_here)) ∙ at in
-            ap (λ (y : Reached). y.node) (same_some (sym at' ∙ get_push_here reached f)) ∙ sym same)
+            ap (λ (y : LayerEntry). y.node) (same_some (sym at' ∙ get_push_here reached f)) ∙ sym same)
         | inr differs ↦
             (let keeps : slice_index (slice_set place u (length reached)) k ≡ slice_index place k = set_other place u k (length reached) differs in
             was.own k e less (omega (arith, some, keeps)) (sym (get_push_before reached f (slice_index place k) (was.within k less)) ∙ ap (slice_get (reached ++ f ∷ [])) (sym keeps) ∙ at))
@@ -189,8 +189,8 @@ module _ (task : SearchTask) (since : List ℕ) (first begin : ℕ) (late place 
         ]
         | inr here_q ↦ elim (push_cases reached f p e at_p) [
           | inl old_p ↦
-              (let e_node : e.node ≡ u = same ∙ ap (λ (y : Reached). y.node) here_q.1 in
-              omega (arith, (was.each p e some old_p.1).by, ap (slice_index late) e_node, later, ap (λ (y : Reached). y.deadline) here_q.1))
+              (let e_node : e.node ≡ u = same ∙ ap (λ (y : LayerEntry). y.node) here_q.1 in
+              omega (arith, (was.each p e some old_p.1).by, ap (slice_index late) e_node, later, ap (λ (y : LayerEntry). y.deadline) here_q.1))
           | inr here_p ↦ absurd (omega (arith, here_p.0, here_q.0))
         ]
       ];
@@ -199,23 +199,23 @@ module _ (task : SearchTask) (since : List ℕ) (first begin : ℕ) (late place 
           | inl same ↦ absurd (omega (arith, was.once p e from old.1, ap (slice_index place) same))
           | inr differs ↦ set_other place u e.node (length reached) differs ∙ was.once p e from old.1
         ]
-        | inr here ↦ ap (λ (y : Reached). slice_index (slice_set place u (length reached)) y.node) here.1 ∙ place_here ∙ sym here.0
+        | inr here ↦ ap (λ (y : LayerEntry). slice_index (slice_set place u (length reached)) y.node) here.1 ∙ place_here ∙ sym here.0
       ];
       sound = λ p e t from at less. elim (push_cases reached f p e at) [
         | inl old ↦ (let s = was.sound p e t from old.1 less in (s.0, s.1, s.2, s.3, in_time_pushed s.1 s.2 s.4))
         | inr here ↦
-            (let s = sound t (omega (arith, less, ap (λ (y : Reached). y.deadline) here.1)) in
+            (let s = sound t (omega (arith, less, ap (λ (y : LayerEntry). y.deadline) here.1)) in
             rw here.1 (s.0, s.1, s.2, s.3, in_time_pushed s.1 s.2 s.4))
       ];
     }
 
   -- either way, what stood before the layer stays
-  pub late_noted : (place' : List ℕ) (reached' : List Reached) → IsNotedLate place reached begin u a x place' reached' → AreLate task since first begin (slice_set late u x) place' reached' × (take begin reached' ≡ take begin reached)
+  pub late_noted : (place' : List ℕ) (reached' : List LayerEntry) → IsNotedLate place reached begin u a x place' reached' → AreLate task since first begin (slice_set late u x) place' reached' × (take begin reached' ≡ take begin reached)
   late_noted place' reached' (inl here) = rw (here.1, here.2) (changed_late here.0, take_set begin reached (slice_index place u) f here.0)
   late_noted place' reached' (inr new) = rw (new.1, new.2) (pushed_late new.0, take_push begin reached f was.begins)
 
 -- if a link can be left later than before, each second sooner than that has a step in time
-pub sound_back : (task : SearchTask) → IsTask task → (u to latest last before first begin : ℕ) (reached : List Reached) →
+pub sound_back : (task : SearchTask) → IsTask task → (u to latest last before first begin : ℕ) (reached : List LayerEntry) →
     ((t : ℕ) → latest ≤ t → t < last → (b : ℕ) × (b < before) × (slice_index_or task.shut to false ≡ false → (n : ℕ) × Takes task n u t to b)) → latest < last → slice_index_or task.shut to false ≡ false →
     ((b : ℕ) → b < before → InTimeFor reached first begin to b) → (t : ℕ) → t < last → (n : ℕ) × (w : ℕ) × (b : ℕ) × Takes task n u t w b × InTimeFor reached first begin w b
 sound_back task is u to latest last before first begin reached leaves later unshut given t less =
@@ -225,7 +225,7 @@ sound_back task is u to latest last before first begin reached leaves later unsh
     (step.0, to, sooner.0, sooner.2, given sooner.0 (omega (arith, sooner.1, s.1)))
 
 -- what came before the layer is still there
-pub in_time_kept : (first begin : ℕ) (reached reached0 : List Reached) → take begin reached ≡ take begin reached0 → (w b : ℕ) → InTimeFor reached0 first begin w b → InTimeFor reached first begin w b
+pub in_time_kept : (first begin : ℕ) (reached reached0 : List LayerEntry) → take begin reached ≡ take begin reached0 → (w b : ℕ) → InTimeFor reached0 first begin w b → InTimeFor reached first begin w b
 in_time_kept first begin reached reached0 kept w b t = (t.0, t.1, t.2, t.3, same_below begin reached0 reached (sym kept) t.0 t.1 t.3 t.4, t.5, t.6)
 
 -- what the layers say of a step stays true

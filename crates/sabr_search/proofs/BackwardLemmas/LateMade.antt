@@ -4,7 +4,7 @@ use Rattle.std.specs.Prelude.{IfSome}
 use Rattle.std.proofs.lemmas.Bool.{cases_lt, cases_eq}
 use Rattle.std.proofs.lemmas.Grind.{common_steps}
 use Rattle.std.proofs.lemmas.Option.{slice_get_within}
-use Rattle.sabr_search.specs.declared.forward.layers.Reached.{Reached}
+use Rattle.sabr_search.specs.declared.forward.layers.LayerEntry.{LayerEntry}
 use Rattle.sabr_search.specs.questions.Task.{SearchTask, Takes, IsTask}
 use Rattle.sabr_search.specs.layers.Made.{Entry}
 use Rattle.sabr_search.specs.layers.Late.{InTimeFor, AreLate, AreTold, IsToldBy, AreLateLayers, IsMet}
@@ -13,15 +13,15 @@ use Rattle.sabr_search.proofs.ForwardLemmas.Forward.{last_or_before}
 use Rattle.sabr_search.proofs.ForwardLemmas.MadeLayers.{index_before, index_at, index_past, layer_of}
 
 -- an entry is the goal's, or one of another open node
-pub open_entry : (task : SearchTask) → IsTask task → (since : List ℕ) (first begin : ℕ) (late place : List ℕ) (reached : List Reached) → AreLate task since first begin late place reached →
-    IfSome (slice_get reached 0) (λ e. e.node ≡ task.goal) → (p : ℕ) (e : Reached) → slice_get reached p ≡ Some e → (e.node < length task.table) × (slice_index_or task.shut e.node false ≡ false)
+pub open_entry : (task : SearchTask) → IsTask task → (since : List ℕ) (first begin : ℕ) (late place : List ℕ) (reached : List LayerEntry) → AreLate task since first begin late place reached →
+    IfSome (slice_get reached 0) (λ e. e.node ≡ task.goal) → (p : ℕ) (e : LayerEntry) → slice_get reached p ≡ Some e → (e.node < length task.table) × (slice_index_or task.shut e.node false ≡ false)
 open_entry task is since first begin late place reached was goal_first zero e at =
     let same : e.node ≡ task.goal = rw at at goal_first in
     (omega (arith, is.goal_in), ap (λ k. slice_index_or task.shut k false) same ∙ is.goal_open)
 open_entry task is since first begin late place reached was goal_first (suc p) e at = let one = was.each (suc p) e (omega arith) at in (one.inside, one.unshut)
 
 -- there is nothing after the end of a list
-pub nothing_past : (task : SearchTask) (since : List ℕ) (first begin first' begin' : ℕ) (late place : List ℕ) (reached : List Reached) → AreLate task since first begin late place reached → begin' ≡ length reached → AreLate task since first' begin' late place reached
+pub nothing_past : (task : SearchTask) (since : List ℕ) (first begin first' begin' : ℕ) (late place : List ℕ) (reached : List LayerEntry) → AreLate task since first begin late place reached → begin' ≡ length reached → AreLate task since first' begin' late place reached
 nothing_past task since first begin first' begin' late place reached was all = record {
   flags = was.flags;
   many = was.many;
@@ -36,8 +36,8 @@ nothing_past task since first begin first' begin' late place reached was all = r
   sound = λ p e t from at less. absurd (omega (arith, slice_get_within reached p e at));
 }
 
-module _ (task : SearchTask) (is : IsTask task) (since : List ℕ) (d left : ℕ) (ends late place : List ℕ) (reached : List Reached) (made : AreLateLayers task since d left ends late place reached)
-    (ends' late' place' : List ℕ) (reached' : List Reached)
+module _ (task : SearchTask) (is : IsTask task) (since : List ℕ) (d left : ℕ) (ends late place : List ℕ) (reached : List LayerEntry) (made : AreLateLayers task since d left ends late place reached)
+    (ends' late' place' : List ℕ) (reached' : List LayerEntry)
     (after : AreLate task since (slice_index ends left) (slice_index ends (left + 1)) late' place' reached')
     (kept_all : take (slice_index ends (left + 1)) reached' ≡ take (slice_index ends (left + 1)) reached)
     (told : AreTold task since reached (slice_index ends left) (slice_index ends (left + 1)) late')
@@ -51,10 +51,10 @@ module _ (task : SearchTask) (is : IsTask task) (since : List ℕ) (d left : ℕ
   many' : length ends' ≡ left + 1 + 2
   many' = omega (arith, ap length ends_is, length-append ends (length reached' ∷ []), made.many)
 
-  kept : (p : ℕ) (e : Reached) → slice_get reached p ≡ Some e → slice_get reached' p ≡ Some e
+  kept : (p : ℕ) (e : LayerEntry) → slice_get reached p ≡ Some e → slice_get reached' p ≡ Some e
   kept p e at = same_below (slice_index ends (left + 1)) reached reached' (sym kept_all) p e (omega (arith, made.last_end, slice_get_within reached p e at)) at
 
-  was : (p : ℕ) (e : Reached) → p < length reached → slice_get reached' p ≡ Some e → slice_get reached p ≡ Some e
+  was : (p : ℕ) (e : LayerEntry) → p < length reached → slice_get reached' p ≡ Some e → slice_get reached p ≡ Some e
   was p e less at = same_below (slice_index ends (left + 1)) reached' reached kept_all p e (omega (arith, made.last_end)) at
 
   ends_rise : (h m : ℕ) → h + 1 ≤ m → m ≤ left + 1 → slice_index ends (h + 1) ≤ slice_index ends m
@@ -83,14 +83,14 @@ module _ (task : SearchTask) (is : IsTask task) (since : List ℕ) (d left : ℕ
   -- an entry that a step of the new layer is in time for
   entry_for : (h w b : ℕ) → h ≡ left → InTimeFor reached' (slice_index ends left) (slice_index ends (left + 1)) w b → (c : ℕ) × (y : ℕ) × Entry ends' reached' h w c y × (b < y)
   entry_for h w b same t =
-      let e : Reached = t.1 in (
+      let e : LayerEntry = t.1 in (
         e.arrival,
         e.deadline,
         (t.0, omega (arith, end_before left (omega arith), ap (slice_index ends') same, t.2), omega (arith, end_before (left + 1) (omega arith), ap (λ k. slice_index ends' (k + 1)) same, t.3), t.4 ∙ ap (λ k. Some (record { node = k; arrival = e.arrival; deadline = e.deadline })) t.5),
         t.6,
       )
 
-  apart' : (h p q : ℕ) (e f : Reached) → h ≤ left + 1 → slice_index ends' h ≤ p → slice_index ends' h ≤ q → p < slice_index ends' (h + 1) → q < slice_index ends' (h + 1) → slice_get reached' p ≡ Some e → slice_get reached' q ≡ Some f → e.node ≡ f.node → p ≡ q
+  apart' : (h p q : ℕ) (e f : LayerEntry) → h ≤ left + 1 → slice_index ends' h ≤ p → slice_index ends' h ≤ q → p < slice_index ends' (h + 1) → q < slice_index ends' (h + 1) → slice_get reached' p ≡ Some e → slice_get reached' q ≡ Some f → e.node ≡ f.node → p ≡ q
   apart' h p q e f le above_p above_q below_p below_q at_p at_q same = elim (cases_eq h (left + 1)) [
     | inl here ↦
         (let lower : slice_index ends' h ≡ slice_index ends (left + 1) = ap (slice_index ends') here ∙ end_before (left + 1) (omega arith) in
@@ -162,9 +162,9 @@ module _ (task : SearchTask) (is : IsTask task) (since : List ℕ) (d left : ℕ
   }
 
 -- if the start is in time for an entry of the last layer
-pub met_at : (task : SearchTask) (left : ℕ) (ends : List ℕ) (reached : List Reached) (n w b : ℕ) → Takes task n task.start task.at w b → InTimeFor reached (slice_index ends left) (slice_index ends (left + 1)) w b → IsMet task left ends reached
+pub met_at : (task : SearchTask) (left : ℕ) (ends : List ℕ) (reached : List LayerEntry) (n w b : ℕ) → Takes task n task.start task.at w b → InTimeFor reached (slice_index ends left) (slice_index ends (left + 1)) w b → IsMet task left ends reached
 met_at task left ends reached n w b step t =
-    let e : Reached = t.1 in
+    let e : LayerEntry = t.1 in
     record {
       n = n;
       w = w;
@@ -185,7 +185,7 @@ pub all_many : (n : ℕ) → length {A = ℕ} (replicate n 0) ≡ n
 all_many n = grind (arith, common_steps)
 
 -- the goal alone
-pub late_first : (task : SearchTask) → IsTask task → (since : List ℕ) (d : ℕ) (ends late place : List ℕ) (reached : List Reached) → ends ≡ 0 ∷ 1 ∷ [] → reached ≡ record { node = task.goal; arrival = d; deadline = d + 1 } ∷ [] →
+pub late_first : (task : SearchTask) → IsTask task → (since : List ℕ) (d : ℕ) (ends late place : List ℕ) (reached : List LayerEntry) → ends ≡ 0 ∷ 1 ∷ [] → reached ≡ record { node = task.goal; arrival = d; deadline = d + 1 } ∷ [] →
     place ≡ replicate (length task.shut) 0 → late ≡ replicate (length task.shut) 0 → AreLateLayers task since d 0 ends late place reached
 late_first task is since d ends late place reached ends_is reached_is place_is late_is =
     rw (ends_is, reached_is, place_is, late_is) (record {

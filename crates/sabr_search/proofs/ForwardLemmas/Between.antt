@@ -11,7 +11,7 @@ use Rattle.sabr_model.specs.declared.contact.Contact.{Contact}
 use Rattle.sabr_model.specs.plan.Plan.{has}
 use Rattle.sabr_model.proofs.ListLemmas.Members.{map_in, Contains-from_in}
 use Rattle.sabr_model.proofs.RouteLemmas.Listed.{in_from_has}
-use Rattle.sabr_search.specs.declared.forward.layers.Reached.{Reached}
+use Rattle.sabr_search.specs.declared.forward.layers.LayerEntry.{LayerEntry}
 use Rattle.sabr_search.specs.questions.Task.{SearchTask}
 use Rattle.sabr_search.specs.questions.Steps.{place_in, senders, degree, sent_by_all, receivers, received, received_by_all}
 use Rattle.sabr_search.specs.layers.Lists.{nodes_between, AreSources}
@@ -27,17 +27,17 @@ same_below (suc k) (x' ∷ xs) (y ∷ ys) e zero x less at = let same : x' ≡ y
 same_below (suc k) (x' ∷ xs) (y ∷ ys) e (suc p) x less at = same_below k xs ys (let rest : take k xs ≡ take k ys = cc (e) in rest) p x (omega arith) at
 
 -- an entry more
-pub between_more : (reached : List Reached) (first place : ℕ) (e : Reached) → first ≤ place → slice_get reached place ≡ Some e → nodes_between reached first (place + 1) ≡ nodes_between reached first place ++ e.node ∷ []
+pub between_more : (reached : List LayerEntry) (first place : ℕ) (e : LayerEntry) → first ≤ place → slice_get reached place ≡ Some e → nodes_between reached first (place + 1) ≡ nodes_between reached first place ++ e.node ∷ []
 between_more reached first place e le at =
     let inside : place < length reached = slice_get_within reached place e at in
     let more : take (place + 1) reached ≡ take place reached ++ e ∷ [] = take_more reached place e inside ∙ ap (λ x. take place reached ++ x ∷ []) (get_or_from_slice_get reached place e e at) in
     let front : drop first (take place reached ++ e ∷ []) ≡ drop first (take place reached) ++ e ∷ [] = drop-append-le first (take place reached) (e ∷ []) (omega (arith, length-take place reached)) in
-    ap (λ xs. map (λ (x : Reached). x.node) (drop first xs)) more ∙ ap (map (λ (x : Reached). x.node)) front ∙ map-append (λ (x : Reached). x.node) (drop first (take place reached)) (e ∷ [])
+    ap (λ xs. map (λ (x : LayerEntry). x.node) (drop first xs)) more ∙ ap (map (λ (x : LayerEntry). x.node)) front ∙ map-append (λ (x : LayerEntry). x.node) (drop first (take place reached)) (e ∷ [])
 
 -- a node among them is that of an entry there
-pub between_at : (reached : List Reached) (first place u : ℕ) → has u (nodes_between reached first place) ≡ true → (p : ℕ) × (e : Reached) × (first ≤ p) × (p < place) × (slice_get reached p ≡ Some e) × (e.node ≡ u)
+pub between_at : (reached : List LayerEntry) (first place u : ℕ) → has u (nodes_between reached first place) ≡ true → (p : ℕ) × (e : LayerEntry) × (first ≤ p) × (p < place) × (slice_get reached p ≡ Some e) × (e.node ≡ u)
 between_at reached first place u h =
-    let m = map_in (λ (x : Reached). x.node) u (drop first (take place reached)) (in_from_has u (nodes_between reached first place) h) in
+    let m = map_in (λ (x : LayerEntry). x.node) u (drop first (take place reached)) (in_from_has u (nodes_between reached first place) h) in
     let c = Contains-from_in (drop first (take place reached)) m.0 m.1 in
     let sizes : length (drop first (take place reached)) ≡ length (take place reached) - first = length-drop first (take place reached) in
     let below = length-take place reached in
@@ -67,13 +67,13 @@ pub sent_at_most : (task : SearchTask) (nodes : List ℕ) → sent_by_all task n
 sent_at_most task nodes = omega (arith, count_by-le-length (λ k. has k nodes) (senders task), senders_length task)
 
 -- an entry that is read below what stays is the one of before
-pub entry_read : (reached reached0 : List Reached) (begin place : ℕ) (e : Reached) → take begin reached ≡ take begin reached0 → place < begin → begin ≤ length reached → e ≡ slice_index_or reached place e → slice_get reached0 place ≡ Some e
+pub entry_read : (reached reached0 : List LayerEntry) (begin place : ℕ) (e : LayerEntry) → take begin reached ≡ take begin reached0 → place < begin → begin ≤ length reached → e ≡ slice_index_or reached place e → slice_get reached0 place ≡ Some e
 entry_read reached reached0 begin place e before less within is =
     same_below begin reached reached0 before place e less (slice_get_read reached (length reached) place e refl (omega arith) is)
 
 -- the node of the next entry is not among those of the entries before it
-pub fresh_node : (reached : List Reached) (first begin place : ℕ) (e : Reached) →
-    ((p q : ℕ) (f g : Reached) → first ≤ p → first ≤ q → p < begin → q < begin → slice_get reached p ≡ Some f → slice_get reached q ≡ Some g → f.node ≡ g.node → p ≡ q) →
+pub fresh_node : (reached : List LayerEntry) (first begin place : ℕ) (e : LayerEntry) →
+    ((p q : ℕ) (f g : LayerEntry) → first ≤ p → first ≤ q → p < begin → q < begin → slice_get reached p ≡ Some f → slice_get reached q ≡ Some g → f.node ≡ g.node → p ≡ q) →
     first ≤ place → place < begin → slice_get reached place ≡ Some e → has e.node (nodes_between reached first place) ≡ false
 fresh_node reached first begin place e apart le less at =
     false_from_ne_true (has e.node (nodes_between reached first place)) (λ h.
@@ -82,13 +82,13 @@ fresh_node reached first begin place e apart le less at =
     omega (arith, m.3)))
 
 -- so their contacts together are no more than those of the plan
-pub sent_next : (task : SearchTask) (reached : List Reached) (first begin place : ℕ) (e : Reached) → AreSources task reached first begin → first ≤ place → place < begin → slice_get reached place ≡ Some e →
+pub sent_next : (task : SearchTask) (reached : List LayerEntry) (first begin place : ℕ) (e : LayerEntry) → AreSources task reached first begin → first ≤ place → place < begin → slice_get reached place ≡ Some e →
     sent_by_all task (nodes_between reached first place) + degree task e.node ≡ sent_by_all task (nodes_between reached first (place + 1))
 sent_next task reached first begin place e sources le less at =
     sym (ap (sent_by_all task) (between_more reached first place e le at) ∙ sent_more task (nodes_between reached first place) e.node (fresh_node reached first begin place e sources.apart le less at))
 
 -- and the contacts that they receive
-pub received_next : (task : SearchTask) (ends : List ℕ) (reached : List Reached) (left place : ℕ) (e : Reached) → IsApart ends reached left → slice_index ends left ≤ place → place < slice_index ends (left + 1) → slice_get reached place ≡ Some e →
+pub received_next : (task : SearchTask) (ends : List ℕ) (reached : List LayerEntry) (left place : ℕ) (e : LayerEntry) → IsApart ends reached left → slice_index ends left ≤ place → place < slice_index ends (left + 1) → slice_get reached place ≡ Some e →
     received_by_all task (nodes_between reached (slice_index ends left) place) + received task e.node ≡ received_by_all task (nodes_between reached (slice_index ends left) (place + 1))
 received_next task ends reached left place e apart le less at =
     sym (ap (received_by_all task) (between_more reached (slice_index ends left) place e le at)
@@ -98,7 +98,7 @@ pub received_at_most : (task : SearchTask) (nodes : List ℕ) → received_by_al
 received_at_most task nodes = omega (arith, count_by-le-length (λ k. has k nodes) (receivers task), length-map task.plan.contacts (λ (c : Contact). place_in task.table c.to))
 
 -- so up to an entry they are no more than those of the plan
-pub received_within : (task : SearchTask) (ends : List ℕ) (reached : List Reached) (left place : ℕ) (e : Reached) → IsApart ends reached left → slice_index ends left ≤ place → place < slice_index ends (left + 1) → slice_get reached place ≡ Some e →
+pub received_within : (task : SearchTask) (ends : List ℕ) (reached : List LayerEntry) (left place : ℕ) (e : LayerEntry) → IsApart ends reached left → slice_index ends left ≤ place → place < slice_index ends (left + 1) → slice_get reached place ≡ Some e →
     received_by_all task (nodes_between reached (slice_index ends left) place) + received task e.node ≤ length task.plan.contacts
 received_within task ends reached left place e apart le less at =
     omega (arith, received_next task ends reached left place e apart le less at, received_at_most task (nodes_between reached (slice_index ends left) (place + 1)))

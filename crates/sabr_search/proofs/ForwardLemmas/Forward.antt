@@ -4,7 +4,7 @@ use Rattle.std.proofs.lemmas.Bool.{cases_lt, cases_eq}
 use Rattle.sabr_model.specs.declared.contact.Contact.{Contact}
 use Rattle.sabr_model.specs.declared.hop.Hop.{Hop}
 use Rattle.sabr_model.specs.plan.Plan.{contact_named, has}
-use Rattle.sabr_search.specs.declared.forward.layers.Reached.{Reached}
+use Rattle.sabr_search.specs.declared.forward.layers.LayerEntry.{LayerEntry}
 use Rattle.sabr_search.specs.questions.Task.{SearchTask, Takes, IsTask}
 use Rattle.sabr_search.specs.questions.Steps.{IsHopAt}
 use Rattle.sabr_model.specs.routes.Hops.{hop_arrival}
@@ -13,7 +13,7 @@ use Rattle.sabr_search.proofs.LinkLemmas.PlanFacts.{hop_arrival_is}
 use Rattle.sabr_search.proofs.WayLemmas.Bridge.{same_some}
 
 -- nothing was taken
-pub lowered_none : (shut : List Bool) (goal at begin : ℕ) (Given : Arrivals) (arrival place : List ℕ) (reached : List Reached) (best : ℕ) →
+pub lowered_none : (shut : List Bool) (goal at begin : ℕ) (Given : Arrivals) (arrival place : List ℕ) (reached : List LayerEntry) (best : ℕ) →
     AreLists shut goal at begin arrival place reached → IsLowered shut goal at begin Given arrival reached best arrival place reached best
 lowered_none shut goal at begin Given arrival place reached best lists = record {
   lists = lists;
@@ -25,7 +25,7 @@ lowered_none shut goal at begin Given arrival place reached best lists = record 
 }
 
 -- more steps after some steps, if what the first are given is also given to the second
-pub lowered_more : (shut : List Bool) (goal at begin : ℕ) (Given Given' : Arrivals) (arrival0 : List ℕ) (reached0 : List Reached) (best0 : ℕ) (arrival1 place1 : List ℕ) (reached1 : List Reached) (best1 : ℕ) (arrival2 place2 : List ℕ) (reached2 : List Reached) (best2 : ℕ) →
+pub lowered_more : (shut : List Bool) (goal at begin : ℕ) (Given Given' : Arrivals) (arrival0 : List ℕ) (reached0 : List LayerEntry) (best0 : ℕ) (arrival1 place1 : List ℕ) (reached1 : List LayerEntry) (best1 : ℕ) (arrival2 place2 : List ℕ) (reached2 : List LayerEntry) (best2 : ℕ) →
     ((w x : ℕ) → Given' w x → Given w x) →
     IsLowered shut goal at begin Given arrival0 reached0 best0 arrival1 place1 reached1 best1 → IsLowered shut goal at begin Given' arrival1 reached1 best1 arrival2 place2 reached2 best2 →
     IsLowered shut goal at begin Given arrival0 reached0 best0 arrival2 place2 reached2 best2

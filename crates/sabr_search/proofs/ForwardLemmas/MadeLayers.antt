@@ -3,7 +3,7 @@ use Rattle.std.proofs.Common.{◌≡◌, ◌⊎◌, inl, inr, ℕ, zero, suc, �
 use Rattle.std.proofs.lemmas.Bool.{cases_lt, cases_eq}
 use Rattle.std.proofs.lemmas.List.{get_or_append_left, get_or_push}
 use Rattle.std.proofs.lemmas.Option.{slice_get-get_or, slice_get_within, get_or_from_slice_get}
-use Rattle.sabr_search.specs.declared.forward.layers.Reached.{Reached}
+use Rattle.sabr_search.specs.declared.forward.layers.LayerEntry.{LayerEntry}
 use Rattle.sabr_search.specs.declared.forward.layers.Best.{Best}
 use Rattle.sabr_search.specs.questions.Ways.{Leads}
 use Rattle.sabr_search.specs.layers.Layers.{ReachedBy, IsTaken}
@@ -39,8 +39,8 @@ layer_of bounds p (suc m) first less = elim (cases_lt p (slice_index bounds m)) 
 ]
 
 -- layers with one bound more
-module _ (task : SearchTask) (is : IsTask task) (hop : ℕ) (bounds arrival place : List ℕ) (reached : List Reached) (best : Best) (made : AreLayers task hop bounds arrival place reached best)
-    (bounds' arrival' place' : List ℕ) (reached' : List Reached) (delivery : ℕ)
+module _ (task : SearchTask) (is : IsTask task) (hop : ℕ) (bounds arrival place : List ℕ) (reached : List LayerEntry) (best : Best) (made : AreLayers task hop bounds arrival place reached best)
+    (bounds' arrival' place' : List ℕ) (reached' : List LayerEntry) (delivery : ℕ)
     (lowered : IsLowered task.shut task.goal task.at (slice_index bounds (hop + 1)) (GivenFrom task reached (slice_index bounds hop) (slice_index bounds (hop + 1))) arrival reached best.delivery arrival' place' reached' delivery)
     (known : IsKnownFrom task reached (slice_index bounds hop) (slice_index bounds (hop + 1)) arrival' delivery)
     (bounds_is : bounds' ≡ bounds ++ length reached' ∷ []) where
@@ -53,10 +53,10 @@ module _ (task : SearchTask) (is : IsTask task) (hop : ℕ) (bounds arrival plac
   last' : slice_index bounds' (hop + 1 + 1) ≡ length reached'
   last' = ap (λ xs. slice_index xs (hop + 1 + 1)) bounds_is ∙ index_at bounds (length reached') (hop + 1 + 1) (omega (arith, made.many))
 
-  kept : (p : ℕ) (e : Reached) → slice_get reached p ≡ Some e → slice_get reached' p ≡ Some e
+  kept : (p : ℕ) (e : LayerEntry) → slice_get reached p ≡ Some e → slice_get reached' p ≡ Some e
   kept p e at = same_below (slice_index bounds (hop + 1)) reached reached' (sym lowered.before) p e (omega (arith, made.last_bound, slice_get_within reached p e at)) at
 
-  was : (p : ℕ) (e : Reached) → p < length reached → slice_get reached' p ≡ Some e → slice_get reached p ≡ Some e
+  was : (p : ℕ) (e : LayerEntry) → p < length reached → slice_get reached' p ≡ Some e → slice_get reached p ≡ Some e
   was p e less at = same_below (slice_index bounds (hop + 1)) reached' reached lowered.before p e (omega (arith, made.last_bound)) at
 
   -- an old entry stays in its layer
@@ -87,8 +87,8 @@ module _ (task : SearchTask) (is : IsTask task) (hop : ℕ) (bounds arrival plac
       let linked = lowered.lists.linked in
       let p : ℕ = slice_index place' w in
       let inside : p < length reached' = lowered.lists.placed.within w (omega (arith, linked.as_many)) in
-      let d : Reached = record { node = 0; arrival = 0; deadline = 0 } in
-      let e : Reached = slice_index_or reached' p d in
+      let d : LayerEntry = record { node = 0; arrival = 0; deadline = 0 } in
+      let e : LayerEntry = slice_index_or reached' p d in
       let at : slice_get reached' p ≡ Some e = slice_get-get_or reached' p d inside in
       let node : e.node ≡ w = linked.node w d within unshut (omega arith) in
       let time : e.arrival ≡ slice_index arrival' w = linked.time w d within unshut (omega arith) in
@@ -115,7 +115,7 @@ module _ (task : SearchTask) (is : IsTask task) (hop : ℕ) (bounds arrival plac
   -- one step more
   way_on : (w x : ℕ) → GivenFrom task reached (slice_index bounds hop) (slice_index bounds (hop + 1)) w x → (ns : List ℕ) × (length ns ≡ hop + 1) × Leads (Takes task) task.start task.at ns w x
   way_on w x given =
-      let e : Reached = given.1 in
+      let e : LayerEntry = given.1 in
       let front = made.real hop e.node e.arrival e.deadline (given.0, given.3, given.4, given.5) in (
         front.0 ++ given.2 ∷ [],
         omega (arith, length-append front.0 (given.2 ∷ []), front.1),
@@ -128,7 +128,7 @@ module _ (task : SearchTask) (is : IsTask task) (hop : ℕ) (bounds arrival plac
     | inl late ↦ elim (cases_eq h (hop + 1)) [
       | inr later ↦ absurd (omega (arith, index_past bounds' (h + 1) (omega (arith, many')), e.2))
       | inl here ↦
-          (let d : Reached = record { node = v; arrival = a; deadline = x } in
+          (let d : LayerEntry = record { node = v; arrival = a; deadline = x } in
           let lower : slice_index bounds' h ≡ length reached = ap (slice_index bounds') here ∙ bound_before (hop + 1) (omega arith) ∙ made.last_bound in
           let inside : e.0 < length reached' = slice_get_within reached' e.0 d e.3 in
           let read : slice_index_or reached' e.0 d ≡ d = get_or_from_slice_get reached' e.0 d d e.3 in
@@ -140,7 +140,7 @@ module _ (task : SearchTask) (is : IsTask task) (hop : ℕ) (bounds arrival plac
   ]
 
   -- entries of one layer are of different nodes
-  apart' : (h p q : ℕ) (e f : Reached) → h ≤ hop + 1 → slice_index bounds' h ≤ p → slice_index bounds' h ≤ q → p < slice_index bounds' (h + 1) → q < slice_index bounds' (h + 1) → slice_get reached' p ≡ Some e → slice_get reached' q ≡ Some f → e.node ≡ f.node → p ≡ q
+  apart' : (h p q : ℕ) (e f : LayerEntry) → h ≤ hop + 1 → slice_index bounds' h ≤ p → slice_index bounds' h ≤ q → p < slice_index bounds' (h + 1) → q < slice_index bounds' (h + 1) → slice_get reached' p ≡ Some e → slice_get reached' q ≡ Some f → e.node ≡ f.node → p ≡ q
   apart' h p q e f le above_p above_q below_p below_q at_p at_q same = elim (cases_eq h (hop + 1)) [
     | inl here ↦
         (let lower : slice_index bounds' h ≡ slice_index bounds (hop + 1) = ap (slice_index bounds') here ∙ bound_before (hop + 1) (omega arith) in
@@ -232,19 +232,19 @@ module _ (task : SearchTask) (is : IsTask task) (hop : ℕ) (bounds arrival plac
       sames = omega (arith, lowered.lower)
 
 -- what is found is not later
-pub below_never : (task : SearchTask) (hop : ℕ) (bounds arrival place : List ℕ) (reached : List Reached) (best : Best) → AreLayers task hop bounds arrival place reached best → best.delivery ≤ never
+pub below_never : (task : SearchTask) (hop : ℕ) (bounds arrival place : List ℕ) (reached : List LayerEntry) (best : Best) → AreLayers task hop bounds arrival place reached best → best.delivery ≤ never
 below_never task hop bounds arrival place reached best made = elim made.found [ inl none ↦ omega (arith, none.1) | inr found ↦ omega (arith, found.2) ]
 
 -- the start is the first entry, and no entry is the goal's
-module _ (task : SearchTask) (is : IsTask task) (hop : ℕ) (bounds arrival place : List ℕ) (reached : List Reached) (best : Best) (made : AreLayers task hop bounds arrival place reached best) where
+module _ (task : SearchTask) (is : IsTask task) (hop : ℕ) (bounds arrival place : List ℕ) (reached : List LayerEntry) (best : Best) (made : AreLayers task hop bounds arrival place reached best) where
   start_entry : Entry bounds reached 0 task.start task.at 0
   start_entry = (0, omega (arith, made.first_bound), omega (arith, made.second_bound), made.begins)
 
   goal_never : (h a x : ℕ) → Entry bounds reached h task.goal a x → ⊥
   goal_never h a x e =
-      let d : Reached = record { node = task.goal; arrival = a; deadline = x } in
+      let d : LayerEntry = record { node = task.goal; arrival = a; deadline = x } in
       let read : slice_index_or reached e.0 d ≡ d = get_or_from_slice_get reached e.0 d d e.3 in
-      made.lists.other e.0 d (slice_get_within reached e.0 d e.3) (ap (λ (y : Reached). y.node) read)
+      made.lists.other e.0 d (slice_get_within reached e.0 d e.3) (ap (λ (y : LayerEntry). y.node) read)
 
   -- no way of at most this number of hops comes before the best
   pub least_within : (ns : List ℕ) (e : ℕ) → length ns ≤ hop → Leads (Takes task) task.start task.at ns task.goal e → best.delivery ≤ e
@@ -268,7 +268,7 @@ module _ (task : SearchTask) (is : IsTask task) (hop : ℕ) (bounds arrival plac
   pub sources_of : AreSources task reached (slice_index bounds hop) (slice_index bounds (hop + 1))
   sources_of = record {
     inside = λ p e at. (let read : slice_index_or reached p e ≡ e = get_or_from_slice_get reached p e e at in
-        omega (arith, is.as_many, ap (λ (y : Reached). y.node) read, made.lists.inside p e (slice_get_within reached p e at)));
+        omega (arith, is.as_many, ap (λ (y : LayerEntry). y.node) read, made.lists.inside p e (slice_get_within reached p e at)));
     since = λ p e at.
         (let layer = layer_of bounds p (hop + 1) made.first_bound (omega (arith, made.last_bound, slice_get_within reached p e at)) in
         let way = made.real layer.0 e.node e.arrival e.deadline (p, layer.2, layer.3, at) in
@@ -277,8 +277,8 @@ module _ (task : SearchTask) (is : IsTask task) (hop : ℕ) (bounds arrival plac
   }
 
 -- the layers with one more, whatever the new layer brings
-pub layers_next : (task : SearchTask) → IsTask task → (hop : ℕ) (bounds arrival place : List ℕ) (reached : List Reached) (best : Best) → AreLayers task hop bounds arrival place reached best →
-    (bounds' arrival' place' : List ℕ) (reached' : List Reached) (delivery : ℕ) →
+pub layers_next : (task : SearchTask) → IsTask task → (hop : ℕ) (bounds arrival place : List ℕ) (reached : List LayerEntry) (best : Best) → AreLayers task hop bounds arrival place reached best →
+    (bounds' arrival' place' : List ℕ) (reached' : List LayerEntry) (delivery : ℕ) →
     IsLowered task.shut task.goal task.at (slice_index bounds (hop + 1)) (GivenFrom task reached (slice_index bounds hop) (slice_index bounds (hop + 1))) arrival reached best.delivery arrival' place' reached' delivery →
     IsKnownFrom task reached (slice_index bounds hop) (slice_index bounds (hop + 1)) arrival' delivery →
     bounds' ≡ bounds ++ length reached' ∷ [] → (best' : Best) → ((delivery < best.delivery) × (best' ≡ record { delivery = delivery; hops = hop + 1 })) ⊎ ((best.delivery ≤ delivery) × (best' ≡ best)) →
@@ -289,7 +289,7 @@ layers_next task is hop bounds arrival place reached best made bounds' arrival' 
     rw same.1 (layers_same task is hop bounds arrival place reached best made bounds' arrival' place' reached' delivery lowered known bounds_is same.0)
 
 -- what is found within fewer hops is the best within more, if nothing is sooner there
-pub best_within : (task : SearchTask) (hop : ℕ) (bounds arrival place : List ℕ) (reached : List Reached) (best : Best) → AreLayers task hop bounds arrival place reached best →
+pub best_within : (task : SearchTask) (hop : ℕ) (bounds arrival place : List ℕ) (reached : List LayerEntry) (best : Best) → AreLayers task hop bounds arrival place reached best →
     (hops : ℕ) → hop ≤ hops → IsNoneSooner task hops best.delivery → IsBestWithin task hops best
 best_within task hop bounds arrival place reached best made hops within least = record {
   least = least;

@@ -21,7 +21,7 @@ use Rattle.std.proofs.Math.Nat.{mul-le-mul}
 use Rattle.sabr_search.specs.questions.Task.{HasNodes, SearchTask, IsTask, Takes, latest_arrival}
 use Rattle.sabr_search.specs.questions.Steps.{IsHopAt}
 use Rattle.sabr_search.proofs.LinkLemmas.Arrivals.{arrival_parts}
-use Rattle.sabr_model.proofs.PlanLemmas.ContactLemmas.Tabled.{has_place}
+use Rattle.sabr_model.proofs.PlanLemmas.Tabled.{has_place}
 
 -- what a search through a list finds is in the list and passes
 pub found_in : {X : Type 0} (test : X → Bool) (xs : List X) (x : X) → find test xs ≡ Some x → IsIn x xs × (test x ≡ true)

@@ -11,7 +11,7 @@ use Rattle.sabr_model.specs.plan.Plan.{ContactPlan, has, are_different}
 use Rattle.sabr_search.specs.questions.Task.{SearchTask, HasNodes}
 use Rattle.sabr_search.specs.questions.Steps.{place_in, senders}
 use Rattle.sabr_model.proofs.RouteLemmas.Listed.{distinct_from_different}
-use Rattle.sabr_model.proofs.PlanLemmas.ContactLemmas.Tabled.{has_place}
+use Rattle.sabr_model.proofs.PlanLemmas.Tabled.{has_place}
 
 -- the place of an element of a list in which no element comes twice
 place_found : (xs : List ℕ) (x : ℕ) → has x xs ≡ true → slice_get xs (place_in xs x) ≡ Some x

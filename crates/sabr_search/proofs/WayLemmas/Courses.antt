@@ -23,7 +23,7 @@ use Rattle.sabr_search.proofs.WayLemmas.Bridge.{start_is_shut}
 use Rattle.sabr_search.proofs.WayLemmas.Chains.{has_append, first_arrival}
 use Rattle.sabr_search.proofs.LinkLemmas.PlanFacts.{hop_arrival_is, contact_window, light_small, cost_small}
 use Rattle.sabr_search.proofs.WayLemmas.Prefixes.{IsPrefix}
-use Rattle.sabr_model.proofs.PlanLemmas.ContactLemmas.Tabled.{has_place}
+use Rattle.sabr_model.proofs.PlanLemmas.Tabled.{has_place}
 use Rattle.sabr_model.proofs.RouteLemmas.Paths.{IsHop, hop_facts, beginning_is_path, receivers_push, chain_end_push, arrival_after_push}
 use Rattle.sabr_model.proofs.RouteLemmas.Prefixes.{prefix_is_path}
 use Rattle.sabr_search.proofs.BackwardLemmas.LateLists.{push_cases}

@@ -2,7 +2,7 @@
 -- by layer, the goal's first.
 use Rattle.std.specs.Prelude.{◌≡◌, ◌≢◌, ◌⊎◌, ℕ, ◌+◌, ◌*◌, ◌≤◌, ◌<◌, List, [], ◌∷◌, ◌++◌, length, false, slice_get, slice_set, slice_index, slice_index_or}
 use Rattle.std.specs.declared.option.Option.TheVariants.{Some}
-use Rattle.sabr_search.specs.declared.forward.layers.Reached.{Reached}
+use Rattle.sabr_search.specs.declared.forward.layers.LayerEntry.{LayerEntry}
 use Rattle.sabr_search.specs.questions.Ways.{Leads}
 use Rattle.sabr_search.specs.layers.Layers.{Entries}
 use Rattle.sabr_search.specs.questions.Task.{SearchTask, Takes}
@@ -17,12 +17,12 @@ pub record AreArrivals (task : SearchTask) (since : List ℕ) : Type 0 where
   pub least : (ns : List ℕ) (v t : ℕ) → 0 < length ns → Leads (Takes task) task.start task.at ns v t → slice_index since v ≤ t
 
 -- whoever is at node w at second b is in time for an entry at the places from `first` to before `begin`
-abbrev pub InTimeFor : List Reached → ℕ → ℕ → ℕ → ℕ → Type 0
-InTimeFor reached first begin w b = (p : ℕ) × (e : Reached) × (first ≤ p) × (p < begin) × (slice_get reached p ≡ Some e) × (e.node ≡ w) × (b < e.deadline)
+abbrev pub InTimeFor : List LayerEntry → ℕ → ℕ → ℕ → ℕ → Type 0
+InTimeFor reached first begin w b = (p : ℕ) × (e : LayerEntry) × (first ≤ p) × (p < begin) × (slice_get reached p ≡ Some e) × (e.node ≡ w) × (b < e.deadline)
 
 -- an entry after the goal's: of another open node, from the second on that is given for it, too late no later than the
 -- node is
-pub record IsLateEntry (task : SearchTask) (since late : List ℕ) (e : Reached) : Type 0 where
+pub record IsLateEntry (task : SearchTask) (since late : List ℕ) (e : LayerEntry) : Type 0 where
   pub inside : e.node < length task.table
   pub unshut : slice_index_or task.shut e.node false ≡ false
   pub other : e.node ≢ task.goal
@@ -30,29 +30,29 @@ pub record IsLateEntry (task : SearchTask) (since late : List ℕ) (e : Reached)
   pub by : e.deadline ≤ slice_index late e.node
 
 -- the lists while the layer that begins at `begin` is made from the entries from `first` on
-pub record AreLate (task : SearchTask) (since : List ℕ) (first begin : ℕ) (late place : List ℕ) (reached : List Reached) : Type 0 where
+pub record AreLate (task : SearchTask) (since : List ℕ) (first begin : ℕ) (late place : List ℕ) (reached : List LayerEntry) : Type 0 where
   pub flags : length place ≡ length task.table
   pub many : length late ≡ length task.table
   pub within : (k : ℕ) → k < length task.table → slice_index place k < length reached
-  pub own : (k : ℕ) (e : Reached) → k < length task.table → 0 < slice_index place k → slice_get reached (slice_index place k) ≡ Some e → e.node ≡ k
+  pub own : (k : ℕ) (e : LayerEntry) → k < length task.table → 0 < slice_index place k → slice_get reached (slice_index place k) ≡ Some e → e.node ≡ k
   pub later : 0 < begin
   pub begins : begin ≤ length reached
   pub top : (v : ℕ) → v < length task.table → 0 < slice_index late v → (a : ℕ) × (slice_get reached (slice_index place v) ≡ Some (record { node = v; arrival = a; deadline = slice_index late v }))
-  pub each : (p : ℕ) (e : Reached) → 0 < p → slice_get reached p ≡ Some e → IsLateEntry task since late e
-  pub rising : (p q : ℕ) (e f : Reached) → 0 < p → p < q → slice_get reached p ≡ Some e → slice_get reached q ≡ Some f → e.node ≡ f.node → e.deadline < f.deadline
-  pub once : (p : ℕ) (e : Reached) → begin ≤ p → slice_get reached p ≡ Some e → slice_index place e.node ≡ p
-  pub sound : (p : ℕ) (e : Reached) (t : ℕ) → begin ≤ p → slice_get reached p ≡ Some e → t < e.deadline → (n : ℕ) × (w : ℕ) × (b : ℕ) × Takes task n e.node t w b × InTimeFor reached first begin w b
+  pub each : (p : ℕ) (e : LayerEntry) → 0 < p → slice_get reached p ≡ Some e → IsLateEntry task since late e
+  pub rising : (p q : ℕ) (e f : LayerEntry) → 0 < p → p < q → slice_get reached p ≡ Some e → slice_get reached q ≡ Some f → e.node ≡ f.node → e.deadline < f.deadline
+  pub once : (p : ℕ) (e : LayerEntry) → begin ≤ p → slice_get reached p ≡ Some e → slice_index place e.node ≡ p
+  pub sound : (p : ℕ) (e : LayerEntry) (t : ℕ) → begin ≤ p → slice_get reached p ≡ Some e → t < e.deadline → (n : ℕ) × (w : ℕ) × (b : ℕ) × Takes task n e.node t w b × InTimeFor reached first begin w b
 
 -- the same while the layer after layer `left` is made, by where the layers begin
-abbrev pub AreLateAfter : SearchTask → List ℕ → List ℕ → ℕ → List ℕ → List ℕ → List Reached → Type 0
+abbrev pub AreLateAfter : SearchTask → List ℕ → List ℕ → ℕ → List ℕ → List ℕ → List LayerEntry → Type 0
 AreLateAfter task since ends left late place reached = AreLate task since (slice_index ends left) (slice_index ends (left + 1)) late place reached
 
 -- a step from the start is in time for an entry of layer `left`
-abbrev pub StartsInTime : SearchTask → List ℕ → ℕ → List Reached → Type 0
+abbrev pub StartsInTime : SearchTask → List ℕ → ℕ → List LayerEntry → Type 0
 StartsInTime task ends left reached = (n : ℕ) × (w : ℕ) × (b : ℕ) × Takes task n task.start task.at w b × InTimeFor reached (slice_index ends left) (slice_index ends (left + 1)) w b
 
 -- node u is too late from x on: its entry in the layer that begins at `begin` says so, or a new one does
-abbrev pub IsNotedLate : List ℕ → List Reached → ℕ → ℕ → ℕ → ℕ → List ℕ → List Reached → Type 0
+abbrev pub IsNotedLate : List ℕ → List LayerEntry → ℕ → ℕ → ℕ → ℕ → List ℕ → List LayerEntry → Type 0
 IsNotedLate place reached begin u a x place' reached' =
     ((begin ≤ slice_index place u) × (place' ≡ place) × (reached' ≡ slice_set reached (slice_index place u) (record { node = u; arrival = a; deadline = x })))
     ⊎ ((slice_index place u < begin) × (place' ≡ slice_set place u (length reached)) × (reached' ≡ reached ++ record { node = u; arrival = a; deadline = x } ∷ []))
@@ -72,11 +72,11 @@ IsToldByHead task since late head before =
     (to : ℕ) (passes : List Pass) (n t w b : ℕ) → IsLinkWithin task head.node to passes head.bounds → HasNumber passes n → Takes task n head.node t w b → b < before → IsToldLate task since late head.node t
 
 -- that holds for each step to an entry at the places from `first` to before `begin`
-abbrev pub AreTold : SearchTask → List ℕ → List Reached → ℕ → ℕ → List ℕ → Type 0
-AreTold task since reached first begin late = (p : ℕ) (e : Reached) (n u t b : ℕ) → first ≤ p → p < begin → slice_get reached p ≡ Some e → Takes task n u t e.node b → b < e.deadline → IsToldLate task since late u t
+abbrev pub AreTold : SearchTask → List ℕ → List LayerEntry → ℕ → ℕ → List ℕ → Type 0
+AreTold task since reached first begin late = (p : ℕ) (e : LayerEntry) (n u t b : ℕ) → first ≤ p → p < begin → slice_get reached p ≡ Some e → Takes task n u t e.node b → b < e.deadline → IsToldLate task since late u t
 
 -- that holds for each step to an entry of layer `left`
-abbrev pub IsLayerTold : SearchTask → List ℕ → List ℕ → ℕ → List Reached → List ℕ → Type 0
+abbrev pub IsLayerTold : SearchTask → List ℕ → List ℕ → ℕ → List LayerEntry → List ℕ → Type 0
 IsLayerTold task since ends left reached late = AreTold task since reached (slice_index ends left) (slice_index ends (left + 1)) late
 
 -- the same by the layers up to the one after j
@@ -84,7 +84,7 @@ abbrev pub IsToldBy : SearchTask → List ℕ → Entries → ℕ → ℕ → �
 IsToldBy task since E j u t = (u ≡ task.start → task.at ≤ t → ⊥) × (slice_index_or task.shut u false ≡ false → u ≢ task.goal → slice_index since u ≤ t → (i : ℕ) × (a : ℕ) × (x : ℕ) × (i ≤ j + 1) × E i u a x × (t < x))
 
 -- the layers up to `left` hops from the goal
-pub record AreLateLayers (task : SearchTask) (since : List ℕ) (d left : ℕ) (ends late place : List ℕ) (reached : List Reached) : Type 0 where
+pub record AreLateLayers (task : SearchTask) (since : List ℕ) (d left : ℕ) (ends late place : List ℕ) (reached : List LayerEntry) : Type 0 where
   pub lists : AreLate task since (slice_index ends left) (slice_index ends (left + 1)) late place reached
   pub many : length ends ≡ left + 2
   pub first_end : slice_index ends 0 ≡ 0
@@ -92,12 +92,12 @@ pub record AreLateLayers (task : SearchTask) (since : List ℕ) (d left : ℕ) (
   pub rising : (j : ℕ) → j ≤ left → slice_index ends j ≤ slice_index ends (j + 1)
   pub last_end : slice_index ends (left + 1) ≡ length reached
   pub goal_first : (a : ℕ) × (slice_get reached 0 ≡ Some (record { node = task.goal; arrival = a; deadline = d + 1 }))
-  pub apart : (h p q : ℕ) (e f : Reached) → h ≤ left → slice_index ends h ≤ p → slice_index ends h ≤ q → p < slice_index ends (h + 1) → q < slice_index ends (h + 1) → slice_get reached p ≡ Some e → slice_get reached q ≡ Some f → e.node ≡ f.node → p ≡ q
+  pub apart : (h p q : ℕ) (e f : LayerEntry) → h ≤ left → slice_index ends h ≤ p → slice_index ends h ≤ q → p < slice_index ends (h + 1) → q < slice_index ends (h + 1) → slice_get reached p ≡ Some e → slice_get reached q ≡ Some f → e.node ≡ f.node → p ≡ q
   pub sound : (h v a x t : ℕ) → h < left → Entry ends reached (h + 1) v a x → t < x → (n : ℕ) × (w : ℕ) × (b : ℕ) × (c : ℕ) × (y : ℕ) × Takes task n v t w b × Entry ends reached h w c y × (b < y)
   pub taken : (j w a x n u t b : ℕ) → j < left → Entry ends reached j w a x → b < x → Takes task n u t w b → IsToldBy task since (Entry ends reached) j u t
 
 -- the start is in time for an entry of the last layer
-pub record IsMet (task : SearchTask) (left : ℕ) (ends : List ℕ) (reached : List Reached) : Type 0 where
+pub record IsMet (task : SearchTask) (left : ℕ) (ends : List ℕ) (reached : List LayerEntry) : Type 0 where
   pub n : ℕ
   pub w : ℕ
   pub b : ℕ
@@ -108,7 +108,7 @@ pub record IsMet (task : SearchTask) (left : ℕ) (ends : List ℕ) (reached : L
   pub in_time : b < x
 
 -- layers up to one for which the start is in time; `place` has a place for each node
-pub record AreMet (task : SearchTask) (since : List ℕ) (d left : ℕ) (ends place : List ℕ) (reached : List Reached) : Type 0 where
+pub record AreMet (task : SearchTask) (since : List ℕ) (d left : ℕ) (ends place : List ℕ) (reached : List LayerEntry) : Type 0 where
   pub late : List ℕ
   pub places : List ℕ
   pub made : AreLateLayers task since d left ends late places reached
@@ -117,8 +117,8 @@ pub record AreMet (task : SearchTask) (since : List ℕ) (d left : ℕ) (ends pl
   pub flags : length place ≡ length task.table
 
 -- each entry is of an open node
-abbrev pub AreOpen : SearchTask → List Reached → Type 0
-AreOpen task reached = (p : ℕ) (e : Reached) → slice_get reached p ≡ Some e → (e.node < length task.table) × (slice_index_or task.shut e.node false ≡ false)
+abbrev pub AreOpen : SearchTask → List LayerEntry → Type 0
+AreOpen task reached = (p : ℕ) (e : LayerEntry) → slice_get reached p ≡ Some e → (e.node < length task.table) × (slice_index_or task.shut e.node false ≡ false)
 
 -- no way of at most so many hops leads to the goal before second d
 abbrev pub IsNoneSooner : SearchTask → ℕ → ℕ → Type 0

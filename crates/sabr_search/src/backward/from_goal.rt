@@ -8,7 +8,7 @@ ghost use Rattle.sabr_search.specs.questions.Linked.{IsLinkWithin, HasNumber};
 ghost use Rattle.sabr_search.specs.layers.Deadlines.{IsApart};
 ghost use Rattle.sabr_search.specs.layers.Late.{InTimeFor, AreLateAfter, StartsInTime, IsNotedLate, IsToldLate, IsToldOver, IsToldByHead, IsLayerTold, AreArrivals, AreMet, IsNoneSeen};
 
-use crate::forward::layers::{Layers, Reached};
+use crate::forward::layers::{LayerEntry, Layers};
 use crate::links::looks::Looks;
 use crate::links::over_link::{WalkedLink, rules_out};
 use crate::task::Task;
@@ -54,7 +54,7 @@ impl<'a, A: Allocator + Copy> Task<'a, A> {
 
 impl<A: Allocator + Copy> Layers<A> {
     /// Notes the first second that is too late at a node, in the layer that begins at `begin`, once for each node.
-    fn note_late(&mut self, entry: Reached, begin: usize) -> Result<(), NoMemory>
+    fn note_late(&mut self, entry: LayerEntry, begin: usize) -> Result<(), NoMemory>
         requires place { entry.node < length self.old.place.items }
         requires late { entry.node < length self.old.late.items }
         requires placed { slice_index self.old.place.items entry.node < length self.old.reached.items }
@@ -104,7 +104,7 @@ impl<A: Allocator + Copy> Layers<A> {
         aim: &Aim<'_, '_, '_, A>,
         looks: &mut Looks,
         from: Sender<'_>,
-        to: Reached,
+        to: LayerEntry,
         left: usize,
     ) -> Result<bool, NoMemory>
         requires task { IsTask aim.now.task.now }
@@ -147,7 +147,7 @@ impl<A: Allocator + Copy> Layers<A> {
         if last <= latest || last <= since {
             return Ok(false);
         }
-        let entry = Reached {
+        let entry = LayerEntry {
             node: from.node,
             arrival: since,
             deadline: last,
@@ -163,7 +163,7 @@ impl<A: Allocator + Copy> Layers<A> {
         &mut self,
         aim: &Aim<'_, '_, '_, A>,
         looks: &mut Looks,
-        to: Reached,
+        to: LayerEntry,
         left: usize,
         most: u64,
     ) -> Result<Option<bool>, NoMemory>
@@ -259,7 +259,7 @@ impl<A: Allocator + Copy> Layers<A> {
         self.late.clear();
         self.late.resize(task.shut().len(), 0)?;
         self.reached.clear();
-        self.reached.push(Reached {
+        self.reached.push(LayerEntry {
             node: task.goal(),
             arrival: delivery,
             deadline: delivery + 1,

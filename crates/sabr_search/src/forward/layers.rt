@@ -16,7 +16,7 @@ use std::alloc::Allocator;
 
 /// A node that a layer reaches, when, and the first second that is too late there for the rest.
 #[derive(Clone, Copy)]
-pub struct Reached {
+pub struct LayerEntry {
     pub node: usize,
     pub arrival: u64,
     pub deadline: u64,
@@ -118,7 +118,7 @@ pub struct Layers<A: Allocator + Copy> {
     /// For each node, the place of an entry, or 0.
     pub place: Vec<usize, A>,
     /// The entries, layer by layer; the first is the start.
-    pub reached: Vec<Reached, A>,
+    pub reached: Vec<LayerEntry, A>,
     /// Where each layer begins.
     pub bounds: Vec<usize, A>,
     /// For each node, the first second that is too late so far, in layers made backward.
@@ -161,7 +161,7 @@ impl<A: Allocator + Copy> Layers<A> {
             self.reached[at].arrival = arrival;
         } else {
             let end = self.reached.len();
-            self.reached.push(Reached {
+            self.reached.push(LayerEntry {
                 node,
                 arrival,
                 deadline: 0,
@@ -211,7 +211,7 @@ impl<A: Allocator + Copy> Layers<A> {
         &mut self,
         task: &Task<'_, A>,
         looks: &mut Looks,
-        from: Reached,
+        from: LayerEntry,
         begin: usize,
         best: u64,
     ) -> Result<u64, NoMemory>
@@ -283,7 +283,7 @@ impl<A: Allocator + Copy> Layers<A> {
         self.place.clear();
         self.place.resize(task.shut().len(), 0)?;
         self.reached.clear();
-        self.reached.push(Reached {
+        self.reached.push(LayerEntry {
             node: task.start(),
             arrival: task.at(),
             deadline: 0,

@@ -9,7 +9,7 @@ use Rattle.sabr_model.specs.plan.Plan.{ContactPlan, rises_above}
 use Rattle.sabr_model.specs.plan.Table.{sent_by}
 use Rattle.sabr_model.specs.routes.Route.{is_path}
 use Rattle.sabr_model.specs.declared.following.Reached.{Reached}
-use Rattle.plain_listing.specs.declared.hop.Hop.{Hop}
+use Rattle.plain_listing.specs.declared.way_hop.WayHop.{WayHop}
 use Rattle.plain_listing.specs.Way.{numbers_of, hop_of, last_stop, record_over}
 use Rattle.plain_listing.specs.Walk.{IsMove, is_past}
 use Rattle.plain_listing.proofs.Sent.{next_from, sent_rises}
@@ -27,11 +27,11 @@ overflow_add-result g c =
     omega arith
 
 -- what the search for the next number found
-found : (p : ContactPlan) (r : RouteRequest) (hops : List Hop) (low : ℕ) (lent : List Hop) (end : Reached) (numbers : List ℕ) (o : Option ℕ)
+found : (p : ContactPlan) (r : RouteRequest) (hops : List WayHop) (low : ℕ) (lent : List WayHop) (end : Reached) (numbers : List ℕ) (o : Option ℕ)
     → lent ≡ hops → end ≡ last_stop r lent → numbers ≡ sent_by p.contacts end.node → o ≡ next_from low numbers → o ≡ next_from low (sent_by p.contacts (last_stop r hops).node)
 found p r hops low lent end numbers o a b d e = e ∙ ap (next_from low) (d ∙ ap (λ (x : Reached). sent_by p.contacts x.node) (b ∙ ap (last_stop r) a))
 
-empty : (hops : List Hop) → length hops ≡ 0 → hops ≡ []
+empty : (hops : List WayHop) → length hops ≡ 0 → hops ≡ []
 empty [] e = refl
 empty (h ∷ hops) e = absurd (omega arith)
 
@@ -68,7 +68,7 @@ take_hop-requires-clause-number g c =
     let given = next.given in
     let most = c.requires.rules.count in
     let it = some_where (is_path p r (numbers_of c.deref-2.result.now ++ c.in-Some.number ∷ [])) (hop_of p r (numbers_of c.deref-2.result.now) c.in-Some.number) c.in-Some-hop_over.hop (sym c.hop_over.ensures ∙ c.in-Some-hop_over.is) in
-    let same : c.in-Some-hop_over.hop.number ≡ c.in-Some.number = ap (λ (h : Hop). h.number) it.1 in
+    let same : c.in-Some-hop_over.hop.number ≡ c.in-Some.number = ap (λ (h : WayHop). h.number) it.1 in
     omega arith
 
 pub take_hop-requires-clause-rising : goal.take_hop-requires-clause-rising
@@ -115,8 +115,8 @@ returns-clause-ok g c =
     let it = some_where (is_path p r (numbers_of c.deref-2.result.now ++ n ∷ [])) (hop_of p r (numbers_of c.deref-2.result.now) n) hop (sym c.hop_over.ensures ∙ c.in-Some-hop_over.is) in
     let path : is_path p r (numbers_of hops ++ n ∷ []) ≡ true = ap (λ w. is_path p r (numbers_of w ++ n ∷ [])) (sym lent) ∙ it.0 in
     let told : hop ≡ hop_of p r (numbers_of hops) n = it.1 ∙ ap (λ w. hop_of p r (numbers_of w) n) lent in
-    let node : hop.stop.node ≡ (hop_of p r (numbers_of hops) n).stop.node = ap (λ (h : Hop). h.stop.node) told in
-    let number : hop.number ≡ n = ap (λ (h : Hop). h.number) told in
+    let node : hop.stop.node ≡ (hop_of p r (numbers_of hops) n).stop.node = ap (λ (h : WayHop). h.stop.node) told in
+    let number : hop.number ≡ n = ap (λ (h : WayHop). h.number) told in
     ⊎_elim
     (λ there.
     let is = c.in_ok-take_hop.ensures.route there in
@@ -163,5 +163,5 @@ returns-then-is_past-clause-ok g c =
     let path : is_path p r (numbers_of hops ++ n ∷ []) ≡ true = ap (λ w. is_path p r (numbers_of w ++ n ∷ [])) (sym lent) ∙ it.0 in
     let told : hop ≡ hop_of p r (numbers_of hops) n = it.1 ∙ ap (λ w. hop_of p r (numbers_of w) n) lent in
     let past : is_past limit kept (hop_of p r (numbers_of hops) n).stop.at ≡ true =
-    ap (λ (h : Hop). is_past limit kept h.stop.at) (sym told) ∙ sym c.is_past.ensures ∙ c.if-is_past.true in
+    ap (λ (h : WayHop). is_past limit kept h.stop.at) (sym told) ∙ sym c.is_past.ensures ∙ c.if-is_past.true in
     move_late p r c.requires.rules limit hops low kept c.requires.walk n next path past

@@ -5,7 +5,7 @@ use Rattle.sabr_model.specs.plan.Plan.{contact_named}
 use Rattle.sabr_model.specs.routes.Arrival.{arrival}
 use Rattle.sabr_model.specs.routes.Route.{is_path}
 use Rattle.sabr_model.specs.declared.following.Reached.{Reached}
-use Rattle.plain_listing.specs.declared.hop.Hop.{Hop}
+use Rattle.plain_listing.specs.declared.way_hop.WayHop.{WayHop}
 use Rattle.plain_listing.specs.Way.{numbers_of, hop_of, last_stop, may_visit}
 use Rattle.plain_listing.proofs.Hops.{closed_unnamed, closed_apart, closed_shut, closed_late, path_open, hop_open}
 use Rattle.plain_listing.proofs.way.hop_over.Goals as goal
@@ -13,7 +13,7 @@ use Rattle.plain_listing.proofs.way.hop_over.Goals.{then-contact-end-via-then-co
 use Rattle.sabr_model.proofs.RouteLemmas.Follows.{ends_in_time}
 
 -- the answer if the way and the number begin no route
-none_where : (b : _) (h : Hop) → b ≡ false → None ≡ cond b (Some h) None
+none_where : (b : _) (h : WayHop) → b ≡ false → None ≡ cond b (Some h) None
 none_where b h e = ap (λ t. cond t (Some h) None) (sym e)
 
 pub returns-in_err-contact : goal.returns-in_err-contact

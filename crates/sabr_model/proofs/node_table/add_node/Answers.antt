@@ -1,5 +1,5 @@
 use Rattle.indexmap.specs.IndexMap.{keys}
-use Rattle.sabr_model.proofs.PlanLemmas.ContactLemmas.TableSteps.{found_at, new_at, new_places}
+use Rattle.sabr_model.proofs.PlanLemmas.TableSteps.{found_at, new_at, new_places}
 use Rattle.sabr_model.proofs.node_table.add_node.Goals as goal
 
 pub returns-in-Some-clause-index : goal.returns-in-Some-clause-index

@@ -2,7 +2,7 @@ use Rattle.std.proofs.Common.{ap, ◌∙◌}
 use Rattle.std.specs.Prelude.{slice_get}
 use Rattle.indexmap.specs.IndexMap.{keys}
 use Rattle.sabr_model.proofs.ListLemmas.Answered.{on_err}
-use Rattle.sabr_model.proofs.PlanLemmas.ContactLemmas.TableSteps.{found_at, new_at, new_places}
+use Rattle.sabr_model.proofs.PlanLemmas.TableSteps.{found_at, new_at, new_places}
 use Rattle.sabr_model.proofs.node_table.add_number.Goals as goal
 
 pub returns-in_err-push_number-in-Some-clause-err : goal.returns-in_err-push_number-in-Some-clause-err

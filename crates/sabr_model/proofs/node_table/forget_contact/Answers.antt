@@ -1,5 +1,5 @@
 use Rattle.std.proofs.Common.{◌∙◌}
-use Rattle.sabr_model.proofs.PlanLemmas.ContactLemmas.Without.{IsTableOf-without, in_use_is}
+use Rattle.sabr_model.proofs.PlanLemmas.Without.{IsTableOf-without, in_use_is}
 use Rattle.sabr_model.proofs.node_table.forget_contact.Goals as goal
 
 pub returns : goal.returns

@@ -1,6 +1,6 @@
 use Rattle.indexmap.proofs.CallerLemmas.{keys-with_value_at}
 use Rattle.sabr_model.proofs.ListLemmas.Answered.{on_err}
-use Rattle.sabr_model.proofs.PlanLemmas.ContactLemmas.TableSteps.{value_there, unique_kept, list_pushed, list_kept}
+use Rattle.sabr_model.proofs.PlanLemmas.TableSteps.{value_there, unique_kept, list_pushed, list_kept}
 use Rattle.sabr_model.proofs.node_table.push_number.Goals as goal
 
 pub returns-in_err-push-clause-err : goal.returns-in_err-push-clause-err

@@ -5,8 +5,8 @@ use Rattle.indexmap.specs.IndexMap.{keys}
 use Rattle.sabr_model.specs.declared.contact.Contact.{Contact}
 use Rattle.sabr_model.specs.plan.Table.{IsTableOf}
 use Rattle.sabr_model.specs.plan.Stretches.{AreEndsOf}
-use Rattle.sabr_model.proofs.PlanLemmas.ContactLemmas.KnownLemmas.{beside_more, ends_kept_at, take_enough}
-use Rattle.sabr_model.proofs.PlanLemmas.ContactLemmas.TableLemmas.{IsTableOf-push}
+use Rattle.sabr_model.proofs.PlanLemmas.KnownLemmas.{beside_more, ends_kept_at, take_enough}
+use Rattle.sabr_model.proofs.PlanLemmas.TableLemmas.{IsTableOf-push}
 use Rattle.sabr_model.proofs.node_table.table_of.Goals as goal
 
 pub loop-contact-preserved : goal.loop-contact-preserved

@@ -5,7 +5,7 @@ use Rattle.sabr_model.specs.declared.contact.Contact.{Contact}
 use Rattle.sabr_model.specs.plan.Plan.{ContactPlan, opens}
 use Rattle.sabr_model.specs.plan.Adding.{without_contact}
 use Rattle.sabr_gathering.specs.Gathering.{plan_of_contacts}
-use Rattle.sabr_model.proofs.PlanLemmas.ContactLemmas.Deletions.{IsPlan-fewer_contacts}
+use Rattle.sabr_model.proofs.PlanLemmas.Deletions.{IsPlan-fewer_contacts}
 use Rattle.sabr_gathering.proofs.gathered_contacts.GatheredContacts.delete.Goals as goal
 
 pub invariant_of-self : goal.invariant_of-self

@@ -4,7 +4,7 @@ use Rattle.sabr_model.specs.declared.opening.Opening.{Opening}
 use Rattle.sabr_model.specs.plan.Plan.{opens}
 use Rattle.sabr_model.specs.plan.Openings.{opening_of}
 use Rattle.sabr_gathering.specs.Gathering.{opening_number, KnowsFirst}
-use Rattle.sabr_model.proofs.PlanLemmas.ContactLemmas.Deletions.{all_filter}
+use Rattle.sabr_model.proofs.PlanLemmas.Deletions.{all_filter}
 use Rattle.sabr_gathering.proofs.GatheredOpenings.{known_fewer}
 use Rattle.sabr_gathering.proofs.known_openings.KnownOpenings.forget.Goals as goal
 

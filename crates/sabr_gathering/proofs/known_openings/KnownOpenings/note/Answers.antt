@@ -1,7 +1,7 @@
 use Rattle.std.proofs.Common.{◌≡◌, true, false, Some, ◌++◌, [], ◌∷◌, refl, sym, subst, ◌∙◌}
 use Rattle.std.proofs.lemmas.Bool.{not-true, not-false}
 use Rattle.sabr_gathering.specs.Gathering.{KnowsFirst, IsNoted}
-use Rattle.sabr_model.proofs.PlanLemmas.ContactLemmas.OpeningLemmas.{opening_known}
+use Rattle.sabr_model.proofs.PlanLemmas.OpeningLemmas.{opening_known}
 use Rattle.sabr_gathering.proofs.GatheredOpenings.{after_all, some_push_last, known_push_all, known_these, set_more, set_same}
 use Rattle.sabr_gathering.proofs.known_openings.KnownOpenings.note.Goals as goal
 

@@ -2,7 +2,7 @@ use Rattle.std.proofs.Common.{◌∙◌, ap, filter, not, rules}
 use Rattle.std.proofs.lemmas.Fn.{filter_same}
 use Rattle.sabr_model.specs.plan.Adding.{begins}
 use Rattle.sabr_gathering.specs.Gathering.{plan_of_ranges}
-use Rattle.sabr_model.proofs.PlanLemmas.ContactLemmas.Deletions.{IsPlan-fewer_ranges}
+use Rattle.sabr_model.proofs.PlanLemmas.Deletions.{IsPlan-fewer_ranges}
 use Rattle.sabr_gathering.proofs.ordered_ranges.OrderedRanges.delete.Goals as goal
 
 pub invariant_of-self : goal.invariant_of-self

@@ -1,7 +1,7 @@
 use Rattle.std.proofs.Common.{◌∙◌, ◌&&◌, ap, not, eqb, rules, filter}
 use Rattle.std.proofs.lemmas.Fn.{filter_same}
 use Rattle.sabr_model.specs.declared.opening.Opening.{Opening}
-use Rattle.sabr_model.proofs.PlanLemmas.ContactLemmas.OpeningLemmas.{openings_fewer}
+use Rattle.sabr_model.proofs.PlanLemmas.OpeningLemmas.{openings_fewer}
 use Rattle.sabr_model.proofs.openings.Openings.forget.Goals as goal
 
 pub returns : goal.returns

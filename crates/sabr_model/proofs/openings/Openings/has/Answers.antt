@@ -1,5 +1,5 @@
 use Rattle.std.proofs.Common.{◌∙◌}
-use Rattle.sabr_model.proofs.PlanLemmas.ContactLemmas.OpeningLemmas.{opening_known}
+use Rattle.sabr_model.proofs.PlanLemmas.OpeningLemmas.{opening_known}
 use Rattle.sabr_model.proofs.openings.Openings.has.Goals as goal
 
 pub returns-then-self : goal.returns-then-self

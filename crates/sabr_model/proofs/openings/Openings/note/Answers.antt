@@ -1,7 +1,7 @@
 use Rattle.std.proofs.Common.{◌≡◌, false, cond, ◌++◌, [], ◌∷◌, ap, ◌∙◌, ◌&&◌, eqb}
 use Rattle.std.specs.List.{list_any}
 use Rattle.sabr_model.specs.declared.opening.Opening.{Opening}
-use Rattle.sabr_model.proofs.PlanLemmas.ContactLemmas.OpeningLemmas.{opening_known, openings_push}
+use Rattle.sabr_model.proofs.PlanLemmas.OpeningLemmas.{opening_known, openings_push}
 use Rattle.sabr_model.proofs.openings.Openings.note.Goals as goal
 
 pub returns : goal.returns

@@ -4,8 +4,8 @@ use Rattle.sabr_model.specs.declared.contact.Contact.{Contact}
 use Rattle.sabr_model.specs.plan.Plan.{ContactPlan, TabledPlan, opens}
 use Rattle.sabr_model.specs.plan.Adding.{without_contact}
 use Rattle.sabr_model.specs.plan.Openings.{openings_of}
-use Rattle.sabr_model.proofs.PlanLemmas.ContactLemmas.Deletions.{found_by_number, without_opening, IsPlan-fewer_contacts}
-use Rattle.sabr_model.proofs.PlanLemmas.ContactLemmas.KnownLemmas.{nothing_known}
+use Rattle.sabr_model.proofs.PlanLemmas.Deletions.{found_by_number, without_opening, IsPlan-fewer_contacts}
+use Rattle.sabr_model.proofs.PlanLemmas.KnownLemmas.{nothing_known}
 use Rattle.sabr_model.proofs.plan.Plan.delete_contact.Goals as goal
 
 pub forget_contact-requires : goal.forget_contact-requires

@@ -2,8 +2,8 @@ use Rattle.std.proofs.Common.{ap, not, rules}
 use Rattle.std.proofs.lemmas.Fn.{filter_same}
 use Rattle.sabr_model.specs.plan.Plan.{ContactPlan, TabledPlan}
 use Rattle.sabr_model.specs.plan.Adding.{begins, without_range}
-use Rattle.sabr_model.proofs.PlanLemmas.ContactLemmas.Deletions.{IsPlan-fewer_ranges}
-use Rattle.sabr_model.proofs.PlanLemmas.ContactLemmas.KnownLemmas.{ends_known}
+use Rattle.sabr_model.proofs.PlanLemmas.Deletions.{IsPlan-fewer_ranges}
+use Rattle.sabr_model.proofs.PlanLemmas.KnownLemmas.{ends_known}
 use Rattle.sabr_model.proofs.plan.Plan.delete_range.Goals as goal
 
 pub invariant_of-self : goal.invariant_of-self

@@ -2,7 +2,7 @@ use Rattle.std.proofs.Common.{◌≡◌, ◌<◌, Some, length, ap, sym, subst, 
 use Rattle.std.proofs.lemmas.Option.{slice_get-get_or}
 use Rattle.sabr_model.specs.declared.contact.Contact.{Contact}
 use Rattle.sabr_model.specs.plan.Plan.{TabledPlan, contact_named}
-use Rattle.sabr_model.proofs.PlanLemmas.ContactLemmas.Numbered.{found_here}
+use Rattle.sabr_model.proofs.PlanLemmas.Numbered.{found_here}
 use Rattle.sabr_model.proofs.plan.Plan.hop_at.Goals as goal
 
 pub returns-clause-hop : goal.returns-clause-hop

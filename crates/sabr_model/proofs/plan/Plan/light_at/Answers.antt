@@ -1,7 +1,7 @@
 use Rattle.std.proofs.Common.{sym, subst}
 use Rattle.sabr_model.specs.plan.Plan.{ContactPlan}
 use Rattle.sabr_model.specs.plan.RangeOrder.{IsRangeList}
-use Rattle.sabr_model.proofs.PlanLemmas.ContactLemmas.RangeKeys.{range_list}
+use Rattle.sabr_model.proofs.PlanLemmas.RangeKeys.{range_list}
 use Rattle.sabr_model.proofs.plan.Plan.light_at.Goals as goal
 
 pub light_of_contact-requires : goal.light_of_contact-requires

@@ -2,7 +2,7 @@ use Rattle.std.proofs.Common.{◌≡◌, Option, ℕ, sym, subst}
 use Rattle.std.specs.Prelude.{MatchOption, IsFalse, slice_get, Some}
 use Rattle.sabr_model.specs.plan.Plan.{TabledPlan, has}
 use Rattle.indexmap.specs.IndexMap.{keys}
-use Rattle.sabr_model.proofs.PlanLemmas.ContactLemmas.Tabled.{index_tells}
+use Rattle.sabr_model.proofs.PlanLemmas.Tabled.{index_tells}
 use Rattle.sabr_model.proofs.plan.Plan.node_index.Goals as goal
 
 pub returns : goal.returns

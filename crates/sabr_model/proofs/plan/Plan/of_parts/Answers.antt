@@ -8,8 +8,8 @@ use Rattle.sabr_model.specs.plan.RangeOrder.{IsRangeList}
 use Rattle.sabr_model.specs.plan.Table.{IsTableOf}
 use Rattle.sabr_model.specs.plan.Stretches.{AreEnds}
 use Rattle.sabr_model.specs.plan.Known.{BeginLights}
-use Rattle.sabr_model.proofs.PlanLemmas.ContactLemmas.RangeKeys.{range_list}
-use Rattle.sabr_model.proofs.PlanLemmas.ContactLemmas.KnownLemmas.{all_ends}
+use Rattle.sabr_model.proofs.PlanLemmas.RangeKeys.{range_list}
+use Rattle.sabr_model.proofs.PlanLemmas.KnownLemmas.{all_ends}
 use Rattle.sabr_model.proofs.plan.Plan.of_parts.Goals as goal
 
 pub lights_of-requires-clause-ranges : goal.lights_of-requires-clause-ranges

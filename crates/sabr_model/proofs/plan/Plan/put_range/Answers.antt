@@ -5,9 +5,9 @@ use Rattle.sabr_model.specs.Order.{put_in}
 use Rattle.sabr_model.specs.plan.RangeOrder.{number_of_range, IsRangeList, IsCountUntil}
 use Rattle.sabr_model.specs.plan.Plan.{ContactPlan, TabledPlan}
 use Rattle.sabr_model.specs.plan.Adding.{range_refusal, with_range, by_range_key}
-use Rattle.sabr_model.proofs.PlanLemmas.ContactLemmas.RangeLemmas.{IsPlan-range}
-use Rattle.sabr_model.proofs.PlanLemmas.ContactLemmas.RangeKeys.{range_list, count_is_put}
-use Rattle.sabr_model.proofs.PlanLemmas.ContactLemmas.KnownLemmas.{ends_known}
+use Rattle.sabr_model.proofs.PlanLemmas.RangeLemmas.{IsPlan-range}
+use Rattle.sabr_model.proofs.PlanLemmas.RangeKeys.{range_list, count_is_put}
+use Rattle.sabr_model.proofs.PlanLemmas.KnownLemmas.{ends_known}
 use Rattle.sabr_model.proofs.plan.Plan.put_range.Goals as goal
 
 pub ranges_until-place-requires : goal.ranges_until-place-requires

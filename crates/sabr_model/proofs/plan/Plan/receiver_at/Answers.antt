@@ -4,7 +4,7 @@ use Rattle.indexmap.specs.IndexMap.{keys}
 use Rattle.sabr_model.specs.declared.contact.Contact.{Contact}
 use Rattle.sabr_model.specs.declared.plan.ends.Ends.{Ends}
 use Rattle.sabr_model.specs.plan.Plan.{TabledPlan, has}
-use Rattle.sabr_model.proofs.PlanLemmas.ContactLemmas.KnownLemmas.{receiver_in_table}
+use Rattle.sabr_model.proofs.PlanLemmas.KnownLemmas.{receiver_in_table}
 use Rattle.sabr_model.proofs.plan.Plan.receiver_at.Goals as goal
 
 pub index_of-requires : goal.index_of-requires

@@ -2,7 +2,7 @@ use Rattle.std.proofs.Common.{◌≡◌, Option, ℕ, Some, sym, subst}
 use Rattle.std.specs.Prelude.{MatchOption, slice_get, false}
 use Rattle.indexmap.specs.IndexMap.{keys}
 use Rattle.sabr_model.specs.plan.Plan.{has}
-use Rattle.sabr_model.proofs.PlanLemmas.ContactLemmas.Tabled.{index_tells, index_of_member}
+use Rattle.sabr_model.proofs.PlanLemmas.Tabled.{index_tells, index_of_member}
 use Rattle.sabr_model.proofs.plan.ends.index_of.Goals as goal
 
 pub returns : goal.returns

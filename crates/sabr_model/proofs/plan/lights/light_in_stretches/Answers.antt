@@ -1,6 +1,6 @@
 use Rattle.std.proofs.Common.{◌≡◌, rules, ◌∙◌}
 use Rattle.sabr_model.specs.plan.Light.{light_of_pair}
-use Rattle.sabr_model.proofs.PlanLemmas.ContactLemmas.Stretches.{light_in_piece}
+use Rattle.sabr_model.proofs.PlanLemmas.Stretches.{light_in_piece}
 use Rattle.sabr_model.proofs.plan.lights.light_in_stretches.Goals as goal
 
 pub returns-in-Some : goal.returns-in-Some

@@ -3,7 +3,7 @@ use Rattle.sabr_model.specs.declared.contact.Contact.{Contact}
 use Rattle.sabr_model.specs.declared.plan.ends.Ends.{Ends}
 use Rattle.sabr_model.specs.plan.Plan.{ContactPlan}
 use Rattle.sabr_model.specs.plan.Light.{light_of}
-use Rattle.sabr_model.proofs.PlanLemmas.ContactLemmas.KnownLemmas.{beside_more, stretch_within, stretch_at}
+use Rattle.sabr_model.proofs.PlanLemmas.KnownLemmas.{beside_more, stretch_within, stretch_at}
 use Rattle.sabr_model.proofs.plan.lights.lights_of.Goals as goal
 
 abbrev none : Contact

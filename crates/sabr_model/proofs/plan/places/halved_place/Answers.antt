@@ -1,7 +1,7 @@
 use Rattle.std.proofs.Common.{◌≡◌, ◌+◌, ◌-◌, ◌/◌, ◌<◌, ◌≤◌, length, get_or, inl, inr, arith, ap, sym, ◌∙◌}
 use Rattle.std.proofs.lemmas.Bool.{cases_order, cases_lt}
 use Rattle.sabr_model.specs.declared.contact.Contact.{Contact}
-use Rattle.sabr_model.proofs.PlanLemmas.ContactLemmas.Numbered.{numbers_apart, found_here, found_nowhere}
+use Rattle.sabr_model.proofs.PlanLemmas.Numbered.{numbers_apart, found_here, found_nowhere}
 use Rattle.sabr_model.proofs.plan.places.halved_place.Goals as goal
 
 pub returns-then-found-number : goal.returns-then-found-number

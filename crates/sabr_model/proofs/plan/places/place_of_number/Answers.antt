@@ -1,6 +1,6 @@
 use Rattle.std.proofs.Common.{◌-◌, ◌<◌, length, arith}
 use Rattle.sabr_model.specs.declared.contact.Contact.{Contact}
-use Rattle.sabr_model.proofs.PlanLemmas.ContactLemmas.Numbered.{found_here}
+use Rattle.sabr_model.proofs.PlanLemmas.Numbered.{found_here}
 use Rattle.sabr_model.proofs.plan.places.place_of_number.Goals as goal
 
 pub returns-then-is_at_own_place : goal.returns-then-is_at_own_place

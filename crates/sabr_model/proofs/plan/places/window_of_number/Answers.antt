@@ -1,7 +1,7 @@
 use Rattle.std.proofs.Common.{◌≡◌, ◌-◌, length, get_or, inl, inr, arith, ap}
 use Rattle.std.proofs.lemmas.Bool.{cases_eq}
 use Rattle.sabr_model.specs.declared.contact.Contact.{Contact}
-use Rattle.sabr_model.proofs.PlanLemmas.ContactLemmas.Numbered.{number_above, numbers_apart}
+use Rattle.sabr_model.proofs.PlanLemmas.Numbered.{number_above, numbers_apart}
 use Rattle.sabr_model.proofs.plan.places.window_of_number.Goals as goal
 
 pub returns-clause-before : goal.returns-clause-before

@@ -1,6 +1,6 @@
 use Rattle.std.proofs.Common.{sym, ◌∙◌, arith}
 use Rattle.sabr_model.specs.declared.contact.Range.{Range}
-use Rattle.sabr_model.proofs.PlanLemmas.ContactLemmas.RangeKeys.{light_none, light_told}
+use Rattle.sabr_model.proofs.PlanLemmas.RangeKeys.{light_none, light_told}
 use Rattle.sabr_model.proofs.plan.ranges.light_until.Goals as goal
 
 pub returns-then-count-eq0 : goal.returns-then-count-eq0

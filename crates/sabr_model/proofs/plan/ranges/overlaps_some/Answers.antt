@@ -1,6 +1,6 @@
 use Rattle.std.proofs.Common.{sym, ◌∙◌, arith}
 use Rattle.sabr_model.specs.declared.contact.Range.{Range}
-use Rattle.sabr_model.proofs.PlanLemmas.ContactLemmas.RangeKeys.{overlap_none, overlap_told}
+use Rattle.sabr_model.proofs.PlanLemmas.RangeKeys.{overlap_none, overlap_told}
 use Rattle.sabr_model.proofs.plan.ranges.overlaps_some.Goals as goal
 
 pub returns-then-count-eq0 : goal.returns-then-count-eq0

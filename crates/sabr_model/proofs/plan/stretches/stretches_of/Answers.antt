@@ -6,8 +6,8 @@ use Rattle.std.proofs.lemmas.Option.{slice_get_within}
 use Rattle.indexmap.specs.IndexMap.{keys}
 use Rattle.sabr_model.specs.declared.contact.Range.{Range}
 use Rattle.sabr_model.specs.plan.Plan.{has}
-use Rattle.sabr_model.proofs.PlanLemmas.ContactLemmas.Tabled.{index_tells, different_from_distinct}
-use Rattle.sabr_model.proofs.PlanLemmas.ContactLemmas.Stretches.{no_stretch, stretches_without, stretches_with}
+use Rattle.sabr_model.proofs.PlanLemmas.Tabled.{index_tells, different_from_distinct}
+use Rattle.sabr_model.proofs.PlanLemmas.Stretches.{no_stretch, stretches_without, stretches_with}
 use Rattle.sabr_model.proofs.plan.stretches.stretches_of.Goals as goal
 
 pub loop-first-init : goal.loop-first-init

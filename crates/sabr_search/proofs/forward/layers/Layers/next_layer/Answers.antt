@@ -2,13 +2,13 @@ use Rattle.std.proofs.Common.{◌≡◌, ◌+◌, ◌<◌, ◌≤◌, ℕ, List,
 use Rattle.sabr_search.specs.questions.Task.{SearchTask, Takes}
 use Rattle.sabr_search.specs.questions.Steps.{degree, sent_by_all}
 use Rattle.sabr_search.specs.layers.Lists.{GivenFrom, AreSources, nodes_between}
-use Rattle.sabr_search.specs.declared.forward.layers.Reached.{Reached}
+use Rattle.sabr_search.specs.declared.forward.layers.LayerEntry.{LayerEntry}
 use Rattle.sabr_search.proofs.ForwardLemmas.Forward.{lowered_more, known_lower, last_or_before}
 use Rattle.sabr_search.proofs.ForwardLemmas.Between.{entry_read, sent_next, sent_at_most, read_at}
 use Rattle.sabr_search.proofs.forward.layers.Layers.next_layer.Goals as goal
 
 -- the looks at one more node are within those of all contacts
-within : (task : SearchTask) (reached0 reached : List Reached) (first begin place : ℕ) (e : Reached) → AreSources task reached0 first begin → first ≤ place → place < begin → take begin reached ≡ take begin reached0 → begin ≤ length reached →
+within : (task : SearchTask) (reached0 reached : List LayerEntry) (first begin place : ℕ) (e : LayerEntry) → AreSources task reached0 first begin → first ≤ place → place < begin → take begin reached ≡ take begin reached0 → begin ≤ length reached →
     e ≡ slice_index_or reached place e → sent_by_all task (nodes_between reached0 first place) + degree task e.node ≤ length task.plan.contacts
 within task reached0 reached first begin place e sources le less before many is =
     let at = entry_read reached reached0 begin place e before less many is in

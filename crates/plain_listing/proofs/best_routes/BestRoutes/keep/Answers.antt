@@ -4,7 +4,7 @@ use Rattle.std.specs.List.Sorted.{IsPartitionPoint, IsStrictlySortedBy}
 use Rattle.std.specs.declared.cmp.Ordering.TheVariants.{Less, Equal, Greater}
 use Rattle.sabr_model.specs.routes.Record.{RouteRecord, by_record, by_record_total}
 use Rattle.plain_listing.proofs.Placed.{answers_rise, put_at, put_tied, put_past}
-use Rattle.plain_listing.proofs.kept.Kept.keep.Goals as goal
+use Rattle.plain_listing.proofs.best_routes.BestRoutes.keep.Goals as goal
 
 -- the route is kept already
 pub returns-in_default-clause-ok : goal.returns-in_default-clause-ok

@@ -11,7 +11,7 @@ use std::alloc::Allocator;
 
 /// The best routes found so far, in order of their keys, and the most that are kept.
 #[derive(Drop)]
-pub struct Kept<A: Allocator + Copy> {
+pub struct BestRoutes<A: Allocator + Copy> {
     /// The allocator of the routes.
     pub alloc: A,
     /// The most routes that are kept.
@@ -20,13 +20,13 @@ pub struct Kept<A: Allocator + Copy> {
     pub routes: Vec<Route<A>, A>,
 }
 
-impl<A: Allocator + Copy> Kept<A> {
+impl<A: Allocator + Copy> BestRoutes<A> {
     /// Creates an empty list.
-    pub fn new(alloc: A, limit: usize) -> Kept<A>
+    pub fn new(alloc: A, limit: usize) -> BestRoutes<A>
         ensures limit { result.limit ≡ limit }
         ensures routes { result.routes.items ≡ [] }
     {
-        Kept {
+        BestRoutes {
             alloc,
             limit,
             routes: Vec::new(alloc),

@@ -7,20 +7,20 @@ use std::rt::Files;
 
 /// What is asked of a plan.
 #[derive(Drop)]
-pub struct Question {
+pub struct BenchQuestion {
     /// The request, without limits.
     pub request: Request,
     /// How many routes are asked for.
     pub count: u32,
 }
 
-impl Question {
+impl BenchQuestion {
     /// Reads the words `FROM TO TIME COUNT`.
-    pub fn of(words: &[String]) -> Option<Question> {
+    pub fn of(words: &[String]) -> Option<BenchQuestion> {
         let [from, to, at, count] = words else {
             return None;
         };
-        Some(Question {
+        Some(BenchQuestion {
             request: request_of(from.as_str(), to.as_str(), at.as_str())?,
             count: count.parse::<u32>().ok()?.min(10000),
         })

@@ -15,16 +15,16 @@ use std::alloc::Allocator;
 
 /// The session that was made last over a plan.
 #[derive(Drop)]
-pub struct Held<'p, B: Fresh<A>, A: Allocator + Copy> {
+pub struct HeldSession<'p, B: Fresh<A>, A: Allocator + Copy> {
     alloc: A,
     plan: &'p Plan<A>,
     session: Option<Session<'p, B, A>>,
 }
 
-impl<'p, B: Fresh<A>, A: Allocator + Copy> Held<'p, B, A> {
+impl<'p, B: Fresh<A>, A: Allocator + Copy> HeldSession<'p, B, A> {
     /// Begins without a session.
-    pub fn new(alloc: A, plan: &'p Plan<A>) -> Held<'p, B, A> {
-        Held {
+    pub fn new(alloc: A, plan: &'p Plan<A>) -> HeldSession<'p, B, A> {
+        HeldSession {
             alloc,
             plan,
             session: None,

@@ -5,7 +5,7 @@ use std::alloc::{Allocator, Global};
 
 /// A plan, a request for its routes, and the allocator of what is made for them.
 #[derive(Drop)]
-pub struct Question<'p, A: Allocator + Copy = Global> {
+pub struct PlanRequest<'p, A: Allocator + Copy = Global> {
     /// The allocator.
     pub alloc: A,
     /// The plan whose routes are listed.
@@ -14,7 +14,7 @@ pub struct Question<'p, A: Allocator + Copy = Global> {
     pub request: Request,
 }
 
-impl<'p, A: Allocator + Copy> Question<'p, A> {
+impl<'p, A: Allocator + Copy> PlanRequest<'p, A> {
     /// The allocator.
     pub fn alloc(&self) -> A {
         self.alloc
