@@ -101,7 +101,7 @@ impl<'p, B: BestOf<A>, A: Allocator + Copy> Asker<'p, B, A> {
     }
 
     /// Asks for the least route of a part whose excluded numbers rise.
-    #[tactic(auto, unfolding(crate::specs::Best::best_of))]
+    #[tactic(auto, unfolding(crate::specs::tree::Best::best_of))]
     pub fn ask(&mut self, prefix: &[u32], excluded: &[u32]) -> Result<Option<Route<A>>, NoMemory>
         requires fits { IsTrue (is_prefix self.old.asked.plan.plan self.old.asked.request prefix.now) }
         requires rising { IsStrictlyIncreasing excluded.now }

@@ -4,10 +4,10 @@ use mir.Val.{vstruct, vnil}
 use denote.Laws.{Is}
 use denote.Struct.Struct.{Struct, Struct-Makes}
 use denote.Struct.Owning.{shape}
-use Rattle.sabr_frontier.specs.contracts.ghost_lists.GhostLists.new as f
+use Rattle.sabr_frontier.specs.contracts.loader.ghost_lists.GhostLists.new as f
 use Rattle.sabr_frontier.proofs.loader.ghost_lists.GhostLists.new.Statement.{statement}
 use Rattle.sabr_frontier.proofs.loader.ghost_lists.GhostLists.new.Code as code
-use Rattle.sabr_frontier.specs.contracts.ghost_lists.GhostLists.{the_type}
+use Rattle.sabr_frontier.specs.contracts.loader.ghost_lists.GhostLists.{the_type}
 
 abbrev stayed : Stays f.ended.signature.params f.ended.kept
 stayed = tt

@@ -1,10 +1,10 @@
 -- One list more stands after the others. No memory is touched.
 use Rattle.sabr_frontier.proofs.LoadingLemmas.GhostWalks.{[], ◌∷◌, refl, proved, yes, u32, ftrue, flft, named, vunit, ‵, ◌⊛◌, ◌$◌, ◌∵◌, !, qed, done, move, keep, split, join, fsplit, fsplit3, fjoin, feq_i, suffices, frame, group, enter, of_opd, unit_lit, returns, alloc_all, pass_all, free_all, look_at, sets, MutRef, mut_vals, mut_Tells, ShrSlice, shr_slice_vals, shr_slice_Tells, plain, nothing, opens, closes, Stays, walk_of, says, stay_ref, Goes-ref, stay_none_slice, Goes-none_slice, ends_at}
 use Rattle.std.proofs.Common.{◌++◌}
-use Rattle.sabr_frontier.specs.contracts.ghost_lists.GhostLists.push as f
+use Rattle.sabr_frontier.specs.contracts.loader.ghost_lists.GhostLists.push as f
 use Rattle.sabr_frontier.proofs.loader.ghost_lists.GhostLists.push.Statement.{statement}
 use Rattle.sabr_frontier.proofs.loader.ghost_lists.GhostLists.push.Code as code
-use Rattle.sabr_frontier.specs.contracts.ghost_lists.GhostLists.{the_row as R}
+use Rattle.sabr_frontier.specs.contracts.loader.ghost_lists.GhostLists.{the_row as R}
 
 abbrev stayed : Stays f.ended.signature.params f.ended.kept
 stayed = (stay_ref (0 ∷ []) tt (plain (λ _. R)), (stay_none_slice (1 ∷ []) tt (plain (λ _. u32)) yes, tt))
