@@ -7,7 +7,7 @@ import re
 from dataclasses import dataclass, field
 
 TOP = os.path.dirname(os.path.dirname(os.path.realpath(__file__)))
-SHARED = "tests/rows/shared.txt"
+SHARED = "tests/data/rows/shared.txt"
 SHOWN = 2000  # bytes of a text that a failure shows
 
 
