@@ -8,30 +8,13 @@ ghost use Rattle.sabr_model.specs.declared.fault.AddFault.TheVariants.{NoMemory}
 ghost use Rattle.sabr_model.specs.plan.Adding.{next_contact, contact_refusal, with_contact};
 
 use super::Plan;
-use super::refusals::refusal;
 use crate::contact::Contact;
 use crate::fault::AddFault;
 use crate::node_table::note_contact;
+use crate::opening::Opening;
 use std::alloc::{AllocError, Allocator};
 
 impl<A: Allocator + Copy> Plan<A> {
-    /// Returns the first reason to refuse a contact, if there is one other than out of memory.
-    fn contact_refusal(&self, from: u64, to: u64, start: u64, end: u64) -> Option<AddFault>
-        ensures { result ≡ contact_refusal self.now.plan from to start end }
-    {
-        let clashes = self.has_opening(from, to, start);
-        let given = self.greatest as usize;
-        let clash = AddFault::DuplicateContact;
-        refusal((from, to), (start, end), clashes, clash, given)
-    }
-
-    /// Returns true if there is a standing contact with this sender, receiver and start.
-    fn has_opening(&self, from: u64, to: u64, start: u64) -> bool
-        ensures { result ≡ list_any (opens from to start) self.now.plan.contacts }
-    {
-        self.openings.has(&self.contacts, from, to, start)
-    }
-
     /// Adds a contact that is not refused.
     fn append(
         &mut self,
@@ -96,7 +79,9 @@ impl<A: Allocator + Copy> Plan<A> {
         ensures ok { OnOk result (self.new.plan ≡ with_contact self.old.plan (next_contact self.old.plan from to start end rate)) }
         ensures err { OnErr result (self.new ≡ self.old) }
     {
-        if let Some(fault) = self.contact_refusal(from, to, start, end) {
+        let clashes = self.openings.has(&self.contacts, from, to, start);
+        let opening = Opening { from, to, start };
+        if let Some(fault) = opening.refusal(end, clashes, self.greatest) {
             return Err(fault);
         }
         self.append(from, to, start, end, rate)
