@@ -58,8 +58,12 @@ impl<A: Allocator + Copy> GatheredContacts<A> {
         requires from { 0 < from }
         requires to { 0 < to }
         requires end { end ≤ last_time }
+
+        // The first reason to refuse it is the answer. Without one, only memory can be refused.
         ensures refused { (f : AddFault) → contact_refusal self.old from to start end ≡ Some f → result ≡ Err f }
         ensures accepted { contact_refusal self.old from to start end ≡ None → IsOkUnless result NoMemory }
+
+        // It has the next number. A refusal changes nothing.
         ensures number { IfOk result (λ n. n ≡ self.old.greatest + 1) }
         ensures ok { OnOk result (self.new ≡ with_contact self.old (next_contact self.old from to start end rate)) }
         ensures err { OnErr result (self.new ≡ self.old) }
@@ -94,8 +98,12 @@ impl<A: Allocator + Copy> GatheredContacts<A> {
         requires end { end ≤ last_time }
         requires apart { from ≢ to }
         requires count { self.old.greatest < most_records }
+
+        // The first reason to refuse it is the answer. Without one, only memory can be refused.
         ensures refused { (f : AddFault) → contact_refusal self.old from to start end ≡ Some f → result ≡ Err f }
         ensures accepted { contact_refusal self.old from to start end ≡ None → IsOkUnless result NoMemory }
+
+        // It has the next number. A refusal changes nothing.
         ensures number { IfOk result (λ n. n ≡ self.old.greatest + 1) }
         ensures ok { OnOk result (self.new ≡ with_contact self.old (next_contact self.old from to start end rate)) }
         ensures err { OnErr result (self.new ≡ self.old) }

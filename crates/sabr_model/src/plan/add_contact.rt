@@ -28,6 +28,8 @@ impl<A: Allocator + Copy> Plan<A> {
         requires to { 0 < to }
         requires end { end ≤ last_time }
         requires accepted { contact_refusal self.old.plan from to start end ≡ None }
+
+        // It has the next number. A refusal changes nothing.
         ensures number { IfOk result (λ n. n ≡ self.old.plan.greatest + 1) }
         ensures ok { OnOk result (self.new.plan ≡ with_contact self.old.plan (next_contact self.old.plan from to start end rate)) }
         ensures err { OnErr result (self.new ≡ self.old) }
@@ -73,8 +75,12 @@ impl<A: Allocator + Copy> Plan<A> {
         requires from { 0 < from }
         requires to { 0 < to }
         requires end { end ≤ last_time }
+
+        // The first reason to refuse it is the answer. Without one, only memory can be refused.
         ensures refused { (f : AddFault) → contact_refusal self.old.plan from to start end ≡ Some f → result ≡ Err f }
         ensures accepted { contact_refusal self.old.plan from to start end ≡ None → IsOkUnless result NoMemory }
+
+        // It has the next number. A refusal changes nothing.
         ensures number { IfOk result (λ n. n ≡ self.old.plan.greatest + 1) }
         ensures ok { OnOk result (self.new.plan ≡ with_contact self.old.plan (next_contact self.old.plan from to start end rate)) }
         ensures err { OnErr result (self.new ≡ self.old) }

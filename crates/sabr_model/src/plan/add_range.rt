@@ -20,6 +20,8 @@ impl<A: Allocator + Copy> Plan<A> {
         requires end { range.end ≤ last_time }
         requires light { range.light ≤ most_light }
         requires accepted { range_refusal self.old.plan range ≡ None }
+
+        // It stands among the ranges. A refusal changes nothing.
         ensures ok { OnOk result (self.new ≡ record { plan = with_range self.old.plan range; table = self.old.table }) }
         ensures err { OnErr result (self.new ≡ self.old) }
     {
@@ -51,8 +53,12 @@ impl<A: Allocator + Copy> Plan<A> {
         requires other { 0 < other }
         requires end { end ≤ last_time }
         requires light { light ≤ most_light }
+
+        // The first reason to refuse it is the answer. Without one, only memory can be refused.
         ensures refused { (f : AddFault) → range_refusal self.old.plan (new_range one other start end light) ≡ Some f → result ≡ Err f }
         ensures accepted { range_refusal self.old.plan (new_range one other start end light) ≡ None → IsOkUnless result NoMemory }
+
+        // It stands among the ranges. A refusal changes nothing.
         ensures ok { OnOk result (self.new ≡ record { plan = with_range self.old.plan (new_range one other start end light); table = self.old.table }) }
         ensures err { OnErr result (self.new ≡ self.old) }
     {
