@@ -118,6 +118,8 @@ impl<'p, B: BestOf<A>, A: Allocator + Copy> Session<'p, B, A> {
         requires fresh { tree.journal.items ≡ [] }
         requires index { tree.index.items ≡ (shape_of tree).index }
         requires room { IsRoomy tree }
+
+        // Nothing can be taken back, and no search was counted.
         ensures { result ≡ record { plan = asker.entry.asked.plan; request = asker.entry.asked.request; state = shown (shape_of tree); former = []; searches = 0; calls = asker.entry.calls } }
     {
         let pages = Vec::new(asker.alloc());
@@ -141,14 +143,22 @@ impl<'p, B: BestOf<A>, A: Allocator + Copy> Session<'p, B, A> {
     /// more searches than the page would have.
     pub fn page(&mut self, count: u32) -> Result<Vec<Route<A>, A>, NoMemory>
         requires { count ≤ most_routes }
+
+        // It gives the next routes of the list, and the state is the one after them. The former one can be had back.
         ensures routes { IfOk result (λ given. given.items ≡ map (record_of self.old.plan.plan self.old.request) (steps self.old.plan.plan self.old.request count self.old.state).0) }
         ensures state { OnOk result (self.new.state ≡ (steps self.old.plan.plan self.old.request count self.old.state).1) }
         ensures former { OnOk result (self.new.former ≡ former_then (steps self.old.plan.plan self.old.request count self.old.state).0 self.old.state self.old.former) }
+
+        // So many searches were taken.
         ensures searches { OnOk result (self.new.searches ≡ searches_in self.old.plan.plan self.old.request count self.old.state) }
         ensures calls { OnOk result (self.new.calls ≡ self.old.calls + searches_in self.old.plan.plan self.old.request count self.old.state) }
+
+        // The plan and the request stay, and no route comes twice.
         ensures plan { self.new.plan ≡ self.old.plan }
         ensures request { self.new.request ≡ self.old.request }
         ensures new_routes { GivesNewRoutes self.old.plan.plan self.old.request count self.old.state }
+
+        // After a refusal all but the calls is as before. A page without routes is never refused.
         ensures err { OnErr result (self.new ≡ record self.old { calls = self.new.calls }) }
         ensures no_fewer { OnErr result (self.old.calls ≤ self.new.calls) }
         ensures at_most { OnErr result (self.new.calls ≤ self.old.calls + searches_in self.old.plan.plan self.old.request count self.old.state) }
@@ -178,11 +188,17 @@ impl<'p, B: BestOf<A>, A: Allocator + Copy> Session<'p, B, A> {
     /// Takes back the last page that gave routes and wasn't taken back yet: the state is the one before it. Returns
     /// false, and changes nothing, if there is none. It takes no memory, and a pass over the parts for each route.
     pub fn back(&mut self) -> bool
+
+        // The state before the last page is back.
         ensures yes { IsTrue result → self.new.state ∷ self.new.former ≡ self.old.former }
         ensures searches { IsTrue result → self.new.searches ≡ 0 }
+
+        // The plan, the request and the calls stay.
         ensures plan { self.new.plan ≡ self.old.plan }
         ensures request { self.new.request ≡ self.old.request }
         ensures calls { self.new.calls ≡ self.old.calls }
+
+        // There was no page to take back, and all stays.
         ensures no { IsFalse result → self.new ≡ self.old }
         ensures none { IsFalse result → self.old.former ≡ [] }
     {

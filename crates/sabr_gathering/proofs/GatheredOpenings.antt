@@ -1,5 +1,6 @@
 -- What no two gathered contacts share, as the set beside them has it.
 use Rattle.std.proofs.Common.{◌≡◌, ℕ, zero, suc, ◌<◌, ◌≤◌, Bool, true, false, cond, ◌&&◌, ◌||◌, not, eqb, List, [], ◌∷◌, ◌++◌, length, get_or, refl, sym, ap, subst, ◌∙◌, arith}
+use Rattle.sabr_model.proofs.ListLemmas.Ordered.{all_weaker}
 use Rattle.std.specs.List.{filter, list_any}
 use Rattle.sabr_model.specs.declared.contact.Contact.{Contact}
 use Rattle.sabr_model.specs.declared.opening.Opening.{Opening}
@@ -10,7 +11,7 @@ use Rattle.sabr_model.specs.plan.Plan.{ContactPlan, opens}
 use Rattle.sabr_model.specs.plan.Adding.{contact_refusal}
 use Rattle.sabr_model.specs.plan.Openings.{opening_of, openings_of}
 use Rattle.sabr_gathering.specs.Gathering.{opening_number, KnowsFirst, OpenBy, KnowsSome}
-use Rattle.sabr_model.proofs.PlanLemmas.ContactLemmas.{all_push, all_weaker}
+use Rattle.sabr_model.proofs.PlanLemmas.ContactLemmas.{all_push}
 use Rattle.sabr_model.proofs.PlanLemmas.OpeningLemmas.{openings_push}
 
 -- ---- the openings of the first contacts

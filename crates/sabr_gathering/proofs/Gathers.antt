@@ -204,11 +204,6 @@ pub all_placed_or_not : {U E : Type 0} (r : Result U E) (placed late latest plac
 all_placed_or_not (Ok u) placed late latest placed_then late_then latest_then h a b c d e = rw (a, b, c) ((all_placed (gathered placed (gathered late latest)) h.all_obey, all_placed [] IsPlan-empty), refl)
 all_placed_or_not (Err f) placed late latest placed_then late_then latest_then h a b c d e = rw (d, e.1) ((h, e.0), refl)
 
--- one is false where both together are
-pub or_false : (a b : Bool) → (a || b) ≡ false → (a ≡ false) × (b ≡ false)
-or_false true b e = absurd cc
-or_false false b e = (refl, e)
-
 -- what is not refused
 pub chosen : (a b c d : Bool) → a ≡ false → b ≡ false → c ≡ false → d ≡ false → cond a (Some EmptyWindow) (cond b (Some SelfPair) (cond c (Some RangeOverlap) (cond d (Some TooMany) None))) ≡ None
 chosen a b c d p q r s = rw (p, q, r, s) refl
@@ -216,7 +211,7 @@ chosen a b c d p q r s = rw (p, q, r, s) refl
 module _ (placed late : List Range) (h : AreGathered placed late) (r : Range) (accept : range_refusal (plan_of_ranges (gathered placed late)) r ≡ None) where
   -- it overlaps neither
   news : (list_any (overlap r) late ≡ false) × (list_any (overlap r) placed ≡ false)
-  news = or_false (list_any (overlap r) late) (list_any (overlap r) placed) (sym (any_of_both (overlap r) placed late h) ∙ (accepted_range (plan_of_ranges (gathered placed late)) r accept).new)
+  news = or_parts (list_any (overlap r) late) (list_any (overlap r) placed) (sym (any_of_both (overlap r) placed late h) ∙ (accepted_range (plan_of_ranges (gathered placed late)) r accept).new)
 
   -- then it isn't refused by the latest either
   pub accept_late : range_refusal (plan_of_ranges late) r ≡ None

@@ -8,7 +8,7 @@ ghost use Rattle.sabr_model.specs.declared.fault.AddFault.TheVariants.{NoMemory,
 ghost use Rattle.sabr_model.specs.plan.Adding.{next_contact, contact_refusal, with_contact, number_of_opening, without_contact};
 
 use crate::known_openings::KnownOpenings;
-use sabr_model::{AddFault, Contact, MOST_RECORDS, Opening, contact_of_opening, refusal};
+use sabr_model::{AddFault, Contact, MOST_RECORDS, Opening};
 use std::alloc::{Allocator, Global};
 use std::marker::Model;
 
@@ -58,8 +58,12 @@ impl<A: Allocator + Copy> GatheredContacts<A> {
         requires from { 0 < from }
         requires to { 0 < to }
         requires end { end ≤ last_time }
+
+        // The first reason to refuse it is the answer. Without one, only memory can be refused.
         ensures refused { (f : AddFault) → contact_refusal self.old from to start end ≡ Some f → result ≡ Err f }
         ensures accepted { contact_refusal self.old from to start end ≡ None → IsOkUnless result NoMemory }
+
+        // It has the next number. A refusal changes nothing.
         ensures number { IfOk result (λ n. n ≡ self.old.greatest + 1) }
         ensures ok { OnOk result (self.new ≡ with_contact self.old (next_contact self.old from to start end rate)) }
         ensures err { OnErr result (self.new ≡ self.old) }
@@ -75,18 +79,15 @@ impl<A: Allocator + Copy> GatheredContacts<A> {
         ensures { result ≡ unwrap_or (contact_refusal self.now from to start end) NoMemory }
     {
         let clashes = self.has_opening(from, to, start);
-        let given = self.greatest as usize;
-        let clash = AddFault::DuplicateContact;
-        refusal((from, to), (start, end), clashes, clash, given).unwrap_or(AddFault::NoMemory)
+        let refusal = Opening { from, to, start }.refusal(end, clashes, self.greatest);
+        refusal.unwrap_or(AddFault::NoMemory)
     }
 
     /// Returns true if one of the contacts has this sender, receiver and start.
     fn has_opening(&self, from: u64, to: u64, start: u64) -> bool
         ensures { result ≡ list_any (opens from to start) self.now.contacts }
     {
-        self.contacts
-            .iter()
-            .any(|c| from == c.from && to == c.to && start == c.start)
+        self.contacts.iter().any(|c| c.opens(from, to, start))
     }
 
     /// Adds a contact that is refused only if it is a duplicate.
@@ -97,8 +98,12 @@ impl<A: Allocator + Copy> GatheredContacts<A> {
         requires end { end ≤ last_time }
         requires apart { from ≢ to }
         requires count { self.old.greatest < most_records }
+
+        // The first reason to refuse it is the answer. Without one, only memory can be refused.
         ensures refused { (f : AddFault) → contact_refusal self.old from to start end ≡ Some f → result ≡ Err f }
         ensures accepted { contact_refusal self.old from to start end ≡ None → IsOkUnless result NoMemory }
+
+        // It has the next number. A refusal changes nothing.
         ensures number { IfOk result (λ n. n ≡ self.old.greatest + 1) }
         ensures ok { OnOk result (self.new ≡ with_contact self.old (next_contact self.old from to start end rate)) }
         ensures err { OnErr result (self.new ≡ self.old) }
@@ -134,13 +139,12 @@ impl<A: Allocator + Copy> GatheredContacts<A> {
         ensures ok { OnOk result (self.new ≡ without_contact self.old from to start) }
         ensures err { OnErr result (self.new ≡ self.old) }
     {
-        let Some(contact) = contact_of_opening(&self.contacts, from, to, start) else {
+        let Some(contact) = Contact::find(&self.contacts, from, to, start) else {
             return Err(AddFault::NothingToDelete);
         };
         let number = contact.number;
         self.openings.forget(from, to, start);
-        self.contacts
-            .retain(|c| !(from == c.from && to == c.to && start == c.start));
+        self.contacts.retain(|c| !c.opens(from, to, start));
         Ok(number)
     }
 

@@ -8,7 +8,7 @@ ghost use Rattle.sabr_model.specs.declared.fault.AddFault.TheVariants.{NothingTo
 ghost use Rattle.sabr_model.specs.plan.Adding.{begins};
 
 use crate::merging::merge;
-use sabr_model::{AddFault, Range, has_range, overlaps_some};
+use sabr_model::{AddFault, Range};
 use std::alloc::{AllocError, Allocator};
 use std::marker::Model;
 use std::mem;
@@ -67,7 +67,7 @@ impl<A: Allocator + Copy> OrderedRanges<A> {
     pub fn overlaps(&self, range: &Range) -> bool
         ensures { result ≡ list_any (overlap range.now) self.now }
     {
-        overlaps_some(&self.ranges, range)
+        range.overlaps_some(&self.ranges)
     }
 
     /// Adds a range that comes after the others.
@@ -108,10 +108,10 @@ impl<A: Allocator + Copy> OrderedRanges<A> {
         ensures ok { OnOk result (self.new ≡ filter (λ r. not (begins one other start r)) self.old) }
         ensures err { OnErr result (self.new ≡ self.old) }
     {
-        if !has_range(&self.ranges, one, other, start) {
+        if !Range::any_begins(&self.ranges, one, other, start) {
             return Err(AddFault::NothingToDelete);
         }
-        self.ranges.retain(|r| !(one == r.one && other == r.other && start == r.start));
+        self.ranges.retain(|r| !r.begins(one, other, start));
         Ok(())
     }
 

@@ -5,7 +5,7 @@ ghost use Rattle.std.specs.List.{list_any};
 ghost use Rattle.sabr_model.specs.plan.Plan.{overlap};
 ghost use Rattle.sabr_gathering.specs.RangeChains.{bucket_of_pair, IsLastOf, TellsLast, AreLinked};
 
-use sabr_model::{Range, overlap};
+use sabr_model::Range;
 use std::alloc::{AllocError, Allocator};
 
 /// The number of buckets.
@@ -73,7 +73,7 @@ pub fn overlaps_in_chain(ranges: &[Range], links: &[RangeLink], last: usize, ran
 {
     let mut at = last;
     while at > 0 {
-        if overlap(range, &ranges[at - 1]) {
+        if range.overlaps(&ranges[at - 1]) {
             return true;
         }
         at = links[at - 1].before;

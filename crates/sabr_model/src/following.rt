@@ -122,6 +122,8 @@ impl<'a, A: Allocator + Copy> Follower<'a, A> {
         requires path { IsTrue (is_path self.now.plan.now.plan self.now.request.now (take first numbers.now)) }
         requires reached { IsReachedBy self.now.plan.now.plan self.now.request.now (take first numbers.now) here }
         requires marks { AreMarked marks.old (receivers self.now.plan.now.plan (take first numbers.now)) }
+
+        // It comes to the end of a path, or tells the first fault.
         ensures path { IfOk result (λ _. IsTrue (is_path self.now.plan.now.plan self.now.request.now numbers.now)) }
         ensures reached { IfOk result (IsReachedBy self.now.plan.now.plan self.now.request.now numbers.now) }
         ensures marks { OnOk result (AreMarked marks.new (receivers self.now.plan.now.plan numbers.now)) }

@@ -25,11 +25,17 @@ fn add_number<A: Allocator + Copy>(
     number: u32,
 ) -> Result<usize, AllocError>
     requires { IsUnique nat_eq table.old }
+
+    // The node has the number, and each node keeps its place.
     ensures ok { OnOk result ((q : ℕ) → list_at table.new q ≡ with_number (list_at table.old q) (q == node) number) }
     ensures index { IfOk result (λ i. slice_get (keys table.new) i ≡ Some node) }
     ensures places { OnOk result (KeepsPlaces (keys table.old) (keys table.new)) }
+
+    // A refusal changes no list and no node.
     ensures err { OnErr result ((q : ℕ) → list_at table.new q ≡ list_at table.old q) }
     ensures err_nodes { OnErr result (keys table.new ≡ keys table.old) }
+
+    // Each node stands once, and at most one place is used up.
     ensures unique { IsUnique nat_eq table.new }
     ensures room { spare table.old ≤ spare table.new + 1 }
 {
@@ -74,11 +80,17 @@ fn add_node<A: Allocator + Copy>(
     node: u64,
 ) -> Result<usize, AllocError>
     requires { IsUnique nat_eq table.old }
+
+    // The node is there, and each node keeps its place.
     ensures ok { OnOk result ((q : ℕ) → list_at table.new q ≡ with_node (list_at table.old q) (q == node)) }
     ensures index { IfOk result (λ i. slice_get (keys table.new) i ≡ Some node) }
     ensures places { OnOk result (KeepsPlaces (keys table.old) (keys table.new)) }
+
+    // A refusal changes no list and no node.
     ensures err { OnErr result ((q : ℕ) → list_at table.new q ≡ list_at table.old q) }
     ensures err_nodes { OnErr result (keys table.new ≡ keys table.old) }
+
+    // Each node stands once. With room to spare it succeeds.
     ensures unique { IsUnique nat_eq table.new }
     ensures succeeds { 0 < spare table.old → IsOk result }
 {
@@ -99,9 +111,13 @@ pub fn note_contact<A: Allocator + Copy>(
     contact: &Contact,
 ) -> Result<Ends, AllocError>
     requires { IsUnique nat_eq table.old }
+
+    // Both nodes are there, and the sender has the number.
     ensures ok { OnOk result ((q : ℕ) → list_at table.new q ≡ with_ends (list_at table.old q) (q == contact.now.from) (q == contact.now.to) contact.now.number) }
     ensures ends { IfOk result (λ e. AreEndsOf (keys table.new) contact.now e) }
     ensures places { OnOk result (KeepsPlaces (keys table.old) (keys table.new)) }
+
+    // A refusal changes no list and no node.
     ensures err { OnErr result ((q : ℕ) → list_at table.new q ≡ list_at table.old q) }
     ensures err_nodes { OnErr result (keys table.new ≡ keys table.old) }
     ensures unique { IsUnique nat_eq table.new }

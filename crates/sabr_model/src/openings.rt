@@ -51,9 +51,7 @@ impl<A: Allocator + Copy> Openings<A> {
             let opening = Opening { from, to, start };
             self.set.contains(&opening)
         } else {
-            contacts
-                .iter()
-                .any(|c| from == c.from && to == c.to && start == c.start)
+            contacts.iter().any(|c| c.opens(from, to, start))
         }
     }
 

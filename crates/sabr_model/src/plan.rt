@@ -21,11 +21,9 @@ use crate::contact::{Contact, Range};
 use crate::node_table::NodeTable;
 use crate::openings::Openings;
 pub use arriving::arrive;
-pub use delete::contact_of_opening;
 pub use ends::Ends;
 use indexmap::IndexMap;
-pub use ranges::{comes_by, has_range, overlap, overlaps_some};
-pub use refusals::refusal;
+pub use ranges::comes_by;
 use std::alloc::{Allocator, Global};
 use std::marker::Model;
 

@@ -1,5 +1,6 @@
 -- The tree of a set of routes is closed and has these as its leaves, and each closed list is the tree of its leaves.
 use Rattle.std.proofs.Common.{◌≡◌, ℕ, Bool, true, List, [], ◌∷◌, ◌++◌, map, flat_map, sym, ap, subst, refl, ◌∙◌, true≢false, ◌⊎◌, inl, inr, Some}
+use Rattle.std.proofs.lemmas.Bool.{or_right}
 use Rattle.std.proofs.lemmas.Cmp.{nat_list_cmp_total, nat_cmp_total}
 use Rattle.std.specs.Ordering.{is_eq, nat_cmp}
 use Rattle.sabr_model.specs.Order.{by_numbers}
@@ -8,7 +9,7 @@ use Rattle.sabr_frontier.specs.listing.Rising.{has, Rises}
 use Rattle.sabr_frontier.specs.listing.Tree.{numbers_after, prefixes, set_of, tree}
 use Rattle.sabr_frontier.specs.listing.State.{Member, leaves_of, leaves}
 use Rattle.sabr_frontier.specs.listing.Formed.{IsClosed}
-use Rattle.sabr_frontier.proofs.ListingLemmas.Rising.{both_ways, same_members, has_itself, has_exact, Rises-put_in, or_right}
+use Rattle.sabr_frontier.proofs.ListingLemmas.Rising.{both_ways, same_members, has_itself, has_exact, Rises-put_in}
 use Rattle.sabr_frontier.proofs.ListingLemmas.Beginnings.{lists_exact, numbers_exact, number_after-snoc, number_after-longer, number_after-of_longer}
 use Rattle.sabr_frontier.proofs.ListingLemmas.Trees.{In, Listed, In-first, In-later, In-cases, In-put_in, put_in-In, numbers_after_has, has_numbers_after, prefixes_has, has_prefixes}
 use Rattle.sabr_frontier.proofs.ListingLemmas.Members.{Member-map, Member-map_cases, Member-filter, Member-filter_cases, Member-flat_map, Member-flat_map_cases}

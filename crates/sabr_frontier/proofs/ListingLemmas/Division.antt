@@ -1,5 +1,7 @@
 -- Taking a route divides its part: one pair grows by a number, and a block of new parts stands at one place.
-use Rattle.std.proofs.Common.{◌≡◌, ℕ, Bool, true, false, cond, ◌&&◌, List, [], ◌∷◌, ◌++◌, map, sym, ap, subst, refl, ◌∙◌, true≢false, ◌⊎◌, inl, inr, Option, Some, None, append_assoc}
+use Rattle.std.proofs.Common.{◌≡◌, ℕ, Bool, true, false, cond, ◌&&◌, List, [], ◌∷◌, ◌++◌, map, sym, ap, subst, refl, ◌∙◌, true≢false, ◌⊎◌, inl, inr, Option, Some, None, append_assoc, append-nil}
+use Rattle.std.proofs.lemmas.Bool.{or_left, cases_Bool}
+use Rattle.std.proofs.lemmas.List.{map-append}
 use Rattle.std.proofs.lemmas.Cmp.{nat_list_cmp_total, nat_cmp_total, tied_itself}
 use Rattle.std.specs.Ordering.{is_eq, nat_cmp, ordering_then}
 use Rattle.std.specs.declared.cmp.Ordering.{Ordering}
@@ -10,7 +12,7 @@ use Rattle.sabr_frontier.specs.listing.Rising.{has, Below, Rises}
 use Rattle.sabr_frontier.specs.listing.Tree.{numbers_after, prefixes, tree, put_number}
 use Rattle.sabr_frontier.specs.listing.State.{PartState, pair_of, Member}
 use Rattle.sabr_frontier.specs.listing.Step.{same_pair, carried_in, carry, fresh}
-use Rattle.sabr_frontier.proofs.ListingLemmas.Rising.{true_or_false, has-put_in, put_again, is_equal, or_left, has_itself, turned}
+use Rattle.sabr_frontier.proofs.ListingLemmas.Rising.{has-put_in, put_again, is_equal, has_itself, turned}
 use Rattle.sabr_frontier.proofs.ListingLemmas.Beginnings.{lists_exact, numbers_exact, number_after-snoc, number_after-compare, number_after-trans, number_after-nil, number_after-same}
 use Rattle.sabr_frontier.proofs.ListingLemmas.Trees.{In, Listed, In-first, In-later, In-cases, numbers_after_has, has_numbers_after, Rises-numbers_after, Rises-prefixes, tree_same}
 use Rattle.sabr_frontier.proofs.ListingLemmas.Members.{Member-map, Member-map_cases, Member-append_left, Member-append_right, Member-append_cases, Below-member, Less-apart, same_by_members}
@@ -80,7 +82,7 @@ same_pair_is e f h = elim (is_eq (by_numbers e.0 f.0)) as (λ b. is_eq (by_numbe
 
 pub carried_absent : (parts : List PartState) (e : List ℕ × List ℕ) (d : Option (List ℕ)) → ((t : PartState) → Member t parts → pair_of t ≡ e → ⊥) → carried_in parts e d ≡ d
 carried_absent [] e d f = refl
-carried_absent (t ∷ ts) e d f = elim (true_or_false (same_pair (pair_of t) e)) [
+carried_absent (t ∷ ts) e d f = elim (cases_Bool (same_pair (pair_of t) e)) [
   | inl h ↦ absurd (f t (inl refl) (same_pair_is (pair_of t) e h))
   | inr h ↦ ap (λ b. cond b t.carried (carried_in ts e d)) h ∙ carried_absent ts e d (λ u m. f u (inr m))
 ]
@@ -88,16 +90,12 @@ carried_absent (t ∷ ts) e d f = elim (true_or_false (same_pair (pair_of t) e))
 pub carried_stands : (parts : List PartState) (t : PartState) (d : Option (List ℕ)) → Rises by_numbers (map (λ (t : PartState). t.prefix) parts) → Member t parts → carried_in parts (pair_of t) d ≡ t.carried
 carried_stands [] t d r m = absurd m
 carried_stands (u ∷ ts) t d r (inl e) = ap (λ b. cond b u.carried (carried_in ts (pair_of t) d)) (ap (λ (z : PartState). same_pair (pair_of u) (pair_of z)) e ∙ same_pair_self (pair_of u)) ∙ ap (λ (z : PartState). z.carried) (sym e)
-carried_stands (u ∷ ts) t d r (inr m) = elim (true_or_false (same_pair (pair_of u) (pair_of t))) [
+carried_stands (u ∷ ts) t d r (inr m) = elim (cases_Bool (same_pair (pair_of u) (pair_of t))) [
   | inl h ↦ absurd (Less-apart nat_list_cmp_total t.prefix (ap (λ (z : List ℕ × List ℕ). by_numbers z.0 t.prefix) (sym (same_pair_is (pair_of u) (pair_of t) h)) ∙ Below-member nat_list_cmp_total u.prefix t.prefix (map (λ (t : PartState). t.prefix) ts) r.0 (Member-map (λ (t : PartState). t.prefix) t ts m)))
   | inr h ↦ ap (λ b. cond b u.carried (carried_in ts (pair_of t) d)) h ∙ carried_stands ts t d r.1 m
 ]
 
 -- ---- the division
-
-pub map-append : {X Y : Type 0} (f : X → Y) (xs ys : List X) → map f (xs ++ ys) ≡ map f xs ++ map f ys
-map-append f [] ys = refl
-map-append f (x ∷ xs) ys = ap (λ t. f x ∷ t) (map-append f xs ys)
 
 -- what a prefix begins is listed with a number that is excluded there
 pub earlier_excludes : (S : List (List ℕ)) (p q : List ℕ) (x : ℕ) → Listed S q → number_after p q ≡ Some x → has nat_cmp x (numbers_after p S) ≡ true
@@ -108,21 +106,13 @@ module _ (route : List ℕ → Bool) (least : List ℕ → List ℕ → Option (
   -- a member of the block is a beginning of r that is q or longer, with its next number alone
   pub fresh_cases : (q ys : List ℕ) (t : PartState) → Member t (fresh route least q ys) → (a : List ℕ) × (y : ℕ) × (b : List ℕ) × (ys ≡ a ++ y ∷ b) × (t ≡ record { prefix = q ++ a; excluded = y ∷ []; carried = least (q ++ a) (y ∷ []) })
   fresh_cases q [] t m = absurd m
-  fresh_cases q (y ∷ ys) t (inl e) = ([], y, ys, refl, e ∙ ap (λ z. record { prefix = z; excluded = y ∷ []; carried = least z (y ∷ []) }) (sym (nil_right q)))
-    where
-      nil_right : (q : List ℕ) → q ++ [] ≡ q
-      nil_right [] = refl
-      nil_right (x ∷ q) = ap (λ t. x ∷ t) (nil_right q)
+  fresh_cases q (y ∷ ys) t (inl e) = ([], y, ys, refl, e ∙ ap (λ z. record { prefix = z; excluded = y ∷ []; carried = least z (y ∷ []) }) (sym (append-nil q)))
   fresh_cases q (y ∷ ys) t (inr m) =
       let w = fresh_cases (q ++ y ∷ []) ys t m in
       (y ∷ w.0, w.1, w.2, ap (λ z. y ∷ z) w.3, w.4 ∙ ap (λ z. record { prefix = z; excluded = w.1 ∷ []; carried = least z (w.1 ∷ []) }) (append_assoc q (y ∷ []) w.0))
 
   pub fresh_has : (q a b : List ℕ) (y : ℕ) → Member (record { prefix = q ++ a; excluded = y ∷ []; carried = least (q ++ a) (y ∷ []) }) (fresh route least q (a ++ y ∷ b))
-  fresh_has q [] b y = inl (ap (λ z. record { prefix = z; excluded = y ∷ []; carried = least z (y ∷ []) }) (nil_right q))
-    where
-      nil_right : (q : List ℕ) → q ++ [] ≡ q
-      nil_right [] = refl
-      nil_right (x ∷ q) = ap (λ t. x ∷ t) (nil_right q)
+  fresh_has q [] b y = inl (ap (λ z. record { prefix = z; excluded = y ∷ []; carried = least z (y ∷ []) }) (append-nil q))
   fresh_has q (z ∷ a) b y = inr (subst (λ w. Member (record { prefix = w; excluded = y ∷ []; carried = least w (y ∷ []) }) (fresh route least (q ++ z ∷ []) (a ++ y ∷ b))) (append_assoc q (z ∷ []) a) (fresh_has (q ++ z ∷ []) a b y))
 
   pub fresh_rises : (q ys : List ℕ) → Rises by_numbers (map (λ (t : PartState). t.prefix) (fresh route least q ys))

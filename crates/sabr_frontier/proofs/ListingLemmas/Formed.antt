@@ -1,5 +1,6 @@
 -- A step from a well-formed state gives a route that is no leaf, and leaves a well-formed state with that leaf added.
 use Rattle.std.proofs.Common.{◌≡◌, ℕ, ◌+◌, Bool, true, false, cond, List, [], ◌∷◌, ◌++◌, map, length, sym, ap, subst, refl, ◌∙◌, true≢false, ◌⊎◌, inl, inr, Option, Some}
+use Rattle.std.proofs.lemmas.Bool.{cases_Bool}
 use Rattle.std.proofs.lemmas.Cmp.{nat_list_cmp_total}
 use Rattle.std.specs.Ordering.{nat_cmp}
 use Rattle.sabr_model.specs.Order.{put_in, by_numbers}
@@ -9,7 +10,7 @@ use Rattle.sabr_frontier.specs.listing.Tree.{prefixes, set_of, tree}
 use Rattle.sabr_frontier.specs.listing.State.{PartState, State, pair_of, Member, leaves}
 use Rattle.sabr_frontier.specs.listing.Formed.{IsClosed, Within, InOrder, IsWellFormed}
 use Rattle.sabr_frontier.specs.listing.Step.{same_pair, carried_in, carry, parts_after, given, full, state_of}
-use Rattle.sabr_frontier.proofs.ListingLemmas.Rising.{true_or_false, both_ways, same_members, length-put_in, Rises-put_in}
+use Rattle.sabr_frontier.proofs.ListingLemmas.Rising.{both_ways, same_members, length-put_in, Rises-put_in}
 use Rattle.sabr_frontier.proofs.ListingLemmas.Beginnings.{lists_exact}
 use Rattle.sabr_frontier.proofs.ListingLemmas.Trees.{In, In-put_in, put_in-In, Rises-numbers_after, Rises-prefixes}
 use Rattle.sabr_frontier.proofs.ListingLemmas.Members.{Member-map_cases}
@@ -27,7 +28,7 @@ tree_in_order S = record {
 -- what carry returns is what was carried before, or the least
 carried_cases : (parts : List PartState) (e : List ℕ × List ℕ) (d : Option (List ℕ)) → (carried_in parts e d ≡ d) ⊎ ((t : PartState) × Member t parts × (pair_of t ≡ e) × (carried_in parts e d ≡ t.carried))
 carried_cases [] e d = inl refl
-carried_cases (t ∷ ts) e d = elim (true_or_false (same_pair (pair_of t) e)) [
+carried_cases (t ∷ ts) e d = elim (cases_Bool (same_pair (pair_of t) e)) [
   | inl h ↦ inr (t, inl refl, same_pair_is (pair_of t) e h, ap (λ b. cond b t.carried (carried_in ts e d)) h)
   | inr h ↦ elim (carried_cases ts e d) [
     | inl k ↦ inl (ap (λ b. cond b t.carried (carried_in ts e d)) h ∙ k)
@@ -77,7 +78,7 @@ module _ (route chain fits : List ℕ → Bool)
 
     -- what is given is no leaf
     pub given_new : has by_numbers r S ≡ false
-    given_new = elim (true_or_false (has by_numbers r S)) [
+    given_new = elim (cases_Bool (has by_numbers r S)) [
       | inl h ↦
           let w = tree_has t.prefix t.excluded S (subst (Member (pair_of t)) pairs_are (into s.parts stands)) in
           absurd (taken_in_none route apart S leaf_route r r_in.0 h t.prefix (subst (λ Z. Within t.prefix Z r) w.1 r_in.1))

@@ -1,5 +1,5 @@
 -- How a list goes on after a prefix, read from its front and the rest.
-use Rattle.std.proofs.Common.{◌≡◌, ℕ, false, not, List, [], ◌∷◌, ◌++◌, length, take, drop, refl, sym, ap, ◌∙◌, Some, None}
+use Rattle.std.proofs.Common.{◌≡◌, ℕ, false, not, List, [], ◌∷◌, ◌++◌, length, take, drop, refl, sym, ap, ◌∙◌, Some, None, append-nil}
 use Rattle.std.specs.Prelude.{slice_get}
 use Rattle.std.specs.Option.{option_map_or}
 use Rattle.std.proofs.lemmas.List.{take-append-drop}
@@ -9,10 +9,6 @@ use Rattle.sabr_frontier.proofs.ListingLemmas.Beginnings.{number_after-snoc, num
 use Rattle.std.proofs.Math.Seq.{take-append_seam}
 use Rattle.sabr_search.proofs.WayLemmas.Prefixes.{number_after_some}
 
-nil_right : (xs : List ℕ) → xs ++ [] ≡ xs
-nil_right [] = refl
-nil_right (x ∷ xs) = ap (λ z. x ∷ z) (nil_right xs)
-
 whole : (p s rest : List ℕ) → take (length p) s ≡ p → rest ≡ drop (length p) s → s ≡ p ++ rest
 whole p s rest e d = sym (take-append-drop (length p) s) ∙ (λ i. e i ++ sym d i)
 
@@ -20,7 +16,7 @@ whole p s rest e d = sym (take-append-drop (length p) s) ∙ (λ i. e i ++ sym d
 pub ends_there : (p X s rest : List ℕ) → take (length p) s ≡ p → rest ≡ drop (length p) s → slice_get rest 0 ≡ None → goes_on p X s ≡ false
 ends_there p X s [] e d n = elim (number_after p s) as (λ o. number_after p s ≡ o → option_map_or (λ n. not (has n X)) o false ≡ false) [
   | None ↦ λ _. refl
-  | Some x ↦ λ h. absurd (number_after-irrefl p x (ap (number_after p) (sym (whole p s [] e d ∙ nil_right p)) ∙ h))
+  | Some x ↦ λ h. absurd (number_after-irrefl p x (ap (number_after p) (sym (whole p s [] e d ∙ append-nil p)) ∙ h))
 ] refl
 ends_there p X s (y ∷ rest) e d n = absurd cc
 

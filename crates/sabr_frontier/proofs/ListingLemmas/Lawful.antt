@@ -1,7 +1,8 @@
 -- The laws of the frontier, from what holds for any notion of route.
 use Rattle.std.proofs.Common.{◌≡◌, ℕ, zero, suc, ◌+◌, ◌<◌, ◌≤◌, Bool, true, false, ltb, List, [], ◌∷◌, ◌++◌, map, take, drop, length, refl, sym, ap, subst, ◌∙◌, ◌⊎◌, inl, inr, arith, Some, None, true≢false}
+use Rattle.sabr_frontier.proofs.TreeLemmas.Orders.{less_from_test}
 use Rattle.std.specs.Prelude.{is_some, slice_get}
-use Rattle.std.proofs.lemmas.Bool.{false_from_ne_true, ltb-true, lt-ltb}
+use Rattle.std.proofs.lemmas.Bool.{false_from_ne_true, ltb-true, lt-ltb, cases_Bool}
 use Rattle.std.specs.Ordering.{is_lt}
 use Rattle.std.specs.declared.cmp.Ordering.{Ordering}
 use Rattle.std.specs.declared.cmp.Ordering.TheVariants.{Less, Equal, Greater}
@@ -20,7 +21,6 @@ use Rattle.sabr_frontier.specs.listing.Formed.{Within}
 use Rattle.sabr_frontier.specs.listing.Step.{step_of, state_of}
 use Rattle.sabr_frontier.specs.listing.Listing.{state_at, leaves_in, next_route, one_step, given_first, steps}
 use Rattle.sabr_frontier.specs.listing.Laws.{PartsDivide, StatesAreTold, StepsFollow}
-use Rattle.sabr_frontier.proofs.ListingLemmas.Rising.{true_or_false}
 use Rattle.sabr_frontier.proofs.ListingLemmas.Trees.{In}
 use Rattle.sabr_frontier.proofs.ListingLemmas.Closed.{In_Member, Member_In, tree_has, has_tree}
 use Rattle.sabr_frontier.proofs.ListingLemmas.Parting.{in_some_part, in_one_part, taken_in_none}
@@ -37,7 +37,7 @@ parts_divide p r S routes_given s is =
     let route : List ℕ → Bool = is_route p r in
     let given : (t : List ℕ) → In t S → route t ≡ true = λ t h. routes_given t (contains_of t S (Member_In t S h)) in
     record {
-      covered = elim (true_or_false (has by_numbers s S)) [
+      covered = elim (cases_Bool (has by_numbers s S)) [
         | inl h ↦ inl (contains_of s S (Member_In s S h))
         | inr h ↦
             let w = in_some_part route (routes_apart p r) S given s is h (λ e. route_filled p r (subst (λ z. route z ≡ true) e is)) in
@@ -56,11 +56,6 @@ parts_divide p r S routes_given s is =
 
 -- ---- what a well-formed state tells
 
-pub less_is : (o : Ordering) → is_lt o ≡ true → o ≡ Less
-less_is Less e = refl
-less_is Equal e = absurd (true≢false (sym e))
-less_is Greater e = absurd (true≢false (sym e))
-
 pub states_are_told : StatesAreTold
 unfolding state_at
 states_are_told p r s formed = record {
@@ -70,7 +65,7 @@ states_are_told p r s formed = record {
       (routes p r) (routes_rise p r good) (routes_sound p r good) (routes_complete p r good)
       (least_in p r) (least_some p r good) (least_none p r good) s formed carries
       (λ l h. first.to_last l (Member_In l (leaves_in p r s) h))
-      (λ l t c h m e. less_is (by_key p r l c) (first.to_carried l t c (Member_In l (leaves_in p r s) h) m e));
+      (λ l t c h m e. less_from_test (by_key p r l c) (first.to_carried l t c (Member_In l (leaves_in p r s) h) m e));
 }
 
 -- ---- how steps follow the list

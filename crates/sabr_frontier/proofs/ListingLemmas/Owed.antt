@@ -1,6 +1,7 @@
 -- Pairs that come in order are closed if and only if each answers the least prefix that is owed, and none is owed at
 -- the end.
-use Rattle.std.proofs.Common.{◌≡◌, ℕ, Bool, true, false, cond, not, List, [], ◌∷◌, ◌++◌, map, filter, sym, ap, subst, refl, ◌∙◌, true≢false, ◌⊎◌, inl, inr, Some, append_assoc}
+use Rattle.std.proofs.Common.{◌≡◌, ℕ, Bool, true, false, cond, not, List, [], ◌∷◌, ◌++◌, map, filter, sym, ap, subst, refl, ◌∙◌, true≢false, ◌⊎◌, inl, inr, Some, append_assoc, append-nil}
+use Rattle.std.proofs.lemmas.Bool.{cases_Bool}
 use Rattle.std.proofs.lemmas.Cmp.{nat_list_cmp_total, nat_cmp_total, tied_itself}
 use Rattle.std.specs.Ordering.{nat_cmp, ordering_then}
 use Rattle.std.specs.declared.cmp.Ordering.TheVariants.{Less, Equal}
@@ -10,7 +11,6 @@ use Rattle.sabr_frontier.specs.listing.Rising.{has, Below, Rises}
 use Rattle.sabr_frontier.specs.listing.State.{Member}
 use Rattle.sabr_frontier.specs.listing.Formed.{IsClosed, InOrder}
 use Rattle.sabr_frontier.specs.listing.Owing.{Owing, onward, IsGood, Owes}
-use Rattle.sabr_frontier.proofs.ListingLemmas.Rising.{true_or_false}
 use Rattle.sabr_frontier.proofs.ListingLemmas.Beginnings.{number_after-of_snoc, number_after-nil}
 use Rattle.sabr_frontier.proofs.ListingLemmas.Members.{Member-map, Member-map_cases, Member-filter, Member-filter_cases, Member-append_left, Member-append_right, Member-append_cases, Below-member, Less-apart}
 use Rattle.sabr_frontier.proofs.ListingLemmas.Closed.{Number_has, has_Number}
@@ -100,7 +100,7 @@ module _ (route chain fits : List ℕ → Bool) (fits_nil : fits [] ≡ true)
                 let sp : p ≡ e.0 = ap (λ (z : List ℕ × List ℕ). z.0) same in
                 let k' : has nat_cmp x e.1 ≡ true = ap (has nat_cmp x) (ap (λ (z : List ℕ × List ℕ). z.1) (sym same)) ∙ k in (
                   subst (λ z. chain (z ++ x ∷ []) ≡ true) (sym sp) (g.chains x k'),
-                  elim (true_or_false (route (p ++ x ∷ []))) [
+                  elim (cases_Bool (route (p ++ x ∷ []))) [
                     | inl r ↦ inl r
                     | inr r ↦ inr (inr (Member-append_left (p ++ x ∷ []) (onward route chain e) rest (onward_has route chain (p ++ x ∷ []) x e (ap (λ z. z ++ x ∷ []) sp) k' r)))
                   ],
@@ -123,11 +123,7 @@ module _ (route chain fits : List ℕ → Bool) (fits_nil : fits [] ≡ true)
       }
 
   goes_on : (D T : Pairs) (os : Owing) → IsPartly D os → Owes route chain os T [] → IsPartly (D ++ T) []
-  goes_on D [] os h w = subst (λ z. IsPartly z []) (sym (nil_right D)) (subst (IsPartly D) w h)
-    where
-      nil_right : (D : Pairs) → D ++ [] ≡ D
-      nil_right [] = refl
-      nil_right (x ∷ D) = ap (λ t. x ∷ t) (nil_right D)
+  goes_on D [] os h w = subst (λ z. IsPartly z []) (sym (append-nil D)) (subst (IsPartly D) w h)
   goes_on D (e ∷ T) os h w = subst (λ z. IsPartly z []) (append_assoc D (e ∷ []) T) (goes_on (D ++ e ∷ []) T (onward route chain e ++ w.0) (one_more D e w.0 (subst (IsPartly D) w.1 h) w.2) w.3)
 
   -- accepted lists are closed

@@ -1,12 +1,12 @@
 -- Every route is one of S or in exactly one part of the tree of S.
 use Rattle.std.proofs.Common.{◌≡◌, ℕ, Bool, true, false, List, [], ◌∷◌, ◌++◌, sym, ap, refl, ◌∙◌, true≢false, inl, inr, Some, append_assoc}
+use Rattle.std.proofs.lemmas.Bool.{cases_Bool}
 use Rattle.std.specs.Ordering.{nat_cmp}
 use Rattle.sabr_model.specs.Order.{by_numbers}
 use Rattle.sabr_model.specs.routes.Parts.{number_after}
 use Rattle.sabr_frontier.specs.listing.Rising.{has}
 use Rattle.sabr_frontier.specs.listing.Tree.{numbers_after}
 use Rattle.sabr_frontier.specs.listing.Formed.{Within}
-use Rattle.sabr_frontier.proofs.ListingLemmas.Rising.{true_or_false}
 use Rattle.sabr_frontier.proofs.ListingLemmas.Beginnings.{number_after-snoc, number_after-trans, number_after-compare, number_after-longer}
 use Rattle.sabr_frontier.proofs.ListingLemmas.Trees.{In, Listed, numbers_after_has, has_numbers_after}
 
@@ -39,7 +39,7 @@ module _ (route : List ℕ → Bool) (apart : (s t : List ℕ) (x : ℕ) → rou
 
     -- down along r from a listed beginning: the first number that isn't excluded ends the walk
     walk : (rest p : List ℕ) (x : ℕ) → r ≡ p ++ x ∷ rest → Listed S p → Placed
-    walk [] p x e l = elim (true_or_false (has nat_cmp x (numbers_after p S))) [
+    walk [] p x e l = elim (cases_Bool (has nat_cmp x (numbers_after p S))) [
       | inl t ↦
           let w = numbers_after_has x p S t in
           elim (number_after-longer p w.0 x w.2) [
@@ -48,7 +48,7 @@ module _ (route : List ℕ → Bool) (apart : (s t : List ℕ) (x : ℕ) → rou
           ]
       | inr f ↦ here [] p x e l f
     ]
-    walk (z ∷ rest) p x e l = elim (true_or_false (has nat_cmp x (numbers_after p S))) [
+    walk (z ∷ rest) p x e l = elim (cases_Bool (has nat_cmp x (numbers_after p S))) [
       | inl t ↦
           let w = numbers_after_has x p S t in
           let e' = e ∙ sym (append_assoc p (x ∷ []) (z ∷ rest)) in

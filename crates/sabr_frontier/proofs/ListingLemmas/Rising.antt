@@ -1,5 +1,6 @@
 -- What holds of lists that rise strictly, as finite sets.
 use Rattle.std.proofs.Common.{◌≡◌, ◌+◌, Bool, true, false, ◌||◌, List, [], ◌∷◌, ◌++◌, length, sym, ap, subst, refl, ◌∙◌, true≢false, ◌⊎◌, inl, inr, arith}
+use Rattle.std.proofs.lemmas.Bool.{or_cases, cases_Bool}
 use Rattle.std.specs.Cmp.{IsTotalOrder}
 use Rattle.std.proofs.lemmas.Cmp.{tied_itself, alike_right}
 use Rattle.std.specs.Ordering.{is_eq, ordering_reverse}
@@ -17,25 +18,10 @@ or_swap true true c = refl
 or_swap true false c = refl
 or_swap false b c = refl
 
-pub or_cases : (a b : Bool) → (a || b) ≡ true → (a ≡ true) ⊎ (b ≡ true)
-or_cases true b e = inl refl
-or_cases false b e = inr e
-
-pub or_right : (a b : Bool) → b ≡ true → (a || b) ≡ true
-or_right true b e = refl
-or_right false b e = e
-
-pub or_left : (a b : Bool) → a ≡ true → (a || b) ≡ true
-or_left a b e = ap (λ c. c || b) e
-
 pub is_equal : (r : Ordering) → is_eq r ≡ true → r ≡ Equal
 is_equal Less e = absurd (true≢false (sym e))
 is_equal Equal e = refl
 is_equal Greater e = absurd (true≢false (sym e))
-
-pub true_or_false : (b : Bool) → (b ≡ true) ⊎ (b ≡ false)
-true_or_false true = inl refl
-true_or_false false = inr refl
 
 -- two tests that imply each other
 pub both_ways : (a b : Bool) → (a ≡ true → b ≡ true) → (b ≡ true → a ≡ true) → a ≡ b
@@ -124,7 +110,7 @@ module _ {K : Type 0} {R : K → K → Ordering} (o : IsTotalOrder R) where
 
   -- a member that is there already changes nothing
   pub put_again : IsExact R → (x : K) (xs : List K) → Rises R xs → has R x xs ≡ true → put_in R x xs ≡ xs
-  put_again exact x xs h e = same_members exact _ _ (Rises-put_in x xs h) h (λ q. has-put_in q x xs ∙ elim (true_or_false (is_eq (R q x))) as (λ _. (is_eq (R q x) || has R q xs) ≡ has R q xs) [
+  put_again exact x xs h e = same_members exact _ _ (Rises-put_in x xs h) h (λ q. has-put_in q x xs ∙ elim (cases_Bool (is_eq (R q x))) as (λ _. (is_eq (R q x) || has R q xs) ≡ has R q xs) [
     | inl t ↦ ap (λ b. b || has R q xs) t ∙ sym (has-tied q x xs (is_equal _ t) ∙ e)
     | inr f ↦ ap (λ b. b || has R q xs) f
   ])

@@ -1,12 +1,13 @@
 -- The members of the sets that make the tree, and that it doesn't depend on an order.
 use Rattle.std.proofs.Common.{◌≡◌, ℕ, true, List, [], ◌∷◌, map, sym, ap, subst, ◌∙◌, true≢false, ◌⊎◌, inl, inr, Option, Some, None}
+use Rattle.std.proofs.lemmas.Bool.{or_cases, or_left, or_right}
 use Rattle.std.proofs.lemmas.Cmp.{nat_list_cmp_total, nat_cmp_total, tied_itself}
 use Rattle.std.specs.Ordering.{is_eq, nat_cmp}
 use Rattle.sabr_model.specs.Order.{put_in, by_numbers}
 use Rattle.sabr_model.specs.routes.Parts.{number_after}
 use Rattle.sabr_frontier.specs.listing.Rising.{has, Rises}
 use Rattle.sabr_frontier.specs.listing.Tree.{proper_beginnings, put_number, numbers_after, put_all, prefixes, tree}
-use Rattle.sabr_frontier.proofs.ListingLemmas.Rising.{both_ways, or_cases, or_right, or_left, is_equal, has-put_in, Rises-put_in, same_members, has_exact, has_itself}
+use Rattle.sabr_frontier.proofs.ListingLemmas.Rising.{both_ways, is_equal, has-put_in, Rises-put_in, same_members, has_exact, has_itself}
 use Rattle.sabr_frontier.proofs.ListingLemmas.Beginnings.{lists_exact, numbers_exact, number_after-step, number_after-same}
 
 -- s is a member of S

@@ -5,10 +5,10 @@ use Rattle.std.specs.Prelude.{◌==◌, slice_get}
 use Rattle.std.specs.Option.{option_map, option_map_or}
 use Rattle.std.specs.Ordering.{nat_cmp, is_lt, is_eq}
 use Rattle.std.specs.declared.cmp.Ordering.TheVariants.{Less}
-use Rattle.std.proofs.lemmas.Bool.{and_parts, false_from_ne_true}
+use Rattle.std.proofs.lemmas.Bool.{and_parts, false_from_ne_true, cases_Bool}
 use Rattle.std.proofs.lemmas.Bool.Decides.{nat_tests}
 use Rattle.std.proofs.lemmas.Cmp.{nat_list_cmp_total, nat_cmp_total}
-use Rattle.std.proofs.lemmas.List.{reverse-append, reverse-reverse, length-reverse, length-map, take-map, take-take, take-append-le}
+use Rattle.std.proofs.lemmas.List.{reverse-append, reverse-reverse, length-reverse, length-map, take-map, take-take, take-append-le, map-append, nil_from_length, take_all}
 use Rattle.std.proofs.lemmas.Option.{slice_get-map}
 use Rattle.std.proofs.lemmas.Grind.{flat_map-append}
 use Rattle.sabr_model.specs.Order.{by_numbers, same_numbers, numbers_before}
@@ -30,10 +30,9 @@ use Rattle.sabr_frontier.specs.loading.Loading.{comes_after, may_carry, rise_str
 use Rattle.sabr_frontier.specs.tree.Shape.{numbers_of}
 use Rattle.sabr_frontier.specs.tree.Undo.{last_item, front}
 use Rattle.sabr_frontier.specs.loading.Holding.{Holding, AreLent, IsAnswered, IsHeld, IsJudged, IsVerdict, held_then, is_due, is_least, is_paid, node_for, nothing_held, owed_in, owing, pairs_in, part_for, parts_in, parts_of}
-use Rattle.sabr_frontier.proofs.ListingLemmas.Rising.{true_or_false, Below-lower}
+use Rattle.sabr_frontier.proofs.ListingLemmas.Rising.{Below-lower}
 use Rattle.sabr_frontier.specs.tree.Queue.{InPairs}
 use Rattle.sabr_frontier.proofs.ListingLemmas.Members.{Member-append_left, Member-append_right, Member-append_cases, Below-member}
-use Rattle.sabr_frontier.proofs.ListingLemmas.Division.{map-append}
 use Rattle.sabr_frontier.proofs.ListingLemmas.Owed.{Owes-push, Owes-front, Owes-one, owes_closed, closed_owes}
 use Rattle.sabr_frontier.proofs.ListingLemmas.Listed.{goes_on_within}
 use Rattle.sabr_frontier.proofs.TreeLemmas.Nodes.{last_split}
@@ -134,10 +133,6 @@ some_part h e some = at h.prefixes h.nodes e some
     at (q ∷ qs) [] l s = absurd (omega (arith, l))
     at (q ∷ qs) (n ∷ ns) l s = (part_for q n, parts_of qs ns, refl)
 
-no_numbers : (q : List ℕ) → length q ≡ 0 → q ≡ []
-no_numbers [] l = refl
-no_numbers (x ∷ q) l = absurd (omega (arith, l))
-
 zero_or_more : (n : ℕ) → (n ≡ 0) ⊎ (0 < n)
 zero_or_more zero = inl refl
 zero_or_more (suc n) = inr (omega arith)
@@ -165,7 +160,7 @@ due_first h q paired first due = elim (zero_or_more (length h.nodes)) [
   | inl e ↦
       let none = no_parts h paired e in
       let d : (length h.nodes == 0 && length q == 0) ≡ true = sym (ap (λ (z : List (List ℕ)). option_map_or (same_numbers q) (last_item z) (length h.nodes == 0 && length q == 0)) (first none)) ∙ due in
-      let empty : q ≡ [] = no_numbers q (test_zero (length q) (and_parts (length h.nodes == 0) (length q == 0) d).1) in
+      let empty : q ≡ [] = nil_from_length q (test_zero (length q) (and_parts (length h.nodes == 0) (length q == 0) d).1) in
       ap (λ z. owing z (owed_in h)) none ∙ (λ i. sym empty i ∷ reverse (front (sym (first none) i)))
   | inr l ↦
       let some = some_part h paired l in
@@ -276,12 +271,8 @@ module _ {A : Type 0} (p : ContactPlan) (r : RouteRequest) (h : Holding A) (q : 
         }
   ] refl
 
-  take_whole : (xs : List ℕ) → take (length xs) xs ≡ xs
-  take_whole [] = refl
-  take_whole (x ∷ xs) = ap (λ z. x ∷ z) (take_whole xs)
-
   step_is : (o : Owed) → o.length ≡ length q → prefix_owed q o ≡ step_of q o
-  step_is o e = ap (λ z. z ++ o.number ∷ []) (ap (λ n. take n q) e ∙ take_whole q)
+  step_is o e = ap (λ z. z ++ o.number ∷ []) (ap (λ n. take n q) e ∙ take_all (length q) q (omega arith))
 
   -- and after them come the steps from it
   owed_more : (steps : List Owed) → AreSteps p r q steps → AreOwed p r q (front h.owed ++ reverse steps)
@@ -368,7 +359,7 @@ module _ (p : ContactPlan) (r : RouteRequest) where
       broken_more : (is_due h q ≡ true → IsGood route path e → ⊥) → (os : Owing) → Owes route path ([] ∷ []) (pairs_in h ++ e ∷ []) os → ⊥
       broken_more none os o =
           let w = Owes-front route path (pairs_in h) ([] ∷ []) os e o in
-          elim (true_or_false h.sound) [
+          elim (cases_Bool h.sound) [
             | inl k ↦
                 let a = held.answered k in
                 none (λ i. k i && first_due h q w.2.0 held.paired a.first (Owes-one route path (pairs_in h) ([] ∷ []) (owing (parts_in h) (owed_in h)) w.0 a.owes w.1 ∙ w.2.1) i) w.2.2
@@ -477,7 +468,7 @@ module _ (p : ContactPlan) (r : RouteRequest) where
       pub unpaid_open : is_paid h ≡ false → IsClosed route path (is_prefix p r) (pairs_in h) → ⊥
       unpaid_open unpaid closed =
           let o = closed_owes route path (is_prefix p r) (empty_is_prefix p r) (prefix_goes_on p r) (prefix_no_route p r) (pairs_in h) held.order closed in
-          elim (true_or_false h.sound) [
+          elim (cases_Bool h.sound) [
             | inr k ↦ held.broken k [] o
             | inl k ↦ elim (zero_or_more (length h.nodes)) [
               | inl none ↦

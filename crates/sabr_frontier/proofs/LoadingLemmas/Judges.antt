@@ -1,10 +1,11 @@
 -- What a prefix leads to with its excluded numbers, one number after another.
 use Rattle.std.proofs.Common.{◌≡◌, ℕ, zero, suc, ◌+◌, ◌<◌, true, false, cond, not, List, [], ◌∷◌, ◌++◌, map, filter, take, get_or, length, refl, sym, ap, subst, ◌∙◌, ◌⊎◌, inl, inr, arith, true≢false, Some, None}
+use Rattle.std.proofs.lemmas.Bool.{or_cases}
 use Rattle.std.specs.Prelude.{IfOk, IfErr, IfSome, IfNone, Ok, Err, Result, Option, unwrap_or, ◌==◌}
 use Rattle.std.proofs.lemmas.Bool.Decides.{nat_tests}
 use Rattle.std.specs.Ordering.{nat_cmp}
 use Rattle.std.proofs.lemmas.Cmp.{nat_cmp_total}
-use Rattle.std.proofs.lemmas.List.{take_more}
+use Rattle.std.proofs.lemmas.List.{take_more, map-append}
 use Rattle.std.proofs.lemmas.List.Elements.{filter-append}
 use Rattle.sabr_model.specs.declared.fault.HopFault.{HopFault}
 use Rattle.sabr_model.specs.declared.fault.HopFault.TheVariants.{WrongEnd}
@@ -24,9 +25,8 @@ use Rattle.sabr_frontier.specs.listing.Rising.{has}
 use Rattle.sabr_frontier.specs.listing.State.{leaves_of}
 use Rattle.sabr_frontier.specs.listing.Owing.{onward}
 use Rattle.sabr_frontier.specs.loading.Holding.{AllGoOn, Holding, IsJudged, IsVerdict, is_due, onward_of, routes_of}
-use Rattle.sabr_frontier.proofs.ListingLemmas.Rising.{has-append, has_itself, or_cases}
+use Rattle.sabr_frontier.proofs.ListingLemmas.Rising.{has-append, has_itself}
 use Rattle.sabr_frontier.proofs.ListingLemmas.Closed.{Number_has, has_Number}
-use Rattle.sabr_frontier.proofs.ListingLemmas.Division.{map-append}
 
 module _ (p : ContactPlan) (r : RouteRequest) where
   -- ---- one list of numbers

@@ -1,11 +1,12 @@
 -- The tree of closed parts is sound, and represents the state that they make.
 use Rattle.std.proofs.Common.{◌≡◌, ℕ, suc, ◌+◌, ◌≤◌, Bool, true, false, cond, not, List, [], ◌∷◌, ◌++◌, map, flat_map, take, length, refl, sym, ap, subst, ◌∙◌, ◌⊎◌, inl, inr, arith, true≢false, Option, Some, None, append_assoc, length-append}
+use Rattle.std.proofs.lemmas.Bool.{cases_Bool}
 use Rattle.std.specs.Prelude.{slice_get}
 use Rattle.std.specs.Option.{option_map}
 use Rattle.std.specs.Ordering.{nat_cmp}
 use Rattle.std.specs.declared.cmp.Ordering.TheVariants.{Less}
 use Rattle.std.proofs.lemmas.Cmp.{nat_list_cmp_total, nat_cmp_total}
-use Rattle.std.proofs.lemmas.List.{length-map, nil_from_length}
+use Rattle.std.proofs.lemmas.List.{length-map, nil_from_length, map-append}
 use Rattle.sabr_model.specs.Order.{by_numbers}
 use Rattle.sabr_model.specs.routes.Parts.{number_after}
 use Rattle.sabr_model.specs.plan.Plan.{ContactPlan}
@@ -26,11 +27,10 @@ use Rattle.sabr_frontier.specs.tree.Queue.{InPairs}
 use Rattle.sabr_frontier.specs.tree.Sound.{AreGiven, IsLent, IsTree}
 use Rattle.sabr_frontier.specs.tree.Taking.{ids_from}
 use Rattle.sabr_frontier.specs.loading.Holding.{Holding, AreLent, IsAnswered, IsGiven, IsHeld, IsLastPlace, IsWrongLast, is_paid, loaded_tree, pairs_in, parts_in, parts_of}
-use Rattle.sabr_frontier.proofs.ListingLemmas.Rising.{length-put_in, true_or_false}
+use Rattle.sabr_frontier.proofs.ListingLemmas.Rising.{length-put_in}
 use Rattle.sabr_frontier.proofs.ListingLemmas.Beginnings.{number_after-snoc, number_after-of_longer}
 use Rattle.sabr_frontier.proofs.ListingLemmas.Closed.{In_Member, Member_In, set_of_has, has_set_of, last_same}
 use Rattle.sabr_frontier.proofs.ListingLemmas.Members.{Member-map, Member-map_cases, Member-filter_cases, Member-flat_map_cases, Below-member, Less-apart}
-use Rattle.sabr_frontier.proofs.ListingLemmas.Division.{map-append}
 use Rattle.sabr_frontier.proofs.ListingLemmas.Leaves.{Pairs}
 use Rattle.sabr_frontier.proofs.TreeLemmas.Nodes.{get_at_end, ids_cases, ids_has}
 use Rattle.sabr_frontier.proofs.LoadingLemmas.Answering.{paid_closed, paid_owes, pairs_two}
@@ -150,7 +150,7 @@ parts_by_ids L front (n ∷ ns) =
 apart_length : (S : List (List ℕ)) → InPairs (λ a b. a ≡ b → ⊥) S → length (set_of S) ≡ length S
 apart_length [] h = refl
 apart_length (s ∷ S) h =
-    let new : has by_numbers s (set_of S) ≡ false = elim (true_or_false (has by_numbers s (set_of S))) [
+    let new : has by_numbers s (set_of S) ≡ false = elim (cases_Bool (has by_numbers s (set_of S))) [
       | inl k ↦ absurd (h.0 s (Member_In s S (set_of_has s S k)) refl)
       | inr k ↦ k
     ] in

@@ -1,5 +1,5 @@
 -- Steps of a tree, one after another, and the trees before them.
-use Rattle.std.proofs.Common.{◌≡◌, ℕ, zero, suc, ◌+◌, ◌-◌, ◌<◌, ◌≤◌, Bool, true, false, not, reverse, ◌⊎◌, inl, inr, List, [], ◌∷◌, ◌++◌, map, length, refl, sym, ap, subst, ◌∙◌, arith, Some, None, append_assoc}
+use Rattle.std.proofs.Common.{◌≡◌, ℕ, zero, suc, ◌+◌, ◌-◌, ◌<◌, ◌≤◌, Bool, true, false, not, reverse, ◌⊎◌, inl, inr, List, [], ◌∷◌, ◌++◌, map, length, refl, sym, ap, subst, ◌∙◌, arith, Some, None, append_assoc, append-nil}
 use Rattle.sabr_model.specs.plan.Plan.{ContactPlan, IsPlan}
 use Rattle.sabr_model.specs.routes.Arrival.{RouteRequest}
 use Rattle.sabr_model.specs.routes.Record.{RouteRecord, record_of}
@@ -107,14 +107,10 @@ pub record IsAllGiven {A : Type 0} (p : ContactPlan) (r : RouteRequest) (s : Sta
 pub at_last : {A : Type 0} (p : ContactPlan) (r : RouteRequest) (s : State) (all : ℕ) (first : Shape A) (before : List RouteRecord) (k : ℕ) (t : Shape A) (given : List RouteRecord)
     → steps p r k (shown t) ≡ ([], shown t) → IsOnTheWay p r s all first before k t given → IsAllGiven p r s all first before t given
 at_last p r s all first before k t given e h = record {
-  routes = nil_right given ∙ ap (λ (z : List (List ℕ) × State). given ++ map (record_of p r) z.0) (sym e) ∙ h.routes;
+  routes = sym (append-nil given) ∙ ap (λ (z : List (List ℕ) × State). given ++ map (record_of p r) z.0) (sym e) ∙ h.routes;
   state = ap (λ (z : List (List ℕ) × State). z.1) (sym e) ∙ h.state;
   entries = (let a = h.entries in let b = ap (λ (z : List (List ℕ) × State). length z.0) e in omega (arith, a, b));
 }
-  where
-    nil_right : (xs : List RouteRecord) → xs ≡ xs ++ []
-    nil_right [] = refl
-    nil_right (x ∷ xs) = ap (λ z. x ∷ z) (nil_right xs)
 
 -- if no part carries a route, the steps end
 pub at_end : {A : Type 0} (p : ContactPlan) (r : RouteRequest) (good : IsPlan p) (s : State) (all : ℕ) (first : Shape A) (before : List RouteRecord) (k : ℕ) (t : Shape A) (given : List RouteRecord)

@@ -5,7 +5,7 @@ use Rattle.std.specs.Option.{option_map}
 use Rattle.std.specs.Ordering.{nat_cmp, is_lt}
 use Rattle.std.specs.declared.cmp.Ordering.TheVariants.{Less, Equal, Greater}
 use Rattle.std.proofs.lemmas.Cmp.{nat_list_cmp_total}
-use Rattle.std.proofs.lemmas.List.{take-append-drop}
+use Rattle.std.proofs.lemmas.List.{take-append-drop, map-append}
 use Rattle.sabr_model.specs.Order.{put_in, by_numbers}
 use Rattle.sabr_model.specs.plan.Plan.{ContactPlan}
 use Rattle.sabr_model.specs.routes.Arrival.{RouteRequest}
@@ -29,7 +29,7 @@ use Rattle.sabr_frontier.proofs.ListingLemmas.Beginnings.{lists_exact, number_af
 use Rattle.sabr_frontier.proofs.ListingLemmas.Members.{Member-map, Member-map_cases, Member-append_left, Member-append_right, Less-apart}
 use Rattle.sabr_frontier.proofs.ListingLemmas.Closed.{tree_has}
 use Rattle.sabr_frontier.proofs.ListingLemmas.Leaves.{closed_tree}
-use Rattle.sabr_frontier.proofs.ListingLemmas.Division.{begins_less, earlier_excludes, divided_set, map-append}
+use Rattle.sabr_frontier.proofs.ListingLemmas.Division.{begins_less, earlier_excludes, divided_set}
 use Rattle.sabr_frontier.proofs.TreeLemmas.Ends.{length-modify}
 use Rattle.sabr_frontier.proofs.TreeLemmas.Partition.{front_passes, back_fails}
 use Rattle.sabr_frontier.proofs.TreeLemmas.Orders.{earlier_prefix, less_from_test}

@@ -1,12 +1,8 @@
 -- The last of a list, and one place of it.
-use Rattle.std.proofs.Common.{◌≡◌, ℕ, ◌-◌, ◌<◌, zero, suc, List, [], ◌∷◌, ◌++◌, length, take, set, get_or, Some, refl, sym, ap, ◌∙◌, arith, length-append}
+use Rattle.std.proofs.Common.{◌≡◌, ℕ, ◌-◌, ◌<◌, zero, suc, List, [], ◌∷◌, ◌++◌, length, take, set, get_or, Some, refl, sym, ap, ◌∙◌, arith, length-append, take_at}
 use Rattle.std.specs.Prelude.{slice_get}
 use Rattle.sabr_frontier.specs.tree.Undo.{modify, last_item, front}
 use Rattle.sabr_search.proofs.BackwardLemmas.LateLists.{get_push_here}
-
-take_push : {X : Type 0} (xs : List X) (x : X) → take (length xs) (xs ++ x ∷ []) ≡ xs
-take_push [] x = refl
-take_push (y ∷ xs) x = ap (λ t. y ∷ t) (take_push xs x)
 
 less_one : {X : Type 0} (xs : List X) (x : X) → length (xs ++ x ∷ []) - 1 ≡ length xs
 less_one xs x = omega (arith, length-append xs (x ∷ []))
@@ -15,7 +11,7 @@ pub last_item_push : {X : Type 0} (ys xs : List X) (x : X) → ys ≡ xs ++ x �
 last_item_push ys xs x e = ap last_item e ∙ (ap (slice_get (xs ++ x ∷ [])) (less_one xs x) ∙ get_push_here xs x)
 
 pub front_push : {X : Type 0} (ys xs : List X) (x : X) → ys ≡ xs ++ x ∷ [] → front ys ≡ xs
-front_push ys xs x e = ap front e ∙ (ap (λ n. take n (xs ++ x ∷ [])) (less_one xs x) ∙ take_push xs x)
+front_push ys xs x e = ap front e ∙ (ap (λ n. take n (xs ++ x ∷ [])) (less_one xs x) ∙ take_at xs (x ∷ []) (length xs) refl)
 
 -- a write of f of what stood there
 pub set-modify : {X : Type 0} (f : X → X) (xs : List X) (i : ℕ) (x : X) → i < length xs → x ≡ get_or xs i x → set xs i (f x) ≡ modify f xs i
@@ -63,9 +59,3 @@ pub modify_same : {X : Type 0} (f h : X → X) (xs : List X) (i : ℕ) (x : X) �
 modify_same f h [] i x e same = refl
 modify_same f h (y ∷ xs) zero x e same = let there : y ≡ x = cc in ap (λ z. z ∷ xs) (ap f there ∙ same ∙ ap h (sym there))
 modify_same f h (y ∷ xs) (suc i) x e same = ap (λ t. y ∷ t) (modify_same f h xs i x e same)
-
--- what is at a place within the list
-pub there : {X : Type 0} (xs : List X) (i : ℕ) → i < length xs → (x : X) × (slice_get xs i ≡ Some x)
-there [] i l = absurd (omega arith)
-there (x ∷ xs) zero l = (x, refl)
-there (x ∷ xs) (suc i) l = there xs i (omega arith)

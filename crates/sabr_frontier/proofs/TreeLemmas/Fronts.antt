@@ -1,5 +1,6 @@
 -- Fronts of a list and the number after them.
-use Rattle.std.proofs.Common.{◌≡◌, ℕ, zero, suc, ◌+◌, ◌<◌, ◌≤◌, List, [], ◌∷◌, ◌++◌, length, take, drop, get_or, refl, sym, ap, ◌∙◌, arith, Option, Some, append_assoc}
+use Rattle.std.proofs.Common.{◌≡◌, ℕ, zero, suc, ◌+◌, ◌<◌, ◌≤◌, List, [], ◌∷◌, ◌++◌, length, take, drop, get_or, refl, sym, ap, ◌∙◌, arith, Option, Some, append_assoc, append-nil, drop-cons, length-take-le, take-suc}
+use Rattle.std.proofs.lemmas.List.{drop_all}
 use Rattle.sabr_model.specs.routes.Parts.{number_after}
 use Rattle.sabr_model.specs.routes.Record.{RouteRecord}
 use Rattle.sabr_frontier.specs.declared.tree.Node.{Node}
@@ -11,37 +12,12 @@ number_after-take [] n l = absurd (omega arith)
 number_after-take (x ∷ s) zero l = refl
 number_after-take (x ∷ s) (suc n) l = number_after-same x (get_or s n 0) (take n s) s (number_after-take s n (omega arith))
 
-pub take-push : (s : List ℕ) (n : ℕ) → n < length s → take n s ++ get_or s n 0 ∷ [] ≡ take (suc n) s
-take-push [] n l = absurd (omega arith)
-take-push (x ∷ s) zero l = refl
-take-push (x ∷ s) (suc n) l = ap (λ t. x ∷ t) (take-push s n (omega arith))
-
-pub drop-next : (s : List ℕ) (n : ℕ) → n < length s → drop n s ≡ get_or s n 0 ∷ drop (suc n) s
-drop-next [] n l = absurd (omega arith)
-drop-next (x ∷ s) zero l = refl
-drop-next (x ∷ s) (suc n) l = drop-next s n (omega arith)
-
-pub length-front : (s : List ℕ) (n : ℕ) → n ≤ length s → length (take n s) ≡ n
-length-front s zero l = refl
-length-front [] (suc n) l = absurd (omega arith)
-length-front (x ∷ s) (suc n) l = ap suc (length-front s n (omega arith))
-
 -- the nodes from n numbers on are the one for n numbers and those from one number more on
 pub fresh_next : {A : Type 0} (best : List ℕ → List ℕ → Option RouteRecord) (leaf : ℕ) (s : List ℕ) (n : ℕ) → n < length s
     → fresh_nodes {A = A} best leaf (take n s) (drop n s) ≡ record { leaf = leaf; length = n; excluded = get_or s n 0 ∷ []; route = best (take n s) (get_or s n 0 ∷ []) } ∷ fresh_nodes best leaf (take (suc n) s) (drop (suc n) s)
 fresh_next best leaf s n l =
-    ap (fresh_nodes best leaf (take n s)) (drop-next s n l)
-    ∙ (λ i. record { leaf = leaf; length = length-front s n (omega arith) i; excluded = get_or s n 0 ∷ []; route = best (take n s) (get_or s n 0 ∷ []) } ∷ fresh_nodes best leaf (take-push s n l i) (drop (suc n) s))
-
-pub nil_right : {X : Type 0} (xs : List X) → xs ++ [] ≡ xs
-nil_right [] = refl
-nil_right (x ∷ xs) = ap (λ t. x ∷ t) (nil_right xs)
-
-pub drop-all : {X : Type 0} (xs : List X) (n : ℕ) → length xs ≤ n → drop n xs ≡ []
-drop-all [] zero l = refl
-drop-all [] (suc n) l = refl
-drop-all (x ∷ xs) zero l = absurd (omega arith)
-drop-all (x ∷ xs) (suc n) l = drop-all xs n (omega arith)
+    ap (fresh_nodes best leaf (take n s)) (drop-cons s n 0 l)
+    ∙ (λ i. record { leaf = leaf; length = length-take-le n s (omega arith) i; excluded = get_or s n 0 ∷ []; route = best (take n s) (get_or s n 0 ∷ []) } ∷ fresh_nodes best leaf (sym (take-suc s n 0 l) i) (drop (suc n) s))
 
 -- one node more, and those that are left
 pub fresh_push : {A : Type 0} (best : List ℕ → List ℕ → Option RouteRecord) (leaf : ℕ) (s : List ℕ) (n : ℕ) (items new all : List (Node A)) (node : Node A) → n < length s
@@ -58,4 +34,4 @@ fresh_push {A} best leaf s n items new all node l whole pushed is =
 -- nothing is left at the end
 pub fresh_all : {A : Type 0} (best : List ℕ → List ℕ → Option RouteRecord) (leaf : ℕ) (s : List ℕ) (n : ℕ) (items all : List (Node A)) → length s ≤ n
     → items ++ fresh_nodes best leaf (take n s) (drop n s) ≡ all → items ≡ all
-fresh_all best leaf s n items all l whole = sym (nil_right items) ∙ ap (λ z. items ++ fresh_nodes best leaf (take n s) z) (sym (drop-all s n l)) ∙ whole
+fresh_all best leaf s n items all l whole = sym (append-nil items) ∙ ap (λ z. items ++ fresh_nodes best leaf (take n s) z) (sym (drop_all n s l)) ∙ whole

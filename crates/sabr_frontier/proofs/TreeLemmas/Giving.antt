@@ -1,5 +1,6 @@
 -- What giving the least route that a node of a sound tree carries is.
 use Rattle.std.proofs.Common.{◌≡◌, ℕ, suc, ◌+◌, ◌-◌, ◌<◌, ◌≤◌, List, [], ◌∷◌, ◌++◌, length, take, drop, refl, sym, ap, subst, ◌∙◌, arith, Option, Some, None, length-drop, length-append}
+use Rattle.std.proofs.lemmas.List.{length_push}
 use Rattle.std.specs.Prelude.{slice_get}
 use Rattle.std.specs.Option.{option_map, option_and_then}
 use Rattle.sabr_model.specs.plan.Plan.{ContactPlan, IsPlan}
@@ -33,9 +34,6 @@ length_fresh A best leaf q (y ∷ rest) = ap suc (length_fresh A best leaf (q ++
 
 pub new_nodes : (A : Type 0) (best : List ℕ → List ℕ → Option RouteRecord) (leaf : ℕ) (s : List ℕ) (d : ℕ) → d < length s → length (fresh_nodes {A = A} best leaf (take (d + 1) s) (drop (d + 1) s)) + 1 ≡ length s - d
 new_nodes A best leaf s d l = omega (arith, length_fresh A best leaf (take (d + 1) s) (drop (d + 1) s), length-drop (d + 1) s)
-
-pub length_push : {X : Type 0} (xs : List X) (x : X) → length (xs ++ x ∷ []) ≡ length xs + 1
-length_push xs x = length-append xs (x ∷ [])
 
 -- a step from one tree to another is the step of the state, and can be undone
 pub record IsGiven {A : Type 0} (p : ContactPlan) (r : RouteRequest) (t u : Shape A) : Type 0 where

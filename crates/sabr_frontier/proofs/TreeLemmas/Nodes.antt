@@ -1,5 +1,7 @@
 -- What stands at a place of a list of nodes, and what is changed there.
 use Rattle.std.proofs.Common.{◌≡◌, ℕ, zero, suc, ◌+◌, ◌-◌, ◌<◌, ◌≤◌, List, [], ◌∷◌, ◌++◌, length, take, drop, refl, sym, ap, subst, ◌⊎◌, inl, inr, arith, Some, None}
+use Rattle.std.proofs.lemmas.Bool.{cases_eq}
+use Rattle.std.proofs.lemmas.Option.{slice_get_within}
 use Rattle.std.specs.Prelude.{slice_get}
 use Rattle.std.proofs.lemmas.List.{take-append-drop}
 use Rattle.sabr_frontier.specs.declared.tree.NodeId.{NodeId}
@@ -10,11 +12,6 @@ use Rattle.sabr_frontier.specs.tree.Taking.{ids_from}
 use Rattle.sabr_frontier.proofs.ListingLemmas.Members.{Member-append_left, Member-append_right, Member-append_cases}
 
 module _ {X : Type 0} where
-  pub get_within : (xs : List X) (i : ℕ) (x : X) → slice_get xs i ≡ Some x → i < length xs
-  get_within [] i x e = absurd cc
-  get_within (y ∷ xs) zero x e = omega arith
-  get_within (y ∷ xs) (suc i) x e = omega (arith, get_within xs i x e)
-
   pub within_get : (xs : List X) (i : ℕ) → i < length xs → (x : X) × (slice_get xs i ≡ Some x)
   within_get [] i l = absurd (omega arith)
   within_get (y ∷ xs) zero l = (y, refl)
@@ -93,13 +90,10 @@ ids_cases id f (suc n) (inr m) = let w = ids_cases id (suc f) n m in let a = w.0
 
 pub ids_has : (id : NodeId) (f n : ℕ) → f ≤ id.0 → id.0 < f + n → Member id (ids_from f n)
 ids_has id f zero l h = absurd (omega arith)
-ids_has id f (suc n) l h = elim (first id.0 f) [
+ids_has id f (suc n) l h = elim (cases_eq id.0 f) [
   | inl e ↦ inl (same_node id (record { 0 = f }) e)
   | inr ne ↦ inr (ids_has id (suc f) n (omega arith) (omega arith))
 ]
-  where
-    first : (a b : ℕ) → (a ≡ b) ⊎ (a ≡ b → ⊥)
-    first a b = Rattle.std.proofs.lemmas.Bool.cases_eq a b
 
 -- ---- the last of a list
 
@@ -110,7 +104,7 @@ get_last (y ∷ w ∷ ys) zero z e l = absurd (omega arith)
 get_last (y ∷ xs) (suc i) z e l = ap (λ w. y ∷ w) (get_last xs i z e (omega arith))
 
 pub last_split : {X : Type 0} (xs : List X) (z : X) → last_item xs ≡ Some z → xs ≡ front xs ++ z ∷ []
-last_split xs z e = get_last xs (length xs - 1) z e (omega (arith, get_within xs (length xs - 1) z e))
+last_split xs z e = get_last xs (length xs - 1) z e (omega (arith, slice_get_within xs (length xs - 1) z e))
 
 pub some_last : {X : Type 0} (xs : List X) → 0 < length xs → (z : X) × (last_item xs ≡ Some z)
 some_last xs l = within_get xs (length xs - 1) (omega arith)

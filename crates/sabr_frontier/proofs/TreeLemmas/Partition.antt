@@ -6,13 +6,12 @@ use Rattle.std.specs.Ordering.{nat_cmp, is_eq}
 use Rattle.std.specs.declared.cmp.Ordering.{Ordering}
 use Rattle.std.specs.declared.cmp.Ordering.TheVariants.{Less, Equal, Greater}
 use Rattle.std.proofs.lemmas.Bool.Decides.{nat_tests}
-use Rattle.std.proofs.lemmas.Bool.{or_parts}
+use Rattle.std.proofs.lemmas.Bool.{or_parts, cases_Bool}
 use Rattle.sabr_model.specs.Order.{put_in}
 use Rattle.sabr_frontier.specs.listing.Rising.{has, Below, Rises}
 use Rattle.sabr_frontier.specs.listing.State.{Member}
 use Rattle.sabr_frontier.specs.tree.Taking.{passing, put_past}
 use Rattle.sabr_frontier.specs.tree.Queue.{InPairs}
-use Rattle.sabr_frontier.proofs.ListingLemmas.Rising.{true_or_false}
 
 module _ {X : Type 0} (test : X → Bool) where
   -- the answer of a search for the place
@@ -59,7 +58,7 @@ module _ {X : Type 0} (test : X → Bool) where
       | true ↦ λ t m. back_fails e xs h.1 m
       | false ↦ λ t m. elim m [
         | inl k ↦ ap test k ∙ t
-        | inr n ↦ elim (true_or_false (test e)) [ inl y ↦ absurd (true≢false (sym (falls x e (h.0 e n) y) ∙ t)) | inr y ↦ y ]
+        | inr n ↦ elim (cases_Bool (test e)) [ inl y ↦ absurd (true≢false (sym (falls x e (h.0 e n) y) ∙ t)) | inr y ↦ y ]
       ]
     ] refl m
 

@@ -1,5 +1,6 @@
 -- What holds of a node of a sound tree that carries a route, before that is given.
 use Rattle.std.proofs.Common.{◌≡◌, ℕ, ◌-◌, ◌<◌, true, false, List, [], ◌∷◌, ◌++◌, map, length, refl, sym, ap, subst, ◌∙◌, arith, true≢false, Option, Some, None}
+use Rattle.std.proofs.lemmas.Option.{slice_get_within}
 use Rattle.std.specs.Prelude.{slice_get}
 use Rattle.std.specs.Option.{option_map, option_and_then}
 use Rattle.std.specs.List.{find}
@@ -40,7 +41,7 @@ use Rattle.sabr_frontier.proofs.ListingLemmas.NextPlace.{least_carried_is}
 use Rattle.sabr_frontier.proofs.ListingLemmas.Listed.{by_key_exact}
 use Rattle.sabr_frontier.proofs.TreeLemmas.Ends.{length-modify}
 use Rattle.sabr_frontier.proofs.TreeLemmas.Partition.{pairs_from_rises}
-use Rattle.sabr_frontier.proofs.TreeLemmas.Nodes.{get_within, get_Member, get_front, get_other}
+use Rattle.sabr_frontier.proofs.TreeLemmas.Nodes.{get_Member, get_front, get_other}
 use Rattle.sabr_frontier.proofs.TreeLemmas.Winning.{standing_at}
 use Rattle.sabr_frontier.proofs.TreeLemmas.Splits.{IsCut, cut_at, prefix_length}
 use Rattle.sabr_search.proofs.WayLemmas.Prefixes.{number_after_some}
@@ -72,7 +73,7 @@ module _ {A : Type 0} (p : ContactPlan) (r : RouteRequest) (t : Shape A) (is : I
 
   module _ (node : NodeId) (n : Node A) (x : RouteRecord) (stands : slice_get t.nodes node.0 ≡ Some n) (carries : n.route ≡ Some x) where
     pub node_within : node.0 < length t.nodes
-    node_within = get_within t.nodes node.0 n stands
+    node_within = slice_get_within t.nodes node.0 n stands
 
     abbrev pub parts : List PartState
     parts = map (part_at t.leaves t.nodes) t.index

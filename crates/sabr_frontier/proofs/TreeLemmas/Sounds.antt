@@ -1,5 +1,5 @@
 -- A sound tree stays sound where a node's route is given, and the undo of that gives the tree back.
-use Rattle.std.proofs.Common.{◌≡◌, ℕ, ◌+◌, ◌<◌, true, nat_lt, List, [], ◌∷◌, ◌++◌, length, take, drop, refl, sym, ap, subst, ◌∙◌, ◌⊎◌, inl, inr, arith, Option, Some, None, append_assoc, length-append, slice_index}
+use Rattle.std.proofs.Common.{◌≡◌, ℕ, ◌+◌, ◌<◌, true, nat_lt, List, [], ◌∷◌, ◌++◌, length, take, drop, refl, sym, ap, subst, ◌∙◌, ◌⊎◌, inl, inr, arith, Option, Some, None, append_assoc, length-append, slice_index, take_at}
 use Rattle.std.specs.Prelude.{slice_get, slice_index_or}
 use Rattle.std.specs.Option.{option_map}
 use Rattle.std.proofs.lemmas.Bool.{cases_lt}
@@ -30,7 +30,7 @@ use Rattle.sabr_frontier.proofs.LoadingLemmas.Forget.{forget-put_in}
 use Rattle.sabr_frontier.proofs.ListingLemmas.Paths.{route_filled, routes_apart, route_chains, route_fits}
 use Rattle.sabr_frontier.proofs.ListingLemmas.Listed.{least_some}
 use Rattle.sabr_frontier.proofs.TreeLemmas.Ends.{length-modify, last_item_push}
-use Rattle.sabr_frontier.proofs.TreeLemmas.Takes.{passes_from, take_front, undone-after}
+use Rattle.sabr_frontier.proofs.TreeLemmas.Takes.{passes_from, undone-after}
 use Rattle.sabr_frontier.proofs.TreeLemmas.Nodes.{get_Member, get_at_end, get_same, modify_cases, member_cut, member_taken, member_dropped, ids_cases, ids_has}
 use Rattle.sabr_frontier.proofs.TreeLemmas.Splits.{lent_stable}
 use Rattle.sabr_frontier.proofs.TreeLemmas.Refined.{node_within, here, here_in, cut, can_exclude, record_is}
@@ -184,7 +184,7 @@ module _ {A : Type 0} (p : ContactPlan) (r : RouteRequest) (good : IsPlan p) (t 
     route_is = last_item_push D.leaves t.leaves x refl;
     in_range = within_node;
     counted = omega (arith, count);
-    longer = λ k. subst (λ (z : Node A). z.length < length s) (sym (ap (λ z. slice_index_or z node.0 k) (take_front (modify (widened wide found) t.nodes node.0) new N (sym (length-modify (widened wide found) t.nodes node.0)))
+    longer = λ k. subst (λ (z : Node A). z.length < length s) (sym (ap (λ z. slice_index_or z node.0 k) (take_at (modify (widened wide found) t.nodes node.0) new N (length-modify (widened wide found) t.nodes node.0))
         ∙ get_or_from_slice_get (modify (widened wide found) t.nodes node.0) node.0 (widened wide found n) k (get_same (widened wide found) t.nodes node.0 n stands))) (cut p r t is node n x stands carries).2.inside;
     indexed = subst IsIndexed (sym undone_divided) (tree_indexed p r t is);
   }

@@ -1,12 +1,12 @@
 -- A route cut after a prefix.
-use Rattle.std.proofs.Common.{◌≡◌, ℕ, suc, ◌+◌, ◌<◌, List, [], ◌∷◌, ◌++◌, length, take, drop, get_or, refl, sym, ap, ◌∙◌, inl, inr, arith, Option, Some, None, length-append}
+use Rattle.std.proofs.Common.{◌≡◌, ℕ, suc, ◌+◌, ◌<◌, List, [], ◌∷◌, ◌++◌, length, take, drop, get_or, refl, sym, ap, ◌∙◌, inl, inr, arith, Option, Some, None, length-append, length-take-le}
+use Rattle.std.proofs.lemmas.Option.{slice_get_within}
 use Rattle.std.specs.Prelude.{slice_get}
 use Rattle.sabr_model.specs.routes.Record.{RouteRecord}
 use Rattle.sabr_frontier.specs.declared.tree.Node.{Node}
 use Rattle.sabr_frontier.specs.tree.Shape.{front_of, prefix_of}
 use Rattle.sabr_frontier.specs.tree.Sound.{IsLent}
-use Rattle.sabr_frontier.proofs.TreeLemmas.Fronts.{length-front}
-use Rattle.sabr_frontier.proofs.TreeLemmas.Nodes.{get_front, get_within}
+use Rattle.sabr_frontier.proofs.TreeLemmas.Nodes.{get_front}
 
 -- what a list is around the number after its front
 pub record IsCut (s q : List ℕ) (y : ℕ) (rest : List ℕ) (d : ℕ) : Type 0 where
@@ -39,7 +39,7 @@ prefix_length leaves n (inl e) = elim (slice_get leaves n.leaf) as (λ o. length
   | None ↦ sym e
   | Some x ↦ ap (λ m. length (take m x.contacts)) e ∙ sym e
 ]
-prefix_length leaves n (inr w) = ap (λ o. length (front_of o n.length)) w.1 ∙ length-front w.0.contacts n.length w.2
+prefix_length leaves n (inr w) = ap (λ o. length (front_of o n.length)) w.1 ∙ length-take-le n.length w.0.contacts w.2
 
 pub prefix_stable : {A : Type 0} (leaves more : List RouteRecord) (n : Node A) → IsLent leaves n → prefix_of (leaves ++ more) n ≡ prefix_of leaves n
 prefix_stable leaves more n (inl e) = none (slice_get (leaves ++ more) n.leaf) ∙ sym (none (slice_get leaves n.leaf))
@@ -47,8 +47,8 @@ prefix_stable leaves more n (inl e) = none (slice_get (leaves ++ more) n.leaf) �
     none : (o : Option RouteRecord) → front_of o n.length ≡ []
     none None = refl
     none (Some x) = ap (λ m. take m x.contacts) e
-prefix_stable leaves more n (inr w) = ap (λ o. front_of o n.length) (get_front leaves more n.leaf (get_within leaves n.leaf w.0 w.1))
+prefix_stable leaves more n (inr w) = ap (λ o. front_of o n.length) (get_front leaves more n.leaf (slice_get_within leaves n.leaf w.0 w.1))
 
 pub lent_stable : {A : Type 0} (leaves more : List RouteRecord) (n : Node A) → IsLent leaves n → IsLent (leaves ++ more) n
 lent_stable leaves more n (inl e) = inl e
-lent_stable leaves more n (inr w) = inr (w.0, get_front leaves more n.leaf (get_within leaves n.leaf w.0 w.1) ∙ w.1, w.2)
+lent_stable leaves more n (inr w) = inr (w.0, get_front leaves more n.leaf (slice_get_within leaves n.leaf w.0 w.1) ∙ w.1, w.2)

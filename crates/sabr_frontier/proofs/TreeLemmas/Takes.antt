@@ -1,5 +1,5 @@
 -- Taking a route and undoing it give back the tree, on the nose.
-use Rattle.std.proofs.Common.{◌≡◌, ℕ, ◌≤◌, zero, suc, Bool, true, false, inl, inr, cond, nat_lt, List, [], ◌∷◌, ◌++◌, length, filter, take, drop, Option, Some, refl, sym, ap, ◌∙◌, arith, slice_index, take-append-drop}
+use Rattle.std.proofs.Common.{◌≡◌, ℕ, ◌≤◌, zero, suc, Bool, true, false, inl, inr, cond, nat_lt, List, [], ◌∷◌, ◌++◌, length, filter, take, drop, Option, Some, refl, sym, ap, ◌∙◌, arith, slice_index, take-append-drop, append-nil, take_at}
 use Rattle.std.specs.Prelude.{slice_get}
 use Rattle.std.proofs.lemmas.Bool.Decides.{nat_tests}
 use Rattle.std.proofs.lemmas.List.Elements.{filter-append}
@@ -30,12 +30,6 @@ not_below : (f n c : ℕ) → c ≤ f → filter (λ (id : NodeId). nat_lt id.0 
 not_below f zero c l = refl
 not_below f (suc n) c l = let no : nat_lt f c ≡ false = grind (arith, nat_tests) in ap (λ b. cond b (record { 0 = f } ∷ filter (λ (id : NodeId). nat_lt id.0 c) (ids_from (suc f) n)) (filter (λ (id : NodeId). nat_lt id.0 c) (ids_from (suc f) n))) no ∙ not_below (suc f) n c (omega arith)
 
-pub take_front : {X : Type 0} (xs ys : List X) (n : ℕ) → n ≡ length xs → take n (xs ++ ys) ≡ xs
-take_front [] ys zero e = refl
-take_front [] ys (suc n) e = absurd (omega arith)
-take_front (x ∷ xs) ys zero e = absurd (omega arith)
-take_front (x ∷ xs) ys (suc n) e = ap (λ t. x ∷ t) (take_front xs ys n (omega arith))
-
 module _ {A : Type 0} (t : Shape A) (node : NodeId) (part : Node A) (r : RouteRecord) (wide : List ℕ) (found : Option RouteRecord) (fresh : List (Node A)) (place : ℕ)
     (stands : slice_get t.nodes node.0 ≡ Some part)
     (carries : part.route ≡ Some r)
@@ -58,7 +52,7 @@ module _ {A : Type 0} (t : Shape A) (node : NodeId) (part : Node A) (r : RouteRe
   }
 
   nodes_back : modify (given_back r) (take (length t.nodes) (modify widened t.nodes node.0 ++ fresh)) node.0 ≡ t.nodes
-  nodes_back = ap (λ z. modify (given_back r) z node.0) (take_front (modify widened t.nodes node.0) fresh (length t.nodes) (sym (length-modify widened t.nodes node.0)))
+  nodes_back = ap (λ z. modify (given_back r) z node.0) (take_at (modify widened t.nodes node.0) fresh (length t.nodes) (length-modify widened t.nodes node.0))
       ∙ modify_twice widened (given_back r) t.nodes node.0
       ∙ modify_back (λ n. given_back r (widened n)) t.nodes node.0 part stands (λ i. record { leaf = part.leaf; length = part.length; excluded = forgets i; route = sym carries i })
 
@@ -67,12 +61,8 @@ module _ {A : Type 0} (t : Shape A) (node : NodeId) (part : Node A) (r : RouteRe
       let p : NodeId → Bool = λ id. nat_lt id.0 (length t.nodes) in
       let block : List NodeId = ids_from (length t.nodes) (length fresh) in
       filter-append p (take place t.index ++ block) (drop place t.index)
-      ∙ ap (λ z. z ++ filter p (drop place t.index)) (filter-append p (take place t.index) block ∙ ap (λ z. filter p (take place t.index) ++ z) (not_below (length t.nodes) (length fresh) (length t.nodes) (omega arith)) ∙ nil_right (filter p (take place t.index)))
+      ∙ ap (λ z. z ++ filter p (drop place t.index)) (filter-append p (take place t.index) block ∙ ap (λ z. filter p (take place t.index) ++ z) (not_below (length t.nodes) (length fresh) (length t.nodes) (omega arith)) ∙ append-nil (filter p (take place t.index)))
       ∙ sym (filter-append p (take place t.index) (drop place t.index)) ∙ ap (filter p) (take-append-drop place t.index) ∙ filter_all p t.index known
-    where
-      nil_right : (xs : List NodeId) → xs ++ [] ≡ xs
-      nil_right [] = refl
-      nil_right (x ∷ xs) = ap (λ z. x ∷ z) (nil_right xs)
 
   pub undone-after : undone after ≡ t
   undone-after =

@@ -1,5 +1,6 @@
 -- What the winners of slots are.
 use Rattle.std.proofs.Common.{◌≡◌, ◌≢◌, ℕ, zero, suc, ◌+◌, ◌-◌, ◌*◌, ◌/◌, ◌<◌, ◌≤◌, true, false, ◌⊎◌, inl, inr, List, [], ◌∷◌, ◌++◌, length, set, Option, Some, None, refl, sym, ap, subst, ◌∙◌, arith, true≢false, length-append, length-set}
+use Rattle.std.proofs.lemmas.Option.{slice_get_within}
 use Rattle.std.specs.Prelude.{slice_get}
 use Rattle.std.specs.Option.{option_and_then}
 use Rattle.std.specs.Ordering.{is_lt}
@@ -14,7 +15,6 @@ use Rattle.sabr_frontier.specs.tree.Shape.{route_at}
 use Rattle.sabr_frontier.specs.tree.Winners.{route_of, winner_at, is_lesser, IsUpTo, IsNoGreater, IsLeast, IsFirst, CarriesNone, IsLesser, IsWinner, IsWon, AreWinners, low, high, IsAbove, AreOthersWinners, IsSettled, IsRising, IsBeside}
 use Rattle.sabr_frontier.proofs.ListingLemmas.Rising.{turned}
 use Rattle.sabr_frontier.proofs.TreeLemmas.Orders.{less_from_test}
-use Rattle.sabr_frontier.proofs.TreeLemmas.Nodes.{get_within}
 
 -- ---- what a node carries
 
@@ -212,7 +212,7 @@ module _ {A : Type 0} (nodes : List (Node A)) where
     -- a node carries the least route where some node carries one
     module _ (all : length nodes ≤ length ids) where
       least_of : (o : Option RouteRecord) → ((id : NodeId) → id.0 < length nodes → IsNoGreater o (route_at nodes id)) → (x : RouteRecord) → o ≡ Some x → IsLeast nodes x
-      least_of o below x e id y f = subst (λ o. IsUpTo o y) e (subst (IsNoGreater o) f (below id (let w = standing_at nodes id y f in get_within nodes id.0 w.0 w.1)))
+      least_of o below x e id y f = subst (λ o. IsUpTo o y) e (subst (IsNoGreater o) f (below id (let w = standing_at nodes id y f in slice_get_within nodes id.0 w.0 w.1)))
 
       below_first : (id : NodeId) → id.0 < length nodes → IsNoGreater (route_at nodes (winner_at ids 0)) (route_at nodes id)
       below_first id l = least_is id.0 (omega (arith, l, all))
@@ -223,13 +223,13 @@ module _ {A : Type 0} (nodes : List (Node A)) where
       pub none_carries : route_at nodes (winner_at ids 0) ≡ None → CarriesNone nodes
       none_carries e id = elim (route_at nodes id) as (λ o. route_at nodes id ≡ o → o ≡ None) [
         | None ↦ λ _. refl
-        | Some y ↦ λ f. absurd (subst (λ o. IsUpTo o y) e (subst (IsNoGreater (route_at nodes (winner_at ids 0))) f (below_first id (let w = standing_at nodes id y f in get_within nodes id.0 w.0 w.1))))
+        | Some y ↦ λ f. absurd (subst (λ o. IsUpTo o y) e (subst (IsNoGreater (route_at nodes (winner_at ids 0))) f (below_first id (let w = standing_at nodes id y f in slice_get_within nodes id.0 w.0 w.1))))
       ] refl
 
     pub nothing_there : length nodes ≡ 0 → CarriesNone nodes
     nothing_there none id = elim (route_at nodes id) as (λ o. route_at nodes id ≡ o → o ≡ None) [
       | None ↦ λ _. refl
-      | Some y ↦ λ f. (let w = standing_at nodes id y f in absurd (omega (arith, none, get_within nodes id.0 w.0 w.1)))
+      | Some y ↦ λ f. (let w = standing_at nodes id y f in absurd (omega (arith, none, slice_get_within nodes id.0 w.0 w.1)))
     ] refl
 
     -- a winner's slot is over its own

@@ -46,8 +46,12 @@ fn fresh_node<B: BestOf<A>, A: Allocator + Copy>(
 ) -> Result<Node<A>, NoMemory>
     requires route { IsTrue (is_route asker.old.asked.plan.plan asker.old.asked.request route.now) }
     requires longer { count < length route.now }
+
+    // It finds the node by one search.
     ensures node { IfOk result (λ n. n ≡ fresh_node (best_for asker.old.asked) leaf route.now count) }
     ensures called { OnOk result (asker.new.calls ≡ asker.old.calls + 1) }
+
+    // A refusal may come after the search. The question stays.
     ensures no_fewer { OnErr result (asker.old.calls ≤ asker.new.calls) }
     ensures at_most { OnErr result (asker.new.calls ≤ asker.old.calls + 1) }
     ensures same { asker.new.asked ≡ asker.old.asked }
@@ -74,10 +78,16 @@ fn fresh_nodes<B: BestOf<A>, A: Allocator + Copy>(
     requires route { IsTrue (is_route asker.old.asked.plan.plan asker.old.asked.request route.now) }
     requires within { first ≤ length route.now }
     requires room { vec_len nodes.old + length route.now ≤ vec_capacity nodes.old + first }
+
+    // It adds a node for each number left, by a search each.
     ensures nodes { OnOk result (nodes.new.items ≡ nodes.old.items ++ fresh_nodes (best_for asker.old.asked) leaf (take first route.now) (drop first route.now)) }
     ensures called { OnOk result (asker.new.calls + vec_len nodes.old ≡ asker.old.calls + vec_len nodes.new) }
+
+    // A refusal comes after some of the searches, and may leave some of the nodes.
     ensures no_fewer { OnErr result (asker.old.calls ≤ asker.new.calls) }
     ensures at_most { OnErr result (asker.new.calls + first ≤ asker.old.calls + length route.now) }
+
+    // The question and the former nodes stay.
     ensures longer { OnOk result (vec_len nodes.old ≤ vec_len nodes.new) }
     ensures same { asker.new.asked ≡ asker.old.asked }
     ensures front { take (length nodes.old.items) nodes.new.items ≡ nodes.old.items }
@@ -103,11 +113,17 @@ fn search<B: BestOf<A>, A: Allocator + Copy>(
     requires longer { (n : Node A) → slice_get nodes.old.items node.0 ≡ Some n → n.length < length route.now }
     requires rising { (n : Node A) → slice_get nodes.old.items node.0 ≡ Some n → Rises nat_cmp n.excluded }
     requires room { vec_len nodes.old + length route.now ≤ vec_capacity nodes.old }
+
+    // It finds what the node carries, and adds the new nodes, by a search each.
     ensures found { IfOk result (λ found. (n : Node A) → slice_get nodes.old.items node.0 ≡ Some n → found ≡ best_for asker.old.asked (take n.length route.now) n.excluded) }
     ensures nodes { OnOk result ((n : Node A) → slice_get nodes.old.items node.0 ≡ Some n → nodes.new.items ≡ nodes.old.items ++ fresh_after (best_for asker.old.asked) leaf n route.now) }
     ensures called { OnOk result (asker.new.calls + vec_len nodes.old ≡ asker.old.calls + (vec_len nodes.new + 1)) }
+
+    // A refusal comes after some of the searches, and may leave some of the nodes.
     ensures no_fewer { OnErr result (asker.old.calls ≤ asker.new.calls) }
     ensures at_most { OnErr result ((n : Node A) → slice_get nodes.old.items node.0 ≡ Some n → asker.new.calls + n.length ≤ asker.old.calls + length route.now) }
+
+    // The question and the former nodes stay.
     ensures longer { OnOk result (vec_len nodes.old ≤ vec_len nodes.new) }
     ensures same { asker.new.asked ≡ asker.old.asked }
     ensures front { take (length nodes.old.items) nodes.new.items ≡ nodes.old.items }
@@ -163,14 +179,20 @@ pub fn divide<B: BestOf<A>, A: Allocator + Copy>(
     requires route { IsTrue (is_route asker.old.asked.plan.plan asker.old.asked.request route.now) }
     requires next { (n : Node A) → slice_get nodes.old.items node.0 ≡ Some n → CanExclude n route.now }
     requires room { vec_len nodes.old + length route.now ≤ vec_capacity nodes.old }
+
+    // It finds what the node carries, and changes and adds nodes, by a search each.
     ensures found { IfOk result (λ found. (n : Node A) → slice_get nodes.old.items node.0 ≡ Some n → found ≡ best_for asker.old.asked (take n.length route.now) (wide_of n route.now)) }
     ensures ok { OnOk result ((n : Node A) → slice_get nodes.old.items node.0 ≡ Some n → nodes.new.items ≡ modify (excluding route.now) nodes.old.items node.0 ++ fresh_after (best_for asker.old.asked) leaf n route.now) }
     ensures called { OnOk result (asker.new.calls + vec_len nodes.old ≡ asker.old.calls + (vec_len nodes.new + 1)) }
+
+    // A refusal comes after some of the searches, and leaves the nodes as they were.
     ensures no_fewer { OnErr result (asker.old.calls ≤ asker.new.calls) }
     ensures at_most { OnErr result ((n : Node A) → slice_get nodes.old.items node.0 ≡ Some n → asker.new.calls + n.length ≤ asker.old.calls + length route.now) }
+    ensures err { OnErr result (nodes.new.items ≡ nodes.old.items) }
+
+    // No node goes, and the question stays.
     ensures longer { OnOk result (vec_len nodes.old ≤ vec_len nodes.new) }
     ensures same { asker.new.asked ≡ asker.old.asked }
-    ensures err { OnErr result (nodes.new.items ≡ nodes.old.items) }
 {
     exclude_next(nodes, node, route)?;
     let count = nodes.len();

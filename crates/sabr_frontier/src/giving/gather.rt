@@ -29,13 +29,19 @@ impl<A: Allocator + Copy> Tree<A> {
         requires count { count ≤ most_routes }
         requires sound { IsSound asker.old.asked.plan.plan asker.old.asked.request (shape_of self.old) }
         requires room { IsRoomy self.old }
+
+        // The routes are given, and the state is the one after their steps.
         ensures routes { OnOk result (given.new.items ≡ given.old.items ++ records_for asker.old.asked (steps_for asker.old.asked count (shown (shape_of self.old))).0) }
         ensures state { OnOk result (shown (shape_of self.new) ≡ (steps_for asker.old.asked count (shown (shape_of self.old))).1) }
         ensures entries { OnOk result (length self.new.journal.items ≡ length self.old.journal.items + length (steps_for asker.old.asked count (shown (shape_of self.old))).0) }
+
+        // It takes so many searches, and no more if it is refused.
         ensures searches { IfOk result (λ n. n ≡ searches_in asker.old.asked.plan.plan asker.old.asked.request count (shown (shape_of self.old))) }
         ensures called { IfOk result (λ n. asker.new.calls ≡ asker.old.calls + n) }
         ensures no_fewer { OnErr result (asker.old.calls ≤ asker.new.calls) }
         ensures at_most { OnErr result (asker.new.calls ≤ asker.old.calls + searches_in asker.old.asked.plan.plan asker.old.asked.request count (shown (shape_of self.old))) }
+
+        // In any case the tree is sound, and what was given can be taken back. The index and the question stay.
         ensures sound { IsSound asker.old.asked.plan.plan asker.old.asked.request (shape_of self.new) }
         ensures longer { length self.old.journal.items ≤ length self.new.journal.items }
         ensures back { tree_before (length self.old.journal.items) (shape_of self.new) ≡ shape_of self.old }

@@ -40,11 +40,17 @@ impl<A: Allocator + Copy> Tree<A> {
         requires tree { IsTree asker.old.asked.plan.plan asker.old.asked.request (shape_of self.old) }
         requires waiting { CarriesSome self.old.nodes.items }
         requires room { IsRoomy self.old }
+
+        // The route is given, by so many searches.
         ensures ok { IfOk result (IsTaken asker.old.asked.plan.plan asker.old.asked.request (shape_of self.old) (shape_of self.new) given.old.items given.new.items) }
         ensures called { IfOk result (λ n. asker.new.calls ≡ asker.old.calls + n) }
+
+        // A refusal takes no more searches, and leaves the tree as it was.
         ensures no_fewer { OnErr result (asker.old.calls ≤ asker.new.calls) }
         ensures at_most { OnErr result (asker.new.calls ≤ asker.old.calls + searches_in asker.old.asked.plan.plan asker.old.asked.request 1 (shown (shape_of self.old))) }
         ensures err { OnErr result (shape_of self.new ≡ shape_of self.old) }
+
+        // The index and the question stay, and there is room for what comes.
         ensures index { self.new.index.items ≡ self.old.index.items }
         ensures same { asker.new.asked ≡ asker.old.asked }
         ensures room { IsRoomy self.new }

@@ -84,9 +84,13 @@ impl<A: Allocator + Copy> Tree<A> {
         requires within { vec_len self.old.winners ≤ vec_len self.old.nodes }
         requires carries { IsSome (route_at self.old.nodes.items node) }
         requires won { AreWinners (take (length self.old.winners.items) self.old.nodes.items) self.old.winners.items }
+
+        // There is room for all that is added.
         requires space { IsSpacious self.old }
         requires leaf { vec_len self.old.leaves < vec_capacity self.old.leaves }
         requires entry { vec_len self.old.journal < vec_capacity self.old.journal }
+
+        // The route is given, the index stays, and there is room for what comes.
         ensures shape { (x : RouteRecord) → route_at self.old.nodes.items node ≡ Some x → shape_of self.new ≡ given_by (shape_of self.old) node x found (length self.old.winners.items) }
         ensures index { self.new.index.items ≡ self.old.index.items }
         ensures room { IsRoomy self.new }

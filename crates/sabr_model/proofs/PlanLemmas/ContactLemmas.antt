@@ -1,5 +1,6 @@
 -- A plan with one more contact that is not refused is a plan.
 use Rattle.std.proofs.Common.{◌≡◌, ℕ, ◌<◌, ◌≤◌, ◌^◌, Bool, true, false, cond, ◌&&◌, ◌||◌, not, eqb, ltb, leb, List, [], ◌∷◌, ◌++◌, map, refl, ap, ◌∙◌, arith}
+use Rattle.sabr_model.proofs.ListLemmas.Ordered.{all_weaker}
 use Rattle.std.specs.List.{AllByRecursion, list_any}
 use Rattle.std.specs.List.Sorted.{IsStrictlySortedBy}
 use Rattle.std.proofs.lemmas.Bool.{and_parts, and_from, or_parts, or_from, not-true, not_from_false, lt-ltb, leb-false, eqb-false}
@@ -15,11 +16,6 @@ use Rattle.sabr_model.specs.plan.Adding.{next_contact, contact_refusal, with_con
 pub all_push : {X : Type 0} (P : X → Type 0) (xs : List X) (x : X) → AllByRecursion P xs → P x → AllByRecursion P (xs ++ x ∷ [])
 all_push P [] x all one = (one, tt)
 all_push P (y ∷ ys) x all one = (all.0, all_push P ys x all.1 one)
-
--- a weaker fact of all elements
-pub all_weaker : {X : Type 0} (P Q : X → Type 0) → ((x : X) → P x → Q x) → (ys : List X) → AllByRecursion P ys → AllByRecursion Q ys
-all_weaker P Q gives [] all = tt
-all_weaker P Q gives (y ∷ ys) all = (gives y all.0, all_weaker P Q gives ys all.1)
 
 -- rising numbers with a greater one after them rise
 rises_push : (low : ℕ) (cs : List Contact) (c : Contact) → rises_above low (map (λ d. d.number) cs) ≡ true → AllByRecursion (λ d. d.number < c.number) cs → low < c.number

@@ -1,5 +1,6 @@
 -- A plan without some of its contacts or ranges is a plan.
 use Rattle.std.proofs.Common.{◌≡◌, ℕ, ◌<◌, ◌≤◌, ◌^◌, Bool, true, false, cond, ◌&&◌, not, eqb, ltb, List, [], ◌∷◌, length, map, refl, sym, ap, subst, ◌∙◌, arith}
+use Rattle.sabr_model.proofs.ListLemmas.Ordered.{all_weaker}
 use Rattle.std.specs.List.{filter, find, list_any, AllByRecursion}
 use Rattle.std.specs.List.Sorted.{IsStrictlySortedBy}
 use Rattle.std.proofs.lemmas.Bool.{and_parts, and_from, or_parts, or_from, not-true, not_from_false, eqb-true, eq-eqb, ne_eqb, lt-ltb, ltb-true, both_ways}
@@ -81,11 +82,6 @@ module _ {X : Type 0} where
   all_two : (P Q R : X → Type 0) → ((x : X) → P x → Q x → R x) → (xs : List X) → AllByRecursion P xs → AllByRecursion Q xs → AllByRecursion R xs
   all_two P Q R gives [] p q = tt
   all_two P Q R gives (x ∷ xs) p q = (gives x p.0 q.0, all_two P Q R gives xs p.1 q.1)
-
-  -- a fact of each element implies another
-  all_one : (P Q : X → Type 0) → ((x : X) → P x → Q x) → (xs : List X) → AllByRecursion P xs → AllByRecursion Q xs
-  all_one P Q gives [] p = tt
-  all_one P Q gives (x ∷ xs) p = (gives x p.0, all_one P Q gives xs p.1)
 
 -- numbers that rise above a bound rise above a lesser bound
 rises_weaker : (low high : ℕ) (xs : List ℕ) → low ≤ high → rises_above high xs ≡ true → rises_above low xs ≡ true
@@ -194,7 +190,7 @@ opening_one from to start (x ∷ cs) c none found =
           let same : x ≡ c = cc in
           let p = opens_parts from to start x h in (
             (λ _. same),
-            all_one (λ d. same_opening x d ≡ false) (λ d. opens from to start d ≡ true → d ≡ c)
+            all_weaker (λ d. same_opening x d ≡ false) (λ d. opens from to start d ≡ true → d ≡ c)
                 (λ d no yes. absurd (both_ways (same_opening x d) no
                 (sym (ap (λ f. opens f to start d) p.0 ∙ ap (λ f. opens x.from f start d) p.1 ∙ ap (λ f. opens x.from x.to f d) p.2) ∙ yes)))
                 cs (any_none (same_opening x) cs (not-true (list_any (same_opening x) cs) parts.0)),

@@ -1,5 +1,6 @@
 -- The order of ranges as an order of numbers, and what a count of the ranges that come by a second tells.
 use Rattle.std.proofs.Common.{◌≡◌, ℕ, zero, suc, ◌+◌, ◌-◌, ◌^◌, ◌<◌, ◌≤◌, Bool, true, false, cond, ◌||◌, ◌&&◌, not, eqb, ltb, leb, List, [], ◌∷◌, length, get_or, map, refl, sym, ap, subst, ◌∙◌, inl, inr, arith}
+use Rattle.std.proofs.lemmas.List.{get_or_default}
 use Rattle.std.specs.Prelude.{IfSome}
 use Rattle.std.specs.List.{find, insert, list_any, AllByRecursion}
 use Rattle.std.specs.List.Sorted.{IsStrictlySortedBy}
@@ -172,12 +173,6 @@ any_from_none p (x ∷ xs) none =
     ap (λ b. b || list_any p xs) (false_from_ne_true (p x) (none zero x (omega arith)))
     ∙ any_from_none p xs (λ k d lt. none (suc k) d (omega arith))
 
--- within a list the default plays no part
-default_free : {X : Type 0} (xs : List X) (i : ℕ) (d e : X) → i < length xs → get_or xs i d ≡ get_or xs i e
-default_free [] i d e lt = absurd (omega arith)
-default_free (x ∷ xs) zero d e lt = refl
-default_free (x ∷ xs) (suc i) d e lt = default_free xs i d e (omega arith)
-
 -- the test of a range that is in force
 abbrev pub in_force : ℕ → ℕ → ℕ → Range → Bool
 in_force one other t r = (eqb r.one one) && (eqb r.other other) && is_within r.start r.end t
@@ -271,7 +266,7 @@ module _ (rs : List Range) (h : IsRangeList rs) where
             let x = get_or rs k d in
             let y = get_or rs j d in
             let parts = overlap_parts r x yes in
-            let same : y ≡ get_or rs j e = default_free rs j d e (omega (arith, most)) in
+            let same : y ≡ get_or rs j e = get_or_default rs j d e (omega (arith, most)) in
             elim (cases_order k j) [
               | inl kj ↦ both_ways (overlap r y) (ap (overlap r) same ∙ not_here) (ap (λ i. overlap r (get_or rs i d)) (sym kj) ∙ yes)
               | inr (inl less) ↦

@@ -2,7 +2,7 @@
 use Rattle.std.proofs.Common.{◌≡◌, ℕ, ◌+◌, max, Bool, true, false, cond, not, eqb, leb, ltb, List, [], ◌∷◌, ◌++◌, length, refl, sym, ap, subst, ◌∙◌, arith, append_assoc}
 use Rattle.std.specs.Prelude.{is_none, IsTrue}
 use Rattle.std.specs.Option.{option_map, option_map_or, option_and_then}
-use Rattle.std.proofs.lemmas.Bool.{eqb-true, eq-eqb, leb-true, le-leb, false_from_ne_true}
+use Rattle.std.proofs.lemmas.Bool.{eqb-true, eq-eqb, leb-true, le-leb, false_from_ne_true, not-false}
 use Rattle.std.specs.declared.option.Option.{Option}
 use Rattle.std.specs.declared.option.Option.TheVariants.{Some, None}
 use Rattle.sabr_model.specs.declared.contact.Contact.{Contact}
@@ -15,7 +15,7 @@ use Rattle.sabr_model.specs.routes.Route.{chain_end, receivers, ends_at, is_path
 use Rattle.sabr_model.specs.routes.Fault.{contact_fault, fault_at, fault_or, first_fault, fault_of}
 use Rattle.sabr_model.specs.Laws.{FaultsTellRoutes}
 use Rattle.std.proofs.lemmas.List.{append-nil}
-use Rattle.sabr_model.proofs.RouteLemmas.Routes.{route_facts, empty_route}
+use Rattle.sabr_model.proofs.RouteLemmas.Routes.{route_facts, empty_route, end_named}
 use Rattle.sabr_model.proofs.RouteLemmas.Paths.{IsHop, value_of, path_facts, hop_facts, path_push, beginning_is_path, route_is_path, route_from_path}
 use Rattle.sabr_model.proofs.RouteLemmas.Prefixes.{empty_is_path}
 
@@ -70,14 +70,10 @@ hop_is_good p r q n hop =
     hop.allowed
     (ap not (le-leb place r.max_hops (let w = hop.room in omega arith)))
 
-not_false : (b : Bool) → not b ≡ false → b ≡ true
-not_false true h = refl
-not_false false h = absurd cc
-
 -- the end of a chain that passes the test
 tested : (o : Option ℕ) (b : ℕ) → not (option_map_or (λ a. eqb a b) o false) ≡ false → o ≡ Some b
 tested None b h = absurd cc
-tested (Some a) b h = ap Some (eqb-true a b (not_false (eqb a b) h))
+tested (Some a) b h = ap Some (eqb-true a b (not-false (eqb a b) h))
 
 not_none : {X : Type 0} (o : Option X) → is_none o ≡ false → (x : X) × (o ≡ Some x)
 not_none None h = absurd cc
@@ -110,7 +106,7 @@ good_is_hop p r q n path e =
             arrived = arrived.0;
             arrives_at = arrived.1;
             allowed = all.4;
-            room = let w = leb-true place r.max_hops (not_false (leb place r.max_hops) all.5) in omega arith;
+            room = let w = leb-true place r.max_hops (not-false (leb place r.max_hops) all.5) in omega arith;
           }
     ] refl e
 
@@ -134,16 +130,12 @@ wrong_end_unless : (b : Bool) → cond b None (Some WrongEnd) ≡ None → b ≡
 wrong_end_unless true e = refl
 wrong_end_unless false e = absurd cc
 
-ended : (o : Option ℕ) (d : ℕ) → option_map_or (λ b. eqb b d) o false ≡ true → o ≡ Some d
-ended None d e = absurd cc
-ended (Some b) d e = ap Some (eqb-true b d e)
-
 pub no_fault_is_route : (p : ContactPlan) (r : RouteRequest) (s : List ℕ) → fault_of p r s ≡ None → IsTrue (is_route p r s)
 no_fault_is_route p r [] e = absurd cc
 no_fault_is_route p r (n ∷ s) e =
     let both = neither (first_fault p r [] (n ∷ s)) (cond (ends_at p r (n ∷ s)) None (Some WrongEnd)) e in
     route_from_path p r (n ∷ s) (good_is_path p r [] (n ∷ s) (empty_is_path p r) both.0) (omega arith)
-    (ended (chain_end p r.source (n ∷ s)) r.destination (wrong_end_unless (ends_at p r (n ∷ s)) both.1))
+    (end_named (chain_end p r.source (n ∷ s)) r.destination (wrong_end_unless (ends_at p r (n ∷ s)) both.1))
 
 pub route_has_no_fault : (p : ContactPlan) (r : RouteRequest) (s : List ℕ) → IsTrue (is_route p r s) → fault_of p r s ≡ None
 route_has_no_fault p r [] h = absurd (empty_route p r h)

@@ -17,11 +17,6 @@ set_here [] k less = absurd (omega (arith, less))
 set_here (m ∷ marks) zero less = refl
 set_here (m ∷ marks) (suc k) less = set_here marks k (omega (arith, less))
 
-pub set_many : (marks : List Bool) (k : ℕ) → length (slice_set marks k true) ≡ length marks
-set_many [] k = refl
-set_many (m ∷ marks) zero = refl
-set_many (m ∷ marks) (suc k) = ap suc (set_many marks k)
-
 kept : (marks : List Bool) (k j : ℕ) → slice_index_or marks j false ≡ true → slice_index_or (slice_set marks k true) j false ≡ true
 kept [] k j marked = marked
 kept (m ∷ marks) zero zero marked = refl

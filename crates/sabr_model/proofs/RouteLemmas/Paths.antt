@@ -1,5 +1,6 @@
 -- Chains that can be the beginning of a route: their facts, their beginnings, and one more hop.
 use Rattle.std.proofs.Common.{◌≡◌, ℕ, ◌<◌, Bool, true, false, cond, ◌&&◌, ◌||◌, not, eqb, leb, List, [], ◌∷◌, ◌++◌, length, refl, sym, ap, ◌∙◌, arith, length-append}
+use Rattle.sabr_model.proofs.ListLemmas.Different.{different_front}
 use Rattle.std.specs.Prelude.{is_some, IsTrue}
 use Rattle.std.specs.List.{list_all}
 use Rattle.std.specs.Option.{option_and_then}
@@ -78,14 +79,6 @@ arrival_after-append p r t (n ∷ q) s =
 before_then : {X Y : Type 0} (f : X → Option Y) (o : Option X) → is_some (option_and_then f o) ≡ true → is_some o ≡ true
 before_then f None h = h
 before_then f (Some x) h = refl
-
--- if all numbers of a joined list are different, those in front are
-pub different_front : (xs ys : List ℕ) → are_different (xs ++ ys) ≡ true → are_different xs ≡ true
-different_front [] ys d = refl
-different_front (x ∷ xs) ys d =
-    let parts = and_parts (not (has x (xs ++ ys))) (are_different (xs ++ ys)) d in
-    let fresh : has x xs ≡ false = false_from_ne_true (has x xs) (λ h. both_ways (has x (xs ++ ys)) (not-true (has x (xs ++ ys)) parts.0) (list_any-append (eqb x) xs ys ∙ or_left (has x xs) (has x ys) h)) in
-    and_from (not (has x xs)) (are_different xs) (not_from_false (has x xs) fresh) (different_front xs ys parts.1)
 
 -- ---- a beginning of a path is a path
 

@@ -10,7 +10,7 @@ use Rattle.sabr_model.specs.plan.Plan.{ContactPlan, has, are_different}
 use Rattle.sabr_model.specs.routes.Arrival.{RouteRequest, arrival_after}
 use Rattle.sabr_model.specs.routes.Route.{chain_end, receivers, is_route, is_path, ends_at, IsRoute}
 
-end_named : (o : Option ℕ) (d : ℕ) → option_map_or (λ b. eqb b d) o false ≡ true → o ≡ Some d
+pub end_named : (o : Option ℕ) (d : ℕ) → option_map_or (λ b. eqb b d) o false ≡ true → o ≡ Some d
 end_named None d e = absurd cc
 end_named (Some b) d e = ap Some (eqb-true b d e)
 

@@ -8,30 +8,13 @@ ghost use Rattle.sabr_model.specs.declared.fault.AddFault.TheVariants.{NoMemory}
 ghost use Rattle.sabr_model.specs.plan.Adding.{next_contact, contact_refusal, with_contact};
 
 use super::Plan;
-use super::refusals::refusal;
 use crate::contact::Contact;
 use crate::fault::AddFault;
 use crate::node_table::note_contact;
+use crate::opening::Opening;
 use std::alloc::{AllocError, Allocator};
 
 impl<A: Allocator + Copy> Plan<A> {
-    /// Returns the first reason to refuse a contact, if there is one other than out of memory.
-    fn contact_refusal(&self, from: u64, to: u64, start: u64, end: u64) -> Option<AddFault>
-        ensures { result ≡ contact_refusal self.now.plan from to start end }
-    {
-        let clashes = self.has_opening(from, to, start);
-        let given = self.greatest as usize;
-        let clash = AddFault::DuplicateContact;
-        refusal((from, to), (start, end), clashes, clash, given)
-    }
-
-    /// Returns true if there is a standing contact with this sender, receiver and start.
-    fn has_opening(&self, from: u64, to: u64, start: u64) -> bool
-        ensures { result ≡ list_any (opens from to start) self.now.plan.contacts }
-    {
-        self.openings.has(&self.contacts, from, to, start)
-    }
-
     /// Adds a contact that is not refused.
     fn append(
         &mut self,
@@ -45,6 +28,8 @@ impl<A: Allocator + Copy> Plan<A> {
         requires to { 0 < to }
         requires end { end ≤ last_time }
         requires accepted { contact_refusal self.old.plan from to start end ≡ None }
+
+        // It has the next number. A refusal changes nothing.
         ensures number { IfOk result (λ n. n ≡ self.old.plan.greatest + 1) }
         ensures ok { OnOk result (self.new.plan ≡ with_contact self.old.plan (next_contact self.old.plan from to start end rate)) }
         ensures err { OnErr result (self.new ≡ self.old) }
@@ -90,13 +75,19 @@ impl<A: Allocator + Copy> Plan<A> {
         requires from { 0 < from }
         requires to { 0 < to }
         requires end { end ≤ last_time }
+
+        // The first reason to refuse it is the answer. Without one, only memory can be refused.
         ensures refused { (f : AddFault) → contact_refusal self.old.plan from to start end ≡ Some f → result ≡ Err f }
         ensures accepted { contact_refusal self.old.plan from to start end ≡ None → IsOkUnless result NoMemory }
+
+        // It has the next number. A refusal changes nothing.
         ensures number { IfOk result (λ n. n ≡ self.old.plan.greatest + 1) }
         ensures ok { OnOk result (self.new.plan ≡ with_contact self.old.plan (next_contact self.old.plan from to start end rate)) }
         ensures err { OnErr result (self.new ≡ self.old) }
     {
-        if let Some(fault) = self.contact_refusal(from, to, start, end) {
+        let clashes = self.openings.has(&self.contacts, from, to, start);
+        let opening = Opening { from, to, start };
+        if let Some(fault) = opening.refusal(end, clashes, self.greatest) {
             return Err(fault);
         }
         self.append(from, to, start, end, rate)

@@ -7,24 +7,12 @@ ghost use Rattle.sabr_model.specs.declared.fault.AddFault.TheVariants.{NoMemory}
 ghost use Rattle.sabr_model.specs.plan.Adding.{new_range, range_refusal, with_range};
 
 use super::Plan;
-use super::ranges::{overlaps_some, ranges_until};
-use super::refusals::refusal;
+use super::ranges::ranges_until;
 use crate::contact::Range;
 use crate::fault::AddFault;
 use std::alloc::{AllocError, Allocator};
 
 impl<A: Allocator + Copy> Plan<A> {
-    /// Returns the first reason to refuse a range, if there is one other than out of memory.
-    fn range_refusal(&self, range: &Range) -> Option<AddFault>
-        ensures { result ≡ range_refusal self.now.plan range.now }
-    {
-        let nodes = (range.one, range.other);
-        let window = (range.start, range.end);
-        let clashes = overlaps_some(&self.ranges, range);
-        let count = self.ranges.len();
-        refusal(nodes, window, clashes, AddFault::RangeOverlap, count)
-    }
-
     /// Adds a range that is not refused.
     fn put_range(&mut self, range: Range) -> Result<(), AllocError>
         requires one { 0 < range.one }
@@ -32,6 +20,8 @@ impl<A: Allocator + Copy> Plan<A> {
         requires end { range.end ≤ last_time }
         requires light { range.light ≤ most_light }
         requires accepted { range_refusal self.old.plan range ≡ None }
+
+        // It stands among the ranges. A refusal changes nothing.
         ensures ok { OnOk result (self.new ≡ record { plan = with_range self.old.plan range; table = self.old.table }) }
         ensures err { OnErr result (self.new ≡ self.old) }
     {
@@ -63,8 +53,12 @@ impl<A: Allocator + Copy> Plan<A> {
         requires other { 0 < other }
         requires end { end ≤ last_time }
         requires light { light ≤ most_light }
+
+        // The first reason to refuse it is the answer. Without one, only memory can be refused.
         ensures refused { (f : AddFault) → range_refusal self.old.plan (new_range one other start end light) ≡ Some f → result ≡ Err f }
         ensures accepted { range_refusal self.old.plan (new_range one other start end light) ≡ None → IsOkUnless result NoMemory }
+
+        // It stands among the ranges. A refusal changes nothing.
         ensures ok { OnOk result (self.new ≡ record { plan = with_range self.old.plan (new_range one other start end light); table = self.old.table }) }
         ensures err { OnErr result (self.new ≡ self.old) }
     {
@@ -75,7 +69,8 @@ impl<A: Allocator + Copy> Plan<A> {
             end,
             light,
         };
-        if let Some(fault) = self.range_refusal(&range) {
+        let clashes = range.overlaps_some(&self.ranges);
+        if let Some(fault) = range.refusal(clashes, self.ranges.len()) {
             return Err(fault);
         }
         self.put_range(range).map_err(|_| AddFault::NoMemory)

@@ -1,16 +1,15 @@
 //! Deleting contacts and ranges.
 
-ghost use Rattle.std.specs.Prelude.{◌≡◌, ◌==◌, ◌↔◌, IsTrue, OnOk, OnErr, IfErr, IsOk, ok_or, find};
+ghost use Rattle.std.specs.Prelude.{◌≡◌, ◌==◌, ◌↔◌, IsTrue, OnOk, OnErr, IfErr, IsOk, ok_or};
 ghost use Rattle.std.specs.List.{list_any};
-ghost use Rattle.std.specs.Option.{option_map, option_copied};
+ghost use Rattle.std.specs.Option.{option_map};
 ghost use Rattle.sabr_model.specs.plan.Plan.{opens, has};
 ghost use Rattle.sabr_model.specs.plan.Table.{ends_of};
 ghost use Rattle.sabr_model.specs.declared.fault.AddFault.TheVariants.{NothingToDelete};
 ghost use Rattle.sabr_model.specs.plan.Adding.{number_of_opening, without_contact, begins, without_range};
 
 use super::Plan;
-use super::ranges::has_range;
-use crate::contact::Contact;
+use crate::contact::{Contact, Range};
 use crate::fault::AddFault;
 use crate::node_table::forget_contact;
 use std::alloc::Allocator;
@@ -28,7 +27,7 @@ impl<A: Allocator + Copy> Plan<A> {
         ensures ok { OnOk result (self.new.plan ≡ without_contact self.old.plan from to start) }
         ensures err { OnErr result (self.new ≡ self.old) }
     {
-        let Some(contact) = contact_of_opening(&self.contacts, from, to, start) else {
+        let Some(contact) = Contact::find(&self.contacts, from, to, start) else {
             return Err(AddFault::NothingToDelete);
         };
         let contact = *contact;
@@ -53,20 +52,11 @@ impl<A: Allocator + Copy> Plan<A> {
         ensures ok { OnOk result (self.new ≡ record { plan = without_range self.old.plan one other start; table = self.old.table }) }
         ensures err { OnErr result (self.new ≡ self.old) }
     {
-        if !has_range(&self.ranges, one, other, start) {
+        if !Range::any_begins(&self.ranges, one, other, start) {
             return Err(AddFault::NothingToDelete);
         }
         self.lights.clear();
-        self.ranges.retain(|r| !(one == r.one && other == r.other && start == r.start));
+        self.ranges.retain(|r| !r.begins(one, other, start));
         Ok(())
     }
-}
-
-/// Finds the contact with this sender, receiver and start.
-pub fn contact_of_opening(contacts: &[Contact], from: u64, to: u64, start: u64) -> Option<&Contact>
-    ensures { option_copied result ≡ find (opens from to start) contacts.now }
-{
-    contacts
-        .iter()
-        .find(|c| from == c.from && to == c.to && start == c.start)
 }

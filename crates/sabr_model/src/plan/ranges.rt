@@ -125,34 +125,42 @@ pub fn light_near(
     (light_until(ranges, count, one, other, t), count)
 }
 
-/// Returns true if there is a range of this ordered pair that begins at this start.
-pub fn has_range(ranges: &[Range], one: u64, other: u64, start: u64) -> bool
-    ensures { result ≡ list_any (begins one other start) ranges.now }
-{
-    ranges
-        .iter()
-        .any(|r| one == r.one && other == r.other && start == r.start)
-}
-
-/// Returns true if two ranges are of one ordered pair and overlap.
-pub fn overlap(range: &Range, other: &Range) -> bool
-    ensures { result ≡ overlap range.now other.now }
-{
-    range.one == other.one
-        && range.other == other.other
-        && range.start < other.end
-        && other.start < range.end
-}
-
-/// Returns true if one of the ranges has the same ordered pair as `range` and overlaps it.
-pub fn overlaps_some(ranges: &[Range], range: &Range) -> bool
-    requires { IsRangeList ranges.now }
-    ensures { result ≡ list_any (overlap range.now) ranges.now }
-{
-    let last = range.end.saturating_sub(1);
-    let count = ranges_until(ranges, range.one, range.other, last);
-    if count == 0 {
-        return false;
+impl Range {
+    /// Returns true if the range is of this ordered pair and begins at this start.
+    #[inline]
+    pub fn begins(&self, one: u64, other: u64, start: u64) -> bool
+        ensures { result ≡ begins one other start self.now }
+    {
+        one == self.one && other == self.other && start == self.start
     }
-    overlap(range, &ranges[count - 1])
+
+    /// Returns true if one of the ranges is of this ordered pair and begins at this start.
+    pub fn any_begins(ranges: &[Range], one: u64, other: u64, start: u64) -> bool
+        ensures { result ≡ list_any (begins one other start) ranges.now }
+    {
+        ranges.iter().any(|r| r.begins(one, other, start))
+    }
+
+    /// Returns true if both ranges are of one ordered pair and overlap.
+    pub fn overlaps(&self, other: &Range) -> bool
+        ensures { result ≡ overlap self.now other.now }
+    {
+        self.one == other.one
+            && self.other == other.other
+            && self.start < other.end
+            && other.start < self.end
+    }
+
+    /// Returns true if this overlaps one of the ranges of its ordered pair. It takes a binary search.
+    pub fn overlaps_some(&self, ranges: &[Range]) -> bool
+        requires { IsRangeList ranges.now }
+        ensures { result ≡ list_any (overlap self.now) ranges.now }
+    {
+        let last = self.end.saturating_sub(1);
+        let count = ranges_until(ranges, self.one, self.other, last);
+        if count == 0 {
+            return false;
+        }
+        self.overlaps(&ranges[count - 1])
+    }
 }

@@ -1,14 +1,41 @@
 //! Why a contact or a range is refused.
 
 ghost use Rattle.std.specs.Prelude.{◌≡◌};
+ghost use Rattle.sabr_model.specs.declared.fault.AddFault.TheVariants.{DuplicateContact, RangeOverlap};
 ghost use Rattle.sabr_model.specs.plan.Adding.{first_refusal};
 
+use crate::contact::Range;
 use crate::fault::AddFault;
 use crate::limits::MOST_RECORDS;
+use crate::opening::Opening;
 
-/// Returns the first reason to refuse a contact or a range between two nodes, over a window, if there is one other than
-/// out of memory. It is `clash` if another clashes with it, and `TooMany` if the count is at its limit.
-pub fn refusal(
+impl Opening {
+    /// Returns the first reason to refuse a contact with this opening and end, if there is one other than out of
+    /// memory. `clashes` says whether another contact has this opening, and `given` how many numbers were assigned.
+    pub fn refusal(&self, end: u64, clashes: bool, given: u32) -> Option<AddFault>
+        ensures { result ≡ first_refusal self.now.from self.now.to self.now.start end clashes DuplicateContact given }
+    {
+        let nodes = (self.from, self.to);
+        let clash = AddFault::DuplicateContact;
+        refusal(nodes, (self.start, end), clashes, clash, given as usize)
+    }
+}
+
+impl Range {
+    /// Returns the first reason to refuse this range, if there is one other than out of memory. `clashes` says whether
+    /// it overlaps one of its ordered pair, and `count` how many ranges there are.
+    pub fn refusal(&self, clashes: bool, count: usize) -> Option<AddFault>
+        ensures { result ≡ first_refusal self.now.one self.now.other self.now.start self.now.end clashes RangeOverlap count }
+    {
+        let nodes = (self.one, self.other);
+        let window = (self.start, self.end);
+        refusal(nodes, window, clashes, AddFault::RangeOverlap, count)
+    }
+}
+
+/// Returns the first reason to refuse a contact or a range between two nodes, over a window. It is `clash` if another
+/// clashes with it, and `TooMany` if the count is at its limit.
+fn refusal(
     nodes: (u64, u64),
     window: (u64, u64),
     clashes: bool,

@@ -1,5 +1,6 @@
 -- What comes of a session text, one piece after the other.
 use Rattle.std.proofs.Common.{◌≡◌, ℕ, suc, ◌+◌, ◌<◌, Bool, true, false, ◌&&◌, ◌||◌, not, eqb, ltb, List, [], ◌∷◌, ◌++◌, length, refl, sym, ap, ◌∙◌, arith, append_assoc, append-nil, length-append, Result, Ok, Err}
+use Rattle.sabr_session.proofs.WordLemmas.SpelledWords.{other_number}
 use borrow.Author.Tests.{lt-ltb, ltb-true, ltb-false}
 use Rattle.std.proofs.lemmas.Bool.Decides.{nat_tests}
 use Rattle.std.proofs.lemmas.List.Folds.{list_all-append}
@@ -92,9 +93,6 @@ module _ (p : ContactPlan) (h : List ℕ) where
       by_length false true some true long q = more 660008 long
       by_length true false some false long q = absurd cc
       by_length false some is false long q = absurd cc
-
-  other_number : (n m : ℕ) → m < n → eqb n m ≡ false
-  other_number n m less = grind (arith, nat_tests)
 
   not_before : (n m : ℕ) → m < n → ltb n m ≡ false
   not_before n m less = grind (arith, nat_tests)

@@ -1,10 +1,11 @@
 -- What a text says of well-formed states over a plan is within its bounds.
 use Rattle.std.proofs.Common.{◌≡◌, ℕ, ◌+◌, ◌*◌, ◌<◌, ◌≤◌, Bool, true, false, cond, ltb, ◌⊎◌, inl, inr, List, [], ◌∷◌, ◌++◌, map, filter, length, refl, sym, subst, arith, Option, Some, None, unwrap_or}
+use Rattle.sabr_model.proofs.PlanLemmas.Deletions.{length-filter_le}
 use Rattle.std.specs.List.{AllByRecursion, flat_map}
 use Rattle.std.specs.Option.{option_map_or}
 use Rattle.std.specs.Ordering.{nat_cmp}
 use Rattle.std.specs.declared.cmp.Ordering.TheVariants.{Less, Equal, Greater}
-use Rattle.std.proofs.lemmas.Bool.{and_parts}
+use Rattle.std.proofs.lemmas.Bool.{and_parts, lt-ltb}
 use Rattle.std.proofs.lemmas.Bool.Decides.{nat_tests}
 use Rattle.std.proofs.lemmas.Cmp.{ranked}
 use Rattle.std.proofs.lemmas.List.{length-append, length-map}
@@ -82,12 +83,9 @@ few : (X : List ℕ) → Rises nat_cmp X → AreLow X → length X ≤ 20000
 few [] up low = omega arith
 few (x ∷ X) up low = let h = rising_few x X up low in let one = low.0.0 in omega (arith, h, one)
 
-less_test : (a b : ℕ) → a < b → ltb a b ≡ true
-less_test a b h = grind (arith, nat_tests)
-
 rises_are_above : (x : ℕ) (X : List ℕ) → Rises nat_cmp (x ∷ X) → rises_above x X ≡ true
 rises_are_above x [] up = refl
-rises_are_above x (y ∷ X) up = rw (less_test x y (ranked x y Less (sym up.0.0))) (rises_are_above y X up.1)
+rises_are_above x (y ∷ X) up = rw (lt-ltb x y (ranked x y Less (sym up.0.0))) (rises_are_above y X up.1)
 
 rise_strict : (X : List ℕ) → Rises nat_cmp X → rise_strictly X ≡ true
 rise_strict [] up = refl
@@ -189,18 +187,11 @@ length-set_of-le (s ∷ S) =
     let rest = length-set_of-le S in
     omega (arith, here, rest)
 
-length-filter-le : {X : Type 0} (test : X → Bool) (xs : List X) → length (filter test xs) ≤ length xs
-length-filter-le test [] = omega arith
-length-filter-le {X} test (x ∷ xs) = let rest = length-filter-le test xs in elim (test x) as (λ b. length {A = X} (cond b (x ∷ filter test xs) (filter test xs)) ≤ length (x ∷ xs)) [
-  | true ↦ omega (arith, rest)
-  | false ↦ omega (arith, rest)
-]
-
 module _ (route : List ℕ → Bool) where
   leaves_few : (T : List (List ℕ × List ℕ)) → ((p X : List ℕ) → Member (p, X) T → length X ≤ 20000) → length (flat_map (leaves_of route) T) ≤ length T * 20000
   leaves_few [] h = omega arith
   leaves_few (e ∷ T) h =
-      let here = length-filter-le route (map (λ x. e.0 ++ x ∷ []) e.1) in
+      let here = length-filter_le route (map (λ x. e.0 ++ x ∷ []) e.1) in
       let same = length-map e.1 (λ x. e.0 ++ x ∷ []) in
       let most = h e.0 e.1 (inl refl) in
       let rest = leaves_few T (λ p X m. h p X (inr m)) in

@@ -27,8 +27,3 @@ given_as_ok f (Ok x) y is = let same : f x ≡ y = cc in (x, refl, same)
 pub spelled_at_ok : {A : Type 0} (n : ℕ) (o : Option A) (x : A) → spelled_at n o ≡ Ok x → o ≡ Some x
 spelled_at_ok n None x e = absurd cc
 spelled_at_ok n (Some y) x e = let same : y ≡ x = cc in rw same refl
-
--- what a test lets pass
-pub test_some : {A : Type 0} (b : Bool) (x y : A) → cond b (Some x) None ≡ Some y → (b ≡ true) × (x ≡ y)
-test_some true x y e = let same : x ≡ y = cc in (refl, same)
-test_some false x y e = absurd cc

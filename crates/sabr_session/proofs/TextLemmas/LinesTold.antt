@@ -1,5 +1,6 @@
 -- Lines that are read are the spelling of what they say.
 use Rattle.std.proofs.Common.{◌≡◌, ℕ, ◌≤◌, Bool, true, false, cond, ◌||◌, List, [], ◌∷◌, ◌++◌, length, take, drop, refl, sym, subst, ap, ◌∙◌, append_assoc, decimal, codes, Option, Some, None, Ok, Err, is_some, unwrap_or}
+use Rattle.std.proofs.lemmas.Option.{cond_some}
 use Rattle.std.specs.Option.{option_map, option_and_then}
 use Rattle.std.specs.Str.{bytes_eq}
 use Rattle.std.proofs.lemmas.List.{take-append-drop}
@@ -20,7 +21,7 @@ use Rattle.sabr_session.specs.declared.reading.first_lines.Version.{Version}
 use Rattle.sabr_session.specs.declared.reading.first_lines.Version.TheVariants.{One, Two}
 use Rattle.sabr_model.specs.declared.request_values.RequestValues.{RequestValues}
 use Rattle.sabr_session.specs.declared.session_fault.SessionFault.TheVariants.{OtherPlan, BadRequest}
-use Rattle.sabr_session.proofs.ReadingLemmas.StepsTaken.{and_then_some, map_some, and_then_ok, spelled_at_ok, test_some}
+use Rattle.sabr_session.proofs.ReadingLemmas.StepsTaken.{and_then_some, map_some, and_then_ok, spelled_at_ok}
 use Rattle.sabr_plan.proofs.SpelledNumbers.{number_within-range}
 use Rattle.sabr_session.proofs.WordLemmas.WordsTold.{joined, words-joined, number_told, list_told, list_has_word, slash_joined}
 
@@ -28,7 +29,7 @@ use Rattle.sabr_session.proofs.WordLemmas.WordsTold.{joined, words-joined, numbe
 pub label_told : (label line rest : List ℕ) → after_label label line ≡ Some rest → line ≡ label ++ rest
 unfolding after_label
 label_told label line rest e =
-    let h = test_some (bytes_eq (take (length label) line) label) (drop (length label) line) rest e in
+    let h = cond_some (bytes_eq (take (length label) line) label) (drop (length label) line) rest e in
     let front : take (length label) line ≡ label = (bytes_eq-Decides (take (length label) line) label).0 h.0 in
     sym (take-append-drop (length label) line) ∙ ap (λ (t : List ℕ). t ++ drop (length label) line) front ∙ ap (λ (t : List ℕ). label ++ t) h.1
 
@@ -50,7 +51,7 @@ named_told : (line digits : List ℕ) → digest_named line ≡ Some digits → 
 unfolding digest_named
 named_told line digits e =
     let h = and_then_some (λ (text : List ℕ). cond (is_digest text) (Some text) None) (after_label (codes "plan ") line) digits e in
-    label_told (codes "plan ") line h.0 h.1 ∙ ap (λ (t : List ℕ). codes "plan " ++ t) (test_some (is_digest h.0) h.0 digits h.2).1
+    label_told (codes "plan ") line h.0 h.1 ∙ ap (λ (t : List ℕ). codes "plan " ++ t) (cond_some (is_digest h.0) h.0 digits h.2).1
 
 same_plan_told : (h : List ℕ) (s t : Said) (digits : List ℕ) → same_plan h s digits ≡ Ok t → (digits ≡ encode_lower h) × (t ≡ s)
 same_plan_told h s t digits e = by_test (bytes_eq digits (encode_lower h)) refl e

@@ -1,5 +1,6 @@
 -- What a line says to the first six lines, it says to all lines.
 use Rattle.std.proofs.Common.{◌≡◌, ℕ, ◌+◌, ◌<◌, ◌≤◌, inl, inr, Bool, true, false, eqb, ◌&&◌, List, [], ◌∷◌, ◌++◌, refl, sym, ap, ◌∙◌, arith, Result, Ok, Err}
+use Rattle.sabr_session.proofs.WordLemmas.SpelledWords.{other_number}
 use Rattle.std.proofs.lemmas.Bool.Decides.{nat_tests}
 use Rattle.std.specs.Prelude.{nat_lt, not, if◌then◌else◌}
 use Rattle.std.specs.Str.{bytes_eq}
@@ -103,9 +104,6 @@ module _ (p : ContactPlan) (h line : List ℕ) (t : Staged) (s : Said) (n : ℕ)
   pub request_refused : (e : SessionFault) → n ≡ 3 → request_said s line ≡ Err e → line_said p h n (said_with s t) line ≡ Err e
   unfolding line_said
   request_refused e is said = rw is (refused_as (and_then (spelled_at 3 (request_of s.version line)) asked) _ _ e said)
-
-other_number : (n m : ℕ) → m < n → eqb n m ≡ false
-other_number n m less = grind (arith, nat_tests)
 
 -- a line after the first six
 pub other_line : (p : ContactPlan) (h : List ℕ) (n : ℕ) (s : Said) (line : List ℕ) → 7 ≤ n → line_said p h n s line ≡ (if nat_lt n (7 + s.count) then part_said p n s line else end_said n s line)

@@ -1,5 +1,6 @@
 -- The lines of parts, as they are spelled, say the parts in turn.
 use Rattle.std.proofs.Common.{◌≡◌, ℕ, ◌+◌, ◌<◌, ◌≤◌, true, false, eqb, ltb, List, [], ◌∷◌, ◌++◌, map, length, refl, sym, ap, subst, ◌∙◌, arith, append-nil, append_assoc, length-append, codes, unwrap_or, Option, Some, None, Ok}
+use Rattle.std.proofs.lemmas.Bool.{le-ltb, lt-ltb, eq-eqb}
 use Rattle.std.specs.List.{concat}
 use Rattle.std.specs.Option.{option_map_or}
 use Rattle.std.specs.Ordering.{is_lt}
@@ -125,21 +126,12 @@ abbrev pub ArePartsOf : ContactPlan → RouteRequest → List PartState → Type
 ArePartsOf p r [] = Unit {0}
 ArePartsOf p r (t ∷ ts) = IsPartOf p r t × ArePartsOf p r ts
 
-not_before : (n m : ℕ) → m ≤ n → ltb n m ≡ false
-not_before n m le = grind (arith, nat_tests)
-
-pub is_before : (n m : ℕ) → n < m → ltb n m ≡ true
-is_before n m lt = grind (arith, nat_tests)
-
-same_number : (n m : ℕ) → n ≡ m → eqb n m ≡ true
-same_number n m e = grind (arith, nat_tests)
-
 module _ (p : ContactPlan) (h : List ℕ) where
   -- a line that is read, and those after it
   pub read_on : (n : ℕ) (s s₁ : Said) (line : List ℕ) (lines : List (List ℕ)) → length line ≤ 660008 → line_said p h n s line ≡ Ok s₁
       → read_lines p h n s (line ∷ lines) ≡ read_lines p h (n + 1) s₁ lines
   unfolding read_lines
-  read_on n s s₁ line lines short said = rw (not_before 660008 (length line) short, said) refl
+  read_on n s s₁ line lines short said = rw (le-ltb 660008 (length line) short, said) refl
 
   -- line n says a part
   part_taken : (n : ℕ) (s : Said) (t : PartState) → 6 < n → n < 7 + s.count → IsPartOf p s.request t → comes_after s.parts t.prefix ≡ true
@@ -153,7 +145,7 @@ module _ (p : ContactPlan) (h : List ℕ) where
         other_number n 4 (omega arith),
         other_number n 5 (omega arith),
         other_number n 6 (omega arith),
-        is_before n (7 + s.count) high,
+        lt-ltb n (7 + s.count) high,
         part_read t is.told,
         is.rising,
         after,
@@ -171,8 +163,8 @@ module _ (p : ContactPlan) (h : List ℕ) where
         other_number n 4 (omega arith),
         other_number n 5 (omega arith),
         other_number n 6 (omega arith),
-        not_before n (7 + s.count) (omega arith),
-        same_number n (7 + s.count) e,
+        le-ltb n (7 + s.count) (omega arith),
+        eq-eqb n (7 + s.count) e,
       ) refl
 
   -- the lines from line n on: parts, and `end`

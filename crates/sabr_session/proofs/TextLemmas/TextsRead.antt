@@ -1,5 +1,6 @@
 -- A text of a request and a state is read to exactly that request and state.
 use Rattle.std.proofs.Common.{◌≡◌, ℕ, ◌+◌, ◌≤◌, true, ltb, List, [], ◌∷◌, ◌++◌, map, length, refl, sym, ap, subst, ◌∙◌, arith, append-nil, append_assoc, length-append, decimal, codes, Ok}
+use Rattle.std.proofs.lemmas.Bool.{lt-ltb}
 use Rattle.std.specs.List.{concat, flat_map}
 use Rattle.std.proofs.lemmas.Fmt.{length-decimal-le_wide}
 use Rattle.std.proofs.lemmas.List.{length-map}
@@ -23,7 +24,7 @@ use Rattle.sabr_session.proofs.WordLemmas.SpelledWords.{decimal_is_word}
 use Rattle.sabr_session.proofs.TextLemmas.SpelledLines.{joined, AreLines, lines_of-joined, lf_after, concat_line, length-concat, word_line, list_line, list_length, nodes_length}
 use Rattle.sabr_session.proofs.WordLemmas.SpelledDigests.{digest_length, digest_word}
 use Rattle.sabr_session.proofs.TextLemmas.SpelledHead.{accepted_nodes, accepted_few, time_word, digest_read, emitted_read, count_read, last_read, request_text, old_request_text, request_read, old_request_read, asked_is, old_asked_is}
-use Rattle.sabr_session.proofs.TextLemmas.SpelledParts.{part_pieces, spelled_part, part_line_is, ArePartsOf, is_before, read_on, parts_read}
+use Rattle.sabr_session.proofs.TextLemmas.SpelledParts.{part_pieces, spelled_part, part_line_is, ArePartsOf, read_on, parts_read}
 use Rattle.sabr_session.proofs.ReadingLemmas.ShortStates.{StateIsTellable}
 use Rattle.sabr_plan.proofs.Held.{one_line-append}
 
@@ -206,7 +207,7 @@ module _ (p : ContactPlan) (r : RouteRequest) (s : State) (told : IsRequest r) (
       let parted : lines_of bytes ≡ record { ended = lines; open_line = [] } = ap lines_of e ∙ lines_of-joined lines are in
       let count = length-append (map spelled_part s.parts) (codes "end" ∷ []) in
       let same = length-map s.parts spelled_part in
-      let after : ltb (7 + length s.parts) (length lines + 1) ≡ true = is_before (7 + length s.parts) (length lines + 1) (omega (arith, count, same)) in
+      let after : ltb (7 + length s.parts) (length lines + 1) ≡ true = lt-ltb (7 + length s.parts) (length lines + 1) (omega (arith, count, same)) in
       let said : said_of p (digest_of p) bytes true ≡ Ok (all_said v) =
       ap (λ (t : TextLines). and_then (read_lines p (digest_of p) 1 nothing_said t.ended) (last_line true (length t.ended + 1) t.open_line)) parted
       ∙ ap (λ said. and_then said (last_line true (length lines + 1) [])) read

@@ -1,5 +1,7 @@
 -- A text that is read without a fault is the spelling of what it says, in one of the versions.
 use Rattle.std.proofs.Common.{◌≡◌, ℕ, ◌+◌, ◌<◌, ◌≤◌, Bool, true, false, cond, ◌&&◌, not, eqb, ltb, ◌⊎◌, inl, inr, List, [], ◌∷◌, ◌++◌, length, flat_map, refl, sym, subst, ap, ◌∙◌, arith, append_assoc, append-nil, decimal, codes, Ok, Err}
+use Rattle.std.proofs.lemmas.Bool.{le-ltb}
+use Rattle.sabr_session.proofs.WordLemmas.SpelledWords.{other_number}
 use borrow.Author.Tests.{ltb-true, ltb-false, eqb-true}
 use Rattle.std.proofs.lemmas.Bool.Decides.{nat_tests}
 use Rattle.hex.specs.Hex.{encode_lower}
@@ -49,12 +51,6 @@ bytes_of-lines (b ∷ bytes) = by_end (eqb b 10) refl (bytes_of-lines bytes)
 -- one more line
 with_ends-on : (line text : List ℕ) (lines : List (List ℕ)) (rest : List ℕ) → line ≡ text → with_ends lines ≡ rest → with_ends (line ∷ lines) ≡ text ++ 10 ∷ rest
 with_ends-on line text lines rest e f = rw (e, f) (append_assoc text (10 ∷ []) rest)
-
-other_number : (n m : ℕ) → m < n → eqb n m ≡ false
-other_number n m less = grind (arith, nat_tests)
-
-not_before : (n m : ℕ) → m ≤ n → ltb n m ≡ false
-not_before n m less = grind (arith, nat_tests)
 
 module _ (p : ContactPlan) (h : List ℕ) where
   -- a line that is read has at most 660008 bytes
@@ -131,7 +127,7 @@ module _ (p : ContactPlan) (h : List ℕ) where
         other_number n 4 (omega arith),
         other_number n 5 (omega arith),
         other_number n 6 (omega arith),
-        not_before n (7 + s.count) enough,
+        le-ltb n (7 + s.count) enough,
       ) at e in
       by_tests (eqb n (7 + s.count)) refl (is_end line) refl said
     where

@@ -1,6 +1,6 @@
 -- Lists of numbers, as far as they are read.
 use Rattle.std.proofs.Common.{◌≡◌, ℕ, ◌<◌, ◌≤◌, leb, ltb, cond, ◌&&◌, true, false, List, [], ◌∷◌, ◌++◌, length, map, option_map, refl, sym, ap, ◌∙◌, arith, append-nil, append_assoc, length-append}
-use Rattle.std.proofs.lemmas.Bool.{le-leb}
+use Rattle.std.proofs.lemmas.Bool.{le-leb, lt-leb}
 use Rattle.std.proofs.lemmas.Bool.Decides.{nat_tests}
 use Rattle.std.proofs.Math.Bool.{and-false}
 use Rattle.std.specs.declared.option.Option.{Option}
@@ -37,9 +37,6 @@ pub with_front-end : (f : List ℕ → Option ℕ) (so_far : List ℕ) (whole : 
     → whole ≡ with_front so_far (all_of (map f ps)) → ps ≡ [] → whole ≡ Some so_far
 with_front-end f so_far whole ps w e = w ∙ ap (λ xs. with_front so_far (all_of (map f xs))) e ∙ ap Some (append-nil so_far)
 
-above : (a b : ℕ) → b < a → leb a b ≡ false
-above a b h = grind (arith, nat_tests)
-
 some : (a : ℕ) → 0 < a → ltb 0 a ≡ true
 some a h = grind (arith, nat_tests)
 
@@ -48,7 +45,7 @@ full most so_far n None h = refl
 full most so_far n (Some ns) h =
     let all : List ℕ = (so_far ++ n ∷ []) ++ ns in
     let more : most < length all = omega (arith, length-append (so_far ++ n ∷ []) ns, length-append so_far (n ∷ []), h) in
-    ap (λ t. cond (ltb 0 (length all) && t) (Some all) None) (above (length all) most more)
+    ap (λ t. cond (ltb 0 (length all) && t) (Some all) None) (lt-leb (length all) most more)
     ∙ ap (λ t. cond t (Some all) None) (and-false (ltb 0 (length all)))
 
 -- one more after the most

@@ -52,11 +52,15 @@ fn read_said<'p, B: BestOf<A>, A: Allocator + Copy>(
 ) -> Result<(), SessionFault>
     requires request { stage.old.has_request ≡ nat_lt 3 number }
     requires number { 1 ≤ number }
+
+    // The line says what it says, or is refused.
     ensures value { Leaves (line_said stage.old.plan.plan digest.now number (said_with head.old stage.old) line.now) result (said_with head.new stage.new) }
-    ensures plan { stage.new.plan ≡ stage.old.plan }
-    ensures calls { stage.new.calls ≡ stage.old.calls }
     ensures request { OnOk result (stage.new.has_request ≡ nat_lt 2 number) }
     ensures limit { OnOk result (number ≤ most_lines) }
+
+    // The plan and the calls stay. After a refusal all stays.
+    ensures plan { stage.new.plan ≡ stage.old.plan }
+    ensures calls { stage.new.calls ≡ stage.old.calls }
     ensures head { OnErr result (head.new ≡ head.old) }
     ensures stage { OnErr result (stage.new ≡ stage.old) }
 {
@@ -88,11 +92,15 @@ fn read_other<'p, B: BestOf<A>, A: Allocator + Copy>(
 ) -> Result<(), SessionFault>
     requires request { stage.old.has_request ≡ true }
     requires number { 7 ≤ number }
+
+    // The line says what it says, or is refused.
     ensures value { Leaves (other_said stage.old.plan.plan number (said_with head.now stage.old) line.now) result (said_with head.now stage.new) }
+    ensures limit { OnOk result (number ≤ most_lines) }
+
+    // The plan, the calls and the request stay. After a refusal all stays.
     ensures plan { stage.new.plan ≡ stage.old.plan }
     ensures calls { stage.new.calls ≡ stage.old.calls }
     ensures request { stage.new.has_request ≡ true }
-    ensures limit { OnOk result (number ≤ most_lines) }
     ensures stage { OnErr result (stage.new ≡ stage.old) }
 {
     let end = OTHER_LINES + u128::from(head.count());

@@ -95,12 +95,16 @@ impl<'p, B: BestOf<A>, A: Allocator + Copy> TextSoFar<'p, B, A> {
     /// Reads the line that ends in these bytes.
     fn end_line(&mut self, back: &[u8]) -> Result<(), SessionFault>
         requires { IsTrue (is_one_line back.now) }
+
+        // The line says what it says, or is refused.
         ensures value { Leaves (read_line self.old.plan.plan (digest_of self.old.plan.plan) (self.old.fed.lines + 1) self.old.fed.said (self.old.fed.held ++ back.now)) result self.new.fed.said }
-        ensures plan { self.new.plan ≡ self.old.plan }
-        ensures calls { self.new.calls ≡ self.old.calls }
         ensures rest { OnOk result ((self.new.fed.lines ≡ self.old.fed.lines + 1) × (self.new.fed.held ≡ [])) }
         ensures fits { OnOk result (length self.old.fed.held + length back.now ≤ most_bytes) }
         ensures held { IsTrue (is_one_line self.old.fed.held) }
+
+        // The plan and the calls stay.
+        ensures plan { self.new.plan ≡ self.old.plan }
+        ensures calls { self.new.calls ≡ self.old.calls }
     {
         let number = self.lines.next_number();
         if back.len() > MOST_BYTES - self.held.len() {

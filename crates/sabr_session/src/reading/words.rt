@@ -9,8 +9,8 @@ ghost use Rattle.sabr_session.specs.SessionWords.{is_space, words_of, words_afte
 
 use sabr_plan::{leading_number, number_within};
 
-/// The greatest number of a contact.
-const MOST_NUMBER: u64 = 4294967295;
+/// The greatest number of 32 bits, as a contact, a margin and a limit on hops have.
+pub(crate) const MOST_NUMBER: u64 = u32::MAX as u64;
 
 /// Finds the first space.
 fn first_space(text: &[u8]) -> Option<usize>

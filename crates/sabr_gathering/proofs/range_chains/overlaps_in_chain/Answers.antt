@@ -53,7 +53,7 @@ loop-at-preserved c =
             | inr high ↦ h.none j y high at
             | inl less ↦
                 elim (cases_eq j k) [
-                  | inl e ↦ ap (overlap r) (same_Some y x (sym at ∙ ap (slice_get rs) e ∙ here)) ∙ sym c.overlap.ensures ∙ c.if-overlap.false
+                  | inl e ↦ ap (overlap r) (same_Some y x (sym at ∙ ap (slice_get rs) e ∙ here)) ∙ sym c.overlaps.ensures ∙ c.if-overlaps.false
                   | inr other ↦ other_bucket r y (h.last.none j y (omega (arith, ge, other, c.loop-at-test.true)) less at)
                 ]
           ];

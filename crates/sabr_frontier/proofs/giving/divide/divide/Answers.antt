@@ -9,8 +9,7 @@ use Rattle.sabr_frontier.specs.tree.Asking.{best_for}
 use Rattle.sabr_frontier.specs.tree.Taking.{fresh_after}
 use Rattle.sabr_frontier.specs.tree.Undo.{modify}
 use Rattle.sabr_frontier.specs.tree.Prepared.{excluding}
-use Rattle.sabr_frontier.proofs.TreeLemmas.Ends.{there}
-use Rattle.sabr_frontier.proofs.TreeLemmas.Nodes.{get_same}
+use Rattle.sabr_frontier.proofs.TreeLemmas.Nodes.{get_same, within_get}
 use Rattle.sabr_frontier.proofs.ListingLemmas.Rising.{Rises-put_in}
 use Rattle.sabr_frontier.proofs.TreeLemmas.Excluding.{excluded_there, included}
 use Rattle.sabr_frontier.proofs.giving.divide.divide.Goals as goal
@@ -18,14 +17,14 @@ use Rattle.sabr_frontier.proofs.giving.divide.divide.Goals as goal
 pub search-requires-clause-longer : goal.search-requires-clause-longer
 search-requires-clause-longer g c k stands =
     let s = c.args.route.now in
-    let w = there c.args.nodes.now.items c.args.node.0 (omega arith) in
+    let w = within_get c.args.nodes.now.items c.args.node.0 (omega arith) in
     let node = excluded_there c.args.nodes.now.items c.exclude_next.new.nodes.items c.args.node.0 s w.0 w.1 c.in_ok-exclude_next.ensures.ok k stands in
     subst (λ (k : Node g.row.A.Denot). k.length < length s) (sym node) (c.requires.next w.0 w.1).longer
 
 pub search-requires-clause-rising : goal.search-requires-clause-rising
 search-requires-clause-rising g c k stands =
     let s = c.args.route.now in
-    let w = there c.args.nodes.now.items c.args.node.0 (omega arith) in
+    let w = within_get c.args.nodes.now.items c.args.node.0 (omega arith) in
     let node = excluded_there c.args.nodes.now.items c.exclude_next.new.nodes.items c.args.node.0 s w.0 w.1 c.in_ok-exclude_next.ensures.ok k stands in
     subst (λ (k : Node g.row.A.Denot). Rises nat_cmp k.excluded) (sym node) (Rises-put_in nat_cmp_total (slice_index s w.0.length) w.0.excluded (c.requires.next w.0 w.1).rises)
 
@@ -33,7 +32,7 @@ pub include_next-requires-clause-longer : goal.include_next-requires-clause-long
 include_next-requires-clause-longer g c k stands =
     let nodes = c.args.nodes.now.items in
     let s = c.args.route.now in
-    let w = there nodes c.args.node.0 (omega arith) in
+    let w = within_get nodes c.args.node.0 (omega arith) in
     let count : c.len-count.result ≡ length c.exclude_next.new.nodes.items = omega (arith, c.len-count.ensures) in
     let cut : c.truncate.new.self.items ≡ modify (excluding s) nodes c.args.node.0 = c.truncate.ensures.items ∙ ap (λ n. take n c.search.new.nodes.items) count ∙ c.in-Err.ensures.front ∙ c.in_ok-exclude_next.ensures.ok in
     let node = excluded_there nodes c.truncate.new.self.items c.args.node.0 s w.0 w.1 cut k stands in
@@ -53,7 +52,7 @@ pub returns-in-Err-clause-err : goal.returns-in-Err-clause-err
 returns-in-Err-clause-err g c =
     let nodes = c.args.nodes.now.items in
     let s = c.args.route.now in
-    let w = there nodes c.args.node.0 (omega arith) in
+    let w = within_get nodes c.args.node.0 (omega arith) in
     let count : c.len-count.result ≡ length c.exclude_next.new.nodes.items = omega (arith, c.len-count.ensures) in
     let cut : c.truncate.new.self.items ≡ modify (excluding s) nodes c.args.node.0 = c.truncate.ensures.items ∙ ap (λ n. take n c.search.new.nodes.items) count ∙ c.in-Err.ensures.front ∙ c.in_ok-exclude_next.ensures.ok in
     c.include_next.ensures ∙ included nodes c.truncate.new.self.items c.args.node.0 s w.0 w.1 cut (c.requires.next w.0 w.1)

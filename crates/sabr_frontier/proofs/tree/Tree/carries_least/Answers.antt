@@ -1,4 +1,5 @@
 use Rattle.std.proofs.Common.{◌≡◌, inl, inr, List, refl, sym, ap, subst, ◌∙◌, true≢false, arith, length, Some}
+use Rattle.std.proofs.lemmas.Option.{slice_get_within}
 use Rattle.std.specs.Prelude.{IsTrue, slice_get}
 use Rattle.std.specs.List.Sorted.{IsStrictlyIncreasing}
 use Rattle.std.proofs.lemmas.Bool.{cases_lt}
@@ -7,7 +8,6 @@ use Rattle.sabr_frontier.specs.declared.tree.Node.{Node}
 use Rattle.sabr_frontier.specs.tree.Asking.{Asked, best_for}
 use Rattle.sabr_frontier.specs.tree.Shape.{shape_of, prefix_of}
 use Rattle.sabr_frontier.proofs.TreeLemmas.Ends.{get_there}
-use Rattle.sabr_frontier.proofs.TreeLemmas.Nodes.{get_within}
 use Rattle.sabr_frontier.proofs.TreeLemmas.Partition.{increasing}
 use Rattle.sabr_frontier.proofs.SessionLemmas.Verdicts.{excluded_rise, front_is, least_best, best_least}
 use Rattle.sabr_frontier.proofs.tree.Tree.carries_least.Goals as goal
@@ -64,6 +64,6 @@ loop-node-preserved g c = record {
 pub returns-clause-least : goal.returns-clause-least
 returns-clause-least g c = (
   (λ _. best_least c.args.asker.now.asked.plan.plan c.args.asker.now.asked.request (shape_of c.args.self.now) c.requires.tree (λ i n e.
-      c.loop-node.invariant.least i n (let s = subst (λ (xs : List (Node g.row.A.Denot)). length xs ≡ length c.args.self.now.nodes.items) (sym c.deref-node-items.ensures.value) refl in let k = get_within c.args.self.now.nodes.items i n e in let z = c.loop-node-test.false in omega arith) e)),
+      c.loop-node.invariant.least i n (let s = subst (λ (xs : List (Node g.row.A.Denot)). length xs ≡ length c.args.self.now.nodes.items) (sym c.deref-node-items.ensures.value) refl in let k = slice_get_within c.args.self.now.nodes.items i n e in let z = c.loop-node-test.false in omega arith) e)),
   (λ _. refl),
 )

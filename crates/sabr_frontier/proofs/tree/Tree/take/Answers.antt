@@ -1,4 +1,5 @@
 use Rattle.std.proofs.Common.{◌≡◌, ℕ, ◌+◌, ◌<◌, ◌++◌, length-append, Option, ◌∷◌, zero, suc, [], List, length, take, arith, ap, sym, subst, refl, ◌∙◌, Some}
+use Rattle.std.proofs.lemmas.Option.{slice_get_within}
 use Rattle.std.specs.Prelude.{IsSome, slice_get}
 use Rattle.std.specs.Option.{option_and_then}
 use Rattle.std.proofs.lemmas.List.{take_at}
@@ -16,7 +17,7 @@ use Rattle.sabr_frontier.specs.tree.Sound.{CanExclude, IsTree}
 use Rattle.sabr_frontier.specs.tree.Taking.{changed_by, divided, fresh_after, nodes_then, wide_of}
 use Rattle.sabr_frontier.specs.tree.Prepared.{carrying, excluding, given_by}
 use Rattle.sabr_frontier.proofs.TreeLemmas.Ends.{length-modify, modify_front}
-use Rattle.sabr_frontier.proofs.TreeLemmas.Nodes.{get_front, get_same, get_within}
+use Rattle.sabr_frontier.proofs.TreeLemmas.Nodes.{get_front, get_same}
 use Rattle.sabr_frontier.proofs.TreeLemmas.Excluding.{carried_then}
 use Rattle.sabr_frontier.proofs.TreeLemmas.Refined.{standing, inside, can_exclude, route_there}
 use Rattle.sabr_frontier.proofs.TreeLemmas.Winning.{winners_same}
@@ -65,7 +66,7 @@ module _ {A : Type 0} {a : Asked} {t : Shape A} {id : NodeId} {w : RouteRecord} 
   long = length-modify (excluding s) t.nodes id.0
 
   inner : id.0 < length former
-  inner = omega (arith, long, get_within t.nodes id.0 k.part k.stands)
+  inner = omega (arith, long, slice_get_within t.nodes id.0 k.part k.stands)
 
   -- the numbers of the copy
   numbers_are : {copy : List ℕ} → copy ≡ w.contacts → copy ≡ s
@@ -107,7 +108,7 @@ pub divide-requires-clause-in_range : goal.divide-requires-clause-in_range
 divide-requires-clause-in_range g c =
     let t = shape_of c.args.self.now in
     let w = standing t.nodes c.in-Some.node c.in-Some.ensures.some in
-    let l = get_within t.nodes c.in-Some.node.0 w.0 w.2 in
+    let l = slice_get_within t.nodes c.in-Some.node.0 w.0 w.2 in
     omega (arith, l, ap (λ (z : Shape _). length z.nodes) c.reserve-2.ensures.same)
 
 pub divide-requires-clause-route : goal.divide-requires-clause-route
@@ -128,7 +129,7 @@ pub change-requires-clause-in_range : goal.change-requires-clause-in_range
 change-requires-clause-in_range g c =
     let t = shape_of c.args.self.now in
     let w = standing t.nodes c.in-Some.node c.in-Some.ensures.some in
-    let l = get_within t.nodes c.in-Some.node.0 w.0 w.2 in
+    let l = slice_get_within t.nodes c.in-Some.node.0 w.0 w.2 in
     omega (arith, l, c.in_ok-reserve-2.ensures.room.count, ap (λ (z : Shape _). length z.nodes) c.reserve-2.ensures.same)
 
 pub change-requires-clause-carries : goal.change-requires-clause-carries

@@ -1,9 +1,9 @@
 use Rattle.std.proofs.Common.{◌≡◌, ℕ, ◌+◌, List, [], ◌∷◌, ◌++◌, take, get_or, subst, ◌∙◌}
-use Rattle.std.proofs.lemmas.List.{take_all, take_more}
+use Rattle.std.proofs.lemmas.List.{length-set, take_all, take_more}
 use Rattle.sabr_model.specs.routes.Route.{receivers}
 use Rattle.sabr_model.specs.routes.Following.{AreMarked}
 use Rattle.sabr_model.proofs.RouteLemmas.Follows.{all_followed, first_fault_on, front_is_good}
-use Rattle.sabr_model.proofs.RouteLemmas.Marks.{marked_on, set_many}
+use Rattle.sabr_model.proofs.RouteLemmas.Marks.{marked_on}
 use Rattle.sabr_model.proofs.following.Follower.follow_rest.Goals as goal
 
 pub loop-i-init : goal.loop-i-init
@@ -26,7 +26,7 @@ loop-i-preserved g c =
     record {
       front = c.loop-i.invariant.front ∙ first_fault_on p c.args.self.now.request.now s i c.loop-i-test.true c.in_ok-here.ensures.good;
       reached = rw more c.in_ok-here.ensures.ok;
-      many = set_many c.loop-i.marks _ ∙ c.loop-i.invariant.many;
+      many = length-set c.loop-i.marks _ _ ∙ c.loop-i.invariant.many;
       marked = rw more (marked_on p c.args.self.now.request.now.source c.loop-i.marks (take i s) (get_or s i 0) c.in_ok-here.here.node c.in_ok-here.ensures.ok.node c.loop-i.invariant.many c.loop-i.invariant.marked);
     }
 

@@ -1,11 +1,10 @@
-use Rattle.std.proofs.Common.{◌≡◌, ◌∷◌, ◌++◌, [], List, ℕ, map, length, refl, sym, ap, subst, ◌∙◌, inl, inr, true≢false}
+use Rattle.std.proofs.Common.{◌≡◌, ◌∷◌, ◌++◌, [], List, ℕ, map, length, refl, sym, ap, subst, ◌∙◌, inl, inr, true≢false, append-nil}
 use Rattle.std.proofs.lemmas.Bool.{false_from_ne_true}
 use Rattle.sabr_model.specs.routes.Record.{record_of}
 use Rattle.sabr_model.specs.routes.Route.{is_path}
 use Rattle.sabr_frontier.specs.declared.loader.leading.Owed.{Owed}
 use Rattle.sabr_frontier.specs.loading.Leading.{AreSteps, IsLead, step_of}
-use Rattle.sabr_frontier.proofs.ListingLemmas.Division.{map-append}
-use Rattle.sabr_frontier.proofs.TreeLemmas.Fronts.{nil_right}
+use Rattle.std.proofs.lemmas.List.{map-append}
 use Rattle.sabr_frontier.proofs.ListingLemmas.Members.{Member-append_cases}
 use Rattle.sabr_frontier.proofs.LoadingLemmas.Judges.{leaf_there, no_leaf, none_onward, onward_there}
 use Rattle.sabr_frontier.proofs.loader.judge.Judged.put.Goals as goal
@@ -33,7 +32,7 @@ pub returns-then-lead-to-clause-onward : goal.returns-then-lead-to-clause-onward
 returns-then-lead-to-clause-onward g c _ =
     let old : List (List ℕ) = map (step_of c.args.prefix.now) c.args.self.now.onward.items in
     let none = none_onward c.args.question.now.plan.now.plan c.args.question.now.request c.args.prefix.now c.args.number c.in-Some.lead c.in-Some.ensures.lead (c.if-lead-to.true ∙ c.to.ensures.value) in
-    sym (ap (λ z. old ++ z) none ∙ nil_right old)
+    sym (ap (λ z. old ++ z) none ∙ append-nil old)
 
 pub returns-clause-leaves : goal.returns-clause-leaves
 returns-clause-leaves g c _ =
@@ -41,7 +40,7 @@ returns-clause-leaves g c _ =
     let r = c.args.question.now.request in
     let old = c.args.self.now.leaves.items in
     let none = no_leaf p r c.args.prefix.now c.args.number c.in-Some.lead c.in-Some.ensures.lead (λ e. c.if-lead-to.false (e ∙ sym c.to.ensures.value)) in
-    sym (ap (λ z. old ++ map (record_of p r) z) none ∙ nil_right old)
+    sym (ap (λ z. old ++ map (record_of p r) z) none ∙ append-nil old)
 
 pub returns-clause-onward : goal.returns-clause-onward
 returns-clause-onward g c _ =

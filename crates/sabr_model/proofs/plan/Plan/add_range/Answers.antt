@@ -2,7 +2,7 @@ use Rattle.std.proofs.Common.{sym, subst}
 use Rattle.sabr_model.specs.plan.Plan.{ContactPlan}
 use Rattle.sabr_model.specs.plan.RangeOrder.{IsRangeList}
 use Rattle.sabr_model.proofs.PlanLemmas.RangeKeys.{range_list}
-use Rattle.sabr_model.proofs.plan.Plan.range_refusal.Goals as goal
+use Rattle.sabr_model.proofs.plan.Plan.add_range.Goals as goal
 
 pub overlaps_some-clashes-requires : goal.overlaps_some-clashes-requires
 overlaps_some-clashes-requires g c =
