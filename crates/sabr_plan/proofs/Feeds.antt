@@ -1,5 +1,5 @@
 -- Pieces of a text, fed one after the other.
-use Rattle.std.proofs.Common.{◌≡◌, ◌≢◌, ℕ, ◌+◌, ◌≤◌, ◌⊎◌, inl, inr, Bool, true, List, [], ◌∷◌, ◌++◌, length, refl, sym, ap, ◌∙◌, arith, Result, Ok, Err, OnOk, IfErr, length-append}
+use Rattle.std.proofs.Common.{◌≡◌, ◌≢◌, ℕ, ◌+◌, ◌≤◌, ◌⊎◌, inl, inr, Bool, true, List, [], ◌∷◌, ◌++◌, length, append_assoc, refl, sym, ap, ◌∙◌, arith, Result, Ok, Err, OnOk, IfErr, length-append}
 use Rattle.sabr_plan.specs.declared.fault.PlanFault.{PlanFault}
 use Rattle.sabr_plan.specs.declared.fault.PlanKind.TheVariants as kind
 use Rattle.sabr_plan.specs.Steps.{and_then}
@@ -7,6 +7,10 @@ use Rattle.sabr_plan.specs.Words.{is_one_line}
 use Rattle.sabr_plan.specs.Reading.{most_line_bytes, read_line, broken_line}
 use Rattle.sabr_plan.specs.Feeding.{Fed, outcome, IsFed, weight}
 use Rattle.sabr_plan.proofs.Outcomes.{outcome-line, outcome-held, outcome-refused}
+
+-- a line ends in the first of two parts
+pub parted_on : (rest line behind tail : List ℕ) → rest ≡ line ++ 10 ∷ behind → rest ++ tail ≡ line ++ 10 ∷ (behind ++ tail)
+parted_on rest line behind tail parts = ap (λ t. t ++ tail) parts ∙ rw append_assoc refl
 
 module _ (first : Fed) (piece : List ℕ) (s : Fed) (rest : List ℕ) (same : (more : List ℕ) (ended : Bool) → outcome first (piece ++ more) ended ≡ outcome s (rest ++ more) ended) (held : is_one_line s.held ≡ true) where
   module _ (front back : List ℕ) (one : is_one_line front ≡ true) (parted : rest ≡ front ++ 10 ∷ back) where

@@ -1,7 +1,8 @@
 -- The lines of a text that is given in parts.
-use Rattle.std.proofs.Common.{◌≡◌, ℕ, ◌<◌, true, false, not, eqb, List, [], ◌∷◌, ◌++◌, length, take, drop, get_or, refl, sym, ap, ◌∙◌, arith, append-nil, length-drop, get_or-drop, add-zero}
+use Rattle.std.proofs.Common.{◌≡◌, ℕ, suc, ◌<◌, true, false, not, eqb, List, [], ◌∷◌, ◌++◌, ◌+◌, ◌-◌, length, take, drop, get_or, refl, sym, ap, ◌∙◌, arith, append-nil, length-append, length-drop, get_or-drop, add-zero}
 use Rattle.std.proofs.lemmas.Bool.{and_parts, false≢true}
-use Rattle.std.proofs.lemmas.List.{take-append-drop}
+use Rattle.std.proofs.lemmas.List.{take-append-drop, get_or-append-add}
+use Rattle.std.proofs.lemmas.Slice.{first_rest}
 use borrow.Author.Tests.{not-true}
 use Rattle.sabr_plan.specs.Words.{TextLines, is_one_line, before_lines, lines_of}
 
@@ -53,14 +54,14 @@ parted text front back rest end a b h lf c =
     let whole : text ≡ front ++ back = rw (a, b) (sym (take-append-drop end text)) in
     whole ∙ ap (λ s. front ++ s) (behind_lf back some first ∙ ap (λ s. 10 ∷ s) (sym c))
 
-abbrev first_line : TextLines → List ℕ
-first_line t = elim t.ended [ [] ↦ [] | line ∷ lines ↦ line ]
+-- a text with an LF has a first byte
+pub first_byte : (text : List ℕ) → is_one_line text ≡ false → text ≡ get_or text 0 0 ∷ take (length text - 1) (drop 1 text)
+first_byte [] lf = absurd (false≢true (sym lf))
+first_byte (b ∷ text) lf = first_rest (b ∷ text) 0 (omega arith)
 
--- a text has one first line
-pub same_line : (a b x y : List ℕ) → is_one_line a ≡ true → is_one_line b ≡ true → a ++ 10 ∷ x ≡ b ++ 10 ∷ y → a ≡ b
-same_line a b x y h k e = ap first_line (sym (lines_of-line a x h) ∙ ap lines_of e ∙ lines_of-line b y k)
-
--- a text of at least one line begins with LF
-pub starts_lf : (text : List ℕ) → is_one_line text ≡ false → get_or text 0 0 ≡ 10 → text ≡ 10 ∷ drop 1 text
-starts_lf [] some lf = absurd (false≢true (sym some))
-starts_lf (b ∷ text) some lf = ap (λ x. x ∷ text) lf
+-- what comes after a line of a text that ends with LF is empty or ends with LF
+pub still_lf_at_end : (text line rest : List ℕ) → text ≡ line ++ 10 ∷ rest → (0 < length text → get_or text (length text - 1) 0 ≡ 10) → 0 < length rest → get_or rest (length rest - 1) 0 ≡ 10
+still_lf_at_end text line rest parts lf some =
+    let many : length text ≡ length line + suc (length rest) = ap length parts ∙ length-append line (10 ∷ rest) in
+    let at : length text - 1 ≡ length line + suc (length rest - 1) = omega (arith, many, some) in
+    sym (ap (λ t. get_or t (length text - 1) 0) parts ∙ ap (λ k. get_or (line ++ 10 ∷ rest) k 0) at ∙ get_or-append-add line (10 ∷ rest) (suc (length rest - 1)) 0) ∙ lf (omega (arith, many))

@@ -1,5 +1,5 @@
 -- A text of graphic words, each after blanks, has those words.
-use Rattle.std.proofs.Common.{◌≡◌, ◌≢◌, ℕ, ◌<◌, true, false, eqb, leb, List, [], ◌∷◌, ◌++◌, length, drop, get_or, refl, sym, ap, ◌∙◌, arith, append_assoc, append-nil, not, ◌||◌, ◌&&◌}
+use Rattle.std.proofs.Common.{◌≡◌, ◌≢◌, ℕ, ◌<◌, true, false, eqb, leb, List, [], ◌∷◌, ◌++◌, length, get_or, refl, sym, ap, ◌∙◌, arith, append_assoc, append-nil, not, ◌||◌, ◌&&◌}
 use Rattle.std.specs.List.{All, list_all}
 use Rattle.std.proofs.lemmas.Bool.{and_parts, ne_eqb, false≢true}
 use Rattle.std.proofs.Math.Bool.{or-true}
@@ -8,7 +8,7 @@ use Rattle.std.proofs.lemmas.List.Sums.{AllPass-from_list_all}
 use borrow.Author.Tests.{leb-true, le-leb, ltb-true, lt-ltb, eqb-true}
 use Rattle.sabr_plan.specs.Digits.{is_digit}
 use Rattle.sabr_plan.specs.Words.{is_blank, is_plain, is_comment, has_bytes, is_one_line, words_of}
-use Rattle.sabr_plan.specs.PlainWords.{is_graphic, is_graphic_word, is_plain_from_blank, IsAfterBlanks, IsAfterGap, IsAtEnd, IsFront, IsAhead, BeginsWithLine}
+use Rattle.sabr_plan.specs.PlainWords.{is_graphic, is_graphic_word, is_plain_from_blank, IsAfterBlanks, IsAfterGap, IsFront, IsAhead}
 use Rattle.sabr_plan.proofs.FirstWords.{first_is, words_of-blank, words_of-nil}
 
 -- a graphic byte is no blank
@@ -109,41 +109,35 @@ ended_front {Holds} {text} {rest} front lf =
 pub ended_ahead : {Holds : List ℕ → Type 0} {text rest : List ℕ} → IsAhead Holds text rest → is_one_line text ≡ false → is_one_line rest ≡ false
 ended_ahead ahead lf = ended_front ahead.front (ended_gap ahead.gap lf)
 
--- a text begins with a line of these words and its LF; the line is empty or begins with a blank
-pub record HasLine (words : List (List ℕ)) (text : List ℕ) : Type 0 where
+-- a text begins with a line of these words, its LF and the rest; the line is empty or begins with a blank
+pub record HasLine (words : List (List ℕ)) (text rest : List ℕ) : Type 0 where
   pub line : List ℕ
-  pub rest : List ℕ
   pub parts : text ≡ line ++ 10 ∷ rest
   pub plain : list_all is_plain line ≡ true
   pub apart : 0 < length line → is_blank (get_or line 0 0) ≡ true
   pub has : words_of line ≡ words
 
-pub at_end : {text rest : List ℕ} → IsAfterBlanks text rest → rest ≡ 10 ∷ drop 1 rest → IsAtEnd text
-at_end {text} {rest} after lf = record { rest = drop 1 rest; after = record { blanks = after.blanks; parts = after.parts ∙ ap (λ r. after.blanks ++ r) lf; blank = after.blank } }
-
 -- blanks and an LF
-pub no_words : {text : List ℕ} → IsAtEnd text → HasLine [] text
-no_words {text} end =
-    let blanks = end.after.blanks in
+pub no_words : {text rest : List ℕ} → IsAfterBlanks text (10 ∷ rest) → HasLine [] text rest
+no_words {text} {rest} end =
+    let blanks = end.blanks in
     record {
       line = blanks;
-      rest = end.rest;
-      parts = end.after.parts;
-      plain = plain_blanks blanks end.after.blank;
-      apart = λ some. rw append-nil at (first_blank blanks [] some end.after.blank);
-      has = sym (ap words_of (append-nil blanks)) ∙ words_of-blanks blanks [] end.after.blank ∙ words_of-nil;
+      parts = end.parts;
+      plain = plain_blanks blanks end.blank;
+      apart = λ some. rw append-nil at (first_blank blanks [] some end.blank);
+      has = sym (ap words_of (append-nil blanks)) ∙ words_of-blanks blanks [] end.blank ∙ words_of-nil;
     }
 
 -- one more word before them
-pub more_words : {Holds : List ℕ → Type 0} {text rest : List ℕ} {words : List (List ℕ)} (ahead : IsAhead Holds text rest) → HasLine words rest → HasLine (ahead.front.word ∷ words) text
-more_words {Holds} {text} {rest} {words} ahead back =
+pub more_words : {Holds : List ℕ → Type 0} {text start rest : List ℕ} {words : List (List ℕ)} (ahead : IsAhead Holds text start) → HasLine words start rest → HasLine (ahead.front.word ∷ words) text rest
+more_words {Holds} {text} {start} {rest} {words} ahead back =
     let blanks = ahead.gap.blanks in
     let word = ahead.front.word in
     let graphic = and_parts (has_bytes word) (list_all is_graphic word) ahead.front.graphic in
     let plain : list_all is_plain (blanks ++ (word ++ back.line)) ≡ true = rw (list_all-append is_plain blanks (word ++ back.line), list_all-append is_plain word back.line, plain_blanks blanks ahead.gap.blank, plain_word word graphic.1, back.plain) refl in
     record {
       line = blanks ++ (word ++ back.line);
-      rest = back.rest;
       parts = ahead.gap.parts ∙ ap (λ r. blanks ++ r) (ahead.front.parts ∙ ap (λ r. word ++ r) back.parts) ∙ rw (append_assoc, append_assoc) refl;
       plain = plain;
       apart = λ _. first_blank blanks (word ++ back.line) (ltb-true 0 (length blanks) ahead.gap.some) ahead.gap.blank;
@@ -151,8 +145,8 @@ more_words {Holds} {text} {rest} {words} ahead back =
     }
 
 -- a line with a word begins with a blank
-pub from_blank : {word text : List ℕ} {words : List (List ℕ)} (has : HasLine (word ∷ words) text) → is_plain_from_blank has.line ≡ true
-from_blank {word} {text} {words} has =
+pub from_blank : {word text rest : List ℕ} {words : List (List ℕ)} (has : HasLine (word ∷ words) text rest) → is_plain_from_blank has.line ≡ true
+from_blank {word} {text} {rest} {words} has =
     let some : 0 < length has.line = (elim has.line as (λ l. words_of l ≡ word ∷ words → 0 < length l) [
       | [] ↦ λ e. let none = words_of-nil in cc
       | b ∷ l ↦ λ _. omega arith
@@ -160,14 +154,14 @@ from_blank {word} {text} {words} has =
     rw (has.apart some, has.plain) refl
 
 -- any line that begins with a blank
-pub from_line : {Holds : List ℕ → Type 0} {text : List ℕ} (begins : BeginsWithLine Holds text) → HasLine (words_of begins.line) text
-from_line {Holds} {text} begins =
-    let parts = and_parts (is_blank (get_or begins.line 0 0)) (list_all is_plain begins.line) begins.plain in
-    record { line = begins.line; rest = begins.rest; parts = begins.parts; plain = parts.1; apart = λ _. parts.0; has = refl }
+pub from_line : {text rest : List ℕ} (line : List ℕ) → text ≡ line ++ 10 ∷ rest → is_plain_from_blank line ≡ true → HasLine (words_of line) text rest
+from_line {text} {rest} line parts from =
+    let plain = and_parts (is_blank (get_or line 0 0)) (list_all is_plain line) from in
+    record { line = line; parts = parts; plain = plain.1; apart = λ _. plain.0; has = refl }
 
 -- `a` before them, where a line begins
-pub first_a : {text rest : List ℕ} {words : List (List ℕ)} (after : IsAfterBlanks text (97 ∷ rest)) (back : HasLine words rest) → (text ≡ (after.blanks ++ 97 ∷ back.line) ++ 10 ∷ back.rest) × (list_all is_plain (after.blanks ++ 97 ∷ back.line) ≡ true) × (words_of (after.blanks ++ 97 ∷ back.line) ≡ (97 ∷ []) ∷ words)
-first_a {text} {rest} {words} after back = (
+pub first_a : {text start rest : List ℕ} {words : List (List ℕ)} (after : IsAfterBlanks text (97 ∷ start)) (back : HasLine words start rest) → (text ≡ (after.blanks ++ 97 ∷ back.line) ++ 10 ∷ rest) × (list_all is_plain (after.blanks ++ 97 ∷ back.line) ≡ true) × (words_of (after.blanks ++ 97 ∷ back.line) ≡ (97 ∷ []) ∷ words)
+first_a {text} {start} {rest} {words} after back = (
   after.parts ∙ ap (λ r. after.blanks ++ 97 ∷ r) back.parts ∙ rw append_assoc refl,
   rw (list_all-append is_plain after.blanks (97 ∷ back.line), plain_blanks after.blanks after.blank, back.plain) refl,
   words_of-blanks after.blanks (97 ∷ back.line) after.blank ∙ first_of (97 ∷ []) back.line refl back.apart ∙ ap (λ ws. (97 ∷ []) ∷ ws) back.has,

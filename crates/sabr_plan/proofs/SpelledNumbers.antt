@@ -111,7 +111,7 @@ tells_digits = record {
 folds_digits : FoldsDigits (λ n ds. fold (λ n b. n * 10 + (b - 48)) n ds)
 folds_digits = record { empty = λ n. refl; more = λ n c cs k. refl }
 
-numerals : IsNumeralModel (λ ds. list_all is_digit ds ≡ true) own.digits_value
+pub numerals : IsNumeralModel (λ ds. list_all is_digit ds ≡ true) own.digits_value
 unfolding own.digits_value
 numerals = numerals_by_fold (λ ds. list_all is_digit ds ≡ true) tells_digits (λ n ds. fold (λ n b. n * 10 + (b - 48)) n ds) folds_digits
 

@@ -1,7 +1,7 @@
 -- Words at the front of a text, each after blanks.
 use Rattle.std.specs.Prelude.{◌≡◌, ℕ, nat_le, ◌&&◌, Bool, List, ◌∷◌, ◌++◌, slice_index, codes, IsTrue}
 use Rattle.std.specs.List.{list_all}
-use Rattle.sabr_plan.specs.Words.{has_bytes, is_blank, is_plain}
+use Rattle.sabr_plan.specs.Words.{has_bytes, is_blank, is_plain, is_one_line}
 use Rattle.sabr_plan.specs.declared.command.Target.{Target}
 use Rattle.sabr_plan.specs.declared.command.Target.TheVariants.{Contact, Range}
 
@@ -30,11 +30,6 @@ pub record IsAfterGap (text rest : List ℕ) : Type 0 where
   pub some : IsTrue (has_bytes blanks)
   pub blank : IsTrue (list_all is_blank blanks)
 
--- a text begins with blanks, if any, and an LF
-pub record IsAtEnd (text : List ℕ) : Type 0 where
-  pub rest : List ℕ
-  pub after : IsAfterBlanks text (10 ∷ rest)
-
 -- a text begins with a word for which this holds, and continues with the rest
 pub record IsFront (Holds : List ℕ → Type 0) (text rest : List ℕ) : Type 0 where
   pub word : List ℕ
@@ -48,12 +43,11 @@ pub record IsAhead (Holds : List ℕ → Type 0) (text rest : List ℕ) : Type 0
   pub gap : IsAfterGap text start
   pub front : IsFront Holds start rest
 
--- a text begins with a line for which this holds, and its LF
-pub record BeginsWithLine (Holds : List ℕ → Type 0) (text : List ℕ) : Type 0 where
+-- a text begins with a line for which this holds, and continues after its LF with the rest
+pub record BeginsWithLine (Holds : List ℕ → Type 0) (text rest : List ℕ) : Type 0 where
   pub line : List ℕ
-  pub rest : List ℕ
   pub parts : text ≡ line ++ 10 ∷ rest
-  pub plain : IsTrue (is_plain_from_blank line)
+  pub one : IsTrue (is_one_line line)
   pub holds : Holds line
 
 -- the word that names what is added

@@ -1,13 +1,11 @@
 //! The command in a line of a plan text.
 
-ghost use Rattle.std.specs.Prelude.{◌≡◌, ◌≢◌, [], ◌∷◌, ◌++◌, IsTrue};
-ghost use Rattle.sabr_plan.specs.Words.{is_one_line, words_of};
+ghost use Rattle.std.specs.Prelude.{◌≡◌};
+ghost use Rattle.sabr_plan.specs.Words.{words_of};
 ghost use Rattle.sabr_plan.specs.Commands.{line_command, command_of, reference_of, target_of, targeted, addition_of, deletion_of};
 
 use crate::fault::PlanKind;
-use crate::known_day::KnownDay;
 use crate::operand::{absolute_time, both_of, node_of, time_at, value_of};
-use crate::swift_line::swift_addition;
 use crate::words::{five_words, is_comment, is_plain, is_word, next_word, one_word, three_words};
 
 /// What a command adds or deletes.
@@ -53,7 +51,7 @@ pub enum Command {
 #[tactic(auto, unfolding(crate::specs::Commands::line_command))]
 #[cold]
 #[inline(never)]
-fn line_command(reference: Option<u64>, line: &[u8]) -> Result<Command, PlanKind>
+pub fn line_command(reference: Option<u64>, line: &[u8]) -> Result<Command, PlanKind>
     ensures { result ≡ line_command reference line.now }
 {
     if is_comment(line) {
@@ -63,25 +61,6 @@ fn line_command(reference: Option<u64>, line: &[u8]) -> Result<Command, PlanKind
         return Err(PlanKind::BadByte);
     }
     command_of(reference, line)
-}
-
-/// The same, quickly for most lines if `ended` is the line with its LF. Else it is empty.
-pub fn swift_command(
-    reference: Option<u64>,
-    day: &mut KnownDay,
-    line: &[u8],
-    ended: &[u8],
-) -> Result<Command, PlanKind>
-    requires { ended.now ≢ [] → IsTrue (is_one_line line.now) × (ended.now ≡ line.now ++ 10 ∷ []) }
-    ensures { result ≡ line_command reference line.now }
-{
-    if ended.is_empty() {
-        return line_command(reference, line);
-    }
-    match swift_addition(reference, day, ended) {
-        Some(command) => Ok(command),
-        None => line_command(reference, line),
-    }
 }
 
 /// Returns the command in the words of a line.

@@ -1,14 +1,16 @@
 //! A plan text that is read piece by piece. One line at a time is held, in a fixed array.
 
-ghost use Rattle.std.specs.Prelude.{◌≡◌, ◌≢◌, ◌+◌, ◌-◌, ◌*◌, ◌≤◌, ◌<◌, [], ◌∷◌, ◌++◌, Ok, Err, OnOk, IfOk, IfErr, IsTrue, length, take, slice_index, MatchOption, false, true};
+ghost use Rattle.std.specs.Prelude.{◌≡◌, ◌≢◌, ◌+◌, ◌-◌, ◌*◌, ◌≤◌, ◌<◌, [], ◌∷◌, ◌++◌, Ok, Err, OnOk, IfOk, IfErr, IfSome, IsTrue, IsFalse, length, take, slice_index, MatchOption, false, true};
 ghost use Rattle.sabr_plan.specs.Words.{is_one_line};
+ghost use Rattle.sabr_plan.specs.Commands.{line_command};
 ghost use Rattle.sabr_plan.specs.Leaving.{Leaves, LeavesAt};
 ghost use Rattle.sabr_plan.specs.declared.fault.PlanKind.TheVariants as kind;
 
+use crate::command::Command;
 use crate::fault::{PlanFault, PlanKind};
 use crate::reading::PlanReading;
 use arrayvec::ArrayVec;
-use memchr::memchr;
+use memchr::{memchr, memrchr};
 use sabr_model::{NoMemory, Plan};
 use std::alloc::Allocator;
 use std::marker::Model;
@@ -50,6 +52,33 @@ pub fn line_end(text: &[u8]) -> Option<usize>
     memchr(b'\n', text)
 }
 
+/// Returns the first line of a text, and the text after its LF.
+#[cold]
+#[inline(never)]
+fn first_line(text: &[u8]) -> (&[u8], &[u8])
+    requires { IsFalse (is_one_line text.now) }
+    ensures parts { text.now ≡ result.0.now ++ 10 ∷ result.1.now }
+    ensures line { IsTrue (is_one_line result.0.now) }
+{
+    let Some(end) = line_end(text) else {
+        unreachable!();
+    };
+    let (line, back) = text.split_at(end);
+    (line, &back[1..])
+}
+
+/// Returns the lines of a piece with their LF, and the bytes after the last LF.
+fn ended_lines(piece: &[u8]) -> (&[u8], &[u8])
+    ensures parts { piece.now ≡ result.0.now ++ result.1.now }
+    ensures ended { 0 < length result.0.now → slice_index result.0.now (length result.0.now - 1) ≡ 10 }
+    ensures line { IsTrue (is_one_line result.1.now) }
+{
+    match memrchr(b'\n', piece) {
+        Some(last) => piece.split_at(last + 1),
+        None => piece.split_at(0),
+    }
+}
+
 impl<A: Allocator + Copy> PlanFeed<A> {
     ghost use Rattle.sabr_plan.specs.Reading.{most_line_bytes, most_lines, judged, at_line, limited, read_line, ended_line, broken_line};
     ghost use Rattle.sabr_plan.specs.Feeding.{Fed, nothing_fed, outcome, IsFed, weight, most_weight, Answers};
@@ -71,13 +100,33 @@ impl<A: Allocator + Copy> PlanFeed<A> {
         ensures grows { OnOk result (weight self.old + length piece.now ≤ weight self.new) }
         ensures bound { OnOk result (weight self.new ≤ most_weight) }
     {
-        let mut rest = piece;
-        while let Some(end) = line_end(rest) {
-            let (front, back) = rest.split_at(end);
-            self.end_line(front, &rest[..end + 1])?;
-            rest = &back[1..];
+        let (lines, tail) = ended_lines(piece);
+        let mut rest = lines;
+        while !rest.is_empty() {
+            let (line, known, behind) = self.line_ahead(rest);
+            self.end_line(line, known)?;
+            rest = behind;
         }
-        self.hold(rest)
+        self.hold(tail)
+    }
+
+    /// Returns the first line of a text, its command if that is quick to read, and the text after its LF.
+    #[inline(always)]
+    fn line_ahead<'a>(&mut self, text: &'a [u8]) -> (&'a [u8], Option<Command>, &'a [u8])
+        requires { IsFalse (is_one_line text.now) }
+        ensures same { self.new ≡ self.old }
+        ensures parts { text.now ≡ result.0.now ++ 10 ∷ result.2.now }
+        ensures line { IsTrue (is_one_line result.0.now) }
+        ensures known { IfSome result.1 (λ c. (self.old.held ≡ []) × (line_command self.old.reading.reference result.0.now ≡ Ok c)) }
+    {
+        if self.held.is_empty() {
+            if let Some((command, rest)) = self.reading.swift_addition(text) {
+                let (line, _) = text.split_at(text.len() - rest.len() - 1);
+                return (line, Some(command), rest);
+            }
+        }
+        let (line, rest) = first_line(text);
+        (line, None, rest)
     }
 
     /// Ends the text.
@@ -103,7 +152,7 @@ impl<A: Allocator + Copy> PlanFeed<A> {
         if self.held.is_empty() {
             Ok(())
         } else {
-            self.end_line(b"", b"\n")
+            self.end_line(b"", None)
         }
     }
 
@@ -130,17 +179,18 @@ impl<A: Allocator + Copy> PlanFeed<A> {
         }
     }
 
-    /// Ends the line with these bytes, which are also given with the LF after them.
-    fn end_line(&mut self, back: &[u8], ended: &[u8]) -> Result<(), PlanFault>
+    /// Ends the line with these bytes. If nothing else is held, its command may be known.
+    #[inline(always)]
+    fn end_line(&mut self, back: &[u8], known: Option<Command>) -> Result<(), PlanFault>
         requires line { IsTrue (is_one_line back.now) }
-        requires ended { ended.now ≡ back.now ++ 10 ∷ [] }
+        requires known { IfSome known (λ c. (self.old.held ≡ []) × (line_command self.old.reading.reference back.now ≡ Ok c)) }
         ensures value { LeavesAt (read_line (self.old.lines + 1) self.old.reading (self.old.held ++ back.now)) result self.new.reading }
         ensures rest { OnOk result ((self.new.lines ≡ self.old.lines + 1) × (self.new.held ≡ [])) }
         ensures fits { OnOk result (length self.old.held + length back.now ≤ most_line_bytes) }
         ensures held { IsTrue (is_one_line self.old.held) }
     {
         let line = self.lines + 1;
-        match self.judge_line(back, ended) {
+        match self.judge_line(back, known) {
             Ok(()) => {
                 self.lines = line;
                 self.held.clear();
@@ -151,9 +201,10 @@ impl<A: Allocator + Copy> PlanFeed<A> {
     }
 
     /// Judges the line that goes on with these bytes, if it is within the limits.
-    fn judge_line(&mut self, back: &[u8], ended: &[u8]) -> Result<(), PlanKind>
+    #[inline(always)]
+    fn judge_line(&mut self, back: &[u8], known: Option<Command>) -> Result<(), PlanKind>
         requires line { IsTrue (is_one_line back.now) }
-        requires ended { ended.now ≡ back.now ++ 10 ∷ [] }
+        requires known { IfSome known (λ c. (self.old.held ≡ []) × (line_command self.old.reading.reference back.now ≡ Ok c)) }
         ensures value { Leaves (limited (self.old.lines + 1) self.old.reading (self.old.held ++ back.now)) result self.new.reading }
         ensures lines { self.new.lines ≡ self.old.lines }
         ensures fits { OnOk result ((self.old.lines < most_lines) × (length self.old.held + length back.now ≤ most_line_bytes)) }
@@ -165,10 +216,10 @@ impl<A: Allocator + Copy> PlanFeed<A> {
             return Err(PlanKind::LineTooLong);
         }
         if self.held.is_empty() {
-            return self.reading.judge(back, ended);
+            return self.reading.judge(back, known);
         }
         self.append(back);
-        self.reading.judge(self.held.as_slice(), b"")
+        self.reading.judge(self.held.as_slice(), None)
     }
 
     /// Holds more bytes of a line.

@@ -3,6 +3,7 @@
 
 mod canonical_text;
 mod command;
+mod eight_digits;
 mod fault;
 mod feed;
 mod known_day;

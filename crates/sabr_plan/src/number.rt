@@ -4,7 +4,8 @@ ghost use Rattle.std.specs.Prelude.{◌≡◌, ◌<◌, ◌≤◌, ◌+◌, ◌-
 ghost use Rattle.std.specs.List.{list_all};
 ghost use Rattle.sabr_plan.specs.Digits.{is_digit, are_digits, digits_value, leads_with_zero};
 ghost use Rattle.sabr_plan.specs.Numbers.{number_within};
-ghost use Rattle.sabr_plan.specs.Words.{is_one_line};
+
+use crate::eight_digits::count_digits;
 
 /// Appends a digit to a number, if the result is below 2^64.
 fn push_digit(value: u64, byte: u8) -> Option<u64>
@@ -52,33 +53,15 @@ pub fn number_within(text: &[u8], low: u64, high: u64) -> Option<u64>
     }
 }
 
-/// Returns what a digit stands for, and more than 9 for any other byte.
-fn digit_of(byte: u8) -> u64
-    ensures digit { result ≤ 9 → IsTrue (is_digit byte) }
-    ensures value { result ≤ 9 → result ≡ byte - 48 }
-{
-    (byte as u64).wrapping_sub(48)
-}
-
 /// Returns the number that the digits at the front of a text stand for if they are at most 19, the digits, and the text
-/// after them. If the text is known to have an LF, its length plays no part.
+/// after them.
 #[inline(always)]
-pub fn leading_digits(text: &[u8], has_lf: bool) -> (u64, &[u8], &[u8])
-    requires { IsTrue has_lf → IsFalse (is_one_line text.now) }
+pub fn leading_digits(text: &[u8]) -> (u64, &[u8], &[u8])
     ensures parts { text.now ≡ result.1.now ++ result.2.now }
     ensures value { length result.1.now ≤ 19 → result.0 ≡ digits_value result.1.now }
     ensures digits { IsTrue (list_all is_digit result.1.now) }
 {
-    let mut value: u64 = 0;
-    let mut count = 0;
-    while has_lf || count < text.len() {
-        let digit = digit_of(text[count]);
-        if digit > 9 {
-            break;
-        }
-        value = value.wrapping_mul(10).wrapping_add(digit);
-        count += 1;
-    }
+    let (count, value) = count_digits(text);
     let (digits, rest) = text.split_at(count);
     (value, digits, rest)
 }
@@ -119,7 +102,7 @@ pub fn leading_number(text: &[u8], low: u64, high: u64) -> Option<(u64, &[u8], &
     ensures value { IfSome result (λ r. number_within low high r.1.now ≡ Some r.0) }
     ensures range { IfSome result (λ r. (low ≤ r.0) × (r.0 ≤ high)) }
 {
-    let (value, word, rest) = leading_digits(text, false);
+    let (value, word, rest) = leading_digits(text);
     let value = spelled(value, word, low, high)?;
     Some((value, word, rest))
 }

@@ -1,16 +1,18 @@
 //! The plan that the lines of a text make, one after another.
 
-ghost use Rattle.std.specs.Prelude.{◌≡◌, ◌≢◌, None, [], ◌∷◌, ◌++◌, IfOk, IsTrue};
-ghost use Rattle.sabr_plan.specs.Commands.{HasBounds};
+ghost use Rattle.std.specs.Prelude.{◌≡◌, None, [], Ok, IfOk, IfSome, IsFalse};
+ghost use Rattle.sabr_plan.specs.Commands.{line_command, HasBounds};
 ghost use Rattle.sabr_plan.specs.Leaving.{Leaves};
+ghost use Rattle.sabr_plan.specs.PlainWords.{BeginsWithLine};
 ghost use Rattle.sabr_plan.specs.Reading.{kind_of};
 ghost use Rattle.sabr_plan.specs.Words.{is_one_line};
 ghost use Rattle.sabr_plan.specs.declared.command.Command.TheVariants.{Add, Delete};
 ghost use Rattle.sabr_plan.specs.declared.command.Target.TheVariants as target;
 
-use crate::command::{Addition, Command, Deletion, Target, swift_command};
+use crate::command::{Addition, Command, Deletion, Target, line_command};
 use crate::fault::PlanKind;
 use crate::known_day::KnownDay;
+use crate::swift_line::swift_addition;
 use sabr_gathering::{GatheredContacts, GatheredRanges, gathered_plan};
 use sabr_model::{AddFault, NoMemory, Plan};
 use std::alloc::Allocator;
@@ -84,18 +86,43 @@ impl<A: Allocator + Copy> PlanReading<A> {
         gathered_plan(alloc, contacts, ranges)
     }
 
-    /// Reads a line without its LF, and does what it says. It is faster if `ended` is the line with its LF; else
-    /// that is empty.
+    /// Returns the command of a text's first line, if it is quick to read, and the text after the line's LF. None says
+    /// nothing.
+    #[inline(always)]
+    pub fn swift_addition<'a>(&mut self, text: &'a [u8]) -> Option<(Command, &'a [u8])>
+        requires { IsFalse (is_one_line text.now) }
+        ensures same { self.new ≡ self.old }
+        ensures value { IfSome result (λ r. BeginsWithLine (λ line. line_command self.old.reference line ≡ Ok r.0) text.now r.1.now) }
+    {
+        swift_addition(self.reference, &mut self.day, text)
+    }
+
+    /// Reads a line without its LF, whose command may be known already, and does what it says.
+    #[inline(always)]
     #[tactic(auto, unfolding(crate::specs::Reading::judged))]
-    pub fn judge(&mut self, line: &[u8], ended: &[u8]) -> Result<(), PlanKind>
-        requires { ended.now ≢ [] → IsTrue (is_one_line line.now) × (ended.now ≡ line.now ++ 10 ∷ []) }
+    pub fn judge(&mut self, line: &[u8], known: Option<Command>) -> Result<(), PlanKind>
+        requires { IfSome known (λ c. line_command self.old.reference line.now ≡ Ok c) }
         ensures { Leaves (judged self.old line.now) result self.new }
     {
-        let command = swift_command(self.reference, &mut self.day, line, ended)?;
+        match known {
+            Some(command) => self.obey(command),
+            None => self.judge_any(line),
+        }
+    }
+
+    /// Reads any line without its LF, and does what it says.
+    #[cold]
+    #[inline(never)]
+    #[tactic(auto, unfolding(crate::specs::Reading::judged))]
+    fn judge_any(&mut self, line: &[u8]) -> Result<(), PlanKind>
+        ensures { Leaves (judged self.old line.now) result self.new }
+    {
+        let command = line_command(self.reference, line)?;
         self.obey(command)
     }
 
     /// Does what a line says.
+    #[inline(always)]
     #[tactic(auto, unfolding(crate::specs::Reading::obeyed))]
     fn obey(&mut self, command: Command) -> Result<(), PlanKind>
         requires { HasBounds command }

@@ -1,8 +1,8 @@
 //! A fast reader of additions, in one pass over a line. It says nothing about other lines.
 
-ghost use Rattle.std.specs.Prelude.{◌≡◌, ◌≢◌, ℕ, List, Option, [], ◌∷◌, ◌++◌, Ok, Some, IfSome, IsTrue, IsFalse};
+ghost use Rattle.std.specs.Prelude.{◌≡◌, ◌≢◌, ℕ, Option, ◌∷◌, Ok, Some, IfSome, IsTrue, IsFalse};
 ghost use Rattle.sabr_plan.specs.Numbers.{number_within};
-ghost use Rattle.sabr_plan.specs.PlainWords.{IsAfterBlanks, IsAfterGap, IsAtEnd, IsFront, IsAhead, BeginsWithLine, AddsAhead};
+ghost use Rattle.sabr_plan.specs.PlainWords.{is_plain_from_blank, IsAfterBlanks, IsAfterGap, IsFront, IsAhead, BeginsWithLine, AddsAhead};
 ghost use Rattle.sabr_plan.specs.Operands.{time_at, greatest_value};
 ghost use Rattle.sabr_plan.specs.Commands.{line_command, addition_of};
 ghost use Rattle.sabr_plan.specs.Words.{is_one_line, words_of};
@@ -59,16 +59,20 @@ fn after_all_blanks(text: &[u8]) -> &[u8]
     &text[count..]
 }
 
-/// Returns true only if no word comes before the LF.
+/// Returns what comes after the LF, if no word comes before it.
 #[inline(always)]
-fn has_no_word(text: &[u8]) -> bool
+fn after_end(text: &[u8]) -> Option<&[u8]>
     requires { IsFalse (is_one_line text.now) }
-    ensures { IsTrue result → IsAtEnd text.now }
+    ensures { IfSome result (λ r. IsAfterBlanks text.now (10 ∷ r.now)) }
 {
     if text[0] == b'\n' {
-        return true;
+        return Some(&text[1..]);
     }
-    after_all_blanks(text)[0] == b'\n'
+    let end = after_all_blanks(text);
+    if end[0] != b'\n' {
+        return None;
+    }
+    Some(&end[1..])
 }
 
 /// Returns what comes after the blanks at the front of a text, if there is one.
@@ -91,7 +95,7 @@ fn number_ahead(low: u64, high: u64, text: &[u8]) -> Option<(u64, &[u8])>
     ensures word { IfSome result (λ r. IsAhead (λ w. number_within low high w ≡ Some r.0) text.now r.1.now) }
     ensures ended { IfSome result (λ r. IsFalse (is_one_line r.1.now)) }
 {
-    let (digits, word, rest) = leading_digits(after_gap(text)?, true);
+    let (digits, word, rest) = leading_digits(after_gap(text)?);
     let value = spelled(digits, word, low, high)?;
     Some((value, rest))
 }
@@ -102,7 +106,7 @@ fn relative_front(reference: Option<u64>, text: &[u8]) -> Option<(u64, &[u8])>
     requires { IsFalse (is_one_line text.now) }
     ensures { IfSome result (λ r. IsFront (λ w. time_at reference w ≡ Ok r.0) text.now r.1.now) }
 {
-    let (seconds, digits, rest) = leading_digits(behind(text, b'+')?, true);
+    let (seconds, digits, rest) = leading_digits(behind(text, b'+')?);
     if digits.is_empty() || digits.len() > 12 {
         return None;
     }
@@ -158,31 +162,31 @@ fn time_ahead<'a>(
     Some((time, rest))
 }
 
-/// Reads the operands after `a contact` or `a range`, up to an LF.
-fn operands_ahead(
+/// Reads the operands after `a contact` or `a range`, up to an LF. Returns them and the text after the LF.
+#[inline(always)]
+fn operands_ahead<'a>(
     reference: Option<u64>,
     day: &mut KnownDay,
     target: Target,
-    text: &[u8],
-) -> Option<Addition>
+    text: &'a [u8],
+) -> Option<(Addition, &'a [u8])>
     requires { IsFalse (is_one_line text.now) }
-    ensures { IfSome result (λ a. BeginsWithLine (λ line. addition_of reference target (words_of line) ≡ Ok (Add target a)) text.now) }
+    ensures { IfSome result (λ r. BeginsWithLine (λ line. IsTrue (is_plain_from_blank line) × (addition_of reference target (words_of line) ≡ Ok (Add target r.0))) text.now r.1.now) }
 {
     let (start, rest) = time_ahead(reference, day, text)?;
     let (end, rest) = time_ahead(reference, day, rest)?;
     let (first, rest) = number_ahead(1, u64::MAX, rest)?;
     let (second, rest) = number_ahead(1, u64::MAX, rest)?;
     let (value, rest) = number_ahead(0, greatest_value(target), rest)?;
-    if !has_no_word(rest) {
-        return None;
-    }
-    Some(Addition {
+    let behind = after_end(rest)?;
+    let addition = Addition {
         start,
         end,
         first,
         second,
         value,
-    })
+    };
+    Some((addition, behind))
 }
 
 /// Returns the target of the addition that a line begins with, and the text after its name.
@@ -199,12 +203,18 @@ fn target_ahead(line: &[u8]) -> Option<(Target, &[u8])>
     Some((Target::Range, text))
 }
 
-/// Returns the command of a line, given with its LF, if it is an addition that is quick to read. None says nothing.
-pub fn swift_addition(reference: Option<u64>, day: &mut KnownDay, text: &[u8]) -> Option<Command>
+/// Returns the command of a text's first line, if it is an addition that is quick to read, and the text after the line's
+/// LF. None says nothing.
+#[inline(always)]
+pub fn swift_addition<'a>(
+    reference: Option<u64>,
+    day: &mut KnownDay,
+    text: &'a [u8],
+) -> Option<(Command, &'a [u8])>
     requires { IsFalse (is_one_line text.now) }
-    ensures { IfSome result (λ c. (line : List ℕ) → text.now ≡ line ++ 10 ∷ [] → IsTrue (is_one_line line) → line_command reference line ≡ Ok c) }
+    ensures { IfSome result (λ r. BeginsWithLine (λ line. line_command reference line ≡ Ok r.0) text.now r.1.now) }
 {
     let (target, text) = target_ahead(text)?;
-    let addition = operands_ahead(reference, day, target, text)?;
-    Some(Command::Add(target, addition))
+    let (addition, rest) = operands_ahead(reference, day, target, text)?;
+    Some((Command::Add(target, addition), rest))
 }

@@ -1,5 +1,5 @@
 -- An addition that is quick to read is the command in the words of its line.
-use Rattle.std.proofs.Common.{◌≡◌, ℕ, List, Option, Ok, true, false, [], ◌∷◌, ◌++◌, sym, ap, ◌∙◌}
+use Rattle.std.proofs.Common.{◌≡◌, ℕ, List, Option, Ok, true, false, [], ◌∷◌, ◌++◌}
 use Rattle.std.specs.List.{list_all}
 use Rattle.sabr_plan.specs.Words.{is_plain, is_comment, words_of}
 use Rattle.sabr_plan.specs.PlainWords.{name_of}
@@ -9,7 +9,6 @@ use Rattle.sabr_plan.specs.declared.command.Command.TheVariants.{Add}
 use Rattle.sabr_plan.specs.declared.command.Target.{Target}
 use Rattle.sabr_plan.specs.declared.command.Target.TheVariants.{Contact, Range}
 use Rattle.sabr_plan.proofs.PlainWords.{plain_one, from_line, more_words, first_a, no_comment}
-use Rattle.sabr_plan.proofs.Lines.{same_line}
 use Rattle.sabr_plan.proofs.swift_line.swift_addition.Goals as goal
 
 said : (reference : Option ℕ) (target : Target) (line name : List ℕ) (operands : List (List ℕ)) (a : Addition) → is_comment line ≡ false → list_all is_plain line ≡ true → words_of line ≡ (97 ∷ []) ∷ name ∷ operands → name ≡ name_of target → addition_of reference target operands ≡ Ok (Add target a) → line_command reference line ≡ Ok (Add target a)
@@ -18,11 +17,15 @@ said reference Contact line name operands a comment plain words named value = rw
 said reference Range line name operands a comment plain words named value = rw (comment, plain, words, named) value
 
 pub returns : goal.returns
-returns c line is one =
+returns c =
     let h = c.in_ok-addition.ensures in
     let adds = c.in_ok-target.ensures.adds in
-    let back = from_line h in
-    let first = first_a adds.first (more_words adds.name back) in
-    let whole = adds.first.blanks ++ 97 ∷ (more_words adds.name back).line in
-    ap (line_command c.args.reference) (same_line line whole [] (more_words adds.name back).rest one (plain_one whole first.1) (sym is ∙ first.0))
-    ∙ said c.args.reference c.in_ok-target.target whole adds.name.front.word (words_of h.line) c.in_ok-addition.addition (no_comment adds.first.blanks (more_words adds.name back).line adds.first.blank) first.1 first.2 adds.name.front.holds h.holds
+    let back = more_words adds.name (from_line h.line h.parts h.holds.0) in
+    let first = first_a adds.first back in
+    let line = adds.first.blanks ++ 97 ∷ back.line in
+    record {
+      line = line;
+      parts = first.0;
+      one = plain_one line first.1;
+      holds = said c.args.reference c.in_ok-target.target line adds.name.front.word (words_of h.line) c.in_ok-addition.addition (no_comment adds.first.blanks back.line adds.first.blank) first.1 first.2 adds.name.front.holds h.holds.1;
+    }
