@@ -7,27 +7,26 @@ use Rattle.std.proofs.lemmas.Option.{none-some, same_Some, slice_get_cases, slic
 use Rattle.sabr_index.specs.declared.link.Pass.{Pass}
 use Rattle.sabr_index.specs.declared.link.Link.{Link}
 use Rattle.sabr_index.specs.declared.link.SenderHead.{SenderHead}
-use Rattle.sabr_index.specs.declared.link.NodeLinks.{NodeLinks}
 use Rattle.sabr_index.specs.declared.senders.Incoming.{Incoming}
-use Rattle.sabr_index.specs.Links.{SentLink, AreWithin}
+use Rattle.sabr_index.specs.Links.{NodeLinks, SentLink, AreWithin}
 use Rattle.sabr_index.specs.Incoming.{links_named, passes_over, passes_at, passes_named, no_bounds, bounds_at, head_named, AllLieOver, AreHeads, IsHeadAt}
 
-module _ {A : Type 0} (linked : List (NodeLinks A)) (lie : AllLieOver linked) where
+module _ (linked : List NodeLinks) (lie : AllLieOver linked) where
   nothing_within : (e : Incoming) (h : SenderHead) → passes_named linked e ≡ [] → AreWithin h.bounds (passes_named linked e)
   nothing_within e h none k x at = absurd (none-some x (ap (λ (ps : List Pass). slice_get ps k) (sym none) ∙ at))
 
   -- the passes of a link keep within the bounds of its head
   head_within : (e : Incoming) → AreWithin (head_named linked e).bounds (passes_named linked e)
   head_within e =
-      let passes_in = λ (o : Option (NodeLinks A)). option_map_or (λ (s : NodeLinks A). passes_at s e.link) o [] in
-      let bounds_in = λ (o : Option (NodeLinks A)). option_map_or (λ (s : NodeLinks A). bounds_at s e.link) o no_bounds in
+      let passes_in = λ (o : Option NodeLinks). option_map_or (λ (s : NodeLinks). passes_at s e.link) o [] in
+      let bounds_in = λ (o : Option NodeLinks). option_map_or (λ (s : NodeLinks). bounds_at s e.link) o no_bounds in
       elim ((slice_get_cases linked e.sender).1) [
         | inl w ↦
             let s = w.0 in
-            let in_passes = λ (o : Option Link). option_map_or (passes_over s.passes.items) o [] in
-            elim ((slice_get_cases s.links.items e.link).1) [
+            let in_passes = λ (o : Option Link). option_map_or (passes_over s.passes) o [] in
+            elim ((slice_get_cases s.links e.link).1) [
               | inl v ↦
-                  let passes : passes_named linked e ≡ passes_over s.passes.items v.0 = ap passes_in w.2 ∙ ap in_passes v.2 in
+                  let passes : passes_named linked e ≡ passes_over s.passes v.0 = ap passes_in w.2 ∙ ap in_passes v.2 in
                   let bounds : (head_named linked e).bounds ≡ v.0.bounds = ap bounds_in w.2 ∙ ap (λ (o : Option Link). option_map_or (λ (l : Link). l.bounds) o no_bounds) v.2 in
                   rw (bounds, passes) ((lie e.sender s w.2 e.link v.0 v.2).2)
               | inr past ↦ nothing_within e (head_named linked e) (ap passes_in w.2 ∙ ap in_passes past.1)

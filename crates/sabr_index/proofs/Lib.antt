@@ -6,3 +6,4 @@ pub mod GroupLemmas
 pub mod ContactOrders
 pub mod SenderLemmas
 pub mod Heads
+pub mod TableLemmas

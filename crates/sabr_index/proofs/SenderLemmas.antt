@@ -14,11 +14,10 @@ use Rattle.std.proofs.lemmas.Option.{same_Some, slice_get-map, slice_get_within,
 use Rattle.sabr_model.specs.declared.contact.Contact.{Contact}
 use Rattle.sabr_index.specs.declared.link.Pass.{Pass}
 use Rattle.sabr_index.specs.declared.link.Link.{Link}
-use Rattle.sabr_index.specs.declared.link.NodeLinks.{NodeLinks}
 use Rattle.sabr_index.specs.declared.senders.Incoming.{Incoming}
 use Rattle.sabr_model.specs.plan.Plan.{TabledPlan, contact_named, has, are_different}
 use Rattle.sabr_model.specs.plan.Tabled.{IsTabled}
-use Rattle.sabr_index.specs.Links.{IsPassOf, IsLinkOf, AreLinksOf, numbers_of, received_by, SentLink, IsLinkTo, AreLinksTo}
+use Rattle.sabr_index.specs.Links.{NodeLinks, IsPassOf, IsLinkOf, AreLinksOf, numbers_of, received_by, SentLink, IsLinkTo, AreLinksTo}
 use Rattle.sabr_index.specs.Linking.{AreLinked}
 use Rattle.sabr_index.specs.Incoming.{passes_over, passes_at, passes_named, links_named, AllLieOver, HasLink, HaveReceivers, AreIncoming}
 use Rattle.sabr_model.proofs.ListLemmas.Different.{different_append, part_at, part_has}
@@ -71,22 +70,22 @@ in_row_apart links ordered in_row (suc d) j l m at_l at_m =
 -- ---- what is known of the links of all nodes
 
 -- the links of each node lie over its passes, and each leads to a node of the table
-pub lie_over : {A : Type 0} (p : TabledPlan) (linked : List (NodeLinks A)) → AreLinked p linked → length linked ≡ length p.table → AllLieOver linked
-lie_over {A} p linked are many i s at j l there =
+pub lie_over : (p : TabledPlan) (linked : List NodeLinks) → AreLinked p linked → length linked ≡ length p.table → AllLieOver linked
+lie_over p linked are many i s at j l there =
     elim ((slice_get_cases p.table i).1) [
       | inl w ↦
           let link = (are i w.0 s at w.2).each j l there in (
             link.ordered,
             link.within,
             λ k x here.
-                let p = part_at s.passes.items l.first (l.end - l.first) k x here in
+                let p = part_at s.passes l.first (l.end - l.first) k x here in
                 link.bounds (l.first + k) x (omega arith) (omega (arith, p.0)) p.1,
           )
       | inr past ↦ absurd (let behind = past.0 in let within = slice_get_within linked i s at in omega (arith, behind, within, many))
     ]
 
-pub have_receivers : {A : Type 0} (p : TabledPlan) (linked : List (NodeLinks A)) → AreLinked p linked → length linked ≡ length p.table → HaveReceivers linked
-have_receivers {A} p linked are many i j to has =
+pub have_receivers : (p : TabledPlan) (linked : List NodeLinks) → AreLinked p linked → length linked ≡ length p.table → HaveReceivers linked
+have_receivers p linked are many i j to has =
     elim ((slice_get_cases p.table i).1) [
       | inl w ↦
           let link = (are i w.0 has.node has.at w.2).each j has.link has.there in
@@ -99,34 +98,34 @@ have_receivers {A} p linked are many i j to has =
 -- ---- what a name stands for
 
 -- the link that is named, its sender, and its passes
-record IsHere {A : Type 0} (p : TabledPlan) (linked : List (NodeLinks A)) (to : ℕ) (e : Incoming) : Type 0 where
+record IsHere (p : TabledPlan) (linked : List NodeLinks) (to : ℕ) (e : Incoming) : Type 0 where
   from : ℕ
-  node_links : NodeLinks A
+  node_links : NodeLinks
   link : Link
   sender : slice_get p.table e.sender ≡ Some from
   node_at : slice_get linked e.sender ≡ Some node_links
-  link_at : slice_get node_links.links.items e.link ≡ Some link
+  link_at : slice_get node_links.links e.link ≡ Some link
   receiver : link.receiver ≡ to
-  links : AreLinksOf p from node_links.links.items node_links.passes.items
-  is : IsLinkOf p from node_links.passes.items link
-  passes : passes_named linked e ≡ passes_over node_links.passes.items link
+  links : AreLinksOf p from node_links.links node_links.passes
+  is : IsLinkOf p from node_links.passes link
+  passes : passes_named linked e ≡ passes_over node_links.passes link
 
 -- where the passes of a name have a number
-record HasPass {A : Type 0} (p : TabledPlan) (linked : List (NodeLinks A)) (to node : ℕ) (e : Incoming) (n : ℕ) : Type 0 where
+record HasPass (p : TabledPlan) (linked : List NodeLinks) (to node : ℕ) (e : Incoming) (n : ℕ) : Type 0 where
   h : IsHere p linked to e
   place : ℕ
   x : Pass
   first : h.link.first ≤ place
   last : place < h.link.end
-  there : slice_get h.node_links.passes.items place ≡ Some x
+  there : slice_get h.node_links.passes place ≡ Some x
   number : x.number ≡ n
   is : IsPassOf p h.from node x
 
 -- the numbers of all passes
-abbrev all_numbers : {A : Type 0} → List (NodeLinks A) → List Incoming → List ℕ
+abbrev all_numbers : List NodeLinks → List Incoming → List ℕ
 all_numbers linked es = flat_map (λ e. numbers_of (passes_named linked e)) es
 
-module _ {A : Type 0} (p : TabledPlan) (linked : List (NodeLinks A)) (are : AreLinked p linked) (many : length linked ≡ length p.table) (tabled : IsTabled p) (to node : ℕ) (at : slice_get p.table to ≡ Some node) where
+module _ (p : TabledPlan) (linked : List NodeLinks) (are : AreLinked p linked) (many : length linked ≡ length p.table) (tabled : IsTabled p) (to node : ℕ) (at : slice_get p.table to ≡ Some node) where
   here : (e : Incoming) → HasLink linked e.sender e.link to → IsHere p linked to e
   here e has =
       elim ((slice_get_cases p.table e.sender).1) [
@@ -142,7 +141,7 @@ module _ {A : Type 0} (p : TabledPlan) (linked : List (NodeLinks A)) (are : AreL
               receiver = has.receiver;
               links = links;
               is = links.each e.link has.link has.there;
-              passes = ap (λ (o : Option (NodeLinks A)). option_map_or (λ s. passes_at s e.link) o []) has.at ∙ ap (λ (o : Option Link). option_map_or (passes_over has.node.passes.items) o []) has.there;
+              passes = ap (λ (o : Option NodeLinks). option_map_or (λ s. passes_at s e.link) o []) has.at ∙ ap (λ (o : Option Link). option_map_or (passes_over has.node.passes) o []) has.there;
             }
         | inr past ↦ absurd (let behind = past.0 in let within = slice_get_within linked e.sender has.node has.at in omega (arith, behind, within, many))
       ]
@@ -154,7 +153,7 @@ module _ {A : Type 0} (p : TabledPlan) (linked : List (NodeLinks A)) (are : AreL
   is_to : (e : Incoming) → IsHere p linked to e → IsLinkTo p node (record { sender = e.sender; passes = passes_named linked e })
   is_to e h =
       let l = h.link in
-      let xs = h.node_links.passes.items in
+      let xs = h.node_links.passes in
       subst (λ (ps : List Pass). IsLinkTo p node (record { sender = e.sender; passes = ps })) (sym h.passes)
       (record {
         from = h.from;
@@ -180,7 +179,7 @@ module _ {A : Type 0} (p : TabledPlan) (linked : List (NodeLinks A)) (are : AreL
   has_pass e n h has_n =
       let w = pass_of_number n (passes_named linked e) has_n in
       let l = h.link in
-      let xs = h.node_links.passes.items in
+      let xs = h.node_links.passes in
       let in_part : slice_get (passes_over xs l) w.0 ≡ Some w.1 = ap (λ (ps : List Pass). slice_get ps w.0) (sym h.passes) ∙ w.2 in
       let a = part_at xs l.first (l.end - l.first) w.0 w.1 in_part in
       record {
@@ -202,10 +201,10 @@ module _ {A : Type 0} (p : TabledPlan) (linked : List (NodeLinks A)) (are : AreL
       let senders : e.sender ≡ f.sender = place_one p.table e.sender f.sender a.h.from tabled.once a.h.sender (b.h.sender ∙ ap Some (sym from)) in
       let nodes : a.h.node_links ≡ b.h.node_links = same_Some a.h.node_links b.h.node_links (sym a.h.node_at ∙ ap (slice_get linked) senders ∙ b.h.node_at) in
       let links = a.h.links in
-      let ls = a.h.node_links.links.items in
-      let there : slice_get a.h.node_links.passes.items b.place ≡ Some b.x = ap (λ (s : NodeLinks A). slice_get s.passes.items b.place) nodes ∙ b.there in
-      let link_there : slice_get ls f.link ≡ Some b.h.link = ap (λ (s : NodeLinks A). slice_get s.links.items f.link) nodes ∙ b.h.link_at in
-      let place : a.place ≡ b.place = number_once a.h.node_links.passes.items a.place b.place a.x b.x links.once a.there there (a.number ∙ sym b.number) in
+      let ls = a.h.node_links.links in
+      let there : slice_get a.h.node_links.passes b.place ≡ Some b.x = ap (λ (s : NodeLinks). slice_get s.passes b.place) nodes ∙ b.there in
+      let link_there : slice_get ls f.link ≡ Some b.h.link = ap (λ (s : NodeLinks). slice_get s.links f.link) nodes ∙ b.h.link_at in
+      let place : a.place ≡ b.place = number_once a.h.node_links.passes a.place b.place a.x b.x links.once a.there there (a.number ∙ sym b.number) in
       let ordered = λ (j : ℕ) (l : Link) (e : slice_get ls j ≡ Some l). (links.each j l e).ordered in (
         senders,
         elim (cases_eq e.link f.link) [
@@ -244,7 +243,7 @@ module _ {A : Type 0} (p : TabledPlan) (linked : List (NodeLinks A)) (are : AreL
       let h = each 0 e refl in
       let own = numbers_of (passes_named linked e) in
       let differ : are_different own ≡ true =
-      subst (λ (ps : List Pass). are_different (numbers_of ps) ≡ true) (sym h.passes) (numbers_part (h.link.end - h.link.first) h.link.first h.node_links.passes.items h.links.once) in
+      subst (λ (ps : List Pass). are_different (numbers_of ps) ≡ true) (sym h.passes) (numbers_part (h.link.end - h.link.first) h.link.first h.node_links.passes h.links.once) in
       let rest = all_differ es (λ k f at_f. each (suc k) f at_f) (λ i k f g at_f at_g s l. let up = once (suc i) (suc k) f g at_f at_g s l in omega (arith, up)) in
       subst (λ (ns : List ℕ). are_different ns ≡ true) (sym (flat_map-cons (λ (f : Incoming). numbers_of (passes_named linked f)) e es))
       (different_append own (all_numbers linked es) differ rest (λ n in_own in_rest.
@@ -292,15 +291,15 @@ module _ {A : Type 0} (p : TabledPlan) (linked : List (NodeLinks A)) (are : AreL
                   let e = found.1 in
                   let h : HasLink linked e.sender e.link to = incoming.each found.0 e found.2 in
                   let node_at : slice_get linked e.sender ≡ Some w.0 = ap (slice_get linked) found.3 ∙ w.2 in
-                  let link_at : slice_get w.0.links.items e.link ≡ Some l = ap (slice_get w.0.links.items) found.4 ∙ f.4 in
-                  let passes : passes_named linked e ≡ passes_over w.0.passes.items l =
-                  ap (λ (o : Option (NodeLinks A)). option_map_or (λ s. passes_at s e.link) o []) node_at ∙ ap (λ (o : Option Link). option_map_or (passes_over w.0.passes.items) o []) link_at in (
+                  let link_at : slice_get w.0.links e.link ≡ Some l = ap (slice_get w.0.links) found.4 ∙ f.4 in
+                  let passes : passes_named linked e ≡ passes_over w.0.passes l =
+                  ap (λ (o : Option NodeLinks). option_map_or (λ s. passes_at s e.link) o []) node_at ∙ ap (λ (o : Option Link). option_map_or (passes_over w.0.passes) o []) link_at in (
                     found.0,
                     f.1 - l.first,
                     record { sender = e.sender; passes = passes_named linked e },
                     f.3,
                     slice_get-map (λ (g : Incoming). record { sender = g.sender; passes = passes_named linked g }) es found.0 ∙ ap (option_map (λ (g : Incoming). record { sender = g.sender; passes = passes_named linked g })) found.2,
-                    ap (λ (ps : List Pass). slice_get ps (f.1 - l.first)) passes ∙ part_has w.0.passes.items l.first l.end f.1 f.3 f.5 f.6 is.within f.7,
+                    ap (λ (ps : List Pass). slice_get ps (f.1 - l.first)) passes ∙ part_has w.0.passes l.first l.end f.1 f.3 f.5 f.6 is.within f.7,
                     f.8,
                   )
               | inr past ↦ absurd (let behind = past.0 in let within = slice_get_within p.table i c.from sender_at in omega (arith, behind, within, many))

@@ -72,6 +72,11 @@ pub record AreLinksOf (p : TabledPlan) (node : ℕ) (links : List Link) (passes 
 abbrev pub received_by : List Contact → ℕ → List ℕ
 received_by contacts node = map (λ c. c.number) (filter (λ c. node == c.to) contacts)
 
+-- the links of a node, and the passes that they lie over
+pub record NodeLinks : Type 0 where
+  pub links : List Link
+  pub passes : List Pass
+
 -- a link as its receiver sees it: the index of its sender in the table, and its passes
 pub record SentLink : Type 0 where
   pub sender : ℕ

@@ -1,14 +1,15 @@
 //! How the links of each node are built.
 
-ghost use Rattle.std.specs.Prelude.{◌≡◌, ◌<◌, ℕ, IfOk, MatchOption, length, map, slice_index};
+ghost use Rattle.std.specs.Prelude.{◌≡◌, ◌<◌, ℕ, IfOk, OnOk, MatchOption, length, map, slice_index};
 ghost use Rattle.sabr_index.specs.Grouping.{AreByNode, AreStanding, numbers_of_places};
 ghost use Rattle.sabr_index.specs.Links.{AreLinksOf};
 ghost use Rattle.sabr_index.specs.Linking.{AreSent, HasNoLight, IsContactPass, IsBounded, AreBounded, ArePassesOf, AreLinked};
 
 use crate::bounds::order_passes;
-use crate::link::{Link, NodeLinks, Pass};
+use crate::link::{Link, Pass};
 use crate::order::ContactOrder;
 use crate::rows::write_links;
+use crate::table::LinkTable;
 use sabr_model::Plan;
 use std::alloc::{AllocError, Allocator};
 
@@ -17,63 +18,60 @@ pub fn link_nodes<A: Allocator + Copy>(
     alloc: A,
     plan: &Plan<A>,
     order: &ContactOrder<A>,
-) -> Result<Vec<NodeLinks<A>, A>, AllocError>
+) -> Result<LinkTable<A>, AllocError>
     requires { AreByNode plan.now.plan plan.now.table order.now.places.items order.now.senders.lasts.items order.now.senders.befores.items }
-    ensures linked { IfOk result (λ v. AreLinked plan.now v.items) }
-    ensures as_many { IfOk result (λ v. length v.items ≡ length plan.now.table) }
+    ensures linked { IfOk result (λ t. AreLinked plan.now t) }
+    ensures as_many { IfOk result (λ t. length t ≡ length plan.now.table) }
 {
-    let mut linked = Vec::new(alloc);
-    let mut places = Vec::new(alloc);
-    let mut links = Vec::new(alloc);
     let count = plan.nodes();
-    linked.reserve(count)?;
+    let mut table = LinkTable::with_capacity(alloc, count, order.places.len())?;
+    let mut places = Vec::new(alloc);
+    let mut passes = Vec::new(alloc);
+    let mut links = Vec::new(alloc);
     for index in 0..count {
         places.clear();
         order.senders.push_places(index, &mut places)?;
-        let node = links_at(alloc, plan, order, &places, &mut links)?;
-        linked.push(node)?;
+        write_node(plan, order, &places, &mut passes, &mut links)?;
+        table.push(&links, &passes)?;
     }
-    Ok(linked)
+    Ok(table)
 }
 
-/// Makes the links over the contacts at these places of the order. They are written into a list that is used again, and
-/// copied into one that has no more room than they take.
-fn links_at<A: Allocator + Copy>(
-    alloc: A,
+/// Writes the passes of the contacts at these places of the order, and the links over them.
+fn write_node<A: Allocator + Copy>(
     plan: &Plan<A>,
     order: &ContactOrder<A>,
     places: &[usize],
-    written: &mut Vec<Link, A>,
-) -> Result<NodeLinks<A>, AllocError>
+    passes: &mut Vec<Pass, A>,
+    links: &mut Vec<Link, A>,
+) -> Result<(), AllocError>
     requires { AreStanding plan.now.plan.contacts order.now.places.items places.now }
-    ensures { IfOk result (λ s. (node : ℕ) → AreSent plan.now.plan node (numbers_of_places plan.now.plan.contacts order.now.places.items places.now) → AreLinksOf plan.now node s.links.items s.passes.items) }
+    ensures { OnOk result ((node : ℕ) → AreSent plan.now.plan node (numbers_of_places plan.now.plan.contacts order.now.places.items places.now) → AreLinksOf plan.now node links.new.items passes.new.items) }
 {
-    let mut passes = passes_at(alloc, plan, order, places)?;
-    order_passes(&mut passes);
-    write_links(&passes, written)?;
-    let mut links = Vec::new(alloc);
-    links.extend_from_slice(written)?;
-    Ok(NodeLinks { links, passes })
+    write_passes(plan, order, places, passes)?;
+    order_passes(passes);
+    write_links(passes, links)?;
+    Ok(())
 }
 
-/// Makes the passes of those contacts at these places of the order that have a light time.
-fn passes_at<A: Allocator + Copy>(
-    alloc: A,
+/// Writes the passes of those contacts at these places of the order that have a light time.
+fn write_passes<A: Allocator + Copy>(
     plan: &Plan<A>,
     order: &ContactOrder<A>,
     places: &[usize],
-) -> Result<Vec<Pass, A>, AllocError>
+    passes: &mut Vec<Pass, A>,
+) -> Result<(), AllocError>
     requires { AreStanding plan.now.plan.contacts order.now.places.items places.now }
-    ensures are { IfOk result (λ v. ArePassesOf plan.now (numbers_of_places plan.now.plan.contacts order.now.places.items places.now) v.items) }
-    ensures bounded { IfOk result (λ v. AreBounded v.items) }
+    ensures are { OnOk result (ArePassesOf plan.now (numbers_of_places plan.now.plan.contacts order.now.places.items places.now) passes.new.items) }
+    ensures bounded { OnOk result (AreBounded passes.new.items) }
 {
-    let mut passes = Vec::with_capacity(alloc, places.len())?;
+    passes.clear();
     for place in places {
         if let Some(pass) = pass_of(plan, order.places[*place]) {
             passes.push(pass)?;
         }
     }
-    Ok(passes)
+    Ok(())
 }
 
 /// Makes the pass of the contact at a place, bounded by itself alone, or none if it has no light time.

@@ -8,9 +8,10 @@ ghost use Rattle.sabr_index.specs.Links.{AreLinksOf, AreLinksTo};
 use crate::building::link_nodes;
 use crate::ends::ends_of_contacts;
 use crate::incoming::{IncomingLinks, incoming_links};
-use crate::link::{Links, NodeLinks};
+use crate::link::Links;
 use crate::order::order_of_contacts;
 use crate::senders::Senders;
+use crate::table::LinkTable;
 use sabr_model::{Ends, NoMemory, Plan};
 use std::alloc::{Allocator, Global};
 use std::marker::Model;
@@ -21,7 +22,7 @@ pub struct Index<'p, A: Allocator + Copy = Global> {
     /// The plan.
     plan: &'p Plan<A>,
     /// By node its links.
-    linked: Vec<NodeLinks<A>, A>,
+    linked: LinkTable<A>,
     /// By node the links to it.
     incoming: IncomingLinks<A>,
 }
@@ -34,7 +35,7 @@ impl<'p, A: Allocator + Copy> Model for Index<'p, A> {
 
     ghost view = { λ i. i.plan.now };
 
-    ghost invariant = { λ i. IsIndex i.plan.now i.linked.items i.incoming.starts.items i.incoming.named.items i.incoming.heads.items };
+    ghost invariant = { λ i. IsIndex i.plan.now i.linked i.incoming.starts.items i.incoming.named.items i.incoming.heads.items };
 }
 
 impl<'p, A: Allocator + Copy> Index<'p, A> {
@@ -83,11 +84,7 @@ impl<'p, A: Allocator + Copy> Index<'p, A> {
         requires { index < length self.now.table }
         ensures { (node : ℕ) → slice_get self.now.table index ≡ Some node → AreLinksOf self.now node result.links.now result.passes.now }
     {
-        let node = &self.linked[index];
-        Links {
-            links: &node.links,
-            passes: &node.passes,
-        }
+        self.linked.of(index)
     }
 
     /// The links to the node at an index of the table, each with its sender.

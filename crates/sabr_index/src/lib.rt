@@ -11,6 +11,7 @@ mod link;
 mod order;
 mod rows;
 mod senders;
+mod table;
 
 pub use index::Index;
 pub use link::{Link, LinkBounds, Links, Pass, Sender, SenderHead};

@@ -1,7 +1,5 @@
 //! A node's contacts as a search reads them: link by link, and by start on each link.
 
-use std::alloc::Allocator;
-
 /// A standing contact with a light time, among the contacts of one link in order of their starts. With it are bounds on
 /// the contacts before and after it, so that a search can skip most of them.
 #[derive(Clone, Copy)]
@@ -50,13 +48,6 @@ pub struct Link {
     pub end: usize,
     /// The bounds that hold for each of its passes.
     pub bounds: LinkBounds,
-}
-
-/// What an index keeps of one node: its links, and the passes that they lie over, one link after another.
-#[derive(Drop)]
-pub struct NodeLinks<A: Allocator + Copy> {
-    pub links: Vec<Link, A>,
-    pub passes: Vec<Pass, A>,
 }
 
 /// The links of one node, and the passes that they lie over, one link after another.

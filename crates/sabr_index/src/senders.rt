@@ -4,7 +4,8 @@ ghost use Rattle.std.specs.Prelude.{◌≡◌, ◌<◌, [], Some, length, slice_
 ghost use Rattle.sabr_index.specs.Links.{AreWithin};
 ghost use Rattle.sabr_index.specs.Incoming.{links_named, passes_over, passes_at, passes_named, no_bounds, LiesOver, LieOver, AllLieOver, AreHeads, IsHeadAt};
 
-use crate::link::{Link, LinkBounds, NodeLinks, Pass, Sender, SenderHead};
+use crate::link::{Link, LinkBounds, Links, Pass, Sender, SenderHead};
+use crate::table::LinkTable;
 use std::alloc::{Allocator, Global};
 use std::marker::Model;
 
@@ -20,7 +21,7 @@ pub struct Incoming {
 pub struct Senders<'a, A: Allocator + Copy = Global> {
     incoming: &'a [Incoming],
     heads: &'a [SenderHead],
-    linked: &'a [NodeLinks<A>],
+    linked: &'a LinkTable<A>,
 }
 
 impl<'a, A: Allocator + Copy> Model for Senders<'a, A> {
@@ -40,7 +41,7 @@ impl<'a, A: Allocator + Copy> Senders<'a, A> {
     pub fn over(
         incoming: &'a [Incoming],
         heads: &'a [SenderHead],
-        linked: &'a [NodeLinks<A>],
+        linked: &'a LinkTable<A>,
     ) -> Senders<'a, A>
         requires lie { AllLieOver linked.now }
         requires heads { AreHeads linked.now incoming.now heads.now }
@@ -84,29 +85,30 @@ impl<'a, A: Allocator + Copy> Senders<'a, A> {
 }
 
 /// The link that is named.
-fn sender_named<A: Allocator + Copy>(linked: &[NodeLinks<A>], named: Incoming) -> Sender<'_>
+fn sender_named<A: Allocator + Copy>(linked: &LinkTable<A>, named: Incoming) -> Sender<'_>
     requires { AllLieOver linked.now }
     ensures sender { result.node ≡ named.sender }
     ensures passes { result.passes.now ≡ passes_named linked.now named }
     ensures bounds { AreWithin result.bounds result.passes.now }
 {
-    match linked.get(named.sender) {
-        Some(node) => sender_at(node, named),
-        None => no_passes(named.sender),
+    if named.sender < linked.len() {
+        sender_at(linked.of(named.sender), named)
+    } else {
+        no_passes(named.sender)
     }
 }
 
 /// The link that is named, among those of its sender.
-fn sender_at<A: Allocator + Copy>(node: &NodeLinks<A>, named: Incoming) -> Sender<'_>
-    requires { LieOver node.now }
+fn sender_at<'a>(node: Links<'a>, named: Incoming) -> Sender<'a>
+    requires { LieOver (record { links = node.links.now; passes = node.passes.now }) }
     ensures sender { result.node ≡ named.sender }
-    ensures passes { result.passes.now ≡ passes_at node.now named.link }
+    ensures passes { result.passes.now ≡ passes_at (record { links = node.entry.links.now; passes = node.entry.passes.now }) named.link }
     ensures bounds { AreWithin result.bounds result.passes.now }
 {
     match node.links.get(named.link) {
         Some(link) => Sender {
             node: named.sender,
-            passes: passes_over(&node.passes, link),
+            passes: passes_over(node.passes, link),
             bounds: link.bounds,
         },
         None => no_passes(named.sender),

@@ -4,6 +4,6 @@ use Rattle.sabr_index.proofs.building.link_nodes.Given as goal
 
 abbrev pub invariant-loop-index : goal.invariant-loop-index
 invariant-loop-index g l = record {
-  as_many : length l.linked.items ≡ l.index;
-  linked : AreLinked l.plan l.linked.items;
+  as_many : length l.table ≡ l.index;
+  linked : AreLinked l.plan l.table;
 }

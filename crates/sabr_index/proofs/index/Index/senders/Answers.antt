@@ -2,32 +2,31 @@ use Rattle.std.proofs.Common.{◌≡◌, ◌-◌, Some, List, take, drop, sym, a
 use Rattle.std.specs.Prelude.{slice_get}
 use Rattle.std.proofs.lemmas.List.{take-map, drop-map}
 use Rattle.sabr_model.specs.plan.Plan.{TabledPlan}
-use Rattle.sabr_index.specs.declared.link.NodeLinks.{NodeLinks}
 use Rattle.sabr_index.specs.declared.senders.Incoming.{Incoming}
 use Rattle.sabr_index.specs.Links.{SentLink, AreLinksTo}
-use Rattle.sabr_index.specs.Incoming.{links_named, head_named, AllLieOver}
+use Rattle.sabr_index.specs.Incoming.{links_named, head_named}
 use Rattle.sabr_index.proofs.SenderLemmas.{lie_over, links_to}
 use Rattle.sabr_index.proofs.index.Index.senders.Goals as goal
 
 pub over-requires-clause-lie : goal.over-requires-clause-lie
 over-requires-clause-lie g c =
-    subst (λ (ls : List (NodeLinks g.row.A.Denot)). AllLieOver ls) (sym c.deref.ensures.value) (lie_over c.self.inside.plan.now c.self.inside.linked.items c.self.invariant.links c.self.invariant.as_many)
+    lie_over c.self.inside.plan.now c.self.inside.linked c.self.invariant.links c.self.invariant.as_many
 
 pub over-requires-clause-heads : goal.over-requires-clause-heads
 over-requires-clause-heads g c =
-    let linked = c.self.inside.linked.items in
+    let linked = c.self.inside.linked in
     let named = c.self.inside.incoming.named.items in
     let w = c.of.ensures in
-    rw (c.deref.ensures.value, w.names_are, w.tops_are, c.self.invariant.tops, drop-map (head_named linked) w.first named) (take-map (head_named linked) (w.end - w.first) (drop w.first named))
+    rw (w.names_are, w.tops_are, c.self.invariant.tops, drop-map (head_named linked) w.first named) (take-map (head_named linked) (w.end - w.first) (drop w.first named))
 
 pub returns : goal.returns
 returns g c = λ node e.
     let p = c.self.inside.plan.now in
-    let linked = c.self.inside.linked.items in
+    let linked = c.self.inside.linked in
     let w = c.of.ensures in
     let names = take (w.end - w.first) (drop w.first c.self.inside.incoming.named.items) in
     let at : slice_get p.table c.args.index ≡ Some node = ap (λ (q : TabledPlan). slice_get q.table c.args.index) c.self.view_is ∙ e in
     let are = links_to p linked c.self.invariant.links c.self.invariant.as_many c.self.invariant.tabled c.args.index node at names (c.self.invariant.grouped c.args.index w.first w.end w.begins w.ends) in
     let is : c.over.result ≡ links_named linked names =
-    c.over.ensures ∙ ap (λ (ls : List (NodeLinks g.row.A.Denot)). links_named ls c.of.result.0.now) c.deref.ensures.value ∙ ap (λ (ns : List Incoming). links_named linked ns) w.names_are in
+    c.over.ensures ∙ ap (λ (ns : List Incoming). links_named linked ns) w.names_are in
     subst (λ (q : TabledPlan). AreLinksTo q node c.over.result) c.self.view_is (subst (λ (ss : List SentLink). AreLinksTo p node ss) (sym is) are)
