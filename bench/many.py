@@ -1,14 +1,15 @@
 #!/usr/bin/env python3
-"""Counts the instructions of `many`, beside those of a run of `first` for each request and of a second program's searches.
+"""Counts the instructions of `many`, beside those of `first` for each request and of another program's searches.
 
     many.py [PROGRAM] --plan FILE [--plan FILE ..] [--questions FILE] [--requests N] [--counts N,N,..] [--sample N]
             [--memory N,N,..] [--seed N] [--beside PATH] [--most-seconds S] [--json FILE]
 
-Plans and times are those of listing.py. The requests are pairs of the plan's nodes, drawn from the seed. So many of them
-as the sample has are also asked one by one: of these, the mean of a run is multiplied by the number of requests. Of the
-second program's runs, its reading is taken off, which is a run for two nodes that no plan has. Instructions are counted
-by callgrind, in millions. Memory is that of `many` with so many requests, which come again in turn if more are asked for
-than drawn. Status 1: a run failed, or `many` answers otherwise than `first`.
+Plans and times are those of listing.py. The requests are pairs of the plan's nodes, drawn from the seed. Some of them,
+the sample, are also asked one by one: their mean is multiplied by the number of all requests. From a run of the program
+of --beside, its reading is taken off, which is a run for two nodes that no plan has: what is left are its searches, with
+what it makes for them. Instructions are counted by callgrind, in millions. Memory is that of `many` with so many
+requests; if these are more than were drawn, they come again in turn. Status 1: a run failed, or `many` answers otherwise
+than `first`.
 """
 import argparse
 import os

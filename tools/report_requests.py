@@ -30,7 +30,7 @@ def requests_of(lines, names, limits):
 
 
 def parts_of(lines, are_joined):
-    """The requests in parts, in their order: one of its own for each processor if they are joined, else one for each line."""
+    """The requests in parts, in their order: if they are joined a part for each processor, else one for each line."""
     size = min(-(-len(lines) // processors()), MOST_OF_PART) if are_joined else 1
     return [lines[start : start + size] for start in range(0, len(lines), size)]
 
