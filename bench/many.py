@@ -6,10 +6,10 @@
 
 Plans and times are those of listing.py. The requests are pairs of the plan's nodes, drawn from the seed. Some of them,
 the sample, are also asked one by one: their mean is multiplied by the number of all requests. From a run of the program
-of --beside, its reading is taken off, which is a run for two nodes that no plan has: what is left are its searches, with
-what it makes for them. Instructions are counted by callgrind, in millions. Memory is that of `many` with so many
-requests; if these are more than were drawn, they come again in turn. Status 1: a run failed, or `many` answers otherwise
-than `first`.
+of --beside, its reading is taken off, which is a run for two nodes that no plan has: its searches are left, with what it
+makes for them. Instructions are counted by callgrind, in millions. Memory is that of `many` with so many requests; if
+these are more than were drawn, they come again in turn. Status 1: a run failed, or `many` answers otherwise than
+`first`.
 """
 import argparse
 import os
