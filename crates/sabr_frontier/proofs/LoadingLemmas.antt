@@ -1,8 +1,8 @@
 -- A state that is loaded part by part.
-pub mod Leads
-pub mod Answering
-pub mod Judges
+pub mod LedPrefixes
+pub mod AnsweredParts
+pub mod JudgedParts
 pub mod PartRefusals
-pub mod Loads
-pub mod Forget
+pub mod LoadedTrees
+pub mod ForgottenNumbers
 pub mod GhostWalks

@@ -13,10 +13,10 @@ use Rattle.sabr_frontier.specs.listing.Tree.{numbers_after, prefixes, tree, put_
 use Rattle.sabr_frontier.specs.listing.State.{PartState, pair_of, Member}
 use Rattle.sabr_frontier.specs.listing.Step.{same_pair, carried_in, carry, fresh}
 use Rattle.sabr_frontier.proofs.ListingLemmas.Rising.{has-put_in, put_again, is_equal, has_itself, turned}
-use Rattle.sabr_frontier.proofs.ListingLemmas.Beginnings.{lists_exact, numbers_exact, number_after-snoc, number_after-compare, number_after-trans, number_after-nil, number_after-same}
-use Rattle.sabr_frontier.proofs.ListingLemmas.Trees.{In, Listed, In-first, In-later, In-cases, numbers_after_has, has_numbers_after, Rises-numbers_after, Rises-prefixes, tree_same}
-use Rattle.sabr_frontier.proofs.ListingLemmas.Members.{Member-map, Member-map_cases, Member-append_left, Member-append_right, Member-append_cases, Below-member, Less-apart, same_by_members}
-use Rattle.sabr_frontier.proofs.ListingLemmas.Closed.{tree_has, has_tree}
+use Rattle.sabr_frontier.proofs.ListingLemmas.NumbersAfter.{lists_exact, numbers_exact, number_after-snoc, number_after-compare, number_after-trans, number_after-nil, number_after-same}
+use Rattle.sabr_frontier.proofs.ListingLemmas.TreeSets.{In, Listed, In-first, In-later, In-cases, numbers_after_has, has_numbers_after, Rises-numbers_after, Rises-prefixes, tree_same}
+use Rattle.sabr_frontier.proofs.ListingLemmas.ListMembers.{Member-map, Member-map_cases, Member-append_left, Member-append_right, Member-append_cases, Below-member, Less-apart, same_by_members}
+use Rattle.sabr_frontier.proofs.ListingLemmas.ClosedTrees.{tree_has, has_tree}
 use Rattle.sabr_search.proofs.WayLemmas.Prefixes.{number_after_some}
 
 -- ---- the order of lists and their proper_beginnings

@@ -5,7 +5,7 @@ use Rattle.std.specs.Option.{option_map_or}
 use Rattle.std.proofs.lemmas.List.{take-append-drop}
 use Rattle.sabr_model.specs.plan.Plan.{has}
 use Rattle.sabr_model.specs.routes.Parts.{number_after, goes_on}
-use Rattle.sabr_frontier.proofs.ListingLemmas.Beginnings.{number_after-snoc, number_after-irrefl}
+use Rattle.sabr_frontier.proofs.ListingLemmas.NumbersAfter.{number_after-snoc, number_after-irrefl}
 use Rattle.std.proofs.Math.Seq.{take-append_seam}
 use Rattle.sabr_search.proofs.WayLemmas.Prefixes.{number_after_some}
 

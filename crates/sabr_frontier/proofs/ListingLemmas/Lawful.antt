@@ -1,6 +1,6 @@
 -- The laws of the frontier, from what holds for any notion of route.
 use Rattle.std.proofs.Common.{◌≡◌, ℕ, zero, suc, ◌+◌, ◌<◌, ◌≤◌, Bool, true, false, ltb, List, [], ◌∷◌, ◌++◌, map, take, drop, length, refl, sym, ap, subst, ◌∙◌, ◌⊎◌, inl, inr, arith, Some, None, true≢false}
-use Rattle.sabr_frontier.proofs.TreeLemmas.Orders.{less_from_test}
+use Rattle.sabr_frontier.proofs.TreeLemmas.IndexOrder.{less_from_test}
 use Rattle.std.specs.Prelude.{is_some, slice_get}
 use Rattle.std.proofs.lemmas.Bool.{false_from_ne_true, ltb-true, lt-ltb, cases_Bool}
 use Rattle.std.specs.Ordering.{is_lt}
@@ -21,14 +21,14 @@ use Rattle.sabr_frontier.specs.listing.Formed.{Within}
 use Rattle.sabr_frontier.specs.listing.Step.{step_of, state_of}
 use Rattle.sabr_frontier.specs.listing.Listing.{state_at, leaves_in, next_route, one_step, given_first, steps}
 use Rattle.sabr_frontier.specs.listing.Laws.{PartsDivide, StatesAreTold, StepsFollow}
-use Rattle.sabr_frontier.proofs.ListingLemmas.Trees.{In}
-use Rattle.sabr_frontier.proofs.ListingLemmas.Closed.{In_Member, Member_In, tree_has, has_tree}
+use Rattle.sabr_frontier.proofs.ListingLemmas.TreeSets.{In}
+use Rattle.sabr_frontier.proofs.ListingLemmas.ClosedTrees.{In_Member, Member_In, tree_has, has_tree}
 use Rattle.sabr_frontier.proofs.ListingLemmas.Parting.{in_some_part, in_one_part, taken_in_none}
 use Rattle.sabr_frontier.proofs.ListingLemmas.Leaves.{closed_tree}
 use Rattle.sabr_frontier.proofs.ListingLemmas.NextPlace.{next_is, law6, law6_end}
-use Rattle.sabr_frontier.proofs.ListingLemmas.Certified.{verified}
+use Rattle.sabr_frontier.proofs.ListingLemmas.CertifiedPlaces.{verified}
 use Rattle.sabr_frontier.proofs.ListingLemmas.Paths.{route_filled, routes_apart, route_chains, route_fits}
-use Rattle.sabr_frontier.proofs.ListingLemmas.Listed.{within_goes_on, goes_on_within, by_key_exact, routes_rise, routes_sound, routes_complete, least_some, least_none, member_of, contains_of}
+use Rattle.sabr_frontier.proofs.ListingLemmas.AllRoutes.{within_goes_on, goes_on_within, by_key_exact, routes_rise, routes_sound, routes_complete, least_some, least_none, member_of, contains_of}
 
 -- ---- how the parts divide the routes
 

@@ -9,10 +9,10 @@ use Rattle.sabr_frontier.specs.listing.Tree.{numbers_after, prefixes, tree}
 use Rattle.sabr_frontier.specs.listing.State.{Member, leaves}
 use Rattle.sabr_frontier.specs.listing.Formed.{IsClosed, InOrder}
 use Rattle.sabr_frontier.proofs.ListingLemmas.Rising.{both_ways, same_members}
-use Rattle.sabr_frontier.proofs.ListingLemmas.Beginnings.{numbers_exact, number_after-snoc, number_after-of_longer, number_after-of_snoc, number_after-nil}
-use Rattle.sabr_frontier.proofs.ListingLemmas.Trees.{In, Listed, numbers_after_has, has_numbers_after, Rises-numbers_after, Rises-prefixes}
-use Rattle.sabr_frontier.proofs.ListingLemmas.Members.{Member-map, Below-member, Less-apart, same_by_members}
-use Rattle.sabr_frontier.proofs.ListingLemmas.Closed.{tree_has, has_tree, leaves_has, has_leaves}
+use Rattle.sabr_frontier.proofs.ListingLemmas.NumbersAfter.{numbers_exact, number_after-snoc, number_after-of_longer, number_after-of_snoc, number_after-nil}
+use Rattle.sabr_frontier.proofs.ListingLemmas.TreeSets.{In, Listed, numbers_after_has, has_numbers_after, Rises-numbers_after, Rises-prefixes}
+use Rattle.sabr_frontier.proofs.ListingLemmas.ListMembers.{Member-map, Below-member, Less-apart, same_by_members}
+use Rattle.sabr_frontier.proofs.ListingLemmas.ClosedTrees.{tree_has, has_tree, leaves_has, has_leaves}
 
 abbrev pub Pairs : Type 0
 Pairs = List (List ℕ × List ℕ)

@@ -14,11 +14,11 @@ use Rattle.std.specs.declared.cmp.Ordering.{Ordering}
 use Rattle.sabr_frontier.specs.listing.Formed.{Within}
 use Rattle.sabr_frontier.specs.tree.Queue.{InPairs}
 use Rattle.sabr_frontier.specs.listing.Fresh.{GivesNewRoutes}
-use Rattle.sabr_frontier.proofs.ListingLemmas.Trees.{In-put_in, put_in-In}
-use Rattle.sabr_frontier.proofs.ListingLemmas.Closed.{In_Member, Member_In}
-use Rattle.sabr_frontier.proofs.ListingLemmas.Formed.{given_new, leaves_after, formed_after}
+use Rattle.sabr_frontier.proofs.ListingLemmas.TreeSets.{In-put_in, put_in-In}
+use Rattle.sabr_frontier.proofs.ListingLemmas.ClosedTrees.{In_Member, Member_In}
+use Rattle.sabr_frontier.proofs.ListingLemmas.FormedSteps.{given_new, leaves_after, formed_after}
 use Rattle.sabr_frontier.proofs.ListingLemmas.Paths.{route_filled, routes_apart, route_chains, route_fits}
-use Rattle.sabr_frontier.proofs.ListingLemmas.Listed.{least_some}
+use Rattle.sabr_frontier.proofs.ListingLemmas.AllRoutes.{least_some}
 use Rattle.sabr_frontier.proofs.SessionLemmas.Pages.{steps_stop, steps_go, steps_none}
 
 -- what is least is carried by some part

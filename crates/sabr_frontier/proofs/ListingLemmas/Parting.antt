@@ -7,8 +7,8 @@ use Rattle.sabr_model.specs.routes.Parts.{number_after}
 use Rattle.sabr_frontier.specs.listing.Rising.{has}
 use Rattle.sabr_frontier.specs.listing.Tree.{numbers_after}
 use Rattle.sabr_frontier.specs.listing.Formed.{Within}
-use Rattle.sabr_frontier.proofs.ListingLemmas.Beginnings.{number_after-snoc, number_after-trans, number_after-compare, number_after-longer}
-use Rattle.sabr_frontier.proofs.ListingLemmas.Trees.{In, Listed, numbers_after_has, has_numbers_after}
+use Rattle.sabr_frontier.proofs.ListingLemmas.NumbersAfter.{number_after-snoc, number_after-trans, number_after-compare, number_after-longer}
+use Rattle.sabr_frontier.proofs.ListingLemmas.TreeSets.{In, Listed, numbers_after_has, has_numbers_after}
 
 module _ (route : List ℕ → Bool) (apart : (s t : List ℕ) (x : ℕ) → route s ≡ true → route t ≡ true → number_after s t ≡ Some x → ⊥) (S : List (List ℕ)) (routes : (s : List ℕ) → In s S → route s ≡ true) (r : List ℕ) (is : route r ≡ true) where
   -- a route that is taken is in no part

@@ -8,7 +8,7 @@ use Rattle.sabr_frontier.specs.listing.State.{State}
 use Rattle.sabr_frontier.specs.listing.Listing.{IsState, state_at, steps}
 use Rattle.sabr_frontier.proofs.ListingLemmas.Lawful.{steps_follow}
 use Rattle.sabr_frontier.proofs.ListingLemmas.NewRoutes.{new_routes}
-use Rattle.sabr_frontier.proofs.TreeLemmas.Roots.{first_formed}
+use Rattle.sabr_frontier.proofs.TreeLemmas.FirstTrees.{first_formed}
 
 module _ (p : ContactPlan) (r : RouteRequest) where
   -- how many routes it counts

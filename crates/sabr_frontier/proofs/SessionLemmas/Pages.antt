@@ -15,9 +15,9 @@ use Rattle.sabr_frontier.specs.tree.Taking.{divided}
 use Rattle.sabr_frontier.specs.tree.Winners.{CarriesNone, CarriesSome, IsLeast}
 use Rattle.sabr_frontier.specs.tree.Sound.{IsTree}
 use Rattle.sabr_frontier.specs.session.Session.{IsSoundFor, IsSound, tree_before, former_of}
-use Rattle.sabr_frontier.proofs.TreeLemmas.Giving.{IsGiven, given_by, next_carried, nothing_carried, nothing_given, some_given}
-use Rattle.sabr_frontier.proofs.TreeLemmas.Refined.{searches_are}
-use Rattle.sabr_frontier.proofs.TreeLemmas.Undoing.{entries_undone}
+use Rattle.sabr_frontier.proofs.TreeLemmas.GivenLeast.{IsGiven, given_by, next_carried, nothing_carried, nothing_given, some_given}
+use Rattle.sabr_frontier.proofs.TreeLemmas.CarryingNodes.{searches_are}
+use Rattle.sabr_frontier.proofs.TreeLemmas.SingleUndos.{entries_undone}
 
 pub steps_stop : (p : ContactPlan) (r : RouteRequest) (s : State) (k : ℕ) → one_step p r s ≡ None → steps p r k s ≡ ([], s)
 unfolding steps

@@ -7,8 +7,8 @@ use Rattle.sabr_frontier.specs.listing.State.{State, Member}
 use Rattle.sabr_frontier.specs.listing.Listing.{IsState, leaves_in, one_step, steps}
 use Rattle.sabr_frontier.specs.tree.Queue.{InPairs}
 use Rattle.sabr_frontier.specs.listing.Standing.{PageGiven, Standing, standing_at, page_then, paged, gone_back, after_calls, StandsForNewRoutes, PagesGiveNewRoutes}
-use Rattle.sabr_frontier.proofs.LoadingLemmas.Answering.{pairs_two}
-use Rattle.sabr_frontier.proofs.ListingLemmas.Members.{Member-append_cases}
+use Rattle.sabr_frontier.proofs.LoadingLemmas.AnsweredParts.{pairs_two}
+use Rattle.sabr_frontier.proofs.ListingLemmas.ListMembers.{Member-append_cases}
 use Rattle.sabr_frontier.proofs.ListingLemmas.NewRoutes.{new_routes}
 use Rattle.sabr_frontier.proofs.SessionLemmas.Pages.{steps_stop, steps_go, steps_none}
 

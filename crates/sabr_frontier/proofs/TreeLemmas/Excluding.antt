@@ -7,9 +7,9 @@ use Rattle.sabr_frontier.specs.tree.Undo.{modify}
 use Rattle.sabr_frontier.specs.tree.Taking.{widened, wide_of}
 use Rattle.sabr_frontier.specs.tree.Sound.{CanExclude}
 use Rattle.sabr_frontier.specs.tree.Prepared.{excluding, including, carrying}
-use Rattle.sabr_frontier.proofs.TreeLemmas.Ends.{modify_twice, modify_back, modify_same}
-use Rattle.sabr_frontier.proofs.LoadingLemmas.Forget.{forget-put_in}
-use Rattle.sabr_frontier.proofs.TreeLemmas.Nodes.{get_same}
+use Rattle.sabr_frontier.proofs.TreeLemmas.ModifiedPlaces.{modify_twice, modify_back, modify_same}
+use Rattle.sabr_frontier.proofs.LoadingLemmas.ForgottenNumbers.{forget-put_in}
+use Rattle.sabr_frontier.proofs.TreeLemmas.NodePlaces.{get_same}
 
 module _ {A : Type 0} (nodes then : List (Node A)) (i : ℕ) (s : List ℕ) (n : Node A) (stands : slice_get nodes i ≡ Some n) (changed : then ≡ modify (excluding s) nodes i) where
   -- what stands there then

@@ -27,9 +27,9 @@ use Rattle.sabr_frontier.specs.listing.Rising as rising
 use Rattle.sabr_frontier.specs.listing.Tree.{set_of}
 use Rattle.sabr_frontier.specs.listing.State.{PartState, State, pair_of, Member, leaves_of, leaves}
 use Rattle.sabr_frontier.specs.listing.Listing.{IsState}
-use Rattle.sabr_frontier.proofs.ListingLemmas.Closed.{Number_has, leaves_has}
-use Rattle.sabr_frontier.proofs.ListingLemmas.Listed.{within_goes_on}
-use Rattle.sabr_frontier.proofs.ListingLemmas.Members.{Member-map}
+use Rattle.sabr_frontier.proofs.ListingLemmas.ClosedTrees.{Number_has, leaves_has}
+use Rattle.sabr_frontier.proofs.ListingLemmas.AllRoutes.{within_goes_on}
+use Rattle.sabr_frontier.proofs.ListingLemmas.ListMembers.{Member-map}
 use Rattle.sabr_frontier.proofs.ListingLemmas.Paths.{route_filled}
 use Rattle.sabr_session.specs.SessionText.{HasText}
 use Rattle.sabr_session.specs.SessionRead.{rise_strictly}

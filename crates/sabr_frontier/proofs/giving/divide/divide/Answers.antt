@@ -9,7 +9,7 @@ use Rattle.sabr_frontier.specs.tree.Asking.{best_for}
 use Rattle.sabr_frontier.specs.tree.Taking.{fresh_after}
 use Rattle.sabr_frontier.specs.tree.Undo.{modify}
 use Rattle.sabr_frontier.specs.tree.Prepared.{excluding}
-use Rattle.sabr_frontier.proofs.TreeLemmas.Nodes.{get_same, within_get}
+use Rattle.sabr_frontier.proofs.TreeLemmas.NodePlaces.{get_same, within_get}
 use Rattle.sabr_frontier.proofs.ListingLemmas.Rising.{Rises-put_in}
 use Rattle.sabr_frontier.proofs.TreeLemmas.Excluding.{excluded_there, included}
 use Rattle.sabr_frontier.proofs.giving.divide.divide.Goals as goal

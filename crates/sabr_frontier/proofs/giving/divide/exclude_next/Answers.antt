@@ -1,6 +1,6 @@
 use Rattle.std.proofs.Common.{arith, ℕ, List, ap, ◌∙◌, set}
 use Rattle.sabr_frontier.specs.tree.Prepared.{excluding}
-use Rattle.sabr_frontier.proofs.TreeLemmas.Ends.{set-modify, get_there}
+use Rattle.sabr_frontier.proofs.TreeLemmas.ModifiedPlaces.{set-modify, get_there}
 use Rattle.sabr_frontier.proofs.giving.divide.exclude_next.Goals as goal
 
 pub bounds-route-part : goal.bounds-route-part

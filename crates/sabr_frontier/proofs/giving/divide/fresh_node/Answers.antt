@@ -1,8 +1,8 @@
 use Rattle.std.proofs.Common.{take, subst, sym, ◌∙◌, ◌∷◌, [], slice_index}
 use Rattle.std.specs.List.Sorted.{IsStrictlyIncreasing}
 use Rattle.sabr_frontier.proofs.ListingLemmas.Paths.{route_fits}
-use Rattle.sabr_frontier.proofs.TreeLemmas.Partition.{increasing}
-use Rattle.sabr_frontier.proofs.TreeLemmas.Fronts.{number_after-take}
+use Rattle.sabr_frontier.proofs.TreeLemmas.TestBoundaries.{increasing}
+use Rattle.sabr_frontier.proofs.TreeLemmas.ListFronts.{number_after-take}
 use Rattle.sabr_frontier.proofs.giving.divide.fresh_node.Goals as goal
 
 pub ask-requires-clause-fits : goal.ask-requires-clause-fits

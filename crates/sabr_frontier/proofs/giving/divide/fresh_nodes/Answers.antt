@@ -4,7 +4,7 @@ use Rattle.std.proofs.lemmas.List.{take_all, take-append-le}
 use Rattle.sabr_model.specs.routes.Route.{is_route}
 use Rattle.sabr_frontier.specs.declared.tree.Node.{Node}
 use Rattle.sabr_frontier.specs.tree.Asking.{Asked, best_for}
-use Rattle.sabr_frontier.proofs.TreeLemmas.Fronts.{fresh_push, fresh_all}
+use Rattle.sabr_frontier.proofs.TreeLemmas.ListFronts.{fresh_push, fresh_all}
 use Rattle.sabr_frontier.proofs.giving.divide.fresh_nodes.Goals as goal
 
 pub loop-count-init : goal.loop-count-init

@@ -6,10 +6,10 @@ use Rattle.sabr_frontier.specs.tree.Asking.{Asked, best_for}
 use Rattle.sabr_frontier.specs.tree.Taking.{fresh_after}
 use Rattle.std.specs.List.Sorted.{IsStrictlyIncreasing}
 use Rattle.sabr_model.proofs.ListLemmas.Answered.{on_err}
-use Rattle.sabr_frontier.proofs.TreeLemmas.Ends.{get_there}
+use Rattle.sabr_frontier.proofs.TreeLemmas.ModifiedPlaces.{get_there}
 use Rattle.sabr_frontier.proofs.ListingLemmas.Paths.{route_fits}
-use Rattle.sabr_frontier.proofs.TreeLemmas.Partition.{increasing}
-use Rattle.sabr_frontier.proofs.TreeLemmas.Fronts.{number_after-take}
+use Rattle.sabr_frontier.proofs.TreeLemmas.TestBoundaries.{increasing}
+use Rattle.sabr_frontier.proofs.TreeLemmas.ListFronts.{number_after-take}
 use Rattle.sabr_frontier.proofs.giving.divide.search.Goals as goal
 
 pub ask-requires-clause-fits : goal.ask-requires-clause-fits

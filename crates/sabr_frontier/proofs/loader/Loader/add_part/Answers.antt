@@ -7,7 +7,7 @@ use Rattle.sabr_frontier.specs.declared.loader.load_fault.LoadFault.TheVariants 
 use Rattle.sabr_frontier.specs.loading.Loading.{Loaded, comes_after, part_refusal, rise_strictly, with_part}
 use Rattle.sabr_frontier.specs.listing.State.{PartState}
 use Rattle.sabr_frontier.specs.loading.Holding.{IsHeld, holding_of, loaded, parts_in}
-use Rattle.sabr_frontier.proofs.LoadingLemmas.Answering.{held_more, parts_then}
+use Rattle.sabr_frontier.proofs.LoadingLemmas.AnsweredParts.{held_more, parts_then}
 use Rattle.sabr_frontier.proofs.LoadingLemmas.PartRefusals.{accepted, carry_accepted, carry_told, not_refused, order_refused, told}
 use Rattle.sabr_frontier.proofs.loader.Loader.add_part.Goals as goal
 

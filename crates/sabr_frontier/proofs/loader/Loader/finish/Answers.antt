@@ -7,9 +7,9 @@ use Rattle.sabr_frontier.specs.loading.Loading.{IsClosedState, IsCounted, Loaded
 use Rattle.sabr_frontier.specs.tree.Shape.{shape_of, shown}
 use Rattle.sabr_frontier.specs.tree.Sound.{IsTree}
 use Rattle.sabr_frontier.specs.loading.Holding.{IsLastPlace, IsWrongLast, holding_of, loaded_tree}
-use Rattle.sabr_frontier.proofs.LoadingLemmas.Answering.{paid_closed, unpaid_open}
-use Rattle.sabr_frontier.proofs.LoadingLemmas.Loads.{formed_then, loaded_is_tree, shown_then, wrong_count}
-use Rattle.sabr_frontier.proofs.TreeLemmas.Indexed.{tree_indexed}
+use Rattle.sabr_frontier.proofs.LoadingLemmas.AnsweredParts.{paid_closed, unpaid_open}
+use Rattle.sabr_frontier.proofs.LoadingLemmas.LoadedTrees.{formed_then, loaded_is_tree, shown_then, wrong_count}
+use Rattle.sabr_frontier.proofs.TreeLemmas.IndexedNodes.{tree_indexed}
 use Rattle.sabr_frontier.proofs.loader.Loader.finish.Goals as goal
 
 pub returns-then-not-is_paid-clause-err : goal.returns-then-not-is_paid-clause-err

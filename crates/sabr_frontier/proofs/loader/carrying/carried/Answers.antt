@@ -2,7 +2,7 @@ use Rattle.std.proofs.Common.{◌&&◌, ◌∙◌, true, sym, ap}
 use Rattle.std.specs.Option.{option_copied, option_map_or}
 use Rattle.sabr_model.specs.routes.Parts.{goes_on, in_part}
 use Rattle.sabr_model.proofs.RouteLemmas.Faults.{fault_is_no_route}
-use Rattle.sabr_frontier.proofs.LoadingLemmas.Leads.{front_of_going, longer_of_going}
+use Rattle.sabr_frontier.proofs.LoadingLemmas.LedPrefixes.{front_of_going, longer_of_going}
 use Rattle.sabr_frontier.proofs.loader.carrying.carried.Goals as goal
 
 pub delivery-requires-clause-longer : goal.delivery-requires-clause-longer

@@ -3,7 +3,7 @@ use Rattle.std.proofs.lemmas.List.{take_all}
 use Rattle.sabr_model.specs.routes.Route.{is_path}
 use Rattle.sabr_frontier.specs.loading.Leading.{AreSteps, step_of}
 use Rattle.sabr_frontier.specs.loading.Holding.{AllGoOn, IsJudged}
-use Rattle.sabr_frontier.proofs.LoadingLemmas.Judges.{judged_more, number_in, paths_more}
+use Rattle.sabr_frontier.proofs.LoadingLemmas.JudgedParts.{judged_more, number_in, paths_more}
 use Rattle.sabr_frontier.proofs.loader.judge.judge.Goals as goal
 
 pub loop-number-init : goal.loop-number-init

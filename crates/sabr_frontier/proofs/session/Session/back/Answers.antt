@@ -3,7 +3,7 @@ use Rattle.sabr_frontier.specs.tree.Shape.{Shape, shape_of, shown}
 use Rattle.sabr_frontier.specs.session.Session.{AreStarts, IsSound, Seen, former_of}
 use Rattle.sabr_frontier.proofs.SessionLemmas.Pages.{sound_undos, sound_back, last_first}
 use Rattle.sabr_frontier.specs.tree.Undo.{IsIndexBack, undone_times}
-use Rattle.sabr_frontier.proofs.TreeLemmas.Settled.{index_back}
+use Rattle.sabr_frontier.proofs.TreeLemmas.MergedIndex.{index_back}
 use Rattle.sabr_frontier.proofs.session.Session.back.Goals as goal
 
 pub undo_to-requires-clause-possible : goal.undo_to-requires-clause-possible

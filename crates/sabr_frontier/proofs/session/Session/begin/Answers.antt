@@ -5,7 +5,7 @@ use Rattle.sabr_frontier.specs.tree.Shape.{Shape, shape_of, shown}
 use Rattle.sabr_frontier.specs.session.Session.{AreStarts, IsSession, IsSound, former_of}
 use Rattle.sabr_frontier.specs.tree.Root.{root}
 use Rattle.sabr_frontier.specs.tree.Best.{best_of}
-use Rattle.sabr_frontier.proofs.TreeLemmas.Roots.{root_is_tree, shown_root}
+use Rattle.sabr_frontier.proofs.TreeLemmas.FirstTrees.{root_is_tree, shown_root}
 use Rattle.sabr_frontier.proofs.session.Session.begin.Goals as goal
 
 pub ask-requires-clause-fits : goal.ask-requires-clause-fits

@@ -8,7 +8,7 @@ use Rattle.sabr_frontier.specs.session.Session.{Seen, AreStarts, IsSession, IsSo
 use Rattle.sabr_frontier.proofs.SessionLemmas.Pages.{sound_tree, counts_idle, sound_undos, last_first, idle, busy, carried_or_not}
 use Rattle.sabr_frontier.specs.tree.Undo.{IsIndexBack}
 use Rattle.sabr_frontier.specs.tree.Winners.{CarriesNone}
-use Rattle.sabr_frontier.proofs.TreeLemmas.Settled.{back_before, part_before}
+use Rattle.sabr_frontier.proofs.TreeLemmas.MergedIndex.{back_before, part_before}
 use Rattle.sabr_frontier.specs.listing.Fresh.{GivesNewRoutes}
 use Rattle.sabr_frontier.proofs.ListingLemmas.NewRoutes.{new_routes}
 use Rattle.sabr_frontier.proofs.session.Session.page.Goals as goal

@@ -7,8 +7,8 @@ use Rattle.sabr_model.specs.routes.Route.{is_prefix}
 use Rattle.sabr_frontier.specs.declared.tree.Node.{Node}
 use Rattle.sabr_frontier.specs.tree.Asking.{Asked, best_for}
 use Rattle.sabr_frontier.specs.tree.Shape.{shape_of, prefix_of}
-use Rattle.sabr_frontier.proofs.TreeLemmas.Ends.{get_there}
-use Rattle.sabr_frontier.proofs.TreeLemmas.Partition.{increasing}
+use Rattle.sabr_frontier.proofs.TreeLemmas.ModifiedPlaces.{get_there}
+use Rattle.sabr_frontier.proofs.TreeLemmas.TestBoundaries.{increasing}
 use Rattle.sabr_frontier.proofs.SessionLemmas.Verdicts.{excluded_rise, front_is, least_best, best_least}
 use Rattle.sabr_frontier.proofs.tree.Tree.carries_least.Goals as goal
 

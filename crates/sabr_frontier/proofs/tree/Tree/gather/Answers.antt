@@ -5,7 +5,7 @@ use Rattle.sabr_frontier.specs.tree.Asking.{Asked}
 use Rattle.sabr_frontier.specs.tree.Shape.{shape_of, shown}
 use Rattle.sabr_frontier.specs.tree.Sound.{IsTree}
 use Rattle.sabr_frontier.specs.tree.Taking.{IsTaken}
-use Rattle.sabr_frontier.proofs.TreeLemmas.Giving.{is_given}
+use Rattle.sabr_frontier.proofs.TreeLemmas.GivenLeast.{is_given}
 use Rattle.sabr_frontier.proofs.SessionLemmas.Pages.{IsOnTheWay, at_first, one_on, at_last, at_end, sound_tree, last_steps, counts_on, counts_idle, counts_none, counts_first}
 use Rattle.sabr_frontier.specs.listing.Listing.{searches_in}
 use Rattle.sabr_frontier.proofs.tree.Tree.gather.Goals as goal

@@ -1,7 +1,7 @@
 use Rattle.std.proofs.Common.{arith, sym, subst, ◌∙◌}
 use Rattle.sabr_frontier.specs.tree.Shape.{route_at}
 use Rattle.sabr_frontier.specs.tree.Winners.{IsFirst, winner_at}
-use Rattle.sabr_frontier.proofs.TreeLemmas.Winning.{first_carries, none_carries, nothing_there}
+use Rattle.sabr_frontier.proofs.TreeLemmas.SlotWinners.{first_carries, none_carries, nothing_there}
 use Rattle.sabr_frontier.proofs.tree.Tree.least.Goals as goal
 
 pub returns-then-ids-eq0-clause-none : goal.returns-then-ids-eq0-clause-none

@@ -2,7 +2,7 @@ use Rattle.std.proofs.Common.{◌++◌, ◌∷◌, [], arith, ap, sym, subst, �
 use Rattle.sabr_frontier.specs.declared.tree.Node.{Node}
 use Rattle.sabr_frontier.specs.tree.Root.{first_id}
 use Rattle.sabr_frontier.specs.tree.Winners.{AreWinners}
-use Rattle.sabr_frontier.proofs.TreeLemmas.Indexed.{order_one}
+use Rattle.sabr_frontier.proofs.TreeLemmas.IndexedNodes.{order_one}
 use Rattle.sabr_frontier.proofs.tree.Tree.root.Goals as goal
 
 pub returns-clause-shape : goal.returns-clause-shape

@@ -16,15 +16,15 @@ use Rattle.sabr_frontier.specs.tree.Asking.{Asked, best_for}
 use Rattle.sabr_frontier.specs.tree.Sound.{CanExclude, IsTree}
 use Rattle.sabr_frontier.specs.tree.Taking.{changed_by, divided, fresh_after, nodes_then, wide_of}
 use Rattle.sabr_frontier.specs.tree.Prepared.{carrying, excluding, given_by}
-use Rattle.sabr_frontier.proofs.TreeLemmas.Ends.{length-modify, modify_front}
-use Rattle.sabr_frontier.proofs.TreeLemmas.Nodes.{get_front, get_same}
+use Rattle.sabr_frontier.proofs.TreeLemmas.ModifiedPlaces.{length-modify, modify_front}
+use Rattle.sabr_frontier.proofs.TreeLemmas.NodePlaces.{get_front, get_same}
 use Rattle.sabr_frontier.proofs.TreeLemmas.Excluding.{carried_then}
-use Rattle.sabr_frontier.proofs.TreeLemmas.Refined.{standing, inside, can_exclude, route_there}
-use Rattle.sabr_frontier.proofs.TreeLemmas.Winning.{winners_same}
-use Rattle.sabr_frontier.proofs.TreeLemmas.Giving.{new_nodes}
+use Rattle.sabr_frontier.proofs.TreeLemmas.CarryingNodes.{standing, inside, can_exclude, route_there}
+use Rattle.sabr_frontier.proofs.TreeLemmas.SlotWinners.{winners_same}
+use Rattle.sabr_frontier.proofs.TreeLemmas.GivenLeast.{new_nodes}
 use Rattle.sabr_frontier.proofs.SessionLemmas.Pages.{counts_one}
-use Rattle.sabr_frontier.proofs.TreeLemmas.Indexed.{tree_indexed}
-use Rattle.sabr_frontier.proofs.TreeLemmas.Sounds.{tree_divided}
+use Rattle.sabr_frontier.proofs.TreeLemmas.IndexedNodes.{tree_indexed}
+use Rattle.sabr_frontier.proofs.TreeLemmas.SoundSteps.{tree_divided}
 use Rattle.sabr_frontier.proofs.tree.Tree.take.Goals as goal
 
 -- a number more excluded changes no route

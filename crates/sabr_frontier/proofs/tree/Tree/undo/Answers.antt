@@ -4,7 +4,7 @@ use Rattle.sabr_frontier.specs.declared.tree.Node.{Node}
 use Rattle.sabr_model.specs.routes.Record.{RouteRecord}
 use Rattle.sabr_frontier.specs.tree.Shape.{order_of, shape_of}
 use Rattle.sabr_frontier.specs.tree.Undo.{IsIndexed, undone, undone_by, modify, given_back, IsLonger}
-use Rattle.sabr_frontier.proofs.TreeLemmas.Ends.{last_item_push, front_push, length-modify}
+use Rattle.sabr_frontier.proofs.TreeLemmas.ModifiedPlaces.{last_item_push, front_push, length-modify}
 use Rattle.sabr_frontier.proofs.tree.Tree.undo.Goals as goal
 
 pub give_back-requires-clause-longer : goal.give_back-requires-clause-longer

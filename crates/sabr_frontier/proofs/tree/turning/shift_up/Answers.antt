@@ -1,6 +1,6 @@
 use Rattle.std.proofs.Common.{◌+◌, ◌-◌, ◌≤◌, length, take, refl, sym, ◌∙◌, arith, length-take-le}
 use Rattle.std.proofs.lemmas.List.{drop_all}
-use Rattle.sabr_frontier.proofs.TreeLemmas.Turns.{longer, front_kept, after_moved}
+use Rattle.sabr_frontier.proofs.TreeLemmas.MovedFronts.{longer, front_kept, after_moved}
 use Rattle.sabr_frontier.proofs.tree.turning.shift_up.Goals as goal
 
 pub loop-end-init : goal.loop-end-init

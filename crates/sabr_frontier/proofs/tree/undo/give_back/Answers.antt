@@ -1,7 +1,7 @@
 use Rattle.std.proofs.Common.{arith, ℕ, List, ◌≡◌, ap, ◌∙◌, set, Some, slice_index}
 use Rattle.sabr_frontier.specs.tree.Shape.{numbers_of}
 use Rattle.sabr_frontier.specs.tree.Undo.{given_back, without}
-use Rattle.sabr_frontier.proofs.TreeLemmas.Ends.{set-modify}
+use Rattle.sabr_frontier.proofs.TreeLemmas.ModifiedPlaces.{set-modify}
 use Rattle.sabr_frontier.proofs.tree.undo.give_back.Goals as goal
 
 pub returns : goal.returns

@@ -1,5 +1,5 @@
 use Rattle.std.proofs.Common.{sym, ◌∙◌}
-use Rattle.sabr_frontier.proofs.TreeLemmas.Winning.{lesser_other, lesser_same}
+use Rattle.sabr_frontier.proofs.TreeLemmas.SlotWinners.{lesser_other, lesser_same}
 use Rattle.sabr_frontier.proofs.tree.winners.lesser.Goals as goal
 
 pub returns-then-is_lesser : goal.returns-then-is_lesser

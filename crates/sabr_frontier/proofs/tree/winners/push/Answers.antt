@@ -1,7 +1,7 @@
 use Rattle.std.proofs.Common.{sym, subst, arith, ◌∙◌}
 use Rattle.std.proofs.lemmas.List.{take_at}
 use Rattle.sabr_frontier.specs.tree.Winners.{AreWinners}
-use Rattle.sabr_frontier.proofs.TreeLemmas.Winning.{rising_first}
+use Rattle.sabr_frontier.proofs.TreeLemmas.SlotWinners.{rising_first}
 use Rattle.sabr_frontier.proofs.tree.winners.push.Goals as goal
 
 pub rise-requires : goal.rise-requires

@@ -1,5 +1,5 @@
 use Rattle.std.proofs.Common.{◌-◌, ◌/◌, arith, refl, sym, ◌∙◌, length-set}
-use Rattle.sabr_frontier.proofs.TreeLemmas.Winning.{rising_ends, rising_on, rising_stops}
+use Rattle.sabr_frontier.proofs.TreeLemmas.SlotWinners.{rising_ends, rising_on, rising_stops}
 use Rattle.sabr_frontier.proofs.tree.winners.rise.Goals as goal
 
 pub loop-slot-init : goal.loop-slot-init

@@ -1,6 +1,6 @@
 use Rattle.std.proofs.Common.{◌≡◌, ℕ, ◌+◌, ◌-◌, ◌/◌, arith, subst, refl, set, ◌∙◌}
 use Rattle.sabr_frontier.specs.tree.Winners.{AreOthersWinners}
-use Rattle.sabr_frontier.proofs.TreeLemmas.Winning.{others_over, others_all, settled_none, settled_more}
+use Rattle.sabr_frontier.proofs.TreeLemmas.SlotWinners.{others_over, others_all, settled_none, settled_more}
 use Rattle.sabr_frontier.proofs.tree.winners.settle_up.Goals as goal
 
 pub loop-end-init : goal.loop-end-init

@@ -1,5 +1,5 @@
 use Rattle.std.proofs.Common.{arith}
-use Rattle.sabr_frontier.proofs.TreeLemmas.Winning.{won_alone, won_left, won_both}
+use Rattle.sabr_frontier.proofs.TreeLemmas.SlotWinners.{won_alone, won_left, won_both}
 use Rattle.sabr_frontier.proofs.tree.winners.winner.Goals as goal
 
 pub returns-then-slot-ids : goal.returns-then-slot-ids

@@ -2,7 +2,7 @@ use Rattle.std.proofs.Common.{◌≡◌, ◌≤◌, ◌∙◌, Some, ap, sym, su
 use Rattle.sabr_frontier.specs.loading.Holding.{holding_of}
 use Rattle.sabr_frontier.specs.loading.Leading.{IsLead, prefix_owed}
 use Rattle.sabr_frontier.specs.tree.Undo.{last_item}
-use Rattle.sabr_frontier.proofs.LoadingLemmas.Answering.{is_member_last, other_is_not_due, same_is_due}
+use Rattle.sabr_frontier.proofs.LoadingLemmas.AnsweredParts.{is_member_last, other_is_not_due, same_is_due}
 use Rattle.sabr_frontier.proofs.loader.held.Held.due.Goals as goal
 
 pub is-requires : goal.is-requires

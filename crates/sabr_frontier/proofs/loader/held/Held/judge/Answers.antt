@@ -3,7 +3,7 @@ use Rattle.std.specs.Prelude.{is_some}
 use Rattle.std.specs.Ordering.{nat_cmp}
 use Rattle.sabr_frontier.specs.listing.Rising.{has}
 use Rattle.sabr_frontier.specs.loading.Holding.{holding_of}
-use Rattle.sabr_frontier.proofs.LoadingLemmas.Judges.{empty_list, some_number, verdict_from}
+use Rattle.sabr_frontier.proofs.LoadingLemmas.JudgedParts.{empty_list, some_number, verdict_from}
 use Rattle.sabr_frontier.proofs.loader.held.Held.judge.Goals as goal
 use Rattle.sabr_frontier.proofs.loader.held.Held.judge.Goals.{else-not-is_empty-via-then-not-is_empty+else-is_empty, else-not-is_empty-via-else-not-is_empty}
 

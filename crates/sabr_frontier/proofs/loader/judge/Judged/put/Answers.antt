@@ -5,8 +5,8 @@ use Rattle.sabr_model.specs.routes.Route.{is_path}
 use Rattle.sabr_frontier.specs.declared.loader.leading.Owed.{Owed}
 use Rattle.sabr_frontier.specs.loading.Leading.{AreSteps, IsLead, step_of}
 use Rattle.std.proofs.lemmas.List.{map-append}
-use Rattle.sabr_frontier.proofs.ListingLemmas.Members.{Member-append_cases}
-use Rattle.sabr_frontier.proofs.LoadingLemmas.Judges.{leaf_there, no_leaf, none_onward, onward_there}
+use Rattle.sabr_frontier.proofs.ListingLemmas.ListMembers.{Member-append_cases}
+use Rattle.sabr_frontier.proofs.LoadingLemmas.JudgedParts.{leaf_there, no_leaf, none_onward, onward_there}
 use Rattle.sabr_frontier.proofs.loader.judge.Judged.put.Goals as goal
 
 pub returns-in_default : goal.returns-in_default

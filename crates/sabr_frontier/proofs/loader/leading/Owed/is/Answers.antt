@@ -1,6 +1,6 @@
 use Rattle.std.proofs.Common.{take, sym, ◌∙◌}
 use Rattle.std.specs.Cmp.Lexicographic.{other_text}
-use Rattle.sabr_frontier.proofs.ListingLemmas.Closed.{last_same}
+use Rattle.sabr_frontier.proofs.ListingLemmas.ClosedTrees.{last_same}
 use Rattle.sabr_frontier.proofs.loader.leading.Owed.is.Goals as goal
 
 pub returns-then-number-self-clause-other : goal.returns-then-number-self-clause-other

@@ -22,20 +22,20 @@ use Rattle.sabr_frontier.specs.tree.Undo.{modify, undone, without, CanUndo, IsIn
 use Rattle.sabr_frontier.specs.tree.Best.{best_of}
 use Rattle.sabr_frontier.specs.tree.Taking.{passing, stands_before, widened, wide_of, fresh_nodes, ids_from, divided}
 use Rattle.sabr_frontier.specs.tree.Sound.{IsTree, IsLent, AreGiven}
-use Rattle.sabr_frontier.proofs.ListingLemmas.Members.{Member-append_left, Member-append_right, Member-append_cases}
-use Rattle.sabr_frontier.proofs.ListingLemmas.Trees.{In-put_in, put_in-In}
-use Rattle.sabr_frontier.proofs.ListingLemmas.Closed.{In_Member, Member_In}
-use Rattle.sabr_frontier.proofs.ListingLemmas.Formed.{formed_after, leaves_after}
-use Rattle.sabr_frontier.proofs.LoadingLemmas.Forget.{forget-put_in}
+use Rattle.sabr_frontier.proofs.ListingLemmas.ListMembers.{Member-append_left, Member-append_right, Member-append_cases}
+use Rattle.sabr_frontier.proofs.ListingLemmas.TreeSets.{In-put_in, put_in-In}
+use Rattle.sabr_frontier.proofs.ListingLemmas.ClosedTrees.{In_Member, Member_In}
+use Rattle.sabr_frontier.proofs.ListingLemmas.FormedSteps.{formed_after, leaves_after}
+use Rattle.sabr_frontier.proofs.LoadingLemmas.ForgottenNumbers.{forget-put_in}
 use Rattle.sabr_frontier.proofs.ListingLemmas.Paths.{route_filled, routes_apart, route_chains, route_fits}
-use Rattle.sabr_frontier.proofs.ListingLemmas.Listed.{least_some}
-use Rattle.sabr_frontier.proofs.TreeLemmas.Ends.{length-modify, last_item_push}
-use Rattle.sabr_frontier.proofs.TreeLemmas.Takes.{passes_from, undone-after}
-use Rattle.sabr_frontier.proofs.TreeLemmas.Nodes.{get_Member, get_at_end, get_same, modify_cases, member_cut, member_taken, member_dropped, ids_cases, ids_has}
-use Rattle.sabr_frontier.proofs.TreeLemmas.Splits.{lent_stable}
-use Rattle.sabr_frontier.proofs.TreeLemmas.Refined.{node_within, here, here_in, cut, can_exclude, record_is}
-use Rattle.sabr_frontier.proofs.TreeLemmas.Indexed.{tree_indexed}
-use Rattle.sabr_frontier.proofs.TreeLemmas.Divided.{shown_divided}
+use Rattle.sabr_frontier.proofs.ListingLemmas.AllRoutes.{least_some}
+use Rattle.sabr_frontier.proofs.TreeLemmas.ModifiedPlaces.{length-modify, last_item_push}
+use Rattle.sabr_frontier.proofs.TreeLemmas.UndoneTakes.{passes_from, undone-after}
+use Rattle.sabr_frontier.proofs.TreeLemmas.NodePlaces.{get_Member, get_at_end, get_same, modify_cases, member_cut, member_taken, member_dropped, ids_cases, ids_has}
+use Rattle.sabr_frontier.proofs.TreeLemmas.CutRoutes.{lent_stable}
+use Rattle.sabr_frontier.proofs.TreeLemmas.CarryingNodes.{node_within, here, here_in, cut, can_exclude, record_is}
+use Rattle.sabr_frontier.proofs.TreeLemmas.IndexedNodes.{tree_indexed}
+use Rattle.sabr_frontier.proofs.TreeLemmas.DividedStates.{shown_divided}
 
 -- ---- what the searches' records are
 

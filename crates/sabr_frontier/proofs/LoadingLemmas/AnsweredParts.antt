@@ -32,13 +32,13 @@ use Rattle.sabr_frontier.specs.tree.Undo.{last_item, front}
 use Rattle.sabr_frontier.specs.loading.Holding.{Holding, AreLent, IsAnswered, IsHeld, IsJudged, IsVerdict, held_then, is_due, is_least, is_paid, node_for, nothing_held, owed_in, owing, pairs_in, part_for, parts_in, parts_of}
 use Rattle.sabr_frontier.proofs.ListingLemmas.Rising.{Below-lower}
 use Rattle.sabr_frontier.specs.tree.Queue.{InPairs}
-use Rattle.sabr_frontier.proofs.ListingLemmas.Members.{Member-append_left, Member-append_right, Member-append_cases, Below-member}
-use Rattle.sabr_frontier.proofs.ListingLemmas.Owed.{Owes-push, Owes-front, Owes-one, owes_closed, closed_owes}
-use Rattle.sabr_frontier.proofs.ListingLemmas.Listed.{goes_on_within}
-use Rattle.sabr_frontier.proofs.TreeLemmas.Nodes.{last_split}
-use Rattle.sabr_frontier.proofs.TreeLemmas.Orders.{less_from_test}
+use Rattle.sabr_frontier.proofs.ListingLemmas.ListMembers.{Member-append_left, Member-append_right, Member-append_cases, Below-member}
+use Rattle.sabr_frontier.proofs.ListingLemmas.OwedPrefixes.{Owes-push, Owes-front, Owes-one, owes_closed, closed_owes}
+use Rattle.sabr_frontier.proofs.ListingLemmas.AllRoutes.{goes_on_within}
+use Rattle.sabr_frontier.proofs.TreeLemmas.NodePlaces.{last_split}
+use Rattle.sabr_frontier.proofs.TreeLemmas.IndexOrder.{less_from_test}
 use Rattle.sabr_frontier.proofs.ListingLemmas.Paths.{prefix_no_route}
-use Rattle.sabr_frontier.proofs.TreeLemmas.Nodes.{no_last}
+use Rattle.sabr_frontier.proofs.TreeLemmas.NodePlaces.{no_last}
 use Rattle.sabr_model.proofs.ListLemmas.Apart.{same_numbers_tell}
 
 -- ---- order
@@ -184,7 +184,7 @@ first_due h q rest paired first o = elim (zero_or_more (length h.nodes)) [
       let some = some_part h paired l in
       let is : reverse (owed_in h) ≡ q ∷ rest = sym (ap (λ z. owing z (owed_in h)) some.2) ∙ o in
       let back : owed_in h ≡ reverse rest ++ q ∷ [] = sym (reverse-reverse (owed_in h)) ∙ ap reverse is ∙ reverse-append (q ∷ []) rest in
-      let last : last_item (owed_in h) ≡ Some q = Rattle.sabr_frontier.proofs.TreeLemmas.Ends.last_item_push (owed_in h) (reverse rest) q back in
+      let last : last_item (owed_in h) ≡ Some q = Rattle.sabr_frontier.proofs.TreeLemmas.ModifiedPlaces.last_item_push (owed_in h) (reverse rest) q back in
       ap (λ o. option_map_or (same_numbers q) o (length h.nodes == 0 && length q == 0)) last ∙ same_itself q
 ]
 
@@ -399,7 +399,7 @@ module _ (p : ContactPlan) (r : RouteRequest) where
         ]
 
         last_then : last_item (h.prefixes ++ q ∷ []) ≡ (if length (h.nodes ++ n ∷ []) == 0 then None else Some q)
-        last_then = Rattle.sabr_frontier.proofs.TreeLemmas.Ends.last_item_push (h.prefixes ++ q ∷ []) h.prefixes q refl
+        last_then = Rattle.sabr_frontier.proofs.TreeLemmas.ModifiedPlaces.last_item_push (h.prefixes ++ q ∷ []) h.prefixes q refl
             ∙ sym (ap (λ b. if b then None else Some q) (more_test (length (h.nodes ++ n ∷ [])) (omega (arith, length-append h.nodes (n ∷ [])))))
 
         told : (o : Option (List ℕ)) (x : RouteRecord) → option_map (record_of p r) o ≡ Some x → x ≡ record_of p r x.contacts

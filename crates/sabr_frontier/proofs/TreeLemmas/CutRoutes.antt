@@ -6,7 +6,7 @@ use Rattle.sabr_model.specs.routes.Record.{RouteRecord}
 use Rattle.sabr_frontier.specs.declared.tree.Node.{Node}
 use Rattle.sabr_frontier.specs.tree.Shape.{front_of, prefix_of}
 use Rattle.sabr_frontier.specs.tree.Sound.{IsLent}
-use Rattle.sabr_frontier.proofs.TreeLemmas.Nodes.{get_front}
+use Rattle.sabr_frontier.proofs.TreeLemmas.NodePlaces.{get_front}
 
 -- what a list is around the number after its front
 pub record IsCut (s q : List ℕ) (y : ℕ) (rest : List ℕ) (d : ℕ) : Type 0 where

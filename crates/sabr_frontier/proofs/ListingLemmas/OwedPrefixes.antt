@@ -11,9 +11,9 @@ use Rattle.sabr_frontier.specs.listing.Rising.{has, Below, Rises}
 use Rattle.sabr_frontier.specs.listing.State.{Member}
 use Rattle.sabr_frontier.specs.listing.Formed.{IsClosed, InOrder}
 use Rattle.sabr_frontier.specs.listing.Owing.{Owing, onward, IsGood, Owes}
-use Rattle.sabr_frontier.proofs.ListingLemmas.Beginnings.{number_after-of_snoc, number_after-nil}
-use Rattle.sabr_frontier.proofs.ListingLemmas.Members.{Member-map, Member-map_cases, Member-filter, Member-filter_cases, Member-append_left, Member-append_right, Member-append_cases, Below-member, Less-apart}
-use Rattle.sabr_frontier.proofs.ListingLemmas.Closed.{Number_has, has_Number}
+use Rattle.sabr_frontier.proofs.ListingLemmas.NumbersAfter.{number_after-of_snoc, number_after-nil}
+use Rattle.sabr_frontier.proofs.ListingLemmas.ListMembers.{Member-map, Member-map_cases, Member-filter, Member-filter_cases, Member-append_left, Member-append_right, Member-append_cases, Below-member, Less-apart}
+use Rattle.sabr_frontier.proofs.ListingLemmas.ClosedTrees.{Number_has, has_Number}
 use Rattle.sabr_frontier.proofs.ListingLemmas.Leaves.{Pairs}
 use Rattle.sabr_frontier.proofs.ListingLemmas.Division.{begins_less, above_longer}
 use Rattle.sabr_search.proofs.WayLemmas.Prefixes.{number_after_some}

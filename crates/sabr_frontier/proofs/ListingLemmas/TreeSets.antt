@@ -8,7 +8,7 @@ use Rattle.sabr_model.specs.routes.Parts.{number_after}
 use Rattle.sabr_frontier.specs.listing.Rising.{has, Rises}
 use Rattle.sabr_frontier.specs.listing.Tree.{proper_beginnings, put_number, numbers_after, put_all, prefixes, tree}
 use Rattle.sabr_frontier.proofs.ListingLemmas.Rising.{both_ways, is_equal, has-put_in, Rises-put_in, same_members, has_exact, has_itself}
-use Rattle.sabr_frontier.proofs.ListingLemmas.Beginnings.{lists_exact, numbers_exact, number_after-step, number_after-same}
+use Rattle.sabr_frontier.proofs.ListingLemmas.NumbersAfter.{lists_exact, numbers_exact, number_after-step, number_after-same}
 
 -- s is a member of S
 abbrev pub In : List ℕ → List (List ℕ) → Type 0

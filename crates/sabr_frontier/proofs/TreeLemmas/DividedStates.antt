@@ -25,17 +25,17 @@ use Rattle.sabr_frontier.specs.tree.Taking.{passing, stands_before, nodes_then, 
 use Rattle.sabr_frontier.specs.tree.Sound.{IsTree, IsLent}
 use Rattle.sabr_frontier.specs.tree.Queue.{InPairs, IsBefore}
 use Rattle.sabr_frontier.proofs.ListingLemmas.Rising.{turned}
-use Rattle.sabr_frontier.proofs.ListingLemmas.Beginnings.{lists_exact, number_after-snoc}
-use Rattle.sabr_frontier.proofs.ListingLemmas.Members.{Member-map, Member-map_cases, Member-append_left, Member-append_right, Less-apart}
-use Rattle.sabr_frontier.proofs.ListingLemmas.Closed.{tree_has}
+use Rattle.sabr_frontier.proofs.ListingLemmas.NumbersAfter.{lists_exact, number_after-snoc}
+use Rattle.sabr_frontier.proofs.ListingLemmas.ListMembers.{Member-map, Member-map_cases, Member-append_left, Member-append_right, Less-apart}
+use Rattle.sabr_frontier.proofs.ListingLemmas.ClosedTrees.{tree_has}
 use Rattle.sabr_frontier.proofs.ListingLemmas.Leaves.{closed_tree}
 use Rattle.sabr_frontier.proofs.ListingLemmas.Division.{begins_less, earlier_excludes, divided_set}
-use Rattle.sabr_frontier.proofs.TreeLemmas.Ends.{length-modify}
-use Rattle.sabr_frontier.proofs.TreeLemmas.Partition.{front_passes, back_fails}
-use Rattle.sabr_frontier.proofs.TreeLemmas.Orders.{earlier_prefix, less_from_test}
-use Rattle.sabr_frontier.proofs.TreeLemmas.Nodes.{get_Member, get_front, get_at_end, get_same, Member_split, member_cut, member_taken, member_dropped, pair_across, pairs_front, pairs_back, same_node}
-use Rattle.sabr_frontier.proofs.TreeLemmas.Splits.{prefix_stable}
-use Rattle.sabr_frontier.proofs.TreeLemmas.Refined.{index_order, node_within, kept, here, part_is, here_in, inside, cut}
+use Rattle.sabr_frontier.proofs.TreeLemmas.ModifiedPlaces.{length-modify}
+use Rattle.sabr_frontier.proofs.TreeLemmas.TestBoundaries.{front_passes, back_fails}
+use Rattle.sabr_frontier.proofs.TreeLemmas.IndexOrder.{earlier_prefix, less_from_test}
+use Rattle.sabr_frontier.proofs.TreeLemmas.NodePlaces.{get_Member, get_front, get_at_end, get_same, Member_split, member_cut, member_taken, member_dropped, pair_across, pairs_front, pairs_back, same_node}
+use Rattle.sabr_frontier.proofs.TreeLemmas.CutRoutes.{prefix_stable}
+use Rattle.sabr_frontier.proofs.TreeLemmas.CarryingNodes.{index_order, node_within, kept, here, part_is, here_in, inside, cut}
 use Rattle.std.proofs.Math.Seq.{take-append_seam}
 
 -- what the searches' records say of the routes

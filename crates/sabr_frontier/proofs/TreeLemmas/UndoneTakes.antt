@@ -11,7 +11,7 @@ use Rattle.sabr_frontier.specs.tree.Shape.{Shape}
 use Rattle.sabr_frontier.specs.tree.Undo.{modify, given_back, undone, undone_by, without}
 use Rattle.sabr_frontier.specs.tree.Taking.{ids_from, with_block}
 use Rattle.sabr_frontier.specs.listing.State.{Member}
-use Rattle.sabr_frontier.proofs.TreeLemmas.Ends.{last_item_push, front_push, length-modify, modify_twice, modify_back}
+use Rattle.sabr_frontier.proofs.TreeLemmas.ModifiedPlaces.{last_item_push, front_push, length-modify, modify_twice, modify_back}
 
 -- each passes
 abbrev pub Passes : {X : Type 0} → (X → Bool) → List X → Type 0

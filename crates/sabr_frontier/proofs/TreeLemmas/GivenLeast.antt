@@ -20,13 +20,13 @@ use Rattle.sabr_frontier.specs.tree.Undo.{undone, CanUndo}
 use Rattle.sabr_frontier.specs.tree.Taking.{IsTaken, divided, fresh_nodes}
 use Rattle.sabr_frontier.specs.tree.Winners.{CarriesNone, CarriesSome, IsLeast, IsNext}
 use Rattle.sabr_frontier.specs.tree.Sound.{IsTree}
-use Rattle.sabr_frontier.proofs.ListingLemmas.Members.{Member-map_cases}
+use Rattle.sabr_frontier.proofs.ListingLemmas.ListMembers.{Member-map_cases}
 use Rattle.sabr_frontier.proofs.ListingLemmas.NextPlace.{least_carried_none}
-use Rattle.sabr_frontier.proofs.ListingLemmas.Listed.{by_key_exact}
-use Rattle.sabr_frontier.proofs.TreeLemmas.Refined.{inside, next_is, record_is, searches_are}
-use Rattle.sabr_frontier.proofs.TreeLemmas.Winning.{standing_at}
-use Rattle.sabr_frontier.proofs.TreeLemmas.Divided.{shown_divided}
-use Rattle.sabr_frontier.proofs.TreeLemmas.Sounds.{tree_divided, undone_divided, can_undo}
+use Rattle.sabr_frontier.proofs.ListingLemmas.AllRoutes.{by_key_exact}
+use Rattle.sabr_frontier.proofs.TreeLemmas.CarryingNodes.{inside, next_is, record_is, searches_are}
+use Rattle.sabr_frontier.proofs.TreeLemmas.SlotWinners.{standing_at}
+use Rattle.sabr_frontier.proofs.TreeLemmas.DividedStates.{shown_divided}
+use Rattle.sabr_frontier.proofs.TreeLemmas.SoundSteps.{tree_divided, undone_divided, can_undo}
 
 length_fresh : (A : Type 0) (best : List ℕ → List ℕ → Option RouteRecord) (leaf : ℕ) (q rest : List ℕ) → length (fresh_nodes {A = A} best leaf q rest) ≡ length rest
 length_fresh A best leaf q [] = refl

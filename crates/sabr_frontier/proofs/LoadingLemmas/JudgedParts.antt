@@ -26,7 +26,7 @@ use Rattle.sabr_frontier.specs.listing.State.{leaves_of}
 use Rattle.sabr_frontier.specs.listing.Owing.{onward}
 use Rattle.sabr_frontier.specs.loading.Holding.{AllGoOn, Holding, IsJudged, IsVerdict, is_due, onward_of, routes_of}
 use Rattle.sabr_frontier.proofs.ListingLemmas.Rising.{has-append, has_itself}
-use Rattle.sabr_frontier.proofs.ListingLemmas.Closed.{Number_has, has_Number}
+use Rattle.sabr_frontier.proofs.ListingLemmas.ClosedTrees.{Number_has, has_Number}
 
 module _ (p : ContactPlan) (r : RouteRequest) where
   -- ---- one list of numbers

@@ -10,9 +10,9 @@ use Rattle.sabr_frontier.specs.listing.Tree.{numbers_after, prefixes, set_of, tr
 use Rattle.sabr_frontier.specs.listing.State.{Member, leaves_of, leaves}
 use Rattle.sabr_frontier.specs.listing.Formed.{IsClosed}
 use Rattle.sabr_frontier.proofs.ListingLemmas.Rising.{both_ways, same_members, has_itself, has_exact, Rises-put_in}
-use Rattle.sabr_frontier.proofs.ListingLemmas.Beginnings.{lists_exact, numbers_exact, number_after-snoc, number_after-longer, number_after-of_longer}
-use Rattle.sabr_frontier.proofs.ListingLemmas.Trees.{In, Listed, In-first, In-later, In-cases, In-put_in, put_in-In, numbers_after_has, has_numbers_after, prefixes_has, has_prefixes}
-use Rattle.sabr_frontier.proofs.ListingLemmas.Members.{Member-map, Member-map_cases, Member-filter, Member-filter_cases, Member-flat_map, Member-flat_map_cases}
+use Rattle.sabr_frontier.proofs.ListingLemmas.NumbersAfter.{lists_exact, numbers_exact, number_after-snoc, number_after-longer, number_after-of_longer}
+use Rattle.sabr_frontier.proofs.ListingLemmas.TreeSets.{In, Listed, In-first, In-later, In-cases, In-put_in, put_in-In, numbers_after_has, has_numbers_after, prefixes_has, has_prefixes}
+use Rattle.sabr_frontier.proofs.ListingLemmas.ListMembers.{Member-map, Member-map_cases, Member-filter, Member-filter_cases, Member-flat_map, Member-flat_map_cases}
 
 -- between the two words for a member
 pub In_Member : (s : List ℕ) (S : List (List ℕ)) → Member s S → In s S

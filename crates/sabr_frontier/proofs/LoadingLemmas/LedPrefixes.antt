@@ -2,7 +2,7 @@
 use Rattle.std.proofs.Common.{◌≡◌, ℕ, ◌<◌, true, List, ◌∷◌, ◌++◌, length, take, refl, ap, ◌∙◌, arith, length-append}
 use Rattle.std.proofs.lemmas.List.{take_at}
 use Rattle.sabr_model.specs.routes.Parts.{goes_on}
-use Rattle.sabr_frontier.proofs.ListingLemmas.Listed.{goes_on_within}
+use Rattle.sabr_frontier.proofs.ListingLemmas.AllRoutes.{goes_on_within}
 use Rattle.sabr_search.proofs.WayLemmas.Prefixes.{number_after_some}
 
 module _ (q X s : List ℕ) (goes : goes_on q X s ≡ true) where

@@ -28,12 +28,12 @@ use Rattle.sabr_frontier.specs.tree.Sound.{AreGiven, IsLent, IsTree}
 use Rattle.sabr_frontier.specs.tree.Taking.{ids_from}
 use Rattle.sabr_frontier.specs.loading.Holding.{Holding, AreLent, IsAnswered, IsGiven, IsHeld, IsLastPlace, IsWrongLast, is_paid, loaded_tree, pairs_in, parts_in, parts_of}
 use Rattle.sabr_frontier.proofs.ListingLemmas.Rising.{length-put_in}
-use Rattle.sabr_frontier.proofs.ListingLemmas.Beginnings.{number_after-snoc, number_after-of_longer}
-use Rattle.sabr_frontier.proofs.ListingLemmas.Closed.{In_Member, Member_In, set_of_has, has_set_of, last_same}
-use Rattle.sabr_frontier.proofs.ListingLemmas.Members.{Member-map, Member-map_cases, Member-filter_cases, Member-flat_map_cases, Below-member, Less-apart}
+use Rattle.sabr_frontier.proofs.ListingLemmas.NumbersAfter.{number_after-snoc, number_after-of_longer}
+use Rattle.sabr_frontier.proofs.ListingLemmas.ClosedTrees.{In_Member, Member_In, set_of_has, has_set_of, last_same}
+use Rattle.sabr_frontier.proofs.ListingLemmas.ListMembers.{Member-map, Member-map_cases, Member-filter_cases, Member-flat_map_cases, Below-member, Less-apart}
 use Rattle.sabr_frontier.proofs.ListingLemmas.Leaves.{Pairs}
-use Rattle.sabr_frontier.proofs.TreeLemmas.Nodes.{get_at_end, ids_cases, ids_has}
-use Rattle.sabr_frontier.proofs.LoadingLemmas.Answering.{paid_closed, paid_owes, pairs_two}
+use Rattle.sabr_frontier.proofs.TreeLemmas.NodePlaces.{get_at_end, ids_cases, ids_has}
+use Rattle.sabr_frontier.proofs.LoadingLemmas.AnsweredParts.{paid_closed, paid_owes, pairs_two}
 use Rattle.std.proofs.Math.Seq.{take-append_seam}
 use Rattle.sabr_search.proofs.WayLemmas.Prefixes.{number_after_some}
 

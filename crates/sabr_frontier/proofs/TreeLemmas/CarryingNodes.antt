@@ -28,22 +28,22 @@ use Rattle.sabr_frontier.specs.tree.Winners.{IsFirst, IsLeast}
 use Rattle.sabr_frontier.specs.tree.Queue.{InPairs, IsBefore}
 use Rattle.sabr_frontier.specs.tree.Taking.{nodes_then, widened}
 use Rattle.sabr_frontier.specs.tree.Sound.{IsTree, CanExclude}
-use Rattle.sabr_frontier.proofs.TreeLemmas.Found.{found_is, none_found}
+use Rattle.sabr_frontier.proofs.TreeLemmas.FirstFound.{found_is, none_found}
 use Rattle.sabr_frontier.proofs.ListingLemmas.Rising.{is_equal}
-use Rattle.sabr_frontier.proofs.ListingLemmas.Beginnings.{lists_exact}
-use Rattle.sabr_frontier.proofs.ListingLemmas.Members.{Member-map, Member-map_cases}
-use Rattle.sabr_frontier.proofs.ListingLemmas.Closed.{tree_has, leaves_has}
-use Rattle.sabr_frontier.proofs.ListingLemmas.Trees.{Listed}
+use Rattle.sabr_frontier.proofs.ListingLemmas.NumbersAfter.{lists_exact}
+use Rattle.sabr_frontier.proofs.ListingLemmas.ListMembers.{Member-map, Member-map_cases}
+use Rattle.sabr_frontier.proofs.ListingLemmas.ClosedTrees.{tree_has, leaves_has}
+use Rattle.sabr_frontier.proofs.ListingLemmas.TreeSets.{Listed}
 use Rattle.sabr_frontier.proofs.ListingLemmas.Parting.{in_one_part}
 use Rattle.sabr_frontier.proofs.ListingLemmas.Paths.{routes_apart}
 use Rattle.sabr_frontier.proofs.ListingLemmas.Leaves.{closed_tree}
 use Rattle.sabr_frontier.proofs.ListingLemmas.NextPlace.{least_carried_is}
-use Rattle.sabr_frontier.proofs.ListingLemmas.Listed.{by_key_exact}
-use Rattle.sabr_frontier.proofs.TreeLemmas.Ends.{length-modify}
-use Rattle.sabr_frontier.proofs.TreeLemmas.Partition.{pairs_from_rises}
-use Rattle.sabr_frontier.proofs.TreeLemmas.Nodes.{get_Member, get_front, get_other}
-use Rattle.sabr_frontier.proofs.TreeLemmas.Winning.{standing_at}
-use Rattle.sabr_frontier.proofs.TreeLemmas.Splits.{IsCut, cut_at, prefix_length}
+use Rattle.sabr_frontier.proofs.ListingLemmas.AllRoutes.{by_key_exact}
+use Rattle.sabr_frontier.proofs.TreeLemmas.ModifiedPlaces.{length-modify}
+use Rattle.sabr_frontier.proofs.TreeLemmas.TestBoundaries.{pairs_from_rises}
+use Rattle.sabr_frontier.proofs.TreeLemmas.NodePlaces.{get_Member, get_front, get_other}
+use Rattle.sabr_frontier.proofs.TreeLemmas.SlotWinners.{standing_at}
+use Rattle.sabr_frontier.proofs.TreeLemmas.CutRoutes.{IsCut, cut_at, prefix_length}
 use Rattle.sabr_search.proofs.WayLemmas.Prefixes.{number_after_some}
 
 -- the node that carries the least route

@@ -18,12 +18,12 @@ use Rattle.sabr_frontier.specs.tree.Sound.{IsTree}
 use Rattle.sabr_frontier.specs.tree.Root.{root, first_id}
 use Rattle.sabr_frontier.specs.session.Session.{told_part}
 use Rattle.sabr_frontier.specs.session.Views.{told_at, told_node}
-use Rattle.sabr_frontier.proofs.ListingLemmas.Formed.{formed_start}
+use Rattle.sabr_frontier.proofs.ListingLemmas.FormedSteps.{formed_start}
 use Rattle.sabr_frontier.proofs.ListingLemmas.Paths.{route_filled, routes_apart, route_chains, route_fits}
-use Rattle.sabr_frontier.proofs.ListingLemmas.Listed.{least_some}
-use Rattle.sabr_frontier.proofs.TreeLemmas.Divided.{best_numbers}
-use Rattle.sabr_frontier.proofs.TreeLemmas.Sounds.{best_is}
-use Rattle.sabr_frontier.proofs.TreeLemmas.Nodes.{same_node, get_Member}
+use Rattle.sabr_frontier.proofs.ListingLemmas.AllRoutes.{least_some}
+use Rattle.sabr_frontier.proofs.TreeLemmas.DividedStates.{best_numbers}
+use Rattle.sabr_frontier.proofs.TreeLemmas.SoundSteps.{best_is}
+use Rattle.sabr_frontier.proofs.TreeLemmas.NodePlaces.{same_node, get_Member}
 
 pub shown_root : (A : Type 0) (p : ContactPlan) (r : RouteRequest) → shown (root {A = A} (best_of p r [] [])) ≡ state_at p r 0
 unfolding state_at

@@ -11,10 +11,10 @@ use Rattle.sabr_frontier.specs.listing.State.{PartState, State, pair_of, Member,
 use Rattle.sabr_frontier.specs.listing.Formed.{IsClosed, Within, InOrder, IsWellFormed}
 use Rattle.sabr_frontier.specs.listing.Step.{same_pair, carried_in, carry, parts_after, given, full, state_of}
 use Rattle.sabr_frontier.proofs.ListingLemmas.Rising.{both_ways, same_members, length-put_in, Rises-put_in}
-use Rattle.sabr_frontier.proofs.ListingLemmas.Beginnings.{lists_exact}
-use Rattle.sabr_frontier.proofs.ListingLemmas.Trees.{In, In-put_in, put_in-In, Rises-numbers_after, Rises-prefixes}
-use Rattle.sabr_frontier.proofs.ListingLemmas.Members.{Member-map_cases}
-use Rattle.sabr_frontier.proofs.ListingLemmas.Closed.{tree_has, leaves_has, Rises-leaves, Rises-set_of, set_of_has, has_set_of, tree_closed, leaves-tree}
+use Rattle.sabr_frontier.proofs.ListingLemmas.NumbersAfter.{lists_exact}
+use Rattle.sabr_frontier.proofs.ListingLemmas.TreeSets.{In, In-put_in, put_in-In, Rises-numbers_after, Rises-prefixes}
+use Rattle.sabr_frontier.proofs.ListingLemmas.ListMembers.{Member-map_cases}
+use Rattle.sabr_frontier.proofs.ListingLemmas.ClosedTrees.{tree_has, leaves_has, Rises-leaves, Rises-set_of, set_of_has, has_set_of, tree_closed, leaves-tree}
 use Rattle.sabr_frontier.proofs.ListingLemmas.Parting.{taken_in_none}
 use Rattle.sabr_frontier.proofs.ListingLemmas.Leaves.{closed_tree, prefixes_of_tree}
 use Rattle.sabr_frontier.proofs.ListingLemmas.Division.{same_pair_is}

@@ -14,7 +14,7 @@ use Rattle.sabr_frontier.specs.declared.tree.Node.{Node}
 use Rattle.sabr_frontier.specs.tree.Shape.{route_at}
 use Rattle.sabr_frontier.specs.tree.Winners.{route_of, winner_at, is_lesser, IsUpTo, IsNoGreater, IsLeast, IsFirst, CarriesNone, IsLesser, IsWinner, IsWon, AreWinners, low, high, IsAbove, AreOthersWinners, IsSettled, IsRising, IsBeside}
 use Rattle.sabr_frontier.proofs.ListingLemmas.Rising.{turned}
-use Rattle.sabr_frontier.proofs.TreeLemmas.Orders.{less_from_test}
+use Rattle.sabr_frontier.proofs.TreeLemmas.IndexOrder.{less_from_test}
 
 -- ---- what a node carries
 

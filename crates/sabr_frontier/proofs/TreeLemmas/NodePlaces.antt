@@ -9,7 +9,7 @@ use Rattle.sabr_frontier.specs.listing.State.{Member}
 use Rattle.sabr_frontier.specs.tree.Undo.{modify, last_item, front}
 use Rattle.sabr_frontier.specs.tree.Queue.{InPairs}
 use Rattle.sabr_frontier.specs.tree.Taking.{ids_from}
-use Rattle.sabr_frontier.proofs.ListingLemmas.Members.{Member-append_left, Member-append_right, Member-append_cases}
+use Rattle.sabr_frontier.proofs.ListingLemmas.ListMembers.{Member-append_left, Member-append_right, Member-append_cases}
 
 module _ {X : Type 0} where
   pub within_get : (xs : List X) (i : ℕ) → i < length xs → (x : X) × (slice_get xs i ≡ Some x)
