@@ -1,6 +1,5 @@
 -- From the start forward.
 pub mod HopLayers
-pub mod Settles
 pub mod Runs
 pub mod Forward
 pub mod Between

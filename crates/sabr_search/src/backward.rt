@@ -4,4 +4,5 @@ mod deadlines;
 pub mod from_goal;
 pub mod latest;
 pub mod least_way;
+pub mod nearest;
 pub mod pick;

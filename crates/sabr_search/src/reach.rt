@@ -6,6 +6,7 @@ ghost use Rattle.sabr_model.specs.routes.Arrival.{RouteRequest};
 ghost use Rattle.sabr_search.specs.layers.Reach.{IsReach};
 
 use crate::backward::latest::latest_of;
+use crate::backward::nearest::nearest_of;
 use crate::course::Course;
 use crate::links::finger::Excluded;
 use crate::links::looks::Looks;
@@ -19,6 +20,8 @@ use std::alloc::Allocator;
 pub struct Reach<A: Allocator + Copy> {
     /// For each node, a second from which on no way leads to the destination; none is known after the list's end.
     pub late: Vec<u64, A>,
+    /// For each node, `NEVER` less the least seconds of a way to the destination; `NEVER` after the list's end.
+    pub near: Vec<u64, A>,
 }
 
 impl<A: Allocator + Copy> Reach<A> {
@@ -28,6 +31,7 @@ impl<A: Allocator + Copy> Reach<A> {
     {
         Reach {
             late: Vec::new(alloc),
+            near: Vec::new(alloc),
         }
     }
 
@@ -57,6 +61,7 @@ impl<A: Allocator + Copy> Reach<A> {
         };
         let task = Task::new(index, request, &course, excluded, source);
         let late = latest_of(alloc, &task, looks, most)?;
-        Ok(Reach { late })
+        let near = nearest_of(alloc, &task, most)?;
+        Ok(Reach { late, near })
     }
 }

@@ -24,7 +24,7 @@ pub struct Search<A: Allocator + Copy> {
     pub alloc: A,
     /// Where the first steps come to, and when.
     first: Vec<Standing, A>,
-    /// Nodes in order of arrival.
+    /// Nodes in order of arrival and of what the goal costs from there.
     settling: Settling<A>,
     /// Layers backward, and forward.
     layers: Layers<A>,
@@ -51,7 +51,7 @@ impl<A: Allocator + Copy> Search<A> {
         most: u64,
     ) -> Result<Option<Best>, NoMemory>
         requires task { IsTask task.now }
-        requires bound { IsBound task.now reach.now.late.items }
+        requires bound { IsBound task.now reach.now.late.items reach.now.near.items }
         requires few { looks.old.count ≤ most }
         requires most { most ≤ 2 ^ 62 }
         ensures looks { looks.new.count ≤ most }
@@ -67,6 +67,7 @@ impl<A: Allocator + Copy> Search<A> {
         let forward = Forward {
             task,
             late: &reach.late,
+            near: &reach.near,
         };
         let found = self.settling.run(&forward, looks, &self.first, most)?;
         Ok(found)
@@ -84,7 +85,7 @@ impl<A: Allocator + Copy> Search<A> {
         most: u64,
     ) -> Result<Option<FoundWay<A>>, NoMemory>
         requires task { IsTask task.now }
-        requires bound { IsBound task.now reach.now.late.items }
+        requires bound { IsBound task.now reach.now.late.items reach.now.near.items }
         requires nodes { hops ≤ most_nodes }
         requires few { looks.old.count ≤ most }
         requires most { most ≤ 2 ^ 62 }

@@ -75,7 +75,7 @@ impl<A: Allocator + Copy> Search<A> {
         looks: &mut Looks,
     ) -> Result<FoundWay<A>, NoMemory>
         requires asked { IsAsked asked.now.task.now asked.now.prefix.now }
-        requires bound { IsBound asked.now.task.now reach.now.late.items }
+        requires bound { IsBound asked.now.task.now reach.now.late.items reach.now.near.items }
         requires few { looks.old.count ≤ 2 * length asked.now.task.now.plan.contacts }
         ensures bound { looks.new.count ≤ 3 * length asked.now.task.now.table * length asked.now.task.now.plan.contacts }
         ensures cut { IfOk result (λ way. asked.now.task.now.request.max_hops ≡ most_hops → looks.new.count ≤ (2 * length way.numbers.items + 3) * length asked.now.task.now.plan.contacts) }
@@ -118,8 +118,8 @@ impl<A: Allocator + Copy> Search<A> {
     }
 }
 
-/// A finder that settles nodes in order of their arrival up to the first delivery, and then makes layers backward from
-/// the goal for it.
+/// A finder that settles nodes in order of their arrival and of what the goal costs from there, up to the first delivery,
+/// and then makes layers backward from the goal for it.
 ///
 /// A call costs at most `(3 * N + 1) * C` looks, for N nodes and C contacts. Without a limit on hops it costs at most
 /// `(3 * r + 3) * C`, for r hops of the answer after the prefix. Its memory is kept from call to call.

@@ -1,11 +1,14 @@
 -- What holds for the question of each part.
-use Rattle.std.proofs.Common.{◌≡◌, ℕ, Bool, true, false, eqb, ◌||◌, List, Some, slice_get, sym, subst, ◌∙◌}
+use Rattle.std.proofs.Common.{◌≡◌, ◌≢◌, inl, inr, ℕ, Bool, true, false, eqb, ◌||◌, List, Some, slice_get, slice_index_or, ap, sym, subst, ◌∙◌, arith}
+use Rattle.std.proofs.lemmas.Bool.{cases_eq}
 use Rattle.sabr_model.specs.plan.Plan.{has}
 use Rattle.sabr_model.specs.routes.Route.{receivers}
 use Rattle.sabr_search.specs.questions.Task.{SearchTask, HasNodes, IsBehind, IsOfRequest, Takes, is_closed}
 use Rattle.sabr_search.specs.questions.FirstSteps.{tabled_of}
-use Rattle.sabr_search.specs.layers.Reach.{Goes, AreLateFor}
+use Rattle.sabr_search.specs.declared.reach.Reach.{Reach}
+use Rattle.sabr_search.specs.layers.Reach.{Goes, IsBetween, IsReach, cost_to}
 use Rattle.sabr_search.specs.layers.Settling.{IsBound}
+use Rattle.sabr_search.proofs.WayLemmas.Bridge.{takes_timely}
 
 -- what is shut for fewer nodes
 fewer : (a b c : Bool) → ((a || b) || c) ≡ false → ((a || false) || c) ≡ false
@@ -33,18 +36,22 @@ goes_of task over n u t w b s = record {
   arrives = s.arrives;
 }
 
--- from when on the destination can't be reached over the whole graph, it can't by a question's ways
-pub late_bounds : (task : SearchTask) → HasNodes task.plan task.table → IsOfRequest task → (late : List ℕ) → AreLateFor (tabled_of task) task.request late → IsBound task late
-late_bounds task nodes over late are = record {
-  goal = are.goal task.goal over.goal_is;
-  steps = λ n u t w b s open' other late_there.
-      are.steps n u t w b
-      (goes_of task over n u t w b s)
-      (record {
-        node = s.contact.from;
-        stands = s.sender;
-        unshut = over.closes u s.contact.from s.sender open';
-        other = λ same. other (nodes.apart u task.goal task.request.destination (subst (λ x. slice_get task.table u ≡ Some x) same s.sender) over.goal_is);
-      })
-      late_there;
+-- what is known of the ways over the whole graph is so of a question's ways
+pub reach_bounds : {A : Type 0} (task : SearchTask) → HasNodes task.plan task.table → IsOfRequest task → (reach : Reach A) → IsReach (tabled_of task) task.request reach → IsBound task reach.late.items reach.near.items
+reach_bounds task nodes over reach are = record {
+  goal = are.late.goal task.goal over.goal_is;
+  steps = λ n u t w b s open' other. are.late.steps n u t w b (goes_of task over n u t w b s) (between n u t w b s open' other);
+  there = omega (arith, are.near.goal task.goal over.goal_is);
+  costs = λ n u t w b s open'. elim (cases_eq u task.goal) [
+    | inl same ↦ omega (arith, ap (cost_to reach.near.items) same, are.near.goal task.goal over.goal_is, (takes_timely task nodes).later n u t w b s)
+    | inr other ↦ omega (arith, (takes_timely task nodes).later n u t w b s, are.near.steps n u t w b (goes_of task over n u t w b s) (between n u t w b s open' other))
+  ];
 }
+  where
+    between : (n u t w b : ℕ) → Takes task n u t w b → slice_index_or task.shut u false ≡ false → u ≢ task.goal → IsBetween (tabled_of task) task.request u
+    between n u t w b s open' other = record {
+      node = s.contact.from;
+      stands = s.sender;
+      unshut = over.closes u s.contact.from s.sender open';
+      other = λ same. other (nodes.apart u task.goal task.request.destination (subst (λ x. slice_get task.table u ≡ Some x) same s.sender) over.goal_is);
+    }

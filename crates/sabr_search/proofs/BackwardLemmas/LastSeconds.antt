@@ -1,5 +1,5 @@
 -- The seconds from which on no way leads to the goal: what holds while the links to nodes are taken, and what they come to.
-use Rattle.std.proofs.Common.{◌≡◌, ◌≢◌, inl, inr, ℕ, ◌<◌, ◌≤◌, Bool, true, false, List, [], ◌∷◌, length, replicate, Contains, All, slice_get, slice_index, slice_index_or, slice_set, zero, suc, refl, ap, sym, ◌∙◌, arith}
+use Rattle.std.proofs.Common.{◌≡◌, ◌≢◌, inl, inr, ℕ, ◌+◌, ◌<◌, ◌≤◌, min, Bool, true, false, List, [], ◌∷◌, length, replicate, Contains, All, slice_get, slice_index, slice_index_or, slice_set, zero, suc, refl, ap, sym, ◌∙◌, arith}
 use Rattle.std.specs.List.Sorted.{IsPermutation}
 use Rattle.std.proofs.lemmas.Bool.{cases_lt, cases_eq, both_ways, cases_Bool}
 use Rattle.std.proofs.lemmas.Grind.{common_steps}
@@ -11,9 +11,15 @@ use Rattle.sabr_model.specs.routes.Arrival.{RouteRequest}
 use Rattle.sabr_search.specs.declared.forward.queue.Event.{Event}
 use Rattle.sabr_search.specs.questions.Task.{SearchTask, IsTask, IsBehind, Takes, never}
 use Rattle.sabr_search.specs.questions.FirstSteps.{tabled_of}
-use Rattle.sabr_search.specs.layers.Reach.{AreLateFor}
-use Rattle.sabr_search.specs.layers.Latest.{IsWhole, IsLeftBy, IsTakenBy, AreRising, AreTaken}
+use Rattle.sabr_search.specs.layers.Reach.{Goes, IsBetween, AreLateFor, AreNearFor}
+use Rattle.sabr_search.specs.layers.Latest.{IsWhole, IsBegun, IsLeftBy, IsTakenBy, IsNear, IsNearBy, AreRising, AreTaken}
 use Rattle.sabr_search.proofs.LinkLemmas.Arrivals.{arrives_later}
+use Rattle.sabr_index.specs.declared.link.Pass.{Pass}
+use Rattle.sabr_index.specs.declared.link.LinkBounds.{LinkBounds}
+use Rattle.sabr_model.specs.routes.Arrival.{cost}
+use Rattle.sabr_search.specs.questions.Linked.{IsLinkWithin, HasNumber}
+use Rattle.sabr_search.proofs.LinkLemmas.Linking.{cost_rises}
+use Rattle.sabr_search.proofs.LinkLemmas.OverLinks.{over_pass, step_over}
 use Rattle.sabr_search.proofs.WayLemmas.Bridge.{same_some}
 use Rattle.sabr_search.proofs.ForwardLemmas.Queues.{set_here, set_other, set_many}
 use Rattle.sabr_search.proofs.WayLemmas.Since.{same_everywhere, replicate_many}
@@ -36,57 +42,78 @@ flags_all : (n : ℕ) → length (replicate n false) ≡ n
 flags_all n = grind (arith, common_steps)
 
 -- at first the goal alone waits
-pub first_rising : (task : SearchTask) → IsTask task → (late : List ℕ) (taken : List Bool) (queue : List Event) (a h : ℕ) → late ≡ slice_set (replicate (length task.shut) 0) task.goal never → taken ≡ replicate (length task.shut) false →
-    IsPermutation (record { at = a; hops = h; node = task.goal } ∷ []) queue → AreRising task late taken queue (length task.table)
-first_rising task is late taken queue a h late_is taken_is moved =
+pub first_rising : (P : List ℕ → ℕ → Type 0) (task : SearchTask) → IsTask task → (late : List ℕ) (taken : List Bool) (queue : List Event) → IsBegun task late taken queue → AreRising P task late taken queue (length task.table)
+first_rising P task is late taken queue begun =
     let zeros : List ℕ = replicate (length task.shut) 0 in
-    let event : Event = record { at = a; hops = h; node = task.goal } in
+    let event : Event = record { at = 0; rank = 0; hops = 0; node = task.goal } in
     let within : task.goal < length zeros = omega (arith, replicate_many (length task.shut) 0, is.as_many, is.goal_in) in
     record {
-      many = ap length late_is ∙ set_many zeros task.goal never ∙ replicate_many (length task.shut) 0 ∙ is.as_many;
-      flags = ap length taken_is ∙ flags_all (length task.shut) ∙ is.as_many;
-      goal = ap (λ xs. slice_index xs task.goal) late_is ∙ set_here zeros task.goal never within;
-      inside = All-permutation (λ (e : Event). e.node < length task.table) (event ∷ []) queue moved (All-cons (λ (e : Event). e.node < length task.table) event [] is.goal_in (λ i d lt. absurd (omega (arith, lt))));
+      many = ap length begun.late_is ∙ set_many zeros task.goal never ∙ replicate_many (length task.shut) 0 ∙ is.as_many;
+      flags = ap length begun.taken_is ∙ flags_all (length task.shut) ∙ is.as_many;
+      goal = ap (λ xs. slice_index xs task.goal) begun.late_is ∙ set_here zeros task.goal never within;
+      inside = All-permutation (λ (e : Event). e.node < length task.table) (event ∷ []) queue begun.waits (All-cons (λ (e : Event). e.node < length task.table) event [] is.goal_in (λ i d lt. absurd (omega (arith, lt))));
       waits = λ w w_in off some. elim (cases_eq w task.goal) [
-        | inl same ↦ rw same (a, h, Contains-permutation (event ∷ []) queue event moved (0, omega arith, refl))
-        | inr other ↦ absurd (omega (arith, some, ap (λ xs. slice_index xs w) late_is, set_other zeros task.goal never w other, same_everywhere (length task.shut) 0 w))
+        | inl same ↦ (event, Contains-permutation (event ∷ []) queue event begun.waits (0, omega arith, refl), sym same)
+        | inr other ↦ absurd (omega (arith, some, ap (λ xs. slice_index xs w) begun.late_is, set_other zeros task.goal never w other, same_everywhere (length task.shut) 0 w))
       ];
-      over = λ w other on. absurd (both_ways (slice_index_or taken w false) (ap (λ xs. slice_index_or xs w false) taken_is ∙ all_off (length task.shut) w) on);
+      over = λ w other on. absurd (both_ways (slice_index_or taken w false) (ap (λ xs. slice_index_or xs w false) begun.taken_is ∙ all_off (length task.shut) w) on);
     }
 
+-- one second more is later than it was
+pub late_rises : (late : List ℕ) (u last : ℕ) → u < length late → slice_index late u < last → (k : ℕ) → slice_index late k ≤ slice_index (slice_set late u last) k
+late_rises late u last inside less k = elim (cases_eq k u) [
+  | inl same ↦ omega (arith, ap (slice_index late) same, less, ap (slice_index (slice_set late u last)) same, set_here late u last inside)
+  | inr differ ↦ omega (arith, set_other late u last k differ)
+]
+
 -- a node may be left later, and waits
-module _ (task : SearchTask) (late : List ℕ) (taken : List Bool) (queue queue' : List Event) (now u last a h : ℕ) (was : AreRising task late taken queue now)
-    (within : u < length task.table) (other : u ≢ task.goal) (less : slice_index late u < last) (moved : IsPermutation (record { at = a; hops = h; node = u } ∷ queue) queue') where
+module _ (P : List ℕ → ℕ → Type 0) (task : SearchTask) (late : List ℕ) (taken : List Bool) (queue queue' : List Event) (now last : ℕ) (event : Event) (was : AreRising P task late taken queue now)
+    (within : event.node < length task.table) (other : event.node ≢ task.goal) (less : slice_index late event.node < last) (moved : IsPermutation (event ∷ queue) queue') where
+  abbrev u : ℕ
+  u = event.node
+
   inside : u < length late
   inside = omega (arith, within, was.many)
 
-  pub late_rises : (k : ℕ) → slice_index late k ≤ slice_index (slice_set late u last) k
-  late_rises k = elim (cases_eq k u) [
-    | inl same ↦ omega (arith, ap (slice_index late) same, less, ap (slice_index (slice_set late u last)) same, set_here late u last inside)
-    | inr differ ↦ omega (arith, set_other late u last k differ)
-  ]
-
-  abbrev event : Event
-  event = record { at = a; hops = h; node = u }
-
-  pub risen : AreRising task (slice_set late u last) (slice_set taken u false) queue' now
-  risen = record {
+  pub risen : ((w : ℕ) → w ≢ u → P late w → P (slice_set late u last) w) → AreRising P task (slice_set late u last) (slice_set taken u false) queue' now
+  risen still = record {
     many = set_many late u last ∙ was.many;
     flags = flags_many taken u false ∙ was.flags;
     goal = set_other late u last task.goal (λ same. other (sym same)) ∙ was.goal;
     inside = All-permutation (λ (e : Event). e.node < length task.table) (event ∷ queue) queue' moved (All-cons (λ (e : Event). e.node < length task.table) event queue within was.inside);
     waits = λ w w_in off some. elim (cases_eq w u) [
-      | inl same ↦ rw same (a, h, Contains-permutation (event ∷ queue) queue' event moved (0, omega arith, refl))
+      | inl same ↦ (event, Contains-permutation (event ∷ queue) queue' event moved (0, omega arith, refl), sym same)
       | inr differ ↦
           (let waits = was.waits w w_in (sym (flag_apart taken u w false differ) ∙ off) (omega (arith, some, set_other late u last w differ)) in
-          (waits.0, waits.1, Contains-permutation (event ∷ queue) queue' _ moved (Contains-append_right (event ∷ []) queue _ waits.2)))
+          (waits.0, Contains-permutation (event ∷ queue) queue' waits.0 moved (Contains-append_right (event ∷ []) queue waits.0 waits.1), waits.2))
     ];
     over = λ w apart on. elim (cases_eq w u) [
       | inl same ↦ absurd (both_ways (slice_index_or (slice_set taken u false) u false) (flag_off taken u) (rw same at on))
-      | inr differ ↦ λ n v t b step soon open' elsewhere.
-          omega (arith, late_rises v, was.over w apart (sym (flag_apart taken u w false differ) ∙ on) n v t b step (omega (arith, soon, set_other late u last w differ)) open' elsewhere)
+      | inr differ ↦ still w differ (was.over w apart (sym (flag_apart taken u w false differ) ∙ on))
     ];
   }
+
+-- what was taken for a node stays so when another may be left later
+pub still_taken : (task : SearchTask) (late : List ℕ) (u last : ℕ) → ((k : ℕ) → slice_index late k ≤ slice_index (slice_set late u last) k) → (w : ℕ) → w ≢ u → IsTakenBy task late w → IsTakenBy task (slice_set late u last) w
+still_taken task late u last rises w differ taken n v t b step soon open' elsewhere =
+    omega (arith, rises v, taken n v t b step (omega (arith, soon, set_other late u last w differ)) open' elsewhere)
+
+-- the same of how near nodes are
+pub still_near : (task : SearchTask) (near : List ℕ) (u last : ℕ) → ((k : ℕ) → slice_index near k ≤ slice_index (slice_set near u last) k) → (w : ℕ) → w ≢ u → IsNearBy task near w → IsNearBy task (slice_set near u last) w
+still_near task near u last rises w differ taken n v t b step open' elsewhere =
+    omega (arith, rises v, taken n v t b step open' elsewhere, set_other near u last w differ)
+
+-- a node doesn't get farther
+pub near_later : (task : SearchTask) (near near' : List ℕ) → ((k : ℕ) → slice_index near k ≤ slice_index near' k) → (u t w b : ℕ) → slice_index near' w ≡ slice_index near w → IsNear task near u t w b → IsNear task near' u t w b
+near_later task near near' rises u t w b same is open' other = omega (arith, rises u, same, is open' other)
+
+-- over a link within these bounds a step takes the cost of their least light time
+pub over_bounds : (task : SearchTask) → IsTask task → (u to : ℕ) (passes : List Pass) (bounds : LinkBounds) → IsLinkWithin task u to passes bounds → (n t b : ℕ) → HasNumber passes n → Takes task n u t to b →
+    t + cost task.request.margin (min bounds.least_light 1000000) ≤ b
+over_bounds task is u to passes bounds link n t b has s =
+    let o = over_pass task is u to t has.1 to b (link.0.each has.0 has.1 has.2) (step_over task passes n u t to b has s) in
+    let kept = link.1 has.0 has.1 has.2 in
+    omega (arith, o.sum, cost_rises task.request.margin (min bounds.least_light 1000000) has.1.light (omega (arith, kept.light)))
 
 -- who is in time stays so
 pub left_later : (task : SearchTask) (late late' : List ℕ) → ((k : ℕ) → slice_index late k ≤ slice_index late' k) → (u t : ℕ) → IsLeftBy task late u t → IsLeftBy task late' u t
@@ -97,24 +124,24 @@ only_one e x (zero, lt, same) = ap (λ (f : Event). f.node) (sym same)
 only_one e x (suc i, lt, same) = absurd (omega arith)
 
 -- a node that waits is taken out
-module _ (task : SearchTask) (late : List ℕ) (taken : List Bool) (queue queue' : List Event) (e : Event) (was : AreRising task late taken queue (length task.table)) (moved : IsPermutation queue (e ∷ queue')) where
+module _ (P : List ℕ → ℕ → Type 0) (task : SearchTask) (late : List ℕ) (taken : List Bool) (queue queue' : List Event) (e : Event) (was : AreRising P task late taken queue (length task.table)) (moved : IsPermutation queue (e ∷ queue')) where
   pub next_inside : e.node < length task.table
   next_inside = All-head (λ (f : Event). f.node < length task.table) e queue' (All-permutation (λ (f : Event). f.node < length task.table) queue (e ∷ queue') moved was.inside)
 
   rest_inside : All (λ (f : Event). f.node < length task.table) queue'
   rest_inside = All-tail (λ (f : Event). f.node < length task.table) e queue' (All-permutation (λ (f : Event). f.node < length task.table) queue (e ∷ queue') moved was.inside)
 
-  rest_waits : (w : ℕ) → w ≢ e.node → w < length task.table → slice_index_or taken w false ≡ false → 0 < slice_index late w → (a : ℕ) × (h : ℕ) × Contains queue' (record { at = a; hops = h; node = w })
+  rest_waits : (w : ℕ) → w ≢ e.node → w < length task.table → slice_index_or taken w false ≡ false → 0 < slice_index late w → (x : Event) × Contains queue' x × (x.node ≡ w)
   rest_waits w other w_in off some =
       let waits = was.waits w w_in off some in
-      let x : Event = record { at = waits.0; hops = waits.1; node = w } in
-      elim (Contains-append_cases (e ∷ []) queue' x (Contains-permutation queue (e ∷ queue') x moved waits.2)) [
-        | inl alone ↦ absurd (other (only_one e x alone))
-        | inr rest ↦ (waits.0, waits.1, rest)
+      let x = waits.0 in
+      elim (Contains-append_cases (e ∷ []) queue' x (Contains-permutation queue (e ∷ queue') x moved waits.1)) [
+        | inl alone ↦ absurd (other (sym waits.2 ∙ only_one e x alone))
+        | inr rest ↦ (x, rest, waits.2)
       ]
 
   -- it needn't be taken again
-  pub skipped : slice_index_or taken e.node false ≡ true → AreRising task late taken queue' (length task.table)
+  pub skipped : slice_index_or taken e.node false ≡ true → AreRising P task late taken queue' (length task.table)
   skipped on = record {
     many = was.many;
     flags = was.flags;
@@ -125,7 +152,7 @@ module _ (task : SearchTask) (late : List ℕ) (taken : List Bool) (queue queue'
   }
 
   -- the links to it are taken
-  pub begun : AreRising task late (slice_set taken e.node true) queue' e.node
+  pub begun : AreRising P task late (slice_set taken e.node true) queue' e.node
   begun = record {
     many = was.many;
     flags = flags_many taken e.node true ∙ was.flags;
@@ -145,8 +172,8 @@ module _ (task : SearchTask) (late : List ℕ) (taken : List Bool) (queue queue'
       past w same on = (let far : length (slice_set taken e.node true) ≤ w = omega (arith, flags_many taken e.node true, was.flags, same) in both_ways (slice_index_or (slice_set taken e.node true) w false) (grind (arith, common_steps, far)) on)
 
 -- all links to a node are taken
-pub finished : (task : SearchTask) (late : List ℕ) (taken : List Bool) (queue : List Event) (now : ℕ) → AreRising task late taken queue now → IsTakenBy task late now → AreRising task late taken queue (length task.table)
-finished task late taken queue now was taken_now = record {
+pub finished : (P : List ℕ → ℕ → Type 0) (task : SearchTask) (late : List ℕ) (taken : List Bool) (queue : List Event) (now : ℕ) → AreRising P task late taken queue now → P late now → AreRising P task late taken queue (length task.table)
+finished P task late taken queue now was taken_now = record {
   many = was.many;
   flags = was.flags;
   goal = was.goal;
@@ -159,8 +186,8 @@ finished task late taken queue now was taken_now = record {
 }
 
 -- none waits any more
-pub all_taken : (task : SearchTask) (late : List ℕ) (taken : List Bool) (queue : List Event) → AreRising task late taken queue (length task.table) → queue ≡ [] → AreTaken task late
-all_taken task late taken queue was empty = record {
+pub all_taken : (P : List ℕ → ℕ → Type 0) (task : SearchTask) (late : List ℕ) (taken : List Bool) (queue : List Event) → AreRising P task late taken queue (length task.table) → queue ≡ [] → AreTaken P task late
+all_taken P task late taken queue was empty = record {
   many = was.many;
   goal = was.goal;
   over = λ w w_in some. was.over w (λ same. absurd (omega (arith, same, w_in))) (on w w_in some);
@@ -169,14 +196,30 @@ all_taken task late taken queue was empty = record {
     on : (w : ℕ) → w < length task.table → 0 < slice_index late w → slice_index_or taken w false ≡ true
     on w w_in some = elim (cases_Bool (slice_index_or taken w false)) [
       | inl yes' ↦ yes'
-      | inr off ↦ (let waits = was.waits w w_in off some in let none = rw empty at waits.2 in absurd (omega (arith, none.1)))
+      | inr off ↦ (let waits = was.waits w w_in off some in let none = rw empty at waits.1 in absurd (omega (arith, none.1)))
     ]
 
 read_or : (xs : List ℕ) (k : ℕ) → k < length xs → slice_index_or xs k never ≡ slice_index xs k
 read_or xs k within = grind (arith, common_steps)
 
+-- a step of the whole graph is one of its question
+whole_step : (task : SearchTask) → IsWhole task → (n u t w b : ℕ) → Goes (tabled_of task) task.request n u t w b → Takes task n u t w b
+whole_step task whole n u t w b g = record {
+  contact = g.contact;
+  named = g.named;
+  sender = g.sender;
+  receiver = g.receiver;
+  unshut = whole.shuts w g.contact.to g.receiver ∙ g.unshut;
+  allowed = λ here. ap (has n) whole.free;
+  arrives = g.arrives;
+}
+
+-- a node that isn't the destination isn't the goal
+other_node : (task : SearchTask) → IsWhole task → (u : ℕ) → IsBetween (tabled_of task) task.request u → u ≢ task.goal
+other_node task whole u between same = between.other (same_some (sym between.stands ∙ ap (slice_get task.table) same ∙ whole.goal_is))
+
 -- so these are seconds from which on no way leads to the destination
-pub late_for : (task : SearchTask) → IsWhole task → (late : List ℕ) → AreTaken task late → AreLateFor (tabled_of task) task.request late
+pub late_for : (task : SearchTask) → IsWhole task → (late : List ℕ) → AreTaken (IsTakenBy task) task late → AreLateFor (tabled_of task) task.request late
 late_for task whole late are = record {
   goal = λ g at.
       (let same : g ≡ task.goal = whole.is.nodes.apart g task.goal task.request.destination at whole.goal_is in
@@ -184,16 +227,8 @@ late_for task whole late are = record {
   steps = λ n u t w b g between late_there.
       (let w_in : w < length task.table = slice_get_within task.table w g.contact.to g.receiver in
       let u_in : u < length task.table = slice_get_within task.table u g.contact.from g.sender in
-      let other : u ≢ task.goal = λ same. between.other (same_some (sym between.stands ∙ ap (slice_get task.table) same ∙ whole.goal_is)) in
-      let step : Takes task n u t w b = record {
-        contact = g.contact;
-        named = g.named;
-        sender = g.sender;
-        receiver = g.receiver;
-        unshut = whole.shuts w g.contact.to g.receiver ∙ g.unshut;
-        allowed = λ here. ap (has n) whole.free;
-        arrives = g.arrives;
-      } in
+      let other : u ≢ task.goal = other_node task whole u between in
+      let step : Takes task n u t w b = whole_step task whole n u t w b g in
       elim (cases_lt b (slice_index late w)) [
         | inr le ↦ omega (arith, le, read_or late w (omega (arith, are.many, w_in)))
         | inl less ↦
@@ -201,7 +236,28 @@ late_for task whole late are = record {
       ]);
 }
 
+-- so this is how near the destination is
+pub near_for : (task : SearchTask) → IsWhole task → (near : List ℕ) → AreTaken (IsNearBy task) task near → AreNearFor (tabled_of task) task.request near
+near_for task whole near are = record {
+  goal = λ g at.
+      (let same : g ≡ task.goal = whole.is.nodes.apart g task.goal task.request.destination at whole.goal_is in
+      omega (arith, ap (slice_index near) same, are.goal, read_or near g (omega (arith, are.many, slice_get_within task.table g task.request.destination at))));
+  steps = λ n u t w b g between.
+      (let w_in : w < length task.table = slice_get_within task.table w g.contact.to g.receiver in
+      let u_in : u < length task.table = slice_get_within task.table u g.contact.from g.sender in
+      let step : Takes task n u t w b = whole_step task whole n u t w b g in
+      let is_w = read_or near w (omega (arith, are.many, w_in)) in
+      let is_u = read_or near u (omega (arith, are.many, u_in)) in
+      elim (cases_lt 0 (slice_index near w)) [
+        | inr le ↦ omega (arith, le, is_w, is_u, arrives_later task.plan task.request t g.contact b g.arrives)
+        | inl some ↦ omega (arith, is_w, is_u, are.over w w_in some n u t b step (whole.shuts u between.node between.stands ∙ between.unshut) (other_node task whole u between))
+      ]);
+}
+
 -- nothing is known of any node
+pub none_near : (p : TabledPlan) (r : RouteRequest) (near : List ℕ) → near ≡ [] → AreNearFor p r near
+none_near p r near empty = rw empty (record { goal = λ g at. refl; steps = λ n u t w b g between. omega (arith, arrives_later p.plan r t g.contact b g.arrives) })
+
 pub none_late : (p : TabledPlan) (r : RouteRequest) (late : List ℕ) → late ≡ [] → AreLateFor p r late
 none_late p r late empty = rw empty (record {
   goal = λ g at. omega arith;

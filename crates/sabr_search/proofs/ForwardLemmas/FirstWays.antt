@@ -1,5 +1,5 @@
 -- The search by arrival from its start to its stop: what holds between two events, and what it has found at the end.
-use Rattle.std.proofs.Common.{◌≡◌, ◌≢◌, ◌⊎◌, inl, inr, ℕ, zero, suc, ◌+◌, ◌<◌, ◌≤◌, List, [], ◌∷◌, length, replicate, Bool, true, false, slice_index, slice_index_or, slice_set, All, Contains, refl, ap, sym, ◌∙◌, arith}
+use Rattle.std.proofs.Common.{◌≡◌, ◌≢◌, ◌⊎◌, inl, inr, ℕ, zero, suc, ◌+◌, ◌-◌, ◌<◌, ◌≤◌, List, [], ◌∷◌, length, replicate, Bool, true, false, slice_index, slice_index_or, slice_set, All, Contains, refl, ap, sym, ◌∙◌, arith}
 use Rattle.std.specs.List.{count_by}
 use Rattle.std.specs.List.Sorted.{IsPermutation}
 use Rattle.std.proofs.lemmas.Bool.{cases_lt, cases_eq, both_ways, cases_Bool, false_from_ne_true}
@@ -11,17 +11,17 @@ use Rattle.sabr_search.specs.declared.forward.queue.Event.{Event}
 use Rattle.sabr_search.specs.declared.forward.layers.Best.{Best}
 use Rattle.sabr_search.specs.questions.Ways.{Leads}
 use Rattle.sabr_search.specs.questions.Task.{SearchTask, Takes, IsTask, never}
-use Rattle.sabr_search.specs.layers.Lists.{IsKnown}
+use Rattle.sabr_search.specs.layers.Lists.{IsKnown, AreClosed}
+use Rattle.sabr_search.specs.layers.Reach.{cost_to}
 use Rattle.sabr_search.specs.questions.Steps.{senders, degree}
 use Rattle.sabr_search.specs.layers.Made.{AreOpened}
-use Rattle.sabr_search.specs.layers.Settling.{IsBound, AreBy, settled_count, AreArrivalsBy, sent_by_settled, IsQueue, AreSettling, IsFallen, AreSettledTaken, AreSettled, IsFirstWay}
+use Rattle.sabr_search.specs.layers.Settling.{IsBound, IsWaiting, AreBy, settled_count, AreArrivalsBy, sent_by_settled, IsQueue, AreSettling, IsFallen, AreSettledTaken, AreSettled, IsFirstWay, IsWayTo}
 use Rattle.sabr_search.proofs.WayLemmas.Ways.{Leads-later}
-use Rattle.sabr_search.proofs.ForwardLemmas.Settles.{settled_before}
 use Rattle.sabr_search.proofs.LinkLemmas.Counts.{settled_more}
 use Rattle.sabr_search.proofs.WayLemmas.Bridge.{takes_timely}
 use Rattle.sabr_search.proofs.AnswerLemmas.Law.{way_early}
 use Rattle.sabr_search.proofs.LinkLemmas.StepLists.{senders_length}
-use Rattle.sabr_search.proofs.ForwardLemmas.Queues.{flag_here, flag_other, flag_many, count_more, count_short, head_inside, head_other, settles}
+use Rattle.sabr_search.proofs.ForwardLemmas.Queues.{flag_here, flag_other, flag_many, count_more, count_short, head_inside, head_other, head_way, settles}
 
 -- no flag of a list of flags that are off is on
 all_off : (n k : ℕ) → slice_index_or (replicate n false) k false ≡ false
@@ -34,17 +34,18 @@ pub goal_other : (task : SearchTask) → IsTask task → task.goal ≢ task.star
 goal_other task is same = both_ways (slice_index_or task.shut task.start false) (sym (ap (λ k. slice_index_or task.shut k false) same) ∙ is.goal_open) is.start_shut
 
 -- a node is settled and its contacts are taken
-module _ (task : SearchTask) (late : List ℕ) (settled : List Bool) (u t : ℕ) (arrival0 : List ℕ) (best0 : Best) (arrival : List ℕ) (queue : List Event) (best : Best)
-    (state : AreSettling task late (slice_set settled u true) t arrival queue best) (fallen : IsFallen (slice_set settled u true) arrival0 best0 arrival best) (taken : AreSettledTaken task (slice_set settled u true) arrival best.delivery)
+module _ (task : SearchTask) (late near : List ℕ) (settled : List Bool) (u t : ℕ) (arrival0 : List ℕ) (best0 : Best) (arrival : List ℕ) (queue : List Event) (best : Best)
+    (state : AreSettling task late near (slice_set settled u true) u t arrival queue best) (fallen : IsFallen (slice_set settled u true) arrival0 best0 arrival best) (taken : AreSettledTaken task near (slice_set settled u true) arrival best.delivery)
     (many : length settled ≡ length task.shut) (other : task.goal ≢ u) where
   pub settled_next : slice_index_or (slice_set settled u true) task.start false ≡ true → slice_index arrival0 task.start ≡ task.at → slice_index_or settled task.goal false ≡ false →
-      AreSettled task late (slice_set settled u true) arrival queue best
-  settled_next start reached goal = record {
+      AreClosed task.shut arrival0 task.at → AreSettled task late near (slice_set settled u true) arrival queue best
+  settled_next start reached goal closed = record {
     flags = state.flags;
     many = flag_many settled u ∙ many;
     start_settled = start;
     start_reached = fallen.kept task.start start ∙ reached;
     goal_unsettled = flag_other settled u task.goal other ∙ goal;
+    closed = λ k on. omega (arith, fallen.lowered k, closed k on);
     lowered = state.lowered;
     queue_is = state.queue_is;
     found = state.found;
@@ -66,8 +67,14 @@ sent_most task settled = omega (arith, count_by-le-length (λ k. slice_index_or 
 pub sent_grows : (task : SearchTask) (settled : List Bool) (u : ℕ) → u < length settled → slice_index_or settled u false ≡ false → sent_by_settled task (slice_set settled u true) ≡ sent_by_settled task settled + degree task u
 sent_grows task settled u within unsettled = settled_more settled u (senders task) within unsettled
 
+-- a way on from an open node costs at least what the goal costs less from its end
+pub costs_fall : (task : SearchTask) (late near : List ℕ) → IsBound task late near → (ns : List ℕ) (w b v t : ℕ) → slice_index_or task.shut w false ≡ false → Leads (Takes task) w b ns v t → b + cost_to near w ≤ t + cost_to near v
+costs_fall task late near bound [] w b v t open' way = omega (arith, way.1, ap (cost_to near) way.0)
+costs_fall task late near bound (n ∷ ns) w b v t open' way =
+    omega (arith, bound.costs n w b way.0 way.1 way.2 open', costs_fall task late near bound ns way.0 way.1 v t way.2.unshut way.3)
+
 -- the search stops when no event comes before the delivery
-module _ (task : SearchTask) (is : IsTask task) (bounds : List ℕ) (bound : IsBound task bounds) (settled : List Bool) (arrival : List ℕ) (queue : List Event) (best : Best) (was : AreSettled task bounds settled arrival queue best) where
+module _ (task : SearchTask) (is : IsTask task) (bounds near : List ℕ) (bound : IsBound task bounds near) (settled : List Bool) (arrival : List ℕ) (queue : List Event) (best : Best) (was : AreSettled task bounds near settled arrival queue best) where
   -- a node is settled with that arrival, or it is too late there
   abbrev IsKnownAt : ℕ → ℕ → Type 0
   IsKnownAt v a = ((slice_index_or settled v false ≡ true) × (slice_index arrival v ≡ a)) ⊎ ((slice_index_or task.shut v false ≡ false) × (slice_index_or bounds v never ≤ a))
@@ -78,11 +85,7 @@ module _ (task : SearchTask) (is : IsTask task) (bounds : List ℕ) (bound : IsB
     | inr late ↦ omega (arith, late.1, bound.goal, was.sooner)
   ]
 
-  -- what waits
-  abbrev IsWaiting : ℕ → ℕ → Type 0
-  IsWaiting v a = (h : ℕ) × Contains queue (record { at = a; hops = h; node = v })
-
-  steps_taken : (v a n w b : ℕ) → IsKnownAt v a → Takes task n v a w b → (best.delivery ≤ b) ⊎ (((c : ℕ) × (c ≤ b) × IsKnownAt w c) ⊎ ((c : ℕ) × (c ≤ b) × IsWaiting w c))
+  steps_taken : (v a n w b : ℕ) → IsKnownAt v a → Takes task n v a w b → (best.delivery ≤ b + cost_to near w) ⊎ (((c : ℕ) × (c ≤ b) × IsKnownAt w c) ⊎ ((c : ℕ) × (c ≤ b) × IsWaiting queue w (c + cost_to near w)))
   steps_taken v a n w b known step = elim known [
     | inr late ↦ elim (cases_eq v task.goal) [
       | inl same ↦
@@ -92,7 +95,7 @@ module _ (task : SearchTask) (is : IsTask task) (bounds : List ℕ) (bound : IsB
       | inr other ↦ inr (inl (b, omega arith, inr (step.unshut, bound.steps n v a w b step late.0 other late.1)))
     ]
     | inl s ↦ elim (was.taken v n w b s.0 (rw s.1 step)) [
-      | inl over ↦ inl over
+      | inl over ↦ inl (omega (arith, over))
       | inr reached ↦ elim (cases_Bool (slice_index_or settled w false)) [
         | inl on ↦ inr (inl (slice_index arrival w, reached.1, inl (on, refl)))
         | inr off ↦ elim (cases_lt (slice_index arrival w) (slice_index_or bounds w never)) [
@@ -104,6 +107,21 @@ module _ (task : SearchTask) (is : IsTask task) (bounds : List ℕ) (bound : IsB
       ]
     ]
   ]
+
+  -- each way comes to a node no sooner than the arrival that is known there, or delivers no sooner than the delivery
+  reached_by : ((f : Event) → Contains queue f → best.delivery ≤ f.at) → (ns : List ℕ) (u a s v t : ℕ) → IsKnownAt u a → a ≤ s → Leads (Takes task) u s ns v t →
+      (best.delivery ≤ t + cost_to near v) ⊎ ((c : ℕ) × (c ≤ t) × IsKnownAt v c)
+  reached_by stop [] u a s v t known by way = inr (a, omega (arith, way.1), rw way.0 at known)
+  reached_by stop (n ∷ ns) u a s v t known by way =
+      let first = (takes_timely task is.nodes).earlier n u s way.0 way.1 a way.2 by in
+      let after : way.1 + cost_to near way.0 ≤ t + cost_to near v = costs_fall task bounds near bound ns way.0 way.1 v t way.2.unshut way.3 in
+      elim (steps_taken u a n way.0 first.0 known first.2) [
+        | inl late ↦ inl (omega (arith, late, first.1, after))
+        | inr found ↦ elim found [
+          | inl on ↦ reached_by stop ns way.0 on.0 way.1 v t on.2 (omega (arith, on.1, first.1)) way.3
+          | inr waits ↦ inl (omega (arith, stop waits.2.0 waits.2.1, waits.2.3, waits.1, first.1, after))
+        ]
+      ]
 
   pub first_found : ((f : Event) → Contains queue f → best.delivery ≤ f.at) → IsFirstWay task best
   first_found stop = record {
@@ -127,28 +145,9 @@ module _ (task : SearchTask) (is : IsTask task) (bounds : List ℕ) (bound : IsB
   }
     where
       least : (ns : List ℕ) (e : ℕ) → Leads (Takes task) task.start task.at ns task.goal e → best.delivery ≤ e
-      least ns e way =
-          let either = settled_before (Takes task) (takes_timely task is.nodes) IsKnownAt IsWaiting
-          task.goal best.delivery goal_known steps_taken ns task.start task.at task.at e (inl (was.start_settled, was.start_reached)) (omega arith) way in
-          elim either [
-            | inl late ↦ late
-            | inr waits ↦ omega (arith, waits.2, stop (record { at = waits.1; hops = waits.3.0; node = waits.0 }) waits.3.1)
-          ]
-
-  -- each way comes to a node no sooner than the arrival that is known there, or than the delivery
-  reached_by : ((f : Event) → Contains queue f → best.delivery ≤ f.at) → (ns : List ℕ) (u a s v t : ℕ) → IsKnownAt u a → a ≤ s → Leads (Takes task) u s ns v t →
-      (best.delivery ≤ t) ⊎ ((c : ℕ) × (c ≤ t) × IsKnownAt v c)
-  reached_by stop [] u a s v t known by way = inr (a, omega (arith, way.1), rw way.0 at known)
-  reached_by stop (n ∷ ns) u a s v t known by way =
-      let timely = takes_timely task is.nodes in
-      let first = timely.earlier n u s way.0 way.1 a way.2 by in
-      let after : way.1 ≤ t = Leads-later (Takes task) timely ns way.0 way.1 v t way.3 in
-      elim (steps_taken u a n way.0 first.0 known first.2) [
-        | inl late ↦ inl (omega (arith, late, first.1, after))
-        | inr found ↦ elim found [
-          | inl on ↦ reached_by stop ns way.0 on.0 way.1 v t on.2 (omega (arith, on.1, first.1)) way.3
-          | inr waits ↦ inl (omega (arith, stop (record { at = waits.0; hops = waits.2.0; node = way.0 }) waits.2.1, waits.1, first.1, after))
-        ]
+      least ns e way = elim (reached_by stop ns task.start task.at task.at task.goal e (inl (was.start_settled, was.start_reached)) (omega arith) way) [
+        | inl late ↦ omega (arith, late, bound.there)
+        | inr by ↦ omega (arith, by.1, goal_known by.0 by.2)
       ]
 
   known_arrival : (v c : ℕ) → IsKnownAt v c → slice_index arrival v ≤ c
@@ -157,7 +156,7 @@ module _ (task : SearchTask) (is : IsTask task) (bounds : List ℕ) (bound : IsB
     | inr late ↦ omega (arith, was.lowered v late.0, late.1)
   ]
 
-  pub arrivals_found : ((f : Event) → Contains queue f → best.delivery ≤ f.at) → AreArrivalsBy task arrival best.delivery
+  pub arrivals_found : ((f : Event) → Contains queue f → best.delivery ≤ f.at) → AreArrivalsBy task near arrival best.delivery
   arrivals_found stop = record {
     flags = omega (arith, was.flags, is.as_many);
     least = λ ns v t some way. elim (reached_by stop ns task.start task.at task.at v t (inl (was.start_settled, was.start_reached)) (omega arith) way) [
@@ -167,14 +166,15 @@ module _ (task : SearchTask) (is : IsTask task) (bounds : List ℕ) (bound : IsB
   }
 
 -- an event of a settled node goes
-pub settled_stale : (task : SearchTask) (late : List ℕ) (settled : List Bool) (arrival : List ℕ) (queue queue' : List Event) (best : Best) → AreSettled task late settled arrival queue best → IsQueue task late settled arrival queue' →
-    AreSettled task late settled arrival queue' best
-settled_stale task late settled arrival queue queue' best was rest = record {
+pub settled_stale : (task : SearchTask) (late near : List ℕ) (settled : List Bool) (arrival : List ℕ) (queue queue' : List Event) (best : Best) → AreSettled task late near settled arrival queue best → IsQueue task late near settled arrival queue' →
+    AreSettled task late near settled arrival queue' best
+settled_stale task late near settled arrival queue queue' best was rest = record {
   flags = was.flags;
   many = was.many;
   start_settled = was.start_settled;
   start_reached = was.start_reached;
   goal_unsettled = was.goal_unsettled;
+  closed = was.closed;
   lowered = was.lowered;
   queue_is = rest;
   found = was.found;
@@ -225,25 +225,24 @@ module _ (task : SearchTask) (is : IsTask task) (off settled : List Bool) (u : �
   pub start_sent : sent_by_settled task settled ≡ degree task task.start
   start_sent = omega (arith, ap (sent_by_settled task) settled_is, sent_grows task off u off_within (off_at u), count_none (senders task), ap (degree task) u_is)
 
-  module _ (late : List ℕ) (arrival : List ℕ) (opened : AreOpened task late arrival) where
+  module _ (late near : List ℕ) (arrival : List ℕ) (opened : AreOpened task late arrival) where
     opened_by : AreBy task late arrival
     opened_by k open' = elim (cases_lt k (length arrival)) [
       | inl within ↦ omega (arith, opened.unreached k within open')
       | inr past ↦ omega (arith, past_end arrival k past)
     ]
 
-    pub start_state : (queue : List Event) (best : Best) → queue ≡ [] → best.hops ≡ 0 → best.delivery ≡ never → AreSettling task late settled task.at arrival queue best
+    pub start_state : (queue : List Event) (best : Best) → queue ≡ [] → best.hops ≡ 0 → best.delivery ≡ never → AreSettling task late near settled u task.at arrival queue best
     start_state queue best empty hops delivery = rw empty (record {
       flags = opened.flags;
       closed = opened.closed;
-      early = λ k on. omega (arith, ap (slice_index arrival) (only_start k on), opened.start);
+      early = λ n w b step k on open'. absurd (both_ways (slice_index_or task.shut k false) open' (ap (λ j. slice_index_or task.shut j false) (only_start k on) ∙ is.start_shut));
       lowered = opened_by;
       queue_is = record {
         waits = λ k within open' off' less. absurd (omega (arith, opened.unreached k within open', less));
         late = λ i d lt. absurd (omega (arith, lt));
         before = λ i d lt. absurd (omega (arith, lt));
         order = λ i d lt. absurd (omega (arith, lt));
-        since = λ i d lt. absurd (omega (arith, lt));
         inside = λ i d lt. absurd (omega (arith, lt));
         unshut = λ i d lt. absurd (omega (arith, lt));
         other = λ i d lt. absurd (omega (arith, lt));
@@ -255,8 +254,8 @@ module _ (task : SearchTask) (is : IsTask task) (off settled : List Bool) (u : �
     })
 
     -- and once all of them are taken
-    pub start_settled : (t : ℕ) (arrival' : List ℕ) (queue : List Event) (best0 best : Best) → AreSettling task late settled t arrival' queue best → IsFallen settled arrival best0 arrival' best →
-        ((n w x : ℕ) → Takes task n task.start task.at w x → IsKnown task.goal arrival' best.delivery w x) → AreSettled task late settled arrival' queue best
+    pub start_settled : (t : ℕ) (arrival' : List ℕ) (queue : List Event) (best0 best : Best) → AreSettling task late near settled u t arrival' queue best → IsFallen settled arrival best0 arrival' best →
+        ((n w x : ℕ) → Takes task n task.start task.at w x → IsKnown task.goal arrival' (best.delivery - cost_to near w) w x) → AreSettled task late near settled arrival' queue best
     start_settled t arrival' queue best0 best state fallen known =
         let start_at : slice_index arrival' task.start ≡ task.at = fallen.kept task.start start_on ∙ opened.start in
         record {
@@ -264,6 +263,7 @@ module _ (task : SearchTask) (is : IsTask task) (off settled : List Bool) (u : �
           many = ap length settled_is ∙ flag_many off u ∙ ap length off_is ∙ all_many (length task.shut);
           start_settled = start_on;
           start_reached = start_at;
+          closed = λ k on. omega (arith, fallen.lowered k, opened.closed k on);
           goal_unsettled = false_from_ne_true (slice_index_or settled task.goal false) (λ on. goal_other task is (only_start task.goal on));
           lowered = state.lowered;
           queue_is = state.queue_is;
@@ -277,10 +277,10 @@ module _ (task : SearchTask) (is : IsTask task) (off settled : List Bool) (u : �
         }
 
 -- what holds after the node of the earliest event is settled
-module _ (task : SearchTask) (is : IsTask task) (late : List ℕ) (settled : List Bool) (arrival0 : List ℕ) (queue0 queue : List Event) (best0 : Best) (e : Event) (was : AreSettled task late settled arrival0 queue0 best0)
+module _ (task : SearchTask) (is : IsTask task) (late near : List ℕ) (settled : List Bool) (arrival0 : List ℕ) (queue0 queue : List Event) (best0 : Best) (e : Event) (was : AreSettled task late near settled arrival0 queue0 best0)
     (moved : IsPermutation queue0 (e ∷ queue)) (first : All (λ (f : Event). e.at ≤ f.at) queue) (unsettled : slice_index_or settled e.node false ≡ false) where
   pub next_within : e.node < length settled
-  next_within = omega (arith, was.many, was.flags, head_inside task late settled arrival0 queue0 queue e was.queue_is moved first)
+  next_within = omega (arith, was.many, was.flags, head_inside task late near settled arrival0 queue0 queue e was.queue_is moved first)
 
   pub next_sent : sent_by_settled task settled + degree task e.node ≡ sent_by_settled task (slice_set settled e.node true)
   next_sent = sym (sent_grows task settled e.node next_within unsettled)
@@ -288,19 +288,24 @@ module _ (task : SearchTask) (is : IsTask task) (late : List ℕ) (settled : Lis
   pub next_most : sent_by_settled task settled + degree task e.node ≤ length task.plan.contacts
   next_most = omega (arith, next_sent, sent_most task (slice_set settled e.node true))
 
-  pub next_state : AreSettling task late (slice_set settled e.node true) e.at arrival0 queue best0
-  next_state = settles task late settled arrival0 queue0 queue e was.queue_is moved first next_within unsettled best0 was.flags was.lowered was.sooner was.found
+  pub next_way : IsWayTo task e.node e.hops (slice_index arrival0 e.node)
+  next_way = head_way task late near settled arrival0 queue0 queue e was.queue_is moved first unsettled
+
+  pub next_state : IsBound task late near → AreSettling task late near (slice_set settled e.node true) e.node (slice_index arrival0 e.node) arrival0 queue best0
+  next_state bound =
+      let since : task.at ≤ slice_index arrival0 e.node = Leads-later (Takes task) (takes_timely task is.nodes) next_way.0 task.start task.at e.node (slice_index arrival0 e.node) next_way.2 in
+      settles task late near settled arrival0 queue0 queue e was.queue_is moved first next_within unsettled best0 bound was.flags was.closed since was.lowered was.sooner was.found
 
   pub next_counted : (settled' : List Bool) (old new : ℕ) → settled' ≡ slice_set settled e.node true → new ≤ old + sent_by_settled task settled + degree task e.node → new ≤ old + sent_by_settled task settled'
   next_counted settled' old new settled_is le = omega (arith, ap (sent_by_settled task) settled_is, next_sent)
 
   pub next_settled : (settled' : List Bool) (arrival : List ℕ) (queue' : List Event) (best : Best) → settled' ≡ slice_set settled e.node true →
-      AreSettling task late (slice_set settled e.node true) e.at arrival queue' best → IsFallen (slice_set settled e.node true) arrival0 best0 arrival best → AreSettledTaken task (slice_set settled e.node true) arrival best.delivery →
-      AreSettled task late settled' arrival queue' best
+      AreSettling task late near (slice_set settled e.node true) e.node (slice_index arrival0 e.node) arrival queue' best → IsFallen (slice_set settled e.node true) arrival0 best0 arrival best → AreSettledTaken task near (slice_set settled e.node true) arrival best.delivery →
+      AreSettled task late near settled' arrival queue' best
   next_settled settled' arrival queue' best settled_is state fallen taken =
-      let other : task.goal ≢ e.node = λ same. head_other task late settled arrival0 queue0 queue e was.queue_is moved first (sym same) in
-      rw settled_is (settled_next task late settled e.node e.at arrival0 best0 arrival queue' best state fallen taken was.many other
-      (flag_stays settled e.node task.start next_within was.start_settled) was.start_reached was.goal_unsettled)
+      let other : task.goal ≢ e.node = λ same. head_other task late near settled arrival0 queue0 queue e was.queue_is moved first (sym same) in
+      rw settled_is (settled_next task late near settled e.node (slice_index arrival0 e.node) arrival0 best0 arrival queue' best state fallen taken was.many other
+      (flag_stays settled e.node task.start next_within was.start_settled) was.start_reached was.goal_unsettled was.closed)
 
 -- what a `Vec` of flags has at an index, at the usual default
 pub read_flag : (xs : List Bool) (i : ℕ) (x : Bool) → i < length xs → x ≡ slice_index_or xs i x → x ≡ slice_index_or xs i false

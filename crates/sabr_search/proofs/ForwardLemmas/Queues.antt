@@ -1,5 +1,5 @@
 -- The events that wait while nodes are settled: one more, and the earliest taken out.
-use Rattle.std.proofs.Common.{◌≡◌, ◌≢◌, inl, inr, ℕ, zero, suc, ◌+◌, ◌<◌, ◌≤◌, List, [], ◌∷◌, ◌++◌, length, Bool, true, false, cond, slice_index, slice_index_or, slice_set, All, Contains, refl, ap, sym, ◌∙◌, arith, length-append}
+use Rattle.std.proofs.Common.{◌≡◌, ◌≢◌, inl, inr, ℕ, zero, suc, ◌+◌, ◌-◌, ◌<◌, ◌≤◌, List, [], ◌∷◌, ◌++◌, length, Bool, true, false, cond, slice_index, slice_index_or, slice_set, All, Contains, refl, ap, sym, subst, ◌∙◌, arith, length-append}
 use Rattle.std.specs.List.Sorted.{IsPermutation}
 use Rattle.std.proofs.lemmas.Bool.{cases_eq, both_ways, false_from_ne_true}
 use Rattle.std.proofs.lemmas.Grind.{common_steps}
@@ -10,7 +10,8 @@ use Rattle.sabr_search.specs.declared.forward.queue.Event.{Event}
 use Rattle.sabr_search.specs.declared.forward.layers.Best.{Best}
 use Rattle.sabr_search.specs.questions.Task.{SearchTask, Takes, IsTask, never}
 use Rattle.sabr_search.specs.layers.Lists.{AreClosed, IsKnown}
-use Rattle.sabr_search.specs.layers.Settling.{AreSettledBy, AreBy, settled_count, IsWayTo, IsQueue, IsFirst, AreSettling, IsFallen, AreSettledTaken}
+use Rattle.sabr_search.specs.layers.Reach.{cost_to}
+use Rattle.sabr_search.specs.layers.Settling.{IsBound, IsWaiting, AreSettledBy, AreBy, settled_count, IsWayTo, IsQueue, IsFirst, AreSettling, IsFallen, AreSettledTaken}
 use Rattle.sabr_search.proofs.WayLemmas.Ways.{Leads-append}
 use Rattle.sabr_search.proofs.WayLemmas.Bridge.{takes_timely}
 use Rattle.sabr_search.proofs.ForwardLemmas.Forward.{known_lower}
@@ -59,9 +60,9 @@ way_more task is n u h t w x way step = (
 )
 
 -- the delivery is better, by a way of no more hops than there are settled nodes
-pub found_better : (task : SearchTask) (late : List ℕ) (settled : List Bool) (t : ℕ) (arrival : List ℕ) (queue : List Event) (best : Best) (delivery hops : ℕ) → AreSettling task late settled t arrival queue best →
-    hops < settled_count settled → delivery < best.delivery → IsWayTo task task.goal (hops + 1) delivery → AreSettling task late settled t arrival queue (record { delivery = delivery; hops = hops + 1 })
-found_better task late settled t arrival queue best delivery hops so_far few less way = record {
+pub found_better : (task : SearchTask) (late near : List ℕ) (settled : List Bool) (u t : ℕ) (arrival : List ℕ) (queue : List Event) (best : Best) (delivery hops : ℕ) → AreSettling task late near settled u t arrival queue best →
+    hops < settled_count settled → delivery < best.delivery → IsWayTo task task.goal (hops + 1) delivery → AreSettling task late near settled u t arrival queue (record { delivery = delivery; hops = hops + 1 })
+found_better task late near settled u t arrival queue best delivery hops so_far few less way = record {
   flags = so_far.flags;
   closed = so_far.closed;
   early = so_far.early;
@@ -71,21 +72,23 @@ found_better task late settled t arrival queue best delivery hops so_far few les
   sooner = omega (arith, less, so_far.sooner);
 }
 
-waits_on : (event : Event) (queue queue' : List Event) (a b h k : ℕ) → a ≡ b → Contains queue (record { at = a; hops = h; node = k }) → IsPermutation (event ∷ queue) queue' → Contains queue' (record { at = b; hops = h; node = k })
-waits_on event queue queue' a b h k same waits moved =
-    rw (← same) (Contains-permutation (event ∷ queue) queue' (record { at = a; hops = h; node = k }) moved (Contains-append_right (event ∷ []) queue (record { at = a; hops = h; node = k }) waits))
-
 -- what is reached sooner is open
-pub open_sooner : (task : SearchTask) (late : List ℕ) (settled : List Bool) (t w b : ℕ) (arrival : List ℕ) (queue : List Event) (best : Best) → AreSettling task late settled t arrival queue best →
+pub open_sooner : (task : SearchTask) (late near : List ℕ) (settled : List Bool) (u t w b : ℕ) (arrival : List ℕ) (queue : List Event) (best : Best) → AreSettling task late near settled u t arrival queue best →
     t ≤ b → b < slice_index arrival w → slice_index_or task.shut w false ≡ false
-open_sooner task late settled t w b arrival queue best so_far later less = false_from_ne_true (slice_index_or task.shut w false) (λ on. omega (arith, so_far.closed w on))
+open_sooner task late near settled u t w b arrival queue best so_far later less = false_from_ne_true (slice_index_or task.shut w false) (λ on. omega (arith, so_far.closed w on))
 
 -- an open node is reached sooner, and an event waits for it
-module _ (task : SearchTask) (late : List ℕ) (settled : List Bool) (t w b h : ℕ) (arrival : List ℕ) (queue queue' : List Event) (best : Best) (so_far : AreSettling task late settled t arrival queue best)
-    (later : t ≤ b) (within : w < length arrival) (less : b < slice_index arrival w) (other : w ≢ task.goal) (way : IsWayTo task w h b) (few : h ≤ settled_count settled)
-    (moved : IsPermutation (record { at = b; hops = h; node = w } ∷ queue) queue') where
+module _ (task : SearchTask) (late near : List ℕ) (settled : List Bool) (u t n b : ℕ) (event : Event) (arrival : List ℕ) (queue queue' : List Event) (best : Best) (so_far : AreSettling task late near settled u t arrival queue best)
+    (later : t ≤ b) (within : event.node < length arrival) (less : b < slice_index arrival event.node) (other : event.node ≢ task.goal) (step : Takes task n u t event.node b) (way : IsWayTo task event.node event.hops b) (few : event.hops ≤ settled_count settled)
+    (at_is : event.at ≡ b + cost_to near event.node) (moved : IsPermutation (event ∷ queue) queue') where
+  abbrev w : ℕ
+  w = event.node
+
+  early : AreSettledBy task near settled arrival (b + cost_to near w)
+  early = so_far.early n w b step
+
   unsettled : slice_index_or settled w false ≡ false
-  unsettled = false_from_ne_true (slice_index_or settled w false) (λ on. omega (arith, so_far.early w on))
+  unsettled = false_from_ne_true (slice_index_or settled w false) (λ on. omega (arith, less, early w on step.unshut))
 
   falls : (k : ℕ) → slice_index (slice_set arrival w b) k ≤ slice_index arrival k
   falls = set_falls arrival w b within less
@@ -93,46 +96,43 @@ module _ (task : SearchTask) (late : List ℕ) (settled : List Bool) (t w b h : 
   kept : (k : ℕ) → slice_index_or settled k false ≡ true → slice_index (slice_set arrival w b) k ≡ slice_index arrival k
   kept k on = set_other arrival w b k (λ same. both_ways (slice_index_or settled w false) unsettled (rw same at on))
 
-  queue_more : IsQueue task late settled (slice_set arrival w b) queue'
+  queue_more : IsQueue task late near settled (slice_set arrival w b) queue'
   queue_more =
       let was = so_far.queue_is in
       let arrival' = slice_set arrival w b in
-      let event : Event = record { at = b; hops = h; node = w } in
       let many : length arrival' ≡ length arrival = set_many arrival w b in
       let here : slice_index arrival' w ≡ b = set_here arrival w b within in
       record {
         waits = λ k inside open' off reached. elim (cases_eq k w) [
-          | inl same ↦ (h, rw (same, here) (Contains-permutation (event ∷ queue) queue' event moved (0, omega arith, refl)))
+          | inl same ↦ rw same (event, Contains-permutation (event ∷ queue) queue' event moved (0, omega arith, refl), refl, omega (arith, at_is, here))
           | inr differ ↦
               let same = set_other arrival w b k differ in
               let waits = was.waits k (omega (arith, many)) open' off (omega (arith, same)) in
-              (waits.0, waits_on event queue queue' (slice_index arrival k) (slice_index arrival' k) waits.0 k (sym same) waits.1 moved)
+              (waits.0, Contains-permutation (event ∷ queue) queue' waits.0 moved (Contains-append_right (event ∷ []) queue waits.0 waits.1), waits.2, omega (arith, waits.3, same))
         ];
-        late = All-permutation (λ (e : Event). slice_index arrival' e.node ≤ e.at) (event ∷ queue) queue' moved
-            (All-cons (λ (e : Event). slice_index arrival' e.node ≤ e.at) event queue (omega (arith, here)) (All-weaker (λ (e : Event). slice_index arrival e.node ≤ e.at) (λ (e : Event). slice_index arrival' e.node ≤ e.at) (λ e le. omega (arith, falls e.node)) queue was.late));
-        before = All-permutation (λ (e : Event). e.at < slice_index_or late e.node never) (event ∷ queue) queue' moved
-            (All-cons (λ (e : Event). e.at < slice_index_or late e.node never) event queue (omega (arith, less, so_far.lowered w (open_sooner task late settled t w b arrival queue best so_far later less))) was.before);
-        order = All-permutation (λ (e : Event). AreSettledBy settled arrival' e.at) (event ∷ queue) queue' moved
-            (All-cons (λ (e : Event). AreSettledBy settled arrival' e.at) event queue (λ k on. omega (arith, kept k on, so_far.early k on)) (All-weaker (λ (e : Event). AreSettledBy settled arrival e.at) (λ (e : Event). AreSettledBy settled arrival' e.at) (λ e by k on. omega (arith, kept k on, by k on)) queue was.order));
-        since = All-permutation (λ (e : Event). AreClosed task.shut arrival' e.at) (event ∷ queue) queue' moved
-            (All-cons (λ (e : Event). AreClosed task.shut arrival' e.at) event queue (λ k e. omega (arith, falls k, so_far.closed k e)) (All-weaker (λ (e : Event). AreClosed task.shut arrival e.at) (λ (e : Event). AreClosed task.shut arrival' e.at) (λ e by k on. omega (arith, falls k, by k on)) queue was.since));
+        late = All-permutation (λ (e : Event). slice_index arrival' e.node + cost_to near e.node ≤ e.at) (event ∷ queue) queue' moved
+            (All-cons (λ (e : Event). slice_index arrival' e.node + cost_to near e.node ≤ e.at) event queue (omega (arith, here, at_is)) (All-weaker (λ (e : Event). slice_index arrival e.node + cost_to near e.node ≤ e.at) (λ (e : Event). slice_index arrival' e.node + cost_to near e.node ≤ e.at) (λ e le. omega (arith, falls e.node)) queue was.late));
+        before = All-permutation (λ (e : Event). e.at < slice_index_or late e.node never + cost_to near e.node) (event ∷ queue) queue' moved
+            (All-cons (λ (e : Event). e.at < slice_index_or late e.node never + cost_to near e.node) event queue (omega (arith, less, at_is, so_far.lowered w step.unshut)) was.before);
+        order = All-permutation (λ (e : Event). AreSettledBy task near settled arrival' e.at) (event ∷ queue) queue' moved
+            (All-cons (λ (e : Event). AreSettledBy task near settled arrival' e.at) event queue (λ k on open'. omega (arith, kept k on, at_is, early k on open')) (All-weaker (λ (e : Event). AreSettledBy task near settled arrival e.at) (λ (e : Event). AreSettledBy task near settled arrival' e.at) (λ e by k on open'. omega (arith, kept k on, by k on open')) queue was.order));
         inside = All-permutation (λ (e : Event). e.node < length arrival') (event ∷ queue) queue' moved
             (All-cons (λ (e : Event). e.node < length arrival') event queue (omega (arith, many)) (All-weaker (λ (e : Event). e.node < length arrival) (λ (e : Event). e.node < length arrival') (λ e lt. omega (arith, many)) queue was.inside));
         unshut = All-permutation (λ (e : Event). slice_index_or task.shut e.node false ≡ false) (event ∷ queue) queue' moved
-            (All-cons (λ (e : Event). slice_index_or task.shut e.node false ≡ false) event queue (open_sooner task late settled t w b arrival queue best so_far later less) was.unshut);
+            (All-cons (λ (e : Event). slice_index_or task.shut e.node false ≡ false) event queue step.unshut was.unshut);
         other = All-permutation (λ (e : Event). e.node ≢ task.goal) (event ∷ queue) queue' moved
             (All-cons (λ (e : Event). e.node ≢ task.goal) event queue other was.other);
-        real = All-permutation (λ (e : Event). IsWayTo task e.node e.hops e.at) (event ∷ queue) queue' moved
-            (All-cons (λ (e : Event). IsWayTo task e.node e.hops e.at) event queue way was.real);
+        real = All-permutation (λ (e : Event). (a : ℕ) × (a + cost_to near e.node ≡ e.at) × IsWayTo task e.node e.hops a) (event ∷ queue) queue' moved
+            (All-cons (λ (e : Event). (a : ℕ) × (a + cost_to near e.node ≡ e.at) × IsWayTo task e.node e.hops a) event queue (b, sym at_is, way) was.real);
         few = All-permutation (λ (e : Event). e.hops ≤ settled_count settled) (event ∷ queue) queue' moved
             (All-cons (λ (e : Event). e.hops ≤ settled_count settled) event queue few was.few);
       }
 
-  pub pushed : AreSettling task late settled t (slice_set arrival w b) queue' best
+  pub pushed : AreSettling task late near settled u t (slice_set arrival w b) queue' best
   pushed = record {
     flags = set_many arrival w b ∙ so_far.flags;
     closed = λ k e. omega (arith, falls k, so_far.closed k e);
-    early = λ k e. omega (arith, kept k e, so_far.early k e);
+    early = λ m v x s k on open'. omega (arith, kept k on, so_far.early m v x s k on open');
     lowered = λ k open'. omega (arith, falls k, so_far.lowered k open');
     queue_is = queue_more;
     found = so_far.found;
@@ -152,10 +152,10 @@ fallen_more settled arrival0 best0 arrival1 best1 arrival2 best2 one two = recor
 }
 
 -- a node more is settled, and its contacts are taken
-pub taken_settled : (task : SearchTask) (settled : List Bool) (u t : ℕ) (arrival0 : List ℕ) (best0 : Best) (arrival : List ℕ) (best : Best) → slice_index arrival0 u ≡ t →
-    AreSettledTaken task settled arrival0 best0.delivery → IsFallen (slice_set settled u true) arrival0 best0 arrival best → ((n w x : ℕ) → Takes task n u t w x → IsKnown task.goal arrival best.delivery w x) →
-    AreSettledTaken task (slice_set settled u true) arrival best.delivery
-taken_settled task settled u t arrival0 best0 arrival best reached taken fallen known v n w b on s =
+pub taken_settled : (task : SearchTask) (near : List ℕ) (settled : List Bool) (u t : ℕ) (arrival0 : List ℕ) (best0 : Best) (arrival : List ℕ) (best : Best) → slice_index arrival0 u ≡ t →
+    AreSettledTaken task near settled arrival0 best0.delivery → IsFallen (slice_set settled u true) arrival0 best0 arrival best → ((n w x : ℕ) → Takes task n u t w x → IsKnown task.goal arrival (best.delivery - cost_to near w) w x) →
+    AreSettledTaken task near (slice_set settled u true) arrival best.delivery
+taken_settled task near settled u t arrival0 best0 arrival best reached taken fallen known v n w b on s =
     let same : slice_index arrival v ≡ slice_index arrival0 v = fallen.kept v on in
     elim (cases_eq v u) [
       | inl here ↦
@@ -164,7 +164,7 @@ taken_settled task settled u t arrival0 best0 arrival best reached taken fallen 
           known n w b (rw here at step))
       | inr other ↦
           (let step : Takes task n v (slice_index arrival0 v) w b = rw same at s in
-          known_lower task.goal arrival0 arrival best0.delivery best.delivery w b fallen.lowered fallen.lower (taken v n w b (sym (flag_other settled u v other) ∙ on) step))
+          known_lower task.goal arrival0 arrival (best0.delivery - cost_to near w) (best.delivery - cost_to near w) w b fallen.lowered (omega (arith, fallen.lower)) (taken v n w b (sym (flag_other settled u v other) ∙ on) step))
     ]
 
 -- the one element of a list of one
@@ -173,22 +173,19 @@ only_one e x (zero, lt, same) = ap (λ (f : Event). f.node) (sym same)
 only_one e x (suc i, lt, same) = absurd (omega arith)
 
 -- the earliest event is taken out
-module _ (task : SearchTask) (bounds : List ℕ) (settled : List Bool) (arrival : List ℕ) (queue queue' : List Event) (e : Event)
-    (was : IsQueue task bounds settled arrival queue) (moved : IsPermutation queue (e ∷ queue')) (first : All (λ (f : Event). e.at ≤ f.at) queue') where
+module _ (task : SearchTask) (bounds near : List ℕ) (settled : List Bool) (arrival : List ℕ) (queue queue' : List Event) (e : Event)
+    (was : IsQueue task bounds near settled arrival queue) (moved : IsPermutation queue (e ∷ queue')) (first : All (λ (f : Event). e.at ≤ f.at) queue') where
   head : (P : Event → Type 0) → All P queue → P e
   head P all = All-head P e queue' (All-permutation P queue (e ∷ queue') moved all)
 
   tail : (P : Event → Type 0) → All P queue → All P queue'
   tail P all = All-tail P e queue' (All-permutation P queue (e ∷ queue') moved all)
 
-  pub head_late : slice_index arrival e.node ≤ e.at
-  head_late = head (λ (f : Event). slice_index arrival f.node ≤ f.at) was.late
+  head_late : slice_index arrival e.node + cost_to near e.node ≤ e.at
+  head_late = head (λ (f : Event). slice_index arrival f.node + cost_to near f.node ≤ f.at) was.late
 
-  pub head_order : AreSettledBy settled arrival e.at
-  head_order = head (λ (f : Event). AreSettledBy settled arrival f.at) was.order
-
-  pub head_since : AreClosed task.shut arrival e.at
-  head_since = head (λ (f : Event). AreClosed task.shut arrival f.at) was.since
+  head_order : AreSettledBy task near settled arrival e.at
+  head_order = head (λ (f : Event). AreSettledBy task near settled arrival f.at) was.order
 
   pub head_inside : e.node < length arrival
   head_inside = head (λ (f : Event). f.node < length arrival) was.inside
@@ -199,8 +196,8 @@ module _ (task : SearchTask) (bounds : List ℕ) (settled : List Bool) (arrival 
   pub head_other : e.node ≢ task.goal
   head_other = head (λ (f : Event). f.node ≢ task.goal) was.other
 
-  pub head_real : IsWayTo task e.node e.hops e.at
-  head_real = head (λ (f : Event). IsWayTo task f.node f.hops f.at) was.real
+  head_real : (t : ℕ) × (t + cost_to near e.node ≡ e.at) × IsWayTo task e.node e.hops t
+  head_real = head (λ (f : Event). (t : ℕ) × (t + cost_to near f.node ≡ f.at) × IsWayTo task f.node f.hops t) was.real
 
   pub head_few : e.hops ≤ settled_count settled
   head_few = head (λ (f : Event). f.hops ≤ settled_count settled) was.few
@@ -217,18 +214,32 @@ module _ (task : SearchTask) (bounds : List ℕ) (settled : List Bool) (arrival 
       only (suc i, lt, same) = absurd (omega arith)
 
   -- the event of a node that is not settled comes with its arrival
-  pub head_arrives : slice_index_or settled e.node false ≡ false → slice_index arrival e.node ≡ e.at
+  head_arrives : slice_index_or settled e.node false ≡ false → slice_index arrival e.node + cost_to near e.node ≡ e.at
   head_arrives off =
-      let waits = was.waits e.node head_inside head_open off (omega (arith, head_late, head (λ (f : Event). f.at < slice_index_or bounds f.node never) was.before)) in
-      omega (arith, head_late, waits_later (record { at = slice_index arrival e.node; hops = waits.0; node = e.node }) waits.1)
+      let waits = was.waits e.node head_inside head_open off (omega (arith, head_late, head (λ (f : Event). f.at < slice_index_or bounds f.node never + cost_to near f.node) was.before)) in
+      omega (arith, head_late, waits_later waits.0 waits.1, waits.3)
+
+  -- and with a way
+  pub head_way : slice_index_or settled e.node false ≡ false → IsWayTo task e.node e.hops (slice_index arrival e.node)
+  head_way off =
+      let real = head_real in
+      let same : real.0 ≡ slice_index arrival e.node = omega (arith, real.1, head_arrives off) in
+      subst (λ t. IsWayTo task e.node e.hops t) same real.2
+
+  -- the event for another node still waits
+  rest_waits : (k t : ℕ) → k ≢ e.node → IsWaiting queue k t → IsWaiting queue' k t
+  rest_waits k t other waits = elim (Contains-append_cases (e ∷ []) queue' waits.0 (Contains-permutation queue (e ∷ queue') waits.0 moved waits.1)) [
+    | inl alone ↦ absurd (other (sym waits.2 ∙ only_one e waits.0 alone))
+    | inr rest ↦ (waits.0, rest, waits.2, waits.3)
+  ]
 
   -- its node is settled
   module _ (within : e.node < length settled) (unsettled : slice_index_or settled e.node false ≡ false) where
-    early_after : (t : ℕ) → e.at ≤ t → AreSettledBy settled arrival t → AreSettledBy (slice_set settled e.node true) arrival t
-    early_after t le by k on =
+    early_after : (t : ℕ) → e.at ≤ t → AreSettledBy task near settled arrival t → AreSettledBy task near (slice_set settled e.node true) arrival t
+    early_after t le by k on open' =
         elim (cases_eq k e.node) [
-          | inl same ↦ omega (arith, ap (λ (j : ℕ). slice_index arrival j) same, head_late)
-          | inr other ↦ by k (sym (flag_other settled e.node k other) ∙ on)
+          | inl same ↦ omega (arith, ap (λ (j : ℕ). slice_index arrival j) same, ap (λ (j : ℕ). cost_to near j) same, head_late)
+          | inr other ↦ by k (sym (flag_other settled e.node k other) ∙ on) open'
         ]
 
     unsettled_before : (k : ℕ) → slice_index_or (slice_set settled e.node true) k false ≡ false → (k ≢ e.node) × (slice_index_or settled k false ≡ false)
@@ -236,33 +247,30 @@ module _ (task : SearchTask) (bounds : List ℕ) (settled : List Bool) (arrival 
         let other : k ≢ e.node = λ same. (let on : slice_index_or (slice_set settled e.node true) k false ≡ true = rw same (flag_here settled e.node within) in cc) in
         (other, sym (flag_other settled e.node k other) ∙ off)
 
-    queue_settled : IsQueue task bounds (slice_set settled e.node true) arrival queue'
+    queue_settled : IsQueue task bounds near (slice_set settled e.node true) arrival queue'
     queue_settled = record {
       waits = λ k inside open' off reached.
           let before = unsettled_before k off in
-          let waits = was.waits k inside open' before.1 reached in
-          elim (Contains-append_cases (e ∷ []) queue' (record { at = slice_index arrival k; hops = waits.0; node = k }) (Contains-permutation queue (e ∷ queue') (record { at = slice_index arrival k; hops = waits.0; node = k }) moved waits.1)) [
-            | inl alone ↦ absurd (before.0 (only_one e (record { at = slice_index arrival k; hops = waits.0; node = k }) alone))
-            | inr rest ↦ (waits.0, rest)
-          ];
-      late = tail (λ (f : Event). slice_index arrival f.node ≤ f.at) was.late;
-      before = tail (λ (f : Event). f.at < slice_index_or bounds f.node never) was.before;
-      order = λ i d lt. early_after _ (first i d lt) (tail (λ (f : Event). AreSettledBy settled arrival f.at) was.order i d lt);
-      since = tail (λ (f : Event). AreClosed task.shut arrival f.at) was.since;
+          rest_waits k _ before.0 (was.waits k inside open' before.1 reached);
+      late = tail (λ (f : Event). slice_index arrival f.node + cost_to near f.node ≤ f.at) was.late;
+      before = tail (λ (f : Event). f.at < slice_index_or bounds f.node never + cost_to near f.node) was.before;
+      order = λ i d lt. early_after _ (first i d lt) (tail (λ (f : Event). AreSettledBy task near settled arrival f.at) was.order i d lt);
       inside = tail (λ (f : Event). f.node < length arrival) was.inside;
       unshut = tail (λ (f : Event). slice_index_or task.shut f.node false ≡ false) was.unshut;
       other = tail (λ (f : Event). f.node ≢ task.goal) was.other;
-      real = tail (λ (f : Event). IsWayTo task f.node f.hops f.at) was.real;
+      real = tail (λ (f : Event). (t : ℕ) × (t + cost_to near f.node ≡ f.at) × IsWayTo task f.node f.hops t) was.real;
       few = All-weaker (λ (f : Event). f.hops ≤ settled_count settled) (λ (f : Event). f.hops ≤ settled_count (slice_set settled e.node true)) (λ f le. omega (arith, count_more settled e.node within unsettled)) queue' (tail (λ (f : Event). f.hops ≤ settled_count settled) was.few);
     }
 
     -- so its contacts can be taken
-    pub settles : (best : Best) → length arrival ≡ length task.shut → AreBy task bounds arrival → best.delivery ≤ never → IsFirst task settled best →
-        AreSettling task bounds (slice_set settled e.node true) e.at arrival queue' best
-    settles best flags lowered sooner found = record {
+    pub settles : (best : Best) → IsBound task bounds near → length arrival ≡ length task.shut → AreClosed task.shut arrival task.at → task.at ≤ slice_index arrival e.node → AreBy task bounds arrival → best.delivery ≤ never →
+        IsFirst task settled best → AreSettling task bounds near (slice_set settled e.node true) e.node (slice_index arrival e.node) arrival queue' best
+    settles best bound flags closed since lowered sooner found = record {
       flags = flags;
-      closed = head_since;
-      early = early_after e.at (omega arith) head_order;
+      closed = λ k on. omega (arith, closed k on, since);
+      early = λ n w b step.
+          let later : e.at ≤ b + cost_to near w = omega (arith, head_arrives unsettled, bound.costs n e.node (slice_index arrival e.node) w b step head_open) in
+          early_after (b + cost_to near w) later (λ k on open'. omega (arith, later, head_order k on open'));
       lowered = lowered;
       queue_is = queue_settled;
       sooner = sooner;
@@ -270,22 +278,15 @@ module _ (task : SearchTask) (bounds : List ℕ) (settled : List Bool) (arrival 
     }
 
   -- an event of a node that is settled already goes
-  pub queue_stale : slice_index_or settled e.node false ≡ true → IsQueue task bounds settled arrival queue'
+  pub queue_stale : slice_index_or settled e.node false ≡ true → IsQueue task bounds near settled arrival queue'
   queue_stale on = record {
-    waits = λ k inside open' off reached.
-        let waits = was.waits k inside open' off reached in
-        elim (Contains-append_cases (e ∷ []) queue' (record { at = slice_index arrival k; hops = waits.0; node = k }) (Contains-permutation queue (e ∷ queue') (record { at = slice_index arrival k; hops = waits.0; node = k }) moved waits.1)) [
-          | inl alone ↦ (let same : k ≡ e.node = only_one e (record { at = slice_index arrival k; hops = waits.0; node = k }) alone in
-              let q : slice_index_or settled k false ≡ true = rw same on in absurd (cc))
-          | inr rest ↦ (waits.0, rest)
-        ];
-    late = tail (λ (f : Event). slice_index arrival f.node ≤ f.at) was.late;
-    before = tail (λ (f : Event). f.at < slice_index_or bounds f.node never) was.before;
-    order = tail (λ (f : Event). AreSettledBy settled arrival f.at) was.order;
-    since = tail (λ (f : Event). AreClosed task.shut arrival f.at) was.since;
+    waits = λ k inside open' off reached. rest_waits k _ (λ same. both_ways (slice_index_or settled k false) off (ap (λ (j : ℕ). slice_index_or settled j false) same ∙ on)) (was.waits k inside open' off reached);
+    late = tail (λ (f : Event). slice_index arrival f.node + cost_to near f.node ≤ f.at) was.late;
+    before = tail (λ (f : Event). f.at < slice_index_or bounds f.node never + cost_to near f.node) was.before;
+    order = tail (λ (f : Event). AreSettledBy task near settled arrival f.at) was.order;
     inside = tail (λ (f : Event). f.node < length arrival) was.inside;
     unshut = tail (λ (f : Event). slice_index_or task.shut f.node false ≡ false) was.unshut;
     other = tail (λ (f : Event). f.node ≢ task.goal) was.other;
-    real = tail (λ (f : Event). IsWayTo task f.node f.hops f.at) was.real;
+    real = tail (λ (f : Event). (t : ℕ) × (t + cost_to near f.node ≡ f.at) × IsWayTo task f.node f.hops t) was.real;
     few = tail (λ (f : Event). f.hops ≤ settled_count settled) was.few;
   }

@@ -1,5 +1,6 @@
 -- How the seconds are found from which on no way leads to the destination: from the goal backward over the whole graph.
-use Rattle.std.specs.Prelude.{◌≡◌, ◌≢◌, ℕ, ◌<◌, List, [], Bool, false, true, length, Contains, All, slice_get, slice_index, slice_index_or}
+use Rattle.std.specs.Prelude.{◌≡◌, ◌≢◌, ℕ, ◌+◌, ◌≤◌, ◌<◌, List, [], ◌∷◌, Bool, false, true, length, replicate, slice_set, Contains, All, slice_get, slice_index, slice_index_or}
+use Rattle.std.specs.List.Sorted.{IsPermutation}
 use Rattle.std.specs.declared.option.Option.TheVariants.{Some}
 use Rattle.sabr_search.specs.declared.forward.queue.Event.{Event}
 use Rattle.sabr_search.specs.questions.Task.{SearchTask, IsTask, Takes, is_closed, never}
@@ -19,17 +20,32 @@ IsLeftBy task late u t = slice_index_or task.shut u false ≡ false → u ≢ ta
 abbrev pub IsTakenBy : SearchTask → List ℕ → ℕ → Type 0
 IsTakenBy task late w = (n u t b : ℕ) → Takes task n u t w b → b < slice_index late w → IsLeftBy task late u t
 
--- the seconds so far, while the links to node `now` are taken: those to each other node are taken, or it waits
-pub record AreRising (task : SearchTask) (late : List ℕ) (taken : List Bool) (queue : List Event) (now : ℕ) : Type 0 where
+-- who goes on from node u at t and is at node w at b is no nearer to the goal there than the seconds on the way make it, if
+-- u is an open node and not the goal
+abbrev pub IsNear : SearchTask → List ℕ → ℕ → ℕ → ℕ → ℕ → Type 0
+IsNear task near u t w b = slice_index_or task.shut u false ≡ false → u ≢ task.goal → slice_index near w + t ≤ slice_index near u + b
+
+-- so it is for each step that leads to node w
+abbrev pub IsNearBy : SearchTask → List ℕ → ℕ → Type 0
+IsNearBy task near w = (n u t b : ℕ) → Takes task n u t w b → IsNear task near u t w b
+
+-- at first the goal alone waits, and may be left at any second
+pub record IsBegun (task : SearchTask) (late : List ℕ) (taken : List Bool) (queue : List Event) : Type 0 where
+  pub late_is : late ≡ slice_set (replicate (length task.shut) 0) task.goal never
+  pub taken_is : taken ≡ replicate (length task.shut) false
+  pub waits : IsPermutation (record { at = 0; rank = 0; hops = 0; node = task.goal } ∷ []) queue
+
+-- the seconds so far, while the links to node `now` are taken: P holds for each other node whose links are, or it waits
+pub record AreRising (P : List ℕ → ℕ → Type 0) (task : SearchTask) (late : List ℕ) (taken : List Bool) (queue : List Event) (now : ℕ) : Type 0 where
   pub many : length late ≡ length task.table
   pub flags : length taken ≡ length task.table
   pub goal : slice_index late task.goal ≡ never
   pub inside : All (λ (e : Event). e.node < length task.table) queue
-  pub waits : (w : ℕ) → w < length task.table → slice_index_or taken w false ≡ false → 0 < slice_index late w → (a : ℕ) × (h : ℕ) × Contains queue (record { at = a; hops = h; node = w })
-  pub over : (w : ℕ) → w ≢ now → slice_index_or taken w false ≡ true → IsTakenBy task late w
+  pub waits : (w : ℕ) → w < length task.table → slice_index_or taken w false ≡ false → 0 < slice_index late w → (e : Event) × Contains queue e × (e.node ≡ w)
+  pub over : (w : ℕ) → w ≢ now → slice_index_or taken w false ≡ true → P late w
 
--- in the end those to each node are taken that may be left in time
-pub record AreTaken (task : SearchTask) (late : List ℕ) : Type 0 where
+-- in the end P holds for each node that may be left in time
+pub record AreTaken (P : List ℕ → ℕ → Type 0) (task : SearchTask) (late : List ℕ) : Type 0 where
   pub many : length late ≡ length task.table
   pub goal : slice_index late task.goal ≡ never
-  pub over : (w : ℕ) → w < length task.table → 0 < slice_index late w → IsTakenBy task late w
+  pub over : (w : ℕ) → w < length task.table → 0 < slice_index late w → P late w

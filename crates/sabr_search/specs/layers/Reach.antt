@@ -1,5 +1,5 @@
 -- What bounds every search of a request over a plan, over the whole graph.
-use Rattle.std.specs.Prelude.{◌≡◌, ◌≢◌, ℕ, ◌≤◌, List, [], false, slice_get, slice_index_or}
+use Rattle.std.specs.Prelude.{◌≡◌, ◌≢◌, ℕ, ◌+◌, ◌-◌, ◌≤◌, List, [], false, slice_get, slice_index_or}
 use Rattle.std.specs.declared.option.Option.TheVariants.{Some}
 use Rattle.sabr_model.specs.declared.contact.Contact.{Contact}
 use Rattle.sabr_model.specs.plan.Plan.{TabledPlan, contact_named}
@@ -30,6 +30,17 @@ pub record AreLateFor (p : TabledPlan) (r : RouteRequest) (late : List ℕ) : Ty
   pub goal : (g : ℕ) → slice_get p.table g ≡ Some r.destination → never ≤ slice_index_or late g never
   pub steps : (n u t w b : ℕ) → Goes p r n u t w b → IsBetween p r u → slice_index_or late u never ≤ t → slice_index_or late w never ≤ b
 
+-- by node how much less than `never` the way to the destination takes at the least over the whole graph, in seconds: no step
+-- brings it nearer than the seconds on the way
+pub record AreNearFor (p : TabledPlan) (r : RouteRequest) (near : List ℕ) : Type 0 where
+  pub goal : (g : ℕ) → slice_get p.table g ≡ Some r.destination → slice_index_or near g never ≡ never
+  pub steps : (n u t w b : ℕ) → Goes p r n u t w b → IsBetween p r u → slice_index_or near w never + t ≤ slice_index_or near u never + b
+
+-- so the way from node v to the destination takes so many seconds at the least
+abbrev pub cost_to : List ℕ → ℕ → ℕ
+cost_to near v = never - slice_index_or near v never
+
 -- what is known of the ways of every question of the request is true
-abbrev pub IsReach : {A : Type 0} → TabledPlan → RouteRequest → Reach A → Type 0
-IsReach p r reach = AreLateFor p r reach.late.items
+pub record IsReach {A : Type 0} (p : TabledPlan) (r : RouteRequest) (reach : Reach A) : Type 0 where
+  pub late : AreLateFor p r reach.late.items
+  pub near : AreNearFor p r reach.near.items

@@ -1,5 +1,5 @@
 -- What a search by arrival keeps: the settled nodes, the waiting events, and the first delivery so far.
-use Rattle.std.specs.Prelude.{◌≡◌, ◌≢◌, ◌⊎◌, ℕ, ◌≤◌, ◌<◌, min, List, length, Bool, true, false, All, Contains, slice_get, slice_index, slice_index_or}
+use Rattle.std.specs.Prelude.{◌≡◌, ◌≢◌, ◌⊎◌, ℕ, ◌+◌, ◌-◌, ◌≤◌, ◌<◌, min, List, length, Bool, true, false, All, Contains, slice_get, slice_index, slice_index_or}
 use Rattle.std.specs.List.{count_by}
 use Rattle.std.specs.declared.option.Option.TheVariants.{Some}
 use Rattle.sabr_search.specs.declared.backward.pick.Standing.{Standing}
@@ -9,24 +9,32 @@ use Rattle.sabr_search.specs.questions.Ways.{Leads}
 use Rattle.sabr_search.specs.questions.Task.{SearchTask, Takes, never, latest_arrival}
 use Rattle.sabr_search.specs.questions.Steps.{senders}
 use Rattle.sabr_search.specs.layers.Lists.{AreClosed, IsKnown}
+use Rattle.sabr_search.specs.layers.Reach.{cost_to}
 
--- by node a second before which no way comes there, or second d, at which the search stopped, if that is sooner
-pub record AreArrivalsBy (task : SearchTask) (arrival : List ℕ) (d : ℕ) : Type 0 where
+-- by node a second before which no way comes there, or from which on none delivers before d, if that is sooner
+pub record AreArrivalsBy (task : SearchTask) (near arrival : List ℕ) (d : ℕ) : Type 0 where
   pub flags : length arrival ≡ length task.table
-  pub least : (ns : List ℕ) (v t : ℕ) → 0 < length ns → Leads (Takes task) task.start task.at ns v t → min (slice_index arrival v) d ≤ t
+  pub least : (ns : List ℕ) (v t : ℕ) → 0 < length ns → Leads (Takes task) task.start task.at ns v t → min (slice_index arrival v) (d - cost_to near v) ≤ t
 
--- by node a second from which on no way leads to the goal, as far as the list goes
-pub record IsBound (task : SearchTask) (late : List ℕ) : Type 0 where
+-- by node a second from which on no way leads to the goal, as far as the list goes; and what a way from there to the goal
+-- costs at the least, which no step lowers by more than its seconds
+pub record IsBound (task : SearchTask) (late near : List ℕ) : Type 0 where
   pub goal : never ≤ slice_index_or late task.goal never
   pub steps : (n u t w b : ℕ) → Takes task n u t w b → slice_index_or task.shut u false ≡ false → u ≢ task.goal → slice_index_or late u never ≤ t → slice_index_or late w never ≤ b
+  pub there : cost_to near task.goal ≡ 0
+  pub costs : (n u t w b : ℕ) → Takes task n u t w b → slice_index_or task.shut u false ≡ false → t + cost_to near u ≤ b + cost_to near w
 
 -- these are steps from the start
 abbrev pub AreReal : SearchTask → List Standing → Type 0
 AreReal task first = (k : ℕ) (s : Standing) → slice_get first k ≡ Some s → (n : ℕ) × Takes task n task.start task.at s.node s.at
 
--- every settled node is reached by second t
-abbrev pub AreSettledBy : List Bool → List ℕ → ℕ → Type 0
-AreSettledBy settled arrival t = (k : ℕ) → slice_index_or settled k false ≡ true → slice_index arrival k ≤ t
+-- whoever comes to a settled open node may be at the goal by second t, by what it costs at the least
+abbrev pub AreSettledBy : SearchTask → List ℕ → List Bool → List ℕ → ℕ → Type 0
+AreSettledBy task near settled arrival t = (k : ℕ) → slice_index_or settled k false ≡ true → slice_index_or task.shut k false ≡ false → slice_index arrival k + cost_to near k ≤ t
+
+-- an event for node k at second t waits
+abbrev pub IsWaiting : List Event → ℕ → ℕ → Type 0
+IsWaiting queue k t = (e : Event) × Contains queue e × (e.node ≡ k) × (e.at ≡ t)
 
 -- the number of settled nodes
 abbrev pub settled_count : List Bool → ℕ
@@ -40,24 +48,22 @@ sent_by_settled task settled = count_by (λ k. slice_index_or settled k false) (
 abbrev pub IsWayTo : SearchTask → ℕ → ℕ → ℕ → Type 0
 IsWayTo task v h t = (ns : List ℕ) × (length ns ≡ h) × Leads (Takes task) task.start task.at ns v t
 
--- what the queue holds between two steps
-pub record IsQueue (task : SearchTask) (bounds : List ℕ) (settled : List Bool) (arrival : List ℕ) (queue : List Event) : Type 0 where
+-- what the queue holds between two steps: an event's second is the arrival at its node and what the goal costs from there
+pub record IsQueue (task : SearchTask) (bounds near : List ℕ) (settled : List Bool) (arrival : List ℕ) (queue : List Event) : Type 0 where
   -- an open node that is reached before it is too late there, and not settled, waits with its arrival
-  pub waits : (k : ℕ) → k < length arrival → slice_index_or task.shut k false ≡ false → slice_index_or settled k false ≡ false → slice_index arrival k < slice_index_or bounds k never →
-      (h : ℕ) × Contains queue (record { at = slice_index arrival k; hops = h; node = k })
+  pub waits : (k : ℕ) → k < length arrival → slice_index_or task.shut k false ≡ false → slice_index_or settled k false ≡ false → slice_index arrival k < slice_index_or bounds k never → IsWaiting queue k (slice_index arrival k + cost_to near k)
   -- no event is earlier than the arrival at its node
-  pub late : All (λ (e : Event). slice_index arrival e.node ≤ e.at) queue
+  pub late : All (λ (e : Event). slice_index arrival e.node + cost_to near e.node ≤ e.at) queue
   -- no event comes when it is too late at its node
-  pub before : All (λ (e : Event). e.at < slice_index_or bounds e.node never) queue
-  -- no event is earlier than a settled node, or than what improves a shut one
-  pub order : All (λ (e : Event). AreSettledBy settled arrival e.at) queue
-  pub since : All (λ (e : Event). AreClosed task.shut arrival e.at) queue
+  pub before : All (λ (e : Event). e.at < slice_index_or bounds e.node never + cost_to near e.node) queue
+  -- no event is earlier than a settled node
+  pub order : All (λ (e : Event). AreSettledBy task near settled arrival e.at) queue
   -- an event is of an open node, and not of the goal
   pub inside : All (λ (e : Event). e.node < length arrival) queue
   pub unshut : All (λ (e : Event). slice_index_or task.shut e.node false ≡ false) queue
   pub other : All (λ (e : Event). e.node ≢ task.goal) queue
   -- an event has a way, of no more hops than there are settled nodes
-  pub real : All (λ (e : Event). IsWayTo task e.node e.hops e.at) queue
+  pub real : All (λ (e : Event). (t : ℕ) × (t + cost_to near e.node ≡ e.at) × IsWayTo task e.node e.hops t) queue
   pub few : All (λ (e : Event). e.hops ≤ settled_count settled) queue
 
 -- no delivery is found, or one by a way of no more hops than there are settled nodes
@@ -70,13 +76,13 @@ IsFirst task settled best =
 abbrev pub AreBy : SearchTask → List ℕ → List ℕ → Type 0
 AreBy task late arrival = (k : ℕ) → slice_index_or task.shut k false ≡ false → slice_index arrival k ≤ slice_index_or late k never
 
--- what holds while the contacts of a node that is reached at t are taken
-pub record AreSettling (task : SearchTask) (late : List ℕ) (settled : List Bool) (t : ℕ) (arrival : List ℕ) (queue : List Event) (best : Best) : Type 0 where
+-- what holds while the contacts of node u are taken, which is reached at t
+pub record AreSettling (task : SearchTask) (late near : List ℕ) (settled : List Bool) (u t : ℕ) (arrival : List ℕ) (queue : List Event) (best : Best) : Type 0 where
   pub flags : length arrival ≡ length task.shut
   pub closed : AreClosed task.shut arrival t
-  pub early : AreSettledBy settled arrival t
+  pub early : (n w b : ℕ) → Takes task n u t w b → AreSettledBy task near settled arrival (b + cost_to near w)
   pub lowered : AreBy task late arrival
-  pub queue_is : IsQueue task late settled arrival queue
+  pub queue_is : IsQueue task late near settled arrival queue
   pub found : IsFirst task settled best
   pub sooner : best.delivery ≤ never
 
@@ -87,22 +93,23 @@ pub record IsFallen (settled : List Bool) (arrival0 : List ℕ) (best0 : Best) (
   pub kept : (k : ℕ) → slice_index_or settled k false ≡ true → slice_index arrival k ≡ slice_index arrival0 k
 
 -- what the contacts of the settled nodes bring is known
-abbrev pub AreSettledTaken : SearchTask → List Bool → List ℕ → ℕ → Type 0
-AreSettledTaken task settled arrival best =
-    (v n w b : ℕ) → slice_index_or settled v false ≡ true → Takes task n v (slice_index arrival v) w b → IsKnown task.goal arrival best w b
+abbrev pub AreSettledTaken : SearchTask → List ℕ → List Bool → List ℕ → ℕ → Type 0
+AreSettledTaken task near settled arrival best =
+    (v n w b : ℕ) → slice_index_or settled v false ≡ true → Takes task n v (slice_index arrival v) w b → IsKnown task.goal arrival (best - cost_to near w) w b
 
 -- what holds between two events
-pub record AreSettled (task : SearchTask) (late : List ℕ) (settled : List Bool) (arrival : List ℕ) (queue : List Event) (best : Best) : Type 0 where
+pub record AreSettled (task : SearchTask) (late near : List ℕ) (settled : List Bool) (arrival : List ℕ) (queue : List Event) (best : Best) : Type 0 where
   pub flags : length arrival ≡ length task.shut
   pub many : length settled ≡ length task.shut
   pub start_settled : slice_index_or settled task.start false ≡ true
   pub start_reached : slice_index arrival task.start ≡ task.at
   pub goal_unsettled : slice_index_or settled task.goal false ≡ false
+  pub closed : AreClosed task.shut arrival task.at
   pub lowered : AreBy task late arrival
-  pub queue_is : IsQueue task late settled arrival queue
+  pub queue_is : IsQueue task late near settled arrival queue
   pub found : IsFirst task settled best
   pub sooner : best.delivery ≤ never
-  pub taken : AreSettledTaken task settled arrival best.delivery
+  pub taken : AreSettledTaken task near settled arrival best.delivery
 
 -- what a search found: no way to the goal comes before the delivery, and some way comes then with that number of hops,
 -- fewer than there are nodes; or no way leads there

@@ -5,7 +5,7 @@ ghost use Rattle.sabr_search.specs.questions.Task.{IsTask, Takes};
 ghost use Rattle.sabr_search.specs.questions.Linked.{IsLinkWithin, HasNumber};
 ghost use Rattle.sabr_search.specs.questions.FirstSteps.{tabled_of};
 ghost use Rattle.sabr_search.specs.layers.Reach.{AreLateFor};
-ghost use Rattle.sabr_search.specs.layers.Latest.{IsWhole, AreRising, AreTaken, IsTakenBy, IsLeftBy};
+ghost use Rattle.sabr_search.specs.layers.Latest.{IsWhole, IsBegun, AreRising, AreTaken, IsTakenBy, IsLeftBy};
 
 use crate::forward::layers::NEVER;
 use crate::forward::queue::{Event, Queue};
@@ -20,18 +20,18 @@ use std::alloc::Allocator;
 #[derive(Drop)]
 pub struct Latest<A: Allocator + Copy> {
     /// For each node, the first second that is too late so far.
-    late: Vec<u64, A>,
+    pub late: Vec<u64, A>,
     /// For each node, whether its links were taken since that second last rose.
-    taken: Vec<bool, A>,
+    pub taken: Vec<bool, A>,
     /// The nodes whose links are to be taken, the latest first.
-    queue: Queue<A>,
+    pub queue: Queue<A>,
 }
 
 impl<A: Allocator + Copy> Latest<A> {
     /// Begins with the goal alone, where it is never too late.
-    fn begin(alloc: A, task: &Task<'_, A>) -> Result<Latest<A>, NoMemory>
+    pub fn begin(alloc: A, task: &Task<'_, A>) -> Result<Latest<A>, NoMemory>
         requires task { IsTask task.now }
-        ensures { IfOk result (λ l. AreRising task.now l.late.items l.taken.items l.queue (length task.now.table)) }
+        ensures { IfOk result (λ l. IsBegun task.now l.late.items l.taken.items l.queue) }
     {
         let nodes = task.shut().len();
         let mut late = Vec::new(alloc);
@@ -42,6 +42,7 @@ impl<A: Allocator + Copy> Latest<A> {
         let mut queue = Queue::new(alloc);
         queue.push(Event {
             at: 0,
+            rank: 0,
             hops: 0,
             node: task.goal(),
         })?;
@@ -61,10 +62,10 @@ impl<A: Allocator + Copy> Latest<A> {
         requires link { IsLinkWithin task.now from.node to from.passes.now from.bounds }
         requires node { from.node < length task.now.table }
         requires few { looks.old.count + length from.passes.now ≤ 2 ^ 62 }
-        requires rising { AreRising task.now self.old.late.items self.old.taken.items self.old.queue to }
+        requires rising { AreRising (IsTakenBy task.now) task.now self.old.late.items self.old.taken.items self.old.queue to }
         requires same { slice_index self.old.late.items to ≡ before }
         ensures looks { looks.new.count ≤ looks.old.count + length from.entry.passes.now }
-        ensures rising { OnOk result (AreRising task.now self.new.late.items self.new.taken.items self.new.queue to) }
+        ensures rising { OnOk result (AreRising (IsTakenBy task.now) task.now self.new.late.items self.new.taken.items self.new.queue to) }
         ensures same { OnOk result (slice_index self.new.late.items to ≡ before) }
         ensures rises { OnOk result ((k : ℕ) → slice_index self.old.late.items k ≤ slice_index self.new.late.items k) }
         ensures told { OnOk result ((n t b : ℕ) → HasNumber from.entry.passes.now n → Takes task.now n from.entry.node t to b → b < before → IsLeftBy task.now self.new.late.items from.entry.node t) }
@@ -92,6 +93,7 @@ impl<A: Allocator + Copy> Latest<A> {
         }
         self.queue.push(Event {
             at: NEVER - last,
+            rank: 0,
             hops: 0,
             node,
         })?;
@@ -112,9 +114,9 @@ impl<A: Allocator + Copy> Latest<A> {
         requires node { to < length task.now.table }
         requires few { looks.old.count ≤ most }
         requires most { most ≤ 2 ^ 62 }
-        requires rising { AreRising task.now self.old.late.items self.old.taken.items self.old.queue to }
+        requires rising { AreRising (IsTakenBy task.now) task.now self.old.late.items self.old.taken.items self.old.queue to }
         ensures looks { looks.new.count ≤ most }
-        ensures rising { OnOk result (AreRising task.now self.new.late.items self.new.taken.items self.new.queue to) }
+        ensures rising { OnOk result (AreRising (IsTakenBy task.now) task.now self.new.late.items self.new.taken.items self.new.queue to) }
         ensures taken { IfOk result (λ all. IsTrue all → IsTakenBy task.now self.new.late.items to) }
     {
         let before = self.late[to];
@@ -139,9 +141,9 @@ impl<A: Allocator + Copy> Latest<A> {
         requires task { IsTask task.now }
         requires few { looks.old.count ≤ most }
         requires most { most ≤ 2 ^ 62 }
-        requires rising { AreRising task.now self.old.late.items self.old.taken.items self.old.queue (length task.now.table) }
+        requires rising { AreRising (IsTakenBy task.now) task.now self.old.late.items self.old.taken.items self.old.queue (length task.now.table) }
         ensures looks { looks.new.count ≤ most }
-        ensures taken { IfOk result (λ all. IsTrue all → AreTaken task.now self.new.late.items) }
+        ensures taken { IfOk result (λ all. IsTrue all → AreTaken (IsTakenBy task.now) task.now self.new.late.items) }
     {
         for _ in 0..most {
             let Some(event) = self.queue.pop() else {

@@ -13,21 +13,22 @@ use std::cmp::Reverse;
 use std::collections::{BinaryHeap, VecDeque};
 use std::marker::Model;
 
-/// An arrival at a node. The earlier one comes first; of two at the same second, the one with fewer hops.
+/// A node and a second for it. The earlier one comes first; of two at the same second, the one of lesser rank.
 #[derive(Clone, Copy, PartialEq, Eq, PartialOrd, Ord)]
 pub struct Event {
     pub at: u64,
+    pub rank: u64,
     pub hops: usize,
     pub node: usize,
 }
 
 impl Event {
-    /// Returns true if this one is earlier than the other; of two at the same second, if it has fewer hops.
+    /// Returns true if this one is earlier than the other; of two at the same second, if it has a lesser rank.
     fn is_before(self, other: Event) -> bool
         ensures before { IsTrue result → self.at ≤ other.at }
         ensures behind { result ≡ false → other.at ≤ self.at }
     {
-        self.at < other.at || (self.at == other.at && self.hops < other.hops)
+        self.at < other.at || (self.at == other.at && self.rank < other.rank)
     }
 }
 
@@ -110,6 +111,7 @@ impl<A: Allocator + Copy> Queue<A> {
             run: VecDeque::new(alloc),
             last: Event {
                 at: 0,
+                rank: 0,
                 hops: 0,
                 node: 0,
             },

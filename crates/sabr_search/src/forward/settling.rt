@@ -1,12 +1,13 @@
-//! Nodes settled in order of their arrival, up to the first delivery at the goal.
+//! Nodes settled in order of their arrival and of what the goal costs from there, up to the first delivery at the goal.
 
-ghost use Rattle.std.specs.Prelude.{◌≡◌, ◌≢◌, ◌⊎◌, IsTrue, ℕ, min, [], ◌+◌, ◌^◌, ◌≤◌, ◌<◌, length, slice_get, slice_set, slice_index, slice_index_or, replicate, Some, OnOk, IfOk, IfSome, IfNone, true, false};
+ghost use Rattle.std.specs.Prelude.{◌≡◌, ◌≢◌, ◌⊎◌, IsTrue, ℕ, min, [], ◌+◌, ◌-◌, ◌^◌, ◌≤◌, ◌<◌, length, slice_get, slice_set, slice_index, slice_index_or, replicate, Some, OnOk, IfOk, IfSome, IfNone, true, false};
 ghost use Rattle.sabr_search.specs.questions.Task.{IsTask, Takes};
 ghost use Rattle.sabr_search.specs.questions.Steps.{degree};
 ghost use Rattle.sabr_search.specs.questions.Linked.{AreLinksAt, IsLinkWithin, HasNumber};
 ghost use Rattle.sabr_search.specs.layers.Lists.{IsKnown};
 ghost use Rattle.sabr_search.specs.layers.Made.{AreOpened};
 ghost use Rattle.sabr_search.specs.layers.Late.{AreArrivals};
+ghost use Rattle.sabr_search.specs.layers.Reach.{cost_to};
 ghost use Rattle.sabr_search.specs.questions.FirstSteps.{AreFirstSteps};
 ghost use Rattle.sabr_search.specs.layers.Settling.{IsBound, AreReal, AreArrivalsBy, settled_count, IsWayTo, IsFirstWay, AreSettling, AreSettled, IsFallen, AreSettledTaken};
 
@@ -27,6 +28,39 @@ pub struct Forward<'t, 'a, 'b, A: Allocator + Copy> {
     pub task: &'t Task<'a, A>,
     /// For each node, a second from which on no way leads to the goal; none is known after the list's end.
     pub late: &'b [u64],
+    /// For each node, `NEVER` less the least seconds of a way to the goal; `NEVER` after the list's end.
+    pub near: &'b [u64],
+}
+
+impl<'t, 'a, 'b, A: Allocator + Copy> Forward<'t, 'a, 'b, A> {
+    /// Returns the least seconds of a way from a node to the goal.
+    #[inline(always)]
+    fn cost(&self, node: usize) -> u64
+        ensures { result ≡ cost_to self.now.near.now node }
+    {
+        match self.near.get(node) {
+            Some(near) => NEVER - *near,
+            None => 0,
+        }
+    }
+
+    /// Returns the second before which an arrival at a node is news: from then on, no way over it delivers before `delivery`.
+    #[inline(always)]
+    fn news(&self, arrival: &[u64], to: usize, delivery: u64) -> u64
+        requires many { length arrival.now ≡ length self.now.task.now.shut }
+        requires task { IsTask self.now.task.now }
+        requires node { to < length self.now.task.now.table }
+        ensures sooner { result ≤ delivery - cost_to self.now.near.now to }
+        ensures goal { to ≡ self.now.task.now.goal → result ≡ delivery - cost_to self.now.near.now to }
+        ensures other { to ≢ self.now.task.now.goal → result ≡ min (delivery - cost_to self.now.near.now to) (slice_index arrival.now to) }
+    {
+        news_before(
+            arrival,
+            self.task,
+            to,
+            delivery.saturating_sub(self.cost(to)),
+        )
+    }
 }
 
 /// Returns true if, by the bounds of a link, nothing that is at its sender at `at` brings news to its receiver.
@@ -84,16 +118,16 @@ impl<A: Allocator + Copy> Settling<A> {
         requires task { IsTask forward.now.task.now }
         requires receiver { step.node < length forward.now.task.now.table }
         requires later { event.at ≤ step.at }
-        requires sooner { step.at < best.delivery }
+        requires sooner { step.at + cost_to forward.now.near.now step.node < best.delivery }
         requires news { step.node ≢ forward.now.task.now.goal → step.at < slice_index self.old.arrival.items step.node }
         requires step { slice_index_or forward.now.task.now.shut step.node false ≡ false → (n : ℕ) × Takes forward.now.task.now n event.node event.at step.node step.at }
         requires real { IsWayTo forward.now.task.now event.node event.hops event.at }
         requires few { event.hops < settled_count self.old.settled.items }
-        requires state { AreSettling forward.now.task.now forward.now.late.now self.old.settled.items event.at self.old.arrival.items self.old.queue best }
+        requires state { AreSettling forward.now.task.now forward.now.late.now forward.now.near.now self.old.settled.items event.node event.at self.old.arrival.items self.old.queue best }
         ensures settled { self.new.settled ≡ self.old.settled }
-        ensures state { IfOk result (λ b. AreSettling forward.now.task.now forward.now.late.now self.old.settled.items event.at self.new.arrival.items self.new.queue b) }
+        ensures state { IfOk result (λ b. AreSettling forward.now.task.now forward.now.late.now forward.now.near.now self.old.settled.items event.node event.at self.new.arrival.items self.new.queue b) }
         ensures fallen { IfOk result (λ b. IsFallen self.old.settled.items self.old.arrival.items best self.new.arrival.items b) }
-        ensures known { IfOk result (λ b. IsKnown forward.now.task.now.goal self.new.arrival.items b.delivery step.node step.at) }
+        ensures known { IfOk result (λ b. IsKnown forward.now.task.now.goal self.new.arrival.items (b.delivery - cost_to forward.now.near.now step.node) step.node step.at) }
         ensures pushes { OnOk result (length self.new.queue ≤ length self.old.queue + 1) }
     {
         let Standing { node, at } = step;
@@ -101,7 +135,13 @@ impl<A: Allocator + Copy> Settling<A> {
         if node == forward.task.goal() {
             return Ok(Best { delivery: at, hops });
         }
-        self.queue.push(Event { at, hops, node })?;
+        let cost = forward.cost(node);
+        self.queue.push(Event {
+            at: at + cost,
+            rank: cost,
+            hops,
+            node,
+        })?;
         self.arrival[node] = at;
         Ok(best)
     }
@@ -122,17 +162,17 @@ impl<A: Allocator + Copy> Settling<A> {
         requires real { IsWayTo forward.now.task.now event.node event.hops event.at }
         requires few_hops { event.hops < settled_count self.old.settled.items }
         requires few { looks.old.count + length link.passes.now ≤ 2 ^ 62 }
-        requires state { AreSettling forward.now.task.now forward.now.late.now self.old.settled.items event.at self.old.arrival.items self.old.queue best }
+        requires state { AreSettling forward.now.task.now forward.now.late.now forward.now.near.now self.old.settled.items event.node event.at self.old.arrival.items self.old.queue best }
         ensures settled { self.new.settled ≡ self.old.settled }
         ensures looks { looks.new.count ≤ looks.old.count + length link.entry.passes.now }
-        ensures state { IfOk result (λ b. AreSettling forward.now.task.now forward.now.late.now self.old.settled.items event.at self.new.arrival.items self.new.queue b) }
+        ensures state { IfOk result (λ b. AreSettling forward.now.task.now forward.now.late.now forward.now.near.now self.old.settled.items event.node event.at self.new.arrival.items self.new.queue b) }
         ensures fallen { IfOk result (λ b. IsFallen self.old.settled.items self.old.arrival.items best self.new.arrival.items b) }
-        ensures known { IfOk result (λ b. (n w x : ℕ) → HasNumber link.entry.passes.now n → Takes forward.now.task.now n link.entry.from event.at w x → IsKnown forward.now.task.now.goal self.new.arrival.items b.delivery w x) }
+        ensures known { IfOk result (λ b. (n w x : ℕ) → HasNumber link.entry.passes.now n → Takes forward.now.task.now n link.entry.from event.at w x → IsKnown forward.now.task.now.goal self.new.arrival.items (b.delivery - cost_to forward.now.near.now w) w x) }
         ensures pushes { OnOk result (length self.new.queue + looks.old.count ≤ length self.old.queue + looks.new.count) }
     {
         let task = forward.task;
         let to = link.to;
-        let before = news_before(&self.arrival, task, to, best.delivery);
+        let before = forward.news(&self.arrival, to, best.delivery);
         let at = task.arrive_over(looks, link, event.at, before);
         if at >= before {
             return Ok(best);
@@ -159,13 +199,13 @@ impl<A: Allocator + Copy> Settling<A> {
         requires few_hops { event.hops ≤ settled_count self.old.settled.items }
         requires links { AreLinksAt forward.now.task.now event.node links.links.now links.passes.now }
         requires few { looks.old.count + length links.passes.now ≤ 2 ^ 62 }
-        requires state { AreSettling forward.now.task.now forward.now.late.now (slice_set self.old.settled.items event.node true) event.at self.old.arrival.items self.old.queue best }
-        requires taken { AreSettledTaken forward.now.task.now self.old.settled.items self.old.arrival.items best.delivery }
+        requires state { AreSettling forward.now.task.now forward.now.late.now forward.now.near.now (slice_set self.old.settled.items event.node true) event.node event.at self.old.arrival.items self.old.queue best }
+        requires taken { AreSettledTaken forward.now.task.now forward.now.near.now self.old.settled.items self.old.arrival.items best.delivery }
         ensures settled { self.new.settled.items ≡ slice_set self.old.settled.items event.node true }
         ensures looks { looks.new.count ≤ looks.old.count + length links.entry.passes.now }
-        ensures state { IfOk result (λ b. AreSettling forward.now.task.now forward.now.late.now (slice_set self.old.settled.items event.node true) event.at self.new.arrival.items self.new.queue b) }
+        ensures state { IfOk result (λ b. AreSettling forward.now.task.now forward.now.late.now forward.now.near.now (slice_set self.old.settled.items event.node true) event.node event.at self.new.arrival.items self.new.queue b) }
         ensures fallen { IfOk result (λ b. IsFallen (slice_set self.old.settled.items event.node true) self.old.arrival.items best self.new.arrival.items b) }
-        ensures taken { IfOk result (λ b. AreSettledTaken forward.now.task.now (slice_set self.old.settled.items event.node true) self.new.arrival.items b.delivery) }
+        ensures taken { IfOk result (λ b. AreSettledTaken forward.now.task.now forward.now.near.now (slice_set self.old.settled.items event.node true) self.new.arrival.items b.delivery) }
         ensures pushes { OnOk result (length self.new.queue + looks.old.count ≤ length self.old.queue + looks.new.count) }
     {
         self.settled[event.node] = true;
@@ -194,7 +234,7 @@ impl<A: Allocator + Copy> Settling<A> {
         first: &[Standing],
     ) -> Result<Best, NoMemory>
         requires task { IsTask forward.now.task.now }
-        requires bound { IsBound forward.now.task.now forward.now.late.now }
+        requires bound { IsBound forward.now.task.now forward.now.late.now forward.now.near.now }
         requires inside { (k : ℕ) (s : Standing) → slice_get first.now k ≡ Some s → s.node < length forward.now.task.now.table }
         requires steps { AreFirstSteps forward.now.task.now first.now }
         requires real { AreReal forward.now.task.now first.now }
@@ -202,10 +242,11 @@ impl<A: Allocator + Copy> Settling<A> {
         requires settled { self.old.settled.items ≡ replicate (length forward.now.task.now.shut) false }
         requires queue { self.old.queue ≡ [] }
         ensures settled { self.new.settled.items ≡ slice_set self.old.settled.items forward.now.task.now.start true }
-        ensures state { IfOk result (λ b. AreSettled forward.now.task.now forward.now.late.now self.new.settled.items self.new.arrival.items self.new.queue b) }
+        ensures state { IfOk result (λ b. AreSettled forward.now.task.now forward.now.late.now forward.now.near.now self.new.settled.items self.new.arrival.items self.new.queue b) }
     {
         let event = Event {
             at: forward.task.at(),
+            rank: 0,
             hops: 0,
             node: forward.task.start(),
         };
@@ -216,16 +257,16 @@ impl<A: Allocator + Copy> Settling<A> {
         };
         for place in 0..first.len() {
             let step = first[place];
-            if step.at < news_before(&self.arrival, forward.task, step.node, best.delivery) {
+            if step.at < forward.news(&self.arrival, step.node, best.delivery) {
                 best = self.reach(forward, event, step, best)?;
             }
         }
         Ok(best)
     }
 
-    /// Settles nodes in order of their arrival, until no event comes before the first delivery at the goal. Returns
-    /// that delivery and the hops of a way with it; no hops if no way leads there. Looks at each contact
-    /// of another node than the start at most once. None if more than `most` looks might be needed.
+    /// Settles nodes, until no event comes before the first delivery at the goal. Returns that delivery and the hops of a
+    /// way with it; no hops if no way leads there. Looks at each contact of another node than the start at most once. None
+    /// if more than `most` looks might be needed.
     fn settle_all(
         &mut self,
         forward: &Forward<'_, '_, '_, A>,
@@ -234,7 +275,7 @@ impl<A: Allocator + Copy> Settling<A> {
         most: u64,
     ) -> Result<Option<Best>, NoMemory>
         requires task { IsTask forward.now.task.now }
-        requires bound { IsBound forward.now.task.now forward.now.late.now }
+        requires bound { IsBound forward.now.task.now forward.now.late.now forward.now.near.now }
         requires inside { (k : ℕ) (s : Standing) → slice_get first.now k ≡ Some s → s.node < length forward.now.task.now.table }
         requires steps { AreFirstSteps forward.now.task.now first.now }
         requires real { AreReal forward.now.task.now first.now }
@@ -244,7 +285,7 @@ impl<A: Allocator + Copy> Settling<A> {
         ensures counted { looks.new.count + degree forward.now.task.now forward.now.task.now.start ≤ looks.old.count + length forward.now.task.now.plan.contacts }
         ensures none { IfOk result (λ o. IfNone o (most + degree forward.now.task.now forward.now.task.now.start < looks.old.count + length forward.now.task.now.plan.contacts)) }
         ensures first { IfOk result (λ o. IfSome o (IsFirstWay forward.now.task.now)) }
-        ensures arrivals { IfOk result (λ o. IfSome o (λ best. AreArrivalsBy forward.now.task.now self.new.arrival.items best.delivery)) }
+        ensures arrivals { IfOk result (λ o. IfSome o (λ best. AreArrivalsBy forward.now.task.now forward.now.near.now self.new.arrival.items best.delivery)) }
     {
         self.first_events(forward)?;
         let mut best = self.settle_start(forward, first)?;
@@ -257,19 +298,26 @@ impl<A: Allocator + Copy> Settling<A> {
                 if links.passes.len() as u64 > most - looks.count {
                     return Ok(None);
                 }
-                best = self.settle(forward, looks, event, links, best)?;
+                let reached = Event {
+                    at: self.arrival[event.node],
+                    rank: event.rank,
+                    hops: event.hops,
+                    node: event.node,
+                };
+                best = self.settle(forward, looks, reached, links, best)?;
             }
         }
         Ok(Some(best))
     }
 
-    /// Lowers each arrival to a second at the most.
-    fn lower(&mut self, most: u64)
+    /// Lowers each arrival to the last second from which a way may still deliver by `delivery`, at the most.
+    fn lower(&mut self, forward: &Forward<'_, '_, '_, A>, delivery: u64)
         ensures many { length self.new.arrival.items ≡ length self.old.arrival.items }
-        ensures lowered { (k : ℕ) → slice_index self.new.arrival.items k ≤ min (slice_index self.old.arrival.items k) most }
+        ensures lowered { (k : ℕ) → slice_index self.new.arrival.items k ≤ min (slice_index self.old.arrival.items k) (delivery - cost_to forward.now.near.now k) }
     {
         for place in 0..self.arrival.len() {
-            self.arrival[place] = self.arrival[place].min(most);
+            let last = delivery.saturating_sub(forward.cost(place));
+            self.arrival[place] = self.arrival[place].min(last);
         }
     }
 
@@ -284,7 +332,7 @@ impl<A: Allocator + Copy> Settling<A> {
         most: u64,
     ) -> Result<Option<Best>, NoMemory>
         requires task { IsTask forward.now.task.now }
-        requires bound { IsBound forward.now.task.now forward.now.late.now }
+        requires bound { IsBound forward.now.task.now forward.now.late.now forward.now.near.now }
         requires inside { (k : ℕ) (s : Standing) → slice_get first.now k ≡ Some s → s.node < length forward.now.task.now.table }
         requires steps { AreFirstSteps forward.now.task.now first.now }
         requires real { AreReal forward.now.task.now first.now }
@@ -300,7 +348,7 @@ impl<A: Allocator + Copy> Settling<A> {
         let Some(best) = found else {
             return Ok(None);
         };
-        self.lower(best.delivery);
+        self.lower(forward, best.delivery);
         Ok(Some(best))
     }
 }

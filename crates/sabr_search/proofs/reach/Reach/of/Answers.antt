@@ -15,5 +15,11 @@ latest_of-requires-clause-whole g c =
     let both = found _ in
     rw c.new-task.ensures (whole_task _ both.0 both.1 refl)
 
+pub nearest_of-requires : goal.nearest_of-requires
+nearest_of-requires g c =
+    let found = rw c.plan-plan.ensures at c.in_ok-source.ensures.entered in
+    let both = found _ in
+    record { whole = rw c.new-task.ensures (whole_task _ both.0 both.1 refl) }
+
 pub returns-clause-reach : goal.returns-clause-reach
-returns-clause-reach g c = rw c.new-task.ensures at c.in_ok-late.ensures.late
+returns-clause-reach g c = record { late = rw c.new-task.ensures at c.in_ok-late.ensures.late; near = rw c.new-task.ensures at c.in_ok-near.ensures.near }

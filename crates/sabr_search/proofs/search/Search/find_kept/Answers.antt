@@ -1,6 +1,6 @@
 use Rattle.std.proofs.Common.{arith}
 use Rattle.sabr_search.proofs.AnswerLemmas.Law.{contacts_few}
-use Rattle.sabr_search.proofs.AnswerLemmas.Around.{of_request, late_bounds}
+use Rattle.sabr_search.proofs.AnswerLemmas.Around.{of_request, reach_bounds}
 use Rattle.sabr_search.proofs.AnswerLemmas.Answered.{left_less}
 use Rattle.sabr_search.proofs.search.Search.find_kept.Goals as goal
 
@@ -23,4 +23,4 @@ pub returns-clause-some : goal.returns-clause-some
 returns-clause-some g c = rw c.recall.ensures.slots c.recall.ensures.some
 
 pub run-requires-clause-bound : goal.run-requires-clause-bound
-run-requires-clause-bound g c = rw c.with_shut-question.ensures (late_bounds _ c.requires.asked.task_is.nodes c.in_ok-shut_near.ensures.request _ c.requires.kept.0)
+run-requires-clause-bound g c = rw c.with_shut-question.ensures (reach_bounds _ c.requires.asked.task_is.nodes c.in_ok-shut_near.ensures.request _ c.requires.kept.0)

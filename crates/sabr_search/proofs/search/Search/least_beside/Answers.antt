@@ -6,7 +6,7 @@ use Rattle.sabr_model.specs.declared.fault.NoMemory.{NoMemory}
 use Rattle.sabr_search.specs.questions.Task.{left_of}
 use Rattle.sabr_search.proofs.AnswerLemmas.Answered.{passes_within, route_fits, told_least, told_bound, told_cut}
 use Rattle.sabr_search.proofs.AnswerLemmas.KeptAnswers.{found_told}
-use Rattle.sabr_search.proofs.AnswerLemmas.Around.{of_request, late_bounds}
+use Rattle.sabr_search.proofs.AnswerLemmas.Around.{of_request, reach_bounds}
 use Rattle.sabr_search.proofs.search.Search.least_beside.Goals as goal
 
 pub returns-in_err-place-clause-bound : goal.returns-in_err-place-clause-bound
@@ -67,4 +67,4 @@ route-requires-2-clause-few g c =
 pub find_own-requires-clause-bound : goal.find_own-requires-clause-bound
 find_own-requires-clause-bound g c =
     let task = c.args.task.now in
-    late_bounds task c.requires.asked.task_is.nodes (of_request task c.args.prefix.now c.requires.asked.behind) _ c.find_kept.ensures.kept.0
+    reach_bounds task c.requires.asked.task_is.nodes (of_request task c.args.prefix.now c.requires.asked.behind) _ c.find_kept.ensures.kept.0

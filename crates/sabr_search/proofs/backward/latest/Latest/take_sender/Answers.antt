@@ -3,7 +3,7 @@ use Rattle.std.proofs.lemmas.Bool.{both_ways}
 use Rattle.sabr_search.proofs.BackwardLemmas.Backward.{not_start}
 use Rattle.sabr_search.proofs.ForwardLemmas.Between.{read_at}
 use Rattle.sabr_search.proofs.WayLemmas.Bridge.{takes_timely}
-use Rattle.sabr_search.proofs.BackwardLemmas.LastSeconds.{risen, late_rises}
+use Rattle.sabr_search.proofs.BackwardLemmas.LastSeconds.{risen, late_rises, still_taken}
 use Rattle.sabr_search.proofs.ForwardLemmas.Queues.{set_here, set_other}
 use Rattle.sabr_search.proofs.backward.latest.Latest.take_sender.Goals as goal
 
@@ -28,18 +28,23 @@ returns-then-last-latest-clause-told g c = λ n t b has s less open' other.
 
 pub returns-clause-rising : goal.returns-clause-rising
 returns-clause-rising g c =
-    let latest = read_at c.args.self.now.late.items c.args.from.node c.index-latest.result.now (omega (arith, c.requires.node, c.requires.rising.many)) c.index-latest.ensures in
-    risen c.args.task.now c.args.self.now.late.items c.args.self.now.taken.items c.args.self.now.queue _ c.args.to c.args.from.node c.leave_over-last.result _ 0 c.requires.rising c.requires.node
-    (λ same. c.if-node-goal.false (same ∙ sym c.goal.ensures)) (omega (arith, latest, c.if-last-latest.false)) c.in_ok-push.ensures.ok
+    let task = c.args.task.now in
+    let late = c.args.self.now.late.items in
+    let node = c.args.from.node in
+    let last = c.leave_over-last.result in
+    let latest = read_at late node c.index-latest.result.now (omega (arith, c.requires.node, c.requires.rising.many)) c.index-latest.ensures in
+    risen _ task late c.args.self.now.taken.items c.args.self.now.queue _ c.args.to last _ c.requires.rising c.requires.node (λ same. c.if-node-goal.false (same ∙ sym c.goal.ensures)) (omega (arith, latest, c.if-last-latest.false)) c.in_ok-push.ensures.ok
+    (still_taken task late node last (late_rises late node last (omega (arith, c.requires.node, c.requires.rising.many)) (omega (arith, latest, c.if-last-latest.false))))
 
 pub returns-clause-same : goal.returns-clause-same
 returns-clause-same g c = set_other c.args.self.now.late.items c.args.from.node c.leave_over-last.result c.args.to (λ same. c.if-node-to.false (sym same)) ∙ c.requires.same
 
 pub returns-clause-rises : goal.returns-clause-rises
 returns-clause-rises g c =
-    let latest = read_at c.args.self.now.late.items c.args.from.node c.index-latest.result.now (omega (arith, c.requires.node, c.requires.rising.many)) c.index-latest.ensures in
-    late_rises c.args.task.now c.args.self.now.late.items c.args.self.now.taken.items c.args.self.now.queue _ c.args.to c.args.from.node c.leave_over-last.result _ 0 c.requires.rising c.requires.node
-    (λ same. c.if-node-goal.false (same ∙ sym c.goal.ensures)) (omega (arith, latest, c.if-last-latest.false)) c.in_ok-push.ensures.ok
+    let late = c.args.self.now.late.items in
+    let node = c.args.from.node in
+    let latest = read_at late node c.index-latest.result.now (omega (arith, c.requires.node, c.requires.rising.many)) c.index-latest.ensures in
+    late_rises late node c.leave_over-last.result (omega (arith, c.requires.node, c.requires.rising.many)) (omega (arith, latest, c.if-last-latest.false))
 
 pub returns-clause-told : goal.returns-clause-told
 returns-clause-told g c = λ n t b has s less open' other.

@@ -1,10 +1,11 @@
-use Rattle.std.proofs.Common.{◌≡◌, ◌≢◌, ◌⊎◌, ℕ, ◌+◌, ◌≤◌, List, slice_index, slice_index_or, sym, inl, inr, ap, ◌∙◌, arith}
+use Rattle.std.proofs.Common.{◌≡◌, ◌≢◌, ◌⊎◌, ℕ, ◌+◌, ◌-◌, ◌≤◌, List, slice_index, slice_index_or, sym, inl, inr, ap, ◌∙◌, arith}
 use Rattle.std.proofs.lemmas.Option.{slice_get_within}
 use Rattle.std.proofs.lemmas.Bool.{cases_eq}
 use Rattle.sabr_index.specs.declared.link.Link.{Link}
 use Rattle.sabr_index.specs.declared.link.Pass.{Pass}
 use Rattle.sabr_search.specs.questions.Task.{SearchTask, IsTask, Takes}
 use Rattle.sabr_search.specs.layers.Lists.{IsKnown}
+use Rattle.sabr_search.specs.layers.Reach.{cost_to}
 use Rattle.sabr_search.specs.questions.Linked.{IsLinkWithin, HasNumber, passes_of}
 use Rattle.sabr_search.proofs.ForwardLemmas.Forward.{known_lower, last_or_before}
 use Rattle.sabr_search.proofs.LinkLemmas.OverLinks.{ruled_out, no_link, link_here, link_by_place}
@@ -12,12 +13,12 @@ use Rattle.sabr_search.proofs.ForwardLemmas.Queues.{fallen_more, taken_settled}
 use Rattle.sabr_search.proofs.forward.settling.Settling.settle.Goals as goal
 
 -- what the bounds of a link rule out is known
-told_known : (task : SearchTask) → IsTask task → (u t : ℕ) (l : Link) (over : List Pass) → IsLinkWithin task u l.receiver over l.bounds → (arrival : List ℕ) (best : ℕ) →
+told_known : (task : SearchTask) → IsTask task → (u t : ℕ) (l : Link) (over : List Pass) → IsLinkWithin task u l.receiver over l.bounds → (near arrival : List ℕ) (best : ℕ) →
     (l.receiver ≡ task.goal → (best ≤ l.bounds.soonest) ⊎ (best ≤ t + l.bounds.least_light)) →
     (l.receiver ≢ task.goal → (slice_index arrival l.receiver ≤ l.bounds.soonest) ⊎ (slice_index arrival l.receiver ≤ t + l.bounds.least_light)) →
-    (n w b : ℕ) → HasNumber over n → Takes task n u t w b → w ≡ l.receiver → IsKnown task.goal arrival best w b
-told_known task is u t l over link arrival best at_goal elsewhere n w b has s to = elim (cases_eq l.receiver task.goal) [
-  | inl same ↦ inl (ruled_out task is u l.receiver over link.0 l.bounds link.1 t best (inr (at_goal same)) n t w b has (omega arith) s)
+    (n w b : ℕ) → HasNumber over n → Takes task n u t w b → w ≡ l.receiver → IsKnown task.goal arrival (best - cost_to near w) w b
+told_known task is u t l over link near arrival best at_goal elsewhere n w b has s to = elim (cases_eq l.receiver task.goal) [
+  | inl same ↦ inl (omega (arith, ruled_out task is u l.receiver over link.0 l.bounds link.1 t best (inr (at_goal same)) n t w b has (omega arith) s))
   | inr other ↦
       inr (
         λ here. other (sym to ∙ here),
@@ -63,7 +64,7 @@ loop-link-preserved g c =
       state = rw so_far.settled at c.in_ok-least.ensures.state;
       fallen = fallen_more _ _ _ _ _ _ _ so_far.fallen gained;
       known = λ j x n w b less at has s. elim (last_or_before j c.loop-link.link-index less) [
-        | inl before ↦ known_lower task.goal _ _ _ _ w b gained.lowered gained.lower (so_far.known j x n w b before at has s)
+        | inl before ↦ known_lower task.goal _ _ _ _ w b gained.lowered (omega (arith, gained.lower)) (so_far.known j x n w b before at has s)
         | inr same ↦
             c.in_ok-least.ensures.known n w b (link.own j x n at same has) s
       ];
@@ -94,7 +95,7 @@ loop-link-preserved-then-is_told g c =
         | inl before ↦ so_far.known j x n w b before at has s
         | inr same ↦
             (let own = link.own j x n at same has in
-            told_known task c.requires.task c.args.event.node c.args.event.at l over link.link c.loop-link.self.arrival.items c.loop-link.least.delivery
+            told_known task c.requires.task c.args.event.node c.args.event.at l over link.link c.args.forward.now.near.now c.loop-link.self.arrival.items c.loop-link.least.delivery
             (λ here. c.is_told.ensures.goal c.if-is_told.true (here ∙ sym c.goal-goal.ensures))
             (λ other. rw c.deref.ensures.value at (c.is_told.ensures.other c.if-is_told.true (λ here. other (here ∙ c.goal-goal.ensures))))
             n w b own s (link.to c.requires.task n c.args.event.at w b own s))
@@ -110,7 +111,7 @@ returns-clause-taken g c =
     let task = c.args.forward.now.task.now in
     let u = c.args.event.node in
     let t = c.args.event.at in
-    taken_settled task _ u t _ c.args.best _ c.loop-link.least c.requires.reached c.requires.taken c.loop-link.invariant.fallen
+    taken_settled task _ _ u t _ c.args.best _ c.loop-link.least c.requires.reached c.requires.taken c.loop-link.invariant.fallen
     (λ n w x s.
     (let on = c.loop-link.invariant.links.whole n t w x s in
     c.loop-link.invariant.known on.0 on.1 n w x (omega (arith, slice_get_within c.args.links.links.now on.0 on.1 on.2, c.loop-link-test.false)) on.2 on.3 s))

@@ -1,7 +1,8 @@
 use Rattle.std.proofs.Common.{◌≡◌, suc, ◌<◌, length, slice_index_or, false, refl, sym, ◌∙◌, arith}
 use Rattle.std.proofs.lemmas.List.Sorted.{length_permutation}
-use Rattle.sabr_search.proofs.ForwardLemmas.Queues.{head_inside, head_real, head_few, head_arrives, waits_later, queue_stale}
-use Rattle.sabr_search.proofs.ForwardLemmas.FirstWays.{start_sent, next_most, next_state, next_counted, next_settled, settled_stale, first_found, arrivals_found, read_flag}
+use Rattle.sabr_search.proofs.ForwardLemmas.Queues.{head_inside, head_few, waits_later, queue_stale}
+use Rattle.sabr_search.proofs.ForwardLemmas.FirstWays.{start_sent, next_most, next_way, next_state, next_counted, next_settled, settled_stale, first_found, arrivals_found, read_flag}
+use Rattle.sabr_search.proofs.ForwardLemmas.Between.{read_at}
 use Rattle.sabr_search.proofs.forward.settling.Settling.settle_all.Goals as goal
 
 pub loop-event-init : goal.loop-event-init
@@ -17,60 +18,67 @@ loop-event-init g c =
 pub index-requires : goal.index-requires
 index-requires g c =
     let was = c.loop-event.invariant.settled in
-    omega (arith, was.flags, was.many, head_inside _ _ _ _ _ _ c.in-Some.event was.queue_is c.in-Some.ensures.moved c.in-Some.ensures.first)
+    omega (arith, was.flags, was.many, head_inside _ _ _ _ _ _ _ c.in-Some.event was.queue_is c.in-Some.ensures.moved c.in-Some.ensures.first)
+
+pub index-requires-then-not-index : goal.index-requires-then-not-index
+index-requires-then-not-index g c = omega (arith, head_inside _ _ _ _ _ _ _ c.in-Some.event c.loop-event.invariant.settled.queue_is c.in-Some.ensures.moved c.in-Some.ensures.first)
 
 pub settle-requires-clause-node : goal.settle-requires-clause-node
 settle-requires-clause-node g c =
     let was = c.loop-event.invariant.settled in
-    omega (arith, was.flags, c.requires.task.as_many, head_inside _ _ _ _ _ _ c.in-Some.event was.queue_is c.in-Some.ensures.moved c.in-Some.ensures.first)
+    omega (arith, was.flags, c.requires.task.as_many, head_inside _ _ _ _ _ _ _ c.in-Some.event was.queue_is c.in-Some.ensures.moved c.in-Some.ensures.first)
 
 pub settle-requires-clause-reached : goal.settle-requires-clause-reached
 settle-requires-clause-reached g c =
     let was = c.loop-event.invariant.settled in
-    let within : c.in-Some.event.node < length c.loop-event.self.settled.items = omega (arith, was.flags, was.many, head_inside _ _ _ _ _ _ c.in-Some.event was.queue_is c.in-Some.ensures.moved c.in-Some.ensures.first) in
-    let off : slice_index_or c.loop-event.self.settled.items c.in-Some.event.node false ≡ false = sym (read_flag c.loop-event.self.settled.items c.in-Some.event.node c.index.result.now within c.index.ensures) ∙ c.if-not-index.true in
-    head_arrives _ _ _ _ _ _ c.in-Some.event was.queue_is c.in-Some.ensures.moved c.in-Some.ensures.first off
+    sym (read_at c.loop-event.self.arrival.items c.in-Some.event.node c.index-then-not-index.result.now (head_inside _ _ _ _ _ _ _ c.in-Some.event was.queue_is c.in-Some.ensures.moved c.in-Some.ensures.first) c.index-then-not-index.ensures)
 
 pub settle-requires-clause-real : goal.settle-requires-clause-real
-settle-requires-clause-real g c = head_real _ _ _ _ _ _ c.in-Some.event c.loop-event.invariant.settled.queue_is c.in-Some.ensures.moved c.in-Some.ensures.first
+settle-requires-clause-real g c =
+    let was = c.loop-event.invariant.settled in
+    let within : c.in-Some.event.node < length c.loop-event.self.settled.items = omega (arith, was.flags, was.many, head_inside _ _ _ _ _ _ _ c.in-Some.event was.queue_is c.in-Some.ensures.moved c.in-Some.ensures.first) in
+    let off : slice_index_or c.loop-event.self.settled.items c.in-Some.event.node false ≡ false = sym (read_flag c.loop-event.self.settled.items c.in-Some.event.node c.index.result.now within c.index.ensures) ∙ c.if-not-index.true in
+    let at = read_at c.loop-event.self.arrival.items c.in-Some.event.node c.index-then-not-index.result.now (omega (arith, was.many, was.flags, within)) c.index-then-not-index.ensures in
+    rw at (next_way c.args.forward.now.task.now c.requires.task _ _ _ _ _ _ _ c.in-Some.event was c.in-Some.ensures.moved c.in-Some.ensures.first off)
 
 pub settle-requires-clause-few_hops : goal.settle-requires-clause-few_hops
-settle-requires-clause-few_hops g c = head_few _ _ _ _ _ _ c.in-Some.event c.loop-event.invariant.settled.queue_is c.in-Some.ensures.moved c.in-Some.ensures.first
+settle-requires-clause-few_hops g c = head_few _ _ _ _ _ _ _ c.in-Some.event c.loop-event.invariant.settled.queue_is c.in-Some.ensures.moved c.in-Some.ensures.first
 
 pub settle-requires-clause-state : goal.settle-requires-clause-state
 settle-requires-clause-state g c =
     let was = c.loop-event.invariant.settled in
-    let within : c.in-Some.event.node < length c.loop-event.self.settled.items = omega (arith, was.flags, was.many, head_inside _ _ _ _ _ _ c.in-Some.event was.queue_is c.in-Some.ensures.moved c.in-Some.ensures.first) in
+    let within : c.in-Some.event.node < length c.loop-event.self.settled.items = omega (arith, was.flags, was.many, head_inside _ _ _ _ _ _ _ c.in-Some.event was.queue_is c.in-Some.ensures.moved c.in-Some.ensures.first) in
     let off : slice_index_or c.loop-event.self.settled.items c.in-Some.event.node false ≡ false = sym (read_flag c.loop-event.self.settled.items c.in-Some.event.node c.index.result.now within c.index.ensures) ∙ c.if-not-index.true in
-    next_state c.args.forward.now.task.now c.requires.task _ _ _ _ _ _ c.in-Some.event was c.in-Some.ensures.moved c.in-Some.ensures.first off
+    let at = read_at c.loop-event.self.arrival.items c.in-Some.event.node c.index-then-not-index.result.now (omega (arith, was.many, was.flags, within)) c.index-then-not-index.ensures in
+    rw at (next_state c.args.forward.now.task.now c.requires.task _ _ _ _ _ _ _ c.in-Some.event was c.in-Some.ensures.moved c.in-Some.ensures.first off c.requires.bound)
 
 pub links-links-requires-clause-node : goal.links-links-requires-clause-node
 links-links-requires-clause-node g c =
     let was = c.loop-event.invariant.settled in
-    omega (arith, was.flags, c.requires.task.as_many, head_inside _ _ _ _ _ _ c.in-Some.event was.queue_is c.in-Some.ensures.moved c.in-Some.ensures.first)
+    omega (arith, was.flags, c.requires.task.as_many, head_inside _ _ _ _ _ _ _ c.in-Some.event was.queue_is c.in-Some.ensures.moved c.in-Some.ensures.first)
 
 pub returns-then-links-most-clause-none : goal.returns-then-links-most-clause-none
 returns-then-links-most-clause-none g c =
     let was = c.loop-event.invariant.settled in
-    let within : c.in-Some.event.node < length c.loop-event.self.settled.items = omega (arith, was.flags, was.many, head_inside _ _ _ _ _ _ c.in-Some.event was.queue_is c.in-Some.ensures.moved c.in-Some.ensures.first) in
+    let within : c.in-Some.event.node < length c.loop-event.self.settled.items = omega (arith, was.flags, was.many, head_inside _ _ _ _ _ _ _ c.in-Some.event was.queue_is c.in-Some.ensures.moved c.in-Some.ensures.first) in
     let off : slice_index_or c.loop-event.self.settled.items c.in-Some.event.node false ≡ false = sym (read_flag c.loop-event.self.settled.items c.in-Some.event.node c.index.result.now within c.index.ensures) ∙ c.if-not-index.true in
-    let most = next_most c.args.forward.now.task.now c.requires.task _ _ _ _ _ _ c.in-Some.event was c.in-Some.ensures.moved c.in-Some.ensures.first off in
+    let most = next_most c.args.forward.now.task.now c.requires.task _ _ _ _ _ _ _ c.in-Some.event was c.in-Some.ensures.moved c.in-Some.ensures.first off in
     omega (arith, most, c.loop-event.invariant.counted, c.loop-event.invariant.limit, c.if-links-most.true, c.links-links.ensures.few)
 
 pub returns-in_err-best-2-clause-counted : goal.returns-in_err-best-2-clause-counted
 returns-in_err-best-2-clause-counted g c =
     let was = c.loop-event.invariant.settled in
-    let within : c.in-Some.event.node < length c.loop-event.self.settled.items = omega (arith, was.flags, was.many, head_inside _ _ _ _ _ _ c.in-Some.event was.queue_is c.in-Some.ensures.moved c.in-Some.ensures.first) in
+    let within : c.in-Some.event.node < length c.loop-event.self.settled.items = omega (arith, was.flags, was.many, head_inside _ _ _ _ _ _ _ c.in-Some.event was.queue_is c.in-Some.ensures.moved c.in-Some.ensures.first) in
     let off : slice_index_or c.loop-event.self.settled.items c.in-Some.event.node false ≡ false = sym (read_flag c.loop-event.self.settled.items c.in-Some.event.node c.index.result.now within c.index.ensures) ∙ c.if-not-index.true in
-    let most = next_most c.args.forward.now.task.now c.requires.task _ _ _ _ _ _ c.in-Some.event was c.in-Some.ensures.moved c.in-Some.ensures.first off in
+    let most = next_most c.args.forward.now.task.now c.requires.task _ _ _ _ _ _ _ c.in-Some.event was c.in-Some.ensures.moved c.in-Some.ensures.first off in
     omega (arith, most, c.loop-event.invariant.counted, c.settle.ensures.looks, c.links-links.ensures.few)
 
 pub loop-event-smaller-then-not-index : goal.loop-event-smaller-then-not-index
 loop-event-smaller-then-not-index g c =
     let was = c.loop-event.invariant.settled in
-    let within : c.in-Some.event.node < length c.loop-event.self.settled.items = omega (arith, was.flags, was.many, head_inside _ _ _ _ _ _ c.in-Some.event was.queue_is c.in-Some.ensures.moved c.in-Some.ensures.first) in
+    let within : c.in-Some.event.node < length c.loop-event.self.settled.items = omega (arith, was.flags, was.many, head_inside _ _ _ _ _ _ _ c.in-Some.event was.queue_is c.in-Some.ensures.moved c.in-Some.ensures.first) in
     let off : slice_index_or c.loop-event.self.settled.items c.in-Some.event.node false ≡ false = sym (read_flag c.loop-event.self.settled.items c.in-Some.event.node c.index.result.now within c.index.ensures) ∙ c.if-not-index.true in
-    let most = next_most c.args.forward.now.task.now c.requires.task _ _ _ _ _ _ c.in-Some.event was c.in-Some.ensures.moved c.in-Some.ensures.first off in
+    let most = next_most c.args.forward.now.task.now c.requires.task _ _ _ _ _ _ _ c.in-Some.event was c.in-Some.ensures.moved c.in-Some.ensures.first off in
     let shorter : length c.loop-event.self.queue ≡ suc (length c.pop.new.self) = sym (length_permutation _ _ c.in-Some.ensures.moved) in
     omega (arith, most, c.settle.ensures.looks, c.links-links.ensures.few, c.loop-event.invariant.counted, c.in_ok-best-2.ensures.pushes)
 
@@ -78,14 +86,15 @@ pub loop-event-preserved-then-not-index : goal.loop-event-preserved-then-not-ind
 loop-event-preserved-then-not-index g c =
     let task = c.args.forward.now.task.now in
     let was = c.loop-event.invariant.settled in
-    let within : c.in-Some.event.node < length c.loop-event.self.settled.items = omega (arith, was.flags, was.many, head_inside _ _ _ _ _ _ c.in-Some.event was.queue_is c.in-Some.ensures.moved c.in-Some.ensures.first) in
+    let within : c.in-Some.event.node < length c.loop-event.self.settled.items = omega (arith, was.flags, was.many, head_inside _ _ _ _ _ _ _ c.in-Some.event was.queue_is c.in-Some.ensures.moved c.in-Some.ensures.first) in
     let off : slice_index_or c.loop-event.self.settled.items c.in-Some.event.node false ≡ false = sym (read_flag c.loop-event.self.settled.items c.in-Some.event.node c.index.result.now within c.index.ensures) ∙ c.if-not-index.true in
+    let arrives = read_at c.loop-event.self.arrival.items c.in-Some.event.node c.index-then-not-index.result.now (omega (arith, was.many, was.flags, within)) c.index-then-not-index.ensures in
     let settled = c.in_ok-best-2.ensures in
     record {
-      counted = next_counted task c.requires.task _ _ _ _ _ _ c.in-Some.event was c.in-Some.ensures.moved c.in-Some.ensures.first off _ _ _ settled.settled (omega (arith, settled.looks, c.links-links.ensures.few, c.loop-event.invariant.counted));
+      counted = next_counted task c.requires.task _ _ _ _ _ _ _ c.in-Some.event was c.in-Some.ensures.moved c.in-Some.ensures.first off _ _ _ settled.settled (omega (arith, settled.looks, c.links-links.ensures.few, c.loop-event.invariant.counted));
       limit = omega (arith, settled.looks, c.if-links-most.false, c.loop-event.invariant.limit);
-      settled = next_settled task c.requires.task _ _ _ _ _ _ c.in-Some.event was c.in-Some.ensures.moved c.in-Some.ensures.first off _ _ _ _
-          settled.settled settled.state settled.fallen settled.taken;
+      settled = next_settled task c.requires.task _ _ _ _ _ _ _ c.in-Some.event was c.in-Some.ensures.moved c.in-Some.ensures.first off _ _ _ _
+          settled.settled (rw arrives at settled.state) settled.fallen settled.taken;
     }
 
 pub loop-event-smaller : goal.loop-event-smaller
@@ -96,32 +105,32 @@ loop-event-smaller g c =
 pub loop-event-preserved : goal.loop-event-preserved
 loop-event-preserved g c =
     let was = c.loop-event.invariant.settled in
-    let within : c.in-Some.event.node < length c.loop-event.self.settled.items = omega (arith, was.flags, was.many, head_inside _ _ _ _ _ _ c.in-Some.event was.queue_is c.in-Some.ensures.moved c.in-Some.ensures.first) in
+    let within : c.in-Some.event.node < length c.loop-event.self.settled.items = omega (arith, was.flags, was.many, head_inside _ _ _ _ _ _ _ c.in-Some.event was.queue_is c.in-Some.ensures.moved c.in-Some.ensures.first) in
     let on = sym (read_flag c.loop-event.self.settled.items c.in-Some.event.node c.index.result.now within c.index.ensures) ∙ c.if-not-index.false in
     record {
       counted = c.loop-event.invariant.counted;
       limit = c.loop-event.invariant.limit;
-      settled = settled_stale _ _ _ _ _ _ _ was (queue_stale _ _ _ _ _ _ c.in-Some.event was.queue_is c.in-Some.ensures.moved c.in-Some.ensures.first on);
+      settled = settled_stale _ _ _ _ _ _ _ _ was (queue_stale _ _ _ _ _ _ _ c.in-Some.event was.queue_is c.in-Some.ensures.moved c.in-Some.ensures.first on);
     }
 
 pub returns-then-event-best-clause-first : goal.returns-then-event-best-clause-first
 returns-then-event-best-clause-first g c =
     let was = c.loop-event.invariant.settled in
-    first_found c.args.forward.now.task.now c.requires.task _ c.requires.bound _ _ _ c.loop-event.best was
-    (λ f there. omega (arith, c.if-event-best.true, waits_later _ _ _ _ _ _ c.in-Some.event was.queue_is c.in-Some.ensures.moved c.in-Some.ensures.first f there))
+    first_found c.args.forward.now.task.now c.requires.task _ _ c.requires.bound _ _ _ c.loop-event.best was
+    (λ f there. omega (arith, c.if-event-best.true, waits_later _ _ _ _ _ _ _ c.in-Some.event was.queue_is c.in-Some.ensures.moved c.in-Some.ensures.first f there))
 
 pub returns-clause-first : goal.returns-clause-first
 returns-clause-first g c =
-    first_found c.args.forward.now.task.now c.requires.task _ c.requires.bound _ _ _ c.loop-event.best c.loop-event.invariant.settled
+    first_found c.args.forward.now.task.now c.requires.task _ _ c.requires.bound _ _ _ c.loop-event.best c.loop-event.invariant.settled
     (λ f there. (let none = rw c.in_default.ensures.none at there in absurd (omega (arith, none.1))))
 
 pub returns-then-event-best-clause-arrivals : goal.returns-then-event-best-clause-arrivals
 returns-then-event-best-clause-arrivals g c =
     let was = c.loop-event.invariant.settled in
-    arrivals_found c.args.forward.now.task.now c.requires.task _ c.requires.bound _ _ _ c.loop-event.best was
-    (λ f there. omega (arith, c.if-event-best.true, waits_later _ _ _ _ _ _ c.in-Some.event was.queue_is c.in-Some.ensures.moved c.in-Some.ensures.first f there))
+    arrivals_found c.args.forward.now.task.now c.requires.task _ _ c.requires.bound _ _ _ c.loop-event.best was
+    (λ f there. omega (arith, c.if-event-best.true, waits_later _ _ _ _ _ _ _ c.in-Some.event was.queue_is c.in-Some.ensures.moved c.in-Some.ensures.first f there))
 
 pub returns-clause-arrivals : goal.returns-clause-arrivals
 returns-clause-arrivals g c =
-    arrivals_found c.args.forward.now.task.now c.requires.task _ c.requires.bound _ _ _ c.loop-event.best c.loop-event.invariant.settled
+    arrivals_found c.args.forward.now.task.now c.requires.task _ _ c.requires.bound _ _ _ c.loop-event.best c.loop-event.invariant.settled
     (λ f there. (let none = rw c.in_default.ensures.none at there in absurd (omega (arith, none.1))))

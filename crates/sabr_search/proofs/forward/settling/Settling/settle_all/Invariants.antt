@@ -7,7 +7,7 @@ abbrev pub invariant-loop-event : goal.invariant-loop-event
 invariant-loop-event g l = record {
   counted : l.looks.count + degree l.forward.task.now l.forward.task.now.start ≤ l.fn.looks.count + sent_by_settled l.forward.task.now l.self.settled.items;
   limit : l.looks.count ≤ l.most;
-  settled : AreSettled l.forward.task.now l.forward.late.now l.self.settled.items l.self.arrival.items l.self.queue l.best;
+  settled : AreSettled l.forward.task.now l.forward.late.now l.forward.near.now l.self.settled.items l.self.arrival.items l.self.queue l.best;
 }
 
 abbrev pub decreases-loop-event : goal.decreases-loop-event

@@ -1,4 +1,4 @@
-use Rattle.std.proofs.Common.{◌≡◌, inl, inr, Some, slice_get, slice_index_or, ap, sym, ◌∙◌, arith}
+use Rattle.std.proofs.Common.{◌≡◌, inl, inr, [], refl, Some, slice_get, slice_index_or, ap, sym, ◌∙◌, arith}
 use Rattle.std.proofs.lemmas.Option.{slice_get-get_or, slice_get_within}
 use Rattle.sabr_search.specs.declared.backward.pick.Standing.{Standing}
 use Rattle.sabr_search.specs.questions.Task.{never}
@@ -7,13 +7,16 @@ use Rattle.sabr_search.proofs.ForwardLemmas.Forward.{known_lower, known_old, kno
 use Rattle.sabr_search.proofs.ForwardLemmas.FirstWays.{start_settled}
 use Rattle.sabr_search.proofs.ForwardLemmas.Queues.{fallen_more}
 use Rattle.sabr_search.proofs.forward.settling.Settling.settle_start.Goals as goal
-use Rattle.sabr_search.proofs.forward.settling.Settling.settle_start.Goals.{then-step-news_before+in_ok-best, else-step-news_before}
+use Rattle.sabr_search.proofs.forward.settling.Settling.settle_start.Goals.{then-step-news+in_ok-best, else-step-news}
 
 pub reach-requires-clause-step : goal.reach-requires-clause-step
 reach-requires-clause-step g c = λ open'.
     let none : Standing = record { node = 0; at = 0 } in
     let at = slice_get-get_or c.args.first.now c.loop-place.place none c.loop-place-test.true in
     rw (c.start.ensures, c.at.ensures) (c.requires.real c.loop-place.place _ at)
+
+pub reach-requires-clause-real : goal.reach-requires-clause-real
+reach-requires-clause-real g c = ([], refl, (sym c.start.ensures, sym c.at.ensures))
 
 pub loop-place-preserved : goal.loop-place-preserved
 loop-place-preserved g c =
@@ -24,19 +27,19 @@ loop-place-preserved g c =
     let step : Standing = slice_index_or first i none in
     let here : slice_get first i ≡ Some step = slice_get-get_or first i none c.loop-place-test.true in
     let so_far = c.loop-place.invariant in
-    elim c.if-step-news_before.branch [
-      | then-step-news_before+in_ok-best w ↦ rw (w.self-is, w.best-is)
+    elim c.if-step-news.branch [
+      | then-step-news+in_ok-best w ↦ rw (w.self-is, w.best-is)
           (let gained = rw so_far.settled at w.in_ok-best.ensures.fallen in
           record {
             settled = ap (λ v. v.items) w.reach.ensures.settled ∙ so_far.settled;
             state = rw so_far.settled at w.in_ok-best.ensures.state;
             fallen = fallen_more _ _ _ _ _ _ _ so_far.fallen gained;
             known = λ k s less at. elim (last_or_before k i less) [
-              | inl before ↦ known_lower task.goal _ _ _ _ s.node s.at gained.lowered gained.lower (so_far.known k s before at)
+              | inl before ↦ known_lower task.goal _ _ _ _ s.node s.at gained.lowered (omega (arith, gained.lower)) (so_far.known k s before at)
               | inr same ↦ rw (same_some (sym at ∙ ap (slice_get first) same ∙ here)) w.in_ok-best.ensures.known
             ];
           })
-      | else-step-news_before w ↦ rw (w.self-is, w.best-is)
+      | else-step-news w ↦ rw (w.self-is, w.best-is)
           (record {
             settled = so_far.settled;
             state = so_far.state;
@@ -45,7 +48,7 @@ loop-place-preserved g c =
               | inl before ↦ so_far.known k s before at
               | inr same ↦
                   rw (same_some (sym at ∙ ap (slice_get first) same ∙ here))
-                  (known_old task.goal c.loop-place.self.arrival.items c.loop-place.best.delivery step.node c.news_before.result step.at c.news_before.ensures.goal (rw c.deref.ensures.value at c.news_before.ensures.other) (omega (arith, w.if-step-news_before.false)))
+                  (known_old task.goal c.loop-place.self.arrival.items _ step.node c.news.result step.at c.news.ensures.goal (rw c.deref.ensures.value at c.news.ensures.other) (omega (arith, w.if-step-news.false)))
             ];
           })
     ]
@@ -55,7 +58,7 @@ returns-clause-state g c =
     let forward = c.args.forward.now in
     let task = forward.task.now in
     let so_far = c.loop-place.invariant in
-    start_settled task c.requires.task c.args.self.now.settled.items c.loop-place.self.settled.items c.start.result c.requires.settled c.start.ensures so_far.settled forward.late.now c.args.self.now.arrival.items c.requires.arrivals
+    start_settled task c.requires.task c.args.self.now.settled.items c.loop-place.self.settled.items c.start.result c.requires.settled c.start.ensures so_far.settled forward.late.now forward.near.now c.args.self.now.arrival.items c.requires.arrivals
     c.at.result c.loop-place.self.arrival.items c.loop-place.self.queue (record { delivery = never; hops = 0 }) c.loop-place.best (rw so_far.settled so_far.state) (rw so_far.settled so_far.fallen)
     (λ n w x s.
     (let on = c.requires.steps n w x s in

@@ -1,0 +1,6 @@
+use Rattle.std.proofs.Common.{length}
+use Rattle.sabr_search.specs.layers.Latest.{IsNearBy, AreRising}
+use Rattle.sabr_search.proofs.backward.latest.Latest.near_all.Given as goal
+
+abbrev pub invariant-loop : goal.invariant-loop
+invariant-loop g l = AreRising (IsNearBy l.task) l.task l.self.late.items l.self.taken.items l.self.queue (length l.task.table)

@@ -1,0 +1,117 @@
+//! For each node, how near the destination is, by the bounds of links alone: from the goal backward over the whole graph.
+
+ghost use Rattle.std.specs.Prelude.{◌≡◌, ◌≢◌, ℕ, ◌+◌, ◌≤◌, ◌<◌, [], Some, IfOk, OnOk, IsTrue, false, length, slice_get, slice_index, slice_index_or};
+ghost use Rattle.sabr_search.specs.questions.Task.{IsTask, Takes};
+ghost use Rattle.sabr_search.specs.questions.Linked.{IsLinkWithin, HasNumber};
+ghost use Rattle.sabr_search.specs.questions.FirstSteps.{tabled_of};
+ghost use Rattle.sabr_search.specs.layers.Reach.{AreNearFor};
+ghost use Rattle.sabr_search.specs.layers.Latest.{IsWhole, AreRising, AreTaken, IsNearBy, IsNear};
+
+use crate::backward::latest::Latest;
+use crate::forward::layers::NEVER;
+use crate::forward::queue::Event;
+use crate::task::Task;
+use sabr_index::Sender;
+use sabr_model::{MOST_LIGHT, NoMemory};
+use std::alloc::Allocator;
+
+impl<A: Allocator + Copy> Latest<A> {
+    /// Takes the bounds of one link to a node that is so near.
+    fn near_sender(
+        &mut self,
+        task: &Task<'_, A>,
+        from: Sender<'_>,
+        to: usize,
+        near: u64,
+    ) -> Result<(), NoMemory>
+        requires task { IsTask task.now }
+        requires link { IsLinkWithin task.now from.node to from.passes.now from.bounds }
+        requires node { from.node < length task.now.table }
+        requires rising { AreRising (IsNearBy task.now) task.now self.old.late.items self.old.taken.items self.old.queue to }
+        requires same { slice_index self.old.late.items to ≡ near }
+        ensures rising { OnOk result (AreRising (IsNearBy task.now) task.now self.new.late.items self.new.taken.items self.new.queue to) }
+        ensures same { OnOk result (slice_index self.new.late.items to ≡ near) }
+        ensures rises { OnOk result ((k : ℕ) → slice_index self.old.late.items k ≤ slice_index self.new.late.items k) }
+        ensures told { OnOk result ((n t b : ℕ) → HasNumber from.entry.passes.now n → Takes task.now n from.entry.node t to b → IsNear task.now self.new.late.items from.entry.node t to b) }
+    {
+        let node = from.node;
+        if node == to {
+            return Ok(());
+        }
+        if node == task.goal() {
+            return Ok(());
+        }
+        if task.shut()[node] {
+            return Ok(());
+        }
+        let cost = task.cost(from.bounds.least_light.min(MOST_LIGHT));
+        let latest = self.late[node];
+        let last = near.saturating_sub(cost);
+        if last <= latest {
+            return Ok(());
+        }
+        self.queue.push(Event {
+            at: NEVER - last,
+            rank: 0,
+            hops: 0,
+            node,
+        })?;
+        self.late[node] = last;
+        self.taken[node] = false;
+        Ok(())
+    }
+
+    /// Takes the bounds of every link to a node.
+    fn near_senders(&mut self, task: &Task<'_, A>, to: usize) -> Result<(), NoMemory>
+        requires task { IsTask task.now }
+        requires node { to < length task.now.table }
+        requires rising { AreRising (IsNearBy task.now) task.now self.old.late.items self.old.taken.items self.old.queue to }
+        ensures rising { OnOk result (AreRising (IsNearBy task.now) task.now self.new.late.items self.new.taken.items self.new.queue to) }
+        ensures taken { OnOk result (IsNearBy task.now self.new.late.items to) }
+    {
+        let near = self.late[to];
+        let senders = task.senders(to);
+        for place in 0..senders.len() {
+            let from = senders.at(place);
+            self.near_sender(task, from, to, near)?;
+        }
+        Ok(())
+    }
+
+    /// Takes the links of the nodes that wait, at most so many times. Returns whether none waits then.
+    fn near_all(&mut self, task: &Task<'_, A>, most: u64) -> Result<bool, NoMemory>
+        requires task { IsTask task.now }
+        requires rising { AreRising (IsNearBy task.now) task.now self.old.late.items self.old.taken.items self.old.queue (length task.now.table) }
+        ensures taken { IfOk result (λ all. IsTrue all → AreTaken (IsNearBy task.now) task.now self.new.late.items) }
+    {
+        for _ in 0..most {
+            let Some(event) = self.queue.pop() else {
+                return Ok(true);
+            };
+            if self.taken[event.node] {
+                continue;
+            }
+            self.taken[event.node] = true;
+            self.near_senders(task, event.node)?;
+        }
+        Ok(false)
+    }
+}
+
+/// Returns for each node how near the destination is: `NEVER` less the least sum of the links' least costs on a way over the
+/// whole graph. Nothing is known of any node if the links to nodes would be taken more than `most` times.
+pub fn nearest_of<A: Allocator + Copy>(
+    alloc: A,
+    task: &Task<'_, A>,
+    most: u64,
+) -> Result<Vec<u64, A>, NoMemory>
+    requires whole { IsWhole task.now }
+    ensures near { IfOk result (λ v. AreNearFor (tabled_of task.now) task.now.request v.items) }
+{
+    let mut nearest = Latest::begin(alloc, task)?;
+    let all = nearest.near_all(task, most)?;
+    if !all {
+        return Ok(Vec::new(alloc));
+    }
+    Ok(nearest.late)
+}
