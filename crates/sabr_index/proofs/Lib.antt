@@ -5,5 +5,3 @@ pub mod IncomingLemmas
 pub mod GroupLemmas
 pub mod ContactOrders
 pub mod SenderLemmas
-pub mod Heads
-pub mod TableLemmas

@@ -19,7 +19,7 @@ use Rattle.sabr_model.specs.plan.Plan.{TabledPlan, contact_named, has, are_diffe
 use Rattle.sabr_model.specs.plan.Tabled.{IsTabled}
 use Rattle.sabr_index.specs.Links.{NodeLinks, IsPassOf, IsLinkOf, AreLinksOf, numbers_of, received_by, SentLink, IsLinkTo, AreLinksTo}
 use Rattle.sabr_index.specs.Linking.{AreLinked}
-use Rattle.sabr_index.specs.Incoming.{passes_over, passes_at, passes_named, links_named, AllLieOver, HasLink, HaveReceivers, AreIncoming}
+use Rattle.sabr_index.specs.Incoming.{passes_over, passes_at, passes_named, links_named, LiesOver, LieThere, HasLink, HaveReceivers, AreIncoming}
 use Rattle.sabr_model.proofs.ListLemmas.Different.{different_append, part_at, part_has}
 use Rattle.sabr_index.proofs.PassNumbers.{pass_of_number, number_once, numbers_part}
 use Rattle.sabr_model.proofs.RouteLemmas.Listed.{distinct_from_different}
@@ -69,21 +69,30 @@ in_row_apart links ordered in_row (suc d) j l m at_l at_m =
 
 -- ---- what is known of the links of all nodes
 
--- the links of each node lie over its passes, and each leads to a node of the table
-pub lie_over : (p : TabledPlan) (linked : List NodeLinks) → AreLinked p linked → length linked ≡ length p.table → AllLieOver linked
-lie_over p linked are many i s at j l there =
-    elim ((slice_get_cases p.table i).1) [
-      | inl w ↦
-          let link = (are i w.0 s at w.2).each j l there in (
-            link.ordered,
-            link.within,
-            λ k x here.
-                let p = part_at s.passes l.first (l.end - l.first) k x here in
-                link.bounds (l.first + k) x (omega arith) (omega (arith, p.0)) p.1,
+-- the links to a node lie over the passes of their senders
+pub lie_there : (p : TabledPlan) (linked : List NodeLinks) → AreLinked p linked → length linked ≡ length p.table → (to : ℕ) (incoming : List Incoming) → AreIncoming linked to incoming → LieThere linked incoming
+lie_there p linked are many to incoming are_in k e at =
+    let w = are_in.each k e at in
+    let h = w.0 in
+    elim ((slice_get_cases p.table e.sender).1) [
+      | inl v ↦
+          let l = h.link in
+          let link = (are e.sender v.0 h.node h.at v.2).each e.place l h.there in (
+            h.node,
+            h.at,
+            h.there ∙ ap Some w.1,
+            subst (LiesOver h.node.passes) w.1 (
+              link.ordered,
+              link.within,
+              λ m x here.
+                  let p = part_at h.node.passes l.first (l.end - l.first) m x here in
+                  link.bounds (l.first + m) x (omega arith) (omega (arith, p.0)) p.1,
+            ),
           )
-      | inr past ↦ absurd (let behind = past.0 in let within = slice_get_within linked i s at in omega (arith, behind, within, many))
+      | inr past ↦ absurd (let behind = past.0 in let within = slice_get_within linked e.sender h.node h.at in omega (arith, behind, within, many))
     ]
 
+-- each link leads to a node of the table
 pub have_receivers : (p : TabledPlan) (linked : List NodeLinks) → AreLinked p linked → length linked ≡ length p.table → HaveReceivers linked
 have_receivers p linked are many i j to has =
     elim ((slice_get_cases p.table i).1) [
@@ -104,7 +113,7 @@ record IsHere (p : TabledPlan) (linked : List NodeLinks) (to : ℕ) (e : Incomin
   link : Link
   sender : slice_get p.table e.sender ≡ Some from
   node_at : slice_get linked e.sender ≡ Some node_links
-  link_at : slice_get node_links.links e.link ≡ Some link
+  link_at : slice_get node_links.links e.place ≡ Some link
   receiver : link.receiver ≡ to
   links : AreLinksOf p from node_links.links node_links.passes
   is : IsLinkOf p from node_links.passes link
@@ -126,7 +135,7 @@ abbrev all_numbers : List NodeLinks → List Incoming → List ℕ
 all_numbers linked es = flat_map (λ e. numbers_of (passes_named linked e)) es
 
 module _ (p : TabledPlan) (linked : List NodeLinks) (are : AreLinked p linked) (many : length linked ≡ length p.table) (tabled : IsTabled p) (to node : ℕ) (at : slice_get p.table to ≡ Some node) where
-  here : (e : Incoming) → HasLink linked e.sender e.link to → IsHere p linked to e
+  here : (e : Incoming) → HasLink linked e.sender e.place to → IsHere p linked to e
   here e has =
       elim ((slice_get_cases p.table e.sender).1) [
         | inl w ↦
@@ -140,8 +149,8 @@ module _ (p : TabledPlan) (linked : List NodeLinks) (are : AreLinked p linked) (
               link_at = has.there;
               receiver = has.receiver;
               links = links;
-              is = links.each e.link has.link has.there;
-              passes = ap (λ (o : Option NodeLinks). option_map_or (λ s. passes_at s e.link) o []) has.at ∙ ap (λ (o : Option Link). option_map_or (passes_over has.node.passes) o []) has.there;
+              is = links.each e.place has.link has.there;
+              passes = ap (λ (o : Option NodeLinks). option_map_or (λ s. passes_at s e.place) o []) has.at ∙ ap (λ (o : Option Link). option_map_or (passes_over has.node.passes) o []) has.there;
             }
         | inr past ↦ absurd (let behind = past.0 in let within = slice_get_within linked e.sender has.node has.at in omega (arith, behind, within, many))
       ]
@@ -194,7 +203,7 @@ module _ (p : TabledPlan) (linked : List NodeLinks) (are : AreLinked p linked) (
       }
 
   -- two names whose passes have a number are one name
-  one_name : (e f : Incoming) (n : ℕ) → HasPass p linked to node e n → HasPass p linked to node f n → (e.sender ≡ f.sender) × (e.link ≡ f.link)
+  one_name : (e f : Incoming) (n : ℕ) → HasPass p linked to node e n → HasPass p linked to node f n → (e.sender ≡ f.sender) × (e.place ≡ f.place)
   one_name e f n a b =
       let one : a.is.contact ≡ b.is.contact = same_Some a.is.contact b.is.contact (sym a.is.named ∙ ap (contact_named p.plan) (a.number ∙ sym b.number) ∙ b.is.named) in
       let from : a.h.from ≡ b.h.from = sym a.is.sender ∙ ap (λ (c : Contact). c.from) one ∙ b.is.sender in
@@ -203,23 +212,23 @@ module _ (p : TabledPlan) (linked : List NodeLinks) (are : AreLinked p linked) (
       let links = a.h.links in
       let ls = a.h.node_links.links in
       let there : slice_get a.h.node_links.passes b.place ≡ Some b.x = ap (λ (s : NodeLinks). slice_get s.passes b.place) nodes ∙ b.there in
-      let link_there : slice_get ls f.link ≡ Some b.h.link = ap (λ (s : NodeLinks). slice_get s.links f.link) nodes ∙ b.h.link_at in
+      let link_there : slice_get ls f.place ≡ Some b.h.link = ap (λ (s : NodeLinks). slice_get s.links f.place) nodes ∙ b.h.link_at in
       let place : a.place ≡ b.place = number_once a.h.node_links.passes a.place b.place a.x b.x links.once a.there there (a.number ∙ sym b.number) in
       let ordered = λ (j : ℕ) (l : Link) (e : slice_get ls j ≡ Some l). (links.each j l e).ordered in (
         senders,
-        elim (cases_eq e.link f.link) [
+        elim (cases_eq e.place f.place) [
           | inl same ↦ same
           | inr other ↦
-              elim (cases_lt e.link f.link) [
+              elim (cases_lt e.place f.place) [
                 | inl less ↦ absurd (
-                    let d = f.link - e.link - 1 in
-                    let next : f.link ≡ e.link + d + 1 = omega (arith, less) in
-                    let apart = in_row_apart ls ordered links.in_row d e.link a.h.link b.h.link a.h.link_at (ap (slice_get ls) (sym next) ∙ link_there) in
+                    let d = f.place - e.place - 1 in
+                    let next : f.place ≡ e.place + d + 1 = omega (arith, less) in
+                    let apart = in_row_apart ls ordered links.in_row d e.place a.h.link b.h.link a.h.link_at (ap (slice_get ls) (sym next) ∙ link_there) in
                     omega (arith, apart, place, a.last, b.first))
                 | inr le ↦ absurd (
-                    let d = e.link - f.link - 1 in
-                    let next : e.link ≡ f.link + d + 1 = omega (arith, le, other) in
-                    let apart = in_row_apart ls ordered links.in_row d f.link b.h.link a.h.link link_there (ap (slice_get ls) (sym next) ∙ a.h.link_at) in
+                    let d = e.place - f.place - 1 in
+                    let next : e.place ≡ f.place + d + 1 = omega (arith, le, other) in
+                    let apart = in_row_apart ls ordered links.in_row d f.place b.h.link a.h.link link_there (ap (slice_get ls) (sym next) ∙ a.h.link_at) in
                     omega (arith, apart, place, b.last, a.first))
               ]
         ],
@@ -237,7 +246,7 @@ module _ (p : TabledPlan) (linked : List NodeLinks) (are : AreLinked p linked) (
       ]
 
   all_differ : (es : List Incoming) → ((k : ℕ) (e : Incoming) → slice_get es k ≡ Some e → IsHere p linked to e)
-      → ((i k : ℕ) (e f : Incoming) → slice_get es i ≡ Some e → slice_get es k ≡ Some f → e.sender ≡ f.sender → e.link ≡ f.link → i ≡ k) → are_different (all_numbers linked es) ≡ true
+      → ((i k : ℕ) (e f : Incoming) → slice_get es i ≡ Some e → slice_get es k ≡ Some f → e.sender ≡ f.sender → e.place ≡ f.place → i ≡ k) → are_different (all_numbers linked es) ≡ true
   all_differ [] each once = refl
   all_differ (e ∷ es) each once =
       let h = each 0 e refl in
@@ -268,7 +277,7 @@ module _ (p : TabledPlan) (linked : List NodeLinks) (are : AreLinked p linked) (
 
   pub links_to : (es : List Incoming) → AreIncoming linked to es → AreLinksTo p node (links_named linked es)
   links_to es incoming =
-      let each_here = λ (k : ℕ) (e : Incoming) (at_e : slice_get es k ≡ Some e). here e (incoming.each k e at_e) in
+      let each_here = λ (k : ℕ) (e : Incoming) (at_e : slice_get es k ≡ Some e). here e (incoming.each k e at_e).0 in
       record {
         each = λ j s at_s.
             let w = mapped_at (λ (e : Incoming). record { sender = e.sender; passes = passes_named linked e }) es j s at_s in
@@ -289,11 +298,11 @@ module _ (p : TabledPlan) (linked : List NodeLinks) (are : AreLinked p linked) (
                   let index : l.receiver ≡ to = place_one p.table l.receiver to node tabled.once (is.receiver ∙ ap Some to_is) at in
                   let found = incoming.whole i f.0 (record { node = w.0; link = l; at = w.2; there = f.4; receiver = index }) in
                   let e = found.1 in
-                  let h : HasLink linked e.sender e.link to = incoming.each found.0 e found.2 in
+                  let h : HasLink linked e.sender e.place to = (incoming.each found.0 e found.2).0 in
                   let node_at : slice_get linked e.sender ≡ Some w.0 = ap (slice_get linked) found.3 ∙ w.2 in
-                  let link_at : slice_get w.0.links e.link ≡ Some l = ap (slice_get w.0.links) found.4 ∙ f.4 in
+                  let link_at : slice_get w.0.links e.place ≡ Some l = ap (slice_get w.0.links) found.4 ∙ f.4 in
                   let passes : passes_named linked e ≡ passes_over w.0.passes l =
-                  ap (λ (o : Option NodeLinks). option_map_or (λ s. passes_at s e.link) o []) node_at ∙ ap (λ (o : Option Link). option_map_or (passes_over w.0.passes) o []) link_at in (
+                  ap (λ (o : Option NodeLinks). option_map_or (λ s. passes_at s e.place) o []) node_at ∙ ap (λ (o : Option Link). option_map_or (passes_over w.0.passes) o []) link_at in (
                     found.0,
                     f.1 - l.first,
                     record { sender = e.sender; passes = passes_named linked e },

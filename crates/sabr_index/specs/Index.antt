@@ -2,18 +2,16 @@
 use Rattle.std.specs.Prelude.{◌≡◌, ℕ, ◌+◌, List, length}
 use Rattle.sabr_model.specs.plan.Plan.{TabledPlan}
 use Rattle.sabr_model.specs.plan.Tabled.{IsTabled}
-use Rattle.sabr_index.specs.declared.link.SenderHead.{SenderHead}
 use Rattle.sabr_index.specs.declared.senders.Incoming.{Incoming}
 use Rattle.sabr_index.specs.Links.{NodeLinks}
 use Rattle.sabr_index.specs.Linking.{AreLinked}
-use Rattle.sabr_index.specs.Incoming.{AreGrouped, AreSpans, AreHeads}
+use Rattle.sabr_index.specs.Incoming.{AreGrouped, AreSpans}
 
--- the links of each node of the table, and by node the names and the heads of the links to it
-pub record IsIndex (p : TabledPlan) (linked : List NodeLinks) (starts : List ℕ) (named : List Incoming) (heads : List SenderHead) : Type 0 where
+-- the links of each node of the table, and by node the links to it
+pub record IsIndex (p : TabledPlan) (linked : List NodeLinks) (starts : List ℕ) (named : List Incoming) : Type 0 where
   pub tabled : IsTabled p
   pub as_many : length linked ≡ length p.table
   pub links : AreLinked p linked
   pub begins : length starts ≡ length p.table + 1
   pub spans : AreSpans starts (length named)
   pub grouped : AreGrouped linked starts named
-  pub tops : AreHeads linked named heads

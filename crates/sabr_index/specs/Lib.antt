@@ -3,4 +3,3 @@ pub mod Linking
 pub mod Incoming
 pub mod Grouping
 pub mod Index
-pub mod Table

@@ -1,6 +1,6 @@
 //! How the links of each node are built.
 
-ghost use Rattle.std.specs.Prelude.{◌≡◌, ◌<◌, ℕ, IfOk, OnOk, MatchOption, length, map, slice_index};
+ghost use Rattle.std.specs.Prelude.{◌≡◌, ◌<◌, ℕ, IfOk, MatchOption, length, map, slice_index};
 ghost use Rattle.sabr_index.specs.Grouping.{AreByNode, AreStanding, numbers_of_places};
 ghost use Rattle.sabr_index.specs.Links.{AreLinksOf};
 ghost use Rattle.sabr_index.specs.Linking.{AreSent, HasNoLight, IsContactPass, IsBounded, AreBounded, ArePassesOf, AreLinked};
@@ -9,7 +9,7 @@ use crate::bounds::order_passes;
 use crate::link::{Link, Pass};
 use crate::order::ContactOrder;
 use crate::rows::write_links;
-use crate::table::LinkTable;
+use crate::table::{KeptLinks, LinkTable};
 use sabr_model::Plan;
 use std::alloc::{AllocError, Allocator};
 
@@ -24,54 +24,56 @@ pub fn link_nodes<A: Allocator + Copy>(
     ensures as_many { IfOk result (λ t. length t ≡ length plan.now.table) }
 {
     let count = plan.nodes();
-    let mut table = LinkTable::with_capacity(alloc, count, order.places.len())?;
+    let mut table = LinkTable::with_capacity(alloc, count)?;
     let mut places = Vec::new(alloc);
-    let mut passes = Vec::new(alloc);
     let mut links = Vec::new(alloc);
     for index in 0..count {
         places.clear();
         order.senders.push_places(index, &mut places)?;
-        write_node(plan, order, &places, &mut passes, &mut links)?;
-        table.push(&links, &passes)?;
+        let node = links_at(alloc, plan, order, &places, &mut links)?;
+        table.push(node)?;
     }
     Ok(table)
 }
 
-/// Writes the passes of the contacts at these places of the order, and the links over them.
-fn write_node<A: Allocator + Copy>(
+/// Makes the links over the contacts at these places of the order. They are written into a list that is used again, and
+/// copied into one that has no more room than they take.
+fn links_at<A: Allocator + Copy>(
+    alloc: A,
     plan: &Plan<A>,
     order: &ContactOrder<A>,
     places: &[usize],
-    passes: &mut Vec<Pass, A>,
-    links: &mut Vec<Link, A>,
-) -> Result<(), AllocError>
+    written: &mut Vec<Link, A>,
+) -> Result<KeptLinks<A>, AllocError>
     requires { AreStanding plan.now.plan.contacts order.now.places.items places.now }
-    ensures { OnOk result ((node : ℕ) → AreSent plan.now.plan node (numbers_of_places plan.now.plan.contacts order.now.places.items places.now) → AreLinksOf plan.now node links.new.items passes.new.items) }
+    ensures { IfOk result (λ s. (node : ℕ) → AreSent plan.now.plan node (numbers_of_places plan.now.plan.contacts order.now.places.items places.now) → AreLinksOf plan.now node s.links.items s.passes.items) }
 {
-    write_passes(plan, order, places, passes)?;
-    order_passes(passes);
-    write_links(passes, links)?;
-    Ok(())
+    let mut passes = passes_at(alloc, plan, order, places)?;
+    order_passes(&mut passes);
+    write_links(&passes, written)?;
+    let mut links = Vec::new(alloc);
+    links.extend_from_slice(written)?;
+    Ok(KeptLinks { links, passes })
 }
 
-/// Writes the passes of those contacts at these places of the order that have a light time.
-fn write_passes<A: Allocator + Copy>(
+/// Makes the passes of those contacts at these places of the order that have a light time.
+fn passes_at<A: Allocator + Copy>(
+    alloc: A,
     plan: &Plan<A>,
     order: &ContactOrder<A>,
     places: &[usize],
-    passes: &mut Vec<Pass, A>,
-) -> Result<(), AllocError>
+) -> Result<Vec<Pass, A>, AllocError>
     requires { AreStanding plan.now.plan.contacts order.now.places.items places.now }
-    ensures are { OnOk result (ArePassesOf plan.now (numbers_of_places plan.now.plan.contacts order.now.places.items places.now) passes.new.items) }
-    ensures bounded { OnOk result (AreBounded passes.new.items) }
+    ensures are { IfOk result (λ v. ArePassesOf plan.now (numbers_of_places plan.now.plan.contacts order.now.places.items places.now) v.items) }
+    ensures bounded { IfOk result (λ v. AreBounded v.items) }
 {
-    passes.clear();
+    let mut passes = Vec::with_capacity(alloc, places.len())?;
     for place in places {
         if let Some(pass) = pass_of(plan, order.places[*place]) {
             passes.push(pass)?;
         }
     }
-    Ok(())
+    Ok(passes)
 }
 
 /// Makes the pass of the contact at a place, bounded by itself alone, or none if it has no light time.

@@ -35,7 +35,7 @@ impl<'p, A: Allocator + Copy> Model for Index<'p, A> {
 
     ghost view = { λ i. i.plan.now };
 
-    ghost invariant = { λ i. IsIndex i.plan.now i.linked i.incoming.starts.items i.incoming.named.items i.incoming.heads.items };
+    ghost invariant = { λ i. IsIndex i.plan.now i.linked i.incoming.starts.items i.incoming.named.items };
 }
 
 impl<'p, A: Allocator + Copy> Index<'p, A> {
@@ -92,7 +92,6 @@ impl<'p, A: Allocator + Copy> Index<'p, A> {
         requires { index < length self.now.table }
         ensures { (node : ℕ) → slice_get self.now.table index ≡ Some node → AreLinksTo self.now node result }
     {
-        let (incoming, heads) = self.incoming.of(index);
-        Senders::over(incoming, heads, &self.linked)
+        Senders::over(self.incoming.of(index), &self.linked)
     }
 }

@@ -6,53 +6,42 @@ use crate::link::{Link, Links, Pass};
 use std::alloc::{AllocError, Allocator};
 use std::marker::Model;
 
-/// Where the links of a node stand among those of all nodes, and where its passes.
-#[derive(Clone, Copy)]
-pub struct Span {
-    pub first_link: usize,
-    pub end_link: usize,
-    pub first_pass: usize,
-    pub end_pass: usize,
+/// What the table keeps of one node: its links, and the passes that they lie over, one link after another.
+#[derive(Drop)]
+pub struct KeptLinks<A: Allocator + Copy> {
+    pub links: Vec<Link, A>,
+    pub passes: Vec<Pass, A>,
 }
 
-/// The links of all nodes side by side, and so their passes, and for each node its span. Contracts see the links and
-/// passes of each node.
+/// The links of each node. Contracts see the list of them.
 #[derive(Drop)]
 pub struct LinkTable<A: Allocator + Copy> {
-    links: Vec<Link, A>,
-    passes: Vec<Pass, A>,
-    spans: Vec<Span, A>,
+    nodes: Vec<KeptLinks<A>, A>,
 }
 
 impl<A: Allocator + Copy> Model for LinkTable<A> {
-    ghost use Rattle.std.specs.Prelude.{List};
+    ghost use Rattle.std.specs.Prelude.{List, map};
     ghost use Rattle.sabr_index.specs.Links.{NodeLinks};
-    ghost use Rattle.sabr_index.specs.Table.{nodes_over, AreSpansOf};
 
     ghost Value = { List NodeLinks };
 
-    ghost view = { λ t. nodes_over t.links.items t.passes.items t.spans.items };
-
-    ghost invariant = { λ t. AreSpansOf t.links.items t.passes.items t.spans.items };
+    ghost view = { λ t. map (λ n. record { links = n.links.items; passes = n.passes.items }) t.nodes.items };
 }
 
 impl<A: Allocator + Copy> LinkTable<A> {
-    /// No links, with room for so many nodes and passes.
-    pub fn with_capacity(alloc: A, nodes: usize, passes: usize) -> Result<LinkTable<A>, AllocError>
+    /// No links, with room for so many nodes.
+    pub fn with_capacity(alloc: A, count: usize) -> Result<LinkTable<A>, AllocError>
         ensures { IfOk result (λ t. t ≡ []) }
     {
-        Ok(LinkTable {
-            links: Vec::new(alloc),
-            passes: Vec::with_capacity(alloc, passes)?,
-            spans: Vec::with_capacity(alloc, nodes)?,
-        })
+        let nodes = Vec::with_capacity(alloc, count)?;
+        Ok(LinkTable { nodes })
     }
 
     /// How many nodes there are.
     pub fn len(&self) -> usize
         ensures { result ≡ length self.now }
     {
-        self.spans.len()
+        self.nodes.len()
     }
 
     /// The links of the node at an index.
@@ -60,27 +49,18 @@ impl<A: Allocator + Copy> LinkTable<A> {
         requires { index < length self.now }
         ensures { slice_get self.now index ≡ Some (record { links = result.links.now; passes = result.passes.now }) }
     {
-        let span = self.spans[index];
+        let node = &self.nodes[index];
         Links {
-            links: &self.links[span.first_link..span.end_link],
-            passes: &self.passes[span.first_pass..span.end_pass],
+            links: &node.links,
+            passes: &node.passes,
         }
     }
 
     /// Adds the links of the next node.
-    pub fn push(&mut self, links: &[Link], passes: &[Pass]) -> Result<(), AllocError>
-        ensures { OnOk result (self.new ≡ self.old ++ (record { links = links.now; passes = passes.now }) ∷ []) }
+    pub fn push(&mut self, node: KeptLinks<A>) -> Result<(), AllocError>
+        ensures { OnOk result (self.new ≡ self.old ++ (record { links = node.links.items; passes = node.passes.items }) ∷ []) }
     {
-        let first_link = self.links.len();
-        let first_pass = self.passes.len();
-        self.links.extend_from_slice(links)?;
-        self.passes.extend_from_slice(passes)?;
-        self.spans.push(Span {
-            first_link,
-            end_link: self.links.len(),
-            first_pass,
-            end_pass: self.passes.len(),
-        })?;
+        self.nodes.push(node)?;
         Ok(())
     }
 }

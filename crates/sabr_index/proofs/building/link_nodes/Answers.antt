@@ -8,8 +8,8 @@ use Rattle.sabr_index.proofs.ContactOrders.{in_at}
 use Rattle.sabr_index.proofs.LinkLemmas.{linked_more}
 use Rattle.sabr_index.proofs.building.link_nodes.Goals as goal
 
-pub write_node-requires : goal.write_node-requires
-write_node-requires g c =
+pub links_at-requires : goal.links_at-requires
+links_at-requires g c =
     let h = c.requires in
     let i = c.loop-index.index in
     let places = places_of h.senders i (length h.senders) in
@@ -28,13 +28,12 @@ loop-index-preserved g c =
     let i = c.loop-index.index in
     let places = places_of h.senders i (length h.senders) in
     let read : c.deref.result.now ≡ places = c.deref.ensures.value ∙ c.in_ok-push_places.ensures h.senders h.chains ∙ ap (λ (ns : List ℕ). ns ++ places) c.clear.ensures.items in
-    let node : NodeLinks = record { links = c.deref-in-loop-index.result.now; passes = c.deref-in-loop-index-2.result.now } in
+    let node : NodeLinks = record { links = c.in_ok-node.node.links.items; passes = c.in_ok-node.node.passes.items } in
     let pushed : c.push.new.self ≡ c.loop-index.table ++ node ∷ [] = c.in_ok-push.ensures {u = tt} in
     record {
       as_many = rw pushed (omega (arith, c.loop-index.invariant.as_many, length-append c.loop-index.table (node ∷ [])));
       linked =
           rw pushed
           (linked_more p c.loop-index.table node c.loop-index.invariant.linked (λ n e.
-          rw (c.deref-in-loop-index.ensures.value, c.deref-in-loop-index-2.ensures.value)
-          (c.in_ok-write_node.ensures {u = tt} n (subst (λ (ns : List ℕ). AreSent p.plan n (numbers_of_places p.plan.contacts order ns)) (sym read) (h.sent i n (ap (slice_get p.table) (sym c.loop-index.invariant.as_many) ∙ e))))));
+          c.in_ok-node.ensures {u = tt} n (subst (λ (ns : List ℕ). AreSent p.plan n (numbers_of_places p.plan.contacts order ns)) (sym read) (h.sent i n (ap (slice_get p.table) (sym c.loop-index.invariant.as_many) ∙ e)))));
     }

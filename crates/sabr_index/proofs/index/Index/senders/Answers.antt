@@ -1,23 +1,16 @@
 use Rattle.std.proofs.Common.{◌≡◌, ◌-◌, Some, List, take, drop, sym, ap, subst, ◌∙◌}
 use Rattle.std.specs.Prelude.{slice_get}
-use Rattle.std.proofs.lemmas.List.{take-map, drop-map}
 use Rattle.sabr_model.specs.plan.Plan.{TabledPlan}
 use Rattle.sabr_index.specs.declared.senders.Incoming.{Incoming}
 use Rattle.sabr_index.specs.Links.{SentLink, AreLinksTo}
-use Rattle.sabr_index.specs.Incoming.{links_named, head_named}
-use Rattle.sabr_index.proofs.SenderLemmas.{lie_over, links_to}
+use Rattle.sabr_index.specs.Incoming.{links_named}
+use Rattle.sabr_index.proofs.SenderLemmas.{lie_there, links_to}
 use Rattle.sabr_index.proofs.index.Index.senders.Goals as goal
 
-pub over-requires-clause-lie : goal.over-requires-clause-lie
-over-requires-clause-lie g c =
-    lie_over c.self.inside.plan.now c.self.inside.linked c.self.invariant.links c.self.invariant.as_many
-
-pub over-requires-clause-heads : goal.over-requires-clause-heads
-over-requires-clause-heads g c =
-    let linked = c.self.inside.linked in
-    let named = c.self.inside.incoming.named.items in
+pub over-requires : goal.over-requires
+over-requires g c =
     let w = c.of.ensures in
-    rw (w.names_are, w.tops_are, c.self.invariant.tops, drop-map (head_named linked) w.first named) (take-map (head_named linked) (w.end - w.first) (drop w.first named))
+    rw w.names_are (lie_there c.self.inside.plan.now c.self.inside.linked c.self.invariant.links c.self.invariant.as_many c.args.index _ (c.self.invariant.grouped c.args.index w.first w.end w.begins w.ends))
 
 pub returns : goal.returns
 returns g c = λ node e.

@@ -18,5 +18,4 @@ invariant_of-result g c =
       begins = is.starts ∙ ap (λ n. n + 1) made.as_many;
       spans = is.spans;
       grouped = is.grouped;
-      tops = is.heads;
     }

@@ -1,20 +1,28 @@
-use Rattle.std.proofs.Common.{List, get_or, subst}
-use Rattle.std.proofs.lemmas.Option.{slice_get-get_or}
-use Rattle.sabr_index.specs.declared.link.SenderHead.{SenderHead}
-use Rattle.sabr_index.specs.Links.{SentLink}
-use Rattle.sabr_index.specs.Incoming.{IsHeadAt}
-use Rattle.sabr_index.proofs.Heads.{head_at, head_there}
+use Rattle.std.proofs.Common.{◌≡◌, ◌<◌, Option, Some, List, [], length, get_or, ap, subst, ◌∙◌, arith}
+use Rattle.std.specs.Prelude.{slice_get}
+use Rattle.std.specs.Option.{option_map, option_map_or}
+use Rattle.std.proofs.lemmas.List.{length-map}
+use Rattle.std.proofs.lemmas.Option.{slice_get-map, slice_get-get_or}
+use Rattle.sabr_index.specs.declared.link.Link.{Link}
+use Rattle.sabr_index.specs.declared.senders.Incoming.{Incoming}
+use Rattle.sabr_index.specs.Links.{NodeLinks, SentLink}
+use Rattle.sabr_index.specs.Incoming.{passes_over, passes_at, passes_named, LiesOver, no_link}
 use Rattle.sabr_index.proofs.senders.Senders.head.Goals as goal
-
-pub bounds-heads-place : goal.bounds-heads-place
-bounds-heads-place g c = head_there c.self.inside.linked.now c.self.invariant.0 c.self.inside.incoming.now c.self.inside.heads.now c.args.self.now c.self.invariant.1 c.self.view_is c.args.place c.requires
 
 pub returns : goal.returns
 returns g c =
     let linked = c.self.inside.linked.now in
     let incoming = c.self.inside.incoming.now in
-    let heads = c.self.inside.heads.now in
-    let none : SenderHead = record { node = 0; bounds = record { latest_end = 0; least_light = 0; soonest = 0 } } in
-    let there = head_there linked c.self.invariant.0 incoming heads c.args.self.now c.self.invariant.1 c.self.view_is c.args.place c.requires in
-    subst (λ (sent : List SentLink). IsHeadAt sent c.args.place (get_or heads c.args.place none)) c.self.view_is
-    (head_at linked c.self.invariant.0 incoming heads c.self.invariant.1 c.args.place (get_or heads c.args.place none) (slice_get-get_or heads c.args.place none there))
+    let place = c.args.place in
+    let sent : Incoming → SentLink = λ e. record { sender = e.sender; passes = passes_named linked e } in
+    let lt : place < length incoming = omega (arith, c.requires, ap (λ (ss : List SentLink). length ss) c.self.view_is, length-map incoming sent) in
+    let e = get_or incoming place no_link in
+    let at : slice_get incoming place ≡ Some e = slice_get-get_or incoming place no_link lt in
+    let w = c.self.invariant place e at in
+    let lies : LiesOver w.0.passes e.link = w.3 in
+    let passes : passes_named linked e ≡ passes_over w.0.passes e.link =
+    ap (λ (o : Option NodeLinks). option_map_or (λ s. passes_at s e.place) o []) w.1 ∙ ap (λ (o : Option Link). option_map_or (passes_over w.0.passes) o []) w.2 in (
+      passes_named linked e,
+      subst (λ (ss : List SentLink). slice_get ss place ≡ Some (sent e)) c.self.view_is (slice_get-map sent incoming place ∙ ap (option_map sent) at),
+      rw passes lies.2,
+    )

@@ -5,8 +5,8 @@ use Rattle.sabr_model.specs.declared.contact.Contact.{Contact}
 use Rattle.sabr_index.specs.Grouping.{numbers_at, numbers_of_places}
 use Rattle.sabr_index.specs.Linking.{IsBounded}
 use Rattle.sabr_index.proofs.LinkLemmas.{passes_more, passes_skip}
-use Rattle.sabr_index.proofs.building.write_passes.Goals as goal
-use Rattle.sabr_index.proofs.building.write_passes.Goals.{in-Some+in_ok-push, in_default}
+use Rattle.sabr_index.proofs.building.passes_at.Goals as goal
+use Rattle.sabr_index.proofs.building.passes_at.Goals.{in-Some+in_ok-push, in_default}
 
 pub loop-place-preserved : goal.loop-place-preserved
 loop-place-preserved g c =

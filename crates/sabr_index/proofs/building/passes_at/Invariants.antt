@@ -1,7 +1,7 @@
 use Rattle.std.proofs.Common.{take}
 use Rattle.sabr_index.specs.Grouping.{numbers_of_places}
 use Rattle.sabr_index.specs.Linking.{ArePassesOf, AreBounded}
-use Rattle.sabr_index.proofs.building.write_passes.Given as goal
+use Rattle.sabr_index.proofs.building.passes_at.Given as goal
 
 abbrev pub invariant-loop-place : goal.invariant-loop-place
 invariant-loop-place g l = record {
