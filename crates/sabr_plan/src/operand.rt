@@ -26,10 +26,9 @@ pub fn after_reference(reference: Option<u64>, seconds: u64) -> Result<u64, Plan
     let Some(reference) = reference else {
         return Err(PlanKind::NoReference);
     };
-    if reference <= LAST_TIME && seconds <= LAST_TIME - reference {
-        Ok(reference + seconds)
-    } else {
-        Err(PlanKind::BadTime)
+    match reference.checked_add(seconds) {
+        Some(time) if time <= LAST_TIME => Ok(time),
+        _ => Err(PlanKind::BadTime),
     }
 }
 
