@@ -50,7 +50,7 @@ fn bounds_of_row(passes: &[Pass], first: usize, end: usize) -> LinkBounds
 }
 
 /// Returns the place after those from `first` on that have its receiver.
-fn end_of_row(passes: &[Pass], first: usize) -> usize
+pub fn end_of_row(passes: &[Pass], first: usize) -> usize
     requires { first < length passes.now }
     ensures behind { first < result }
     ensures within { result ≤ length passes.now }
