@@ -22,6 +22,8 @@ pub struct Reach<A: Allocator + Copy> {
     pub late: Vec<u64, A>,
     /// For each node, `NEVER` less the least seconds of a way to the destination; `NEVER` after the list's end.
     pub near: Vec<u64, A>,
+    /// For each node, the hops of such a way, as far as the list goes.
+    pub hops: Vec<u64, A>,
 }
 
 impl<A: Allocator + Copy> Reach<A> {
@@ -32,6 +34,7 @@ impl<A: Allocator + Copy> Reach<A> {
         Reach {
             late: Vec::new(alloc),
             near: Vec::new(alloc),
+            hops: Vec::new(alloc),
         }
     }
 
@@ -61,7 +64,8 @@ impl<A: Allocator + Copy> Reach<A> {
         };
         let task = Task::new(index, request, &course, excluded, source);
         let late = latest_of(alloc, &task, looks, most)?;
-        let near = nearest_of(alloc, &task, most)?;
-        Ok(Reach { late, near })
+        let mut hops = Vec::new(alloc);
+        let near = nearest_of(alloc, &task, most, &mut hops)?;
+        Ok(Reach { late, near, hops })
     }
 }

@@ -68,6 +68,7 @@ impl<A: Allocator + Copy> Search<A> {
             task,
             late: &reach.late,
             near: &reach.near,
+            hops: &reach.hops,
         };
         let found = self.settling.run(&forward, looks, &self.first, most)?;
         Ok(found)

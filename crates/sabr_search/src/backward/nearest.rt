@@ -15,6 +15,16 @@ use sabr_index::Sender;
 use sabr_model::{MOST_LIGHT, NoMemory};
 use std::alloc::Allocator;
 
+/// Notes that a way from a node goes on as that from another one, with a hop more. Returns its hops.
+fn note_hops<A: Allocator + Copy>(hops: &mut Vec<u64, A>, node: usize, next: usize) -> u64 {
+    if node >= hops.len() || next >= hops.len() {
+        return 0;
+    }
+    let count = hops[next].saturating_add(1);
+    hops[node] = count;
+    count
+}
+
 impl<A: Allocator + Copy> Latest<A> {
     /// Takes the bounds of one link to a node that is so near.
     fn near_sender(
@@ -23,6 +33,7 @@ impl<A: Allocator + Copy> Latest<A> {
         from: Sender<'_>,
         to: usize,
         near: u64,
+        hops: &mut Vec<u64, A>,
     ) -> Result<(), NoMemory>
         requires task { IsTask task.now }
         requires link { IsLinkWithin task.now from.node to from.passes.now from.bounds }
@@ -50,9 +61,10 @@ impl<A: Allocator + Copy> Latest<A> {
         if last <= latest {
             return Ok(());
         }
+        let rank = note_hops(hops, node, to);
         self.queue.push(Event {
             at: NEVER - last,
-            rank: 0,
+            rank,
             hops: 0,
             node,
         })?;
@@ -62,7 +74,12 @@ impl<A: Allocator + Copy> Latest<A> {
     }
 
     /// Takes the bounds of every link to a node.
-    fn near_senders(&mut self, task: &Task<'_, A>, to: usize) -> Result<(), NoMemory>
+    fn near_senders(
+        &mut self,
+        task: &Task<'_, A>,
+        to: usize,
+        hops: &mut Vec<u64, A>,
+    ) -> Result<(), NoMemory>
         requires task { IsTask task.now }
         requires node { to < length task.now.table }
         requires rising { AreRising (IsNearBy task.now) task.now self.old.late.items self.old.taken.items self.old.queue to }
@@ -73,13 +90,18 @@ impl<A: Allocator + Copy> Latest<A> {
         let senders = task.senders(to);
         for place in 0..senders.len() {
             let from = senders.at(place);
-            self.near_sender(task, from, to, near)?;
+            self.near_sender(task, from, to, near, hops)?;
         }
         Ok(())
     }
 
     /// Takes the links of the nodes that wait, at most so many times. Returns whether none waits then.
-    fn near_all(&mut self, task: &Task<'_, A>, most: u64) -> Result<bool, NoMemory>
+    fn near_all(
+        &mut self,
+        task: &Task<'_, A>,
+        most: u64,
+        hops: &mut Vec<u64, A>,
+    ) -> Result<bool, NoMemory>
         requires task { IsTask task.now }
         requires rising { AreRising (IsNearBy task.now) task.now self.old.late.items self.old.taken.items self.old.queue (length task.now.table) }
         ensures taken { IfOk result (λ all. IsTrue all → AreTaken (IsNearBy task.now) task.now self.new.late.items) }
@@ -92,24 +114,27 @@ impl<A: Allocator + Copy> Latest<A> {
                 continue;
             }
             self.taken[event.node] = true;
-            self.near_senders(task, event.node)?;
+            self.near_senders(task, event.node, hops)?;
         }
         Ok(false)
     }
 }
 
 /// Returns for each node how near the destination is: `NEVER` less the least sum of the links' least costs on a way over the
-/// whole graph. Nothing is known of any node if the links to nodes would be taken more than `most` times.
+/// whole graph. The hops of such a way are noted in `hops`. Nothing is known of any node if the links to nodes would be taken
+/// more than `most` times.
 pub fn nearest_of<A: Allocator + Copy>(
     alloc: A,
     task: &Task<'_, A>,
     most: u64,
+    hops: &mut Vec<u64, A>,
 ) -> Result<Vec<u64, A>, NoMemory>
     requires whole { IsWhole task.now }
     ensures near { IfOk result (λ v. AreNearFor (tabled_of task.now) task.now.request v.items) }
 {
     let mut nearest = Latest::begin(alloc, task)?;
-    let all = nearest.near_all(task, most)?;
+    hops.resize(task.shut().len(), 0)?;
+    let all = nearest.near_all(task, most, hops)?;
     if !all {
         return Ok(Vec::new(alloc));
     }

@@ -30,6 +30,8 @@ pub struct Forward<'t, 'a, 'b, A: Allocator + Copy> {
     pub late: &'b [u64],
     /// For each node, `NEVER` less the least seconds of a way to the goal; `NEVER` after the list's end.
     pub near: &'b [u64],
+    /// For each node, the hops of such a way, as far as the list goes.
+    pub hops: &'b [u64],
 }
 
 impl<'t, 'a, 'b, A: Allocator + Copy> Forward<'t, 'a, 'b, A> {
@@ -40,6 +42,15 @@ impl<'t, 'a, 'b, A: Allocator + Copy> Forward<'t, 'a, 'b, A> {
     {
         match self.near.get(node) {
             Some(near) => NEVER - *near,
+            None => 0,
+        }
+    }
+
+    /// Returns the rank of a node among those of one second: the hops from it to the goal.
+    #[inline(always)]
+    fn rank(&self, node: usize) -> u64 {
+        match self.hops.get(node) {
+            Some(hops) => *hops,
             None => 0,
         }
     }
@@ -136,9 +147,10 @@ impl<A: Allocator + Copy> Settling<A> {
             return Ok(Best { delivery: at, hops });
         }
         let cost = forward.cost(node);
+        let rank = forward.rank(node);
         self.queue.push(Event {
             at: at + cost,
-            rank: cost,
+            rank,
             hops,
             node,
         })?;

@@ -3,7 +3,7 @@ use Rattle.sabr_search.proofs.BackwardLemmas.Front.{degree_at_most}
 use Rattle.sabr_search.proofs.search.Search.first_way.Goals as goal
 
 pub run-requires-clause-steps : goal.run-requires-clause-steps
-run-requires-clause-steps g c = λ n w b s. rw c.deref-3.ensures.value (c.in_ok-whole.ensures.whole c.if-not-whole.false n w b s)
+run-requires-clause-steps g c = λ n w b s. rw c.deref-4.ensures.value (c.in_ok-whole.ensures.whole c.if-not-whole.false n w b s)
 
 pub returns-in_err-whole-clause-counted : goal.returns-in_err-whole-clause-counted
 returns-in_err-whole-clause-counted g c = omega (arith, c.first_steps.ensures.counted, degree_at_most c.args.task.now c.args.task.now.start)

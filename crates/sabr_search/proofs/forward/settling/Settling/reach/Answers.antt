@@ -24,7 +24,7 @@ returns-clause-state g c =
     let step = c.requires.step (open_sooner task _ _ _ _ _ w b _ _ _ c.requires.state c.requires.later less) in
     let way : IsWayTo task w (c.args.event.hops + 1) b = way_more task c.requires.task step.0 c.args.event.node c.args.event.hops c.args.event.at w b c.requires.real step.1 in
     let cost = c.cost-cost.result in
-    let event : Event = record { at = b + cost; rank = cost; hops = c.args.event.hops + 1; node = w } in
+    let event : Event = record { at = b + cost; rank = c.rank-rank.result; hops = c.args.event.hops + 1; node = w } in
     pushed task _ _ _ c.args.event.node c.args.event.at step.0 b event _ _ _ c.args.best c.requires.state c.requires.later within less other step.1 way (omega (arith, c.requires.few)) (omega (arith, c.cost-cost.ensures)) c.in_ok-push.ensures.ok
 
 pub returns-clause-fallen : goal.returns-clause-fallen
@@ -38,7 +38,7 @@ returns-clause-fallen g c =
     let step = c.requires.step (open_sooner task _ _ _ _ _ w b _ _ _ c.requires.state c.requires.later less) in
     let way : IsWayTo task w (c.args.event.hops + 1) b = way_more task c.requires.task step.0 c.args.event.node c.args.event.hops c.args.event.at w b c.requires.real step.1 in
     let cost = c.cost-cost.result in
-    let event : Event = record { at = b + cost; rank = cost; hops = c.args.event.hops + 1; node = w } in
+    let event : Event = record { at = b + cost; rank = c.rank-rank.result; hops = c.args.event.hops + 1; node = w } in
     pushed_falls task _ _ _ c.args.event.node c.args.event.at step.0 b event _ _ _ c.args.best c.requires.state c.requires.later within less other step.1 way (omega (arith, c.requires.few)) (omega (arith, c.cost-cost.ensures)) c.in_ok-push.ensures.ok
 
 pub returns-clause-pushes : goal.returns-clause-pushes
