@@ -1,8 +1,8 @@
 //! The table of nodes: for each node, the numbers of the contacts that it sends.
 
-ghost use Rattle.std.specs.Prelude.{◌≡◌, ℕ, ◌==◌, ◌<◌, ◌≤◌, ◌+◌, ◌∷◌, ◌++◌, Some, None, IsTrue, map, find, not, ◌&&◌, ◌||◌, filter, nat_eq, slice_get, IfOk, OnOk, OnErr, IsOk, if◌then◌else◌};
+ghost use Rattle.std.specs.Prelude.{◌≡◌, ℕ, ◌==◌, ◌<◌, ◌≤◌, ◌+◌, ◌∷◌, ◌++◌, Some, None, is_some, IfSome, IsTrue, map, find, not, ◌&&◌, ◌||◌, filter, nat_eq, slice_get, IfOk, OnOk, OnErr, IsOk, if◌then◌else◌};
 ghost use Rattle.std.specs.Option.{option_map};
-ghost use Rattle.indexmap.specs.IndexMap.{IsUnique, keys, spare};
+ghost use Rattle.indexmap.specs.IndexMap.{IsUnique, get, keys, spare};
 ghost use Rattle.std.specs.List.{list_any};
 ghost use Rattle.sabr_model.specs.plan.Plan.{rises_above};
 ghost use Rattle.sabr_model.specs.plan.Table.{without_number, list_at, with_number, with_node, with_ends, KeepsPlaces, IsTableOf};
@@ -17,12 +17,29 @@ use std::hash::{BuildHasherDefault, FoldHasher};
 /// For each node, the rising numbers of the contacts that it sends.
 pub type NodeTable<A> = IndexMap<u64, Vec<u32, A>, BuildHasherDefault<FoldHasher>, A>;
 
+/// The places of guesses where nodes stand in the table. Not varied.
+const GUESSES: usize = 1024;
+
+/// Returns the index of a node of the table. It is looked for first at the guess, which takes no hash.
+fn index_near<A: Allocator + Copy>(table: &NodeTable<A>, node: u64, guess: usize) -> Option<usize>
+    ensures index { IfSome result (λ i. slice_get (keys table.now) i ≡ Some node) }
+    ensures found { is_some result ≡ is_some (get nat_eq table.now node) }
+{
+    if let Some((key, _)) = table.get_index(guess)
+        && *key == node
+    {
+        return Some(guess);
+    }
+    table.get_index_of(&node)
+}
+
 /// Adds the number after those that the node sends, and returns the node's index.
 fn add_number<A: Allocator + Copy>(
     alloc: A,
     table: &mut NodeTable<A>,
     node: u64,
     number: u32,
+    guess: usize,
 ) -> Result<usize, AllocError>
     requires { IsUnique nat_eq table.old }
 
@@ -39,7 +56,7 @@ fn add_number<A: Allocator + Copy>(
     ensures unique { IsUnique nat_eq table.new }
     ensures room { spare table.old ≤ spare table.new + 1 }
 {
-    match table.get_index_of(&node) {
+    match index_near(table, node, guess) {
         Some(index) => {
             push_number(table, index, number)?;
             Ok(index)
@@ -78,6 +95,7 @@ fn add_node<A: Allocator + Copy>(
     alloc: A,
     table: &mut NodeTable<A>,
     node: u64,
+    guess: usize,
 ) -> Result<usize, AllocError>
     requires { IsUnique nat_eq table.old }
 
@@ -94,7 +112,7 @@ fn add_node<A: Allocator + Copy>(
     ensures unique { IsUnique nat_eq table.new }
     ensures succeeds { 0 < spare table.old → IsOk result }
 {
-    match table.get_index_of(&node) {
+    match index_near(table, node, guess) {
         Some(index) => Ok(index),
         None => {
             let index = table.len();
@@ -104,11 +122,13 @@ fn add_node<A: Allocator + Copy>(
     }
 }
 
-/// Notes a contact that is to be added after the others, and returns the indexes of its nodes. Each is looked up once.
+/// Notes a contact that is to be added after the others, and returns the indexes of its nodes. Each is looked up once,
+/// first at a guess.
 pub fn note_contact<A: Allocator + Copy>(
     alloc: A,
     table: &mut NodeTable<A>,
     contact: &Contact,
+    guess: Ends,
 ) -> Result<Ends, AllocError>
     requires { IsUnique nat_eq table.old }
 
@@ -123,8 +143,8 @@ pub fn note_contact<A: Allocator + Copy>(
     ensures unique { IsUnique nat_eq table.new }
 {
     table.reserve(2)?;
-    let from = add_number(alloc, table, contact.from, contact.number)?;
-    let to = add_node(alloc, table, contact.to)?;
+    let from = add_number(alloc, table, contact.from, contact.number, guess.from)?;
+    let to = add_node(alloc, table, contact.to, guess.to)?;
     Ok(Ends { from, to })
 }
 
@@ -139,11 +159,35 @@ pub fn table_of<A: Allocator + Copy>(
     let mut table = IndexMap::new(alloc);
     let mut ends = Vec::new(alloc);
     ends.reserve(contacts.len())?;
+    let mut guesses = Vec::new(alloc);
+    guesses.resize(GUESSES, 0)?;
     for contact in contacts {
-        let both = note_contact(alloc, &mut table, contact)?;
+        let guess = Ends {
+            from: guess_of(&guesses, contact.from),
+            to: guess_of(&guesses, contact.to),
+        };
+        let both = note_contact(alloc, &mut table, contact, guess)?;
+        note_guess(&mut guesses, contact.from, both.from);
+        note_guess(&mut guesses, contact.to, both.to);
         ends.push(both)?;
     }
     Ok((table, ends))
+}
+
+/// Where a node may stand in the table.
+fn guess_of(guesses: &[usize], node: u64) -> usize {
+    match guesses.get((node % GUESSES as u64) as usize) {
+        Some(guess) => *guess,
+        None => 0,
+    }
+}
+
+/// Notes where a node stands in the table, as a guess for it.
+fn note_guess(guesses: &mut [usize], node: u64, index: usize) {
+    let place = (node % GUESSES as u64) as usize;
+    if place < guesses.len() {
+        guesses[place] = index;
+    }
 }
 
 /// Removes the number from those that the node sends.

@@ -1,6 +1,6 @@
 -- One step on the table of nodes: a node found, one more node, and a list written at an index.
 use Rattle.std.proofs.Common.{◌≡◌, ℕ, zero, suc, Bool, true, false, cond, eqb, List, [], ◌∷◌, ◌++◌, length, position, refl, sym, ap, subst, ◌∙◌}
-use Rattle.std.specs.Prelude.{nat_eq, slice_get, is_some, MatchOption, unwrap_or, Vec}
+use Rattle.std.specs.Prelude.{nat_eq, slice_get, is_some, IfSome, MatchOption, unwrap_or, Vec}
 use Rattle.std.specs.List.{IsDistinct}
 use Rattle.std.specs.Cmp.{nat_eq_equiv}
 use Rattle.std.specs.Map.{keys_of, values_of}
@@ -17,8 +17,9 @@ use Rattle.sabr_model.proofs.ListLemmas.Has.{eqb_flip}
 use Rattle.sabr_model.proofs.PlanLemmas.Tabled.{index_tells}
 
 -- the place that is found is the node's
-pub found_at : (xs : List ℕ) (n k : ℕ) → Some k ≡ position (nat_eq n) xs → slice_get xs k ≡ Some n
-found_at xs n k e = subst (λ (o : Option ℕ). MatchOption o (has n xs ≡ false) (λ i. slice_get xs i ≡ Some n)) (sym e) (index_tells xs n)
+pub found_at : (xs : List ℕ) (n : ℕ) (o : Option ℕ) → o ≡ position (nat_eq n) xs → IfSome o (λ k. slice_get xs k ≡ Some n)
+found_at xs n None e = tt
+found_at xs n (Some k) e = subst (λ (o : Option ℕ). MatchOption o (has n xs ≡ false) (λ i. slice_get xs i ≡ Some n)) (sym e) (index_tells xs n)
 
 -- ---- one more node
 
