@@ -12,7 +12,6 @@ mod parts;
 pub mod places;
 mod ranges;
 mod refusals;
-mod stretches;
 mod views;
 
 ghost use Rattle.std.specs.Prelude.{◌≡◌, []};

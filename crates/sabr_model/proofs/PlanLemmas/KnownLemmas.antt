@@ -1,19 +1,17 @@
 -- What a plan keeps of its first contacts.
-use Rattle.std.proofs.Common.{◌≡◌, ℕ, zero, suc, ◌+◌, ◌<◌, ◌≤◌, true, ◌||◌, eqb, List, [], ◌∷◌, ◌++◌, length, get_or, take, refl, sym, ap, subst, ◌∙◌, inl, inr, arith}
+use Rattle.std.proofs.Common.{◌≡◌, ℕ, zero, suc, ◌+◌, ◌<◌, ◌≤◌, true, ◌||◌, eqb, List, [], ◌∷◌, ◌++◌, length, get_or, take, refl, sym, ap, ◌∙◌, inl, inr, arith}
 use Rattle.std.specs.Prelude.{slice_get, Some, Vec}
 use Rattle.std.proofs.Math.ListN.{get_or-append}
 use Rattle.std.proofs.Math.Seq.{get_or-append_seam}
 use Rattle.std.proofs.lemmas.Bool.{or_left, or_right, eq-eqb, cases_lt}
 use Rattle.std.proofs.lemmas.List.{get_or_default}
-use Rattle.std.proofs.lemmas.Option.{slice_get_within, slice_get-get_or}
+use Rattle.std.proofs.lemmas.Option.{slice_get-get_or}
 use Rattle.indexmap.specs.IndexMap.{IndexMap, keys}
 use Rattle.sabr_model.specs.declared.contact.Contact.{Contact}
-use Rattle.sabr_model.specs.declared.contact.Range.{Range}
 use Rattle.sabr_model.specs.declared.plan.ends.Ends.{Ends}
-use Rattle.sabr_model.specs.declared.plan.stretches.Stretch.{Stretch}
 use Rattle.sabr_model.specs.plan.Plan.{ContactPlan, TabledPlan, contact_named, has}
 use Rattle.sabr_model.specs.plan.Table.{ends_of, KeepsPlaces, IsTableOf}
-use Rattle.sabr_model.specs.plan.Stretches.{AreEndsOf, AreEnds, IsStretchAmong, AreStretches}
+use Rattle.sabr_model.specs.plan.Stretches.{AreEndsOf, AreEnds}
 use Rattle.sabr_model.specs.plan.Known.{BeginEnds, IsKnown}
 use Rattle.sabr_model.proofs.PlanLemmas.TableLemmas.{has_node}
 
@@ -40,14 +38,6 @@ module _ {X Y : Type 0} (P : X → Y → Type 0) (xs : List X) (ys : List Y) (x 
             let other : get_or xs (length ys) d ≡ get_or xs (length ys) x = get_or_default xs (length ys) d x range in
             rw (is, other, get_or-append_seam ys y [] e) here
       ]
-
--- each node of the table has a stretch
-pub stretch_within : (table : List ℕ) (rs : List Range) (n : ℕ) (ss : List Stretch) (i node : ℕ) → AreStretches table rs n ss → slice_get table i ≡ Some node → i < length ss
-stretch_within table rs n ss i node h at = rw h.as_many (slice_get_within table i node at)
-
--- and it is that of its ranges
-pub stretch_at : (table : List ℕ) (rs : List Range) (n : ℕ) (ss : List Stretch) (i node : ℕ) (s : Stretch) → AreStretches table rs n ss → slice_get table i ≡ Some node → s ≡ get_or ss i s → IsStretchAmong rs n node s
-stretch_at table rs n ss i node s h at is = subst (IsStretchAmong rs n node) (sym is) (h.each i node s at)
 
 -- ends stay where the nodes keep their places
 pub ends_kept_at : (old new : List ℕ) (c : Contact) (e : Ends) → KeepsPlaces old new → AreEndsOf old c e → AreEndsOf new c e

@@ -2,12 +2,12 @@
 use Rattle.std.proofs.Common.{◌≡◌, ℕ, zero, suc, ◌+◌, ◌-◌, ◌^◌, ◌<◌, ◌≤◌, Bool, true, false, cond, ◌||◌, ◌&&◌, not, eqb, ltb, leb, List, [], ◌∷◌, length, get_or, map, refl, sym, ap, subst, ◌∙◌, inl, inr, arith}
 use Rattle.std.proofs.lemmas.List.{get_or_default}
 use Rattle.std.specs.Prelude.{IfSome}
-use Rattle.std.specs.List.{find, insert, list_any, AllByRecursion}
+use Rattle.std.specs.List.{find, insert, list_all, list_any, AllByRecursion}
 use Rattle.std.specs.List.Sorted.{IsStrictlySortedBy}
 use Rattle.std.specs.Option.{option_map}
 use Rattle.std.specs.Ordering.{nat_cmp}
 use Rattle.std.proofs.lemmas.Bool.{and_parts, and_from, not-true, lt-ltb, le-ltb, ltb-true, leb-true, eqb-true, eq-eqb, ne_eqb, cases_order, cases_lt, both_ways, false_from_ne_true}
-use Rattle.std.proofs.lemmas.List.Folds.{list_any_at}
+use Rattle.std.proofs.lemmas.List.Folds.{list_all_at, list_any_at}
 use Rattle.std.specs.declared.option.Option.{Option}
 use Rattle.std.specs.declared.option.Option.TheVariants.{Some, None}
 use Rattle.std.specs.declared.cmp.Ordering.TheVariants.{Less, Equal, Greater}
@@ -16,7 +16,7 @@ use Rattle.sabr_model.specs.declared.contact.Range.{Range}
 use Rattle.sabr_model.specs.plan.Adding.{range_refusal, by_range_key}
 use Rattle.sabr_model.specs.Order.{by_numbers, put_in}
 use Rattle.sabr_model.specs.plan.Plan.{ContactPlan, IsPlan, IsWindow, IsPair, overlap, none_twice, range_key}
-use Rattle.sabr_model.specs.plan.Light.{is_within, light_of_pair, or_else, light_of}
+use Rattle.sabr_model.specs.plan.Light.{is_within, is_rising, light_of_pair, or_else, light_of}
 use Rattle.sabr_model.specs.plan.RangeOrder.{place_number, number_of_range, IsRangeList, IsCountUntil}
 use Rattle.sabr_model.proofs.PlanLemmas.Deletions.{any_none, all_found}
 use Rattle.sabr_model.proofs.PlanLemmas.RangeLemmas.{all_at, accepted_range, same_key_overlaps, place_is_put}
@@ -213,6 +213,33 @@ module _ (rs : List Range) (h : IsRangeList rs) where
         | inl less ↦ absurd (both_ways (overlap x y) (h.apart k j d lt within) (overlap_from x y one other (omega (arith, window, starts)) less))
         | inr le ↦ le
       ]
+
+  -- a range in force is the only one of its pair then
+  pub told_at : (one other t i : ℕ) (e : Range) (o : Option ℕ) → i < length rs → ((d : Range) → e ≡ get_or rs i d) → o ≡ cond (in_force one other t e) (Some e.light) None → IfSome o (λ l. light_of_pair rs one other t ≡ Some l)
+  told_at one other t i e o lt at is = subst (λ (u : Option ℕ). IfSome u (λ l. light_of_pair rs one other t ≡ Some l)) (sym is) (by (in_force one other t e) refl)
+    where
+      by : (b : Bool) → in_force one other t e ≡ b → IfSome (cond b (Some e.light) None) (λ l. light_of_pair rs one other t ≡ Some l)
+      by false _ = tt
+      by true now =
+          ap (option_map (λ (r : Range). r.light)) (find_only (in_force one other t) rs i e lt (λ k d within ne also.
+          let x = get_or rs k d in
+          let a = force_parts one other t x also in
+          let b = force_parts one other t e now in
+          elim (cases_order k i) [
+            | inl same ↦ ne same
+            | inr (inl less) ↦ both_ways (overlap x e) (rw (at d) (h.apart k i d less lt)) (overlap_from x e (a.0 ∙ sym b.0) (a.1 ∙ sym b.1) (omega (arith, a.2, b.3)) (omega (arith, b.2, a.3)))
+            | inr (inr more) ↦ both_ways (overlap e x) (rw (at d) (h.apart i k d more within)) (overlap_from e x (b.0 ∙ sym a.0) (b.1 ∙ sym a.1) (omega (arith, b.2, a.3)) (omega (arith, a.2, b.3)))
+          ]))
+          ∙ ap (λ r. option_map (λ (r : Range). r.light) (cond (in_force one other t r) (Some r) None)) (sym (at e))
+          ∙ ap (λ b. option_map (λ (r : Range). r.light) (cond b (Some e) None)) now
+
+  -- if all are written from the lesser node, none is of a pair that begins with the greater
+  pub none_back : (one other t : ℕ) → list_all is_rising rs ≡ true → other ≤ one → light_of_pair rs one other t ≡ None
+  none_back one other t rising back =
+      ap (option_map (λ (r : Range). r.light)) (find_none (in_force one other t) rs (λ k d lt now.
+      let parts = force_parts one other t (get_or rs k d) now in
+      let here = list_all_at is_rising rs k d lt (le-ltb _ _ (omega (arith, parts.0, parts.1, back))) in
+      both_ways (list_all is_rising rs) here rising))
 
   module _ (one other t : ℕ) (fits_other : other < 2 ^ 64) (fits_t : t < 2 ^ 64) where
     none_in_force : IsCountUntil rs (place_number one other t) 0 → light_of_pair rs one other t ≡ None

@@ -12,6 +12,10 @@ use Rattle.sabr_model.specs.plan.Plan.{ContactPlan}
 abbrev pub is_within : ℕ → ℕ → ℕ → Bool
 is_within start end t = nat_le start t && nat_lt t end
 
+-- whether a range is written from the lesser node, so that it holds both ways
+abbrev pub is_rising : Range → Bool
+is_rising r = nat_lt r.one r.other
+
 -- the light time of the range of this ordered pair that is in force at t
 abbrev pub light_of_pair : List Range → ℕ → ℕ → ℕ → Option ℕ
 light_of_pair ranges one other t =

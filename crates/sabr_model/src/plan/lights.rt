@@ -1,97 +1,122 @@
 //! The light times of all contacts, looked up side by side.
 
-ghost use Rattle.std.specs.Prelude.{◌≡◌, ◌<◌, [], IfOk, length, nat_eq};
-ghost use Rattle.indexmap.specs.IndexMap.{IsUnique, keys};
+ghost use Rattle.std.specs.Prelude.{◌≡◌, [], IfOk, IfSome, Some, IsTrue};
+ghost use Rattle.std.specs.List.{list_all};
 ghost use Rattle.sabr_model.specs.plan.Known.{AreLights};
-ghost use Rattle.sabr_model.specs.plan.Light.{light_of};
+ghost use Rattle.sabr_model.specs.plan.Light.{light_of, light_of_pair, is_rising};
 ghost use Rattle.sabr_model.specs.plan.RangeOrder.{IsRangeList};
-ghost use Rattle.sabr_model.specs.plan.Stretches.{AreEnds, IsStretchAmong};
 
-use super::ends::Ends;
-use super::ranges::light_near;
-use super::stretches::{Stretch, stretches_of};
+use super::ranges::{light_of_range, light_until, ranges_until};
 use crate::contact::{Contact, Range};
-use crate::node_table::NodeTable;
 use std::alloc::{AllocError, Allocator};
 
-/// Returns the light time of each contact. What it looks up for that is dropped before it returns.
+/// The number of guesses, each for the pairs of nodes that share a slot. With 16384, two pairs of a plan of 6000 seldom do.
+const GUESSES: usize = 16384;
+
+/// Returns the light time of each contact. It takes a few steps for a contact whose pair's last one had the same range, or
+/// the range before, and a binary search of the ranges or two for others.
 pub fn lights_of<A: Allocator + Copy>(
     alloc: A,
     contacts: &[Contact],
     ranges: &[Range],
-    ends: &[Ends],
-    table: &NodeTable<A>,
 ) -> Result<Vec<Option<u32>, A>, AllocError>
-    requires ranges { IsRangeList ranges.now }
-    requires unique { IsUnique nat_eq table.now }
-    requires ends { AreEnds (keys table.now) contacts.now ends.now }
+    requires { IsRangeList ranges.now }
     ensures { IfOk result (λ v. AreLights ranges.now contacts.now v.items) }
 {
-    let stretches = stretches_of(alloc, ranges, table)?;
+    let rising = are_rising(ranges);
     let mut lights = Vec::new(alloc);
     lights.reserve(contacts.len())?;
     let mut guesses = Vec::new(alloc);
-    guesses.resize(contacts.len(), LightGuess { ahead: 0, back: 0 })?;
-    for place in 0..contacts.len() {
-        let contact = &contacts[place];
-        let Ends { from, to } = ends[place];
-        let slot = slot_of_link(from, to, table.len(), contacts.len());
-        let guess = guesses[slot];
-        let (light, guess) = light_in_stretches(
-            ranges,
-            stretches[from],
-            stretches[to],
-            contact,
-            guess,
-        );
-        guesses[slot] = guess;
+    guesses.resize(GUESSES, 0)?;
+    for contact in contacts {
+        let light = light_of_contact_near(ranges, contact, rising, &mut guesses);
         lights.push(light)?;
     }
     Ok(lights)
 }
 
-/// Where the guesses of the link between two of so many nodes stand among `slots`. Two links may share a slot; then
-/// their guesses are worse, and no answer is wrong.
-fn slot_of_link(from: usize, to: usize, nodes: usize, slots: usize) -> usize
-    requires { 0 < slots }
-    ensures { result < slots }
+/// Returns true if each range is written from the lesser node, so that it holds both ways.
+fn are_rising(ranges: &[Range]) -> bool
+    ensures { result ≡ list_all is_rising ranges.now }
 {
-    from.wrapping_mul(nodes).wrapping_add(to) % slots
+    ranges.iter().all(|r| r.one < r.other)
 }
 
-/// Guesses where the ranges stand that are in force for the next contact of a link: those written from its sender, and
-/// those written from its receiver.
-#[derive(Clone, Copy)]
-pub struct LightGuess {
-    pub ahead: usize,
-    pub back: usize,
-}
-
-/// Returns the light time that these ranges state for a contact, and guesses for the next contact of its link, made with
-/// those from the one before. The ranges from its sender and from its receiver are in these stretches.
-pub fn light_in_stretches(
+/// Returns the light time that these ranges state for a contact. `rising` says that each is
+/// written from the lesser node.
+fn light_of_contact_near(
     ranges: &[Range],
-    of_sender: Stretch,
-    of_receiver: Stretch,
     contact: &Contact,
-    guess: LightGuess,
-) -> (Option<u32>, LightGuess)
+    rising: bool,
+    guesses: &mut [usize],
+) -> Option<u32>
     requires ranges { IsRangeList ranges.now }
-    requires sender { IsStretchAmong ranges.now (length ranges.now) contact.now.from of_sender }
-    requires receiver { IsStretchAmong ranges.now (length ranges.now) contact.now.to of_receiver }
-    ensures { result.0 ≡ light_of (record { contacts = []; ranges = ranges.now; greatest = 0 }) contact.now }
+    requires rising { IsTrue rising → IsTrue (list_all is_rising ranges.now) }
+    ensures { result ≡ light_of (record { contacts = []; ranges = ranges.now; greatest = 0 }) contact.now }
 {
     let (from, to, start) = (contact.from, contact.to, contact.start);
-    let sent = &ranges[of_sender.first..of_sender.end];
-    let (light, ahead) = light_near(sent, from, to, start, guess.ahead);
-    let back = guess.back;
-    match light {
-        Some(light) => (Some(light), LightGuess { ahead, back }),
-        None if from > to => {
-            let received = &ranges[of_receiver.first..of_receiver.end];
-            let (light, back) = light_near(received, to, from, start, back);
-            (light, LightGuess { ahead, back })
-        }
-        None => (None, LightGuess { ahead, back }),
+    if from <= to {
+        return light_near(ranges, from, to, start, guesses);
     }
+    if !rising {
+        let light = light_near(ranges, from, to, start, guesses);
+        if light.is_some() {
+            return light;
+        }
+    }
+    light_near(ranges, to, from, start, guesses)
+}
+
+/// Returns the light time of the range of this ordered pair that is in force at `t`. The place of a range is guessed for the
+/// pair; a wrong guess costs a binary search.
+#[inline(always)]
+fn light_near(ranges: &[Range], one: u64, other: u64, t: u64, guesses: &mut [usize]) -> Option<u32>
+    requires { IsRangeList ranges.now }
+    ensures { result ≡ light_of_pair ranges.now one other t }
+{
+    let slot = (one.wrapping_mul(509).wrapping_add(other) % GUESSES as u64) as usize;
+    let guess = match guesses.get(slot) {
+        Some(guess) => *guess,
+        None => 0,
+    };
+    let light = light_at(ranges, guess, one, other, t);
+    if light.is_some() {
+        return light;
+    }
+    let (light, place) = light_behind(ranges, one, other, t, guess.saturating_add(1));
+    if slot < guesses.len() {
+        guesses[slot] = place;
+    }
+    light
+}
+
+/// The same, looked for first at a place. Returns where a later light time of the pair may be found, too.
+fn light_behind(
+    ranges: &[Range],
+    one: u64,
+    other: u64,
+    t: u64,
+    place: usize,
+) -> (Option<u32>, usize)
+    requires { IsRangeList ranges.now }
+    ensures { result.0 ≡ light_of_pair ranges.now one other t }
+{
+    let light = light_at(ranges, place, one, other, t);
+    if light.is_some() {
+        return (light, place);
+    }
+    let count = ranges_until(ranges, one, other, t);
+    (
+        light_until(ranges, count, one, other, t),
+        count.saturating_sub(1),
+    )
+}
+
+/// Returns the light time of the range at a place, if it is of this ordered pair and in force at `t`.
+#[inline(always)]
+fn light_at(ranges: &[Range], place: usize, one: u64, other: u64, t: u64) -> Option<u32>
+    requires { IsRangeList ranges.now }
+    ensures { IfSome result (λ l. light_of_pair ranges.now one other t ≡ Some l) }
+{
+    light_of_range(ranges.get(place)?, one, other, t)
 }

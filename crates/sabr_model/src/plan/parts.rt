@@ -26,7 +26,7 @@ impl<A: Allocator + Copy> Plan<A> {
         ensures { IfOk result (λ p. p.plan ≡ record { contacts = contacts.items; ranges = ranges.items; greatest = greatest }) }
     {
         let (table, ends) = table_of(alloc, &contacts)?;
-        let lights = lights_of(alloc, &contacts, &ranges, &ends, &table)?;
+        let lights = lights_of(alloc, &contacts, &ranges)?;
         Ok(Plan {
             alloc,
             contacts,

@@ -46,7 +46,8 @@ pub fn ranges_until(ranges: &[Range], one: u64, other: u64, t: u64) -> usize
 }
 
 /// Returns the light time of a range, if it is of this ordered pair and in force at `t`.
-fn light_of_range(range: &Range, one: u64, other: u64, t: u64) -> Option<u32>
+#[inline(always)]
+pub fn light_of_range(range: &Range, one: u64, other: u64, t: u64) -> Option<u32>
     ensures { result ≡ (if (range.now.one == one) && (range.now.other == other) && is_within range.now.start range.now.end t then Some range.now.light else None) }
 {
     if range.one == one && range.other == other && (range.start <= t && t < range.end) {
@@ -56,41 +57,8 @@ fn light_of_range(range: &Range, one: u64, other: u64, t: u64) -> Option<u32>
     }
 }
 
-/// The number of ranges at the front that come by a pair and second. It takes a few steps if that is the guess or one
-/// more, and a binary search otherwise.
-fn ranges_until_near(ranges: &[Range], one: u64, other: u64, t: u64, guess: usize) -> usize
-    requires { IsRangeList ranges.now }
-    ensures { IsCountUntil ranges.now (place_number one other t) result }
-{
-    if is_count_until(ranges, one, other, t, guess) {
-        return guess;
-    }
-    let next = guess.saturating_add(1);
-    if is_count_until(ranges, one, other, t, next) {
-        return next;
-    }
-    ranges_until(ranges, one, other, t)
-}
-
-/// Whether exactly this number of ranges at the front come by a pair and second.
-fn is_count_until(ranges: &[Range], one: u64, other: u64, t: u64, count: usize) -> bool
-    requires { IsRangeList ranges.now }
-    ensures { IsTrue result → IsCountUntil ranges.now (place_number one other t) count }
-{
-    if count > ranges.len() {
-        return false;
-    }
-    if count > 0 && !range_comes_by(ranges, count - 1, one, other, t) {
-        return false;
-    }
-    if count < ranges.len() && range_comes_by(ranges, count, one, other, t) {
-        return false;
-    }
-    true
-}
-
 /// The light time at `t` for this ordered pair, by the number of ranges that come by it.
-fn light_until(ranges: &[Range], count: usize, one: u64, other: u64, t: u64) -> Option<u32>
+pub fn light_until(ranges: &[Range], count: usize, one: u64, other: u64, t: u64) -> Option<u32>
     requires ranges { IsRangeList ranges.now }
     requires count { IsCountUntil ranges.now (place_number one other t) count }
     ensures { result ≡ light_of_pair ranges.now one other t }
@@ -108,21 +76,6 @@ pub fn light_in_force(ranges: &[Range], one: u64, other: u64, t: u64) -> Option<
 {
     let count = ranges_until(ranges, one, other, t);
     light_until(ranges, count, one, other, t)
-}
-
-/// The same, and a guess at how many ranges come by a second soon after `t`, made with such a guess.
-pub fn light_near(
-    ranges: &[Range],
-    one: u64,
-    other: u64,
-    t: u64,
-    guess: usize,
-) -> (Option<u32>, usize)
-    requires { IsRangeList ranges.now }
-    ensures { result.0 ≡ light_of_pair ranges.now one other t }
-{
-    let count = ranges_until_near(ranges, one, other, t, guess);
-    (light_until(ranges, count, one, other, t), count)
 }
 
 impl Range {

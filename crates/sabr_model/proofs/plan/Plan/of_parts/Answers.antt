@@ -12,8 +12,8 @@ use Rattle.sabr_model.proofs.PlanLemmas.RangeKeys.{range_list}
 use Rattle.sabr_model.proofs.PlanLemmas.KnownLemmas.{all_ends}
 use Rattle.sabr_model.proofs.plan.Plan.of_parts.Goals as goal
 
-pub lights_of-requires-clause-ranges : goal.lights_of-requires-clause-ranges
-lights_of-requires-clause-ranges g c =
+pub lights_of-requires : goal.lights_of-requires
+lights_of-requires g c =
     let p : ContactPlan = record { contacts = c.args.contacts.items; ranges = c.args.ranges.items; greatest = c.args.greatest } in
     subst IsRangeList (sym c.deref-3.ensures.value) (range_list p c.requires)
 
