@@ -17,9 +17,6 @@ use std::hash::{BuildHasherDefault, FoldHasher};
 /// For each node, the rising numbers of the contacts that it sends.
 pub type NodeTable<A> = IndexMap<u64, Vec<u32, A>, BuildHasherDefault<FoldHasher>, A>;
 
-/// The places of guesses where nodes stand in the table. Not varied.
-const GUESSES: usize = 1024;
-
 /// Returns the index of a node of the table. It is looked for first at the guess, which takes no hash.
 fn index_near<A: Allocator + Copy>(table: &NodeTable<A>, node: u64, guess: usize) -> Option<usize>
     ensures index { IfSome result (λ i. slice_get (keys table.now) i ≡ Some node) }
@@ -160,7 +157,7 @@ pub fn table_of<A: Allocator + Copy>(
     let mut ends = Vec::new(alloc);
     ends.reserve(contacts.len())?;
     let mut guesses = Vec::new(alloc);
-    guesses.resize(GUESSES, 0)?;
+    guesses.resize(contacts.len() / 8 + 16, 0)?;
     for contact in contacts {
         let guess = Ends {
             from: guess_of(&guesses, contact.from),
@@ -175,18 +172,18 @@ pub fn table_of<A: Allocator + Copy>(
 }
 
 /// Where a node may stand in the table.
-fn guess_of(guesses: &[usize], node: u64) -> usize {
-    match guesses.get((node % GUESSES as u64) as usize) {
-        Some(guess) => *guess,
+fn guess_of(guesses: &[u32], node: u64) -> usize {
+    match guesses.get(node as usize % guesses.len().max(1)) {
+        Some(guess) => *guess as usize,
         None => 0,
     }
 }
 
 /// Notes where a node stands in the table, as a guess for it.
-fn note_guess(guesses: &mut [usize], node: u64, index: usize) {
-    let place = (node % GUESSES as u64) as usize;
+fn note_guess(guesses: &mut [u32], node: u64, index: usize) {
+    let place = node as usize % guesses.len().max(1);
     if place < guesses.len() {
-        guesses[place] = index;
+        guesses[place] = index.min(u32::MAX as usize) as u32;
     }
 }
 

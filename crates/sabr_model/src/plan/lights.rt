@@ -10,9 +10,6 @@ use super::ranges::{light_of_range, light_until, ranges_until};
 use crate::contact::{Contact, Range};
 use std::alloc::{AllocError, Allocator};
 
-/// The number of guesses, each for the pairs of nodes that share a slot. With 16384, two pairs of a plan of 6000 seldom do.
-const GUESSES: usize = 16384;
-
 /// Returns the light time of each contact. It takes a few steps for a contact whose pair's last one had the same range, or
 /// the range before, and a binary search of the ranges or two for others.
 pub fn lights_of<A: Allocator + Copy>(
@@ -27,7 +24,7 @@ pub fn lights_of<A: Allocator + Copy>(
     let mut lights = Vec::new(alloc);
     lights.reserve(contacts.len())?;
     let mut guesses = Vec::new(alloc);
-    guesses.resize(GUESSES, 0)?;
+    guesses.resize(contacts.len(), 0)?;
     for contact in contacts {
         let light = light_of_contact_near(ranges, contact, rising, &mut guesses);
         lights.push(light)?;
@@ -48,7 +45,7 @@ fn light_of_contact_near(
     ranges: &[Range],
     contact: &Contact,
     rising: bool,
-    guesses: &mut [usize],
+    guesses: &mut [u32],
 ) -> Option<u32>
     requires ranges { IsRangeList ranges.now }
     requires rising { IsTrue rising → IsTrue (list_all is_rising ranges.now) }
@@ -68,15 +65,15 @@ fn light_of_contact_near(
 }
 
 /// Returns the light time of the range of this ordered pair that is in force at `t`. The place of a range is guessed for the
-/// pair; a wrong guess costs a binary search.
+/// pair, which may share its slot with others; a wrong guess costs a binary search.
 #[inline(always)]
-fn light_near(ranges: &[Range], one: u64, other: u64, t: u64, guesses: &mut [usize]) -> Option<u32>
+fn light_near(ranges: &[Range], one: u64, other: u64, t: u64, guesses: &mut [u32]) -> Option<u32>
     requires { IsRangeList ranges.now }
     ensures { result ≡ light_of_pair ranges.now one other t }
 {
-    let slot = (one.wrapping_mul(509).wrapping_add(other) % GUESSES as u64) as usize;
+    let slot = one.wrapping_mul(509).wrapping_add(other) as usize % guesses.len().max(1);
     let guess = match guesses.get(slot) {
-        Some(guess) => *guess,
+        Some(guess) => *guess as usize,
         None => 0,
     };
     let light = light_at(ranges, guess, one, other, t);
@@ -85,7 +82,7 @@ fn light_near(ranges: &[Range], one: u64, other: u64, t: u64, guesses: &mut [usi
     }
     let (light, place) = light_behind(ranges, one, other, t, guess.saturating_add(1));
     if slot < guesses.len() {
-        guesses[slot] = place;
+        guesses[slot] = place.min(u32::MAX as usize) as u32;
     }
     light
 }
