@@ -218,8 +218,7 @@ impl<'a, A: Allocator + Copy> Task<'a, A> {
 
     /// As many looks as two passes over all contacts take.
     pub fn two_passes(&self) -> u64
-        ensures value { result ≡ 2 * length self.now.plan.contacts }
-        ensures limit { result ≤ 2 ^ 61 }
+        ensures { result ≡ 2 * length self.now.plan.contacts }
     {
         2 * self.one_pass()
     }

@@ -296,7 +296,7 @@ module _ (task : SearchTask) (is : IsTask task) (late near : List ℕ) (settled 
       let since : task.at ≤ slice_index arrival0 e.node = Leads-later (Takes task) (takes_timely task is.nodes) next_way.0 task.start task.at e.node (slice_index arrival0 e.node) next_way.2 in
       settles task late near settled arrival0 queue0 queue e was.queue_is moved first next_within unsettled best0 bound was.flags was.closed since was.lowered was.sooner was.found
 
-  pub next_counted : (settled' : List Bool) (old new : ℕ) → settled' ≡ slice_set settled e.node true → new ≤ old + sent_by_settled task settled + degree task e.node → new ≤ old + sent_by_settled task settled'
+  pub next_counted : (settled' : List Bool) (old new : ℕ) → settled' ≡ slice_set settled e.node true → old ≤ new + sent_by_settled task settled + degree task e.node → old ≤ new + sent_by_settled task settled'
   next_counted settled' old new settled_is le = omega (arith, ap (sent_by_settled task) settled_is, next_sent)
 
   pub next_settled : (settled' : List Bool) (arrival : List ℕ) (queue' : List Event) (best : Best) → settled' ≡ slice_set settled e.node true →
