@@ -169,7 +169,7 @@ impl<A: Allocator + Copy> Answer<A> {
         requires node { self.now.from.node ≡ task.now.start }
         requires same { self.now.excluded.items ≡ task.now.excluded }
         requires some { 0 < length self.now.way.items }
-        ensures way { IsTrue result → Leads (Takes task.now) task.now.start task.now.at self.now.way.items task.now.goal self.now.delivery }
+        ensures { IsTrue result → Leads (Takes task.now) task.now.start task.now.at self.now.way.items task.now.goal self.now.delivery }
     {
         let mut from = Standing {
             node: task.start(),
@@ -199,7 +199,7 @@ impl<A: Allocator + Copy> Answer<A> {
         requires task { IsTask task.now }
         requires goal { slice_get task.now.table task.now.goal ≡ Some task.now.request.destination }
         requires answer { IsAnswer (tabled_of task.now) task.now.request self.now }
-        ensures answers { IsTrue result → IsAnswerTo self.now task.now left }
+        ensures { IsTrue result → IsAnswerTo self.now task.now left }
     {
         if !self.covers(task, left) {
             return false;
@@ -324,7 +324,7 @@ impl<A: Allocator + Copy> Answers<A> {
         requires task { IsTask task.now }
         requires goal { slice_get task.now.table task.now.goal ≡ Some task.now.request.destination }
         requires kept { All (IsAnswer (tabled_of task.now) task.now.request) self.now.slots.items }
-        ensures some { IfSome result.place (λ place. AnswersAt self.now.slots.items place task.now left) }
+        ensures { IfSome result.place (λ place. AnswersAt self.now.slots.items place task.now left) }
     {
         let mut near: Option<Near> = None;
         let mut place = self.head(bucket_of(task.start(), task.excluded()));

@@ -46,7 +46,7 @@ impl<A: Allocator + Copy> Reach<A> {
         index: &Index<'_, A>,
         request: &Request,
     ) -> Result<Reach<A>, NoMemory>
-        ensures reach { IfOk result (λ reach. IsReach index.now request.now reach) }
+        ensures { IfOk result (λ reach. IsReach index.now request.now reach) }
     {
         let plan = index.plan();
         let opened = Course::open(alloc, plan, request)?;

@@ -56,13 +56,13 @@ links-links-requires-clause-node g c =
     let was = c.loop-event.invariant.settled in
     omega (arith, was.flags, c.requires.task.as_many, head_inside _ _ _ _ _ _ _ c.in-Some.event was.queue_is c.in-Some.ensures.moved c.in-Some.ensures.first)
 
-pub returns-then-links-left-clause-none : goal.returns-then-links-left-clause-none
-returns-then-links-left-clause-none g c =
+pub returns-then-links-looks-clause-none : goal.returns-then-links-looks-clause-none
+returns-then-links-looks-clause-none g c =
     let was = c.loop-event.invariant.settled in
     let within : c.in-Some.event.node < length c.loop-event.self.settled.items = omega (arith, was.flags, was.many, head_inside _ _ _ _ _ _ _ c.in-Some.event was.queue_is c.in-Some.ensures.moved c.in-Some.ensures.first) in
     let off : slice_index_or c.loop-event.self.settled.items c.in-Some.event.node false ≡ false = sym (read_flag c.loop-event.self.settled.items c.in-Some.event.node c.index.result.now within c.index.ensures) ∙ c.if-not-index.true in
     let most = next_most c.args.forward.now.task.now c.requires.task _ _ _ _ _ _ _ c.in-Some.event was c.in-Some.ensures.moved c.in-Some.ensures.first off in
-    omega (arith, most, c.loop-event.invariant.counted, c.if-links-left.true, c.links-links.ensures.few)
+    omega (arith, most, c.loop-event.invariant.counted, c.if-links-looks.true, c.links-links.ensures.few)
 
 pub returns-in_err-best-2-clause-counted : goal.returns-in_err-best-2-clause-counted
 returns-in_err-best-2-clause-counted g c =
