@@ -27,12 +27,10 @@ loop-preserved-then-index g c =
     let was = c.loop.invariant.rising in
     let within : c.in-Some.event.node < length c.loop.self.taken.items = omega (arith, was.flags, next_inside _ c.args.task.now _ _ _ _ c.in-Some.event was c.in-Some.ensures.moved) in
     record {
-      limit = c.loop.invariant.limit;
       rising = skipped _ c.args.task.now _ _ _ _ c.in-Some.event was c.in-Some.ensures.moved (sym (read_flag c.loop.self.taken.items c.in-Some.event.node c.index.result.now within c.index.ensures) ∙ c.if-index.true);
     }
 
 pub loop-preserved : goal.loop-preserved
 loop-preserved g c = record {
-  limit = c.take_senders.ensures.looks;
   rising = finished _ c.args.task.now _ _ _ c.in-Some.event.node c.in_ok-all.ensures.rising (c.in_ok-all.ensures.taken c.if-not-all.false);
 }

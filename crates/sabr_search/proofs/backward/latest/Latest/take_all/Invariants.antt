@@ -4,6 +4,5 @@ use Rattle.sabr_search.proofs.backward.latest.Latest.take_all.Given as goal
 
 abbrev pub invariant-loop : goal.invariant-loop
 invariant-loop g l = record {
-  limit : l.looks.count ≤ l.most;
   rising : AreRising (IsTakenBy l.task) l.task l.self.late.items l.self.taken.items l.self.queue (length l.task.table);
 }
