@@ -1,4 +1,4 @@
-use Rattle.std.proofs.Common.{◌≡◌, ℕ, ◌<◌, ◌≤◌, Some, slice_get, slice_index}
+use Rattle.std.proofs.Common.{◌≡◌, ℕ, ◌<◌, Some, slice_get, slice_index}
 use Rattle.sabr_index.specs.Links.{SentLink}
 use Rattle.sabr_search.specs.questions.Task.{Takes}
 use Rattle.sabr_search.specs.questions.Linked.{HasNumber}
