@@ -40,7 +40,6 @@ loop-hop-preserved g c =
     record {
       layers = layers_next c.args.task.now c.requires.task c.loop-hop.hop _ _ _ _ c.loop-hop.best c.loop-hop.invariant.layers _ _ _ _ c.in_ok-delivery.delivery c.in_ok-delivery.ensures.lowered c.in_ok-delivery.ensures.known bounds c.if-delivery-best.best
           (elim c.if-delivery-best.branch [ then-delivery-best w ↦ inl (w.if-delivery-best.true, w.best-is) | else-delivery-best w ↦ inr (w.if-delivery-best.false, w.best-is) ]);
-      limit = omega (arith, c.next_layer.ensures.looks, c.one_pass.ensures.value, c.if-one_pass-most.false);
       counted = omega (arith, c.next_layer.ensures.looks, c.loop-hop.invariant.counted);
       sooner = c.if-best-lower.false;
     }
@@ -51,7 +50,7 @@ returns-clause-best g c =
     best_within c.args.task.now c.loop-hop.hop _ _ _ _ _ made c.args.hops (omega arith) (λ ns e le way. least_within c.args.task.now c.requires.task c.loop-hop.hop _ _ _ _ _ made ns e (omega (arith, le)) way)
 
 pub next_layer-requires-clause-few : goal.next_layer-requires-clause-few
-next_layer-requires-clause-few g c = omega (arith, c.requires.most, c.loop-hop.invariant.limit, c.one_pass.ensures.value, c.if-one_pass-most.false)
+next_layer-requires-clause-few g c = omega (arith, c.one_pass.ensures.value, c.if-one_pass-looks.false)
 
 pub returns-in_err-delivery-clause-counted : goal.returns-in_err-delivery-clause-counted
 returns-in_err-delivery-clause-counted g c =
@@ -83,14 +82,14 @@ returns-clause-counted g c =
     let more : c.loop-hop.hop * contacts ≤ c.args.hops * contacts = mul-le-mul_right contacts (omega arith) in
     omega (arith, c.loop-hop.invariant.counted, more)
 
-pub returns-then-one_pass-most-clause-none : goal.returns-then-one_pass-most-clause-none
-returns-then-one_pass-most-clause-none g c =
+pub returns-then-one_pass-looks-clause-none : goal.returns-then-one_pass-looks-clause-none
+returns-then-one_pass-looks-clause-none g c =
     let contacts = length c.args.task.now.plan.contacts in
     let more : (c.loop-hop.hop + 1) * contacts ≤ c.args.hops * contacts = mul-le-mul_right contacts (omega arith) in
-    omega (arith, c.if-one_pass-most.true, c.one_pass.ensures.value, c.loop-hop.invariant.counted, more)
+    omega (arith, c.if-one_pass-looks.true, c.one_pass.ensures.value, c.loop-hop.invariant.counted, more)
 
-pub returns-then-one_pass-most-clause-counted : goal.returns-then-one_pass-most-clause-counted
-returns-then-one_pass-most-clause-counted g c =
+pub returns-then-one_pass-looks-clause-counted : goal.returns-then-one_pass-looks-clause-counted
+returns-then-one_pass-looks-clause-counted g c =
     let contacts = length c.args.task.now.plan.contacts in
     let more : (c.loop-hop.hop + 1) * contacts ≤ c.args.hops * contacts = mul-le-mul_right contacts (omega arith) in
     omega (arith, c.loop-hop.invariant.counted, more)

@@ -10,7 +10,6 @@ pub loop-left-init : goal.loop-left-init
 loop-left-init g c =
     let first = c.in_ok-first_back.ensures in
     record {
-      limit = c.requires.few;
       counted = omega arith;
       made = late_first c.args.aim.now.task.now c.requires.task c.args.aim.now.since.now c.args.aim.now.delivery _ _ _ _ first.ends first.reached first.place first.late;
     }
@@ -50,7 +49,6 @@ loop-left-preserved g c =
     let same_ends : next.ends.items ≡ old.ends.items = ap (λ v. v.items) c.next_back.ensures.ends in
     let many : c.len-end.result ≡ length next.reached.items = omega (arith, c.len-end.ensures, next.reached.ok.0) in
     record {
-      limit = c.next_back.ensures.looks;
       counted = omega (arith, c.next_back.ensures.counted, c.loop-left.invariant.counted);
       made = late_next task c.requires.task c.args.aim.now.since.now c.args.aim.now.delivery left old.ends.items old.late.items old.place.items old.reached.items c.loop-left.invariant.made
           c.push.new.self.items next.late.items next.place.items next.reached.items one.lists one.kept (one.told (c.in-Some.is ∙ ap Some c.if-starts.false))

@@ -63,7 +63,6 @@ loop-place-preserved g c =
     let received_here = rw (← first) at (received_next task old.ends.items old.reached.items c.args.left place to c.requires.apart (omega (arith, first)) (omega (arith, begin, c.loop-place-test.true)) at) in
     record {
       ends = c.take_senders.ensures.ends ∙ so_far.ends;
-      limit = c.take_senders.ensures.looks;
       counted = omega (arith, c.take_senders.ensures.counted, so_far.counted, received_here);
       lists = rw so_far.ends at one.lists;
       kept = rw so_far.ends at one.kept ∙ so_far.kept;

@@ -16,7 +16,6 @@ loop-hop-init g c =
     let started : IsFront task (c.args.left + 1) c.args.aim.now.delivery 0 [] c.start.result c.at.result = rw (c.start.ensures, c.at.ensures) (front_none task c.requires.task _ _ _ _ _ _ c.requires.met c.requires.least) in
     record {
       counted = omega arith;
-      limit = c.requires.looked;
       met = c.requires.met;
       node = omega (arith, c.start.ensures, c.requires.task.start_in);
       chosen = rw c.in_ok-numbers.ensures.items started;
@@ -50,11 +49,11 @@ least_step-least-requires-clause-ends g c = rw (c.point_at.ensures.ends, c.point
 pub least_step-least-requires-clause-open : goal.least_step-least-requires-clause-open
 least_step-least-requires-clause-open g c = rw c.point_at.ensures.reached (entries_open c.args.aim.now.task.now c.requires.task _ _ _ _ _ _ c.loop-hop.invariant.met)
 
-pub returns-then-links-most-clause-none : goal.returns-then-links-most-clause-none
-returns-then-links-most-clause-none g c =
+pub returns-then-links-looks-clause-none : goal.returns-then-links-looks-clause-none
+returns-then-links-looks-clause-none g c =
     let task = c.args.aim.now.task.now in
     let passes : length c.links-links.result.passes.now ≤ length task.plan.contacts = few task _ _ _ c.links-links.ensures in
-    omega (arith, c.if-links-most.true, c.loop-hop.invariant.counted, passes, more c.loop-hop.hop (c.args.left + 1) (length task.plan.contacts) c.loop-hop-test.true)
+    omega (arith, c.if-links-looks.true, c.loop-hop.invariant.counted, passes, more c.loop-hop.hop (c.args.left + 1) (length task.plan.contacts) c.loop-hop-test.true)
 
 pub unreachable-requires : goal.unreachable-requires
 unreachable-requires g c =
@@ -64,8 +63,8 @@ unreachable-requires g c =
     rw (c.point_at.ensures.ends, c.point_at.ensures.reached) (met_place task c.requires.task _ _ _ _ _ _ c.loop-hop.invariant.met new.place.items c.point_at.ensures.many) in
     some_step task c.requires.task _ _ c.args.left _ _ _ met c.loop-hop.hop c.loop-hop-test.true c.loop-hop.numbers.items c.loop-hop.from.node c.loop-hop.from.at c.loop-hop.invariant.chosen (rw c.in_default.is at c.least_step-least.ensures.none)
 
-pub returns-in_err-push-clause-looks : goal.returns-in_err-push-clause-looks
-returns-in_err-push-clause-looks g c =
+pub returns-in_err-push-clause-counted : goal.returns-in_err-push-clause-counted
+returns-in_err-push-clause-counted g c =
     let task = c.args.aim.now.task.now in
     let passes : length c.links-links.result.passes.now ≤ length task.plan.contacts = few task _ _ _ c.links-links.ensures in
     omega (arith, c.least_step-least.ensures.looks, c.loop-hop.invariant.counted, passes, more c.loop-hop.hop (c.args.left + 1) (length task.plan.contacts) c.loop-hop-test.true)
@@ -82,7 +81,6 @@ loop-hop-preserved g c =
     let least : IsLeastStep task new.ends.items new.reached.items (c.args.left - c.loop-hop.hop) c.loop-hop.from.node c.loop-hop.from.at c.in-Some.step = rw c.in-Some.is at c.least_step-least.ensures.some in
     record {
       counted = omega (arith, c.least_step-least.ensures.looks, c.loop-hop.invariant.counted, passes);
-      limit = omega (arith, c.least_step-least.ensures.looks, c.loop-hop.invariant.limit);
       met = met;
       node = slice_get_within task.table c.in-Some.step.node least.step.contact.to least.step.receiver;
       chosen = rw c.in_ok-push.ensures.items (front_more task c.requires.task _ d c.args.left _ _ _ met c.loop-hop.hop (omega arith) c.loop-hop.numbers.items c.loop-hop.from.node c.loop-hop.from.at c.loop-hop.invariant.chosen c.in-Some.step least);
