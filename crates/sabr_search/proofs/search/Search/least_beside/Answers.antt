@@ -10,8 +10,8 @@ use Rattle.sabr_search.proofs.AnswerLemmas.KeptAnswers.{found_told}
 use Rattle.sabr_search.proofs.AnswerLemmas.Around.{of_request, reach_bounds}
 use Rattle.sabr_search.proofs.search.Search.least_beside.Goals as goal
 
-pub returns-in_err-clause-bound : goal.returns-in_err-clause-bound
-returns-in_err-clause-bound g c = omega (arith, c.put_back.ensures, c.set_aside-aside.ensures.aside, c.two_passes.ensures, passes_within c.args.task.now c.args.prefix.now c.requires.asked)
+pub returns-in_err-place-clause-bound : goal.returns-in_err-place-clause-bound
+returns-in_err-place-clause-bound g c = omega (arith, c.put_back.ensures, c.set_aside-aside.ensures.aside, c.two_passes.ensures, passes_within c.args.task.now c.args.prefix.now c.requires.asked)
 
 pub returns-in_err-way-clause-bound : goal.returns-in_err-way-clause-bound
 returns-in_err-way-clause-bound g c = omega (arith, c.find_own.ensures.bound)
@@ -51,14 +51,14 @@ pub route-requires-clause-found : goal.route-requires-clause-found
 route-requires-clause-found g c =
     let task = c.args.task.now in
     rw c.deref.ensures.value
-    (found_told task c.requires.asked.task_is c.requires.asked.behind.goal_is c.find_kept.new.kept.answers.slots.items c.find_kept.ensures.kept.1 c.in-Some.place (left_of task c.args.prefix.now) (rw c.in-Some.is at c.in_ok-place.ensures.some) c.index-answer.result.now c.index-answer.ensures)
+    (found_told task c.requires.asked.task_is c.requires.asked.behind.goal_is c.find_kept-found.new.kept.answers.slots.items c.find_kept-found.ensures.kept.1 c.in-Some.place (left_of task c.args.prefix.now) (rw c.in-Some.is at c.in_ok-place.ensures.some) c.index-answer.result.now c.index-answer.ensures)
 
 pub route-requires-clause-few : goal.route-requires-clause-few
 route-requires-clause-few g c =
     let task = c.args.task.now in
     let prefix = c.args.prefix.now in
     let answer = c.index-answer.result.now in
-    let found = found_told task c.requires.asked.task_is c.requires.asked.behind.goal_is c.find_kept.new.kept.answers.slots.items c.find_kept.ensures.kept.1 c.in-Some.place (left_of task prefix) (rw c.in-Some.is at c.in_ok-place.ensures.some) answer c.index-answer.ensures in
+    let found = found_told task c.requires.asked.task_is c.requires.asked.behind.goal_is c.find_kept-found.new.kept.answers.slots.items c.find_kept-found.ensures.kept.1 c.in-Some.place (left_of task prefix) (rw c.in-Some.is at c.in_ok-place.ensures.some) answer c.index-answer.ensures in
     rw c.deref.ensures.value (route_fits task prefix c.requires.asked answer.way.items answer.delivery c.put_back.new.self found (omega (arith, c.put_back.ensures, c.set_aside-aside.ensures.aside, c.two_passes.ensures, passes_within task prefix c.requires.asked)))
 
 pub route-requires-2-clause-few : goal.route-requires-2-clause-few
@@ -68,4 +68,4 @@ route-requires-2-clause-few g c =
 pub find_own-requires-clause-bound : goal.find_own-requires-clause-bound
 find_own-requires-clause-bound g c =
     let task = c.args.task.now in
-    reach_bounds task c.requires.asked.task_is.nodes (of_request task c.args.prefix.now c.requires.asked.behind) _ c.find_kept.ensures.kept.0
+    reach_bounds task c.requires.asked.task_is.nodes (of_request task c.args.prefix.now c.requires.asked.behind) _ c.find_kept-found.ensures.kept.0
