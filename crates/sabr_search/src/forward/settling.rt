@@ -15,9 +15,9 @@ use crate::backward::pick::Standing;
 use crate::forward::layers::{Best, NEVER, news_before, open_nodes};
 use crate::forward::queue::{Event, Queue};
 use crate::links::looks::Looks;
-use crate::links::over_link::{WalkedLink, is_soonest, link_passes};
+use crate::links::over_link::{WalkedLink, link_passes, rules_out};
 use crate::task::Task;
-use sabr_index::{Link, Links};
+use sabr_index::Links;
 use sabr_model::NoMemory;
 use std::alloc::Allocator;
 
@@ -72,18 +72,6 @@ impl<'t, 'a, 'b, A: Allocator + Copy> Forward<'t, 'a, 'b, A> {
             delivery.saturating_sub(self.cost(to)),
         )
     }
-}
-
-/// Returns true if, by the bounds of a link, nothing that is at its sender at `at` brings news to its receiver.
-#[inline(always)]
-fn is_told(arrival: &[u64], goal: usize, link: &Link, at: u64, best: u64) -> bool
-    requires { link.now.receiver < length arrival.now }
-    ensures goal { IsTrue result → link.now.receiver ≡ goal → (best ≤ link.now.bounds.soonest) ⊎ (best ≤ at + link.now.bounds.least_light) }
-    ensures other { IsTrue result → link.now.receiver ≢ goal → (slice_index arrival.now link.now.receiver ≤ link.now.bounds.soonest) ⊎ (slice_index arrival.now link.now.receiver ≤ at + link.now.bounds.least_light) }
-{
-    let to = link.receiver;
-    let known = if to == goal { best } else { arrival[to] };
-    is_soonest(link.bounds, at, known)
 }
 
 /// For each node, its least arrival so far and whether it is settled; and the waiting arrivals.
@@ -221,10 +209,10 @@ impl<A: Allocator + Copy> Settling<A> {
         ensures pushes { OnOk result (length self.new.queue + looks.new.left ≤ length self.old.queue + looks.old.left) }
     {
         self.settled[event.node] = true;
-        let goal = forward.task.goal();
         let mut least = best;
         for link in links.links {
-            if is_told(&self.arrival, goal, link, event.at, least.delivery) {
+            let before = forward.news(&self.arrival, link.receiver, least.delivery);
+            if rules_out(link.bounds, event.at, before) {
                 continue;
             }
             let passes = link_passes(links, link);
