@@ -26,7 +26,7 @@ fn note_hops<A: Allocator + Copy>(hops: &mut Vec<u64, A>, node: usize, next: usi
 }
 
 impl<A: Allocator + Copy> Latest<A> {
-    /// Takes the bounds of one link to a node that is so near.
+    /// Takes the bounds of one link to a node that is so near, unless it has ended when the request begins.
     fn near_sender(
         &mut self,
         task: &Task<'_, A>,
@@ -53,6 +53,9 @@ impl<A: Allocator + Copy> Latest<A> {
             return Ok(());
         }
         if task.shut()[node] {
+            return Ok(());
+        }
+        if from.bounds.latest_end <= task.request().at() {
             return Ok(());
         }
         let cost = task.cost(from.bounds.least_light.min(MOST_LIGHT));
@@ -117,7 +120,7 @@ impl<A: Allocator + Copy> Latest<A> {
 }
 
 /// Returns for each node how near the destination is: `NEVER` less the least sum of the links' least costs on a way over the
-/// whole graph. The hops of such a way are noted in `hops`. Nothing is known of any node if the links of more
+/// links that haven't ended when the request begins. The hops of such a way are noted in `hops`. Nothing is known of any node if the links of more
 /// nodes would be taken than twice as many as there are contacts.
 pub fn nearest_of<A: Allocator + Copy>(
     alloc: A,
