@@ -1,5 +1,4 @@
-use Rattle.std.proofs.Common.{◌≡◌, ◌≤◌, ◌+◌, ◌*◌, ◌++◌, [], ◌∷◌, inl, inr, length, slice_index, ap, ◌∙◌, refl, arith}
-use Rattle.std.proofs.Math.Nat.{mul-le-mul_right}
+use Rattle.std.proofs.Common.{◌≡◌, ◌+◌, ◌++◌, [], ◌∷◌, inl, inr, length, slice_index, ap, ◌∙◌, refl, arith}
 use Rattle.sabr_search.specs.layers.Made.{AreLayers}
 use Rattle.sabr_search.proofs.ForwardLemmas.Between.{read_at}
 use Rattle.sabr_search.proofs.ForwardLemmas.MadeLayers.{layers_next, best_within, least_within, least_of_all, sources_of, index_before}
@@ -48,48 +47,3 @@ pub returns-clause-best : goal.returns-clause-best
 returns-clause-best g c =
     let made = c.loop-hop.invariant.layers in
     best_within c.args.task.now c.loop-hop.hop _ _ _ _ _ made c.args.hops (omega arith) (λ ns e le way. least_within c.args.task.now c.requires.task c.loop-hop.hop _ _ _ _ _ made ns e (omega (arith, le)) way)
-
-pub next_layer-requires-clause-few : goal.next_layer-requires-clause-few
-next_layer-requires-clause-few g c = omega (arith, c.one_pass.ensures.value, c.if-one_pass-looks.false)
-
-pub returns-in_err-delivery-clause-counted : goal.returns-in_err-delivery-clause-counted
-returns-in_err-delivery-clause-counted g c =
-    let contacts = length c.args.task.now.plan.contacts in
-    let more : (c.loop-hop.hop + 1) * contacts ≤ c.args.hops * contacts = mul-le-mul_right contacts (omega arith) in
-    omega (arith, c.next_layer.ensures.looks, c.loop-hop.invariant.counted, more)
-
-pub returns-in_err-push-clause-counted : goal.returns-in_err-push-clause-counted
-returns-in_err-push-clause-counted g c =
-    let contacts = length c.args.task.now.plan.contacts in
-    let more : (c.loop-hop.hop + 1) * contacts ≤ c.args.hops * contacts = mul-le-mul_right contacts (omega arith) in
-    omega (arith, c.next_layer.ensures.looks, c.loop-hop.invariant.counted, more)
-
-pub returns-then-best-lower-clause-counted : goal.returns-then-best-lower-clause-counted
-returns-then-best-lower-clause-counted g c =
-    let contacts = length c.args.task.now.plan.contacts in
-    let more : (c.loop-hop.hop + 1) * contacts ≤ c.args.hops * contacts = mul-le-mul_right contacts (omega arith) in
-    omega (arith, c.next_layer.ensures.looks, c.loop-hop.invariant.counted, more)
-
-pub returns-then-end-begin-clause-counted : goal.returns-then-end-begin-clause-counted
-returns-then-end-begin-clause-counted g c =
-    let contacts = length c.args.task.now.plan.contacts in
-    let more : (c.loop-hop.hop + 1) * contacts ≤ c.args.hops * contacts = mul-le-mul_right contacts (omega arith) in
-    omega (arith, c.next_layer.ensures.looks, c.loop-hop.invariant.counted, more)
-
-pub returns-clause-counted : goal.returns-clause-counted
-returns-clause-counted g c =
-    let contacts = length c.args.task.now.plan.contacts in
-    let more : c.loop-hop.hop * contacts ≤ c.args.hops * contacts = mul-le-mul_right contacts (omega arith) in
-    omega (arith, c.loop-hop.invariant.counted, more)
-
-pub returns-then-one_pass-looks-clause-none : goal.returns-then-one_pass-looks-clause-none
-returns-then-one_pass-looks-clause-none g c =
-    let contacts = length c.args.task.now.plan.contacts in
-    let more : (c.loop-hop.hop + 1) * contacts ≤ c.args.hops * contacts = mul-le-mul_right contacts (omega arith) in
-    omega (arith, c.if-one_pass-looks.true, c.one_pass.ensures.value, c.loop-hop.invariant.counted, more)
-
-pub returns-then-one_pass-looks-clause-counted : goal.returns-then-one_pass-looks-clause-counted
-returns-then-one_pass-looks-clause-counted g c =
-    let contacts = length c.args.task.now.plan.contacts in
-    let more : (c.loop-hop.hop + 1) * contacts ≤ c.args.hops * contacts = mul-le-mul_right contacts (omega arith) in
-    omega (arith, c.loop-hop.invariant.counted, more)

@@ -1,5 +1,4 @@
-use Rattle.std.proofs.Common.{ℕ, List, ◌≤◌, ◌<◌, ◌+◌, ◌-◌, ◌*◌, [], length, arith}
-use Rattle.std.proofs.Math.Nat.{mul-le-mul_right}
+use Rattle.std.proofs.Common.{ℕ, List, ◌≤◌, ◌+◌, ◌-◌, [], length, arith}
 use Rattle.std.proofs.lemmas.Option.{slice_get_within}
 use Rattle.sabr_index.specs.declared.link.Pass.{Pass}
 use Rattle.sabr_index.specs.declared.link.Link.{Link}
@@ -8,6 +7,7 @@ use Rattle.sabr_search.specs.questions.Linked.{AreLinksAt}
 use Rattle.sabr_search.specs.layers.Late.{AreMet}
 use Rattle.sabr_search.specs.layers.Picks.{IsLeastStep}
 use Rattle.sabr_search.proofs.BackwardLemmas.Front.{IsFront, ends_below, entries_open, front_none, some_step, front_more, front_all, met_place, degree_at_most}
+use Rattle.sabr_search.proofs.ForwardLemmas.MadeLayers.{layer_more}
 use Rattle.sabr_search.proofs.forward.layers.Layers.pick.Goals as goal
 
 pub loop-hop-init : goal.loop-hop-init
@@ -37,12 +37,6 @@ point_at-requires-clause-apart g c = λ p q e f. c.loop-hop.invariant.met.made.a
 few : (task : SearchTask) (u : ℕ) (links : List Link) (passes : List Pass) → AreLinksAt task u links passes → length passes ≤ length task.plan.contacts
 few task u links passes at = omega (arith, at.few, degree_at_most task u)
 
--- so one more hop is within those of all
-more : (hop hops contacts : ℕ) → hop < hops → hop * contacts + contacts ≤ hops * contacts
-more hop hops contacts less =
-    let le : (hop + 1) * contacts ≤ hops * contacts = mul-le-mul_right contacts (omega (arith, less)) in
-    omega (arith, le)
-
 pub least_step-least-requires-clause-ends : goal.least_step-least-requires-clause-ends
 least_step-least-requires-clause-ends g c = rw (c.point_at.ensures.ends, c.point_at.ensures.reached) (ends_below c.args.aim.now.task.now c.requires.task _ _ _ _ _ _ c.loop-hop.invariant.met _)
 
@@ -53,7 +47,7 @@ pub returns-then-links-looks-clause-none : goal.returns-then-links-looks-clause-
 returns-then-links-looks-clause-none g c =
     let task = c.args.aim.now.task.now in
     let passes : length c.links-links.result.passes.now ≤ length task.plan.contacts = few task _ _ _ c.links-links.ensures in
-    omega (arith, c.if-links-looks.true, c.loop-hop.invariant.counted, passes, more c.loop-hop.hop (c.args.left + 1) (length task.plan.contacts) c.loop-hop-test.true)
+    omega (arith, c.if-links-looks.true, c.loop-hop.invariant.counted, layer_more c.loop-hop.hop (c.args.left + 1) (length task.plan.contacts) c.loop-hop-test.true)
 
 pub unreachable-requires : goal.unreachable-requires
 unreachable-requires g c =
@@ -67,7 +61,7 @@ pub returns-in_err-push-clause-counted : goal.returns-in_err-push-clause-counted
 returns-in_err-push-clause-counted g c =
     let task = c.args.aim.now.task.now in
     let passes : length c.links-links.result.passes.now ≤ length task.plan.contacts = few task _ _ _ c.links-links.ensures in
-    omega (arith, c.least_step-least.ensures.looks, c.loop-hop.invariant.counted, passes, more c.loop-hop.hop (c.args.left + 1) (length task.plan.contacts) c.loop-hop-test.true)
+    omega (arith, c.least_step-least.ensures.looks, c.loop-hop.invariant.counted, layer_more c.loop-hop.hop (c.args.left + 1) (length task.plan.contacts) c.loop-hop-test.true)
 
 pub loop-hop-preserved : goal.loop-hop-preserved
 loop-hop-preserved g c =
