@@ -115,7 +115,7 @@ pub struct Answers<A: Allocator + Copy = Global> {
     /// The slot that is filled next.
     next: usize,
     /// By bucket the place of the latest answer.
-    heads: Vec<usize, A>,
+    heads: Vec<u32, A>,
     /// Whether wide questions pay.
     wide: Payoff,
     /// Whether those near an answer pay.
@@ -314,7 +314,7 @@ impl<A: Allocator + Copy> Answers<A> {
     /// The place of the latest answer in a bucket.
     fn head(&self, bucket: usize) -> usize {
         match self.heads.get(bucket) {
-            Some(head) => *head,
+            Some(head) => *head as usize,
             None => NONE,
         }
     }
@@ -372,7 +372,7 @@ impl<A: Allocator + Copy> Answers<A> {
         ensures { self.new.slots ≡ self.old.slots }
     {
         if self.heads.is_empty() {
-            return self.heads.resize(SLOTS, NONE).is_ok();
+            return self.heads.resize(SLOTS, u32::MAX).is_ok();
         }
         true
     }
@@ -396,7 +396,7 @@ impl<A: Allocator + Copy> Answers<A> {
         ensures { self.new.slots ≡ self.old.slots }
     {
         if bucket < self.heads.len() {
-            self.heads[bucket] = place;
+            self.heads[bucket] = place.min(u32::MAX as usize) as u32;
         }
     }
 

@@ -128,7 +128,7 @@ impl<A: Allocator + Copy> Latest<A> {
     }
 
     /// Takes the links of the nodes that wait, until none does. Returns false if more looks might be needed than are left,
-    /// or after twice as many nodes as there are contacts.
+    /// or after two nodes for each contact.
     fn take_all(&mut self, task: &Task<'_, A>, looks: &mut Looks) -> Result<bool, NoMemory>
         requires task { IsTask task.now }
         requires rising { AreRising (IsTakenBy task.now) task.now self.old.late.items self.old.taken.items self.old.queue (length task.now.table) }

@@ -98,8 +98,7 @@ impl<A: Allocator + Copy> Latest<A> {
         Ok(())
     }
 
-    /// Takes the links of the nodes that wait, of at most twice as many as there are contacts. Returns whether none waits
-    /// then.
+    /// Takes the links of the nodes that wait, of at most two for each contact. Returns whether none waits then.
     fn near_all(&mut self, task: &Task<'_, A>, hops: &mut Vec<u64, A>) -> Result<bool, NoMemory>
         requires task { IsTask task.now }
         requires rising { AreRising (IsNearBy task.now) task.now self.old.late.items self.old.taken.items self.old.queue (length task.now.table) }
@@ -120,8 +119,8 @@ impl<A: Allocator + Copy> Latest<A> {
 }
 
 /// Returns for each node how near the destination is: `NEVER` less the least sum of the links' least costs on a way over the
-/// links that haven't ended when the request begins. The hops of such a way are noted in `hops`. Nothing is known of any node if the links of more
-/// nodes would be taken than twice as many as there are contacts.
+/// links that haven't ended when the request begins. The hops of such a way are noted in `hops`. Nothing is known of any
+/// node if the links of more nodes than two for each contact would be taken.
 pub fn nearest_of<A: Allocator + Copy>(
     alloc: A,
     task: &Task<'_, A>,

@@ -1,5 +1,4 @@
-use Rattle.std.proofs.Common.{◌≡◌, inl, inr, ◌+◌, ◌*◌, ◌≤◌, ◌++◌, [], ◌∷◌, Some, length, take, slice_index, ap, sym, ◌∙◌, arith}
-use Rattle.std.proofs.Math.Nat.{mul-le-mul_right}
+use Rattle.std.proofs.Common.{◌≡◌, inr, ◌+◌, ◌++◌, [], ◌∷◌, Some, length, take, slice_index, ap, sym, ◌∙◌, arith}
 use Rattle.sabr_search.proofs.ForwardLemmas.Between.{read_at}
 use Rattle.sabr_search.proofs.BackwardLemmas.LateMade.{late_first, late_next, met_at, take_whole}
 use Rattle.sabr_search.proofs.BackwardLemmas.Ended.{none_by}
@@ -64,12 +63,6 @@ returns-then-index-clause-none g c =
     sym (read_at old.ends.items left c.index.result.now (omega (arith, made.many)) c.index.ensures) ∙ c.if-index.true ∙ read_at old.ends.items (left + 1) c.index-in-loop-left.result.now (omega (arith, made.many)) c.index-in-loop-left.ensures in
     let none = none_by c.args.aim.now.task.now c.requires.task _ _ left old.ends.items old.late.items old.place.items old.reached.items made empty c.requires.arrivals in
     inr (λ ns e le way. omega (arith, none ns e way))
-
-pub returns-in_default-clause-none : goal.returns-in_default-clause-none
-returns-in_default-clause-none g c =
-    let contacts = length c.args.aim.now.task.now.plan.contacts in
-    let more : (c.loop-left.left + 1) * contacts ≤ c.args.hops * contacts = mul-le-mul_right contacts (omega arith) in
-    inl (omega (arith, rw c.in_default.is at c.in_ok-told.ensures.none, c.loop-left.invariant.counted, more))
 
 pub returns-clause-none : goal.returns-clause-none
 returns-clause-none g c =

@@ -1,4 +1,4 @@
-use Rattle.std.proofs.Common.{◌≡◌, suc, ◌<◌, length, slice_index_or, false, refl, sym, ◌∙◌, arith}
+use Rattle.std.proofs.Common.{◌≡◌, ◌<◌, length, slice_index_or, false, refl, sym, ◌∙◌, arith}
 use Rattle.std.proofs.lemmas.List.Sorted.{length_permutation}
 use Rattle.sabr_search.proofs.ForwardLemmas.Queues.{head_inside, head_few, waits_later, queue_stale}
 use Rattle.sabr_search.proofs.ForwardLemmas.FirstWays.{start_sent, next_most, next_way, next_state, next_counted, next_settled, settled_stale, first_found, arrivals_found, read_flag}

@@ -1,4 +1,4 @@
-use Rattle.std.proofs.Common.{◌+◌, ◌-◌, ◌≤◌, length}
+use Rattle.std.proofs.Common.{◌+◌, ◌≤◌, length}
 use Rattle.sabr_search.specs.questions.Steps.{degree}
 use Rattle.sabr_search.specs.layers.Settling.{AreSettled, sent_by_settled}
 use Rattle.sabr_search.proofs.forward.settling.Settling.settle_all.Given as goal
