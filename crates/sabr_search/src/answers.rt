@@ -115,7 +115,7 @@ pub struct Answers<A: Allocator + Copy = Global> {
     /// The slot that is filled next.
     next: usize,
     /// By bucket the place of the latest answer.
-    heads: Vec<usize, A>,
+    heads: Vec<u32, A>,
     /// Whether wide questions pay.
     wide: Payoff,
     /// Whether those near an answer pay.
@@ -161,25 +161,22 @@ impl<A: Allocator + Copy> Answer<A> {
     }
 
     /// Goes along its way from where a question stands, a look for each contact; returns whether it delivers at the same
-    /// second, within `most` looks. Notes the first shut node that it passes.
-    fn leads(&self, task: &Task<'_, A>, looks: &mut Looks, most: u64, passed: &mut usize) -> bool
+    /// second, within the looks that are left. Notes the first shut node that it passes.
+    fn leads(&self, task: &Task<'_, A>, looks: &mut Looks, passed: &mut usize) -> bool
         requires task { IsTask task.now }
         requires goal { slice_get task.now.table task.now.goal ≡ Some task.now.request.destination }
         requires answer { IsAnswer (tabled_of task.now) task.now.request self.now }
         requires node { self.now.from.node ≡ task.now.start }
         requires same { self.now.excluded.items ≡ task.now.excluded }
         requires some { 0 < length self.now.way.items }
-        requires few { looks.old.count ≤ most }
-        requires most { most ≤ 2 ^ 60 }
-        ensures looks { looks.new.count ≤ most }
-        ensures way { IsTrue result → Leads (Takes task.now) task.now.start task.now.at self.now.way.items task.now.goal self.now.delivery }
+        ensures { IsTrue result → Leads (Takes task.now) task.now.start task.now.at self.now.way.items task.now.goal self.now.delivery }
     {
         let mut from = Standing {
             node: task.start(),
             at: task.at(),
         };
         for place in 0..self.way.len() {
-            if looks.count >= most {
+            if looks.left == 0 {
                 return false;
             }
             let Some(next) = task.arrive_by(looks, self.way[place], from.at, passed) else {
@@ -190,23 +187,19 @@ impl<A: Allocator + Copy> Answer<A> {
         from.node == task.goal() && from.at == self.delivery
     }
 
-    /// Returns whether it is the answer to a question, too, as far as `most` looks show it. If its way passes a shut node,
-    /// notes that.
+    /// Returns whether it is the answer to a question, too, as far as the looks that are left show it. If its way passes
+    /// a shut node, notes that.
     fn answers(
         &self,
         task: &Task<'_, A>,
         looks: &mut Looks,
-        most: u64,
         left: usize,
         passed: &mut usize,
     ) -> bool
         requires task { IsTask task.now }
         requires goal { slice_get task.now.table task.now.goal ≡ Some task.now.request.destination }
         requires answer { IsAnswer (tabled_of task.now) task.now.request self.now }
-        requires few { looks.old.count ≤ most }
-        requires most { most ≤ 2 ^ 60 }
-        ensures looks { looks.new.count ≤ most }
-        ensures answers { IsTrue result → IsAnswerTo self.now task.now left }
+        ensures { IsTrue result → IsAnswerTo self.now task.now left }
     {
         if !self.covers(task, left) {
             return false;
@@ -217,7 +210,7 @@ impl<A: Allocator + Copy> Answer<A> {
         if self.way.len() > left {
             return false;
         }
-        self.leads(task, looks, most, passed)
+        self.leads(task, looks, passed)
     }
 }
 
@@ -321,20 +314,17 @@ impl<A: Allocator + Copy> Answers<A> {
     /// The place of the latest answer in a bucket.
     fn head(&self, bucket: usize) -> usize {
         match self.heads.get(bucket) {
-            Some(head) => *head,
+            Some(head) => *head as usize,
             None => NONE,
         }
     }
 
     /// The place of an answer that is the answer to this question, too; or else the near one whose question shut most nodes.
-    fn find(&self, task: &Task<'_, A>, looks: &mut Looks, most: u64, left: usize) -> Lookup
+    fn find(&self, task: &Task<'_, A>, looks: &mut Looks, left: usize) -> Lookup
         requires task { IsTask task.now }
         requires goal { slice_get task.now.table task.now.goal ≡ Some task.now.request.destination }
         requires kept { All (IsAnswer (tabled_of task.now) task.now.request) self.now.slots.items }
-        requires few { looks.old.count ≤ most }
-        requires most { most ≤ 2 ^ 60 }
-        ensures looks { looks.new.count ≤ most }
-        ensures some { IfSome result.place (λ place. AnswersAt self.now.slots.items place task.now left) }
+        ensures { IfSome result.place (λ place. AnswersAt self.now.slots.items place task.now left) }
     {
         let mut near: Option<Near> = None;
         let mut place = self.head(bucket_of(task.start(), task.excluded()));
@@ -343,7 +333,7 @@ impl<A: Allocator + Copy> Answers<A> {
                 return Lookup { place: None, near };
             };
             let mut passed = NONE;
-            if answer.answers(task, looks, most, left, &mut passed) {
+            if answer.answers(task, looks, left, &mut passed) {
                 return Lookup {
                     place: Some(place),
                     near: None,
@@ -358,18 +348,10 @@ impl<A: Allocator + Copy> Answers<A> {
     }
 
     /// The same for a question after a prefix, if its answer is kept. Counts an answer that is found.
-    pub fn recall(
-        &mut self,
-        asked: &Question<'_, '_, '_, A>,
-        looks: &mut Looks,
-        most: u64,
-    ) -> Lookup
+    pub fn recall(&mut self, asked: &Question<'_, '_, '_, A>, looks: &mut Looks) -> Lookup
         requires asked { IsAsked asked.now.task.now asked.now.prefix.now }
         requires kept { All (IsAnswer (tabled_of asked.now.task.now) asked.now.task.now.request) self.old.slots.items }
-        requires few { looks.old.count ≤ most }
-        requires most { most ≤ 2 ^ 60 }
         ensures slots { self.new.slots ≡ self.old.slots }
-        ensures looks { looks.new.count ≤ most }
         ensures some { IfSome result.place (λ place. AnswersAt self.old.slots.items place asked.now.task.now (left_of asked.now.task.now asked.now.prefix.now)) }
     {
         if !is_kept(asked) {
@@ -378,7 +360,7 @@ impl<A: Allocator + Copy> Answers<A> {
                 near: None,
             };
         }
-        let found = self.find(asked.task, looks, most, asked.left());
+        let found = self.find(asked.task, looks, asked.left());
         if let Some(place) = found.place {
             self.count_win(place);
         }
@@ -390,7 +372,7 @@ impl<A: Allocator + Copy> Answers<A> {
         ensures { self.new.slots ≡ self.old.slots }
     {
         if self.heads.is_empty() {
-            return self.heads.resize(SLOTS, NONE).is_ok();
+            return self.heads.resize(SLOTS, u32::MAX).is_ok();
         }
         true
     }
@@ -414,7 +396,7 @@ impl<A: Allocator + Copy> Answers<A> {
         ensures { self.new.slots ≡ self.old.slots }
     {
         if bucket < self.heads.len() {
-            self.heads[bucket] = place;
+            self.heads[bucket] = place.min(u32::MAX as usize) as u32;
         }
     }
 

@@ -87,8 +87,8 @@ impl<A: Allocator + Copy> Course<A> {
     ) -> Result<Standing, NoMemory>
         requires course { IsCourse plan.now request.now self.old }
         requires fits { IsTrue (is_prefix plan.now.plan request.now prefix.now) }
-        requires few { looks.old.count + length prefix.now ≤ 2 ^ 62 }
-        ensures looks { looks.new.count ≤ looks.old.count + length prefix.now }
+        requires few { length prefix.now ≤ looks.old.left }
+        ensures looks { looks.old.left ≤ looks.new.left + length prefix.now }
         ensures course { OnOk result (IsCourse plan.now request.now self.new) }
         ensures entered { IfOk result (λ standing. IsEntered plan.now request.now prefix.now self.new.shut standing.node standing.at self.new.goal) }
     {

@@ -6,6 +6,7 @@ ghost use Rattle.sabr_model.specs.routes.Arrival.{RouteRequest};
 ghost use Rattle.sabr_model.specs.routes.Route.{is_route};
 ghost use Rattle.sabr_search.specs.questions.Course.{IsCourse};
 ghost use Rattle.sabr_search.specs.answers.Kept.{IsKept};
+ghost use Rattle.sabr_search.specs.questions.Told.{looks_taken};
 
 use crate::answers::Answers;
 use crate::course::Course;
@@ -63,19 +64,19 @@ impl<A: Allocator + Copy> Kept<A> {
     /// or if a growth is refused.
     pub fn open(&mut self, looks: &mut Looks, index: &Index<'_, A>, request: &Request)
         requires kept { IsKept index.now request.now self.old }
-        requires few { looks.old.count ≤ 2 * length index.now.plan.contacts }
+        requires few { looks_taken looks.old ≤ 2 * length index.now.plan.contacts }
         ensures kept { IsKept index.now request.now self.new }
-        ensures looks { looks.new.count ≤ 2 * length index.now.plan.contacts }
+        ensures looks { looks_taken looks.new ≤ 2 * length index.now.plan.contacts }
     {
         if !self.is_new {
             return;
         }
         self.is_new = false;
-        let most = 2 * index.plan().contacts().len() as u64;
-        let Ok(reach) = Reach::of(self.alloc, looks, index, request, most) else {
-            return;
-        };
-        self.reach = reach;
+        let aside = looks.set_aside(2 * index.plan().contacts().len() as u64);
+        if let Ok(reach) = Reach::of(self.alloc, looks, index, request) {
+            self.reach = reach;
+        }
+        looks.put_back(aside);
     }
 
     /// Takes the course out, or opens one if there is none. None unless the plan has both the source and the destination.

@@ -6,10 +6,9 @@ ghost use Rattle.sabr_model.specs.plan.Table.{node_count};
 ghost use Rattle.sabr_search.specs.questions.Part.{IsLeast};
 ghost use Rattle.sabr_search.specs.questions.Task.{IsAsked};
 ghost use Rattle.sabr_search.specs.layers.Late.{AreArrivals};
-ghost use Rattle.sabr_search.specs.questions.Told.{hops_told};
+ghost use Rattle.sabr_search.specs.questions.Told.{hops_told, looks_taken};
 
 use crate::backward::from_goal::Aim;
-use crate::backward::least_way::MANY_LOOKS;
 use crate::best::BestOf;
 use crate::course::Course;
 use crate::forward::layers::Layers;
@@ -33,11 +32,11 @@ impl<A: Allocator + Copy> Layers<A> {
         prefix: &[u32],
     ) -> Result<Option<Route<A>>, NoMemory>
         requires asked { IsAsked task.now prefix.now }
-        requires few { looks.old.count ≤ 2 * length task.now.plan.contacts }
+        requires few { looks_taken looks.old ≤ 2 * length task.now.plan.contacts }
         requires arrivals { AreArrivals task.now since.now }
         ensures least { IfOk result (IsLeast task.now.plan task.now.request prefix.now task.now.excluded) }
-        ensures bound { looks.new.count ≤ (3 * length task.now.table + 1) * length task.now.plan.contacts }
-        ensures counted { IfOk result (λ answer. hops_told answer ≤ looks.new.count) }
+        ensures bound { looks_taken looks.new ≤ (3 * length task.now.table + 1) * length task.now.plan.contacts }
+        ensures counted { IfOk result (λ answer. hops_told answer ≤ looks_taken looks.new) }
     {
         let asked = Question { task, prefix };
         let aim = Aim {
@@ -45,7 +44,7 @@ impl<A: Allocator + Copy> Layers<A> {
             since,
             delivery: 0,
         };
-        let found = self.least_within(&aim, looks, asked.left(), MANY_LOOKS)?;
+        let found = self.least_within(&aim, looks, asked.left())?;
         let Some(way) = found else {
             unreachable!();
         };
@@ -65,7 +64,7 @@ pub struct Layered<A: Allocator + Copy = Global> {
     layers: Layers<A>,
     /// For each node, when the search starts.
     since: Vec<u64, A>,
-    /// The looks of the last call.
+    /// The looks that the last call left.
     looks: Looks,
     /// How often it was called, for proofs alone.
     calls: GhostCount,
@@ -74,19 +73,19 @@ pub struct Layered<A: Allocator + Copy = Global> {
 impl<A: Allocator + Copy> Layered<A> {
     /// Makes a finder that wasn't called. It takes no memory.
     pub fn new(alloc: A) -> Layered<A>
-        ensures looks { result.looks.count ≡ 0 }
+        ensures looks { looks_taken result.looks ≡ 0 }
         ensures calls { result.calls.count ≡ 0 }
     {
         Layered {
             alloc,
             layers: Layers::new(alloc),
             since: Vec::new(alloc),
-            looks: Looks::new(),
+            looks: Looks::many(),
             calls: GhostCount::new(),
         }
     }
 
-    /// Counts a call, which has these looks so far.
+    /// Counts a call, which may still take these looks.
     fn begin(&mut self, looks: Looks)
         ensures looks { self.new.looks ≡ looks }
         ensures called { self.new.calls.count ≡ self.old.calls.count + 1 }
@@ -103,10 +102,10 @@ impl<A: Allocator + Copy> Layered<A> {
         part: Part<'_>,
     ) -> Result<Option<Route<A>>, NoMemory>
         requires fits { IsTrue (is_prefix index.now.plan request.now part.prefix.now) }
-        requires few { self.old.looks.count ≤ length index.now.plan.contacts }
+        requires few { looks_taken self.old.looks ≤ length index.now.plan.contacts }
         ensures least { IfOk result (IsLeast index.now.plan request.now part.entry.prefix.now part.entry.excluded.now) }
-        ensures bound { self.new.looks.count ≤ (3 * node_count index.now.plan.contacts + 1) * length index.now.plan.contacts }
-        ensures counted { IfOk result (λ answer. hops_told answer ≤ self.new.looks.count) }
+        ensures bound { looks_taken self.new.looks ≤ (3 * node_count index.now.plan.contacts + 1) * length index.now.plan.contacts }
+        ensures counted { IfOk result (λ answer. hops_told answer ≤ looks_taken self.new.looks) }
         ensures calls { self.new.calls ≡ self.old.calls }
     {
         let plan = index.plan();
@@ -129,7 +128,7 @@ impl<A: Allocator + Copy> Layered<A> {
 }
 
 impl<A: Allocator + Copy> BestOf<A> for Layered<A> {
-    ghost looks_of = { λ f. f.looks.count };
+    ghost looks_of = { λ f. looks_taken f.looks };
 
     ghost calls_of = { λ f. f.calls.count };
 
@@ -154,11 +153,11 @@ impl<A: Allocator + Copy> BestOf<A> for Layered<A> {
         part: Part<'_>,
     ) -> Result<Option<Route<A>>, NoMemory> {
         let _kept = kept;
-        self.begin(Looks::new());
+        self.begin(Looks::many());
         self.find(index, request, part)
     }
 
     fn looks(&self) -> u64 {
-        self.looks.count
+        self.looks.taken()
     }
 }

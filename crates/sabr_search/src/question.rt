@@ -4,7 +4,7 @@ ghost use Rattle.std.specs.Prelude.{◌≡◌, ◌++◌, ◌+◌, ◌-◌, ◌^�
 ghost use Rattle.sabr_search.specs.questions.Task.{IsAsked, left_of};
 ghost use Rattle.sabr_search.specs.answers.KeptAnswers.{IsFoundWay};
 ghost use Rattle.sabr_search.specs.answers.Answers.{IsAnswered};
-ghost use Rattle.sabr_search.specs.questions.Told.{hops_told};
+ghost use Rattle.sabr_search.specs.questions.Told.{hops_told, looks_taken};
 
 use crate::links::looks::Looks;
 use crate::task::Task;
@@ -57,10 +57,10 @@ impl<'t, 'a, 'p, A: Allocator + Copy> Question<'t, 'a, 'p, A> {
         way: &[u32],
         delivery: u64,
     ) -> Result<Option<Route<A>>, NoMemory>
-        requires few { looks.old.count + length self.now.prefix.now + length way.now ≤ 2 ^ 62 }
+        requires few { length self.now.prefix.now + length way.now ≤ looks.old.left }
         requires found { IsFoundWay self.now.task.now (left_of self.now.task.now self.now.prefix.now) way.now delivery }
-        ensures refused { OnErr result (looks.new.count ≡ looks.old.count) }
-        ensures looks { IfOk result (λ o. looks.new.count ≡ looks.old.count + hops_told o) }
+        ensures refused { OnErr result (looks_taken looks.new ≡ looks_taken looks.old) }
+        ensures looks { IfOk result (λ o. looks_taken looks.new ≡ looks_taken looks.old + hops_told o) }
         ensures hops { IfOk result (λ o. hops_told o - length self.now.prefix.now ≡ length way.now) }
         ensures answered { IfOk result (IsAnswered self.now.task.now self.now.prefix.now) }
     {

@@ -39,18 +39,14 @@ impl<A: Allocator + Copy> Reach<A> {
     }
 
     /// Finds what bounds the ways of a request. Nothing is known of any node if the plan hasn't both ends of the request,
-    /// or if more than `most` looks might be needed.
+    /// or if more looks might be needed than are left.
     pub fn of(
         alloc: A,
         looks: &mut Looks,
         index: &Index<'_, A>,
         request: &Request,
-        most: u64,
     ) -> Result<Reach<A>, NoMemory>
-        requires few { looks.old.count ≤ most }
-        requires most { most ≤ 2 ^ 62 }
-        ensures looks { looks.new.count ≤ most }
-        ensures reach { IfOk result (λ reach. IsReach index.now request.now reach) }
+        ensures { IfOk result (λ reach. IsReach index.now request.now reach) }
     {
         let plan = index.plan();
         let opened = Course::open(alloc, plan, request)?;
@@ -63,9 +59,9 @@ impl<A: Allocator + Copy> Reach<A> {
             rising: false,
         };
         let task = Task::new(index, request, &course, excluded, source);
-        let late = latest_of(alloc, &task, looks, most)?;
+        let late = latest_of(alloc, &task, looks)?;
         let mut hops = Vec::new(alloc);
-        let near = nearest_of(alloc, &task, most, &mut hops)?;
+        let near = nearest_of(alloc, &task, &mut hops)?;
         Ok(Reach { late, near, hops })
     }
 }

@@ -42,25 +42,21 @@ impl<A: Allocator + Copy> Search<A> {
     }
 
     /// Returns the first delivery and the hops of a way with it; no hops if no way leads to the goal. No way comes to a
-    /// node before its arrival. None if more than `most` looks might be needed.
+    /// node before its arrival. None if more looks might be needed than are left.
     fn first_way(
         &mut self,
         task: &Task<'_, A>,
         reach: &Reach<A>,
         looks: &mut Looks,
-        most: u64,
     ) -> Result<Option<Best>, NoMemory>
         requires task { IsTask task.now }
         requires bound { IsBound task.now reach.now.late.items reach.now.near.items }
-        requires few { looks.old.count ≤ most }
-        requires most { most ≤ 2 ^ 62 }
-        ensures looks { looks.new.count ≤ most }
-        ensures counted { looks.new.count ≤ looks.old.count + length task.now.plan.contacts }
-        ensures none { IfOk result (λ o. IfNone o (most < looks.old.count + length task.now.plan.contacts)) }
+        ensures counted { looks.old.left ≤ looks.new.left + length task.now.plan.contacts }
+        ensures none { IfOk result (λ o. IfNone o (looks.old.left < length task.now.plan.contacts)) }
         ensures way { IfOk result (λ o. IfSome o (IsFirstWay task.now)) }
         ensures arrivals { IfOk result (λ o. IfSome o (λ best. AreArrivals task.now self.new.settling.arrival.items)) }
     {
-        let whole = task.first_steps(looks, most, &mut self.first)?;
+        let whole = task.first_steps(looks, &mut self.first)?;
         if !whole {
             return Ok(None);
         }
@@ -70,33 +66,29 @@ impl<A: Allocator + Copy> Search<A> {
             near: &reach.near,
             hops: &reach.hops,
         };
-        let found = self.settling.run(&forward, looks, &self.first, most)?;
+        let found = self.settling.run(&forward, looks, &self.first)?;
         Ok(found)
     }
 
     /// Returns the least way of at most so many hops, if there is one. If the first way has no more, its delivery is the
-    /// least, and layers backward find the way. Otherwise layers forward find the least delivery. None if more than `most`
-    /// looks might be needed.
+    /// least, and layers backward find the way. Otherwise layers forward find the least delivery. None if more looks might
+    /// be needed than are left.
     pub fn run(
         &mut self,
         task: &Task<'_, A>,
         reach: &Reach<A>,
         looks: &mut Looks,
         hops: usize,
-        most: u64,
     ) -> Result<Option<FoundWay<A>>, NoMemory>
         requires task { IsTask task.now }
         requires bound { IsBound task.now reach.now.late.items reach.now.near.items }
         requires nodes { hops ≤ most_nodes }
-        requires few { looks.old.count ≤ most }
-        requires most { most ≤ 2 ^ 62 }
-        ensures looks { looks.new.count ≤ most }
-        ensures counted { looks.new.count ≤ looks.old.count + (3 * hops + 1) * length task.now.plan.contacts }
-        ensures none { IfOk result (λ o. IfNone o (most < looks.old.count + (3 * hops + 1) * length task.now.plan.contacts)) }
-        ensures cut { IfOk result (λ o. IfSome o (λ way. length task.now.table ≤ hops + 1 → looks.new.count ≤ looks.old.count + (2 * length way.numbers.items + 1) * length task.now.plan.contacts)) }
+        ensures counted { looks.old.left ≤ looks.new.left + (3 * hops + 1) * length task.now.plan.contacts }
+        ensures none { IfOk result (λ o. IfNone o (looks.old.left < (3 * hops + 1) * length task.now.plan.contacts)) }
+        ensures cut { IfOk result (λ o. IfSome o (λ way. length task.now.table ≤ hops + 1 → looks.old.left ≤ looks.new.left + (2 * length way.numbers.items + 1) * length task.now.plan.contacts)) }
         ensures found { IfOk result (λ o. IfSome o (λ way. IsFoundWay task.now hops way.numbers.items way.delivery)) }
     {
-        let reached = self.first_way(task, reach, looks, most)?;
+        let reached = self.first_way(task, reach, looks)?;
         let Some(first) = reached else {
             return Ok(None);
         };
@@ -109,8 +101,8 @@ impl<A: Allocator + Copy> Search<A> {
             delivery: first.delivery,
         };
         if first.hops > hops {
-            return self.layers.least_within(&aim, looks, hops, most);
+            return self.layers.least_within(&aim, looks, hops);
         }
-        self.layers.least_by(&aim, looks, hops, most)
+        self.layers.least_by(&aim, looks, hops)
     }
 }

@@ -7,7 +7,7 @@ ghost use Rattle.sabr_model.specs.routes.Route.{is_prefix};
 ghost use Rattle.sabr_model.specs.plan.Table.{node_count};
 ghost use Rattle.sabr_search.specs.questions.Part.{IsLeast};
 ghost use Rattle.sabr_search.specs.questions.Task.{IsAsked, left_of};
-ghost use Rattle.sabr_search.specs.questions.Told.{hops_told, IsCut};
+ghost use Rattle.sabr_search.specs.questions.Told.{hops_told, looks_taken, IsCut};
 ghost use Rattle.sabr_search.specs.answers.Kept.{IsKept};
 ghost use Rattle.sabr_search.specs.answers.KeptAnswers.{IsFoundWay, AnswersAt};
 ghost use Rattle.sabr_search.specs.questions.FirstSteps.{tabled_of};
@@ -15,7 +15,7 @@ ghost use Rattle.sabr_search.specs.layers.Settling.{IsBound};
 
 use crate::answers::breadth_of;
 use crate::answers::wide::shut_few;
-use crate::backward::least_way::{FoundWay, MANY_LOOKS};
+use crate::backward::least_way::FoundWay;
 use crate::best::BestOf;
 use crate::kept::Kept;
 use crate::links::finger::{Excluded, rises};
@@ -39,15 +39,12 @@ impl<A: Allocator + Copy> Search<A> {
         looks: &mut Looks,
     ) -> Result<Option<usize>, NoMemory>
         requires asked { IsAsked asked.now.task.now asked.now.prefix.now }
-        requires few { looks.old.count ≤ 2 * length asked.now.task.now.plan.contacts }
         requires kept { IsKept (tabled_of asked.now.task.now) asked.now.task.now.request kept.old }
         ensures kept { IsKept (tabled_of asked.now.task.now) asked.now.task.now.request kept.new }
-        ensures looks { looks.new.count ≤ 2 * length asked.now.task.now.plan.contacts }
         ensures some { IfOk result (λ o. IfSome o (λ place. AnswersAt kept.new.answers.slots.items place asked.now.task.now (left_of asked.now.task.now asked.now.prefix.now))) }
     {
         let task = asked.task;
-        let most = task.two_passes();
-        let recalled = kept.answers.recall(asked, looks, most);
+        let recalled = kept.answers.recall(asked, looks);
         if let Some(place) = recalled.place {
             return Ok(Some(place));
         }
@@ -59,12 +56,12 @@ impl<A: Allocator + Copy> Search<A> {
         kept.answers.shut_near(&mut kept.wide, task, near)?;
         let question = task.with_shut(&kept.wide);
         let left = asked.left();
-        let found = self.run(&question, &kept.reach, looks, left, most)?;
+        let found = self.run(&question, &kept.reach, looks, left)?;
         let Some(way) = found else {
             return Ok(None);
         };
         kept.answers.keep(&question, left, way, breadth_of(near));
-        Ok(kept.answers.recall(asked, looks, most).place)
+        Ok(kept.answers.recall(asked, looks).place)
     }
 
     /// The least way of the question, by a search that never gives up.
@@ -76,12 +73,12 @@ impl<A: Allocator + Copy> Search<A> {
     ) -> Result<FoundWay<A>, NoMemory>
         requires asked { IsAsked asked.now.task.now asked.now.prefix.now }
         requires bound { IsBound asked.now.task.now reach.now.late.items reach.now.near.items }
-        requires few { looks.old.count ≤ 2 * length asked.now.task.now.plan.contacts }
-        ensures bound { looks.new.count ≤ 3 * length asked.now.task.now.table * length asked.now.task.now.plan.contacts }
-        ensures cut { IfOk result (λ way. asked.now.task.now.request.max_hops ≡ most_hops → looks.new.count ≤ (2 * length way.numbers.items + 3) * length asked.now.task.now.plan.contacts) }
+        requires few { looks_taken looks.old ≤ 2 * length asked.now.task.now.plan.contacts }
+        ensures bound { looks_taken looks.new ≤ 3 * length asked.now.task.now.table * length asked.now.task.now.plan.contacts }
+        ensures cut { IfOk result (λ way. asked.now.task.now.request.max_hops ≡ most_hops → looks_taken looks.new ≤ (2 * length way.numbers.items + 3) * length asked.now.task.now.plan.contacts) }
         ensures found { IfOk result (λ way. IsFoundWay asked.now.task.now (left_of asked.now.task.now asked.now.prefix.now) way.numbers.items way.delivery) }
     {
-        let found = self.run(asked.task, reach, looks, asked.left(), MANY_LOOKS)?;
+        let found = self.run(asked.task, reach, looks, asked.left())?;
         let Some(way) = found else {
             unreachable!();
         };
@@ -97,17 +94,19 @@ impl<A: Allocator + Copy> Search<A> {
         prefix: &[u32],
     ) -> Result<Option<Route<A>>, NoMemory>
         requires asked { IsAsked task.now prefix.now }
-        requires few { looks.old.count ≤ 2 * length task.now.plan.contacts }
+        requires few { looks_taken looks.old ≤ 2 * length task.now.plan.contacts }
         requires kept { IsKept (tabled_of task.now) task.now.request kept.old }
         ensures kept { IsKept (tabled_of task.now) task.now.request kept.new }
         ensures least { IfOk result (IsLeast task.now.plan task.now.request prefix.now task.now.excluded) }
-        ensures bound { looks.new.count ≤ (3 * length task.now.table + 1) * length task.now.plan.contacts }
-        ensures counted { IfOk result (λ answer. hops_told answer ≤ looks.new.count) }
-        ensures cut { IfOk result (IsCut task.now.plan task.now.request.max_hops prefix.now looks.new.count) }
+        ensures bound { looks_taken looks.new ≤ (3 * length task.now.table + 1) * length task.now.plan.contacts }
+        ensures counted { IfOk result (λ answer. hops_told answer ≤ looks_taken looks.new) }
+        ensures cut { IfOk result (IsCut task.now.plan task.now.request.max_hops prefix.now (looks_taken looks.new)) }
     {
         let asked = Question { task, prefix };
-        let place = self.find_kept(kept, &asked, looks)?;
-        if let Some(place) = place {
+        let aside = looks.set_aside(task.two_passes());
+        let found = self.find_kept(kept, &asked, looks);
+        looks.put_back(aside);
+        if let Some(place) = found? {
             let answer = &kept.answers.slots[place];
             return asked.route(self.alloc, looks, &answer.way, answer.delivery);
         }
@@ -129,7 +128,7 @@ pub struct Settled<A: Allocator + Copy = Global> {
     alloc: A,
     /// Nodes in order of arrival, and layers.
     search: Search<A>,
-    /// The looks of the last call.
+    /// The looks that the last call left.
     looks: Looks,
     /// How often it was called, for proofs alone.
     calls: GhostCount,
@@ -138,18 +137,18 @@ pub struct Settled<A: Allocator + Copy = Global> {
 impl<A: Allocator + Copy> Settled<A> {
     /// Makes a finder that wasn't called. It takes no memory.
     pub fn new(alloc: A) -> Settled<A>
-        ensures looks { result.looks.count ≡ 0 }
+        ensures looks { looks_taken result.looks ≡ 0 }
         ensures calls { result.calls.count ≡ 0 }
     {
         Settled {
             alloc,
             search: Search::new(alloc),
-            looks: Looks::new(),
+            looks: Looks::many(),
             calls: GhostCount::new(),
         }
     }
 
-    /// Counts a call, which has these looks so far.
+    /// Counts a call, which may still take these looks.
     fn begin(&mut self, looks: Looks)
         ensures looks { self.new.looks ≡ looks }
         ensures called { self.new.calls.count ≡ self.old.calls.count + 1 }
@@ -169,15 +168,15 @@ impl<A: Allocator + Copy> Settled<A> {
         in_order: bool,
     ) -> Result<Option<Route<A>>, NoMemory>
         requires fits { IsTrue (is_prefix index.now.plan request.now part.prefix.now) }
-        requires few { self.old.looks.count ≤ length index.now.plan.contacts }
+        requires few { looks_taken self.old.looks ≤ length index.now.plan.contacts }
         requires rising { IsTrue in_order → IsStrictlyIncreasing part.excluded.now }
         requires kept { IsKept index.now request.now kept.old }
         ensures least { IfOk result (IsLeast index.now.plan request.now part.entry.prefix.now part.entry.excluded.now) }
-        ensures bound { self.new.looks.count ≤ (3 * node_count index.now.plan.contacts + 1) * length index.now.plan.contacts }
-        ensures counted { IfOk result (λ answer. hops_told answer ≤ self.new.looks.count) }
+        ensures bound { looks_taken self.new.looks ≤ (3 * node_count index.now.plan.contacts + 1) * length index.now.plan.contacts }
+        ensures counted { IfOk result (λ answer. hops_told answer ≤ looks_taken self.new.looks) }
         ensures calls { self.new.calls ≡ self.old.calls }
         ensures kept { IsKept index.now request.now kept.new }
-        ensures cut { IfOk result (IsCut index.now.plan request.now.max_hops part.entry.prefix.now self.new.looks.count) }
+        ensures cut { IfOk result (IsCut index.now.plan request.now.max_hops part.entry.prefix.now (looks_taken self.new.looks)) }
     {
         let plan = index.plan();
         let taken = kept.take_course(self.alloc, plan, request)?;
@@ -200,7 +199,7 @@ impl<A: Allocator + Copy> Settled<A> {
 }
 
 impl<A: Allocator + Copy> BestOf<A> for Settled<A> {
-    ghost looks_of = { λ f. f.looks.count };
+    ghost looks_of = { λ f. looks_taken f.looks };
 
     ghost calls_of = { λ f. f.calls.count };
 
@@ -212,10 +211,10 @@ impl<A: Allocator + Copy> BestOf<A> for Settled<A> {
     ) -> Result<Option<Route<A>>, NoMemory>
         requires fits { IsTrue (is_prefix plan.now.plan request.now part.prefix.now) }
         ensures least { IfOk result (IsLeast plan.now.plan request.now part.entry.prefix.now part.entry.excluded.now) }
-        ensures bound { self.new.looks.count ≤ (3 * node_count plan.now.plan.contacts + 1) * length plan.now.plan.contacts }
-        ensures counted { IfOk result (λ answer. hops_told answer ≤ self.new.looks.count) }
+        ensures bound { looks_taken self.new.looks ≤ (3 * node_count plan.now.plan.contacts + 1) * length plan.now.plan.contacts }
+        ensures counted { IfOk result (λ answer. hops_told answer ≤ looks_taken self.new.looks) }
         ensures called { self.new.calls.count ≡ self.old.calls.count + 1 }
-        ensures cut { IfOk result (IsCut plan.now.plan request.now.max_hops part.entry.prefix.now self.new.looks.count) }
+        ensures cut { IfOk result (IsCut plan.now.plan request.now.max_hops part.entry.prefix.now (looks_taken self.new.looks)) }
     {
         self.begin(Looks::over(plan));
         let Ok(index) = Index::new(self.alloc, plan) else {
@@ -235,13 +234,13 @@ impl<A: Allocator + Copy> BestOf<A> for Settled<A> {
         requires fits { IsTrue (is_prefix index.now.plan request.now part.prefix.now) }
         requires kept { IsKept index.now request.now kept.old }
         ensures least { IfOk result (IsLeast index.now.plan request.now part.entry.prefix.now part.entry.excluded.now) }
-        ensures bound { self.new.looks.count ≤ (3 * node_count index.now.plan.contacts + 1) * length index.now.plan.contacts }
-        ensures counted { IfOk result (λ answer. hops_told answer ≤ self.new.looks.count) }
+        ensures bound { looks_taken self.new.looks ≤ (3 * node_count index.now.plan.contacts + 1) * length index.now.plan.contacts }
+        ensures counted { IfOk result (λ answer. hops_told answer ≤ looks_taken self.new.looks) }
         ensures called { self.new.calls.count ≡ self.old.calls.count + 1 }
         ensures kept { IsKept index.now request.now kept.new }
-        ensures cut { IfOk result (IsCut index.now.plan request.now.max_hops part.entry.prefix.now self.new.looks.count) }
+        ensures cut { IfOk result (IsCut index.now.plan request.now.max_hops part.entry.prefix.now (looks_taken self.new.looks)) }
     {
-        self.begin(Looks::new());
+        self.begin(Looks::many());
         self.find(kept, index, request, part, rises(part.excluded))
     }
 
@@ -256,17 +255,17 @@ impl<A: Allocator + Copy> BestOf<A> for Settled<A> {
         requires rising { IsStrictlyIncreasing part.excluded.now }
         requires kept { IsKept index.now request.now kept.old }
         ensures least { IfOk result (IsLeast index.now.plan request.now part.entry.prefix.now part.entry.excluded.now) }
-        ensures bound { self.new.looks.count ≤ (3 * node_count index.now.plan.contacts + 1) * length index.now.plan.contacts }
-        ensures counted { IfOk result (λ answer. hops_told answer ≤ self.new.looks.count) }
+        ensures bound { looks_taken self.new.looks ≤ (3 * node_count index.now.plan.contacts + 1) * length index.now.plan.contacts }
+        ensures counted { IfOk result (λ answer. hops_told answer ≤ looks_taken self.new.looks) }
         ensures called { self.new.calls.count ≡ self.old.calls.count + 1 }
         ensures kept { IsKept index.now request.now kept.new }
-        ensures cut { IfOk result (IsCut index.now.plan request.now.max_hops part.entry.prefix.now self.new.looks.count) }
+        ensures cut { IfOk result (IsCut index.now.plan request.now.max_hops part.entry.prefix.now (looks_taken self.new.looks)) }
     {
-        self.begin(Looks::new());
+        self.begin(Looks::many());
         self.find(kept, index, request, part, true)
     }
 
     fn looks(&self) -> u64 {
-        self.looks.count
+        self.looks.taken()
     }
 }

@@ -9,6 +9,7 @@ ghost use Rattle.sabr_model.specs.routes.Hops.{hop_arrival, IsSmall};
 ghost use Rattle.sabr_search.specs.questions.Task.{IsTask, task_of};
 ghost use Rattle.sabr_search.specs.answers.Answers.{narrowed};
 ghost use Rattle.sabr_search.specs.questions.FirstSteps.{tabled_of};
+ghost use Rattle.sabr_search.specs.questions.Told.{looks_taken};
 ghost use Rattle.sabr_search.specs.answers.KeptAnswers.{AreListed, Arrives};
 ghost use Rattle.sabr_search.specs.questions.Linked.{AreLinksAt, AreSendersAt};
 
@@ -118,8 +119,8 @@ impl<'a, A: Allocator + Copy> Task<'a, A> {
 
     /// Returns the record of a route with this delivery: one look for each of its contacts.
     pub fn record(&self, looks: &mut Looks, contacts: Vec<u32, A>, delivery: u64) -> Route<A>
-        requires few { looks.old.count + length contacts.items ≤ 2 ^ 62 }
-        ensures looks { looks.new.count ≡ looks.old.count + length contacts.items }
+        requires few { length contacts.items ≤ looks.old.left }
+        ensures looks { looks_taken looks.new ≡ looks_taken looks.old + length contacts.items }
         ensures value { result ≡ record { contacts = contacts.items; delivery = delivery; until = until_of self.now.plan contacts.items; entry = entry_of self.now.plan contacts.items } }
     {
         Told::of(self.index.plan(), looks.look_all(&contacts)).route(contacts, delivery)
@@ -191,8 +192,8 @@ impl<'a, A: Allocator + Copy> Task<'a, A> {
         passed: &mut usize,
     ) -> Option<Standing>
         requires task { IsTask self.now }
-        requires few { looks.old.count < 2 ^ 62 }
-        ensures looks { looks.new.count ≡ looks.old.count + 1 }
+        requires few { 0 < looks.old.left }
+        ensures looks { looks.old.left ≡ looks.new.left + 1 }
         ensures some { IfSome result (Arrives self.now number at) }
     {
         let hop = looks.hop(self.index.plan(), number)?;
@@ -217,8 +218,7 @@ impl<'a, A: Allocator + Copy> Task<'a, A> {
 
     /// As many looks as two passes over all contacts take.
     pub fn two_passes(&self) -> u64
-        ensures value { result ≡ 2 * length self.now.plan.contacts }
-        ensures limit { result ≤ 2 ^ 61 }
+        ensures { result ≡ 2 * length self.now.plan.contacts }
     {
         2 * self.one_pass()
     }

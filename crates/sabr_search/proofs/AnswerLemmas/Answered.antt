@@ -8,10 +8,11 @@ use Rattle.std.proofs.lemmas.Bool.{both_ways, eq-eqb, eqb-true}
 use Rattle.sabr_model.specs.routes.Asking.{most_hops}
 use Rattle.sabr_model.specs.routes.Record.{RouteRecord}
 use Rattle.sabr_model.specs.routes.Route.{is_route}
+use Rattle.sabr_search.specs.declared.links.looks.Looks.{Looks}
 use Rattle.sabr_search.specs.questions.Part.{IsLeast}
 use Rattle.sabr_search.specs.questions.Task.{SearchTask, IsAsked, left_of}
 use Rattle.sabr_search.specs.layers.Picks.{IsLeastWay}
-use Rattle.sabr_search.specs.questions.Told.{hops_told, IsCut}
+use Rattle.sabr_search.specs.questions.Told.{hops_told, looks_taken, IsCut}
 use Rattle.sabr_search.specs.answers.Answers.{IsAnswered}
 use Rattle.sabr_search.specs.answers.KeptAnswers.{IsFoundWay}
 use Rattle.sabr_search.proofs.WayLemmas.Prefixes.{IsPrefix, prefix_facts}
@@ -90,10 +91,10 @@ module _ (task : SearchTask) (prefix : List ℕ) (asked : IsAsked task prefix) w
   product : left_of task prefix * length task.plan.contacts ≤ 40000 * 20000
   product = mul-le-mul {n₂ = 40000} {m₂ = 20000} (omega (arith, left_less, asked.nodes)) (contacts_few task.plan asked.task_is.plan)
 
-  pub search_fits : (looks : ℕ) → looks ≤ 2 * length task.plan.contacts → looks + (3 * left_of task prefix + 1) * length task.plan.contacts ≤ 2 ^ 60
-  search_fits looks few = omega (arith, few, product, contacts_few task.plan asked.task_is.plan)
+  pub search_fits : (3 * left_of task prefix + 3) * length task.plan.contacts ≤ 2 ^ 60
+  search_fits = omega (arith, product, contacts_few task.plan asked.task_is.plan)
 
-  pub route_fits : (numbers : List ℕ) (d looks : ℕ) → IsFoundWay task (left_of task prefix) numbers d → looks ≤ 3 * length task.table * length task.plan.contacts → looks + length prefix + length numbers ≤ 2 ^ 62
+  pub route_fits : (numbers : List ℕ) (d : ℕ) (looks : Looks) → IsFoundWay task (left_of task prefix) numbers d → looks_taken looks ≤ 3 * length task.table * length task.plan.contacts → length prefix + length numbers ≤ looks.left
   route_fits numbers d looks found few =
       let nodes : length task.table * length task.plan.contacts ≤ 40000 * 20000 = mul-le-mul {n₂ = 40000} {m₂ = 20000} asked.nodes (contacts_few task.plan asked.task_is.plan) in
       omega (arith, few, nodes, contacts_few task.plan asked.task_is.plan, prefix_few task.plan task.request prefix facts, found_short task (left_of task prefix) numbers d found, left_less, asked.nodes)

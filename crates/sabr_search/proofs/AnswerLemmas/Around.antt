@@ -9,6 +9,7 @@ use Rattle.sabr_search.specs.declared.reach.Reach.{Reach}
 use Rattle.sabr_search.specs.layers.Reach.{Goes, IsBetween, IsReach, cost_to}
 use Rattle.sabr_search.specs.layers.Settling.{IsBound}
 use Rattle.sabr_search.proofs.WayLemmas.Bridge.{takes_timely}
+use Rattle.sabr_search.proofs.WayLemmas.Courses.{after_later}
 
 -- what is shut for fewer nodes
 fewer : (a b c : Bool) → ((a || b) || c) ≡ false → ((a || false) || c) ≡ false
@@ -20,6 +21,7 @@ fewer false false c h = h
 pub of_request : (task : SearchTask) (prefix : List ℕ) → IsBehind task prefix → IsOfRequest task
 of_request task prefix behind = record {
   goal_is = behind.goal_is;
+  since = after_later task.plan task.request prefix task.request.at task.at behind.arrives;
   closes = λ k x at open'.
       let closed : is_closed task.plan task.request prefix x ≡ false = sym (behind.shuts k x at) ∙ open' in
       fewer (eqb x task.request.source) (has x (receivers task.plan prefix)) (has x task.request.avoided) closed;
@@ -42,9 +44,10 @@ reach_bounds task nodes over reach are = record {
   goal = are.late.goal task.goal over.goal_is;
   steps = λ n u t w b s open' other. are.late.steps n u t w b (goes_of task over n u t w b s) (between n u t w b s open' other);
   there = omega (arith, are.near.goal task.goal over.goal_is);
-  costs = λ n u t w b s open'. elim (cases_eq u task.goal) [
+  since = over.since;
+  costs = λ n u t w b s open' since. elim (cases_eq u task.goal) [
     | inl same ↦ omega (arith, ap (cost_to reach.near.items) same, are.near.goal task.goal over.goal_is, (takes_timely task nodes).later n u t w b s)
-    | inr other ↦ omega (arith, (takes_timely task nodes).later n u t w b s, are.near.steps n u t w b (goes_of task over n u t w b s) (between n u t w b s open' other))
+    | inr other ↦ omega (arith, (takes_timely task nodes).later n u t w b s, are.near.steps n u t w b (goes_of task over n u t w b s) (between n u t w b s open' other) since)
   ];
 }
   where

@@ -100,12 +100,12 @@ still_taken task late u last rises w differ taken n v t b step soon open' elsewh
 
 -- the same of how near nodes are
 pub still_near : (task : SearchTask) (near : List ℕ) (u last : ℕ) → ((k : ℕ) → slice_index near k ≤ slice_index (slice_set near u last) k) → (w : ℕ) → w ≢ u → IsNearBy task near w → IsNearBy task (slice_set near u last) w
-still_near task near u last rises w differ taken n v t b step open' elsewhere =
-    omega (arith, rises v, taken n v t b step open' elsewhere, set_other near u last w differ)
+still_near task near u last rises w differ taken n v t b step open' elsewhere since =
+    omega (arith, rises v, taken n v t b step open' elsewhere since, set_other near u last w differ)
 
 -- a node doesn't get farther
 pub near_later : (task : SearchTask) (near near' : List ℕ) → ((k : ℕ) → slice_index near k ≤ slice_index near' k) → (u t w b : ℕ) → slice_index near' w ≡ slice_index near w → IsNear task near u t w b → IsNear task near' u t w b
-near_later task near near' rises u t w b same is open' other = omega (arith, rises u, same, is open' other)
+near_later task near near' rises u t w b same is open' other since = omega (arith, rises u, same, is open' other since)
 
 -- over a link within these bounds a step takes the cost of their least light time
 pub over_bounds : (task : SearchTask) → IsTask task → (u to : ℕ) (passes : List Pass) (bounds : LinkBounds) → IsLinkWithin task u to passes bounds → (n t b : ℕ) → HasNumber passes n → Takes task n u t to b →
@@ -242,7 +242,7 @@ near_for task whole near are = record {
   goal = λ g at.
       (let same : g ≡ task.goal = whole.is.nodes.apart g task.goal task.request.destination at whole.goal_is in
       omega (arith, ap (slice_index near) same, are.goal, read_or near g (omega (arith, are.many, slice_get_within task.table g task.request.destination at))));
-  steps = λ n u t w b g between.
+  steps = λ n u t w b g between since.
       (let w_in : w < length task.table = slice_get_within task.table w g.contact.to g.receiver in
       let u_in : u < length task.table = slice_get_within task.table u g.contact.from g.sender in
       let step : Takes task n u t w b = whole_step task whole n u t w b g in
@@ -250,13 +250,13 @@ near_for task whole near are = record {
       let is_u = read_or near u (omega (arith, are.many, u_in)) in
       elim (cases_lt 0 (slice_index near w)) [
         | inr le ↦ omega (arith, le, is_w, is_u, arrives_later task.plan task.request t g.contact b g.arrives)
-        | inl some ↦ omega (arith, is_w, is_u, are.over w w_in some n u t b step (whole.shuts u between.node between.stands ∙ between.unshut) (other_node task whole u between))
+        | inl some ↦ omega (arith, is_w, is_u, are.over w w_in some n u t b step (whole.shuts u between.node between.stands ∙ between.unshut) (other_node task whole u between) since)
       ]);
 }
 
 -- nothing is known of any node
 pub none_near : (p : TabledPlan) (r : RouteRequest) (near : List ℕ) → near ≡ [] → AreNearFor p r near
-none_near p r near empty = rw empty (record { goal = λ g at. refl; steps = λ n u t w b g between. omega (arith, arrives_later p.plan r t g.contact b g.arrives) })
+none_near p r near empty = rw empty (record { goal = λ g at. refl; steps = λ n u t w b g between since. omega (arith, arrives_later p.plan r t g.contact b g.arrives) })
 
 pub none_late : (p : TabledPlan) (r : RouteRequest) (late : List ℕ) → late ≡ [] → AreLateFor p r late
 none_late p r late empty = rw empty (record {

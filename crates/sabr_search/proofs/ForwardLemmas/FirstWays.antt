@@ -68,10 +68,11 @@ pub sent_grows : (task : SearchTask) (settled : List Bool) (u : ℕ) → u < len
 sent_grows task settled u within unsettled = settled_more settled u (senders task) within unsettled
 
 -- a way on from an open node costs at least what the goal costs less from its end
-pub costs_fall : (task : SearchTask) (late near : List ℕ) → IsBound task late near → (ns : List ℕ) (w b v t : ℕ) → slice_index_or task.shut w false ≡ false → Leads (Takes task) w b ns v t → b + cost_to near w ≤ t + cost_to near v
-costs_fall task late near bound [] w b v t open' way = omega (arith, way.1, ap (cost_to near) way.0)
-costs_fall task late near bound (n ∷ ns) w b v t open' way =
-    omega (arith, bound.costs n w b way.0 way.1 way.2 open', costs_fall task late near bound ns way.0 way.1 v t way.2.unshut way.3)
+pub costs_fall : (task : SearchTask) → IsTask task → (late near : List ℕ) → IsBound task late near → (ns : List ℕ) (w b v t : ℕ) → slice_index_or task.shut w false ≡ false → task.request.at ≤ b → Leads (Takes task) w b ns v t → b + cost_to near w ≤ t + cost_to near v
+costs_fall task is late near bound [] w b v t open' since way = omega (arith, way.1, ap (cost_to near) way.0)
+costs_fall task is late near bound (n ∷ ns) w b v t open' since way =
+    let later = (takes_timely task is.nodes).later n w b way.0 way.1 way.2 in
+    omega (arith, bound.costs n w b way.0 way.1 way.2 open' since, costs_fall task is late near bound ns way.0 way.1 v t way.2.unshut (omega (arith, later, since)) way.3)
 
 -- the search stops when no event comes before the delivery
 module _ (task : SearchTask) (is : IsTask task) (bounds near : List ℕ) (bound : IsBound task bounds near) (settled : List Bool) (arrival : List ℕ) (queue : List Event) (best : Best) (was : AreSettled task bounds near settled arrival queue best) where
@@ -109,16 +110,17 @@ module _ (task : SearchTask) (is : IsTask task) (bounds near : List ℕ) (bound 
   ]
 
   -- each way comes to a node no sooner than the arrival that is known there, or delivers no sooner than the delivery
-  reached_by : ((f : Event) → Contains queue f → best.delivery ≤ f.at) → (ns : List ℕ) (u a s v t : ℕ) → IsKnownAt u a → a ≤ s → Leads (Takes task) u s ns v t →
+  reached_by : ((f : Event) → Contains queue f → best.delivery ≤ f.at) → (ns : List ℕ) (u a s v t : ℕ) → IsKnownAt u a → a ≤ s → task.request.at ≤ s → Leads (Takes task) u s ns v t →
       (best.delivery ≤ t + cost_to near v) ⊎ ((c : ℕ) × (c ≤ t) × IsKnownAt v c)
-  reached_by stop [] u a s v t known by way = inr (a, omega (arith, way.1), rw way.0 at known)
-  reached_by stop (n ∷ ns) u a s v t known by way =
+  reached_by stop [] u a s v t known by since way = inr (a, omega (arith, way.1), rw way.0 at known)
+  reached_by stop (n ∷ ns) u a s v t known by since way =
+      let later : task.request.at ≤ way.1 = omega (arith, since, (takes_timely task is.nodes).later n u s way.0 way.1 way.2) in
       let first = (takes_timely task is.nodes).earlier n u s way.0 way.1 a way.2 by in
-      let after : way.1 + cost_to near way.0 ≤ t + cost_to near v = costs_fall task bounds near bound ns way.0 way.1 v t way.2.unshut way.3 in
+      let after : way.1 + cost_to near way.0 ≤ t + cost_to near v = costs_fall task is bounds near bound ns way.0 way.1 v t way.2.unshut later way.3 in
       elim (steps_taken u a n way.0 first.0 known first.2) [
         | inl late ↦ inl (omega (arith, late, first.1, after))
         | inr found ↦ elim found [
-          | inl on ↦ reached_by stop ns way.0 on.0 way.1 v t on.2 (omega (arith, on.1, first.1)) way.3
+          | inl on ↦ reached_by stop ns way.0 on.0 way.1 v t on.2 (omega (arith, on.1, first.1)) later way.3
           | inr waits ↦ inl (omega (arith, stop waits.2.0 waits.2.1, waits.2.3, waits.1, first.1, after))
         ]
       ]
@@ -145,7 +147,7 @@ module _ (task : SearchTask) (is : IsTask task) (bounds near : List ℕ) (bound 
   }
     where
       least : (ns : List ℕ) (e : ℕ) → Leads (Takes task) task.start task.at ns task.goal e → best.delivery ≤ e
-      least ns e way = elim (reached_by stop ns task.start task.at task.at task.goal e (inl (was.start_settled, was.start_reached)) (omega arith) way) [
+      least ns e way = elim (reached_by stop ns task.start task.at task.at task.goal e (inl (was.start_settled, was.start_reached)) (omega arith) bound.since way) [
         | inl late ↦ omega (arith, late, bound.there)
         | inr by ↦ omega (arith, by.1, goal_known by.0 by.2)
       ]
@@ -159,7 +161,7 @@ module _ (task : SearchTask) (is : IsTask task) (bounds near : List ℕ) (bound 
   pub arrivals_found : ((f : Event) → Contains queue f → best.delivery ≤ f.at) → AreArrivalsBy task near arrival best.delivery
   arrivals_found stop = record {
     flags = omega (arith, was.flags, is.as_many);
-    least = λ ns v t some way. elim (reached_by stop ns task.start task.at task.at v t (inl (was.start_settled, was.start_reached)) (omega arith) way) [
+    least = λ ns v t some way. elim (reached_by stop ns task.start task.at task.at v t (inl (was.start_settled, was.start_reached)) (omega arith) bound.since way) [
       | inl late ↦ omega (arith, late)
       | inr by ↦ omega (arith, by.1, known_arrival v by.0 by.2)
     ];
@@ -296,7 +298,7 @@ module _ (task : SearchTask) (is : IsTask task) (late near : List ℕ) (settled 
       let since : task.at ≤ slice_index arrival0 e.node = Leads-later (Takes task) (takes_timely task is.nodes) next_way.0 task.start task.at e.node (slice_index arrival0 e.node) next_way.2 in
       settles task late near settled arrival0 queue0 queue e was.queue_is moved first next_within unsettled best0 bound was.flags was.closed since was.lowered was.sooner was.found
 
-  pub next_counted : (settled' : List Bool) (old new : ℕ) → settled' ≡ slice_set settled e.node true → new ≤ old + sent_by_settled task settled + degree task e.node → new ≤ old + sent_by_settled task settled'
+  pub next_counted : (settled' : List Bool) (old new : ℕ) → settled' ≡ slice_set settled e.node true → old ≤ new + sent_by_settled task settled + degree task e.node → old ≤ new + sent_by_settled task settled'
   next_counted settled' old new settled_is le = omega (arith, ap (sent_by_settled task) settled_is, next_sent)
 
   pub next_settled : (settled' : List Bool) (arrival : List ℕ) (queue' : List Event) (best : Best) → settled' ≡ slice_set settled e.node true →

@@ -1,5 +1,6 @@
 -- One layer more: what the next layer leaves is again layers.
-use Rattle.std.proofs.Common.{◌≡◌, ◌⊎◌, inl, inr, ℕ, zero, suc, ◌+◌, ◌<◌, ◌≤◌, List, [], ◌∷◌, ◌++◌, length, false, Some, slice_get, slice_index, slice_index_or, refl, ap, sym, ◌∙◌, arith, length-append, add-one}
+use Rattle.std.proofs.Common.{◌≡◌, ◌⊎◌, inl, inr, ℕ, zero, suc, ◌+◌, ◌*◌, ◌<◌, ◌≤◌, List, [], ◌∷◌, ◌++◌, length, false, Some, slice_get, slice_index, slice_index_or, refl, ap, sym, ◌∙◌, arith, length-append, add-one}
+use Rattle.std.proofs.Math.Nat.{mul-le-mul_right}
 use Rattle.std.proofs.lemmas.Bool.{cases_lt, cases_eq}
 use Rattle.std.proofs.lemmas.List.{get_or_append_left, get_or_push}
 use Rattle.std.proofs.lemmas.Option.{slice_get-get_or, slice_get_within, get_or_from_slice_get}
@@ -287,6 +288,12 @@ layers_next task is hop bounds arrival place reached best made bounds' arrival' 
     rw better.1 (layers_better task is hop bounds arrival place reached best made bounds' arrival' place' reached' delivery lowered known bounds_is better.0 (below_never task hop bounds arrival place reached best made))
 layers_next task is hop bounds arrival place reached best made bounds' arrival' place' reached' delivery lowered known bounds_is best' (inr same) =
     rw same.1 (layers_same task is hop bounds arrival place reached best made bounds' arrival' place' reached' delivery lowered known bounds_is same.0)
+
+-- the looks for one layer more are within those of all of them
+pub layer_more : (hop hops contacts : ℕ) → hop < hops → hop * contacts + contacts ≤ hops * contacts
+layer_more hop hops contacts less =
+    let le : (hop + 1) * contacts ≤ hops * contacts = mul-le-mul_right contacts (omega (arith, less)) in
+    omega (arith, le)
 
 -- what is found within fewer hops is the best within more, if nothing is sooner there
 pub best_within : (task : SearchTask) (hop : ℕ) (bounds arrival place : List ℕ) (reached : List LayerEntry) (best : Best) → AreLayers task hop bounds arrival place reached best →

@@ -269,7 +269,7 @@ module _ (task : SearchTask) (bounds near : List ℕ) (settled : List Bool) (arr
       flags = flags;
       closed = λ k on. omega (arith, closed k on, since);
       early = λ n w b step.
-          let later : e.at ≤ b + cost_to near w = omega (arith, head_arrives unsettled, bound.costs n e.node (slice_index arrival e.node) w b step head_open) in
+          let later : e.at ≤ b + cost_to near w = omega (arith, head_arrives unsettled, bound.costs n e.node (slice_index arrival e.node) w b step head_open (omega (arith, bound.since, since))) in
           early_after (b + cost_to near w) later (λ k on open'. omega (arith, later, head_order k on open'));
       lowered = lowered;
       queue_is = queue_settled;

@@ -1,6 +1,7 @@
 -- Shutting nodes, and going along a prefix.
-use Rattle.std.proofs.Common.{◌≡◌, ◌≢◌, inl, inr, ℕ, zero, suc, ◌+◌, ◌<◌, ◌≤◌, Bool, true, false, not, ◌||◌, eqb, List, [], ◌∷◌, ◌++◌, length, take, drop, Some, slice_get, slice_index, slice_index_or, slice_set, refl, ap, sym, subst, ◌∙◌, arith, length-append}
+use Rattle.std.proofs.Common.{◌≡◌, ◌≢◌, inl, inr, ℕ, zero, suc, ◌+◌, ◌<◌, ◌≤◌, Bool, true, false, not, ◌||◌, eqb, List, [], ◌∷◌, ◌++◌, length, take, drop, Some, None, slice_get, slice_index, slice_index_or, slice_set, refl, ap, sym, subst, ◌∙◌, arith, length-append}
 use Rattle.std.specs.Prelude.{IsTrue}
+use Rattle.std.specs.Option.{option_and_then}
 use Rattle.std.proofs.lemmas.Bool.{or_right, or_from, eq-eqb, ne_eqb, both_ways, cases_eq, and_parts, not-true}
 use Rattle.std.proofs.lemmas.List.{take_more, take-take, take-append-drop}
 use Rattle.std.proofs.lemmas.Grind.{common_steps}
@@ -18,7 +19,7 @@ use Rattle.sabr_model.specs.routes.Hops.{hop_arrival}
 use Rattle.sabr_search.specs.declared.backward.pick.Standing.{Standing}
 use Rattle.sabr_search.specs.questions.Task.{SearchTask, HasNodes, IsTask, IsBehind, is_closed, task_of, latest_arrival}
 use Rattle.sabr_search.specs.questions.Course.{AreShut, IsStop, AreStops}
-use Rattle.sabr_search.proofs.LinkLemmas.Arrivals.{arrival_parts}
+use Rattle.sabr_search.proofs.LinkLemmas.Arrivals.{arrival_parts, arrives_later}
 use Rattle.sabr_search.proofs.WayLemmas.Bridge.{start_is_shut}
 use Rattle.sabr_search.proofs.WayLemmas.Chains.{has_append, first_arrival}
 use Rattle.sabr_search.proofs.LinkLemmas.PlanFacts.{hop_arrival_is, contact_window, light_small, cost_small}
@@ -211,6 +212,17 @@ early_after p r good margin a (n ∷ s) b t e chain le after =
     let parts = arrival_parts p r t h.contact next.0 next.1 in
     let window = contact_window p good n h.contact h.named in
     early_after p r good margin h.contact.to s b next.0 e h.rest (omega (arith, parts.sum, parts.before_end, window.1, cost_small r.margin parts.light (light_small p good h.contact parts.light parts.in_force) margin)) next.2
+
+-- what is taken along arrives no earlier than it begins
+pub after_later : (p : ContactPlan) (r : RouteRequest) (s : List ℕ) (t e : ℕ) → arrival_after p r t s ≡ Some e → t ≤ e
+after_later p r [] t e after = let same : t ≡ e = cc (after) in omega arith
+after_later p r (n ∷ s) t e after =
+    (elim (contact_named p n) as (λ o. contact_named p n ≡ o → t ≤ e) [
+      | None ↦ λ none. absurd (let no_way : None ≡ Some e = sym (ap (option_and_then (λ c. option_and_then (λ b. arrival_after p r b s) (arrival p r t c))) none) ∙ after in cc)
+      | Some c ↦ λ named.
+          let next = first_arrival p r t n s e c named after in
+          omega (arith, arrives_later p r t c next.0 next.1, after_later p r s next.0 e next.2)
+    ]) refl
 
 pub behind_passed : (p : TabledPlan) (r : RouteRequest) (prefix : List ℕ) (shut : List Bool) (stop : Standing) → IsStop p r prefix stop → AreShut p.table shut (is_closed p.plan r prefix) → HasNodes p.plan p.table → (goal : ℕ) → slice_get p.table goal ≡ Some r.destination → (excluded : List ℕ) →
     IsBehind (task_of p r shut excluded stop.node stop.at goal) prefix

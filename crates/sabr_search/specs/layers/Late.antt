@@ -132,6 +132,6 @@ HasWayAt task hops d = (ns : List ℕ) × (length ns ≤ hops) × Leads (Takes t
 abbrev pub IsNoneWithin : SearchTask → ℕ → ℕ → Type 0
 IsNoneWithin task hops d = (ns : List ℕ) (e : ℕ) → length ns ≤ hops → Leads (Takes task) task.start task.at ns task.goal e → d < e
 
--- no such way, or there may be too many looks for finding it: a layer takes one for each contact
-abbrev pub IsNoneSeen : SearchTask → ℕ → ℕ → ℕ → ℕ → Type 0
-IsNoneSeen task hops d looks most = (most < looks + hops * length task.plan.contacts) ⊎ IsNoneWithin task hops d
+-- no such way, or so few looks are left that finding it may take more: a layer takes one for each contact
+abbrev pub IsNoneSeen : SearchTask → ℕ → ℕ → ℕ → Type 0
+IsNoneSeen task hops d left = (left < hops * length task.plan.contacts) ⊎ IsNoneWithin task hops d

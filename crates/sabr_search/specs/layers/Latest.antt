@@ -20,10 +20,10 @@ IsLeftBy task late u t = slice_index_or task.shut u false ≡ false → u ≢ ta
 abbrev pub IsTakenBy : SearchTask → List ℕ → ℕ → Type 0
 IsTakenBy task late w = (n u t b : ℕ) → Takes task n u t w b → b < slice_index late w → IsLeftBy task late u t
 
--- who goes on from node u at t and is at node w at b is no nearer to the goal there than the seconds on the way make it, if
--- u is an open node and not the goal
+-- who goes on from node u at t, no earlier than the request begins, and is at node w at b is no nearer to the goal there than
+-- the seconds on the way make it, if u is an open node and not the goal
 abbrev pub IsNear : SearchTask → List ℕ → ℕ → ℕ → ℕ → ℕ → Type 0
-IsNear task near u t w b = slice_index_or task.shut u false ≡ false → u ≢ task.goal → slice_index near w + t ≤ slice_index near u + b
+IsNear task near u t w b = slice_index_or task.shut u false ≡ false → u ≢ task.goal → task.request.at ≤ t → slice_index near w + t ≤ slice_index near u + b
 
 -- so it is for each step that leads to node w
 abbrev pub IsNearBy : SearchTask → List ℕ → ℕ → Type 0

@@ -31,10 +31,10 @@ pub record AreLateFor (p : TabledPlan) (r : RouteRequest) (late : List ℕ) : Ty
   pub steps : (n u t w b : ℕ) → Goes p r n u t w b → IsBetween p r u → slice_index_or late u never ≤ t → slice_index_or late w never ≤ b
 
 -- by node how much less than `never` the way to the destination takes at the least over the whole graph, in seconds: no step
--- brings it nearer than the seconds on the way
+-- from when the request begins on brings it nearer than the seconds on the way
 pub record AreNearFor (p : TabledPlan) (r : RouteRequest) (near : List ℕ) : Type 0 where
   pub goal : (g : ℕ) → slice_get p.table g ≡ Some r.destination → slice_index_or near g never ≡ never
-  pub steps : (n u t w b : ℕ) → Goes p r n u t w b → IsBetween p r u → slice_index_or near w never + t ≤ slice_index_or near u never + b
+  pub steps : (n u t w b : ℕ) → Goes p r n u t w b → IsBetween p r u → r.at ≤ t → slice_index_or near w never + t ≤ slice_index_or near u never + b
 
 -- so the way from node v to the destination takes so many seconds at the least
 abbrev pub cost_to : List ℕ → ℕ → ℕ

@@ -22,7 +22,8 @@ pub record IsBound (task : SearchTask) (late near : List ℕ) : Type 0 where
   pub goal : never ≤ slice_index_or late task.goal never
   pub steps : (n u t w b : ℕ) → Takes task n u t w b → slice_index_or task.shut u false ≡ false → u ≢ task.goal → slice_index_or late u never ≤ t → slice_index_or late w never ≤ b
   pub there : cost_to near task.goal ≡ 0
-  pub costs : (n u t w b : ℕ) → Takes task n u t w b → slice_index_or task.shut u false ≡ false → t + cost_to near u ≤ b + cost_to near w
+  pub since : task.request.at ≤ task.at
+  pub costs : (n u t w b : ℕ) → Takes task n u t w b → slice_index_or task.shut u false ≡ false → task.request.at ≤ t → t + cost_to near u ≤ b + cost_to near w
 
 -- these are steps from the start
 abbrev pub AreReal : SearchTask → List Standing → Type 0

@@ -78,9 +78,11 @@ pub record IsBehind (task : SearchTask) (prefix : List ℕ) : Type 0 where
   pub goal_is : slice_get task.table task.goal ≡ Some task.request.destination
   pub shuts : (k x : ℕ) → slice_get task.table k ≡ Some x → slice_index_or task.shut k false ≡ is_closed task.plan task.request prefix x
 
--- the goal is the destination, and no node is open that the request closes: the source, and those to avoid
+-- the goal is the destination, the search starts no earlier than the request begins, and no node is open that the request
+-- closes: the source, and those to avoid
 pub record IsOfRequest (task : SearchTask) : Type 0 where
   pub goal_is : slice_get task.table task.goal ≡ Some task.request.destination
+  pub since : task.request.at ≤ task.at
   pub closes : (k x : ℕ) → slice_get task.table k ≡ Some x → slice_index_or task.shut k false ≡ false → is_closed task.plan task.request [] x ≡ false
 
 -- a question after a prefix: the search starts where the prefix ends

@@ -36,8 +36,8 @@ impl<'a, A: Allocator + Copy> Task<'a, A> {
         requires start { from.node ≡ self.now.start }
         requires link { IsLinkWithin self.now from.node to from.passes.now from.bounds }
         requires receiver { slice_index_or self.now.shut to false ≡ false }
-        requires few { looks.old.count + length from.passes.now ≤ 2 ^ 62 }
-        ensures looks { looks.new.count ≤ looks.old.count + length from.entry.passes.now }
+        requires few { length from.passes.now ≤ looks.old.left }
+        ensures looks { looks.old.left ≤ looks.new.left + length from.entry.passes.now }
         ensures met { IsTrue result → (n : ℕ) × (b : ℕ) × Takes self.now n self.now.start self.now.at to b × (b < before) }
         ensures told { result ≡ false → (n t w b : ℕ) → self.now.at ≤ t → HasNumber from.entry.passes.now n → Takes self.now n self.now.start t w b → before ≤ b }
     {
@@ -113,11 +113,11 @@ impl<A: Allocator + Copy> Layers<A> {
         requires node { from.node < length aim.now.task.now.table }
         requires receiver { slice_index_or aim.now.task.now.shut to.node false ≡ false }
         requires arrivals { length aim.now.since.now ≡ length aim.now.task.now.table }
-        requires few { looks.old.count + length from.passes.now ≤ 2 ^ 62 }
+        requires few { length from.passes.now ≤ looks.old.left }
         requires given { (b : ℕ) → b < to.deadline → InTimeFor self.old.reached.items (slice_index self.old.ends.items left) (slice_index self.old.ends.items (left + 1)) to.node b }
         requires lists { AreLateAfter aim.now.task.now aim.now.since.now self.old.ends.items left self.old.late.items self.old.place.items self.old.reached.items }
         ensures ends { self.new.ends ≡ self.old.ends }
-        ensures looks { looks.new.count ≤ looks.old.count + length from.entry.passes.now }
+        ensures looks { looks.old.left ≤ looks.new.left + length from.entry.passes.now }
         ensures lists { OnOk result (AreLateAfter aim.now.task.now aim.now.since.now self.old.ends.items left self.new.late.items self.new.place.items self.new.reached.items) }
         ensures kept { OnOk result (take (slice_index self.old.ends.items (left + 1)) self.new.reached.items ≡ take (slice_index self.old.ends.items (left + 1)) self.old.reached.items) }
         ensures rises { OnOk result ((k : ℕ) → slice_index self.old.late.items k ≤ slice_index self.new.late.items k) }
@@ -158,28 +158,24 @@ impl<A: Allocator + Copy> Layers<A> {
     }
 
     /// Takes every link to the node of an entry of layer `left`. Returns whether the start is in time for it; none if
-    /// more than `most` looks might be needed.
+    /// more looks might be needed than are left.
     fn take_senders(
         &mut self,
         aim: &Aim<'_, '_, '_, A>,
         looks: &mut Looks,
         to: LayerEntry,
         left: usize,
-        most: u64,
     ) -> Result<Option<bool>, NoMemory>
         requires task { IsTask aim.now.task.now }
         requires bounded { left + 1 < length self.old.ends.items }
         requires node { to.node < length aim.now.task.now.table }
         requires receiver { slice_index_or aim.now.task.now.shut to.node false ≡ false }
         requires arrivals { length aim.now.since.now ≡ length aim.now.task.now.table }
-        requires few { looks.old.count ≤ most }
-        requires most { most ≤ 2 ^ 62 }
         requires given { (b : ℕ) → b < to.deadline → InTimeFor self.old.reached.items (slice_index self.old.ends.items left) (slice_index self.old.ends.items (left + 1)) to.node b }
         requires lists { AreLateAfter aim.now.task.now aim.now.since.now self.old.ends.items left self.old.late.items self.old.place.items self.old.reached.items }
         ensures ends { self.new.ends ≡ self.old.ends }
-        ensures looks { looks.new.count ≤ most }
-        ensures counted { looks.new.count ≤ looks.old.count + received aim.now.task.now to.node }
-        ensures none { IfOk result (λ o. IfNone o (most < looks.old.count + received aim.now.task.now to.node)) }
+        ensures counted { looks.old.left ≤ looks.new.left + received aim.now.task.now to.node }
+        ensures none { IfOk result (λ o. IfNone o (looks.old.left < received aim.now.task.now to.node)) }
         ensures lists { OnOk result (AreLateAfter aim.now.task.now aim.now.since.now self.old.ends.items left self.new.late.items self.new.place.items self.new.reached.items) }
         ensures kept { OnOk result (take (slice_index self.old.ends.items (left + 1)) self.new.reached.items ≡ take (slice_index self.old.ends.items (left + 1)) self.old.reached.items) }
         ensures rises { OnOk result ((k : ℕ) → slice_index self.old.late.items k ≤ slice_index self.new.late.items k) }
@@ -193,7 +189,7 @@ impl<A: Allocator + Copy> Layers<A> {
                 continue;
             }
             let from = senders.at(place);
-            if from.passes.len() as u64 > most - looks.count {
+            if from.passes.len() as u64 > looks.left {
                 return Ok(None);
             }
             let met = self.take_sender(aim, looks, from, to, left)?;
@@ -211,20 +207,16 @@ impl<A: Allocator + Copy> Layers<A> {
         aim: &Aim<'_, '_, '_, A>,
         looks: &mut Looks,
         left: usize,
-        most: u64,
     ) -> Result<Option<bool>, NoMemory>
         requires task { IsTask aim.now.task.now }
         requires arrivals { length aim.now.since.now ≡ length aim.now.task.now.table }
-        requires few { looks.old.count ≤ most }
-        requires most { most ≤ 2 ^ 62 }
         requires bounded { left + 1 < length self.old.ends.items }
         requires goal { IfSome (slice_get self.old.reached.items 0) (λ e. e.node ≡ aim.now.task.now.goal) }
         requires apart { IsApart self.old.ends.items self.old.reached.items left }
         requires lists { AreLateAfter aim.now.task.now aim.now.since.now self.old.ends.items left self.old.late.items self.old.place.items self.old.reached.items }
         ensures ends { self.new.ends ≡ self.old.ends }
-        ensures looks { looks.new.count ≤ most }
-        ensures counted { looks.new.count ≤ looks.old.count + length aim.now.task.now.plan.contacts }
-        ensures none { IfOk result (λ o. IfNone o (most < looks.old.count + length aim.now.task.now.plan.contacts)) }
+        ensures counted { looks.old.left ≤ looks.new.left + length aim.now.task.now.plan.contacts }
+        ensures none { IfOk result (λ o. IfNone o (looks.old.left < length aim.now.task.now.plan.contacts)) }
         ensures lists { OnOk result (AreLateAfter aim.now.task.now aim.now.since.now self.old.ends.items left self.new.late.items self.new.place.items self.new.reached.items) }
         ensures kept { OnOk result (take (slice_index self.old.ends.items (left + 1)) self.new.reached.items ≡ take (slice_index self.old.ends.items (left + 1)) self.old.reached.items) }
         ensures met { IfOk result (λ o. o ≡ Some true → StartsInTime aim.now.task.now self.old.ends.items left self.old.reached.items) }
@@ -234,7 +226,7 @@ impl<A: Allocator + Copy> Layers<A> {
         let begin = self.ends[left + 1];
         for place in first..begin {
             let to = self.reached[place];
-            let told = self.take_senders(aim, looks, to, left, most)?;
+            let told = self.take_senders(aim, looks, to, left)?;
             let Some(met) = told else {
                 return Ok(None);
             };
@@ -272,32 +264,29 @@ impl<A: Allocator + Copy> Layers<A> {
 
     /// Makes layers backward from the goal until the start is in time for one, each with at most one look for each
     /// contact. Returns how many hops that layer is from the goal. None if the start is in time for none of `hops`
-    /// layers, if a layer is empty, or if more than `most` looks might be needed.
+    /// layers, if a layer is empty, or if more looks might be needed than are left.
+    #[tactic(auto, using(crate::proofs::ForwardLemmas::MadeLayers::layer_more))]
     pub fn make_back(
         &mut self,
         aim: &Aim<'_, '_, '_, A>,
         looks: &mut Looks,
         hops: usize,
-        most: u64,
     ) -> Result<Option<usize>, NoMemory>
         requires task { IsTask aim.now.task.now }
         requires arrivals { AreArrivals aim.now.task.now aim.now.since.now }
         requires early { aim.now.delivery < never }
-        requires few { looks.old.count ≤ most }
-        requires most { most ≤ 2 ^ 62 }
-        ensures looks { looks.new.count ≤ most }
-        ensures counted { looks.new.count ≤ looks.old.count + hops * length aim.now.task.now.plan.contacts }
+        ensures counted { looks.old.left ≤ looks.new.left + hops * length aim.now.task.now.plan.contacts }
         ensures within { IfOk result (λ o. IfSome o (λ left. left < hops)) }
-        ensures layers { IfOk result (λ o. IfSome o (λ left. looks.new.count ≤ looks.old.count + (left + 1) * length aim.now.task.now.plan.contacts)) }
+        ensures layers { IfOk result (λ o. IfSome o (λ left. looks.old.left ≤ looks.new.left + (left + 1) * length aim.now.task.now.plan.contacts)) }
         ensures met { IfOk result (λ o. IfSome o (λ left. AreMet aim.now.task.now aim.now.since.now aim.now.delivery left self.new.ends.items self.new.place.items self.new.reached.items)) }
-        ensures none { IfOk result (λ o. IfNone o (IsNoneSeen aim.now.task.now hops aim.now.delivery looks.old.count most)) }
+        ensures none { IfOk result (λ o. IfNone o (IsNoneSeen aim.now.task.now hops aim.now.delivery looks.old.left)) }
     {
         self.first_back(aim.task, aim.delivery)?;
         for left in 0..hops {
             if self.ends[left] == self.ends[left + 1] {
                 return Ok(None);
             }
-            let told = self.next_back(aim, looks, left, most)?;
+            let told = self.next_back(aim, looks, left)?;
             let Some(starts) = told else {
                 return Ok(None);
             };

@@ -61,10 +61,10 @@ impl<A: Allocator + Copy> Latest<A> {
         requires task { IsTask task.now }
         requires link { IsLinkWithin task.now from.node to from.passes.now from.bounds }
         requires node { from.node < length task.now.table }
-        requires few { looks.old.count + length from.passes.now ≤ 2 ^ 62 }
+        requires few { length from.passes.now ≤ looks.old.left }
         requires rising { AreRising (IsTakenBy task.now) task.now self.old.late.items self.old.taken.items self.old.queue to }
         requires same { slice_index self.old.late.items to ≡ before }
-        ensures looks { looks.new.count ≤ looks.old.count + length from.entry.passes.now }
+        ensures looks { looks.old.left ≤ looks.new.left + length from.entry.passes.now }
         ensures rising { OnOk result (AreRising (IsTakenBy task.now) task.now self.new.late.items self.new.taken.items self.new.queue to) }
         ensures same { OnOk result (slice_index self.new.late.items to ≡ before) }
         ensures rises { OnOk result ((k : ℕ) → slice_index self.old.late.items k ≤ slice_index self.new.late.items k) }
@@ -102,20 +102,16 @@ impl<A: Allocator + Copy> Latest<A> {
         Ok(())
     }
 
-    /// Takes every link to a node. Returns false if more than `most` looks might be needed.
+    /// Takes every link to a node. Returns false if more looks might be needed than are left.
     fn take_senders(
         &mut self,
         task: &Task<'_, A>,
         looks: &mut Looks,
         to: usize,
-        most: u64,
     ) -> Result<bool, NoMemory>
         requires task { IsTask task.now }
         requires node { to < length task.now.table }
-        requires few { looks.old.count ≤ most }
-        requires most { most ≤ 2 ^ 62 }
         requires rising { AreRising (IsTakenBy task.now) task.now self.old.late.items self.old.taken.items self.old.queue to }
-        ensures looks { looks.new.count ≤ most }
         ensures rising { OnOk result (AreRising (IsTakenBy task.now) task.now self.new.late.items self.new.taken.items self.new.queue to) }
         ensures taken { IfOk result (λ all. IsTrue all → IsTakenBy task.now self.new.late.items to) }
     {
@@ -123,7 +119,7 @@ impl<A: Allocator + Copy> Latest<A> {
         let senders = task.senders(to);
         for place in 0..senders.len() {
             let from = senders.at(place);
-            if from.passes.len() as u64 > most - looks.count {
+            if from.passes.len() as u64 > looks.left {
                 return Ok(false);
             }
             self.take_sender(task, looks, from, to, before)?;
@@ -131,21 +127,14 @@ impl<A: Allocator + Copy> Latest<A> {
         Ok(true)
     }
 
-    /// Takes the links of the nodes that wait, until none does. Returns false if more than `most` looks might be needed.
-    fn take_all(
-        &mut self,
-        task: &Task<'_, A>,
-        looks: &mut Looks,
-        most: u64,
-    ) -> Result<bool, NoMemory>
+    /// Takes the links of the nodes that wait, until none does. Returns false if more looks might be needed than are left,
+    /// or after two nodes for each contact.
+    fn take_all(&mut self, task: &Task<'_, A>, looks: &mut Looks) -> Result<bool, NoMemory>
         requires task { IsTask task.now }
-        requires few { looks.old.count ≤ most }
-        requires most { most ≤ 2 ^ 62 }
         requires rising { AreRising (IsTakenBy task.now) task.now self.old.late.items self.old.taken.items self.old.queue (length task.now.table) }
-        ensures looks { looks.new.count ≤ most }
         ensures taken { IfOk result (λ all. IsTrue all → AreTaken (IsTakenBy task.now) task.now self.new.late.items) }
     {
-        for _ in 0..most {
+        for _ in 0..task.two_passes() {
             let Some(event) = self.queue.pop() else {
                 return Ok(true);
             };
@@ -153,7 +142,7 @@ impl<A: Allocator + Copy> Latest<A> {
                 continue;
             }
             self.taken[event.node] = true;
-            let all = self.take_senders(task, looks, event.node, most)?;
+            let all = self.take_senders(task, looks, event.node)?;
             if !all {
                 return Ok(false);
             }
@@ -163,21 +152,17 @@ impl<A: Allocator + Copy> Latest<A> {
 }
 
 /// Returns for each node a second from which on no way over the whole graph leads to the destination. Nothing is known of
-/// any node if more than `most` looks might be needed.
+/// any node if more looks might be needed than are left.
 pub fn latest_of<A: Allocator + Copy>(
     alloc: A,
     task: &Task<'_, A>,
     looks: &mut Looks,
-    most: u64,
 ) -> Result<Vec<u64, A>, NoMemory>
     requires whole { IsWhole task.now }
-    requires few { looks.old.count ≤ most }
-    requires most { most ≤ 2 ^ 62 }
-    ensures looks { looks.new.count ≤ most }
     ensures late { IfOk result (λ v. AreLateFor (tabled_of task.now) task.now.request v.items) }
 {
     let mut latest = Latest::begin(alloc, task)?;
-    let all = latest.take_all(task, looks, most)?;
+    let all = latest.take_all(task, looks)?;
     if !all {
         return Ok(Vec::new(alloc));
     }

@@ -12,9 +12,6 @@ use crate::links::looks::Looks;
 use sabr_model::NoMemory;
 use std::alloc::{Allocator, Global};
 
-/// More looks than a search ever needs.
-pub const MANY_LOOKS: u64 = 1 << 60;
-
 /// The contact numbers of the least way of a question, and when it delivers; no numbers if there is no way.
 #[derive(Drop)]
 pub struct FoundWay<A: Allocator + Copy = Global> {
@@ -36,33 +33,29 @@ impl<A: Allocator + Copy> FoundWay<A> {
 
 impl<A: Allocator + Copy> Layers<A> {
     /// Returns the least way of at most so many hops. Some such way delivers as is aimed at, and none sooner. None if more
-    /// than `most` looks might be needed.
+    /// looks might be needed than are left.
     pub fn least_by(
         &mut self,
         aim: &Aim<'_, '_, '_, A>,
         looks: &mut Looks,
         hops: usize,
-        most: u64,
     ) -> Result<Option<FoundWay<A>>, NoMemory>
         requires task { IsTask aim.now.task.now }
         requires nodes { hops ≤ most_nodes }
-        requires few { looks.old.count ≤ most }
-        requires most { most ≤ 2 ^ 62 }
         requires early { aim.now.delivery < never }
         requires arrivals { AreArrivals aim.now.task.now aim.now.since.now }
         requires least { IsNoneSooner aim.now.task.now hops aim.now.delivery }
         requires way { HasWayAt aim.now.task.now hops aim.now.delivery }
-        ensures looks { looks.new.count ≤ most }
-        ensures counted { looks.new.count ≤ looks.old.count + 2 * (hops * length aim.now.task.now.plan.contacts) }
-        ensures none { IfOk result (λ o. IfNone o (most < looks.old.count + 2 * (hops * length aim.now.task.now.plan.contacts))) }
-        ensures cut { IfOk result (λ o. IfSome o (λ way. looks.new.count ≤ looks.old.count + 2 * (length way.numbers.items * length aim.now.task.now.plan.contacts))) }
+        ensures counted { looks.old.left ≤ looks.new.left + 2 * (hops * length aim.now.task.now.plan.contacts) }
+        ensures none { IfOk result (λ o. IfNone o (looks.old.left < 2 * (hops * length aim.now.task.now.plan.contacts))) }
+        ensures cut { IfOk result (λ o. IfSome o (λ way. looks.old.left ≤ looks.new.left + 2 * (length way.numbers.items * length aim.now.task.now.plan.contacts))) }
         ensures found { IfOk result (λ o. IfSome o (λ way. IsFoundWay aim.now.task.now hops way.numbers.items way.delivery)) }
     {
-        let made = self.make_back(aim, looks, hops, most)?;
+        let made = self.make_back(aim, looks, hops)?;
         let Some(left) = made else {
             return Ok(None);
         };
-        let picked = self.pick(aim, looks, left, most)?;
+        let picked = self.pick(aim, looks, left)?;
         let Some(numbers) = picked else {
             return Ok(None);
         };
@@ -73,28 +66,24 @@ impl<A: Allocator + Copy> Layers<A> {
     }
 
     /// Returns the least way of at most so many hops, if there is one. No way delivers sooner than is aimed at. None if more
-    /// than `most` looks might be needed.
+    /// looks might be needed than are left.
     pub fn least_within(
         &mut self,
         aim: &Aim<'_, '_, '_, A>,
         looks: &mut Looks,
         hops: usize,
-        most: u64,
     ) -> Result<Option<FoundWay<A>>, NoMemory>
         requires task { IsTask aim.now.task.now }
         requires nodes { hops ≤ most_nodes }
-        requires few { looks.old.count ≤ most }
-        requires most { most ≤ 2 ^ 62 }
         requires early { aim.now.delivery < never }
         requires arrivals { AreArrivals aim.now.task.now aim.now.since.now }
         requires lower { IsNoneBefore aim.now.task.now aim.now.delivery }
-        ensures looks { looks.new.count ≤ most }
-        ensures counted { looks.new.count ≤ looks.old.count + 3 * (hops * length aim.now.task.now.plan.contacts) }
-        ensures none { IfOk result (λ o. IfNone o (most < looks.old.count + 3 * (hops * length aim.now.task.now.plan.contacts))) }
+        ensures counted { looks.old.left ≤ looks.new.left + 3 * (hops * length aim.now.task.now.plan.contacts) }
+        ensures none { IfOk result (λ o. IfNone o (looks.old.left < 3 * (hops * length aim.now.task.now.plan.contacts))) }
         ensures found { IfOk result (λ o. IfSome o (λ way. IsFoundWay aim.now.task.now hops way.numbers.items way.delivery)) }
     {
         let task = aim.task;
-        let made = self.make(task, looks, hops, aim.delivery, most)?;
+        let made = self.make(task, looks, hops, aim.delivery)?;
         let Some(best) = made else {
             return Ok(None);
         };
@@ -106,6 +95,6 @@ impl<A: Allocator + Copy> Layers<A> {
             since: aim.since,
             delivery: best.delivery,
         };
-        self.least_by(&least, looks, hops, most)
+        self.least_by(&least, looks, hops)
     }
 }

@@ -26,7 +26,7 @@ fn note_hops<A: Allocator + Copy>(hops: &mut Vec<u64, A>, node: usize, next: usi
 }
 
 impl<A: Allocator + Copy> Latest<A> {
-    /// Takes the bounds of one link to a node that is so near.
+    /// Takes the bounds of one link to a node that is so near, unless it has ended when the request begins.
     fn near_sender(
         &mut self,
         task: &Task<'_, A>,
@@ -53,6 +53,9 @@ impl<A: Allocator + Copy> Latest<A> {
             return Ok(());
         }
         if task.shut()[node] {
+            return Ok(());
+        }
+        if from.bounds.latest_end <= task.request().at() {
             return Ok(());
         }
         let cost = task.cost(from.bounds.least_light.min(MOST_LIGHT));
@@ -95,18 +98,13 @@ impl<A: Allocator + Copy> Latest<A> {
         Ok(())
     }
 
-    /// Takes the links of the nodes that wait, at most so many times. Returns whether none waits then.
-    fn near_all(
-        &mut self,
-        task: &Task<'_, A>,
-        most: u64,
-        hops: &mut Vec<u64, A>,
-    ) -> Result<bool, NoMemory>
+    /// Takes the links of the nodes that wait, of at most two for each contact. Returns whether none waits then.
+    fn near_all(&mut self, task: &Task<'_, A>, hops: &mut Vec<u64, A>) -> Result<bool, NoMemory>
         requires task { IsTask task.now }
         requires rising { AreRising (IsNearBy task.now) task.now self.old.late.items self.old.taken.items self.old.queue (length task.now.table) }
         ensures taken { IfOk result (λ all. IsTrue all → AreTaken (IsNearBy task.now) task.now self.new.late.items) }
     {
-        for _ in 0..most {
+        for _ in 0..task.two_passes() {
             let Some(event) = self.queue.pop() else {
                 return Ok(true);
             };
@@ -121,12 +119,11 @@ impl<A: Allocator + Copy> Latest<A> {
 }
 
 /// Returns for each node how near the destination is: `NEVER` less the least sum of the links' least costs on a way over the
-/// whole graph. The hops of such a way are noted in `hops`. Nothing is known of any node if the links to nodes would be taken
-/// more than `most` times.
+/// links that haven't ended when the request begins. The hops of such a way are noted in `hops`. Nothing is known of any
+/// node if the links of more nodes than two for each contact would be taken.
 pub fn nearest_of<A: Allocator + Copy>(
     alloc: A,
     task: &Task<'_, A>,
-    most: u64,
     hops: &mut Vec<u64, A>,
 ) -> Result<Vec<u64, A>, NoMemory>
     requires whole { IsWhole task.now }
@@ -134,7 +131,7 @@ pub fn nearest_of<A: Allocator + Copy>(
 {
     let mut nearest = Latest::begin(alloc, task)?;
     hops.resize(task.shut().len(), 0)?;
-    let all = nearest.near_all(task, most, hops)?;
+    let all = nearest.near_all(task, hops)?;
     if !all {
         return Ok(Vec::new(alloc));
     }

@@ -55,13 +55,13 @@ impl<A: Allocator + Copy> Layers<A> {
     ) -> Option<Step>
         requires task { IsTask task.now }
         requires links { AreLinksAt task.now from.node links.links.now links.passes.now }
-        requires few { looks.old.count + length links.passes.now ≤ 2 ^ 62 }
+        requires few { length links.passes.now ≤ looks.old.left }
         requires bounded { hops + 1 < length self.now.ends.items }
         requires many { length self.now.place.items ≡ length task.now.table }
         requires ends { slice_index self.now.ends.items (hops + 1) ≤ length self.now.reached.items }
         requires pointed { ArePointed self.now.ends.items self.now.place.items self.now.reached.items hops }
         requires open { AreOpen task.now self.now.reached.items }
-        ensures looks { looks.new.count ≤ looks.old.count + length links.entry.passes.now }
+        ensures looks { looks.old.left ≤ looks.new.left + length links.entry.passes.now }
         ensures some { IfSome result (IsLeastStep task.now self.now.ends.items self.now.reached.items hops from.node from.at) }
         ensures none { IfNone result ((n w b : ℕ) → Takes task.now n from.node from.at w b → IsInTime self.now.ends.items self.now.reached.items hops w b → ⊥) }
     {
@@ -81,23 +81,19 @@ impl<A: Allocator + Copy> Layers<A> {
     }
 
     /// Returns the least numbers that lead from the start to the goal by the layers of an aim, of which the last is so many
-    /// hops from the goal. None if more than `most` looks might be needed.
+    /// hops from the goal. None if more looks might be needed than are left.
     pub fn pick(
         &mut self,
         aim: &Aim<'_, '_, '_, A>,
         looks: &mut Looks,
         left: usize,
-        most: u64,
     ) -> Result<Option<Vec<u32, A>>, NoMemory>
         requires task { IsTask aim.now.task.now }
-        requires looked { looks.old.count ≤ most }
-        requires most { most ≤ 2 ^ 62 }
         requires many { left < most_nodes }
         requires met { AreMet aim.now.task.now aim.now.since.now aim.now.delivery left self.old.ends.items self.old.place.items self.old.reached.items }
         requires least { IsNoneSooner aim.now.task.now (left + 1) aim.now.delivery }
-        ensures limit { looks.new.count ≤ most }
-        ensures looks { looks.new.count ≤ looks.old.count + (left + 1) * length aim.now.task.now.plan.contacts }
-        ensures none { IfOk result (λ o. IfNone o (most < looks.old.count + (left + 1) * length aim.now.task.now.plan.contacts)) }
+        ensures counted { looks.old.left ≤ looks.new.left + (left + 1) * length aim.now.task.now.plan.contacts }
+        ensures none { IfOk result (λ o. IfNone o (looks.old.left < (left + 1) * length aim.now.task.now.plan.contacts)) }
         ensures picked { IfOk result (λ o. IfSome o (λ v. IsPicked aim.now.task.now (left + 1) aim.now.delivery v.items)) }
     {
         let task = aim.task;
@@ -109,7 +105,7 @@ impl<A: Allocator + Copy> Layers<A> {
         for hop in 0..left + 1 {
             self.point_at(left - hop);
             let links = task.links(from.node);
-            if links.passes.len() as u64 > most - looks.count {
+            if links.passes.len() as u64 > looks.left {
                 return Ok(None);
             }
             let least = self.least_step(task, looks, left - hop, from, links);

@@ -31,22 +31,18 @@ fn put_step<A: Allocator + Copy>(
 }
 
 impl<'a, A: Allocator + Copy> Task<'a, A> {
-    /// Gathers where the steps from a node come to, and when. Returns true if these are all, and false if more than
-    /// `most` looks might be needed.
+    /// Gathers where the steps from a node come to, and when. Returns true if these are all, and false if more
+    /// looks might be needed than are left.
     fn steps_from(
         &self,
         looks: &mut Looks,
-        most: u64,
         from: Standing,
         first: &mut Vec<Standing, A>,
     ) -> Result<bool, NoMemory>
         requires task { IsTask self.now }
         requires node { from.node < length self.now.table }
-        requires few { looks.old.count ≤ most }
-        requires most { most ≤ 2 ^ 62 }
-        ensures looks { looks.new.count ≤ most }
-        ensures counted { looks.new.count ≤ looks.old.count + degree self.now from.node }
-        ensures all { IfOk result (λ all. all ≡ false → most < looks.old.count + degree self.now from.node) }
+        ensures counted { looks.old.left ≤ looks.new.left + degree self.now from.node }
+        ensures all { IfOk result (λ all. all ≡ false → looks.old.left < degree self.now from.node) }
         ensures inside { IfOk result (λ all. (k : ℕ) (s : Standing) → slice_get first.new.items k ≡ Some s → s.node < length self.now.table) }
         ensures real { IfOk result (λ all. (k : ℕ) (s : Standing) → slice_get first.new.items k ≡ Some s → (n : ℕ) × Takes self.now n from.node from.at s.node s.at) }
         ensures whole { IfOk result (λ all. IsTrue all → (n w b : ℕ) → Takes self.now n from.node from.at w b → ComesTo first.new.items w b) }
@@ -55,7 +51,7 @@ impl<'a, A: Allocator + Copy> Task<'a, A> {
         let links = self.links(from.node);
         for link in links.links {
             let passes = link_passes(links, link);
-            if passes.len() as u64 > most - looks.count {
+            if passes.len() as u64 > looks.left {
                 return Ok(false);
             }
             if self.shut()[link.receiver] {
@@ -77,20 +73,16 @@ impl<'a, A: Allocator + Copy> Task<'a, A> {
         Ok(true)
     }
 
-    /// Gathers where the first steps come to, and when. Returns true if these are all, and false if more than `most`
-    /// looks might be needed.
+    /// Gathers where the first steps come to, and when. Returns true if these are all, and false if more looks might
+    /// be needed than are left.
     pub fn first_steps(
         &self,
         looks: &mut Looks,
-        most: u64,
         first: &mut Vec<Standing, A>,
     ) -> Result<bool, NoMemory>
         requires task { IsTask self.now }
-        requires few { looks.old.count ≤ most }
-        requires most { most ≤ 2 ^ 62 }
-        ensures looks { looks.new.count ≤ most }
-        ensures counted { looks.new.count ≤ looks.old.count + degree self.now self.now.start }
-        ensures all { IfOk result (λ all. all ≡ false → most < looks.old.count + degree self.now self.now.start) }
+        ensures counted { looks.old.left ≤ looks.new.left + degree self.now self.now.start }
+        ensures all { IfOk result (λ all. all ≡ false → looks.old.left < degree self.now self.now.start) }
         ensures inside { IfOk result (λ all. (k : ℕ) (s : Standing) → slice_get first.new.items k ≡ Some s → s.node < length self.now.table) }
         ensures real { IfOk result (λ all. AreReal self.now first.new.items) }
         ensures whole { IfOk result (λ all. IsTrue all → AreFirstSteps self.now first.new.items) }
@@ -99,6 +91,6 @@ impl<'a, A: Allocator + Copy> Task<'a, A> {
             node: self.start(),
             at: self.at(),
         };
-        self.steps_from(looks, most, from, first)
+        self.steps_from(looks, from, first)
     }
 }

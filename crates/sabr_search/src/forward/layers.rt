@@ -185,11 +185,11 @@ impl<A: Allocator + Copy> Layers<A> {
         requires link { IsLinkWithin task.now link.from link.to link.passes.now link.bounds }
         requires receiver { link.to < length task.now.table }
         requires since { task.now.at ≤ at }
-        requires few { looks.old.count + length link.passes.now ≤ 2 ^ 62 }
+        requires few { length link.passes.now ≤ looks.old.left }
         requires later { 0 < layer.begin }
         requires lists { AreLists task.now.shut task.now.goal task.now.at layer.begin self.old.arrival.items self.old.place.items self.old.reached.items }
         ensures bounds { self.new.bounds ≡ self.old.bounds }
-        ensures looks { looks.new.count ≤ looks.old.count + length link.entry.passes.now }
+        ensures looks { looks.old.left ≤ looks.new.left + length link.entry.passes.now }
         ensures lowered { IfOk result (λ b. AreLowered task.now layer.begin (GivenAt task.now link.entry.from at) self.old layer.best self.new b) }
         ensures known { IfOk result (λ b. (n w x : ℕ) → HasNumber link.entry.passes.now n → Takes task.now n link.entry.from at w x → IsKnown task.now.goal self.new.arrival.items b w x) }
     {
@@ -218,11 +218,11 @@ impl<A: Allocator + Copy> Layers<A> {
         requires task { IsTask task.now }
         requires node { from.node < length task.now.table }
         requires since { task.now.at ≤ from.arrival }
-        requires few { looks.old.count + degree task.now from.node ≤ 2 ^ 62 }
+        requires few { degree task.now from.node ≤ looks.old.left }
         requires later { 0 < begin }
         requires lists { AreLists task.now.shut task.now.goal task.now.at begin self.old.arrival.items self.old.place.items self.old.reached.items }
         ensures bounds { self.new.bounds ≡ self.old.bounds }
-        ensures looks { looks.new.count ≤ looks.old.count + degree task.now from.node }
+        ensures looks { looks.old.left ≤ looks.new.left + degree task.now from.node }
         ensures lowered { IfOk result (λ b. AreLowered task.now begin (GivenAt task.now from.node from.arrival) self.old best self.new b) }
         ensures known { IfOk result (λ b. (n w x : ℕ) → Takes task.now n from.node from.arrival w x → IsKnown task.now.goal self.new.arrival.items b w x) }
     {
@@ -251,14 +251,14 @@ impl<A: Allocator + Copy> Layers<A> {
         best: u64,
     ) -> Result<u64, NoMemory>
         requires task { IsTask task.now }
-        requires few { looks.old.count + length task.now.plan.contacts ≤ 2 ^ 62 }
+        requires few { length task.now.plan.contacts ≤ looks.old.left }
         requires bounded { hop + 1 < length self.old.bounds.items }
         requires last { slice_index self.old.bounds.items (hop + 1) ≡ length self.old.reached.items }
         requires later { 0 < slice_index self.old.bounds.items (hop + 1) }
         requires sources { AreSources task.now self.old.reached.items (slice_index self.old.bounds.items hop) (slice_index self.old.bounds.items (hop + 1)) }
         requires lists { AreLists task.now.shut task.now.goal task.now.at (slice_index self.old.bounds.items (hop + 1)) self.old.arrival.items self.old.place.items self.old.reached.items }
         ensures bounds { self.new.bounds ≡ self.old.bounds }
-        ensures looks { looks.new.count ≤ looks.old.count + length task.now.plan.contacts }
+        ensures looks { looks.old.left ≤ looks.new.left + length task.now.plan.contacts }
         ensures lowered { IfOk result (λ b. AreLowered task.now (slice_index self.old.bounds.items (hop + 1)) (GivenByLayer task.now self.old hop) self.old best self.new b) }
         ensures known { IfOk result (λ b. IsKnownFrom task.now self.old.reached.items (slice_index self.old.bounds.items hop) (slice_index self.old.bounds.items (hop + 1)) self.new.arrival.items b) }
     {
@@ -295,23 +295,20 @@ impl<A: Allocator + Copy> Layers<A> {
     }
 
     /// Makes layers until the goal is reached by `lower`, before which no way delivers, no node is new, or the hops are used
-    /// up. Returns the least delivery; none if more than `most` looks might be needed.
+    /// up. Returns the least delivery; none if more looks might be needed than are left.
+    #[tactic(auto, using(crate::proofs::ForwardLemmas::MadeLayers::layer_more))]
     pub fn make(
         &mut self,
         task: &Task<'_, A>,
         looks: &mut Looks,
         hops: usize,
         lower: u64,
-        most: u64,
     ) -> Result<Option<Best>, NoMemory>
         requires task { IsTask task.now }
-        requires few { looks.old.count ≤ most }
-        requires most { most ≤ 2 ^ 62 }
         requires sooner { lower < never }
         requires lower { IsNoneBefore task.now lower }
-        ensures looks { looks.new.count ≤ most }
-        ensures counted { looks.new.count ≤ looks.old.count + hops * length task.now.plan.contacts }
-        ensures none { IfOk result (λ o. IfNone o (most < looks.old.count + hops * length task.now.plan.contacts)) }
+        ensures counted { looks.old.left ≤ looks.new.left + hops * length task.now.plan.contacts }
+        ensures none { IfOk result (λ o. IfNone o (looks.old.left < hops * length task.now.plan.contacts)) }
         ensures best { IfOk result (λ o. IfSome o (IsBestWithin task.now hops)) }
     {
         self.first_layer(task)?;
@@ -320,7 +317,7 @@ impl<A: Allocator + Copy> Layers<A> {
             hops: 0,
         };
         for hop in 0..hops {
-            if task.one_pass() > most - looks.count {
+            if task.one_pass() > looks.left {
                 return Ok(None);
             }
             let delivery = self.next_layer(task, looks, hop, best.delivery)?;

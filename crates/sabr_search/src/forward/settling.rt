@@ -15,9 +15,9 @@ use crate::backward::pick::Standing;
 use crate::forward::layers::{Best, NEVER, news_before, open_nodes};
 use crate::forward::queue::{Event, Queue};
 use crate::links::looks::Looks;
-use crate::links::over_link::{WalkedLink, is_soonest, link_passes};
+use crate::links::over_link::{WalkedLink, link_passes, rules_out};
 use crate::task::Task;
-use sabr_index::{Link, Links};
+use sabr_index::Links;
 use sabr_model::NoMemory;
 use std::alloc::Allocator;
 
@@ -72,18 +72,6 @@ impl<'t, 'a, 'b, A: Allocator + Copy> Forward<'t, 'a, 'b, A> {
             delivery.saturating_sub(self.cost(to)),
         )
     }
-}
-
-/// Returns true if, by the bounds of a link, nothing that is at its sender at `at` brings news to its receiver.
-#[inline(always)]
-fn is_told(arrival: &[u64], goal: usize, link: &Link, at: u64, best: u64) -> bool
-    requires { link.now.receiver < length arrival.now }
-    ensures goal { IsTrue result → link.now.receiver ≡ goal → (best ≤ link.now.bounds.soonest) ⊎ (best ≤ at + link.now.bounds.least_light) }
-    ensures other { IsTrue result → link.now.receiver ≢ goal → (slice_index arrival.now link.now.receiver ≤ link.now.bounds.soonest) ⊎ (slice_index arrival.now link.now.receiver ≤ at + link.now.bounds.least_light) }
-{
-    let to = link.receiver;
-    let known = if to == goal { best } else { arrival[to] };
-    is_soonest(link.bounds, at, known)
 }
 
 /// For each node, its least arrival so far and whether it is settled; and the waiting arrivals.
@@ -173,14 +161,14 @@ impl<A: Allocator + Copy> Settling<A> {
         requires receiver { link.to < length forward.now.task.now.table }
         requires real { IsWayTo forward.now.task.now event.node event.hops event.at }
         requires few_hops { event.hops < settled_count self.old.settled.items }
-        requires few { looks.old.count + length link.passes.now ≤ 2 ^ 62 }
+        requires few { length link.passes.now ≤ looks.old.left }
         requires state { AreSettling forward.now.task.now forward.now.late.now forward.now.near.now self.old.settled.items event.node event.at self.old.arrival.items self.old.queue best }
         ensures settled { self.new.settled ≡ self.old.settled }
-        ensures looks { looks.new.count ≤ looks.old.count + length link.entry.passes.now }
+        ensures looks { looks.old.left ≤ looks.new.left + length link.entry.passes.now }
         ensures state { IfOk result (λ b. AreSettling forward.now.task.now forward.now.late.now forward.now.near.now self.old.settled.items event.node event.at self.new.arrival.items self.new.queue b) }
         ensures fallen { IfOk result (λ b. IsFallen self.old.settled.items self.old.arrival.items best self.new.arrival.items b) }
         ensures known { IfOk result (λ b. (n w x : ℕ) → HasNumber link.entry.passes.now n → Takes forward.now.task.now n link.entry.from event.at w x → IsKnown forward.now.task.now.goal self.new.arrival.items (b.delivery - cost_to forward.now.near.now w) w x) }
-        ensures pushes { OnOk result (length self.new.queue + looks.old.count ≤ length self.old.queue + looks.new.count) }
+        ensures pushes { OnOk result (length self.new.queue + looks.new.left ≤ length self.old.queue + looks.old.left) }
     {
         let task = forward.task;
         let to = link.to;
@@ -210,21 +198,21 @@ impl<A: Allocator + Copy> Settling<A> {
         requires real { IsWayTo forward.now.task.now event.node event.hops event.at }
         requires few_hops { event.hops ≤ settled_count self.old.settled.items }
         requires links { AreLinksAt forward.now.task.now event.node links.links.now links.passes.now }
-        requires few { looks.old.count + length links.passes.now ≤ 2 ^ 62 }
+        requires few { length links.passes.now ≤ looks.old.left }
         requires state { AreSettling forward.now.task.now forward.now.late.now forward.now.near.now (slice_set self.old.settled.items event.node true) event.node event.at self.old.arrival.items self.old.queue best }
         requires taken { AreSettledTaken forward.now.task.now forward.now.near.now self.old.settled.items self.old.arrival.items best.delivery }
         ensures settled { self.new.settled.items ≡ slice_set self.old.settled.items event.node true }
-        ensures looks { looks.new.count ≤ looks.old.count + length links.entry.passes.now }
+        ensures looks { looks.old.left ≤ looks.new.left + length links.entry.passes.now }
         ensures state { IfOk result (λ b. AreSettling forward.now.task.now forward.now.late.now forward.now.near.now (slice_set self.old.settled.items event.node true) event.node event.at self.new.arrival.items self.new.queue b) }
         ensures fallen { IfOk result (λ b. IsFallen (slice_set self.old.settled.items event.node true) self.old.arrival.items best self.new.arrival.items b) }
         ensures taken { IfOk result (λ b. AreSettledTaken forward.now.task.now forward.now.near.now (slice_set self.old.settled.items event.node true) self.new.arrival.items b.delivery) }
-        ensures pushes { OnOk result (length self.new.queue + looks.old.count ≤ length self.old.queue + looks.new.count) }
+        ensures pushes { OnOk result (length self.new.queue + looks.new.left ≤ length self.old.queue + looks.old.left) }
     {
         self.settled[event.node] = true;
-        let goal = forward.task.goal();
         let mut least = best;
         for link in links.links {
-            if is_told(&self.arrival, goal, link, event.at, least.delivery) {
+            let before = forward.news(&self.arrival, link.receiver, least.delivery);
+            if rules_out(link.bounds, event.at, before) {
                 continue;
             }
             let passes = link_passes(links, link);
@@ -278,24 +266,20 @@ impl<A: Allocator + Copy> Settling<A> {
 
     /// Settles nodes, until no event comes before the first delivery at the goal. Returns that delivery and the hops of a
     /// way with it; no hops if no way leads there. Looks at each contact of another node than the start at most once. None
-    /// if more than `most` looks might be needed.
+    /// if more looks might be needed than are left.
     fn settle_all(
         &mut self,
         forward: &Forward<'_, '_, '_, A>,
         looks: &mut Looks,
         first: &[Standing],
-        most: u64,
     ) -> Result<Option<Best>, NoMemory>
         requires task { IsTask forward.now.task.now }
         requires bound { IsBound forward.now.task.now forward.now.late.now forward.now.near.now }
         requires inside { (k : ℕ) (s : Standing) → slice_get first.now k ≡ Some s → s.node < length forward.now.task.now.table }
         requires steps { AreFirstSteps forward.now.task.now first.now }
         requires real { AreReal forward.now.task.now first.now }
-        requires few { looks.old.count ≤ most }
-        requires most { most ≤ 2 ^ 62 }
-        ensures looks { looks.new.count ≤ most }
-        ensures counted { looks.new.count + degree forward.now.task.now forward.now.task.now.start ≤ looks.old.count + length forward.now.task.now.plan.contacts }
-        ensures none { IfOk result (λ o. IfNone o (most + degree forward.now.task.now forward.now.task.now.start < looks.old.count + length forward.now.task.now.plan.contacts)) }
+        ensures counted { looks.old.left + degree forward.now.task.now forward.now.task.now.start ≤ looks.new.left + length forward.now.task.now.plan.contacts }
+        ensures none { IfOk result (λ o. IfNone o (looks.old.left + degree forward.now.task.now forward.now.task.now.start < length forward.now.task.now.plan.contacts)) }
         ensures first { IfOk result (λ o. IfSome o (IsFirstWay forward.now.task.now)) }
         ensures arrivals { IfOk result (λ o. IfSome o (λ best. AreArrivalsBy forward.now.task.now forward.now.near.now self.new.arrival.items best.delivery)) }
     {
@@ -307,7 +291,7 @@ impl<A: Allocator + Copy> Settling<A> {
             }
             if !self.settled[event.node] {
                 let links = forward.task.links(event.node);
-                if links.passes.len() as u64 > most - looks.count {
+                if links.passes.len() as u64 > looks.left {
                     return Ok(None);
                 }
                 let reached = Event {
@@ -341,22 +325,18 @@ impl<A: Allocator + Copy> Settling<A> {
         forward: &Forward<'_, '_, '_, A>,
         looks: &mut Looks,
         first: &[Standing],
-        most: u64,
     ) -> Result<Option<Best>, NoMemory>
         requires task { IsTask forward.now.task.now }
         requires bound { IsBound forward.now.task.now forward.now.late.now forward.now.near.now }
         requires inside { (k : ℕ) (s : Standing) → slice_get first.now k ≡ Some s → s.node < length forward.now.task.now.table }
         requires steps { AreFirstSteps forward.now.task.now first.now }
         requires real { AreReal forward.now.task.now first.now }
-        requires few { looks.old.count ≤ most }
-        requires most { most ≤ 2 ^ 62 }
-        ensures looks { looks.new.count ≤ most }
-        ensures counted { looks.new.count + degree forward.now.task.now forward.now.task.now.start ≤ looks.old.count + length forward.now.task.now.plan.contacts }
-        ensures none { IfOk result (λ o. IfNone o (most + degree forward.now.task.now forward.now.task.now.start < looks.old.count + length forward.now.task.now.plan.contacts)) }
+        ensures counted { looks.old.left + degree forward.now.task.now forward.now.task.now.start ≤ looks.new.left + length forward.now.task.now.plan.contacts }
+        ensures none { IfOk result (λ o. IfNone o (looks.old.left + degree forward.now.task.now forward.now.task.now.start < length forward.now.task.now.plan.contacts)) }
         ensures first { IfOk result (λ o. IfSome o (IsFirstWay forward.now.task.now)) }
         ensures arrivals { IfOk result (λ o. IfSome o (λ best. AreArrivals forward.now.task.now self.new.arrival.items)) }
     {
-        let found = self.settle_all(forward, looks, first, most)?;
+        let found = self.settle_all(forward, looks, first)?;
         let Some(best) = found else {
             return Ok(None);
         };

@@ -26,9 +26,9 @@ impl<'a, A: Allocator + Copy> Task<'a, A> {
     ) -> Option<Step>
         requires task { IsTask self.now }
         requires link { IsLinkWithin self.now link.from link.to link.passes.now link.bounds }
-        requires few { looks.old.count + length link.passes.now ≤ 2 ^ 62 }
-        ensures looks { looks.new.count ≤ looks.old.count + length link.entry.passes.now }
-        ensures some_looks { (result ≡ least) ⊎ (looks.old.count < looks.new.count) }
+        requires few { length link.passes.now ≤ looks.old.left }
+        ensures looks { looks.old.left ≤ looks.new.left + length link.entry.passes.now }
+        ensures some_looks { (result ≡ least) ⊎ (looks.new.left < looks.old.left) }
         ensures lower { (n : ℕ) → IsAtMost least n → IsAtMost result n }
         ensures sound { (result ≡ least) ⊎ IfSome result (IsStepOver self.now link.entry.from at link.entry.to before) }
         ensures full { (n w b : ℕ) → HasNumber link.entry.passes.now n → Takes self.now n link.entry.from at w b → b < before → IsAtMost result n }

@@ -53,9 +53,9 @@ impl<'a, A: Allocator + Copy> Task<'a, A> {
         requires task { IsTask self.now }
         requires link { IsLinkWithin self.now link.from link.to link.passes.now link.bounds }
         requires other { link.from ≢ self.now.start }
-        requires few { looks.old.count + length link.passes.now ≤ 2 ^ 62 }
-        ensures looks { looks.new.count ≤ looks.old.count + length link.entry.passes.now }
-        ensures some_looks { latest < result → looks.old.count < looks.new.count }
+        requires few { length link.passes.now ≤ looks.old.left }
+        ensures looks { looks.old.left ≤ looks.new.left + length link.entry.passes.now }
+        ensures some_looks { latest < result → looks.new.left < looks.old.left }
         ensures lower { latest ≤ result }
         ensures sound { (t : ℕ) → latest ≤ t → t < result → (b : ℕ) × (b < before) × (slice_index_or self.now.shut link.entry.to false ≡ false → (n : ℕ) × Takes self.now n link.entry.from t link.entry.to b) }
         ensures full { (n t w b : ℕ) → HasNumber link.entry.passes.now n → since ≤ t → Takes self.now n link.entry.from t w b → b < before → t < result }

@@ -100,10 +100,10 @@ impl<'a, A: Allocator + Copy> Task<'a, A> {
     pub fn arrive_over(&self, looks: &mut Looks, link: WalkedLink<'_>, at: u64, before: u64) -> u64
         requires task { IsTask self.now }
         requires link { IsLinkWithin self.now link.from link.to link.passes.now link.bounds }
-        requires few { looks.old.count + length link.passes.now ≤ 2 ^ 62 }
-        ensures looks { looks.new.count ≤ looks.old.count + length link.entry.passes.now }
-        ensures looked { looks.old.count ≤ looks.new.count }
-        ensures some_looks { result < before → looks.old.count < looks.new.count }
+        requires few { length link.passes.now ≤ looks.old.left }
+        ensures looks { looks.old.left ≤ looks.new.left + length link.entry.passes.now }
+        ensures looked { looks.new.left ≤ looks.old.left }
+        ensures some_looks { result < before → looks.new.left < looks.old.left }
         ensures upper { result ≤ before }
         ensures later { result < before → at ≤ result }
         ensures sound { result < before → slice_index_or self.now.shut link.entry.to false ≡ false → (n : ℕ) × Takes self.now n link.entry.from at link.entry.to result }

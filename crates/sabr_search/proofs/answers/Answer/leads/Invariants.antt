@@ -1,9 +1,5 @@
-use Rattle.std.proofs.Common.{◌≤◌}
 use Rattle.sabr_search.proofs.AnswerLemmas.KeptAnswers.{IsOnWay}
 use Rattle.sabr_search.proofs.answers.Answer.leads.Given as goal
 
 abbrev pub invariant-loop-place : goal.invariant-loop-place
-invariant-loop-place g l = record {
-  counted : l.looks.count ≤ l.most;
-  on : IsOnWay l.task l.self.way.items l.place l.from.node l.from.at;
-}
+invariant-loop-place g l = IsOnWay l.task l.self.way.items l.place l.from.node l.from.at

@@ -2,10 +2,10 @@ use Rattle.std.proofs.Common.{◌≡◌, Some, slice_get, refl, ap, sym, ◌∙�
 use Rattle.std.proofs.lemmas.Option.{slice_get-get_or}
 use Rattle.sabr_search.proofs.answers.Answers.find.Goals as goal
 
-pub returns-then-answers-clause-some : goal.returns-then-answers-clause-some
-returns-then-answers-clause-some g c =
+pub returns-then-answers : goal.returns-then-answers
+returns-then-answers g c =
     let items = c.deref.result.now in
     let answer = c.in-Some.answer.now in
     let lookup = c.in-Some.ensures.lookup in
     let there : slice_get items c.loop.place ≡ Some answer = slice_get-get_or items c.loop.place answer lookup.3.0 ∙ ap Some (sym lookup.1) in
-    (answer, rw c.deref.ensures.value at there, c.if-answers.ensures.answers refl)
+    (answer, rw c.deref.ensures.value at there, c.if-answers.ensures refl)

@@ -34,6 +34,7 @@ module _ (task : SearchTask) (is : IsTask task) (request : IsOfRequest task) (sh
   of_request_still : IsOfRequest (narrowed task here task.at)
   of_request_still = record {
     goal_is = request.goal_is;
+    since = request.since;
     closes = λ k x at open'.
         let other : k ≢ task.start = λ same. both_ways (slice_index_or here task.start false) (sym (ap (λ j. slice_index_or here j false) same) ∙ open') (flag_here shut task.start (omega (arith, are.many, is.start_in))) in
         sym (are.flag k x at) ∙ sym (flag_other shut task.start k other) ∙ open';

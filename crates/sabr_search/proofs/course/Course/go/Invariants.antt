@@ -18,7 +18,7 @@ decreases-loop-self g l = vec_len l.self.stops
 
 abbrev pub invariant-loop-place : goal.invariant-loop-place
 invariant-loop-place g l = record {
-  counted : l.looks.count + l.front ≡ l.fn.looks.count + l.place;
+  counted : l.looks.left + l.place ≡ l.fn.looks.left + l.front;
   many : length l.self.stops.items ≡ l.place + 1;
   stops : AreStops l.plan l.request l.prefix l.self.stops.items;
   here : IsStop l.plan l.request (take l.place l.prefix) l.standing;

@@ -5,6 +5,7 @@ use Rattle.sabr_model.specs.routes.Record.{record_of}
 use Rattle.sabr_model.specs.plan.Table.{node_count}
 use Rattle.sabr_search.specs.questions.Course.{IsCourse}
 use Rattle.sabr_search.specs.questions.Task.{SearchTask, IsTask, IsBehind, task_of}
+use Rattle.sabr_search.specs.questions.Told.{looks_taken}
 use Rattle.sabr_search.proofs.WayLemmas.Prefixes.{prefix_facts}
 use Rattle.sabr_search.proofs.WayLemmas.Least.{none_is}
 use Rattle.sabr_search.proofs.AnswerLemmas.Law.{contacts_few, prefix_few}
@@ -20,12 +21,12 @@ go-requires-clause-fits g c = rw c.plan-plan.ensures c.requires.fits
 pub returns-in_err-standing-clause-bound : goal.returns-in_err-standing-clause-bound
 returns-in_err-standing-clause-bound g c =
     let course = rw (c.in-Some.is, c.plan-plan.ensures) at c.in_ok-opened.ensures.some in
-    entered_looks c.args.index.now c.args.request.now c.args.part.prefix.now course.tabled (prefix_facts c.args.index.now.plan c.args.request.now c.args.part.prefix.now c.requires.fits) (node_count c.args.index.now.plan.contacts) c.go.new.looks.count course.nodes (omega (arith, c.go.ensures.looks, c.requires.few))
+    entered_looks c.args.index.now c.args.request.now c.args.part.prefix.now course.tabled (prefix_facts c.args.index.now.plan c.args.request.now c.args.part.prefix.now c.requires.fits) (node_count c.args.index.now.plan.contacts) (looks_taken c.go.new.looks) course.nodes (omega (arith, c.go.ensures.looks, c.requires.few))
 
 pub returns-in_err-resize-clause-bound : goal.returns-in_err-resize-clause-bound
 returns-in_err-resize-clause-bound g c =
     let course = rw (c.in-Some.is, c.plan-plan.ensures) at c.in_ok-opened.ensures.some in
-    entered_looks c.args.index.now c.args.request.now c.args.part.prefix.now course.tabled (prefix_facts c.args.index.now.plan c.args.request.now c.args.part.prefix.now c.requires.fits) (node_count c.args.index.now.plan.contacts) c.go.new.looks.count course.nodes (omega (arith, c.go.ensures.looks, c.requires.few))
+    entered_looks c.args.index.now c.args.request.now c.args.part.prefix.now course.tabled (prefix_facts c.args.index.now.plan c.args.request.now c.args.part.prefix.now c.requires.fits) (node_count c.args.index.now.plan.contacts) (looks_taken c.go.new.looks) course.nodes (omega (arith, c.go.ensures.looks, c.requires.few))
 
 pub returns-in_default-clause-least : goal.returns-in_default-clause-least
 returns-in_default-clause-least g c =

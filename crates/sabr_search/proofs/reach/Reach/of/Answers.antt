@@ -9,11 +9,11 @@ go-requires-clause-course g c = rw c.in-Some.is at c.in_ok-opened.ensures.some
 pub go-requires-clause-fits : goal.go-requires-clause-fits
 go-requires-clause-fits g c = rw c.plan-plan.ensures (empty_fits c.args.index.now.plan c.args.request.now _ refl)
 
-pub latest_of-requires-clause-whole : goal.latest_of-requires-clause-whole
-latest_of-requires-clause-whole g c =
+pub latest_of-requires : goal.latest_of-requires
+latest_of-requires g c =
     let found = rw c.plan-plan.ensures at c.in_ok-source.ensures.entered in
     let both = found _ in
-    rw c.new-task.ensures (whole_task _ both.0 both.1 refl)
+    record { whole = rw c.new-task.ensures (whole_task _ both.0 both.1 refl) }
 
 pub nearest_of-requires : goal.nearest_of-requires
 nearest_of-requires g c =
@@ -21,5 +21,5 @@ nearest_of-requires g c =
     let both = found _ in
     record { whole = rw c.new-task.ensures (whole_task _ both.0 both.1 refl) }
 
-pub returns-clause-reach : goal.returns-clause-reach
-returns-clause-reach g c = record { late = rw c.new-task.ensures at c.in_ok-late.ensures.late; near = rw c.new-task.ensures at c.in_ok-near.ensures.near }
+pub returns : goal.returns
+returns g c = record { late = rw c.new-task.ensures at c.in_ok-late.ensures.late; near = rw c.new-task.ensures at c.in_ok-near.ensures.near }

@@ -1,14 +1,7 @@
 use Rattle.std.proofs.Common.{arith}
-use Rattle.sabr_search.proofs.AnswerLemmas.Law.{contacts_few}
 use Rattle.sabr_search.proofs.AnswerLemmas.Around.{of_request, reach_bounds}
 use Rattle.sabr_search.proofs.AnswerLemmas.Answered.{left_less}
 use Rattle.sabr_search.proofs.search.Search.find_kept.Goals as goal
-
-pub recall-recalled-requires-clause-most : goal.recall-recalled-requires-clause-most
-recall-recalled-requires-clause-most g c = omega (arith, c.two_passes-most.ensures.value, contacts_few c.args.asked.now.task.now.plan c.requires.asked.task_is.plan)
-
-pub recall-requires-clause-most : goal.recall-requires-clause-most
-recall-requires-clause-most g c = omega (arith, c.two_passes-most.ensures.value, contacts_few c.args.asked.now.task.now.plan c.requires.asked.task_is.plan)
 
 pub run-requires-clause-nodes : goal.run-requires-clause-nodes
 run-requires-clause-nodes g c = omega (arith, c.left-left.ensures, left_less c.args.asked.now.task.now c.args.asked.now.prefix.now c.requires.asked, c.requires.asked.nodes)

@@ -5,12 +5,9 @@ use Rattle.sabr_search.proofs.search.Search.find_own.Goals as goal
 pub run-requires-clause-nodes : goal.run-requires-clause-nodes
 run-requires-clause-nodes g c = omega (arith, c.left.ensures, left_less c.args.asked.now.task.now c.args.asked.now.prefix.now c.requires.asked, c.requires.asked.nodes)
 
-pub run-requires-clause-few : goal.run-requires-clause-few
-run-requires-clause-few g c = omega (arith, search_fits c.args.asked.now.task.now c.args.asked.now.prefix.now c.requires.asked c.args.looks.now.count c.requires.few)
-
 pub unreachable-requires : goal.unreachable-requires
 unreachable-requires g c =
-    omega (arith, rw (c.in_default.is, c.left.ensures) at c.in_ok-found.ensures.none, search_fits c.args.asked.now.task.now c.args.asked.now.prefix.now c.requires.asked c.args.looks.now.count c.requires.few)
+    omega (arith, rw (c.in_default.is, c.left.ensures) at c.in_ok-found.ensures.none, c.requires.few, search_fits c.args.asked.now.task.now c.args.asked.now.prefix.now c.requires.asked)
 
 pub returns-in_err-found-clause-bound : goal.returns-in_err-found-clause-bound
 returns-in_err-found-clause-bound g c =

@@ -4,13 +4,14 @@ use Rattle.std.specs.declared.result.Result.TheVariants.{Ok}
 use Rattle.sabr_model.specs.routes.Record.{RouteRecord}
 use Rattle.sabr_model.specs.declared.fault.NoMemory.{NoMemory}
 use Rattle.sabr_search.specs.questions.Task.{left_of}
+use Rattle.sabr_search.specs.questions.Told.{looks_taken}
 use Rattle.sabr_search.proofs.AnswerLemmas.Answered.{passes_within, route_fits, told_least, told_bound, told_cut}
 use Rattle.sabr_search.proofs.AnswerLemmas.KeptAnswers.{found_told}
 use Rattle.sabr_search.proofs.AnswerLemmas.Around.{of_request, reach_bounds}
 use Rattle.sabr_search.proofs.search.Search.least_beside.Goals as goal
 
 pub returns-in_err-place-clause-bound : goal.returns-in_err-place-clause-bound
-returns-in_err-place-clause-bound g c = omega (arith, c.find_kept.ensures.looks, passes_within c.args.task.now c.args.prefix.now c.requires.asked)
+returns-in_err-place-clause-bound g c = omega (arith, c.put_back.ensures, c.set_aside-aside.ensures.aside, c.two_passes.ensures, passes_within c.args.task.now c.args.prefix.now c.requires.asked)
 
 pub returns-in_err-way-clause-bound : goal.returns-in_err-way-clause-bound
 returns-in_err-way-clause-bound g c = omega (arith, c.find_own.ensures.bound)
@@ -23,13 +24,13 @@ returns-in-Some-clause-least g c = told_least c.args.task.now c.args.prefix.now 
 
 pub returns-in-Some-clause-bound : goal.returns-in-Some-clause-bound
 returns-in-Some-clause-bound g c =
-    told_bound c.args.task.now c.args.prefix.now c.requires.asked c.route.result c.route.ensures.answered c.find_kept.new.looks.count c.route.new.looks.count c.route.ensures.refused c.route.ensures.looks
-    (omega (arith, c.find_kept.ensures.looks, passes_within c.args.task.now c.args.prefix.now c.requires.asked))
+    told_bound c.args.task.now c.args.prefix.now c.requires.asked c.route.result c.route.ensures.answered (looks_taken c.put_back.new.self) (looks_taken c.route.new.looks) c.route.ensures.refused c.route.ensures.looks
+    (omega (arith, c.put_back.ensures, c.set_aside-aside.ensures.aside, c.two_passes.ensures, passes_within c.args.task.now c.args.prefix.now c.requires.asked))
 
 pub returns-in-Some-clause-cut : goal.returns-in-Some-clause-cut
 returns-in-Some-clause-cut g c =
-    told_cut c.args.task.now c.args.prefix.now c.requires.asked c.route.result c.route.ensures.answered c.find_kept.new.looks.count c.route.new.looks.count _ c.route.ensures.looks c.route.ensures.hops
-    (λ most. omega (arith, c.find_kept.ensures.looks))
+    told_cut c.args.task.now c.args.prefix.now c.requires.asked c.route.result c.route.ensures.answered (looks_taken c.put_back.new.self) (looks_taken c.route.new.looks) _ c.route.ensures.looks c.route.ensures.hops
+    (λ most. omega (arith, c.put_back.ensures, c.set_aside-aside.ensures.aside, c.two_passes.ensures))
 
 pub returns-clause-least : goal.returns-clause-least
 returns-clause-least g c =
@@ -39,32 +40,32 @@ returns-clause-least g c =
 pub returns-clause-bound : goal.returns-clause-bound
 returns-clause-bound g c =
     let result : Result (Option RouteRecord) NoMemory = Ok c.in_ok-route.route in
-    told_bound c.args.task.now c.args.prefix.now c.requires.asked result c.in_ok-route.ensures.answered c.find_own.new.looks.count _ tt c.in_ok-route.ensures.looks c.find_own.ensures.bound
+    told_bound c.args.task.now c.args.prefix.now c.requires.asked result c.in_ok-route.ensures.answered (looks_taken c.find_own.new.looks) _ tt c.in_ok-route.ensures.looks c.find_own.ensures.bound
 
 pub returns-clause-cut : goal.returns-clause-cut
 returns-clause-cut g c =
     let result : Result (Option RouteRecord) NoMemory = Ok c.in_ok-route.route in
-    told_cut c.args.task.now c.args.prefix.now c.requires.asked result c.in_ok-route.ensures.answered c.find_own.new.looks.count _ (length c.in_ok-way.way.numbers.items) c.in_ok-route.ensures.looks (c.in_ok-route.ensures.hops ∙ ap length c.deref-2.ensures.value) c.in_ok-way.ensures.cut
+    told_cut c.args.task.now c.args.prefix.now c.requires.asked result c.in_ok-route.ensures.answered (looks_taken c.find_own.new.looks) _ (length c.in_ok-way.way.numbers.items) c.in_ok-route.ensures.looks (c.in_ok-route.ensures.hops ∙ ap length c.deref-2.ensures.value) c.in_ok-way.ensures.cut
 
 pub route-requires-clause-found : goal.route-requires-clause-found
 route-requires-clause-found g c =
     let task = c.args.task.now in
     rw c.deref.ensures.value
-    (found_told task c.requires.asked.task_is c.requires.asked.behind.goal_is c.find_kept.new.kept.answers.slots.items c.find_kept.ensures.kept.1 c.in-Some.place (left_of task c.args.prefix.now) (rw c.in-Some.is at c.in_ok-place.ensures.some) c.index-answer.result.now c.index-answer.ensures)
+    (found_told task c.requires.asked.task_is c.requires.asked.behind.goal_is c.find_kept-found.new.kept.answers.slots.items c.find_kept-found.ensures.kept.1 c.in-Some.place (left_of task c.args.prefix.now) (rw c.in-Some.is at c.in_ok-place.ensures.some) c.index-answer.result.now c.index-answer.ensures)
 
 pub route-requires-clause-few : goal.route-requires-clause-few
 route-requires-clause-few g c =
     let task = c.args.task.now in
     let prefix = c.args.prefix.now in
     let answer = c.index-answer.result.now in
-    let found = found_told task c.requires.asked.task_is c.requires.asked.behind.goal_is c.find_kept.new.kept.answers.slots.items c.find_kept.ensures.kept.1 c.in-Some.place (left_of task prefix) (rw c.in-Some.is at c.in_ok-place.ensures.some) answer c.index-answer.ensures in
-    rw c.deref.ensures.value (route_fits task prefix c.requires.asked answer.way.items answer.delivery c.find_kept.new.looks.count found (omega (arith, c.find_kept.ensures.looks, passes_within task prefix c.requires.asked)))
+    let found = found_told task c.requires.asked.task_is c.requires.asked.behind.goal_is c.find_kept-found.new.kept.answers.slots.items c.find_kept-found.ensures.kept.1 c.in-Some.place (left_of task prefix) (rw c.in-Some.is at c.in_ok-place.ensures.some) answer c.index-answer.ensures in
+    rw c.deref.ensures.value (route_fits task prefix c.requires.asked answer.way.items answer.delivery c.put_back.new.self found (omega (arith, c.put_back.ensures, c.set_aside-aside.ensures.aside, c.two_passes.ensures, passes_within task prefix c.requires.asked)))
 
 pub route-requires-2-clause-few : goal.route-requires-2-clause-few
 route-requires-2-clause-few g c =
-    rw c.deref-2.ensures.value (route_fits c.args.task.now c.args.prefix.now c.requires.asked c.in_ok-way.way.numbers.items c.in_ok-way.way.delivery c.find_own.new.looks.count c.in_ok-way.ensures.found c.find_own.ensures.bound)
+    rw c.deref-2.ensures.value (route_fits c.args.task.now c.args.prefix.now c.requires.asked c.in_ok-way.way.numbers.items c.in_ok-way.way.delivery c.find_own.new.looks c.in_ok-way.ensures.found c.find_own.ensures.bound)
 
 pub find_own-requires-clause-bound : goal.find_own-requires-clause-bound
 find_own-requires-clause-bound g c =
     let task = c.args.task.now in
-    reach_bounds task c.requires.asked.task_is.nodes (of_request task c.args.prefix.now c.requires.asked.behind) _ c.find_kept.ensures.kept.0
+    reach_bounds task c.requires.asked.task_is.nodes (of_request task c.args.prefix.now c.requires.asked.behind) _ c.find_kept-found.ensures.kept.0

@@ -17,20 +17,20 @@ least_by-requires-clause-way g c =
     (way.0, omega (arith, way.1, c.if-first-hops.false), way.2)
 
 -- what it gave up for may be more
-gave_up : {T E : Type 0} (result : Result (Option T) E) (most mid more all : ℕ) → IfOk result (λ o. IfNone o (most < mid + more)) → mid + more ≤ all → IfOk result (λ o. IfNone o (most < all))
-gave_up (Ok None) most mid more all less le = omega (arith, less, le)
-gave_up (Ok (Some way)) most mid more all less le = tt
-gave_up (Err e) most mid more all less le = tt
+gave_up : {T E : Type 0} (result : Result (Option T) E) (old mid more all : ℕ) → IfOk result (λ o. IfNone o (mid < more)) → old + more ≤ mid + all → IfOk result (λ o. IfNone o (old < all))
+gave_up (Ok None) old mid more all less le = omega (arith, less, le)
+gave_up (Ok (Some way)) old mid more all less le = tt
+gave_up (Err e) old mid more all less le = tt
 
 pub returns-then-first-hops-clause-none : goal.returns-then-first-hops-clause-none
 returns-then-first-hops-clause-none g c =
     let contacts = length c.args.task.now.plan.contacts in
-    gave_up c.least_within.result c.args.most c.first_way.new.looks.count (3 * (c.args.hops * contacts)) (c.args.looks.now.count + (3 * c.args.hops + 1) * contacts) c.least_within.ensures.none (omega (arith, c.first_way.ensures.counted))
+    gave_up c.least_within.result c.args.looks.now.left c.first_way.new.looks.left (3 * (c.args.hops * contacts)) ((3 * c.args.hops + 1) * contacts) c.least_within.ensures.none (omega (arith, c.first_way.ensures.counted))
 
 pub returns-clause-none : goal.returns-clause-none
 returns-clause-none g c =
     let contacts = length c.args.task.now.plan.contacts in
-    gave_up c.least_by.result c.args.most c.first_way.new.looks.count (2 * (c.args.hops * contacts)) (c.args.looks.now.count + (3 * c.args.hops + 1) * contacts) c.least_by.ensures.none (omega (arith, c.first_way.ensures.counted))
+    gave_up c.least_by.result c.args.looks.now.left c.first_way.new.looks.left (2 * (c.args.hops * contacts)) ((3 * c.args.hops + 1) * contacts) c.least_by.ensures.none (omega (arith, c.first_way.ensures.counted))
 
 -- the first way has fewer hops than there are nodes, so that only a limit forbids it
 forbidden : {T E : Type 0} (result : Result (Option T) E) (Q : Type 0) (P : T → Type 0) → (Q → ⊥) → IfOk result (λ o. IfSome o (λ way. Q → P way))
@@ -42,15 +42,15 @@ pub returns-then-first-hops-clause-cut : goal.returns-then-first-hops-clause-cut
 returns-then-first-hops-clause-cut g c =
     let first = rw c.in-Some.is at c.in_ok-reached.ensures.way in
     let none : length c.args.task.now.table ≤ c.args.hops + 1 → ⊥ = λ all. omega (arith, all, first.few, c.if-first-hops.true) in
-    forbidden c.least_within.result (length c.args.task.now.table ≤ c.args.hops + 1) (λ way. c.least_within.new.looks.count ≤ c.args.looks.now.count + (2 * length way.numbers.items + 1) * length c.args.task.now.plan.contacts) none
+    forbidden c.least_within.result (length c.args.task.now.table ≤ c.args.hops + 1) (λ way. c.args.looks.now.left ≤ c.least_within.new.looks.left + (2 * length way.numbers.items + 1) * length c.args.task.now.plan.contacts) none
 
-cut_more : {T E : Type 0} (result : Result (Option T) E) (Q : Type 0) (size : T → ℕ) (old mid new c : ℕ) → IfOk result (λ o. IfSome o (λ way. new ≤ mid + 2 * (size way * c))) → mid ≤ old + c →
-    IfOk result (λ o. IfSome o (λ way. Q → new ≤ old + (2 * size way + 1) * c))
+cut_more : {T E : Type 0} (result : Result (Option T) E) (Q : Type 0) (size : T → ℕ) (old mid new c : ℕ) → IfOk result (λ o. IfSome o (λ way. mid ≤ new + 2 * (size way * c))) → old ≤ mid + c →
+    IfOk result (λ o. IfSome o (λ way. Q → old ≤ new + (2 * size way + 1) * c))
 cut_more (Ok None) Q size old mid new c few le = tt
 cut_more (Ok (Some way)) Q size old mid new c few le = λ q. omega (arith, few, le)
 cut_more (Err e) Q size old mid new c few le = tt
 
 pub returns-clause-cut : goal.returns-clause-cut
 returns-clause-cut g c =
-    cut_more c.least_by.result (length c.args.task.now.table ≤ c.args.hops + 1) (λ way. length way.numbers.items) c.args.looks.now.count c.first_way.new.looks.count c.least_by.new.looks.count (length c.args.task.now.plan.contacts)
+    cut_more c.least_by.result (length c.args.task.now.table ≤ c.args.hops + 1) (λ way. length way.numbers.items) c.args.looks.now.left c.first_way.new.looks.left c.least_by.new.looks.left (length c.args.task.now.plan.contacts)
     c.least_by.ensures.cut c.first_way.ensures.counted

@@ -3,6 +3,7 @@ use Rattle.std.specs.Option.{option_map}
 use Rattle.sabr_model.specs.routes.Record.{record_of}
 use Rattle.sabr_model.specs.plan.Table.{node_count}
 use Rattle.sabr_search.specs.questions.Course.{IsCourse}
+use Rattle.sabr_search.specs.questions.Told.{looks_taken}
 use Rattle.sabr_search.proofs.WayLemmas.Prefixes.{prefix_facts}
 use Rattle.sabr_search.proofs.WayLemmas.Least.{none_is}
 use Rattle.sabr_search.proofs.AnswerLemmas.Law.{contacts_few, prefix_few}
@@ -31,7 +32,7 @@ go-requires-clause-fits g c = rw c.plan-plan.ensures c.requires.fits
 pub returns-in_err-standing-clause-bound : goal.returns-in_err-standing-clause-bound
 returns-in_err-standing-clause-bound g c =
     let course = rw (c.in-Some.is, c.plan-plan.ensures) at c.in_ok-taken.ensures.some in
-    entered_looks c.args.index.now c.args.request.now c.args.part.prefix.now course.tabled (prefix_facts c.args.index.now.plan c.args.request.now c.args.part.prefix.now c.requires.fits) (node_count c.args.index.now.plan.contacts) c.go.new.looks.count course.nodes (omega (arith, c.go.ensures.looks, c.requires.few))
+    entered_looks c.args.index.now c.args.request.now c.args.part.prefix.now course.tabled (prefix_facts c.args.index.now.plan c.args.request.now c.args.part.prefix.now c.requires.fits) (node_count c.args.index.now.plan.contacts) (looks_taken c.go.new.looks) course.nodes (omega (arith, c.go.ensures.looks, c.requires.few))
 
 pub open-requires-clause-kept : goal.open-requires-clause-kept
 open-requires-clause-kept g c = rw c.plan-plan.ensures at c.take_course.ensures.kept
@@ -67,7 +68,7 @@ returns-clause-kept g c =
 pub returns-clause-bound : goal.returns-clause-bound
 returns-clause-bound g c =
     let course : IsCourse c.args.index.now c.args.request.now c.go.new.self = rw c.plan-plan.ensures at c.in_ok-standing.ensures.course in
-    subst (λ n. c.least_beside-answer.new.looks.count ≤ (3 * n + 1) * length c.args.index.now.plan.contacts) course.nodes (rw c.new-task.ensures at c.least_beside-answer.ensures.bound)
+    subst (λ n. looks_taken c.least_beside-answer.new.looks ≤ (3 * n + 1) * length c.args.index.now.plan.contacts) course.nodes (rw c.new-task.ensures at c.least_beside-answer.ensures.bound)
 
 pub go-requires-clause-few : goal.go-requires-clause-few
 go-requires-clause-few g c =

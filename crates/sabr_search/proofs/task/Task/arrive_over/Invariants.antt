@@ -6,9 +6,9 @@ use Rattle.sabr_search.proofs.task.Task.arrive_over.Given as goal
 abbrev pub invariant-loop-place : goal.invariant-loop-place
 invariant-loop-place g l = record {
   within : l.place ≤ length l.passes;
-  counted : l.looks.count ≤ l.fn.looks.count + l.place;
-  looked : l.fn.looks.count ≤ l.looks.count;
-  some_looks : l.least < l.before → l.fn.looks.count < l.looks.count;
+  counted : l.fn.looks.left ≤ l.looks.left + l.place;
+  looked : l.looks.left ≤ l.fn.looks.left;
+  some_looks : l.least < l.before → l.looks.left < l.fn.looks.left;
   later : l.at ≤ l.least;
   upper : l.least ≤ l.before;
   sound : l.least < l.before → slice_index_or l.self.shut l.link.to false ≡ false → (n : ℕ) × Takes l.self n l.link.from l.at l.link.to l.least;

@@ -5,9 +5,9 @@ use Rattle.sabr_search.proofs.task.Task.leave_over.Given as goal
 
 abbrev pub invariant-loop-back : goal.invariant-loop-back
 invariant-loop-back g l = record {
-  counted : l.looks.count ≤ l.fn.looks.count + l.back;
-  looked : l.fn.looks.count ≤ l.looks.count;
-  some_looks : l.fn.latest < l.last → l.fn.looks.count < l.looks.count;
+  counted : l.fn.looks.left ≤ l.looks.left + l.back;
+  looked : l.looks.left ≤ l.fn.looks.left;
+  some_looks : l.fn.latest < l.last → l.looks.left < l.fn.looks.left;
   lower : l.fn.latest ≤ l.last;
   sound : (t : ℕ) → l.fn.latest ≤ t → t < l.last → (b : ℕ) × (b < l.before) × (slice_index_or l.self.shut l.link.to false ≡ false → (n : ℕ) × Takes l.self n l.link.from t l.link.to b);
   full : (k : ℕ) (x : Pass) (t w b : ℕ) → l.end ≤ k + l.back → slice_get l.passes k ≡ Some x → l.since ≤ t → Takes l.self x.number l.link.from t w b → b < l.before → t < l.last;

@@ -24,7 +24,6 @@ loop-link-preserved-then-shut-link g c =
     let link = link_here _ _ _ _ so_far.links _ c.loop-link-test.true _ c.link_passes-passes.ensures in
     record {
       links = so_far.links;
-      counted = so_far.counted;
       placed = λ m next. omega (arith, so_far.placed _ link.here, link.next m next);
       all = so_far.all;
       real = so_far.real;
@@ -46,7 +45,6 @@ loop-link-preserved g c =
     let link = link_here _ _ _ _ so_far.links _ c.loop-link-test.true _ c.link_passes-passes.ensures in
     record {
       links = so_far.links;
-      counted = omega (arith, c.arrive_over-at.ensures.looks, c.if-passes-most.false, so_far.counted);
       placed = λ m next. omega (arith, so_far.placed _ link.here, c.arrive_over-at.ensures.looks, link.few, link.next m next);
       all = omega (arith, so_far.placed _ link.here, c.arrive_over-at.ensures.looks, link.few);
       real = λ k x at. elim (c.in_ok-put_step.ensures.only k x at) [
@@ -74,8 +72,8 @@ returns-clause-whole g c = λ yes' n w b s.
     let on = c.loop-link.invariant.links.whole n c.args.from.at w b s in
     c.loop-link.invariant.come on.0 on.1 n w b (omega (arith, slice_get_within c.links-links.result.links.now on.0 on.1 on.2, c.loop-link-test.false)) on.2 on.3 s
 
-pub returns-then-passes-most-clause-all : goal.returns-then-passes-most-clause-all
-returns-then-passes-most-clause-all g c = λ no.
+pub returns-then-passes-looks-clause-all : goal.returns-then-passes-looks-clause-all
+returns-then-passes-looks-clause-all g c = λ no.
     let so_far = c.loop-link.invariant in
     let link = link_here _ _ _ _ so_far.links _ c.loop-link-test.true _ c.link_passes-passes.ensures in
-    omega (arith, so_far.placed _ link.here, link.few, c.if-passes-most.true, so_far.counted, so_far.links.few)
+    omega (arith, so_far.placed _ link.here, link.few, c.if-passes-looks.true, so_far.links.few)

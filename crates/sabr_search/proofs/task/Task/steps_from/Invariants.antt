@@ -9,9 +9,8 @@ use Rattle.sabr_search.proofs.task.Task.steps_from.Given as goal
 abbrev pub invariant-loop-link : goal.invariant-loop-link
 invariant-loop-link g l = record {
   links : AreLinksAt l.self l.from.node l.links.links.now l.links.passes.now;
-  counted : l.looks.count ≤ l.most;
-  placed : (x : Link) → slice_get l.link-items l.link-index ≡ Some x → l.looks.count ≤ l.fn.looks.count + x.first;
-  all : l.looks.count ≤ l.fn.looks.count + length l.links.passes.now;
+  placed : (x : Link) → slice_get l.link-items l.link-index ≡ Some x → l.fn.looks.left ≤ l.looks.left + x.first;
+  all : l.fn.looks.left ≤ l.looks.left + length l.links.passes.now;
   real : (k : ℕ) (s : Standing) → slice_get l.first.items k ≡ Some s → (n : ℕ) × Takes l.self n l.from.node l.from.at s.node s.at;
   inside : (k : ℕ) (s : Standing) → slice_get l.first.items k ≡ Some s → s.node < length l.self.table;
   come : (j : ℕ) (x : Link) (n w b : ℕ) → j < l.link-index → slice_get l.link-items j ≡ Some x → HasNumber (passes_of l.links.passes.now x) n → Takes l.self n l.from.node l.from.at w b → ComesTo l.first.items w b;

@@ -8,7 +8,6 @@ use Rattle.sabr_search.proofs.backward.latest.Latest.take_senders.Goals as goal
 
 pub loop-place-init : goal.loop-place-init
 loop-place-init g c = record {
-  limit = c.requires.few;
   rising = c.requires.rising;
   same = sym (read_at c.args.self.now.late.items c.args.to c.index-before.result.now (omega (arith, c.requires.node, c.requires.rising.many)) c.index-before.ensures);
   told = λ j s n t b less. absurd (omega (arith, less));
@@ -26,7 +25,6 @@ loop-place-preserved g c =
     let so_far = c.loop-place.invariant in
     let one = c.in_ok-take_sender.ensures in
     record {
-      limit = omega (arith, so_far.limit, c.take_sender.ensures.looks, c.if-from-most.false);
       rising = one.rising;
       same = one.same;
       told = λ j s n t b less at has step by. elim (last_or_before j c.loop-place.place less) [

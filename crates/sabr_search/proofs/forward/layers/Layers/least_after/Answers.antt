@@ -1,15 +1,13 @@
 use Rattle.std.proofs.Common.{◌*◌, ◌≤◌, length, arith}
+use Rattle.sabr_search.specs.questions.Told.{looks_taken}
 use Rattle.sabr_search.proofs.AnswerLemmas.Answered.{left_less, layers_within, search_fits, route_fits, told_least, told_bound}
 use Rattle.sabr_search.proofs.forward.layers.Layers.least_after.Goals as goal
 
 pub least_within-requires-clause-nodes : goal.least_within-requires-clause-nodes
 least_within-requires-clause-nodes g c = omega (arith, c.left.ensures, left_less c.args.task.now c.args.prefix.now c.requires.asked, c.requires.asked.nodes)
 
-pub least_within-requires-clause-few : goal.least_within-requires-clause-few
-least_within-requires-clause-few g c = omega (arith, search_fits c.args.task.now c.args.prefix.now c.requires.asked c.args.looks.now.count c.requires.few)
-
 pub unreachable-requires : goal.unreachable-requires
-unreachable-requires g c = omega (arith, rw (c.in_default.is, c.left.ensures) at c.in_ok-found.ensures.none, search_fits c.args.task.now c.args.prefix.now c.requires.asked c.args.looks.now.count c.requires.few)
+unreachable-requires g c = omega (arith, rw (c.in_default.is, c.left.ensures) at c.in_ok-found.ensures.none, c.requires.few, search_fits c.args.task.now c.args.prefix.now c.requires.asked)
 
 pub returns-in_err-found-clause-bound : goal.returns-in_err-found-clause-bound
 returns-in_err-found-clause-bound g c = omega (arith, rw c.left.ensures at c.least_within.ensures.counted, c.requires.few, layers_within c.args.task.now c.args.prefix.now c.requires.asked)
@@ -17,13 +15,13 @@ returns-in_err-found-clause-bound g c = omega (arith, rw c.left.ensures at c.lea
 pub route-requires-clause-few : goal.route-requires-clause-few
 route-requires-clause-few g c =
     let found = rw (c.in-Some.is, c.left.ensures) at c.in_ok-found.ensures.found in
-    let few : c.least_within.new.looks.count ≤ 3 * length c.args.task.now.table * length c.args.task.now.plan.contacts = omega (arith, rw c.left.ensures at c.least_within.ensures.counted, c.requires.few, layers_within c.args.task.now c.args.prefix.now c.requires.asked) in
-    rw c.deref.ensures.value (route_fits c.args.task.now c.args.prefix.now c.requires.asked c.in-Some.way.numbers.items c.in-Some.way.delivery c.least_within.new.looks.count found few)
+    let few : looks_taken c.least_within.new.looks ≤ 3 * length c.args.task.now.table * length c.args.task.now.plan.contacts = omega (arith, rw c.left.ensures at c.least_within.ensures.counted, c.requires.few, layers_within c.args.task.now c.args.prefix.now c.requires.asked) in
+    rw c.deref.ensures.value (route_fits c.args.task.now c.args.prefix.now c.requires.asked c.in-Some.way.numbers.items c.in-Some.way.delivery c.least_within.new.looks found few)
 
 pub returns-clause-least : goal.returns-clause-least
 returns-clause-least g c = told_least c.args.task.now c.args.prefix.now c.requires.asked c.route.result c.route.ensures.answered
 
 pub returns-clause-bound : goal.returns-clause-bound
 returns-clause-bound g c =
-    told_bound c.args.task.now c.args.prefix.now c.requires.asked c.route.result c.route.ensures.answered c.least_within.new.looks.count c.route.new.looks.count c.route.ensures.refused c.route.ensures.looks
+    told_bound c.args.task.now c.args.prefix.now c.requires.asked c.route.result c.route.ensures.answered (looks_taken c.least_within.new.looks) (looks_taken c.route.new.looks) c.route.ensures.refused c.route.ensures.looks
     (omega (arith, rw c.left.ensures at c.least_within.ensures.counted, c.requires.few, layers_within c.args.task.now c.args.prefix.now c.requires.asked))

@@ -28,10 +28,10 @@ least_by-requires-clause-way g c =
     elim best.found [ inl none ↦ absurd (omega (arith, none.0, c.if-best-eq0.false)) | inr found ↦ (found.3.0, omega (arith, found.3.1, found.1), found.3.2) ]
 
 -- what it gave up for may be more
-gave_up : {T E : Type 0} (result : Result (Option T) E) (most old mid x : ℕ) → IfOk result (λ o. IfNone o (most < mid + 2 * x)) → mid ≤ old + x → IfOk result (λ o. IfNone o (most < old + 3 * x))
-gave_up (Ok None) most old mid x less le = omega (arith, less, le)
-gave_up (Ok (Some way)) most old mid x less le = tt
-gave_up (Err e) most old mid x less le = tt
+gave_up : {T E : Type 0} (result : Result (Option T) E) (old mid x : ℕ) → IfOk result (λ o. IfNone o (mid < 2 * x)) → old ≤ mid + x → IfOk result (λ o. IfNone o (old < 3 * x))
+gave_up (Ok None) old mid x less le = omega (arith, less, le)
+gave_up (Ok (Some way)) old mid x less le = tt
+gave_up (Err e) old mid x less le = tt
 
 pub returns-clause-none : goal.returns-clause-none
-returns-clause-none g c = gave_up c.least_by.result c.args.most c.args.looks.now.count c.make.new.looks.count (c.args.hops * length c.args.aim.now.task.now.plan.contacts) c.least_by.ensures.none (omega (arith, c.make.ensures.counted))
+returns-clause-none g c = gave_up c.least_by.result c.args.looks.now.left c.make.new.looks.left (c.args.hops * length c.args.aim.now.task.now.plan.contacts) c.least_by.ensures.none (omega (arith, c.make.ensures.counted))

@@ -5,7 +5,6 @@ use Rattle.sabr_search.proofs.forward.layers.Layers.make.Given as goal
 abbrev pub invariant-loop-hop : goal.invariant-loop-hop
 invariant-loop-hop g l = record {
   layers : AreLayers l.task l.hop l.self.bounds.items l.self.arrival.items l.self.place.items l.self.reached.items l.best;
-  limit : l.looks.count ≤ l.most;
-  counted : l.looks.count ≤ l.fn.looks.count + l.hop * length l.task.plan.contacts;
+  counted : l.fn.looks.left ≤ l.looks.left + l.hop * length l.task.plan.contacts;
   sooner : l.lower < l.best.delivery;
 }

@@ -1,5 +1,4 @@
-use Rattle.std.proofs.Common.{◌≡◌, inl, inr, ◌+◌, ◌*◌, ◌≤◌, ◌++◌, [], ◌∷◌, Some, length, take, slice_index, ap, sym, ◌∙◌, arith}
-use Rattle.std.proofs.Math.Nat.{mul-le-mul_right}
+use Rattle.std.proofs.Common.{◌≡◌, inr, ◌+◌, ◌++◌, [], ◌∷◌, Some, length, take, slice_index, ap, sym, ◌∙◌, arith}
 use Rattle.sabr_search.proofs.ForwardLemmas.Between.{read_at}
 use Rattle.sabr_search.proofs.BackwardLemmas.LateMade.{late_first, late_next, met_at, take_whole}
 use Rattle.sabr_search.proofs.BackwardLemmas.Ended.{none_by}
@@ -10,7 +9,6 @@ pub loop-left-init : goal.loop-left-init
 loop-left-init g c =
     let first = c.in_ok-first_back.ensures in
     record {
-      limit = c.requires.few;
       counted = omega arith;
       made = late_first c.args.aim.now.task.now c.requires.task c.args.aim.now.since.now c.args.aim.now.delivery _ _ _ _ first.ends first.reached first.place first.late;
     }
@@ -50,7 +48,6 @@ loop-left-preserved g c =
     let same_ends : next.ends.items ≡ old.ends.items = ap (λ v. v.items) c.next_back.ensures.ends in
     let many : c.len-end.result ≡ length next.reached.items = omega (arith, c.len-end.ensures, next.reached.ok.0) in
     record {
-      limit = c.next_back.ensures.looks;
       counted = omega (arith, c.next_back.ensures.counted, c.loop-left.invariant.counted);
       made = late_next task c.requires.task c.args.aim.now.since.now c.args.aim.now.delivery left old.ends.items old.late.items old.place.items old.reached.items c.loop-left.invariant.made
           c.push.new.self.items next.late.items next.place.items next.reached.items one.lists one.kept (one.told (c.in-Some.is ∙ ap Some c.if-starts.false))
@@ -66,12 +63,6 @@ returns-then-index-clause-none g c =
     sym (read_at old.ends.items left c.index.result.now (omega (arith, made.many)) c.index.ensures) ∙ c.if-index.true ∙ read_at old.ends.items (left + 1) c.index-in-loop-left.result.now (omega (arith, made.many)) c.index-in-loop-left.ensures in
     let none = none_by c.args.aim.now.task.now c.requires.task _ _ left old.ends.items old.late.items old.place.items old.reached.items made empty c.requires.arrivals in
     inr (λ ns e le way. omega (arith, none ns e way))
-
-pub returns-in_default-clause-none : goal.returns-in_default-clause-none
-returns-in_default-clause-none g c =
-    let contacts = length c.args.aim.now.task.now.plan.contacts in
-    let more : (c.loop-left.left + 1) * contacts ≤ c.args.hops * contacts = mul-le-mul_right contacts (omega arith) in
-    inl (omega (arith, rw c.in_default.is at c.in_ok-told.ensures.none, c.loop-left.invariant.counted, more))
 
 pub returns-clause-none : goal.returns-clause-none
 returns-clause-none g c =

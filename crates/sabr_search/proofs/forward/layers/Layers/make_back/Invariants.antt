@@ -4,7 +4,6 @@ use Rattle.sabr_search.proofs.forward.layers.Layers.make_back.Given as goal
 
 abbrev pub invariant-loop-left : goal.invariant-loop-left
 invariant-loop-left g l = record {
-  limit : l.looks.count ≤ l.most;
-  counted : l.looks.count ≤ l.fn.looks.count + l.left * length l.aim.task.now.plan.contacts;
+  counted : l.fn.looks.left ≤ l.looks.left + l.left * length l.aim.task.now.plan.contacts;
   made : AreLateLayers l.aim.task.now l.aim.since.now l.aim.delivery l.left l.self.ends.items l.self.late.items l.self.place.items l.self.reached.items;
 }

@@ -1,13 +1,11 @@
-use Rattle.std.proofs.Common.{ℕ, List, ◌≤◌, ◌<◌, ◌+◌, ◌-◌, ◌*◌, [], length, arith}
-use Rattle.std.proofs.Math.Nat.{mul-le-mul_right}
+use Rattle.std.proofs.Common.{◌≤◌, ◌+◌, ◌-◌, [], length, arith}
 use Rattle.std.proofs.lemmas.Option.{slice_get_within}
-use Rattle.sabr_index.specs.declared.link.Pass.{Pass}
-use Rattle.sabr_index.specs.declared.link.Link.{Link}
-use Rattle.sabr_search.specs.questions.Task.{SearchTask}
-use Rattle.sabr_search.specs.questions.Linked.{AreLinksAt}
 use Rattle.sabr_search.specs.layers.Late.{AreMet}
 use Rattle.sabr_search.specs.layers.Picks.{IsLeastStep}
 use Rattle.sabr_search.proofs.BackwardLemmas.Front.{IsFront, ends_below, entries_open, front_none, some_step, front_more, front_all, met_place, degree_at_most}
+use Rattle.sabr_search.proofs.ForwardLemmas.MadeLayers.{layer_more}
+use Rattle.sabr_search.proofs.forward.layers.Layers.pick.Given.{Over}
+use Rattle.sabr_search.proofs.forward.layers.Layers.pick.Goals.{After-point_at, After-links-links}
 use Rattle.sabr_search.proofs.forward.layers.Layers.pick.Goals as goal
 
 pub loop-hop-init : goal.loop-hop-init
@@ -16,7 +14,6 @@ loop-hop-init g c =
     let started : IsFront task (c.args.left + 1) c.args.aim.now.delivery 0 [] c.start.result c.at.result = rw (c.start.ensures, c.at.ensures) (front_none task c.requires.task _ _ _ _ _ _ c.requires.met c.requires.least) in
     record {
       counted = omega arith;
-      limit = c.requires.looked;
       met = c.requires.met;
       node = omega (arith, c.start.ensures, c.requires.task.start_in);
       chosen = rw c.in_ok-numbers.ensures.items started;
@@ -34,15 +31,13 @@ point_at-requires-clause-inside g c = λ p e at. omega (arith, c.loop-hop.invari
 pub point_at-requires-clause-apart : goal.point_at-requires-clause-apart
 point_at-requires-clause-apart g c = λ p q e f. c.loop-hop.invariant.met.made.apart (c.args.left - c.loop-hop.hop) p q e f (omega arith)
 
--- the node's passes are within the contacts
-few : (task : SearchTask) (u : ℕ) (links : List Link) (passes : List Pass) → AreLinksAt task u links passes → length passes ≤ length task.plan.contacts
-few task u links passes at = omega (arith, at.few, degree_at_most task u)
+-- the layers are as they were, with the places pointed anew
+met : (g : Over) (c : After-point_at g) → AreMet c.args.aim.now.task.now c.args.aim.now.since.now c.args.aim.now.delivery c.args.left c.point_at.new.self.ends.items c.point_at.new.self.place.items c.point_at.new.self.reached.items
+met g c = rw (c.point_at.ensures.ends, c.point_at.ensures.reached) (met_place c.args.aim.now.task.now c.requires.task _ _ _ _ _ _ c.loop-hop.invariant.met c.point_at.new.self.place.items c.point_at.ensures.many)
 
--- so one more hop is within those of all
-more : (hop hops contacts : ℕ) → hop < hops → hop * contacts + contacts ≤ hops * contacts
-more hop hops contacts less =
-    let le : (hop + 1) * contacts ≤ hops * contacts = mul-le-mul_right contacts (omega (arith, less)) in
-    omega (arith, le)
+-- the node's passes are within the contacts
+passes : (g : Over) (c : After-links-links g) → length c.links-links.result.passes.now ≤ length c.args.aim.now.task.now.plan.contacts
+passes g c = omega (arith, c.links-links.ensures.few, degree_at_most c.args.aim.now.task.now c.loop-hop.from.node)
 
 pub least_step-least-requires-clause-ends : goal.least_step-least-requires-clause-ends
 least_step-least-requires-clause-ends g c = rw (c.point_at.ensures.ends, c.point_at.ensures.reached) (ends_below c.args.aim.now.task.now c.requires.task _ _ _ _ _ _ c.loop-hop.invariant.met _)
@@ -50,42 +45,27 @@ least_step-least-requires-clause-ends g c = rw (c.point_at.ensures.ends, c.point
 pub least_step-least-requires-clause-open : goal.least_step-least-requires-clause-open
 least_step-least-requires-clause-open g c = rw c.point_at.ensures.reached (entries_open c.args.aim.now.task.now c.requires.task _ _ _ _ _ _ c.loop-hop.invariant.met)
 
-pub returns-then-links-most-clause-none : goal.returns-then-links-most-clause-none
-returns-then-links-most-clause-none g c =
-    let task = c.args.aim.now.task.now in
-    let passes : length c.links-links.result.passes.now ≤ length task.plan.contacts = few task _ _ _ c.links-links.ensures in
-    omega (arith, c.if-links-most.true, c.loop-hop.invariant.counted, passes, more c.loop-hop.hop (c.args.left + 1) (length task.plan.contacts) c.loop-hop-test.true)
+pub returns-then-links-looks-clause-none : goal.returns-then-links-looks-clause-none
+returns-then-links-looks-clause-none g c = omega (arith, c.if-links-looks.true, c.loop-hop.invariant.counted, passes g (goal.at.returns-then-links-looks-clause-none g c).After-links-links, layer_more c.loop-hop.hop (c.args.left + 1) (length c.args.aim.now.task.now.plan.contacts) c.loop-hop-test.true)
 
 pub unreachable-requires : goal.unreachable-requires
 unreachable-requires g c =
-    let task = c.args.aim.now.task.now in
-    let new = c.point_at.new.self in
-    let met : AreMet task c.args.aim.now.since.now c.args.aim.now.delivery c.args.left new.ends.items new.place.items new.reached.items =
-    rw (c.point_at.ensures.ends, c.point_at.ensures.reached) (met_place task c.requires.task _ _ _ _ _ _ c.loop-hop.invariant.met new.place.items c.point_at.ensures.many) in
-    some_step task c.requires.task _ _ c.args.left _ _ _ met c.loop-hop.hop c.loop-hop-test.true c.loop-hop.numbers.items c.loop-hop.from.node c.loop-hop.from.at c.loop-hop.invariant.chosen (rw c.in_default.is at c.least_step-least.ensures.none)
+    some_step c.args.aim.now.task.now c.requires.task _ _ c.args.left _ _ _ (met g (goal.at.unreachable-requires g c).After-point_at) c.loop-hop.hop c.loop-hop-test.true c.loop-hop.numbers.items c.loop-hop.from.node c.loop-hop.from.at c.loop-hop.invariant.chosen (rw c.in_default.is at c.least_step-least.ensures.none)
 
-pub returns-in_err-push-clause-looks : goal.returns-in_err-push-clause-looks
-returns-in_err-push-clause-looks g c =
-    let task = c.args.aim.now.task.now in
-    let passes : length c.links-links.result.passes.now ≤ length task.plan.contacts = few task _ _ _ c.links-links.ensures in
-    omega (arith, c.least_step-least.ensures.looks, c.loop-hop.invariant.counted, passes, more c.loop-hop.hop (c.args.left + 1) (length task.plan.contacts) c.loop-hop-test.true)
+pub returns-in_err-push-clause-counted : goal.returns-in_err-push-clause-counted
+returns-in_err-push-clause-counted g c = omega (arith, c.least_step-least.ensures.looks, c.loop-hop.invariant.counted, passes g (goal.at.returns-in_err-push-clause-counted g c).After-links-links, layer_more c.loop-hop.hop (c.args.left + 1) (length c.args.aim.now.task.now.plan.contacts) c.loop-hop-test.true)
 
 pub loop-hop-preserved : goal.loop-hop-preserved
 loop-hop-preserved g c =
     let task = c.args.aim.now.task.now in
-    let d = c.args.aim.now.delivery in
-    let was = c.loop-hop.invariant.met in
     let new = c.point_at.new.self in
-    let passes : length c.links-links.result.passes.now ≤ length task.plan.contacts = few task _ _ _ c.links-links.ensures in
-    let met : AreMet task c.args.aim.now.since.now d c.args.left new.ends.items new.place.items new.reached.items =
-    rw (c.point_at.ensures.ends, c.point_at.ensures.reached) (met_place task c.requires.task _ _ _ _ _ _ was new.place.items c.point_at.ensures.many) in
+    let met = met g (goal.at.loop-hop-preserved g c).After-point_at in
     let least : IsLeastStep task new.ends.items new.reached.items (c.args.left - c.loop-hop.hop) c.loop-hop.from.node c.loop-hop.from.at c.in-Some.step = rw c.in-Some.is at c.least_step-least.ensures.some in
     record {
-      counted = omega (arith, c.least_step-least.ensures.looks, c.loop-hop.invariant.counted, passes);
-      limit = omega (arith, c.least_step-least.ensures.looks, c.loop-hop.invariant.limit);
+      counted = omega (arith, c.least_step-least.ensures.looks, c.loop-hop.invariant.counted, passes g (goal.at.loop-hop-preserved g c).After-links-links);
       met = met;
       node = slice_get_within task.table c.in-Some.step.node least.step.contact.to least.step.receiver;
-      chosen = rw c.in_ok-push.ensures.items (front_more task c.requires.task _ d c.args.left _ _ _ met c.loop-hop.hop (omega arith) c.loop-hop.numbers.items c.loop-hop.from.node c.loop-hop.from.at c.loop-hop.invariant.chosen c.in-Some.step least);
+      chosen = rw c.in_ok-push.ensures.items (front_more task c.requires.task _ c.args.aim.now.delivery c.args.left _ _ _ met c.loop-hop.hop (omega arith) c.loop-hop.numbers.items c.loop-hop.from.node c.loop-hop.from.at c.loop-hop.invariant.chosen c.in-Some.step least);
     }
 
 pub returns-clause-picked : goal.returns-clause-picked

@@ -31,7 +31,6 @@ loop-place-preserved-then-is_told g c =
     let link = c.senders-senders.ensures.each c.loop-place.place (record { sender = c.head-head.result.node; passes = here.0 }) here.1 in
     record {
       ends = so_far.ends;
-      limit = so_far.limit;
       counted = omega (arith, so_far.counted, (passes_within c.args.aim.now.task.now c.args.to.node c.senders-senders.result c.senders-senders.ensures c.loop-place.place _ here.1).0);
       lists = so_far.lists;
       kept = so_far.kept;
@@ -51,7 +50,6 @@ loop-place-preserved g c =
     let one = c.in_ok-met.ensures in
     record {
       ends = c.take_sender.ensures.ends ∙ so_far.ends;
-      limit = omega (arith, so_far.limit, c.take_sender.ensures.looks, c.if-from-most.false);
       counted = omega (arith, so_far.counted, c.take_sender.ensures.looks, (passes_within task c.args.to.node c.senders-senders.result c.senders-senders.ensures c.loop-place.place _ c.at-from.ensures.link).0);
       lists = rw so_far.ends at one.lists;
       kept = rw so_far.ends at one.kept ∙ so_far.kept;
@@ -64,12 +62,12 @@ loop-place-preserved g c =
       ];
     }
 
-pub returns-then-from-most-clause-none : goal.returns-then-from-most-clause-none
-returns-then-from-most-clause-none g c =
-    omega (arith, c.if-from-most.true, c.loop-place.invariant.counted, (passes_within c.args.aim.now.task.now c.args.to.node c.senders-senders.result c.senders-senders.ensures c.loop-place.place _ c.at-from.ensures.link).1)
+pub returns-then-from-looks-clause-none : goal.returns-then-from-looks-clause-none
+returns-then-from-looks-clause-none g c =
+    omega (arith, c.if-from-looks.true, c.loop-place.invariant.counted, (passes_within c.args.aim.now.task.now c.args.to.node c.senders-senders.result c.senders-senders.ensures c.loop-place.place _ c.at-from.ensures.link).1)
 
-pub returns-then-from-most-clause-counted : goal.returns-then-from-most-clause-counted
-returns-then-from-most-clause-counted g c =
+pub returns-then-from-looks-clause-counted : goal.returns-then-from-looks-clause-counted
+returns-then-from-looks-clause-counted g c =
     omega (arith, c.loop-place.invariant.counted, (passes_within c.args.aim.now.task.now c.args.to.node c.senders-senders.result c.senders-senders.ensures c.loop-place.place _ c.at-from.ensures.link).1)
 
 pub returns-in_err-met-clause-counted : goal.returns-in_err-met-clause-counted

@@ -9,8 +9,7 @@ use Rattle.sabr_search.proofs.forward.layers.Layers.take_senders.Given as goal
 abbrev pub invariant-loop-place : goal.invariant-loop-place
 invariant-loop-place g l = record {
   ends : l.self.ends ≡ l.fn.self.ends;
-  limit : l.looks.count ≤ l.most;
-  counted : l.looks.count ≤ l.fn.looks.count + sum_by (λ s. length s.passes) (take l.place l.senders);
+  counted : l.fn.looks.left ≤ l.looks.left + sum_by (λ s. length s.passes) (take l.place l.senders);
   lists : AreLate l.aim.task.now l.aim.since.now (slice_index l.fn.self.ends.items l.left) (slice_index l.fn.self.ends.items (l.left + 1)) l.self.late.items l.self.place.items l.self.reached.items;
   kept : take (slice_index l.fn.self.ends.items (l.left + 1)) l.self.reached.items ≡ take (slice_index l.fn.self.ends.items (l.left + 1)) l.fn.self.reached.items;
   rises : (k : ℕ) → slice_index l.fn.self.late.items k ≤ slice_index l.self.late.items k;

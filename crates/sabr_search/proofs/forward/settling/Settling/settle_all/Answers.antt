@@ -1,4 +1,4 @@
-use Rattle.std.proofs.Common.{◌≡◌, suc, ◌<◌, length, slice_index_or, false, refl, sym, ◌∙◌, arith}
+use Rattle.std.proofs.Common.{◌≡◌, ◌<◌, length, slice_index_or, false, refl, sym, ◌∙◌, arith}
 use Rattle.std.proofs.lemmas.List.Sorted.{length_permutation}
 use Rattle.sabr_search.proofs.ForwardLemmas.Queues.{head_inside, head_few, waits_later, queue_stale}
 use Rattle.sabr_search.proofs.ForwardLemmas.FirstWays.{start_sent, next_most, next_way, next_state, next_counted, next_settled, settled_stale, first_found, arrivals_found, read_flag}
@@ -11,7 +11,6 @@ loop-event-init g c =
     let start = c.in_ok-best.ensures in
     record {
       counted = omega (arith, start_sent task c.requires.task c.first_events.new.self.settled.items c.settle_start.new.self.settled.items task.start c.in_ok-first_events.ensures.settled refl c.settle_start.ensures.settled);
-      limit = c.requires.few;
       settled = start.state;
     }
 
@@ -57,13 +56,13 @@ links-links-requires-clause-node g c =
     let was = c.loop-event.invariant.settled in
     omega (arith, was.flags, c.requires.task.as_many, head_inside _ _ _ _ _ _ _ c.in-Some.event was.queue_is c.in-Some.ensures.moved c.in-Some.ensures.first)
 
-pub returns-then-links-most-clause-none : goal.returns-then-links-most-clause-none
-returns-then-links-most-clause-none g c =
+pub returns-then-links-looks-clause-none : goal.returns-then-links-looks-clause-none
+returns-then-links-looks-clause-none g c =
     let was = c.loop-event.invariant.settled in
     let within : c.in-Some.event.node < length c.loop-event.self.settled.items = omega (arith, was.flags, was.many, head_inside _ _ _ _ _ _ _ c.in-Some.event was.queue_is c.in-Some.ensures.moved c.in-Some.ensures.first) in
     let off : slice_index_or c.loop-event.self.settled.items c.in-Some.event.node false ≡ false = sym (read_flag c.loop-event.self.settled.items c.in-Some.event.node c.index.result.now within c.index.ensures) ∙ c.if-not-index.true in
     let most = next_most c.args.forward.now.task.now c.requires.task _ _ _ _ _ _ _ c.in-Some.event was c.in-Some.ensures.moved c.in-Some.ensures.first off in
-    omega (arith, most, c.loop-event.invariant.counted, c.loop-event.invariant.limit, c.if-links-most.true, c.links-links.ensures.few)
+    omega (arith, most, c.loop-event.invariant.counted, c.if-links-looks.true, c.links-links.ensures.few)
 
 pub returns-in_err-best-2-clause-counted : goal.returns-in_err-best-2-clause-counted
 returns-in_err-best-2-clause-counted g c =
@@ -74,13 +73,7 @@ returns-in_err-best-2-clause-counted g c =
     omega (arith, most, c.loop-event.invariant.counted, c.settle.ensures.looks, c.links-links.ensures.few)
 
 pub loop-event-smaller-then-not-index : goal.loop-event-smaller-then-not-index
-loop-event-smaller-then-not-index g c =
-    let was = c.loop-event.invariant.settled in
-    let within : c.in-Some.event.node < length c.loop-event.self.settled.items = omega (arith, was.flags, was.many, head_inside _ _ _ _ _ _ _ c.in-Some.event was.queue_is c.in-Some.ensures.moved c.in-Some.ensures.first) in
-    let off : slice_index_or c.loop-event.self.settled.items c.in-Some.event.node false ≡ false = sym (read_flag c.loop-event.self.settled.items c.in-Some.event.node c.index.result.now within c.index.ensures) ∙ c.if-not-index.true in
-    let most = next_most c.args.forward.now.task.now c.requires.task _ _ _ _ _ _ _ c.in-Some.event was c.in-Some.ensures.moved c.in-Some.ensures.first off in
-    let shorter : length c.loop-event.self.queue ≡ suc (length c.pop.new.self) = sym (length_permutation _ _ c.in-Some.ensures.moved) in
-    omega (arith, most, c.settle.ensures.looks, c.links-links.ensures.few, c.loop-event.invariant.counted, c.in_ok-best-2.ensures.pushes)
+loop-event-smaller-then-not-index g c = omega (arith, length_permutation _ _ c.in-Some.ensures.moved, c.in_ok-best-2.ensures.pushes)
 
 pub loop-event-preserved-then-not-index : goal.loop-event-preserved-then-not-index
 loop-event-preserved-then-not-index g c =
@@ -92,15 +85,12 @@ loop-event-preserved-then-not-index g c =
     let settled = c.in_ok-best-2.ensures in
     record {
       counted = next_counted task c.requires.task _ _ _ _ _ _ _ c.in-Some.event was c.in-Some.ensures.moved c.in-Some.ensures.first off _ _ _ settled.settled (omega (arith, settled.looks, c.links-links.ensures.few, c.loop-event.invariant.counted));
-      limit = omega (arith, settled.looks, c.if-links-most.false, c.loop-event.invariant.limit);
       settled = next_settled task c.requires.task _ _ _ _ _ _ _ c.in-Some.event was c.in-Some.ensures.moved c.in-Some.ensures.first off _ _ _ _
           settled.settled (rw arrives at settled.state) settled.fallen settled.taken;
     }
 
 pub loop-event-smaller : goal.loop-event-smaller
-loop-event-smaller g c =
-    let shorter : length c.loop-event.self.queue ≡ suc (length c.pop.new.self) = sym (length_permutation _ _ c.in-Some.ensures.moved) in
-    omega arith
+loop-event-smaller g c = omega (arith, length_permutation _ _ c.in-Some.ensures.moved)
 
 pub loop-event-preserved : goal.loop-event-preserved
 loop-event-preserved g c =
@@ -109,7 +99,6 @@ loop-event-preserved g c =
     let on = sym (read_flag c.loop-event.self.settled.items c.in-Some.event.node c.index.result.now within c.index.ensures) ∙ c.if-not-index.false in
     record {
       counted = c.loop-event.invariant.counted;
-      limit = c.loop-event.invariant.limit;
       settled = settled_stale _ _ _ _ _ _ _ _ was (queue_stale _ _ _ _ _ _ _ c.in-Some.event was.queue_is c.in-Some.ensures.moved c.in-Some.ensures.first on);
     }
 

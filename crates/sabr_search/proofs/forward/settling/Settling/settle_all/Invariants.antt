@@ -1,14 +1,13 @@
-use Rattle.std.proofs.Common.{◌+◌, ◌-◌, ◌≤◌, length}
+use Rattle.std.proofs.Common.{◌+◌, ◌≤◌, length}
 use Rattle.sabr_search.specs.questions.Steps.{degree}
 use Rattle.sabr_search.specs.layers.Settling.{AreSettled, sent_by_settled}
 use Rattle.sabr_search.proofs.forward.settling.Settling.settle_all.Given as goal
 
 abbrev pub invariant-loop-event : goal.invariant-loop-event
 invariant-loop-event g l = record {
-  counted : l.looks.count + degree l.forward.task.now l.forward.task.now.start ≤ l.fn.looks.count + sent_by_settled l.forward.task.now l.self.settled.items;
-  limit : l.looks.count ≤ l.most;
+  counted : l.fn.looks.left + degree l.forward.task.now l.forward.task.now.start ≤ l.looks.left + sent_by_settled l.forward.task.now l.self.settled.items;
   settled : AreSettled l.forward.task.now l.forward.late.now l.forward.near.now l.self.settled.items l.self.arrival.items l.self.queue l.best;
 }
 
 abbrev pub decreases-loop-event : goal.decreases-loop-event
-decreases-loop-event g l = length l.self.queue + ((l.fn.looks.count + length l.forward.task.now.plan.contacts) - l.looks.count)
+decreases-loop-event g l = length l.self.queue + l.looks.left
