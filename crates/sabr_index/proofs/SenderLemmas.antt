@@ -19,7 +19,7 @@ use Rattle.sabr_model.specs.plan.Plan.{TabledPlan, contact_named, has, are_diffe
 use Rattle.sabr_model.specs.plan.Tabled.{IsTabled}
 use Rattle.sabr_index.specs.Links.{NodeLinks, IsPassOf, IsLinkOf, AreLinksOf, numbers_of, received_by, SentLink, IsLinkTo, AreLinksTo}
 use Rattle.sabr_index.specs.Linking.{AreLinked}
-use Rattle.sabr_index.specs.Incoming.{passes_over, passes_at, passes_named, links_named, LiesOver, LieThere, HasLink, HaveReceivers, AreIncoming}
+use Rattle.sabr_index.specs.Incoming.{passes_over, passes_at, passes_named, links_named, LieThere, HasLink, HaveReceivers, AreIncoming}
 use Rattle.sabr_model.proofs.ListLemmas.Different.{different_append, part_at, part_has}
 use Rattle.sabr_index.proofs.PassNumbers.{pass_of_number, number_once, numbers_part}
 use Rattle.sabr_model.proofs.RouteLemmas.Listed.{distinct_from_different}
@@ -79,9 +79,11 @@ lie_there p linked are many to incoming are_in k e at =
           let l = h.link in
           let link = (are e.sender v.0 h.node h.at v.2).each e.place l h.there in (
             h.node,
+            l,
             h.at,
-            h.there ∙ ap Some w.1,
-            subst (LiesOver h.node.passes) w.1 (
+            h.there,
+            w.1,
+            (
               link.ordered,
               link.within,
               λ m x here.

@@ -5,7 +5,7 @@ use Rattle.sabr_model.specs.plan.Tabled.{IsTabled}
 use Rattle.sabr_index.specs.declared.senders.Incoming.{Incoming}
 use Rattle.sabr_index.specs.Links.{NodeLinks}
 use Rattle.sabr_index.specs.Linking.{AreLinked}
-use Rattle.sabr_index.specs.Incoming.{AreGrouped, AreSpans}
+use Rattle.sabr_index.specs.Incoming.{AreGrouped}
 
 -- the links of each node of the table, and by node the links to it
 pub record IsIndex (p : TabledPlan) (linked : List NodeLinks) (starts : List ℕ) (named : List Incoming) : Type 0 where
@@ -13,5 +13,4 @@ pub record IsIndex (p : TabledPlan) (linked : List NodeLinks) (starts : List ℕ
   pub as_many : length linked ≡ length p.table
   pub links : AreLinked p linked
   pub begins : length starts ≡ length p.table + 1
-  pub spans : AreSpans starts (length named)
   pub grouped : AreGrouped linked starts named

@@ -17,9 +17,9 @@ use std::alloc::{AllocError, Allocator};
 pub fn link_nodes<A: Allocator + Copy>(
     alloc: A,
     plan: &Plan<A>,
-    order: &ContactOrder<A>,
+    order: ContactOrder<A>,
 ) -> Result<LinkTable<A>, AllocError>
-    requires { AreByNode plan.now.plan plan.now.table order.now.places.items order.now.senders.lasts.items order.now.senders.befores.items }
+    requires { AreByNode plan.now.plan plan.now.table order.places.items order.senders.lasts.items order.senders.befores.items }
     ensures linked { IfOk result (λ t. AreLinked plan.now t) }
     ensures as_many { IfOk result (λ t. length t ≡ length plan.now.table) }
 {
@@ -30,7 +30,7 @@ pub fn link_nodes<A: Allocator + Copy>(
     for index in 0..count {
         places.clear();
         order.senders.push_places(index, &mut places)?;
-        let node = links_at(alloc, plan, order, &places, &mut links)?;
+        let node = links_at(alloc, plan, &order, &places, &mut links)?;
         table.push(node)?;
     }
     Ok(table)
@@ -85,8 +85,8 @@ fn pass_of<A: Allocator + Copy>(plan: &Plan<A>, place: usize) -> Option<Pass>
     let light = hop.light?;
     Some(Pass {
         number,
-        receiver: hop.receiver,
         light,
+        receiver: hop.receiver,
         start: hop.start,
         end: hop.end,
         latest_end: hop.end,

@@ -62,7 +62,7 @@ impl<'p, A: Allocator + Copy> Index<'p, A> {
         ensures { IfOk result (λ i. i ≡ plan.now) }
     {
         let order = order_of_contacts(alloc, plan, ends)?;
-        let linked = link_nodes(alloc, plan, &order)?;
+        let linked = link_nodes(alloc, plan, order)?;
         let incoming = incoming_links(alloc, &linked)?;
         Ok(Index {
             plan,

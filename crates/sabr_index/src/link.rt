@@ -6,10 +6,10 @@
 pub struct Pass {
     /// The contact's number.
     pub number: u32,
-    /// The index of its receiver in the table of nodes.
-    pub receiver: usize,
     /// The one-way light time in seconds that is in force at its start.
     pub light: u32,
+    /// The index of its receiver in the table of nodes.
+    pub receiver: usize,
     /// The first second at which the contact can be used.
     pub start: u64,
     /// The first second at which the contact can no longer be used.

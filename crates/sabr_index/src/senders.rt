@@ -4,17 +4,17 @@ ghost use Rattle.std.specs.Prelude.{◌≡◌, ◌<◌, Some, length, slice_get}
 ghost use Rattle.sabr_index.specs.Links.{AreWithin};
 ghost use Rattle.sabr_index.specs.Incoming.{links_named, LieThere, IsHeadAt};
 
-use crate::link::{Link, Sender, SenderHead};
+use crate::link::{LinkBounds, Sender, SenderHead};
 use crate::table::LinkTable;
 use std::alloc::{Allocator, Global};
 use std::marker::Model;
 
-/// A link with the index of its sender in the table of nodes, and its place among the sender's links.
+/// A link by the index of its sender in the table of nodes and its place among the sender's links, with its bounds.
 #[derive(Clone, Copy)]
 pub struct Incoming {
     pub sender: usize,
     pub place: usize,
-    pub link: Link,
+    pub bounds: LinkBounds,
 }
 
 /// The links to one node, each with its sender.
@@ -62,7 +62,7 @@ impl<'a, A: Allocator + Copy> Senders<'a, A> {
         let top = incoming[place];
         SenderHead {
             node: top.sender,
-            bounds: top.link.bounds,
+            bounds: top.bounds,
         }
     }
 
@@ -73,12 +73,14 @@ impl<'a, A: Allocator + Copy> Senders<'a, A> {
         ensures bounds { AreWithin result.bounds result.passes.now }
     {
         let linked = self.linked;
-        let Incoming { sender, link, .. } = self.incoming[place];
-        let passes = linked.of(sender).passes;
+        let named = self.incoming[place];
+        let sent = linked.of(named.sender);
+        let link = sent.links[named.place];
+        let passes = sent.passes;
         Sender {
-            node: sender,
+            node: named.sender,
             passes: &passes[link.first..link.end],
-            bounds: link.bounds,
+            bounds: named.bounds,
         }
     }
 }

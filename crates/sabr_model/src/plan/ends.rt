@@ -26,6 +26,7 @@ impl<A: Allocator + Copy> Plan<A> {
     }
 
     /// Returns the index of the receiver of the contact at a place.
+    #[inline(always)]
     pub(super) fn receiver_at(&self, place: usize, contact: &Contact) -> usize
         requires within { place < length self.now.plan.contacts }
         requires there { contact.now ≡ slice_index_or self.now.plan.contacts place contact.now }

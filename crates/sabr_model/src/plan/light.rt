@@ -36,6 +36,7 @@ impl<A: Allocator + Copy> Plan<A> {
     }
 
     /// Returns the light time of the contact at a place.
+    #[inline(always)]
     pub(super) fn light_at(&self, place: usize, contact: &Contact) -> Option<u32>
         requires within { place < length self.now.plan.contacts }
         requires there { contact.now ≡ slice_index_or self.now.plan.contacts place contact.now }

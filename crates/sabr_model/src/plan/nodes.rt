@@ -48,6 +48,7 @@ impl<A: Allocator + Copy> Plan<A> {
     }
 
     /// Returns the number of the contact at a place, and the contact as a search reads it.
+    #[inline(always)]
     pub fn hop_at(&self, place: usize) -> (u32, Hop)
         requires { place < length self.now.plan.contacts }
         ensures number { result.0 ≡ slice_index (map (λ c. c.number) self.now.plan.contacts) place }
@@ -58,6 +59,7 @@ impl<A: Allocator + Copy> Plan<A> {
     }
 
     /// Returns the contact at a place as a search reads it.
+    #[inline(always)]
     fn hop_of(&self, place: usize, contact: &Contact) -> Hop
         requires within { place < length self.now.plan.contacts }
         requires there { contact.now ≡ slice_index_or self.now.plan.contacts place contact.now }

@@ -14,17 +14,17 @@ links_at-requires g c =
     let i = c.loop-index.index in
     let places = places_of h.senders i (length h.senders) in
     let read : c.deref.result.now ≡ places = c.deref.ensures.value ∙ c.in_ok-push_places.ensures h.senders h.chains ∙ ap (λ (ns : List ℕ). ns ++ places) c.clear.ensures.items in
-    subst (λ (ns : List ℕ). AreStanding c.args.plan.now.plan.contacts c.args.order.now.places.items ns) (sym read) (λ j lt.
+    subst (λ (ns : List ℕ). AreStanding c.args.plan.now.plan.contacts c.args.order.places.items ns) (sym read) (λ j lt.
     let q = get_or places j 0 in
     let within = (place_in h.senders i (length h.senders) q (in_at places j lt)).0 in
-    let there : q < length c.args.order.now.places.items = omega (arith, within, h.as_many) in
+    let there : q < length c.args.order.places.items = omega (arith, within, h.as_many) in
     (there, h.within q there))
 
 pub loop-index-preserved : goal.loop-index-preserved
 loop-index-preserved g c =
     let p = c.args.plan.now in
     let h = c.requires in
-    let order = c.args.order.now.places.items in
+    let order = c.args.order.places.items in
     let i = c.loop-index.index in
     let places = places_of h.senders i (length h.senders) in
     let read : c.deref.result.now ≡ places = c.deref.ensures.value ∙ c.in_ok-push_places.ensures h.senders h.chains ∙ ap (λ (ns : List ℕ). ns ++ places) c.clear.ensures.items in

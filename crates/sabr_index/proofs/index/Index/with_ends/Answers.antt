@@ -16,6 +16,5 @@ invariant_of-result g c =
       as_many = made.as_many;
       links = made.linked;
       begins = is.starts ∙ ap (λ n. n + 1) made.as_many;
-      spans = is.spans;
       grouped = is.grouped;
     }

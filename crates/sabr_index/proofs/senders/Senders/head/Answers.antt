@@ -16,13 +16,14 @@ returns g c =
     let place = c.args.place in
     let sent : Incoming → SentLink = λ e. record { sender = e.sender; passes = passes_named linked e } in
     let lt : place < length incoming = omega (arith, c.requires, ap (λ (ss : List SentLink). length ss) c.self.view_is, length-map incoming sent) in
-    let e = get_or incoming place no_link in
-    let at : slice_get incoming place ≡ Some e = slice_get-get_or incoming place no_link lt in
+    let none : Incoming = record { sender = 0; place = 0; bounds = no_link.bounds } in
+    let e = get_or incoming place none in
+    let at : slice_get incoming place ≡ Some e = slice_get-get_or incoming place none lt in
     let w = c.self.invariant place e at in
-    let lies : LiesOver w.0.passes e.link = w.3 in
-    let passes : passes_named linked e ≡ passes_over w.0.passes e.link =
-    ap (λ (o : Option NodeLinks). option_map_or (λ s. passes_at s e.place) o []) w.1 ∙ ap (λ (o : Option Link). option_map_or (passes_over w.0.passes) o []) w.2 in (
+    let lies : LiesOver w.0.passes w.1 = w.5 in
+    let passes : passes_named linked e ≡ passes_over w.0.passes w.1 =
+    ap (λ (o : Option NodeLinks). option_map_or (λ s. passes_at s e.place) o []) w.2 ∙ ap (λ (o : Option Link). option_map_or (passes_over w.0.passes) o []) w.3 in (
       passes_named linked e,
       subst (λ (ss : List SentLink). slice_get ss place ≡ Some (sent e)) c.self.view_is (slice_get-map sent incoming place ∙ ap (option_map sent) at),
-      rw passes lies.2,
+      rw (passes, ← w.4) lies.2,
     )
