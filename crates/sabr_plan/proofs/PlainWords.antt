@@ -1,12 +1,12 @@
 -- A text of graphic words, each after blanks, has those words.
-use Rattle.std.proofs.Common.{◌≡◌, ◌≢◌, ℕ, ◌<◌, true, false, eqb, leb, List, [], ◌∷◌, ◌++◌, length, get_or, refl, sym, ap, ◌∙◌, arith, append_assoc, append-nil, not, ◌||◌, ◌&&◌}
+use Rattle.std.proofs.Common.{◌≡◌, ◌≢◌, ℕ, ◌<◌, true, false, eqb, leb, List, [], ◌∷◌, ◌++◌, length, get_or, refl, sym, ap, ◌∙◌, arith, append_assoc, append-nil, length-append, not, ◌||◌, ◌&&◌}
 use Rattle.std.specs.List.{All, list_all}
 use Rattle.std.proofs.lemmas.Bool.{and_parts, ne_eqb, false≢true}
 use Rattle.std.proofs.Math.Bool.{or-true}
 use Rattle.std.proofs.lemmas.List.Folds.{list_all-append}
 use Rattle.std.proofs.lemmas.List.Sums.{AllPass-from_list_all}
 use borrow.Author.Tests.{leb-true, le-leb, ltb-true, lt-ltb, eqb-true}
-use Rattle.sabr_plan.specs.Digits.{is_digit}
+use Rattle.sabr_plan.specs.Digits.{is_digit, SpellsNumber}
 use Rattle.sabr_plan.specs.Words.{is_blank, is_plain, is_comment, has_bytes, is_one_line, words_of}
 use Rattle.sabr_plan.specs.PlainWords.{is_graphic, is_graphic_word, is_plain_from_blank, IsAfterBlanks, IsAfterGap, IsFront, IsAhead}
 use Rattle.sabr_plan.proofs.FirstWords.{first_is, words_of-blank, words_of-nil}
@@ -45,8 +45,8 @@ pub graphic_digits : (w : List ℕ) → list_all is_digit w ≡ true → list_al
 graphic_digits [] h = refl
 graphic_digits (b ∷ w) h = let p = and_parts (is_digit b) (list_all is_digit w) h in rw (graphic_digit b p.0, graphic_digits w p.1) refl
 
-pub graphic_number : (w : List ℕ) → 0 < length w → list_all is_digit w ≡ true → is_graphic_word w ≡ true
-graphic_number w some all = rw (lt-ltb 0 (length w) some, graphic_digits w all) refl
+pub graphic_number : {w : List ℕ} {n : ℕ} → SpellsNumber w n → is_graphic_word w ≡ true
+graphic_number {w} {n} is = rw (lt-ltb 0 (length w) is.some, graphic_digits w is.digits) refl
 
 pub graphic_behind : (b : ℕ) (w : List ℕ) → is_graphic b ≡ true → list_all is_graphic w ≡ true → is_graphic_word (b ∷ w) ≡ true
 graphic_behind b w one all = rw (lt-ltb 0 (length (b ∷ w)) (omega arith), one, all) refl
@@ -98,6 +98,15 @@ still_ended front rest plain lf =
 
 pub ended_blanks : {text rest : List ℕ} → IsAfterBlanks text rest → is_one_line text ≡ false → is_one_line rest ≡ false
 ended_blanks {text} {rest} after lf = still_ended after.blanks rest (plain_blanks after.blanks after.blank) (rw after.parts at lf)
+
+-- a blank and more blanks
+pub wider_gap : {text mid rest : List ℕ} → IsAfterGap text mid → IsAfterBlanks mid rest → IsAfterGap text rest
+wider_gap {text} {mid} {rest} gap more = record {
+  blanks = gap.blanks ++ more.blanks;
+  parts = gap.parts ∙ ap (λ r. gap.blanks ++ r) more.parts ∙ rw append_assoc refl;
+  some = lt-ltb 0 (length (gap.blanks ++ more.blanks)) (omega (arith, ltb-true 0 (length gap.blanks) gap.some, length-append gap.blanks more.blanks));
+  blank = rw (list_all-append is_blank gap.blanks more.blanks, gap.blank, more.blank) refl;
+}
 
 pub ended_gap : {text rest : List ℕ} → IsAfterGap text rest → is_one_line text ≡ false → is_one_line rest ≡ false
 ended_gap {text} {rest} gap lf = still_ended gap.blanks rest (plain_blanks gap.blanks gap.blank) (rw gap.parts at lf)

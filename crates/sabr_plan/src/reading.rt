@@ -141,6 +141,7 @@ impl<A: Allocator + Copy> PlanReading<A> {
         }
     }
 
+    #[inline(always)]
     fn add_contact(&mut self, a: Addition) -> Result<(), PlanKind>
         requires { HasBounds (Add target.Contact a) }
         ensures { Leaves (obeyed self.old (Add target.Contact a)) result self.new }
@@ -154,6 +155,7 @@ impl<A: Allocator + Copy> PlanReading<A> {
         }
     }
 
+    #[inline(never)]
     fn add_range(&mut self, a: Addition) -> Result<(), PlanKind>
         requires { HasBounds (Add target.Range a) }
         ensures { Leaves (obeyed self.old (Add target.Range a)) result self.new }

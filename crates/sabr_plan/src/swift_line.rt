@@ -1,6 +1,7 @@
 //! A fast reader of additions, in one pass over a line. It says nothing about other lines.
 
-ghost use Rattle.std.specs.Prelude.{◌≡◌, ◌≢◌, ℕ, Option, ◌∷◌, Ok, Some, IfSome, IsTrue, IsFalse};
+ghost use Rattle.std.specs.Prelude.{◌≡◌, ◌≢◌, ℕ, Option, ◌∷◌, ◌++◌, Ok, Some, IfSome, IsTrue, IsFalse};
+ghost use Rattle.sabr_plan.specs.Digits.{SpellsNumber};
 ghost use Rattle.sabr_plan.specs.Numbers.{number_within};
 ghost use Rattle.sabr_plan.specs.PlainWords.{is_plain_from_blank, IsAfterBlanks, IsAfterGap, IsFront, IsAhead, BeginsWithLine, AddsAhead};
 ghost use Rattle.sabr_plan.specs.Operands.{time_at, greatest_value};
@@ -9,6 +10,7 @@ ghost use Rattle.sabr_plan.specs.Words.{is_one_line, words_of};
 ghost use Rattle.sabr_plan.specs.declared.command.Command.TheVariants.{Add};
 
 use crate::command::{Addition, Command, Target};
+use crate::eight_digits::first_eight;
 use crate::known_day::KnownDay;
 use crate::number::{leading_digits, spelled};
 use crate::operand::{after_reference, greatest_value};
@@ -16,6 +18,12 @@ use crate::words::is_blank;
 
 /// The bytes of an absolute time.
 const TIME_BYTES: usize = 19;
+
+/// `a contac`, as `first_eight` reads it.
+const A_CONTAC: u64 = 0x6361_746e_6f63_2061;
+
+/// `a range `, as `first_eight` reads it.
+const A_RANGE: u64 = 0x2065_676e_6172_2061;
 
 /// Returns what comes after a byte, if a text begins with it.
 #[inline(always)]
@@ -75,9 +83,9 @@ fn after_end(text: &[u8]) -> Option<&[u8]>
     Some(&end[1..])
 }
 
-/// Returns what comes after the blanks at the front of a text, if there is one.
+/// Returns what comes after the first byte of a text, if it is a blank.
 #[inline(always)]
-fn after_gap(text: &[u8]) -> Option<&[u8]>
+fn after_blank(text: &[u8]) -> Option<&[u8]>
     requires { IsFalse (is_one_line text.now) }
     ensures gap { IfSome result (λ r. IsAfterGap text.now r.now) }
     ensures ended { IfSome result (λ r. IsFalse (is_one_line r.now)) }
@@ -85,7 +93,44 @@ fn after_gap(text: &[u8]) -> Option<&[u8]>
     if !is_blank(text[0]) {
         return None;
     }
-    Some(after_blanks(&text[1..]))
+    Some(&text[1..])
+}
+
+/// Returns what comes after the blanks at the front of a text, if there is one.
+#[inline(always)]
+fn after_gap(text: &[u8]) -> Option<&[u8]>
+    requires { IsFalse (is_one_line text.now) }
+    ensures gap { IfSome result (λ r. IsAfterGap text.now r.now) }
+    ensures ended { IfSome result (λ r. IsFalse (is_one_line r.now)) }
+{
+    Some(after_blanks(after_blank(text)?))
+}
+
+/// Returns the number that digits after blanks stand for, those digits, and the text after them.
+#[cold]
+#[inline(never)]
+fn later_digits(text: &[u8]) -> Option<(u64, &[u8], &[u8])>
+    requires { IsFalse (is_one_line text.now) }
+    ensures blanks { IfSome result (λ r. IsAfterBlanks text.now (r.1.now ++ r.2.now)) }
+    ensures digits { IfSome result (λ r. SpellsNumber r.1.now r.0) }
+{
+    let (value, digits, rest) = leading_digits(after_all_blanks(text))?;
+    Some((value, digits, rest))
+}
+
+/// The same, after one blank or more.
+#[inline(always)]
+fn digits_ahead(text: &[u8]) -> Option<(u64, &[u8], &[u8])>
+    requires { IsFalse (is_one_line text.now) }
+    ensures gap { IfSome result (λ r. IsAfterGap text.now (r.1.now ++ r.2.now)) }
+    ensures digits { IfSome result (λ r. SpellsNumber r.1.now r.0) }
+{
+    let front = after_blank(text)?;
+    if let Some((value, digits, rest)) = leading_digits(front) {
+        return Some((value, digits, rest));
+    }
+    let (value, digits, rest) = later_digits(front)?;
+    Some((value, digits, rest))
 }
 
 /// Reads a number at the front of a text, after blanks. Returns the number and the text after it.
@@ -95,7 +140,7 @@ fn number_ahead(low: u64, high: u64, text: &[u8]) -> Option<(u64, &[u8])>
     ensures word { IfSome result (λ r. IsAhead (λ w. number_within low high w ≡ Some r.0) text.now r.1.now) }
     ensures ended { IfSome result (λ r. IsFalse (is_one_line r.1.now)) }
 {
-    let (digits, word, rest) = leading_digits(after_gap(text)?);
+    let (digits, word, rest) = digits_ahead(text)?;
     let value = spelled(digits, word, low, high)?;
     Some((value, rest))
 }
@@ -106,8 +151,8 @@ fn relative_front(reference: Option<u64>, text: &[u8]) -> Option<(u64, &[u8])>
     requires { IsFalse (is_one_line text.now) }
     ensures { IfSome result (λ r. IsFront (λ w. time_at reference w ≡ Ok r.0) text.now r.1.now) }
 {
-    let (seconds, digits, rest) = leading_digits(behind(text, b'+')?);
-    if digits.is_empty() || digits.len() > 12 {
+    let (seconds, digits, rest) = leading_digits(behind(text, b'+')?)?;
+    if digits.len() > 12 {
         return None;
     }
     let Ok(time) = after_reference(reference, seconds) else {
@@ -190,10 +235,11 @@ fn operands_ahead<'a>(
 }
 
 /// Returns the target of the addition that a line begins with, and the text after its name.
-fn target_ahead(line: &[u8]) -> Option<(Target, &[u8])>
+#[cold]
+#[inline(never)]
+fn any_target_ahead(line: &[u8]) -> Option<(Target, &[u8])>
     requires { IsFalse (is_one_line line.now) }
     ensures adds { IfSome result (λ r. AddsAhead r.0 line.now r.1.now) }
-    ensures ended { IfSome result (λ r. IsFalse (is_one_line r.1.now)) }
 {
     let name = after_gap(behind(after_blanks(line), b'a')?)?;
     if let Some(text) = name.strip_prefix(b"contact") {
@@ -201,6 +247,24 @@ fn target_ahead(line: &[u8]) -> Option<(Target, &[u8])>
     }
     let text = name.strip_prefix(b"range")?;
     Some((Target::Range, text))
+}
+
+/// The same. Most lines have no blanks but one space before each word.
+#[inline(always)]
+fn target_ahead(line: &[u8]) -> Option<(Target, &[u8])>
+    requires { IsFalse (is_one_line line.now) }
+    ensures { IfSome result (λ r. AddsAhead r.0 line.now r.1.now) }
+{
+    if line.len() > 8 {
+        let front = first_eight(line);
+        if front == A_CONTAC && line[8] == b't' {
+            return Some((Target::Contact, &line[9..]));
+        }
+        if front == A_RANGE {
+            return Some((Target::Range, &line[7..]));
+        }
+    }
+    any_target_ahead(line)
 }
 
 /// Returns the command of a text's first line, if it is an addition that is quick to read, and the text after the line's
