@@ -1,5 +1,5 @@
 -- A text of graphic words, each after blanks, has those words.
-use Rattle.std.proofs.Common.{◌≡◌, ◌≢◌, ℕ, ◌<◌, true, false, eqb, leb, List, [], ◌∷◌, ◌++◌, length, get_or, refl, sym, ap, ◌∙◌, arith, append_assoc, append-nil, length-append, not, ◌||◌, ◌&&◌}
+use Rattle.std.proofs.Common.{◌≡◌, ◌≢◌, ℕ, ◌<◌, true, false, eqb, leb, List, [], ◌∷◌, ◌++◌, length, get_or, refl, sym, ap, ◌∙◌, arith, append_assoc, append-nil, not, ◌||◌, ◌&&◌}
 use Rattle.std.specs.List.{All, list_all}
 use Rattle.std.proofs.lemmas.Bool.{and_parts, ne_eqb, false≢true}
 use Rattle.std.proofs.Math.Bool.{or-true}
@@ -98,15 +98,6 @@ still_ended front rest plain lf =
 
 pub ended_blanks : {text rest : List ℕ} → IsAfterBlanks text rest → is_one_line text ≡ false → is_one_line rest ≡ false
 ended_blanks {text} {rest} after lf = still_ended after.blanks rest (plain_blanks after.blanks after.blank) (rw after.parts at lf)
-
--- a blank and more blanks
-pub wider_gap : {text mid rest : List ℕ} → IsAfterGap text mid → IsAfterBlanks mid rest → IsAfterGap text rest
-wider_gap {text} {mid} {rest} gap more = record {
-  blanks = gap.blanks ++ more.blanks;
-  parts = gap.parts ∙ ap (λ r. gap.blanks ++ r) more.parts ∙ rw append_assoc refl;
-  some = lt-ltb 0 (length (gap.blanks ++ more.blanks)) (omega (arith, ltb-true 0 (length gap.blanks) gap.some, length-append gap.blanks more.blanks));
-  blank = rw (list_all-append is_blank gap.blanks more.blanks, gap.blank, more.blank) refl;
-}
 
 pub ended_gap : {text rest : List ℕ} → IsAfterGap text rest → is_one_line text ≡ false → is_one_line rest ≡ false
 ended_gap {text} {rest} gap lf = still_ended gap.blanks rest (plain_blanks gap.blanks gap.blank) (rw gap.parts at lf)

@@ -1,6 +1,6 @@
 //! The digits at the front of a text, read eight bytes at a time.
 
-ghost use Rattle.std.specs.Prelude.{◌≡◌, ℕ, List, ◌*◌, ◌%◌, ◌^◌, ◌-◌, ◌<◌, ◌≤◌, IfSome, length, take, nat_le};
+ghost use Rattle.std.specs.Prelude.{◌≡◌, ℕ, List, ◌*◌, ◌%◌, ◌^◌, ◌-◌, ◌<◌, ◌≤◌, length, take, nat_le};
 ghost use Rattle.core.specs.Dec2flt.Digits.{IsEightDigits};
 ghost use Rattle.core.specs.Int.Digits.{number_from_digits};
 ghost use Rattle.core.specs.Slice.Scan.{digits_from, flag_word};
@@ -51,24 +51,26 @@ fn value_of_eight(word: u64) -> u64
     first.wrapping_add(second) >> 32
 }
 
-/// Returns how many digits a text begins with, from 1 to 19, and the number that they stand for. It is kept apart, since
-/// most numbers are shorter than eight digits, and the text goes on.
+/// Returns how many digits a text begins with, and the number that they stand for. No digits if there are more than 19.
+/// It is kept apart, since most numbers are shorter than eight digits, and the text goes on.
 #[cold]
 #[inline(never)]
-fn count_any_digits(text: &[u8]) -> Option<(usize, u64)>
-    ensures { IfSome result (λ r. (r.0 ≤ length text.now) × SpellsNumber (take r.0 text.now) r.1) }
+fn count_any_digits(text: &[u8]) -> (usize, u64)
+    ensures range { result.0 ≤ length text.now }
+    ensures digits { 0 < result.0 → SpellsNumber (take result.0 text.now) result.1 }
 {
     let (count, value) = read_digits(text, 0, 0);
-    if count == 0 || count > 19 {
-        return None;
+    if count > 19 {
+        return (0, 0);
     }
-    Some((count, value))
+    (count, value)
 }
 
 /// The same.
 #[inline(always)]
-pub fn count_digits(text: &[u8]) -> Option<(usize, u64)>
-    ensures { IfSome result (λ r. (r.0 ≤ length text.now) × SpellsNumber (take r.0 text.now) r.1) }
+pub fn count_digits(text: &[u8]) -> (usize, u64)
+    ensures range { result.0 ≤ length text.now }
+    ensures digits { 0 < result.0 → SpellsNumber (take result.0 text.now) result.1 }
 {
     if text.len() < 8 {
         return count_any_digits(text);
@@ -79,8 +81,5 @@ pub fn count_digits(text: &[u8]) -> Option<(usize, u64)>
         return count_any_digits(text);
     }
     let count = others.trailing_zeros() / 8;
-    if count == 0 {
-        return None;
-    }
-    Some((count as usize, value_of_eight(keep_first(lanes, count))))
+    (count as usize, value_of_eight(keep_first(lanes, count)))
 }

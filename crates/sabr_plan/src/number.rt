@@ -60,7 +60,10 @@ pub fn leading_digits(text: &[u8]) -> Option<(u64, &[u8], &[u8])>
     ensures parts { IfSome result (λ r. text.now ≡ r.1.now ++ r.2.now) }
     ensures digits { IfSome result (λ r. SpellsNumber r.1.now r.0) }
 {
-    let (count, value) = count_digits(text)?;
+    let (count, value) = count_digits(text);
+    if count == 0 {
+        return None;
+    }
     let (digits, rest) = text.split_at(count);
     Some((value, digits, rest))
 }
@@ -73,18 +76,14 @@ fn starts_with_zero(word: &[u8], low: u64) -> bool
     word[0] == b'0' && (low > 0 || word.len() > 1)
 }
 
-/// Returns the number that digits spell, from `low` to `high`, if they stand for this value. None says nothing about
-/// them.
+/// Returns true only if digits that stand for this value spell a number from `low` to `high`.
 #[inline(always)]
-pub fn spelled(value: u64, word: &[u8], low: u64, high: u64) -> Option<u64>
+pub fn spell(word: &[u8], value: u64, low: u64, high: u64) -> bool
     requires { SpellsNumber word.now value }
-    ensures value { IfSome result (λ n. number_within low high word.now ≡ Some n) }
-    ensures range { IfSome result (λ n. (low ≤ n) × (n ≤ high)) }
+    ensures value { IsTrue result → number_within low high word.now ≡ Some value }
+    ensures range { IsTrue result → (low ≤ value) × (value ≤ high) }
 {
-    if starts_with_zero(word, low) || value < low || high < value {
-        return None;
-    }
-    Some(value)
+    !starts_with_zero(word, low) && low <= value && value <= high
 }
 
 /// Returns the number from `low` to `high` that the digits at the front of a text spell, those digits, and the text
@@ -97,6 +96,8 @@ pub fn leading_number(text: &[u8], low: u64, high: u64) -> Option<(u64, &[u8], &
     ensures range { IfSome result (λ r. (low ≤ r.0) × (r.0 ≤ high)) }
 {
     let (value, word, rest) = leading_digits(text)?;
-    let value = spelled(value, word, low, high)?;
+    if !spell(word, value, low, high) {
+        return None;
+    }
     Some((value, word, rest))
 }

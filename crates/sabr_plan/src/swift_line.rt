@@ -1,7 +1,6 @@
 //! A fast reader of additions, in one pass over a line. It says nothing about other lines.
 
-ghost use Rattle.std.specs.Prelude.{◌≡◌, ◌≢◌, ℕ, Option, ◌∷◌, ◌++◌, Ok, Some, IfSome, IsTrue, IsFalse};
-ghost use Rattle.sabr_plan.specs.Digits.{SpellsNumber};
+ghost use Rattle.std.specs.Prelude.{◌≡◌, ◌≢◌, ℕ, Option, ◌∷◌, Ok, Some, IfSome, IsTrue, IsFalse};
 ghost use Rattle.sabr_plan.specs.Numbers.{number_within};
 ghost use Rattle.sabr_plan.specs.PlainWords.{is_plain_from_blank, IsAfterBlanks, IsAfterGap, IsFront, IsAhead, BeginsWithLine, AddsAhead};
 ghost use Rattle.sabr_plan.specs.Operands.{time_at, greatest_value};
@@ -12,7 +11,7 @@ ghost use Rattle.sabr_plan.specs.declared.command.Command.TheVariants.{Add};
 use crate::command::{Addition, Command, Target};
 use crate::eight_digits::first_eight;
 use crate::known_day::KnownDay;
-use crate::number::{leading_digits, spelled};
+use crate::number::{leading_digits, spell};
 use crate::operand::{after_reference, greatest_value};
 use crate::words::is_blank;
 
@@ -83,19 +82,6 @@ fn after_end(text: &[u8]) -> Option<&[u8]>
     Some(&end[1..])
 }
 
-/// Returns what comes after the first byte of a text, if it is a blank.
-#[inline(always)]
-fn after_blank(text: &[u8]) -> Option<&[u8]>
-    requires { IsFalse (is_one_line text.now) }
-    ensures gap { IfSome result (λ r. IsAfterGap text.now r.now) }
-    ensures ended { IfSome result (λ r. IsFalse (is_one_line r.now)) }
-{
-    if !is_blank(text[0]) {
-        return None;
-    }
-    Some(&text[1..])
-}
-
 /// Returns what comes after the blanks at the front of a text, if there is one.
 #[inline(always)]
 fn after_gap(text: &[u8]) -> Option<&[u8]>
@@ -103,34 +89,10 @@ fn after_gap(text: &[u8]) -> Option<&[u8]>
     ensures gap { IfSome result (λ r. IsAfterGap text.now r.now) }
     ensures ended { IfSome result (λ r. IsFalse (is_one_line r.now)) }
 {
-    Some(after_blanks(after_blank(text)?))
-}
-
-/// Returns the number that digits after blanks stand for, those digits, and the text after them.
-#[cold]
-#[inline(never)]
-fn later_digits(text: &[u8]) -> Option<(u64, &[u8], &[u8])>
-    requires { IsFalse (is_one_line text.now) }
-    ensures blanks { IfSome result (λ r. IsAfterBlanks text.now (r.1.now ++ r.2.now)) }
-    ensures digits { IfSome result (λ r. SpellsNumber r.1.now r.0) }
-{
-    let (value, digits, rest) = leading_digits(after_all_blanks(text))?;
-    Some((value, digits, rest))
-}
-
-/// The same, after one blank or more.
-#[inline(always)]
-fn digits_ahead(text: &[u8]) -> Option<(u64, &[u8], &[u8])>
-    requires { IsFalse (is_one_line text.now) }
-    ensures gap { IfSome result (λ r. IsAfterGap text.now (r.1.now ++ r.2.now)) }
-    ensures digits { IfSome result (λ r. SpellsNumber r.1.now r.0) }
-{
-    let front = after_blank(text)?;
-    if let Some((value, digits, rest)) = leading_digits(front) {
-        return Some((value, digits, rest));
+    if !is_blank(text[0]) {
+        return None;
     }
-    let (value, digits, rest) = later_digits(front)?;
-    Some((value, digits, rest))
+    Some(after_blanks(&text[1..]))
 }
 
 /// Reads a number at the front of a text, after blanks. Returns the number and the text after it.
@@ -140,8 +102,10 @@ fn number_ahead(low: u64, high: u64, text: &[u8]) -> Option<(u64, &[u8])>
     ensures word { IfSome result (λ r. IsAhead (λ w. number_within low high w ≡ Some r.0) text.now r.1.now) }
     ensures ended { IfSome result (λ r. IsFalse (is_one_line r.1.now)) }
 {
-    let (digits, word, rest) = digits_ahead(text)?;
-    let value = spelled(digits, word, low, high)?;
+    let (value, word, rest) = leading_digits(after_gap(text)?)?;
+    if !spell(word, value, low, high) {
+        return None;
+    }
     Some((value, rest))
 }
 

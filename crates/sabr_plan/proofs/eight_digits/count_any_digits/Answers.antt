@@ -20,4 +20,7 @@ returns c =
     let all : list_all is_digit front ≡ true = numerals.from front told in
     let long = length-take count text in
     let small = few_digits front all (omega (arith, long, c.if-count-gt19.false)) in
-    (r.within, record { some = omega (arith, long, c.if-count-eq0.false, r.within); few = omega (arith, long, c.if-count-gt19.false); digits = all; stands = omega (arith, r.value, same, small, numerals.same front told) })
+    record {
+      range = r.within;
+      digits = λ some. record { some = omega (arith, long, some, r.within); few = omega (arith, long, c.if-count-gt19.false); digits = all; stands = omega (arith, r.value, same, small, numerals.same front told) };
+    }

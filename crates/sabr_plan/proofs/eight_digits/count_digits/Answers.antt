@@ -19,12 +19,13 @@ returns c =
     let value = c.value_of_eight.ensures shifted.0 shifted.1 shifted.2 ∙ shifted.3 in
     let told = AllDigits-digits_len front _ (omega (arith, first.0)) in
     let same = take-take _ 8 text (omega (arith, first.1)) in
-    let long = length-take (count_trailing_zeros 64 c.flags_from_ten-others.result / 8) text in (
-      omega (arith, first.1, c.if-text-lt8.false),
-      record {
-        some = omega (arith, long, first.1, c.if-text-lt8.false, c.if-count-eq0.false);
+    let long = length-take (count_trailing_zeros 64 c.flags_from_ten-others.result / 8) text in
+    record {
+      range = omega (arith, first.1, c.if-text-lt8.false);
+      digits = λ some. record {
+        some = omega (arith, long, first.1, c.if-text-lt8.false, some);
         few = omega (arith, long, first.1);
         digits = sym (ap (list_all is_digit) same) ∙ numerals.from _ told;
         stands = value ∙ sym (numerals.same _ told) ∙ ap digits_value same;
-      },
-    )
+      };
+    }
