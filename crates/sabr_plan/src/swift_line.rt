@@ -9,7 +9,6 @@ ghost use Rattle.sabr_plan.specs.Words.{is_one_line, words_of};
 ghost use Rattle.sabr_plan.specs.declared.command.Command.TheVariants.{Add};
 
 use crate::command::{Addition, Command, Target};
-use crate::eight_digits::first_eight;
 use crate::known_day::KnownDay;
 use crate::number::{leading_digits, spell};
 use crate::operand::{after_reference, greatest_value};
@@ -17,12 +16,6 @@ use crate::words::is_blank;
 
 /// The bytes of an absolute time.
 const TIME_BYTES: usize = 19;
-
-/// `a contac`, as `first_eight` reads it.
-const A_CONTAC: u64 = 0x6361_746e_6f63_2061;
-
-/// `a range `, as `first_eight` reads it.
-const A_RANGE: u64 = 0x2065_676e_6172_2061;
 
 /// Returns what comes after a byte, if a text begins with it.
 #[inline(always)]
@@ -219,14 +212,11 @@ fn target_ahead(line: &[u8]) -> Option<(Target, &[u8])>
     requires { IsFalse (is_one_line line.now) }
     ensures { IfSome result (λ r. AddsAhead r.0 line.now r.1.now) }
 {
-    if line.len() > 8 {
-        let front = first_eight(line);
-        if front == A_CONTAC && line[8] == b't' {
-            return Some((Target::Contact, &line[9..]));
-        }
-        if front == A_RANGE {
-            return Some((Target::Range, &line[7..]));
-        }
+    if let Some(text) = line.strip_prefix(b"a contact") {
+        return Some((Target::Contact, text));
+    }
+    if let Some(text) = line.strip_prefix(b"a range") {
+        return Some((Target::Range, text));
     }
     any_target_ahead(line)
 }
