@@ -10,7 +10,7 @@ use Rattle.sabr_plan.specs.declared.fault.PlanKind.TheVariants as kind
 use Rattle.sabr_plan.specs.Words.{is_one_line}
 use Rattle.sabr_plan.specs.Leaving.{Leaves}
 use Rattle.sabr_plan.specs.Feeding.{Fed, EndsLine}
-use Rattle.sabr_plan.specs.Reading.{Reading, most_line_bytes, most_lines, judged, at_line, limited, broken_line}
+use Rattle.sabr_plan.specs.Reading.{Reading, most_line_bytes, most_lines, judged, limited, broken_line}
 
 pub one_line-append : (a b : List ℕ) → is_one_line a ≡ true → is_one_line b ≡ true → is_one_line (a ++ b) ≡ true
 one_line-append a b h k = rw (list_all-append (λ x. not (eqb x 10)) a b, h, k) refl
@@ -61,9 +61,8 @@ module _ (s new : Fed) (line : List ℕ) (none : s.held ≡ []) (few : s.lines <
   one : is_one_line s.held ≡ true
   one = rw none refl
 
-  pub known_refused : {U : Type 0} (k : PlanKind) → (k ≡ kind.NoMemory) ⊎ (judged s.reading line ≡ Err k) → EndsLine {U = U} s line (Err (record { line = s.lines + 1; kind = k })) new
-  known_refused k (inl memory) = record { value = inl memory; rest = tt; fits = tt; one = one }
-  known_refused k (inr e) = record { value = inr (ap (at_line (s.lines + 1)) (told ∙ e)); rest = tt; fits = tt; one = one }
+  pub known_refused : {U : Type 0} (k : PlanKind) → (k ≡ kind.NoMemory) ⊎ (judged s.reading line ≡ Err k) → new.lines ≡ s.lines → EndsLine {U = U} s line (Err k) new
+  known_refused k is lines = record { value = rw told is; refused = lines; rest = tt; fits = tt; one = one }
 
   pub known_read : {U : Type 0} (x : U) → judged s.reading line ≡ Ok new.reading → new.lines ≡ s.lines + 1 → new.held ≡ [] → EndsLine s line (Ok x) new
-  known_read x e lines held = record { value = ap (at_line (s.lines + 1)) (told ∙ e); rest = (lines, held); fits = omega (arith, ap length none, short); one = one }
+  known_read x e lines held = record { value = told ∙ e; refused = tt; rest = (lines, held); fits = omega (arith, ap length none, short); one = one }

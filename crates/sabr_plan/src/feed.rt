@@ -102,7 +102,9 @@ impl<A: Allocator + Copy> PlanFeed<A> {
         let mut rest = lines;
         while !rest.is_empty() {
             let (_, behind, ended) = self.feed_line(rest);
-            ended?;
+            if let Err(kind) = ended {
+                return Err(self.fault(kind));
+            }
             rest = behind;
         }
         self.hold(tail)
@@ -110,7 +112,7 @@ impl<A: Allocator + Copy> PlanFeed<A> {
 
     /// Ends the first line of a text. Returns the line, the text after its LF, and whether the line was read.
     #[inline(always)]
-    fn feed_line<'a>(&mut self, text: &'a [u8]) -> (&'a [u8], &'a [u8], Result<(), PlanFault>)
+    fn feed_line<'a>(&mut self, text: &'a [u8]) -> (&'a [u8], &'a [u8], Result<(), PlanKind>)
         requires { IsFalse (is_one_line text.now) }
         ensures parts { text.now ≡ result.0.now ++ 10 ∷ result.1.now }
         ensures line { IsTrue (is_one_line result.0.now) }
@@ -133,13 +135,10 @@ impl<A: Allocator + Copy> PlanFeed<A> {
         ensures { Answers (outcome self [] true) result }
     {
         self.end_text()?;
-        let line = self.lines + 1;
+        let fault = self.fault(PlanKind::NoMemory);
         match self.into_plan() {
             Ok(plan) => Ok(plan),
-            Err(NoMemory) => Err(PlanFault {
-                line,
-                kind: PlanKind::NoMemory,
-            }),
+            Err(NoMemory) => Err(fault),
         }
     }
 
@@ -149,10 +148,12 @@ impl<A: Allocator + Copy> PlanFeed<A> {
         ensures held { IsTrue (is_one_line self.old.held) }
     {
         if self.held.is_empty() {
-            Ok(())
-        } else {
-            self.end_line(b"")
+            return Ok(());
         }
+        if let Err(kind) = self.end_line(b"") {
+            return Err(self.fault(kind));
+        }
+        Ok(())
     }
 
     /// Returns the plan that the lines make.
@@ -178,27 +179,37 @@ impl<A: Allocator + Copy> PlanFeed<A> {
         }
     }
 
+    /// Returns the fault of this kind in the line after those that have ended.
+    fn fault(&self, kind: PlanKind) -> PlanFault
+        ensures { result ≡ record { line = self.now.lines + 1; kind = kind } }
+    {
+        PlanFault {
+            line: self.lines + 1,
+            kind,
+        }
+    }
+
     /// Ends the line that goes on with these bytes.
     #[cold]
     #[inline(never)]
-    fn end_line(&mut self, back: &[u8]) -> Result<(), PlanFault>
+    fn end_line(&mut self, back: &[u8]) -> Result<(), PlanKind>
         requires { IsTrue (is_one_line back.now) }
         ensures { EndsLine self.old back.now result self.new }
     {
-        let line = self.lines + 1;
+        let lines = self.lines + 1;
         match self.judge_line(back) {
             Ok(()) => {
-                self.lines = line;
+                self.lines = lines;
                 self.held.clear();
                 Ok(())
             }
-            Err(kind) => Err(PlanFault { line, kind }),
+            Err(kind) => Err(kind),
         }
     }
 
     /// Ends this line, whose command is known. Nothing else is held.
     #[inline(always)]
-    fn end_known_line(&mut self, line: &[u8], command: Command) -> Result<(), PlanFault>
+    fn end_known_line(&mut self, line: &[u8], command: Command) -> Result<(), PlanKind>
         requires line { IsTrue (is_one_line line.now) }
         requires held { self.old.held ≡ [] }
         requires known { line_command self.old.reading.reference line.now ≡ Ok command }
@@ -207,11 +218,10 @@ impl<A: Allocator + Copy> PlanFeed<A> {
         if self.lines >= MOST_LINES || line.len() > MOST_LINE_BYTES {
             return self.end_line(line);
         }
-        let number = self.lines + 1;
         if let Err(kind) = self.reading.judge_known(line, command) {
-            return Err(PlanFault { line: number, kind });
+            return Err(kind);
         }
-        self.lines = number;
+        self.lines += 1;
         Ok(())
     }
 
@@ -252,21 +262,15 @@ impl<A: Allocator + Copy> PlanFeed<A> {
         ensures held { IsTrue (is_one_line self.old.held) }
         ensures err { IfErr result (λ f. (f ≡ broken_line (self.old.lines + 1) (self.old.held ++ bytes.now)) × (f.kind ≢ kind.Read)) }
     {
-        let line = self.lines + 1;
+        let full = self.lines >= MOST_LINES;
         if bytes.is_empty() {
             return Ok(());
         }
-        if self.lines >= MOST_LINES {
-            return Err(PlanFault {
-                line,
-                kind: PlanKind::TooMany,
-            });
+        if full {
+            return Err(self.fault(PlanKind::TooMany));
         }
         if bytes.len() > MOST_LINE_BYTES - self.held.len() {
-            return Err(PlanFault {
-                line,
-                kind: PlanKind::LineTooLong,
-            });
+            return Err(self.fault(PlanKind::LineTooLong));
         }
         self.append(bytes);
         Ok(())

@@ -2,7 +2,6 @@
 use Rattle.std.proofs.Common.{◌≡◌, ℕ, Bool, List, ◌++◌, length, subst, arith}
 use Rattle.std.proofs.lemmas.Bool.Decides.{nat_tests}
 use Rattle.std.proofs.lemmas.List.{nil_from_length}
-use Rattle.std.proofs.lemmas.Result.{err_from_is_err_and}
 use Rattle.sabr_plan.specs.Feeding.{Fed, outcome}
 use Rattle.sabr_plan.proofs.Lines.{still_lf_at_end}
 use Rattle.sabr_plan.proofs.Feeds.{parted_on, line_refused, line_read, line_grows, rest_held}
@@ -11,21 +10,20 @@ use Rattle.sabr_plan.proofs.feed.PlanFeed.feed.Goals as goal
 only_tail : (first s : Fed) (piece rest tail : List ℕ) → length rest ≡ 0 → ((more : List ℕ) (ended : Bool) → outcome first (piece ++ more) ended ≡ outcome s ((rest ++ tail) ++ more) ended) → (more : List ℕ) (ended : Bool) → outcome first (piece ++ more) ended ≡ outcome s (tail ++ more) ended
 only_tail first s piece rest tail none same = subst (λ t. (more : List ℕ) (ended : Bool) → outcome first (piece ++ more) ended ≡ outcome s ((t ++ tail) ++ more) ended) (nil_from_length rest none) same
 
-pub returns-in_err-ended-clause-fed : goal.returns-in_err-ended-clause-fed
-returns-in_err-ended-clause-fed g c =
-    let p = err_from_is_err_and c.from_residual.result c.from_residual.ensures.1 in
+pub returns-in-Err-clause-fed : goal.returns-in-Err-clause-fed
+returns-in-Err-clause-fed g c =
     let h = c.feed_line-ended.ensures in
-    let e = rw (c.in_err-ended.was {u = tt}) at h.ended in
+    let e = rw c.in-Err.is at h.ended in
     let rest = c.loop-rest.rest.now in
     let tail = c.ended_lines.result.1.now in
     let line = c.feed_line-ended.result.0.now in
     let behind = c.feed_line-ended.result.1.now in
-    rw (p.1, p.2) (line_refused c.args.self.now c.args.piece.now c.loop-rest.self (rest ++ tail) c.loop-rest.invariant.same e.one line (behind ++ tail) h.line (parted_on rest line behind tail h.parts) c.in_err-ended.field-0.0 e.value)
+    rw (c.fault.ensures, e.refused) (line_refused c.args.self.now c.args.piece.now c.loop-rest.self (rest ++ tail) c.loop-rest.invariant.same e.one line (behind ++ tail) h.line (parted_on rest line behind tail h.parts) c.in-Err.kind e.value)
 
 pub loop-rest-preserved : goal.loop-rest-preserved
 loop-rest-preserved g c =
     let h = c.feed_line-ended.ensures in
-    let e = rw (c.in_ok-ended.was {u = tt}) at h.ended in
+    let e = rw c.in_default.is at h.ended in
     let rest = c.loop-rest.rest.now in
     let tail = c.ended_lines.result.1.now in
     let line = c.feed_line-ended.result.0.now in
