@@ -47,6 +47,7 @@ impl<A: Allocator + Copy> GatheredContacts<A> {
 
     /// Adds a contact, as `Plan::add_contact` does, and returns its number: nodes, times in seconds, rate in bytes per
     /// second, and the same refusals. It takes one step.
+    #[inline(always)]
     pub fn add(
         &mut self,
         from: u64,
@@ -75,6 +76,8 @@ impl<A: Allocator + Copy> GatheredContacts<A> {
     }
 
     /// Returns why a contact is refused, or none if it isn't.
+    #[cold]
+    #[inline(never)]
     fn fault(&self, from: u64, to: u64, start: u64, end: u64) -> AddFault
         ensures { result ≡ unwrap_or (contact_refusal self.now from to start end) NoMemory }
     {
@@ -91,6 +94,7 @@ impl<A: Allocator + Copy> GatheredContacts<A> {
     }
 
     /// Adds a contact that is refused only if it is a duplicate.
+    #[inline(always)]
     fn put(&mut self, from: u64, to: u64, start: u64, end: u64, rate: u64) -> Result<u32, AddFault>
         requires from { 0 < from }
         requires to { 0 < to }

@@ -45,6 +45,7 @@ impl<A: Allocator + Copy> KnownOpenings<A> {
 
     /// Notes the opening of a contact that is to stand after these. Returns false if one of them has it, and None if
     /// out of memory.
+    #[inline(always)]
     pub fn note(&mut self, contacts: &[Contact], opening: Opening) -> Option<bool>
         requires { KnowsSome self.old.set.keys self.old.rising self.old.last contacts.now }
         ensures { IsNoted contacts.now opening result self.new.set.keys self.new.rising self.new.last }
@@ -53,6 +54,16 @@ impl<A: Allocator + Copy> KnownOpenings<A> {
             self.last = opening;
             return Some(true);
         }
+        self.note_in_set(contacts, opening)
+    }
+
+    /// The same, if it may not be the last.
+    #[cold]
+    #[inline(never)]
+    fn note_in_set(&mut self, contacts: &[Contact], opening: Opening) -> Option<bool>
+        requires { KnowsFirst self.old.set.keys contacts.now }
+        ensures { IsNoted contacts.now opening result self.new.set.keys self.new.rising self.new.last }
+    {
         self.rising = false;
         if !note_all(&mut self.set, contacts) {
             return None;

@@ -1,10 +1,11 @@
 -- Pieces of a text, fed one after the other.
 use Rattle.std.proofs.Common.{◌≡◌, ◌≢◌, ℕ, ◌+◌, ◌≤◌, ◌⊎◌, inl, inr, Bool, true, List, [], ◌∷◌, ◌++◌, length, append_assoc, refl, sym, ap, ◌∙◌, arith, Result, Ok, Err, OnOk, IfErr, length-append}
 use Rattle.sabr_plan.specs.declared.fault.PlanFault.{PlanFault}
+use Rattle.sabr_plan.specs.declared.fault.PlanKind.{PlanKind}
 use Rattle.sabr_plan.specs.declared.fault.PlanKind.TheVariants as kind
 use Rattle.sabr_plan.specs.Steps.{and_then}
 use Rattle.sabr_plan.specs.Words.{is_one_line}
-use Rattle.sabr_plan.specs.Reading.{most_line_bytes, read_line, broken_line}
+use Rattle.sabr_plan.specs.Reading.{most_line_bytes, limited, read_line, broken_line}
 use Rattle.sabr_plan.specs.Feeding.{Fed, outcome, IsFed, weight}
 use Rattle.sabr_plan.proofs.Outcomes.{outcome-line, outcome-held, outcome-refused}
 
@@ -19,12 +20,12 @@ module _ (first : Fed) (piece : List ℕ) (s : Fed) (rest : List ℕ) (same : (m
     line_ends more ended = same more ended ∙ ap (λ t. outcome s (t ++ more) ended) parted ∙ outcome-line s front back more ended held one
 
     -- it is refused
-    pub line_refused : (f : PlanFault) → (f.kind ≡ kind.NoMemory) ⊎ (read_line (s.lines + 1) s.reading (s.held ++ front) ≡ Err f) → (f.kind ≡ kind.NoMemory) ⊎ ((more : List ℕ) (ended : Bool) → outcome first (piece ++ more) ended ≡ Err f)
-    line_refused f (inl memory) = inl memory
-    line_refused f (inr e) = inr (λ more ended. line_ends more ended ∙ rw e refl)
+    pub line_refused : (k : PlanKind) → (k ≡ kind.NoMemory) ⊎ (limited (s.lines + 1) s.reading (s.held ++ front) ≡ Err k) → (k ≡ kind.NoMemory) ⊎ ((more : List ℕ) (ended : Bool) → outcome first (piece ++ more) ended ≡ Err (record { line = s.lines + 1; kind = k }))
+    line_refused k (inl memory) = inl memory
+    line_refused k (inr e) = inr (λ more ended. line_ends more ended ∙ rw e refl)
 
     -- or read
-    pub line_read : (new : Fed) → read_line (s.lines + 1) s.reading (s.held ++ front) ≡ Ok new.reading → new.lines ≡ s.lines + 1 → new.held ≡ [] → (more : List ℕ) (ended : Bool) → outcome first (piece ++ more) ended ≡ outcome new (back ++ more) ended
+    pub line_read : (new : Fed) → limited (s.lines + 1) s.reading (s.held ++ front) ≡ Ok new.reading → new.lines ≡ s.lines + 1 → new.held ≡ [] → (more : List ℕ) (ended : Bool) → outcome first (piece ++ more) ended ≡ outcome new (back ++ more) ended
     line_read new e lines none more ended =
         let made : ◌≡◌ {A = Fed} (record { lines = s.lines + 1; reading = new.reading; held = [] }) new = rw (← lines, ← none) refl in
         line_ends more ended ∙ rw e (ap (λ t. outcome t (back ++ more) ended) made)

@@ -1,5 +1,5 @@
 -- The bytes of a line that are held, and where a line ends.
-use Rattle.std.proofs.Common.{◌≡◌, ℕ, suc, ◌+◌, ◌*◌, ◌-◌, ◌<◌, ◌≤◌, true, false, Result, ◌&&◌, not, eqb, ltb, List, [], ◌∷◌, ◌++◌, length, take, get_or, refl, sym, ap, ◌∙◌, arith, inl, inr, length-take, get_or-take}
+use Rattle.std.proofs.Common.{◌≡◌, ℕ, suc, ◌+◌, ◌*◌, ◌-◌, ◌<◌, ◌≤◌, true, false, Result, Ok, Err, ◌⊎◌, ◌&&◌, not, eqb, ltb, List, [], ◌∷◌, ◌++◌, length, take, get_or, refl, sym, ap, ◌∙◌, arith, inl, inr, length-take, get_or-take}
 use Rattle.std.proofs.lemmas.Bool.{cases_lt}
 use Rattle.std.proofs.lemmas.List.Folds.{list_all-append}
 use Rattle.std.proofs.Math.Bool.{and-false}
@@ -9,7 +9,7 @@ use Rattle.sabr_plan.specs.declared.fault.PlanKind.{PlanKind}
 use Rattle.sabr_plan.specs.declared.fault.PlanKind.TheVariants as kind
 use Rattle.sabr_plan.specs.Words.{is_one_line}
 use Rattle.sabr_plan.specs.Leaving.{Leaves}
-use Rattle.sabr_plan.specs.Feeding.{Fed}
+use Rattle.sabr_plan.specs.Feeding.{Fed, EndsLine}
 use Rattle.sabr_plan.specs.Reading.{Reading, most_line_bytes, most_lines, judged, limited, broken_line}
 
 pub one_line-append : (a b : List ℕ) → is_one_line a ≡ true → is_one_line b ≡ true → is_one_line (a ++ b) ≡ true
@@ -52,3 +52,17 @@ held_judged s new back r after e few short is =
     let held : new.held ≡ s.held ++ back = ap (λ (s : Fed). s.held) e in
     let reading : new.reading ≡ s.reading = ap (λ (s : Fed). s.reading) e in
     rw (limited-judged (s.lines + 1) s.reading (s.held ++ back) (omega arith) (rw held at short)) (rw (reading, held) at is)
+
+-- a line within the limits that is all there is, as it was judged
+module _ (s new : Fed) (line : List ℕ) (none : s.held ≡ []) (few : s.lines < most_lines) (short : length line ≤ most_line_bytes) where
+  told : limited (s.lines + 1) s.reading (s.held ++ line) ≡ judged s.reading line
+  told = rw none (limited-judged (s.lines + 1) s.reading line (omega (arith, few)) short)
+
+  one : is_one_line s.held ≡ true
+  one = rw none refl
+
+  pub known_refused : {U : Type 0} (k : PlanKind) → (k ≡ kind.NoMemory) ⊎ (judged s.reading line ≡ Err k) → new.lines ≡ s.lines → EndsLine {U = U} s line (Err k) new
+  known_refused k is lines = record { value = rw told is; refused = lines; rest = tt; fits = tt; one = one }
+
+  pub known_read : {U : Type 0} (x : U) → judged s.reading line ≡ Ok new.reading → new.lines ≡ s.lines + 1 → new.held ≡ [] → EndsLine s line (Ok x) new
+  known_read x e lines held = record { value = told ∙ e; refused = tt; rest = (lines, held); fits = omega (arith, ap length none, short); one = one }

@@ -6,7 +6,7 @@ use Rattle.std.proofs.Math.Bool.{or-true}
 use Rattle.std.proofs.lemmas.List.Folds.{list_all-append}
 use Rattle.std.proofs.lemmas.List.Sums.{AllPass-from_list_all}
 use borrow.Author.Tests.{leb-true, le-leb, ltb-true, lt-ltb, eqb-true}
-use Rattle.sabr_plan.specs.Digits.{is_digit}
+use Rattle.sabr_plan.specs.Digits.{is_digit, SpellsNumber}
 use Rattle.sabr_plan.specs.Words.{is_blank, is_plain, is_comment, has_bytes, is_one_line, words_of}
 use Rattle.sabr_plan.specs.PlainWords.{is_graphic, is_graphic_word, is_plain_from_blank, IsAfterBlanks, IsAfterGap, IsFront, IsAhead}
 use Rattle.sabr_plan.proofs.FirstWords.{first_is, words_of-blank, words_of-nil}
@@ -45,8 +45,8 @@ pub graphic_digits : (w : List ℕ) → list_all is_digit w ≡ true → list_al
 graphic_digits [] h = refl
 graphic_digits (b ∷ w) h = let p = and_parts (is_digit b) (list_all is_digit w) h in rw (graphic_digit b p.0, graphic_digits w p.1) refl
 
-pub graphic_number : (w : List ℕ) → 0 < length w → list_all is_digit w ≡ true → is_graphic_word w ≡ true
-graphic_number w some all = rw (lt-ltb 0 (length w) some, graphic_digits w all) refl
+pub graphic_number : {w : List ℕ} {n : ℕ} → SpellsNumber w n → is_graphic_word w ≡ true
+graphic_number {w} {n} is = rw (lt-ltb 0 (length w) is.some, graphic_digits w is.digits) refl
 
 pub graphic_behind : (b : ℕ) (w : List ℕ) → is_graphic b ≡ true → list_all is_graphic w ≡ true → is_graphic_word (b ∷ w) ≡ true
 graphic_behind b w one all = rw (lt-ltb 0 (length (b ∷ w)) (omega arith), one, all) refl

@@ -1,5 +1,5 @@
 -- Numbers as decimal digits.
-use Rattle.std.specs.Prelude.{ℕ, ◌+◌, ◌-◌, ◌*◌, ◌==◌, nat_lt, nat_le, ◌&&◌, Bool, List, length, slice_index, fold}
+use Rattle.std.specs.Prelude.{◌≡◌, ℕ, ◌+◌, ◌-◌, ◌*◌, ◌<◌, ◌≤◌, ◌==◌, nat_lt, nat_le, ◌&&◌, Bool, IsTrue, List, length, slice_index, fold}
 use Rattle.std.specs.List.{list_all}
 
 -- whether a byte is a digit
@@ -13,6 +13,13 @@ are_digits word = nat_lt 0 (length word) && list_all is_digit word
 -- the number that digits stand for
 unfoldable pub digits_value : List ℕ → ℕ
 digits_value word = fold (λ n b. n * 10 + (b - 48)) 0 word
+
+-- from one to nineteen digits, which stand for this number
+pub record SpellsNumber (word : List ℕ) (value : ℕ) : Type 0 where
+  pub some : 0 < length word
+  pub few : length word ≤ 19
+  pub digits : IsTrue (list_all is_digit word)
+  pub stands : value ≡ digits_value word
 
 -- whether there is more than one digit, and the first is `0`
 abbrev pub leads_with_zero : List ℕ → Bool

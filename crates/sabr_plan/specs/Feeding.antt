@@ -1,10 +1,12 @@
 -- A plan text that is read in pieces: what was read so far, and what comes of the text.
-use Rattle.std.specs.Prelude.{◌≡◌, ℕ, ◌+◌, ◌*◌, Bool, List, [], ◌++◌, length, Result, Ok, Err, ◌⊎◌}
+use Rattle.std.specs.Prelude.{◌≡◌, ℕ, ◌+◌, ◌*◌, Bool, List, [], ◌++◌, length, ◌≤◌, IsTrue, OnOk, OnErr, Result, Ok, Err, ◌⊎◌}
 use Rattle.sabr_model.specs.plan.Plan.{ContactPlan, TabledPlan}
 use Rattle.sabr_plan.specs.Steps.{and_then}
-use Rattle.sabr_plan.specs.Words.{lines_of}
-use Rattle.sabr_plan.specs.Reading.{Reading, most_lines, nothing_read, read_lines, last_line}
+use Rattle.sabr_plan.specs.Words.{lines_of, is_one_line}
+use Rattle.sabr_plan.specs.Leaving.{Leaves}
+use Rattle.sabr_plan.specs.Reading.{Reading, most_lines, most_line_bytes, nothing_read, limited, read_lines, last_line}
 use Rattle.sabr_plan.specs.declared.fault.PlanFault.{PlanFault}
+use Rattle.sabr_plan.specs.declared.fault.PlanKind.{PlanKind}
 use Rattle.sabr_plan.specs.declared.fault.PlanKind.TheVariants.{NoMemory}
 
 -- how many lines LF has ended, what they leave, and the bytes of the line after them
@@ -27,6 +29,14 @@ outcome s bytes ended =
 abbrev pub IsFed : {U : Type 0} → Fed → List ℕ → Result U PlanFault → Fed → Type 0
 IsFed old piece (Ok _) new = (more : List ℕ) (ended : Bool) → outcome old (piece ++ more) ended ≡ outcome new more ended
 IsFed old piece (Err f) new = (f.kind ≡ NoMemory) ⊎ ((more : List ℕ) (ended : Bool) → outcome old (piece ++ more) ended ≡ Err f)
+
+-- the line that goes on with these bytes was ended, or refused
+pub record EndsLine {U : Type 0} (old : Fed) (back : List ℕ) (r : Result U PlanKind) (new : Fed) : Type 0 where
+  pub value : Leaves (limited (old.lines + 1) old.reading (old.held ++ back)) r new.reading
+  pub refused : OnErr r (new.lines ≡ old.lines)
+  pub rest : OnOk r ((new.lines ≡ old.lines + 1) × (new.held ≡ []))
+  pub fits : OnOk r (length old.held + length back ≤ most_line_bytes)
+  pub one : IsTrue (is_one_line old.held)
 
 -- it grows with each byte
 abbrev pub weight : Fed → ℕ

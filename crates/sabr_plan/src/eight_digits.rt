@@ -1,11 +1,10 @@
 //! The digits at the front of a text, read eight bytes at a time.
 
-ghost use Rattle.std.specs.Prelude.{◌≡◌, ℕ, List, ◌*◌, ◌%◌, ◌^◌, ◌-◌, ◌<◌, ◌≤◌, IsTrue, length, take, nat_le};
-ghost use Rattle.std.specs.List.{list_all};
+ghost use Rattle.std.specs.Prelude.{◌≡◌, ℕ, List, ◌*◌, ◌%◌, ◌^◌, ◌-◌, ◌<◌, ◌≤◌, length, take, nat_le};
 ghost use Rattle.core.specs.Dec2flt.Digits.{IsEightDigits};
 ghost use Rattle.core.specs.Int.Digits.{number_from_digits};
 ghost use Rattle.core.specs.Slice.Scan.{digits_from, flag_word};
-ghost use Rattle.sabr_plan.specs.Digits.{is_digit, digits_value};
+ghost use Rattle.sabr_plan.specs.Digits.{SpellsNumber};
 ghost use lib.Lanes.{number_l};
 
 use core::dec2flt::read_digits;
@@ -52,24 +51,26 @@ fn value_of_eight(word: u64) -> u64
     first.wrapping_add(second) >> 32
 }
 
-/// Returns how many digits a text begins with, and the number that they stand for if they are at most 19. It is kept
-/// apart, since most numbers are shorter than eight digits, and the text goes on.
+/// Returns how many digits a text begins with, and the number that they stand for. No digits if there are more than 19.
+/// It is kept apart, since most numbers are shorter than eight digits, and the text goes on.
 #[cold]
 #[inline(never)]
 fn count_any_digits(text: &[u8]) -> (usize, u64)
     ensures range { result.0 ≤ length text.now }
-    ensures value { result.0 ≤ 19 → result.1 ≡ digits_value (take result.0 text.now) }
-    ensures digits { IsTrue (list_all is_digit (take result.0 text.now)) }
+    ensures digits { 0 < result.0 → SpellsNumber (take result.0 text.now) result.1 }
 {
-    read_digits(text, 0, 0)
+    let (count, value) = read_digits(text, 0, 0);
+    if count > 19 {
+        return (0, 0);
+    }
+    (count, value)
 }
 
 /// The same.
 #[inline(always)]
 pub fn count_digits(text: &[u8]) -> (usize, u64)
     ensures range { result.0 ≤ length text.now }
-    ensures value { result.0 ≤ 19 → result.1 ≡ digits_value (take result.0 text.now) }
-    ensures digits { IsTrue (list_all is_digit (take result.0 text.now)) }
+    ensures digits { 0 < result.0 → SpellsNumber (take result.0 text.now) result.1 }
 {
     if text.len() < 8 {
         return count_any_digits(text);

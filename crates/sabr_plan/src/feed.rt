@@ -53,8 +53,6 @@ pub fn line_end(text: &[u8]) -> Option<usize>
 }
 
 /// Returns the first line of a text, and the text after its LF.
-#[cold]
-#[inline(never)]
 fn first_line(text: &[u8]) -> (&[u8], &[u8])
     requires { IsFalse (is_one_line text.now) }
     ensures parts { text.now ≡ result.0.now ++ 10 ∷ result.1.now }
@@ -81,7 +79,7 @@ fn ended_lines(piece: &[u8]) -> (&[u8], &[u8])
 
 impl<A: Allocator + Copy> PlanFeed<A> {
     ghost use Rattle.sabr_plan.specs.Reading.{most_line_bytes, most_lines, judged, at_line, limited, read_line, ended_line, broken_line};
-    ghost use Rattle.sabr_plan.specs.Feeding.{Fed, nothing_fed, outcome, IsFed, weight, most_weight, Answers};
+    ghost use Rattle.sabr_plan.specs.Feeding.{Fed, nothing_fed, outcome, EndsLine, IsFed, weight, most_weight, Answers};
 
     /// Starts before the first piece.
     pub fn new(alloc: A) -> PlanFeed<A>
@@ -103,30 +101,33 @@ impl<A: Allocator + Copy> PlanFeed<A> {
         let (lines, tail) = ended_lines(piece);
         let mut rest = lines;
         while !rest.is_empty() {
-            let (line, known, behind) = self.line_ahead(rest);
-            self.end_line(line, known)?;
+            let (_, behind, ended) = self.feed_line(rest);
+            if let Err(kind) = ended {
+                return Err(self.fault(kind));
+            }
             rest = behind;
         }
         self.hold(tail)
     }
 
-    /// Returns the first line of a text, its command if that is quick to read, and the text after its LF.
+    /// Ends the first line of a text. Returns the line, the text after its LF, and whether the line was read.
     #[inline(always)]
-    fn line_ahead<'a>(&mut self, text: &'a [u8]) -> (&'a [u8], Option<Command>, &'a [u8])
+    fn feed_line<'a>(&mut self, text: &'a [u8]) -> (&'a [u8], &'a [u8], Result<(), PlanKind>)
         requires { IsFalse (is_one_line text.now) }
-        ensures same { self.new ≡ self.old }
-        ensures parts { text.now ≡ result.0.now ++ 10 ∷ result.2.now }
+        ensures parts { text.now ≡ result.0.now ++ 10 ∷ result.1.now }
         ensures line { IsTrue (is_one_line result.0.now) }
-        ensures known { IfSome result.1 (λ c. (self.old.held ≡ []) × (line_command self.old.reading.reference result.0.now ≡ Ok c)) }
+        ensures ended { EndsLine self.old result.0.now result.2 self.new }
     {
         if self.held.is_empty() {
             if let Some((command, rest)) = self.reading.swift_addition(text) {
                 let (line, _) = text.split_at(text.len() - rest.len() - 1);
-                return (line, Some(command), rest);
+                let ended = self.end_known_line(line, command);
+                return (line, rest, ended);
             }
         }
         let (line, rest) = first_line(text);
-        (line, None, rest)
+        let ended = self.end_line(line);
+        (line, rest, ended)
     }
 
     /// Ends the text.
@@ -134,13 +135,10 @@ impl<A: Allocator + Copy> PlanFeed<A> {
         ensures { Answers (outcome self [] true) result }
     {
         self.end_text()?;
-        let line = self.lines + 1;
+        let fault = self.fault(PlanKind::NoMemory);
         match self.into_plan() {
             Ok(plan) => Ok(plan),
-            Err(NoMemory) => Err(PlanFault {
-                line,
-                kind: PlanKind::NoMemory,
-            }),
+            Err(NoMemory) => Err(fault),
         }
     }
 
@@ -150,10 +148,12 @@ impl<A: Allocator + Copy> PlanFeed<A> {
         ensures held { IsTrue (is_one_line self.old.held) }
     {
         if self.held.is_empty() {
-            Ok(())
-        } else {
-            self.end_line(b"", None)
+            return Ok(());
         }
+        if let Err(kind) = self.end_line(b"") {
+            return Err(self.fault(kind));
+        }
+        Ok(())
     }
 
     /// Returns the plan that the lines make.
@@ -179,32 +179,55 @@ impl<A: Allocator + Copy> PlanFeed<A> {
         }
     }
 
-    /// Ends the line with these bytes. If nothing else is held, its command may be known.
-    #[inline(always)]
-    fn end_line(&mut self, back: &[u8], known: Option<Command>) -> Result<(), PlanFault>
-        requires line { IsTrue (is_one_line back.now) }
-        requires known { IfSome known (λ c. (self.old.held ≡ []) × (line_command self.old.reading.reference back.now ≡ Ok c)) }
-        ensures value { LeavesAt (read_line (self.old.lines + 1) self.old.reading (self.old.held ++ back.now)) result self.new.reading }
-        ensures rest { OnOk result ((self.new.lines ≡ self.old.lines + 1) × (self.new.held ≡ [])) }
-        ensures fits { OnOk result (length self.old.held + length back.now ≤ most_line_bytes) }
-        ensures held { IsTrue (is_one_line self.old.held) }
+    /// Returns the fault of this kind in the line after those that have ended.
+    fn fault(&self, kind: PlanKind) -> PlanFault
+        ensures { result ≡ record { line = self.now.lines + 1; kind = kind } }
     {
-        let line = self.lines + 1;
-        match self.judge_line(back, known) {
-            Ok(()) => {
-                self.lines = line;
-                self.held.clear();
-                Ok(())
-            }
-            Err(kind) => Err(PlanFault { line, kind }),
+        PlanFault {
+            line: self.lines + 1,
+            kind,
         }
     }
 
-    /// Judges the line that goes on with these bytes, if it is within the limits.
+    /// Ends the line that goes on with these bytes.
+    #[cold]
+    #[inline(never)]
+    fn end_line(&mut self, back: &[u8]) -> Result<(), PlanKind>
+        requires { IsTrue (is_one_line back.now) }
+        ensures { EndsLine self.old back.now result self.new }
+    {
+        let lines = self.lines + 1;
+        match self.judge_line(back) {
+            Ok(()) => {
+                self.lines = lines;
+                self.held.clear();
+                Ok(())
+            }
+            Err(kind) => Err(kind),
+        }
+    }
+
+    /// Ends this line, whose command is known. Nothing else is held.
     #[inline(always)]
-    fn judge_line(&mut self, back: &[u8], known: Option<Command>) -> Result<(), PlanKind>
-        requires line { IsTrue (is_one_line back.now) }
-        requires known { IfSome known (λ c. (self.old.held ≡ []) × (line_command self.old.reading.reference back.now ≡ Ok c)) }
+    fn end_known_line(&mut self, line: &[u8], command: Command) -> Result<(), PlanKind>
+        requires line { IsTrue (is_one_line line.now) }
+        requires held { self.old.held ≡ [] }
+        requires known { line_command self.old.reading.reference line.now ≡ Ok command }
+        ensures { EndsLine self.old line.now result self.new }
+    {
+        if self.lines >= MOST_LINES || line.len() > MOST_LINE_BYTES {
+            return self.end_line(line);
+        }
+        if let Err(kind) = self.reading.judge_known(line, command) {
+            return Err(kind);
+        }
+        self.lines += 1;
+        Ok(())
+    }
+
+    /// Judges the line that goes on with these bytes, if it is within the limits.
+    fn judge_line(&mut self, back: &[u8]) -> Result<(), PlanKind>
+        requires { IsTrue (is_one_line back.now) }
         ensures value { Leaves (limited (self.old.lines + 1) self.old.reading (self.old.held ++ back.now)) result self.new.reading }
         ensures lines { self.new.lines ≡ self.old.lines }
         ensures fits { OnOk result ((self.old.lines < most_lines) × (length self.old.held + length back.now ≤ most_line_bytes)) }
@@ -215,11 +238,8 @@ impl<A: Allocator + Copy> PlanFeed<A> {
         if back.len() > MOST_LINE_BYTES - self.held.len() {
             return Err(PlanKind::LineTooLong);
         }
-        if self.held.is_empty() {
-            return self.reading.judge(back, known);
-        }
         self.append(back);
-        self.reading.judge(self.held.as_slice(), None)
+        self.reading.judge(self.held.as_slice())
     }
 
     /// Holds more bytes of a line.
@@ -242,21 +262,15 @@ impl<A: Allocator + Copy> PlanFeed<A> {
         ensures held { IsTrue (is_one_line self.old.held) }
         ensures err { IfErr result (λ f. (f ≡ broken_line (self.old.lines + 1) (self.old.held ++ bytes.now)) × (f.kind ≢ kind.Read)) }
     {
-        let line = self.lines + 1;
+        let full = self.lines >= MOST_LINES;
         if bytes.is_empty() {
             return Ok(());
         }
-        if self.lines >= MOST_LINES {
-            return Err(PlanFault {
-                line,
-                kind: PlanKind::TooMany,
-            });
+        if full {
+            return Err(self.fault(PlanKind::TooMany));
         }
         if bytes.len() > MOST_LINE_BYTES - self.held.len() {
-            return Err(PlanFault {
-                line,
-                kind: PlanKind::LineTooLong,
-            });
+            return Err(self.fault(PlanKind::LineTooLong));
         }
         self.append(bytes);
         Ok(())

@@ -2,7 +2,7 @@
 
 ghost use Rattle.std.specs.Prelude.{◌≡◌, ◌<◌, ◌≤◌, ◌+◌, ◌-◌, ◌*◌, ◌++◌, Some, None, SomeIff, IfSome, IsTrue, IsFalse, false, if◌then◌else◌, ◌&&◌, nat_lt, length};
 ghost use Rattle.std.specs.List.{list_all};
-ghost use Rattle.sabr_plan.specs.Digits.{is_digit, are_digits, digits_value, leads_with_zero};
+ghost use Rattle.sabr_plan.specs.Digits.{is_digit, are_digits, digits_value, leads_with_zero, SpellsNumber};
 ghost use Rattle.sabr_plan.specs.Numbers.{number_within};
 
 use crate::eight_digits::count_digits;
@@ -53,17 +53,19 @@ pub fn number_within(text: &[u8], low: u64, high: u64) -> Option<u64>
     }
 }
 
-/// Returns the number that the digits at the front of a text stand for if they are at most 19, the digits, and the text
-/// after them.
+/// Returns the number that the digits at the front of a text stand for, those digits, from 1 to 19, and the text after
+/// them. None says nothing.
 #[inline(always)]
-pub fn leading_digits(text: &[u8]) -> (u64, &[u8], &[u8])
-    ensures parts { text.now ≡ result.1.now ++ result.2.now }
-    ensures value { length result.1.now ≤ 19 → result.0 ≡ digits_value result.1.now }
-    ensures digits { IsTrue (list_all is_digit result.1.now) }
+pub fn leading_digits(text: &[u8]) -> Option<(u64, &[u8], &[u8])>
+    ensures parts { IfSome result (λ r. text.now ≡ r.1.now ++ r.2.now) }
+    ensures digits { IfSome result (λ r. SpellsNumber r.1.now r.0) }
 {
     let (count, value) = count_digits(text);
+    if count == 0 {
+        return None;
+    }
     let (digits, rest) = text.split_at(count);
-    (value, digits, rest)
+    Some((value, digits, rest))
 }
 
 /// Returns false only if digits for a number from `low` on have no leading zero. It is true for `0` if that is too low.
@@ -74,23 +76,14 @@ fn starts_with_zero(word: &[u8], low: u64) -> bool
     word[0] == b'0' && (low > 0 || word.len() > 1)
 }
 
-/// Returns the number that digits spell, from `low` to `high`, if they are at most 19 and stand for this value. None says
-/// nothing about them.
+/// Returns true only if digits that stand for this value spell a number from `low` to `high`.
 #[inline(always)]
-pub fn spelled(value: u64, word: &[u8], low: u64, high: u64) -> Option<u64>
-    requires value { length word.now ≤ 19 → value ≡ digits_value word.now }
-    requires digits { IsTrue (list_all is_digit word.now) }
-    ensures some { IfSome result (λ _. 0 < length word.now) }
-    ensures value { IfSome result (λ n. number_within low high word.now ≡ Some n) }
-    ensures range { IfSome result (λ n. (low ≤ n) × (n ≤ high)) }
+pub fn spell(word: &[u8], value: u64, low: u64, high: u64) -> bool
+    requires { SpellsNumber word.now value }
+    ensures value { IsTrue result → number_within low high word.now ≡ Some value }
+    ensures range { IsTrue result → (low ≤ value) × (value ≤ high) }
 {
-    if word.is_empty() || word.len() > 19 || starts_with_zero(word, low) {
-        return None;
-    }
-    if value < low || high < value {
-        return None;
-    }
-    Some(value)
+    !starts_with_zero(word, low) && low <= value && value <= high
 }
 
 /// Returns the number from `low` to `high` that the digits at the front of a text spell, those digits, and the text
@@ -102,7 +95,9 @@ pub fn leading_number(text: &[u8], low: u64, high: u64) -> Option<(u64, &[u8], &
     ensures value { IfSome result (λ r. number_within low high r.1.now ≡ Some r.0) }
     ensures range { IfSome result (λ r. (low ≤ r.0) × (r.0 ≤ high)) }
 {
-    let (value, word, rest) = leading_digits(text);
-    let value = spelled(value, word, low, high)?;
+    let (value, word, rest) = leading_digits(text)?;
+    if !spell(word, value, low, high) {
+        return None;
+    }
     Some((value, word, rest))
 }

@@ -26,10 +26,10 @@ pub fn after_reference(reference: Option<u64>, seconds: u64) -> Result<u64, Plan
     let Some(reference) = reference else {
         return Err(PlanKind::NoReference);
     };
-    match reference.checked_add(seconds) {
-        Some(time) if time <= LAST_TIME => Ok(time),
-        _ => Err(PlanKind::BadTime),
+    if reference > LAST_TIME || seconds > LAST_TIME - reference {
+        return Err(PlanKind::BadTime);
     }
+    Ok(reference + seconds)
 }
 
 /// Reads an absolute time.

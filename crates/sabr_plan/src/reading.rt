@@ -97,27 +97,24 @@ impl<A: Allocator + Copy> PlanReading<A> {
         swift_addition(self.reference, &mut self.day, text)
     }
 
-    /// Reads a line without its LF, whose command may be known already, and does what it says.
-    #[inline(always)]
-    #[tactic(auto, unfolding(crate::specs::Reading::judged))]
-    pub fn judge(&mut self, line: &[u8], known: Option<Command>) -> Result<(), PlanKind>
-        requires { IfSome known (λ c. line_command self.old.reference line.now ≡ Ok c) }
-        ensures { Leaves (judged self.old line.now) result self.new }
-    {
-        match known {
-            Some(command) => self.obey(command),
-            None => self.judge_any(line),
-        }
-    }
-
-    /// Reads any line without its LF, and does what it says.
+    /// Reads a line without its LF, and does what it says.
     #[cold]
     #[inline(never)]
     #[tactic(auto, unfolding(crate::specs::Reading::judged))]
-    fn judge_any(&mut self, line: &[u8]) -> Result<(), PlanKind>
+    pub fn judge(&mut self, line: &[u8]) -> Result<(), PlanKind>
         ensures { Leaves (judged self.old line.now) result self.new }
     {
         let command = line_command(self.reference, line)?;
+        self.obey(command)
+    }
+
+    /// Does what a line says, whose command is known.
+    #[inline(always)]
+    #[tactic(auto, unfolding(crate::specs::Reading::judged))]
+    pub fn judge_known(&mut self, line: &[u8], command: Command) -> Result<(), PlanKind>
+        requires { line_command self.old.reference line.now ≡ Ok command }
+        ensures { Leaves (judged self.old line.now) result self.new }
+    {
         self.obey(command)
     }
 
@@ -141,6 +138,7 @@ impl<A: Allocator + Copy> PlanReading<A> {
         }
     }
 
+    #[inline(always)]
     fn add_contact(&mut self, a: Addition) -> Result<(), PlanKind>
         requires { HasBounds (Add target.Contact a) }
         ensures { Leaves (obeyed self.old (Add target.Contact a)) result self.new }
@@ -154,6 +152,7 @@ impl<A: Allocator + Copy> PlanReading<A> {
         }
     }
 
+    #[inline(never)]
     fn add_range(&mut self, a: Addition) -> Result<(), PlanKind>
         requires { HasBounds (Add target.Range a) }
         ensures { Leaves (obeyed self.old (Add target.Range a)) result self.new }

@@ -10,7 +10,7 @@ ghost use Rattle.sabr_plan.specs.declared.command.Command.TheVariants.{Add};
 
 use crate::command::{Addition, Command, Target};
 use crate::known_day::KnownDay;
-use crate::number::{leading_digits, spelled};
+use crate::number::{leading_digits, spell};
 use crate::operand::{after_reference, greatest_value};
 use crate::words::is_blank;
 
@@ -95,8 +95,10 @@ fn number_ahead(low: u64, high: u64, text: &[u8]) -> Option<(u64, &[u8])>
     ensures word { IfSome result (λ r. IsAhead (λ w. number_within low high w ≡ Some r.0) text.now r.1.now) }
     ensures ended { IfSome result (λ r. IsFalse (is_one_line r.1.now)) }
 {
-    let (digits, word, rest) = leading_digits(after_gap(text)?);
-    let value = spelled(digits, word, low, high)?;
+    let (value, word, rest) = leading_digits(after_gap(text)?)?;
+    if !spell(word, value, low, high) {
+        return None;
+    }
     Some((value, rest))
 }
 
@@ -106,8 +108,8 @@ fn relative_front(reference: Option<u64>, text: &[u8]) -> Option<(u64, &[u8])>
     requires { IsFalse (is_one_line text.now) }
     ensures { IfSome result (λ r. IsFront (λ w. time_at reference w ≡ Ok r.0) text.now r.1.now) }
 {
-    let (seconds, digits, rest) = leading_digits(behind(text, b'+')?);
-    if digits.is_empty() || digits.len() > 12 {
+    let (seconds, digits, rest) = leading_digits(behind(text, b'+')?)?;
+    if digits.len() > 12 {
         return None;
     }
     let Ok(time) = after_reference(reference, seconds) else {
@@ -190,10 +192,11 @@ fn operands_ahead<'a>(
 }
 
 /// Returns the target of the addition that a line begins with, and the text after its name.
-fn target_ahead(line: &[u8]) -> Option<(Target, &[u8])>
+#[cold]
+#[inline(never)]
+fn any_target_ahead(line: &[u8]) -> Option<(Target, &[u8])>
     requires { IsFalse (is_one_line line.now) }
     ensures adds { IfSome result (λ r. AddsAhead r.0 line.now r.1.now) }
-    ensures ended { IfSome result (λ r. IsFalse (is_one_line r.1.now)) }
 {
     let name = after_gap(behind(after_blanks(line), b'a')?)?;
     if let Some(text) = name.strip_prefix(b"contact") {
@@ -201,6 +204,21 @@ fn target_ahead(line: &[u8]) -> Option<(Target, &[u8])>
     }
     let text = name.strip_prefix(b"range")?;
     Some((Target::Range, text))
+}
+
+/// The same. Most lines have no blanks but one space before each word.
+#[inline(always)]
+fn target_ahead(line: &[u8]) -> Option<(Target, &[u8])>
+    requires { IsFalse (is_one_line line.now) }
+    ensures { IfSome result (λ r. AddsAhead r.0 line.now r.1.now) }
+{
+    if let Some(text) = line.strip_prefix(b"a contact") {
+        return Some((Target::Contact, text));
+    }
+    if let Some(text) = line.strip_prefix(b"a range") {
+        return Some((Target::Range, text));
+    }
+    any_target_ahead(line)
 }
 
 /// Returns the command of a text's first line, if it is an addition that is quick to read, and the text after the line's

@@ -11,14 +11,16 @@ use Rattle.sabr_plan.proofs.eight_digits.count_any_digits.Goals as goal
 
 pub returns : goal.returns
 returns c =
-    let r = c.read_digits.ensures in
-    let count = c.read_digits.result.0 in
-    let front = take count c.args.text.now in
-    let same : std.digits_value 10 (slice_range c.args.text.now 0 count) ≡ std.digits_value 10 front = ap (λ n. std.digits_value 10 (take n c.args.text.now)) {y = count} (omega arith) in
-    let told = AllDigits-digits_len c.args.text.now count (omega (arith, r.end)) in
+    let r = c.read_digits-count.ensures in
+    let text = c.args.text.now in
+    let count = c.read_digits-count.result.0 in
+    let front = take count text in
+    let same : std.digits_value 10 (slice_range text 0 count) ≡ std.digits_value 10 front = ap (λ n. std.digits_value 10 (take n text)) {y = count} (omega arith) in
+    let told = AllDigits-digits_len text count (omega (arith, r.end)) in
     let all : list_all is_digit front ≡ true = numerals.from front told in
+    let long = length-take count text in
+    let small = few_digits front all (omega (arith, long, c.if-count-gt19.false)) in
     record {
       range = r.within;
-      value = λ few. let small = few_digits front all (omega (arith, few, length-take count c.args.text.now)) in omega (arith, r.value, same, small, numerals.same front told);
-      digits = all;
+      digits = λ some. record { some = omega (arith, long, some, r.within); few = omega (arith, long, c.if-count-gt19.false); digits = all; stands = omega (arith, r.value, same, small, numerals.same front told) };
     }

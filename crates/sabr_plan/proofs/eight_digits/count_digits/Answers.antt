@@ -1,7 +1,8 @@
 -- The bytes before the first that is no digit are read.
-use Rattle.std.proofs.Common.{take, sym, ap, ◌∙◌, arith, take-take}
+use Rattle.std.proofs.Common.{take, ◌/◌, sym, ap, ◌∙◌, arith, take-take, length-take}
 use Rattle.std.specs.List.{list_all}
 use Rattle.core.proofs.dec2flt.Eight.{eight_at, lanes_are, first_other, shifted_is}
+use lib.Count.{count_trailing_zeros}
 use Rattle.core.proofs.dec2flt.Rows.{AllDigits-digits_len}
 use Rattle.sabr_plan.specs.Digits.{is_digit, digits_value}
 use Rattle.sabr_plan.proofs.SpelledNumbers.{numerals}
@@ -18,8 +19,13 @@ returns c =
     let value = c.value_of_eight.ensures shifted.0 shifted.1 shifted.2 ∙ shifted.3 in
     let told = AllDigits-digits_len front _ (omega (arith, first.0)) in
     let same = take-take _ 8 text (omega (arith, first.1)) in
+    let long = length-take (count_trailing_zeros 64 c.flags_from_ten-others.result / 8) text in
     record {
       range = omega (arith, first.1, c.if-text-lt8.false);
-      value = λ _. value ∙ sym (numerals.same _ told) ∙ ap digits_value same;
-      digits = sym (ap (list_all is_digit) same) ∙ numerals.from _ told;
+      digits = λ some. record {
+        some = omega (arith, long, first.1, c.if-text-lt8.false, some);
+        few = omega (arith, long, first.1);
+        digits = sym (ap (list_all is_digit) same) ∙ numerals.from _ told;
+        stands = value ∙ sym (numerals.same _ told) ∙ ap digits_value same;
+      };
     }

@@ -1,7 +1,6 @@
 -- Digits come after `+`.
-use Rattle.std.proofs.Common.{Option, Some, None, true, ℕ, List, ◌≡◌, ◌<◌, ◌≤◌, length, ◌∷◌, refl, sym, ap, ◌∙◌, arith}
+use Rattle.std.proofs.Common.{Option, Some, None, true, ℕ, List, ◌≡◌, ◌<◌, ◌≤◌, length, ◌∷◌, refl, sym, ap, ◌∙◌}
 use Rattle.std.specs.List.{list_all}
-use Rattle.std.proofs.lemmas.Bool.Decides.{nat_tests}
 use borrow.Author.Tests.{le-leb, lt-ltb}
 use Rattle.sabr_plan.specs.Digits.{is_digit, digits_value}
 use Rattle.sabr_plan.specs.Operands.{after_reference, absolute_time, relative_of, time_at}
@@ -17,13 +16,11 @@ module _ (digits : List ℕ) (some : 0 < length digits) (all : list_all is_digit
 
 pub returns : goal.returns
 returns c =
-    let d = c.leading_digits-seconds.ensures in
-    let digits = c.leading_digits-seconds.result.1.now in
-    let some : 0 < length digits = grind (arith, nat_tests) in
-    let value = ap (after_reference c.args.reference) (sym (d.value (omega (arith, c.if-digits-gt12.false)))) in
+    let d = c.in_ok-seconds.ensures in
+    let digits = c.in_ok-seconds.digits.now in
     record {
       word = 43 ∷ digits;
       parts = c.in_ok-behind.ensures.parts ∙ ap (λ s. 43 ∷ s) d.parts;
-      graphic = graphic_behind 43 digits refl (graphic_digits digits d.digits);
-      holds = relative digits some d.digits c.args.reference c.if-digits-gt12.false ∙ value ∙ sym c.after_reference.ensures ∙ c.in-Ok.is;
+      graphic = graphic_behind 43 digits refl (graphic_digits digits d.digits.digits);
+      holds = relative digits d.digits.some d.digits.digits c.args.reference c.if-digits-gt12.false ∙ ap (after_reference c.args.reference) (sym d.digits.stands) ∙ sym c.after_reference.ensures ∙ c.in-Ok.is;
     }

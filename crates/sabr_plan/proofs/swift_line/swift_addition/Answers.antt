@@ -9,6 +9,7 @@ use Rattle.sabr_plan.specs.declared.command.Command.TheVariants.{Add}
 use Rattle.sabr_plan.specs.declared.command.Target.{Target}
 use Rattle.sabr_plan.specs.declared.command.Target.TheVariants.{Contact, Range}
 use Rattle.sabr_plan.proofs.PlainWords.{plain_one, from_line, more_words, first_a, no_comment}
+use Rattle.sabr_plan.proofs.Names.{ended_name}
 use Rattle.sabr_plan.proofs.swift_line.swift_addition.Goals as goal
 
 said : (reference : Option ℕ) (target : Target) (line name : List ℕ) (operands : List (List ℕ)) (a : Addition) → is_comment line ≡ false → list_all is_plain line ≡ true → words_of line ≡ (97 ∷ []) ∷ name ∷ operands → name ≡ name_of target → addition_of reference target operands ≡ Ok (Add target a) → line_command reference line ≡ Ok (Add target a)
@@ -16,10 +17,13 @@ unfolding line_command
 said reference Contact line name operands a comment plain words named value = rw (comment, plain, words, named) value
 said reference Range line name operands a comment plain words named value = rw (comment, plain, words, named) value
 
+pub operands_ahead-requires : goal.operands_ahead-requires
+operands_ahead-requires c = ended_name c.in_ok-target.ensures c.requires
+
 pub returns : goal.returns
 returns c =
     let h = c.in_ok-addition.ensures in
-    let adds = c.in_ok-target.ensures.adds in
+    let adds = c.in_ok-target.ensures in
     let back = more_words adds.name (from_line h.line h.parts h.holds.0) in
     let first = first_a adds.first back in
     let line = adds.first.blanks ++ 97 ∷ back.line in

@@ -1,10 +1,9 @@
 -- A line within the limits is judged.
-use Rattle.std.proofs.Common.{◌≡◌, ◌+◌, ◌<◌, ◌++◌, [], length, refl, sym, ap, ◌∙◌, arith, inr, length-append}
-use Rattle.std.proofs.lemmas.List.{nil_from_length}
-use borrow.Author.Tests.{lt-ltb, le-ltb, eqb-true}
+use Rattle.std.proofs.Common.{◌+◌, ◌<◌, ◌++◌, length, refl, ap, ◌∙◌, arith, inr, length-append}
+use borrow.Author.Tests.{lt-ltb, le-ltb}
 use Rattle.sabr_plan.specs.Reading.{limited, most_line_bytes, most_lines}
 use Rattle.sabr_plan.specs.Feeding.{Fed}
-use Rattle.sabr_plan.proofs.Held.{held_judged, limited-judged}
+use Rattle.sabr_plan.proofs.Held.{held_judged}
 use Rattle.sabr_plan.proofs.feed.PlanFeed.judge_line.Goals as goal
 
 pub returns-then-self-ge-MOST_LINES-clause-value : goal.returns-then-self-ge-MOST_LINES-clause-value
@@ -20,17 +19,7 @@ returns-then-back-len-clause-value g c =
     let long : most_line_bytes < length (i.held.items ++ c.args.back.now) = omega (arith, length-append i.held.items c.args.back.now, c.self.invariant.2, c.if-back-len.true) in
     rw (← c.self.view_is) (inr (rw (le-ltb most_lines (i.lines + 1) (omega (arith, c.if-self-ge-MOST_LINES.false)), lt-ltb most_line_bytes _ long) refl))
 
-pub returns-then-is_empty-clause-value : goal.returns-then-is_empty-clause-value
-returns-then-is_empty-clause-value g c =
-    let i = c.self.inside in
-    let back = c.args.back.now in
-    let none : i.held.items ≡ [] = nil_from_length i.held.items (eqb-true (length i.held.items) 0 (sym (c.if-is_empty.ensures {u = tt}))) in
-    rw (← c.self.view_is, none, limited-judged (i.lines + 1) i.reading back (omega (arith, c.if-self-ge-MOST_LINES.false)) (omega (arith, c.if-back-len.false))) c.judge.ensures
-
-pub append-requires-clause-line : goal.append-requires-clause-line
-append-requires-clause-line g c = c.requires.line
-
 pub returns-clause-value : goal.returns-clause-value
 returns-clause-value g c =
     let lines = ap (λ (s : Fed). s.lines) c.self.view_is in
-    held_judged c.args.self.now _ c.args.back.now c.judge-2.result c.judge-2.new.self (c.self-2.view_is ∙ c.append.ensures) (omega (arith, lines, c.if-self-ge-MOST_LINES.false)) c.self-2.invariant.2 (rw (← c.as_slice.ensures.value) c.judge-2.ensures)
+    held_judged c.args.self.now _ c.args.back.now c.judge.result c.judge.new.self (c.self-2.view_is ∙ c.append.ensures) (omega (arith, lines, c.if-self-ge-MOST_LINES.false)) c.self-2.invariant.2 (rw (← c.as_slice.ensures.value) c.judge.ensures)
