@@ -3,13 +3,14 @@
 # The words that may follow the name of the program, of a command or of a tool.
 _cgrlist_words() {
     case $1 in
-        cgrlist) echo first next verify check explain help --help --version ;;
-        help) echo first next verify check explain ;;
+        cgrlist) echo first next verify check explain many help --help --version ;;
+        help) echo first next verify check explain many ;;
         first) echo --plan --from --to --at --margin-ppm --max-hops --avoid --count --session-out --help ;;
         next) echo --plan --session --count --session-out --help ;;
         verify) echo --plan --session --help ;;
         check) echo --plan --help ;;
         explain) echo --plan --from --to --at --margin-ppm --max-hops --avoid --contacts --help ;;
+        many) echo --plan --requests --count --help ;;
         cgrlist-from-ionrc) echo --reference --help ;;
         cgrlist-latest) echo --by --after --plan --without --names --iso --program --from --to --margin-ppm \
             --max-hops --avoid --help ;;

@@ -1,13 +1,14 @@
 # Completes the words of cgrlist and of its tools in fish.
 
 # The words that may follow the name of the program, of a command or of a tool.
-set -l cgrlist first next verify check explain help --help --version
-set -l help first next verify check explain
+set -l cgrlist first next verify check explain many help --help --version
+set -l help first next verify check explain many
 set -l first --plan --from --to --at --margin-ppm --max-hops --avoid --count --session-out --help
 set -l next --plan --session --count --session-out --help
 set -l verify --plan --session --help
 set -l check --plan --help
 set -l explain --plan --from --to --at --margin-ppm --max-hops --avoid --contacts --help
+set -l many --plan --requests --count --help
 set -l from_ionrc --reference --help
 set -l latest --by --after --plan --without --names --iso --program --from --to --margin-ppm --max-hops --avoid \
     --help

@@ -31,7 +31,8 @@ CLONE = os.path.dirname(os.path.dirname(os.path.realpath(__file__)))  # the clon
 SCRIPT = os.path.join(CLONE, "cgrlist")
 BUILT = os.path.join(CLONE, "crates/cgrlist/out/cgrlist")  # what the script runs if it is current
 
-WORDS_STATUS, PLAN_STATUS, FILE_STATUS, START_STATUS = 2, 3, 5, 125  # as the program and its script use them
+# As the program and its script use them.
+WORDS_STATUS, PLAN_STATUS, REQUESTS_STATUS, FILE_STATUS, START_STATUS = 2, 3, 4, 5, 125
 
 
 class Refused(Exception):

@@ -148,9 +148,14 @@ def choice_of(words):
     return Choice(None, words.via, words.distinct, int(words.count), words.look or LOOK)
 
 
+def is_counted(words):
+    """Whether the routes are chosen of the first page alone, of so many routes."""
+    return bool(words.count) and not words.distinct
+
+
 def pages_of(asked, request):
     """The pages of the list of which routes are chosen: as many routes as are asked for, or all."""
-    if asked.words.count and not asked.words.distinct:
+    if is_counted(asked.words):
         return [asked.program.first(request, asked.words.count)]
     return asked.program.pages(request)
 

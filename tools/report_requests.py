@@ -4,7 +4,9 @@ from dataclasses import dataclass
 
 from contact_plan import WORDS_STATUS, Refused
 from questions import time_of
-from routes import Request
+from routes import Request, processors
+
+MOST_OF_PART = 1000  # requests that one run answers, so that progress can be told
 
 
 @dataclass(frozen=True)
@@ -25,6 +27,12 @@ def requests_of(lines, names, limits):
             except ValueError as error:
                 raise Refused(f"requests line {place}: {error}: {line}", WORDS_STATUS) from error
     return found
+
+
+def parts_of(lines, are_joined):
+    """The requests in parts, in their order: if they are joined a part for each processor, else one for each line."""
+    size = min(-(-len(lines) // processors()), MOST_OF_PART) if are_joined else 1
+    return [lines[start : start + size] for start in range(0, len(lines), size)]
 
 
 def _request(words, names):

@@ -10,7 +10,18 @@ from concurrent.futures import ThreadPoolExecutor
 from dataclasses import dataclass, replace
 
 import hints
-from contact_plan import BUILT, PLAN_STATUS, SCRIPT, START_STATUS, Progress, Refused, scratch, seconds_of, time_text
+from contact_plan import (
+    BUILT,
+    PLAN_STATUS,
+    REQUESTS_STATUS,
+    SCRIPT,
+    START_STATUS,
+    Progress,
+    Refused,
+    scratch,
+    seconds_of,
+    time_text,
+)
 
 # ---- Routes -----------------------------------------------------------------------------------------------------
 
@@ -93,6 +104,19 @@ def report_of(lines):
     return Report(tuple(routes), is_whole)
 
 
+def answered_reports(lines):
+    """Reads the answers to many requests, as their reports."""
+    parts = []
+    for line in lines:
+        if line.startswith("request "):
+            parts.append([])
+        elif line and not parts:
+            raise Refused(f"this is no answer to a request: {line}")
+        elif line:
+            parts[-1].append(line)
+    return [report_of(part) for part in parts]
+
+
 def explained_routes(lines, ranks=None):
     """Reads explanations, one after the other, as routes. They have the ranks 1, 2, .. if none are given."""
     routes, hops = [], []
@@ -126,6 +150,13 @@ class Request:
         """The request as the program takes it."""
         nodes = ["--from", str(self.source), "--to", str(self.destination)]
         return [*nodes, "--at", time_text(self.at), *self.limits]
+
+    def line(self):
+        """The request as a line of many; None if a limit isn't one word."""
+        given = dict(zip(self.limits[::2], self.limits[1::2]))
+        limits = [given.get("--margin-ppm", "0"), given.get("--max-hops", "20000"), given.get("--avoid")]
+        words = [str(self.source), str(self.destination), time_text(self.at), *filter(None.__ne__, limits)]
+        return " ".join(words) if all(len(word.split()) == 1 for word in words) else None
 
 
 def processors():
@@ -168,6 +199,19 @@ class Program:
         """The report of the first routes of a request."""
         return report_of(self.run("first", *request.words(), "--count", str(count)).split("\n"))
 
+    def many(self, requests, count):
+        """The reports of the first routes of requests, by one run; None if the program refuses one of them."""
+        lines = [request.line() for request in requests]
+        if None in lines:
+            return None
+        with open(scratch(), "w", encoding="utf-8") as file:
+            file.writelines(f"{line}\n" for line in lines)
+        told = self._told("many", "--requests", file.name, "--count", str(count), but=REQUESTS_STATUS)
+        reports = None if told is None else answered_reports(told.split("\n"))
+        if reports is not None and len(reports) != len(lines):
+            raise Refused(f"cgrlist many answers {len(reports)} of {len(lines)} requests")
+        return reports
+
     def pages(self, request):
         """The reports of a request, a page at a time, to the end of the list."""
         asked, count, session = ["first", *request.words()], 100, None
@@ -193,12 +237,20 @@ class Program:
 
     def run(self, command, *words):
         """What a command prints on standard output; Refused, with its status, if that isn't 0."""
+        return self._told(command, *words)
+
+    def _told(self, command, *words, but=None):
+        """The same, but None if its status is that one; then nothing of it goes to standard error."""
         asked = [self.path, command, "--plan", self.plan_file, *words]
+        how = {"stdout": subprocess.PIPE, "stderr": None if but is None else subprocess.PIPE}
         try:
             with _PROCESSES:
-                ran = subprocess.run(asked, env=_WITHOUT_TRIAL, stdout=subprocess.PIPE, text=True, errors="replace")
+                ran = subprocess.run(asked, env=_WITHOUT_TRIAL, text=True, errors="replace", **how)
         except OSError as error:
             raise Refused(f"cannot start {self.path}: {error.strerror}", START_STATUS) from error
+        if ran.returncode and ran.returncode == but:
+            return None
+        sys.stderr.write(ran.stderr or "")
         if ran.returncode < 0:
             raise Refused(f"cgrlist {command} was ended by signal {-ran.returncode}", 128 - ran.returncode)
         if ran.returncode == 1:

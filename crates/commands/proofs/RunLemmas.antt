@@ -1,6 +1,8 @@
 -- Pages and sessions.
 pub mod SessionPages
 pub mod PageTexts
+pub mod ManyAnswers
+pub mod ManyAsFirst
 pub mod OldSessions
 pub mod RunsFollow
 pub mod NextPages

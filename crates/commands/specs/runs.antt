@@ -5,3 +5,5 @@ pub mod EveryRun
 pub mod NextPage
 pub mod RunsInTurn
 pub mod PagesLeft
+pub mod Many
+pub mod ManyAsFirst

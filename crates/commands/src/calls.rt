@@ -7,8 +7,10 @@ ghost use Rattle.commands.specs.words.Values.{has_count, IsCount};
 
 use crate::command::CommandName;
 use crate::failure::Failure;
-use crate::files::{make_session, open_plan, open_session, remove_unless_done, session_out};
-use crate::runs::{run_check, run_explain, run_first, run_next, run_verify};
+use crate::files::{
+    make_session, open_plan, open_requests, open_session, remove_unless_done, session_out,
+};
+use crate::runs::{run_check, run_explain, run_first, run_many, run_next, run_verify};
 use crate::status::Status;
 use crate::words::read_values;
 use clap::ArgMatches;
@@ -141,4 +143,19 @@ pub fn explain<R: Files + AllocGlobal, O: Write, E: Write>(
     let contacts = values.contacts.as_slice();
     let mut plan = open_plan(rt, words)?;
     Ok(run_explain(alloc, &mut plan, request, contacts, out, err))
+}
+
+/// Answers many requests over a plan.
+pub fn many<R: Files + AllocGlobal, O: Write, E: Write>(
+    rt: &R,
+    words: &ArgMatches<'_>,
+    out: &mut O,
+    err: &mut E,
+) -> Result<Status, Failure> {
+    let alloc = rt.alloc();
+    let values = read_values(alloc, CommandName::Many.declared().name, words)?;
+    let count = values.count.unwrap();
+    let mut plan = open_plan(rt, words)?;
+    let mut requests = open_requests(rt, words)?;
+    Ok(run_many(alloc, &mut plan, &mut requests, count, out, err))
 }

@@ -3,7 +3,7 @@
 ghost use Rattle.std.specs.Prelude.{◌≡◌, Some};
 ghost use Rattle.commands.specs.words.Values.{command_named, has_request, has_count, has_contacts};
 
-use crate::calls::{check, explain, list, verify};
+use crate::calls::{check, explain, list, many, verify};
 use crate::failure::Failure;
 use crate::status::Status;
 use clap::ArgMatches;
@@ -23,15 +23,18 @@ pub enum CommandName {
     Check,
     /// Explains contacts over a plan.
     Explain,
+    /// Answers many requests over a plan.
+    Many,
 }
 
 /// The commands, in the order in which help lists them.
-pub const COMMANDS: [CommandName; 5] = [
+pub const COMMANDS: [CommandName; 6] = [
     CommandName::First,
     CommandName::Next,
     CommandName::Verify,
     CommandName::Check,
     CommandName::Explain,
+    CommandName::Many,
 ];
 
 /// The declaration of a command. Each command has a plan; its other words come in this order.
@@ -47,8 +50,12 @@ pub struct Declared<'a> {
     pub has_request: bool,
     /// Whether it has the word for an old session.
     pub has_session: bool,
-    /// Whether it has words for the number of routes of a page, and for the file that keeps its session.
+    /// Whether it has the word for a file of requests.
+    pub has_requests: bool,
+    /// Whether it has the word for the number of routes of a page.
     pub has_count: bool,
+    /// Whether it has the word for the file that keeps its session.
+    pub keeps_session: bool,
     /// Whether it has the word for contacts.
     pub has_contacts: bool,
 }
@@ -71,7 +78,9 @@ impl CommandName {
   cgrlist first --plan plan.txt --from 31 --to 1 --at 2030/01/01-00:45:00 --count 5 --session-out page1",
                 has_request: true,
                 has_session: false,
+                has_requests: false,
                 has_count: true,
+                keeps_session: true,
                 has_contacts: false,
             },
             CommandName::Next => Declared {
@@ -82,7 +91,9 @@ impl CommandName {
   cgrlist next --plan plan.txt --session page1 --count 5 --session-out page2",
                 has_request: false,
                 has_session: true,
+                has_requests: false,
                 has_count: true,
+                keeps_session: true,
                 has_contacts: false,
             },
             CommandName::Verify => Declared {
@@ -92,7 +103,9 @@ impl CommandName {
   cgrlist verify --plan plan.txt --session page1",
                 has_request: false,
                 has_session: true,
+                has_requests: false,
                 has_count: false,
+                keeps_session: false,
                 has_contacts: false,
             },
             CommandName::Check => Declared {
@@ -103,7 +116,9 @@ impl CommandName {
   cgrlist check --plan /dev/stdin <plan.txt",
                 has_request: false,
                 has_session: false,
+                has_requests: false,
                 has_count: false,
+                keeps_session: false,
                 has_contacts: false,
             },
             CommandName::Explain => Declared {
@@ -114,8 +129,25 @@ impl CommandName {
   cgrlist explain --plan plan.txt --from 31 --to 1 --at 2030/01/01-00:45:00 --contacts 5,12,2 --margin-ppm 1000",
                 has_request: true,
                 has_session: false,
+                has_requests: false,
                 has_count: false,
+                keeps_session: false,
                 has_contacts: true,
+            },
+            CommandName::Many => Declared {
+                name: "many",
+                about: "Answers many requests over one plan, each as first does",
+                examples: "Examples:
+  cgrlist many --plan plan.txt --requests requests.txt --count 5
+A request is a line FROM TO TIME, and after it, if need be, PPM, HOPS and NODES in this order, with single spaces:
+  31 1 2030/01/01-00:45:00
+  31 1 2030/01/01-00:45:00 0 4 12,15",
+                has_request: false,
+                has_session: false,
+                has_requests: true,
+                has_count: true,
+                keeps_session: false,
+                has_contacts: false,
             },
         }
     }
@@ -137,6 +169,7 @@ impl CommandName {
             CommandName::Verify => verify(rt, words, out, err),
             CommandName::Check => check(rt, words, out, err),
             CommandName::Explain => explain(rt, words, out, err),
+            CommandName::Many => many(rt, words, out, err),
         }
     }
 }
@@ -156,6 +189,8 @@ pub fn command_named(name: &str) -> Option<CommandName>
         Some(CommandName::Check)
     } else if name == b"explain".as_slice() {
         Some(CommandName::Explain)
+    } else if name == b"many".as_slice() {
+        Some(CommandName::Many)
     } else {
         None
     }

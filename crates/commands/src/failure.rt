@@ -2,10 +2,10 @@
 
 ghost use Rattle.std.specs.Prelude.{◌≡◌};
 ghost use Rattle.commands.specs.declared.failure.Failure.TheVariants as failure;
-ghost use Rattle.commands.specs.texts.Messages.{status_of, failure_of_plan, failure_of_session, failure_of_value};
+ghost use Rattle.commands.specs.texts.Messages.{status_of, failure_of_plan, failure_of_requests, failure_of_session, failure_of_value};
 
 use crate::status::Status;
-use crate::words::{ValueFault, ValueName};
+use crate::words::{RequestKind, RequestsFault, ValueFault, ValueName};
 use sabr_model::{NoMemory, WriteFault};
 use sabr_plan::{PlanFault, PlanKind};
 use sabr_session::SessionFault;
@@ -33,6 +33,12 @@ pub enum Failure {
     Session(SessionFault),
     /// The session's reader failed.
     SessionRead,
+    /// The file of requests can't be opened.
+    CannotOpenRequests,
+    /// The line of requests of this number is bad.
+    RequestsLine(u32, RequestKind),
+    /// The reader of the requests failed.
+    RequestsRead,
     /// A writer failed.
     Write,
     /// Memory was refused.
@@ -54,6 +60,8 @@ impl Failure {
                 Status::Io
             }
             Failure::PlanRead | Failure::SessionRead | Failure::Write => Status::Io,
+            Failure::RequestsLine(_, _) => Status::Session,
+            Failure::CannotOpenRequests | Failure::RequestsRead => Status::Io,
             Failure::NoMemory => Status::Memory,
             Failure::NotUtf8 => Status::Usage,
         }
@@ -98,6 +106,19 @@ impl From<SessionFault> for Failure {
             SessionFault::Read => Failure::SessionRead,
             SessionFault::NoMemory => Failure::NoMemory,
             _ => Failure::Session(fault),
+        }
+    }
+}
+
+/// The failure that refused requests are.
+impl From<RequestsFault> for Failure {
+    ghost from_gives = { λ fault e. e ≡ failure_of_requests fault };
+
+    fn from(fault: RequestsFault) -> Failure {
+        match fault {
+            RequestsFault::Line(line, kind) => Failure::RequestsLine(line, kind),
+            RequestsFault::Read => Failure::RequestsRead,
+            RequestsFault::NoMemory => Failure::NoMemory,
         }
     }
 }

@@ -14,6 +14,9 @@ pub const PLAN: &str = "plan";
 /// The word for the old session's file.
 pub const SESSION: &str = "session";
 
+/// The word for the file of requests.
+pub const REQUESTS: &str = "requests";
+
 /// The word for the new session's file.
 pub const SESSION_OUT: &str = "session-out";
 
@@ -46,6 +49,15 @@ pub fn open_plan<R: Files>(rt: &R, words: &ArgMatches<'_>) -> Result<Device<R::F
 /// [`Failure::CannotOpenSession`] if it can't be opened.
 pub fn open_session<R: Files>(rt: &R, words: &ArgMatches<'_>) -> Result<Device<R::File>, Failure> {
     open(rt, words, SESSION, Failure::CannotOpenSession)
+}
+
+/// Opens the file of requests.
+///
+/// # Errors
+///
+/// [`Failure::CannotOpenRequests`] if it can't be opened.
+pub fn open_requests<R: Files>(rt: &R, words: &ArgMatches<'_>) -> Result<Device<R::File>, Failure> {
+    open(rt, words, REQUESTS, Failure::CannotOpenRequests)
 }
 
 /// The path of the file for the new session. `None` if it isn't kept.

@@ -2,6 +2,7 @@
 //! nothing.
 
 ghost use Rattle.commands.specs.runs.EveryRun.{EveryRunFollows};
+ghost use Rattle.commands.specs.runs.ManyAsFirst.{ManyAnswersAsFirst};
 ghost use Rattle.commands.specs.runs.NextPage.{NextGoesOn};
 ghost use Rattle.commands.specs.runs.PagesLeft.{PagesStand};
 ghost use Rattle.commands.specs.runs.RunsInTurn.{RunsInTurn};
@@ -31,6 +32,13 @@ pub fn next_goes_on()
 /// the list, each from where the one before ended.
 pub fn runs_in_turn()
     ensures { RunsInTurn }
+{}
+
+/// Shows that a run `many` answers each request as a run `first` does. Over one plan text, and with readers and writers
+/// that know their bytes, if it ends with [`Status::Done`](crate::Status::Done), it writes for each request in order its
+/// line and then the bytes that a run `first` for that request and count writes as its report.
+pub fn many_answers_as_first()
+    ensures { ManyAnswersAsFirst }
 {}
 
 /// Shows that after any pages, refusals and steps back a session is that of the pages that weren't taken back, in the

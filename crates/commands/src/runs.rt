@@ -1,10 +1,12 @@
 //! The runs: each reads from readers, writes to writers, and returns how it ended.
 
 mod answer;
+mod answering;
 mod check;
 mod ending;
 mod explain;
 mod first;
+mod many;
 mod next;
 mod pages;
 mod verify;
@@ -12,5 +14,6 @@ mod verify;
 pub use check::run_check;
 pub use explain::run_explain;
 pub use first::run_first;
+pub use many::run_many;
 pub use next::run_next;
 pub use verify::run_verify;

@@ -13,6 +13,9 @@ mod value_name;
 mod values;
 
 pub use command_line::parsed;
+pub use request_line::request_in;
+pub use requests::{first_line, read_requests};
+pub use requests_fault::{RequestKind, RequestsFault};
 pub use value_fault::ValueFault;
 pub use value_name::ValueName;
 pub use values::{Values, read_values};

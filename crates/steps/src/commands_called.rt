@@ -7,8 +7,8 @@ use crate::answers::refused;
 use crate::desk::Desk;
 use crate::words::{Words, numbers, small_number};
 use commands::{
-    Status, ValueFault, ValueName, run_check, run_explain, run_first, run_next, run_verify,
-    run_words,
+    Status, ValueFault, ValueName, run_check, run_explain, run_first, run_many, run_next,
+    run_verify, run_words,
 };
 use failing::LimitedWriter;
 use std::alloc::{Allocator, Global};
@@ -72,6 +72,7 @@ fn status_of<A: Allocator + Copy>(
         "verify" => Some(verify(alloc, desk, writers)),
         "check" => Some(check(alloc, desk, writers)),
         "explain" => explain(alloc, desk, words, writers),
+        "many" => many(alloc, desk, words, writers),
         "words" => program(desk, words, writers),
         _ => None,
     }
@@ -127,6 +128,18 @@ fn explain<A: Allocator + Copy>(
     let plan = &mut desk.plan.reader();
     let (out, err) = (&mut writers.out, &mut writers.err);
     Some(run_explain(alloc, plan, request, &contacts, out, err))
+}
+
+fn many<A: Allocator + Copy>(
+    alloc: A,
+    desk: &Desk<'_>,
+    words: &mut Words<'_>,
+    writers: &mut Writers,
+) -> Option<Status> {
+    let (count, _) = count_of(words)?;
+    let (plan, requests) = (&mut desk.plan.reader(), &mut desk.session.reader());
+    let (out, err) = (&mut writers.out, &mut writers.err);
+    Some(run_many(alloc, plan, requests, count, out, err))
 }
 
 /// Runs the program over these words.

@@ -26,7 +26,7 @@ use Rattle.commands.proofs.RunLemmas.SessionPages.{none_before, first_from}
 use Rattle.commands.proofs.RunLemmas.NextPages.{none_more, place_kept, next_goes_on}
 
 -- no failure ends as done
-never_done : (f : Failure) → status_of f ≢ status.Done
+pub never_done : (f : Failure) → status_of f ≢ status.Done
 never_done (failure.BadValue name) e = cc
 never_done failure.SameNode e = cc
 never_done failure.BadAvoid e = cc
@@ -37,16 +37,19 @@ never_done (failure.PlanLine fault) e = cc
 never_done failure.PlanRead e = cc
 never_done (failure.Session fault) e = cc
 never_done failure.SessionRead e = cc
+never_done failure.CannotOpenRequests e = cc
+never_done (failure.RequestsLine line kind) e = cc
+never_done failure.RequestsRead e = cc
 never_done failure.Write e = cc
 never_done failure.NoMemory e = cc
 never_done failure.NotUtf8 e = cc
 
 -- a writer that knows its bytes took the text that was written
-taken : (old : Output) (text bytes : List ℕ) (new : Output) → Written old text new → Takes old bytes new → bytes ≡ text
+pub taken : (old : Output) (text bytes : List ℕ) (new : Output) → Written old text new → Takes old bytes new → bytes ≡ text
 taken old text bytes new written (before, was, is) = append_cancel_left before bytes text (rw (was, is) at written.0)
 
 -- of a reader that has the text of a plan, that plan is read
-plan_read : (plan : List ℕ) (p : ContactPlan) (reader : Input) (t : TabledPlan) (reader₁ : Input) → plan_of plan true ≡ Ok p → reader.remaining ≡ Some plan → ReadsPlan reader (Ok t) reader₁ → t.plan ≡ p
+pub plan_read : (plan : List ℕ) (p : ContactPlan) (reader : Input) (t : TabledPlan) (reader₁ : Input) → plan_of plan true ≡ Ok p → reader.remaining ≡ Some plan → ReadsPlan reader (Ok t) reader₁ → t.plan ≡ p
 plan_read plan p reader t reader₁ spelled has h = elim h.told [
   | inl (end, fine, answer) ↦
       let all = none_more plan h.given reader₁.remaining (rw has at h.consumed) end in

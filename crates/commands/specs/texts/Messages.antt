@@ -14,6 +14,10 @@ use Rattle.commands.specs.declared.failure.Failure.{Failure}
 use Rattle.commands.specs.declared.failure.Failure.TheVariants as failure
 use Rattle.commands.specs.declared.words.value_fault.ValueFault.{ValueFault}
 use Rattle.commands.specs.declared.words.value_fault.ValueFault.TheVariants as value
+use Rattle.commands.specs.declared.words.requests_fault.RequestKind.{RequestKind}
+use Rattle.commands.specs.declared.words.requests_fault.RequestKind.TheVariants as request
+use Rattle.commands.specs.declared.words.requests_fault.RequestsFault.{RequestsFault}
+use Rattle.commands.specs.declared.words.requests_fault.RequestsFault.TheVariants as requests
 use Rattle.commands.specs.words.Values.{name_text}
 
 -- a kind of a bad line, by its name
@@ -69,6 +73,23 @@ failure_of_session session.Read = failure.SessionRead
 failure_of_session session.NoMemory = failure.NoMemory
 failure_of_session fault = failure.Session fault
 
+-- what is bad in a line of requests, by its name
+abbrev pub request_kind_text : RequestKind → List ℕ
+request_kind_text request.BadFrom = codes "BadFrom"
+request_kind_text request.BadTo = codes "BadTo"
+request_kind_text request.BadAt = codes "BadAt"
+request_kind_text request.BadMargin = codes "BadMargin"
+request_kind_text request.BadHops = codes "BadHops"
+request_kind_text request.BadAvoid = codes "BadAvoid"
+request_kind_text request.SameNode = codes "SameNode"
+request_kind_text request.BadLine = codes "BadLine"
+
+-- the failure that refused requests are
+abbrev pub failure_of_requests : RequestsFault → Failure
+failure_of_requests requests.Read = failure.RequestsRead
+failure_of_requests requests.NoMemory = failure.NoMemory
+failure_of_requests (requests.Line line kind) = failure.RequestsLine line kind
+
 -- the line of a session text that a fault names
 abbrev pub session_line : SessionFault → Option ℕ
 session_line (session.BadLine line) = Some line
@@ -95,6 +116,10 @@ message_text (failure.PlanLine fault) =
 message_text failure.PlanRead = codes "cgrlist: plan: read failed\n"
 message_text (failure.Session fault) = session_message fault
 message_text failure.SessionRead = codes "cgrlist: session: read failed\n"
+message_text failure.CannotOpenRequests = codes "cgrlist: cannot open the requests\n"
+message_text (failure.RequestsLine line kind) =
+    concat (codes "cgrlist: requests line " ∷ decimal line ∷ codes ": " ∷ request_kind_text kind ∷ codes "\n" ∷ [])
+message_text failure.RequestsRead = codes "cgrlist: requests: read failed\n"
 message_text failure.Write = codes "cgrlist: write failed\n"
 message_text failure.NoMemory = codes "cgrlist: no memory\n"
 message_text failure.NotUtf8 = codes "cgrlist: a word of the command line is not UTF-8\n"
@@ -111,6 +136,9 @@ status_of (failure.PlanLine fault) = status.Plan
 status_of failure.PlanRead = status.Io
 status_of (failure.Session fault) = status.Session
 status_of failure.SessionRead = status.Io
+status_of failure.CannotOpenRequests = status.Io
+status_of (failure.RequestsLine line kind) = status.Session
+status_of failure.RequestsRead = status.Io
 status_of failure.Write = status.Io
 status_of failure.NoMemory = status.Memory
 status_of failure.NotUtf8 = status.Usage

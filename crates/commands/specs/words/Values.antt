@@ -128,6 +128,7 @@ command_named name =
     else if bytes_eq name (codes "verify") then Some command.Verify
     else if bytes_eq name (codes "check") then Some command.Check
     else if bytes_eq name (codes "explain") then Some command.Explain
+    else if bytes_eq name (codes "many") then Some command.Many
     else None
 
 -- commands with a request
@@ -140,6 +141,7 @@ has_request _ = false
 abbrev pub has_count : CommandName → Bool
 has_count command.First = true
 has_count command.Next = true
+has_count command.Many = true
 has_count _ = false
 
 -- commands with contacts

@@ -3,10 +3,11 @@
 ghost use Rattle.std.specs.Prelude.{◌≡◌, map};
 ghost use Rattle.std.specs.List.{concat};
 ghost use Rattle.sabr_model.specs.Devices.{WritesText};
-ghost use Rattle.commands.specs.texts.Messages.{kind_text, session_kind_text, session_line, session_message, message_text, status_of, TellsText};
+ghost use Rattle.commands.specs.texts.Messages.{kind_text, request_kind_text, session_kind_text, session_line, session_message, message_text, status_of, TellsText};
 
 use crate::failure::Failure;
 use crate::status::Status;
+use crate::words::RequestKind;
 use itoa::Buffer;
 use sabr_model::{Write, WriteFault, write_text};
 use sabr_plan::{PlanFault, PlanKind};
@@ -100,6 +101,36 @@ fn write_session_fault<W: Write>(writer: &mut W, fault: SessionFault) -> Result<
     write_texts(writer, &["cgrlist: session line ", line, ": ", kind, "\n"])
 }
 
+/// Names what is bad in a line of requests.
+fn request_kind_text(kind: RequestKind) -> &'static str
+    ensures { result.now ≡ request_kind_text kind }
+{
+    match kind {
+        RequestKind::BadFrom => "BadFrom",
+        RequestKind::BadTo => "BadTo",
+        RequestKind::BadAt => "BadAt",
+        RequestKind::BadMargin => "BadMargin",
+        RequestKind::BadHops => "BadHops",
+        RequestKind::BadAvoid => "BadAvoid",
+        RequestKind::SameNode => "SameNode",
+        RequestKind::BadLine => "BadLine",
+    }
+}
+
+/// Writes the message of a bad line of requests.
+fn write_requests_line<W: Write>(
+    writer: &mut W,
+    number: u32,
+    kind: RequestKind,
+) -> Result<(), WriteFault>
+    ensures { WritesText (W.output writer.old) (message_text (Failure.RequestsLine number kind)) result (W.output writer.new) }
+{
+    let mut buffer = Buffer::new();
+    let line = buffer.format(number);
+    let kind = request_kind_text(kind);
+    write_texts(writer, &["cgrlist: requests line ", line, ": ", kind, "\n"])
+}
+
 /// Writes a failure's message.
 fn write_message<W: Write>(writer: &mut W, failure: Failure) -> Result<(), WriteFault>
     ensures { WritesText (W.output writer.old) (message_text failure) result (W.output writer.new) }
@@ -117,6 +148,11 @@ fn write_message<W: Write>(writer: &mut W, failure: Failure) -> Result<(), Write
         Failure::PlanRead => write_text(writer, b"cgrlist: plan: read failed\n"),
         Failure::Session(fault) => write_session_fault(writer, fault),
         Failure::SessionRead => write_text(writer, b"cgrlist: session: read failed\n"),
+        Failure::CannotOpenRequests => {
+            write_text(writer, b"cgrlist: cannot open the requests\n")
+        }
+        Failure::RequestsLine(line, kind) => write_requests_line(writer, line, kind),
+        Failure::RequestsRead => write_text(writer, b"cgrlist: requests: read failed\n"),
         Failure::Write => write_text(writer, b"cgrlist: write failed\n"),
         Failure::NoMemory => write_text(writer, b"cgrlist: no memory\n"),
         Failure::NotUtf8 => {

@@ -1,7 +1,7 @@
 //! The words of the command line, as one level of subcommands with texts as values.
 
 use crate::command::{COMMANDS, CommandName};
-use crate::files::{PLAN, SESSION, SESSION_OUT};
+use crate::files::{PLAN, REQUESTS, SESSION, SESSION_OUT};
 use clap::{Arg, ArgAction, ArgMatches, Command, Error};
 use std::alloc::{AllocError, Global};
 
@@ -76,6 +76,12 @@ fn session<'a>(alloc: Global) -> Arg<'a> {
     required(alloc, SESSION, "FILE", help)
 }
 
+/// The word for the requests.
+fn requests<'a>(alloc: Global) -> Arg<'a> {
+    let help = "The requests: a line FROM TO TIME each, or with PPM, HOPS, NODES after it";
+    required(alloc, REQUESTS, "FILE", help)
+}
+
 /// The word for the new session.
 fn session_out<'a>(alloc: Global) -> Arg<'a> {
     let help = "Where to leave the session after the page: a file that isn't there";
@@ -99,11 +105,6 @@ fn with_request<'a>(alloc: Global, command: Command<'a>) -> Result<Command<'a>, 
         .arg(avoid(alloc))
 }
 
-/// Adds the words for the number of routes of a page, and for the file that keeps its session.
-fn with_page<'a>(alloc: Global, command: Command<'a>) -> Result<Command<'a>, AllocError> {
-    command.arg(count(alloc))?.arg(session_out(alloc))
-}
-
 /// A command of the command line, as it is declared.
 fn subcommand<'a>(alloc: Global, command: CommandName) -> Result<Command<'a>, AllocError> {
     let declared = command.declared();
@@ -117,8 +118,14 @@ fn subcommand<'a>(alloc: Global, command: CommandName) -> Result<Command<'a>, Al
     if declared.has_session {
         made = made.arg(session(alloc))?;
     }
+    if declared.has_requests {
+        made = made.arg(requests(alloc))?;
+    }
     if declared.has_count {
-        made = with_page(alloc, made)?;
+        made = made.arg(count(alloc))?;
+    }
+    if declared.keeps_session {
+        made = made.arg(session_out(alloc))?;
     }
     if declared.has_contacts {
         made = made.arg(contacts(alloc))?;
@@ -133,7 +140,7 @@ fn program<'a>(alloc: Global) -> Result<Command<'a>, AllocError> {
         .version(VERSION)
         .after_help(
             "Status: 0 done, 1 the answer is no, 2 the words are refused or ask for help, 3 the plan is refused, 4 the session
-is refused, 5 a file can't be opened, read, made or written, 6 no memory. docs/cgrlist.1 is the manual page.",
+or a line of requests is refused, 5 a file can't be opened, read, made or written, 6 no memory. docs/cgrlist.1 is the manual page.",
         )
         .bin_name("cgrlist")?
         .no_binary_name(true)

@@ -12,6 +12,12 @@ returns-in-BadAvoid g c = rw c.in-BadAvoid.is c.write_text-in-BadAvoid.ensures
 pub returns-in-CannotOpenPlan : goal.returns-in-CannotOpenPlan
 returns-in-CannotOpenPlan g c = rw c.in-CannotOpenPlan.is c.write_text-in-CannotOpenPlan.ensures
 
+pub returns-in-CannotOpenRequests : goal.returns-in-CannotOpenRequests
+returns-in-CannotOpenRequests g c = rw c.in-CannotOpenRequests.is c.write_text-in-CannotOpenRequests.ensures
+
+pub returns-in-RequestsRead : goal.returns-in-RequestsRead
+returns-in-RequestsRead g c = rw c.in-RequestsRead.is c.write_text-in-RequestsRead.ensures
+
 pub returns-in-Write : goal.returns-in-Write
 returns-in-Write g c = rw c.in-Write.is c.write_text-in-Write.ensures
 

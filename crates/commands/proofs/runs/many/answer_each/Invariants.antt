@@ -1,0 +1,13 @@
+use Rattle.std.proofs.Common.{◌≡◌, length}
+use Rattle.commands.specs.words.Requests.{lines_in, requests_from}
+use Rattle.commands.proofs.RunLemmas.ManyAnswers.{HasAnswered}
+use Rattle.commands.proofs.runs.many.answer_each.Given as goal
+
+abbrev pub invariant-loop-line : goal.invariant-loop-line
+invariant-loop-line g l = record {
+  answered : HasAnswered l.plan.plan l.count (requests_from 1 (lines_in l.text)) (lines_in l.rest) (g.O.Write.output l.initial.out) (g.O.Write.output l.out);
+  plan : l.answering ≡ l.plan;
+}
+
+abbrev pub decreases-loop-line : goal.decreases-loop-line
+decreases-loop-line g l = length l.rest

@@ -1,0 +1,114 @@
+//! Answering requests over one plan, one after the other.
+
+ghost use Rattle.std.specs.Prelude.{◌≡◌, ◌≤◌, IfOk};
+ghost use Rattle.sabr_model.specs.Devices.{WritesText};
+ghost use Rattle.sabr_frontier.specs.listing.Listing.{most_routes, state_at};
+ghost use Rattle.commands.specs.runs.Many.{LeavesAnswer, heading};
+
+use crate::failure::Failure;
+use sabr_frontier::Session;
+use sabr_model::{NoMemory, Plan, Request, Write, WriteFault};
+use sabr_search::{BestOf, Settled};
+use sabr_session::{TextBuffer, put_pieces, write_report};
+use std::alloc::{Allocator, Global};
+use std::marker::Model;
+
+/// What answers requests over one plan: each has a session, over the index of the one before. Contracts see the plan.
+#[derive(Drop)]
+pub struct Answering<'p, A: Allocator + Copy = Global> {
+    /// The allocator of all that is made.
+    alloc: A,
+    /// The plan.
+    plan: &'p Plan<A>,
+    /// The session of the request before. `None` before the first, and after one that failed.
+    before: Option<Session<'p, Settled<A>, A>>,
+}
+
+impl<'p, A: Allocator + Copy> Model for Answering<'p, A> {
+    ghost use Rattle.std.specs.Prelude.{◌≡◌, IfSome};
+    ghost use Rattle.sabr_model.specs.plan.Plan.{TabledPlan};
+
+    ghost Value = { TabledPlan };
+
+    ghost view = { λ a. a.plan.now };
+
+    ghost invariant = { λ a. IfSome a.before (λ s. s.plan ≡ a.plan.now) };
+}
+
+impl<'p, A: Allocator + Copy> Answering<'p, A> {
+    /// Answers no request yet. Allocates nothing.
+    pub fn new(alloc: A, plan: &'p Plan<A>) -> Answering<'p, A>
+        ensures { result ≡ plan.now }
+    {
+        Answering {
+            alloc,
+            plan,
+            before: None,
+        }
+    }
+
+    /// Starts a session for the next request: over the index of the one before, or over one of its own.
+    fn start(&mut self, request: Request) -> Result<Session<'p, Settled<A>, A>, NoMemory>
+        ensures started { IfOk result (λ s. (s.plan ≡ self.old) × (s.request ≡ request) × (s.state ≡ state_at self.old.plan request 0)) }
+        ensures plan { self.new ≡ self.old }
+    {
+        match self.before.take() {
+            Some(before) => before.start_again(request),
+            None => Session::start(self.alloc, self.plan, request, Settled::new(self.alloc)),
+        }
+    }
+
+    /// Writes the answer to the request of this line, with `count` routes. All of them are found first.
+    ///
+    /// # Errors
+    ///
+    /// [`Failure::NoMemory`] if a growth was refused; then nothing was written. [`Failure::Write`] if the writer failed.
+    /// Then a beginning of the answer was written.
+    pub fn answer<O: Write>(
+        &mut self,
+        line: &[u8],
+        request: Request,
+        count: u32,
+        out: &mut O,
+    ) -> Result<(), Failure>
+        requires { count ≤ most_routes }
+        ensures answer { LeavesAnswer self.old.plan count (record { line = line.now; request = request }) result (O.output out.old) (O.output out.new) }
+        ensures plan { self.new ≡ self.old }
+    {
+        let mut listing = self.start(request)?;
+        write_answer(&mut listing, line, count, out)?;
+        self.before = Some(listing);
+        Ok(())
+    }
+}
+
+/// Writes the line before an answer.
+fn write_heading<O: Write>(line: &[u8], out: &mut O) -> Result<(), WriteFault>
+    ensures { WritesText (O.output out.old) (heading line.now) result (O.output out.new) }
+{
+    let mut text = TextBuffer::new(out);
+    let pieces: [&[u8]; 3] = [b"request ", line, b"\n"];
+    put_pieces(&mut text, &pieces)?;
+    text.send()
+}
+
+/// Writes the answer to a request with this line, from a session just started.
+fn write_answer<O: Write, B: BestOf<A>, A: Allocator + Copy>(
+    listing: &mut Session<'_, B, A>,
+    line: &[u8],
+    count: u32,
+    out: &mut O,
+) -> Result<(), Failure>
+    requires count { count ≤ most_routes }
+    requires started { listing.old.state ≡ state_at listing.old.plan.plan listing.old.request 0 }
+    ensures answer { LeavesAnswer listing.old.plan.plan count (record { line = line.now; request = listing.old.request }) result (O.output out.old) (O.output out.new) }
+    ensures plan { listing.new.plan ≡ listing.old.plan }
+{
+    listing.plan().tell_rules();
+    listing.request().tell_limits();
+    let first_rank = listing.emitted() + 1;
+    let routes = listing.page(count)?;
+    write_heading(line, out)?;
+    write_report(routes.as_slice(), first_rank, listing.more(), out)?;
+    Ok(())
+}
