@@ -1,6 +1,6 @@
 -- From the start forward.
 pub mod HopLayers
-pub mod Runs
+pub mod Keys
 pub mod Forward
 pub mod Between
 pub mod MadeLayers

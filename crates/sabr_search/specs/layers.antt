@@ -4,6 +4,7 @@ pub mod Front
 pub mod Lists
 pub mod Made
 pub mod Late
+pub mod Events
 pub mod Settling
 pub mod Deadlines
 pub mod Picks

@@ -89,15 +89,15 @@ module _ (task : SearchTask) (prefix : List ℕ) (asked : IsAsked task prefix) w
 
   -- and so much fits into the numbers of a machine
   product : left_of task prefix * length task.plan.contacts ≤ 40000 * 20000
-  product = mul-le-mul {n₂ = 40000} {m₂ = 20000} (omega (arith, left_less, asked.nodes)) (contacts_few task.plan asked.task_is.plan)
+  product = mul-le-mul {n₂ = 40000} {m₂ = 20000} (omega (arith, left_less, asked.task_is.few)) (contacts_few task.plan asked.task_is.plan)
 
   pub search_fits : (3 * left_of task prefix + 3) * length task.plan.contacts ≤ 2 ^ 60
   search_fits = omega (arith, product, contacts_few task.plan asked.task_is.plan)
 
   pub route_fits : (numbers : List ℕ) (d : ℕ) (looks : Looks) → IsFoundWay task (left_of task prefix) numbers d → looks_taken looks ≤ 3 * length task.table * length task.plan.contacts → length prefix + length numbers ≤ looks.left
   route_fits numbers d looks found few =
-      let nodes : length task.table * length task.plan.contacts ≤ 40000 * 20000 = mul-le-mul {n₂ = 40000} {m₂ = 20000} asked.nodes (contacts_few task.plan asked.task_is.plan) in
-      omega (arith, few, nodes, contacts_few task.plan asked.task_is.plan, prefix_few task.plan task.request prefix facts, found_short task (left_of task prefix) numbers d found, left_less, asked.nodes)
+      let nodes : length task.table * length task.plan.contacts ≤ 40000 * 20000 = mul-le-mul {n₂ = 40000} {m₂ = 20000} asked.task_is.few (contacts_few task.plan asked.task_is.plan) in
+      omega (arith, few, nodes, contacts_few task.plan asked.task_is.plan, prefix_few task.plan task.request prefix facts, found_short task (left_of task prefix) numbers d found, left_less, asked.task_is.few)
 
   -- what a way that is found comes to, with its record
   module _ {E : Type 0} (result : Result (Option RouteRecord) E) (told : IfOk result (IsAnswered task prefix)) where

@@ -45,7 +45,7 @@ flags_all n = grind (arith, common_steps)
 pub first_rising : (P : List ℕ → ℕ → Type 0) (task : SearchTask) → IsTask task → (late : List ℕ) (taken : List Bool) (queue : List Event) → IsBegun task late taken queue → AreRising P task late taken queue (length task.table)
 first_rising P task is late taken queue begun =
     let zeros : List ℕ = replicate (length task.shut) 0 in
-    let event : Event = record { at = 0; rank = 0; hops = 0; node = task.goal } in
+    let event : Event = record { at = 0; hops = 0; node = task.goal } in
     let within : task.goal < length zeros = omega (arith, replicate_many (length task.shut) 0, is.as_many, is.goal_in) in
     record {
       many = ap length begun.late_is ∙ set_many zeros task.goal never ∙ replicate_many (length task.shut) 0 ∙ is.as_many;

@@ -36,12 +36,12 @@ goal_other task is same = both_ways (slice_index_or task.shut task.start false) 
 -- a node is settled and its contacts are taken
 module _ (task : SearchTask) (late near : List ℕ) (settled : List Bool) (u t : ℕ) (arrival0 : List ℕ) (best0 : Best) (arrival : List ℕ) (queue : List Event) (best : Best)
     (state : AreSettling task late near (slice_set settled u true) u t arrival queue best) (fallen : IsFallen (slice_set settled u true) arrival0 best0 arrival best) (taken : AreSettledTaken task near (slice_set settled u true) arrival best.delivery)
-    (many : length settled ≡ length task.shut) (other : task.goal ≢ u) where
+    (other : task.goal ≢ u) where
   pub settled_next : slice_index_or (slice_set settled u true) task.start false ≡ true → slice_index arrival0 task.start ≡ task.at → slice_index_or settled task.goal false ≡ false →
       AreClosed task.shut arrival0 task.at → AreSettled task late near (slice_set settled u true) arrival queue best
   settled_next start reached goal closed = record {
     flags = state.flags;
-    many = flag_many settled u ∙ many;
+    many = state.many;
     start_settled = start;
     start_reached = fallen.kept task.start start ∙ reached;
     goal_unsettled = flag_other settled u task.goal other ∙ goal;
@@ -237,6 +237,7 @@ module _ (task : SearchTask) (is : IsTask task) (off settled : List Bool) (u : �
     pub start_state : (queue : List Event) (best : Best) → queue ≡ [] → best.hops ≡ 0 → best.delivery ≡ never → AreSettling task late near settled u task.at arrival queue best
     start_state queue best empty hops delivery = rw empty (record {
       flags = opened.flags;
+      many = ap length settled_is ∙ flag_many off u ∙ ap length off_is ∙ all_many (length task.shut);
       closed = opened.closed;
       early = λ n w b step k on open'. absurd (both_ways (slice_index_or task.shut k false) open' (ap (λ j. slice_index_or task.shut j false) (only_start k on) ∙ is.start_shut));
       lowered = opened_by;
@@ -262,7 +263,7 @@ module _ (task : SearchTask) (is : IsTask task) (off settled : List Bool) (u : �
         let start_at : slice_index arrival' task.start ≡ task.at = fallen.kept task.start start_on ∙ opened.start in
         record {
           flags = state.flags;
-          many = ap length settled_is ∙ flag_many off u ∙ ap length off_is ∙ all_many (length task.shut);
+          many = state.many;
           start_settled = start_on;
           start_reached = start_at;
           closed = λ k on. omega (arith, fallen.lowered k, opened.closed k on);
@@ -296,7 +297,7 @@ module _ (task : SearchTask) (is : IsTask task) (late near : List ℕ) (settled 
   pub next_state : IsBound task late near → AreSettling task late near (slice_set settled e.node true) e.node (slice_index arrival0 e.node) arrival0 queue best0
   next_state bound =
       let since : task.at ≤ slice_index arrival0 e.node = Leads-later (Takes task) (takes_timely task is.nodes) next_way.0 task.start task.at e.node (slice_index arrival0 e.node) next_way.2 in
-      settles task late near settled arrival0 queue0 queue e was.queue_is moved first next_within unsettled best0 bound was.flags was.closed since was.lowered was.sooner was.found
+      settles task late near settled arrival0 queue0 queue e was.queue_is moved first next_within unsettled best0 bound was.flags was.many was.closed since was.lowered was.sooner was.found
 
   pub next_counted : (settled' : List Bool) (old new : ℕ) → settled' ≡ slice_set settled e.node true → old ≤ new + sent_by_settled task settled + degree task e.node → old ≤ new + sent_by_settled task settled'
   next_counted settled' old new settled_is le = omega (arith, ap (sent_by_settled task) settled_is, next_sent)
@@ -306,7 +307,7 @@ module _ (task : SearchTask) (is : IsTask task) (late near : List ℕ) (settled 
       AreSettled task late near settled' arrival queue' best
   next_settled settled' arrival queue' best settled_is state fallen taken =
       let other : task.goal ≢ e.node = λ same. head_other task late near settled arrival0 queue0 queue e was.queue_is moved first (sym same) in
-      rw settled_is (settled_next task late near settled e.node (slice_index arrival0 e.node) arrival0 best0 arrival queue' best state fallen taken was.many other
+      rw settled_is (settled_next task late near settled e.node (slice_index arrival0 e.node) arrival0 best0 arrival queue' best state fallen taken other
       (flag_stays settled e.node task.start next_within was.start_settled) was.start_reached was.goal_unsettled was.closed)
 
 -- what a `Vec` of flags has at an index, at the usual default

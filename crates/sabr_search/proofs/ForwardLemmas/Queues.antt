@@ -64,6 +64,7 @@ pub found_better : (task : SearchTask) (late near : List ℕ) (settled : List Bo
     hops < settled_count settled → delivery < best.delivery → IsWayTo task task.goal (hops + 1) delivery → AreSettling task late near settled u t arrival queue (record { delivery = delivery; hops = hops + 1 })
 found_better task late near settled u t arrival queue best delivery hops so_far few less way = record {
   flags = so_far.flags;
+  many = so_far.many;
   closed = so_far.closed;
   early = so_far.early;
   lowered = so_far.lowered;
@@ -131,6 +132,7 @@ module _ (task : SearchTask) (late near : List ℕ) (settled : List Bool) (u t n
   pub pushed : AreSettling task late near settled u t (slice_set arrival w b) queue' best
   pushed = record {
     flags = set_many arrival w b ∙ so_far.flags;
+    many = so_far.many;
     closed = λ k e. omega (arith, falls k, so_far.closed k e);
     early = λ m v x s k on open'. omega (arith, kept k on, so_far.early m v x s k on open');
     lowered = λ k open'. omega (arith, falls k, so_far.lowered k open');
@@ -263,10 +265,11 @@ module _ (task : SearchTask) (bounds near : List ℕ) (settled : List Bool) (arr
     }
 
     -- so its contacts can be taken
-    pub settles : (best : Best) → IsBound task bounds near → length arrival ≡ length task.shut → AreClosed task.shut arrival task.at → task.at ≤ slice_index arrival e.node → AreBy task bounds arrival → best.delivery ≤ never →
+    pub settles : (best : Best) → IsBound task bounds near → length arrival ≡ length task.shut → length settled ≡ length task.shut → AreClosed task.shut arrival task.at → task.at ≤ slice_index arrival e.node → AreBy task bounds arrival → best.delivery ≤ never →
         IsFirst task settled best → AreSettling task bounds near (slice_set settled e.node true) e.node (slice_index arrival e.node) arrival queue' best
-    settles best bound flags closed since lowered sooner found = record {
+    settles best bound flags many closed since lowered sooner found = record {
       flags = flags;
+      many = flag_many settled e.node ∙ many;
       closed = λ k on. omega (arith, closed k on, since);
       early = λ n w b step.
           let later : e.at ≤ b + cost_to near w = omega (arith, head_arrives unsettled, bound.costs n e.node (slice_index arrival e.node) w b step head_open (omega (arith, bound.since, since))) in

@@ -17,7 +17,7 @@ use Rattle.sabr_model.proofs.RouteLemmas.Routes.{route_facts}
 use Rattle.sabr_model.proofs.ListLemmas.Begins.{first_hop, end_is_received}
 use Rattle.sabr_model.specs.routes.Hops.{hop_arrival}
 use Rattle.sabr_search.specs.declared.backward.pick.Standing.{Standing}
-use Rattle.sabr_search.specs.questions.Task.{SearchTask, HasNodes, IsTask, IsBehind, is_closed, task_of, latest_arrival}
+use Rattle.sabr_search.specs.questions.Task.{SearchTask, HasNodes, IsTask, IsBehind, is_closed, task_of, most_nodes, latest_arrival}
 use Rattle.sabr_search.specs.questions.Course.{AreShut, IsStop, AreStops}
 use Rattle.sabr_search.proofs.LinkLemmas.Arrivals.{arrival_parts, arrives_later}
 use Rattle.sabr_search.proofs.WayLemmas.Bridge.{start_is_shut}
@@ -237,8 +237,8 @@ behind_passed p r prefix shut stop here shuts nodes goal goal_is excluded = reco
 }
 
 pub task_passed : (p : TabledPlan) (r : RouteRequest) (prefix : List ℕ) (shut : List Bool) (stop : Standing) → IsStop p r prefix stop → AreShut p.table shut (is_closed p.plan r prefix) → HasNodes p.plan p.table → (goal : ℕ) → slice_get p.table goal ≡ Some r.destination → (excluded : List ℕ) →
-    IsPlan p.plan → IsRequest r → IsPrefix p.plan r prefix → IsTask (task_of p r shut excluded stop.node stop.at goal)
-task_passed p r prefix shut stop here shuts nodes goal goal_is excluded good asked facts =
+    IsPlan p.plan → length p.table ≤ most_nodes → IsRequest r → IsPrefix p.plan r prefix → IsTask (task_of p r shut excluded stop.node stop.at goal)
+task_passed p r prefix shut stop here shuts nodes goal goal_is excluded good few asked facts =
     let task : SearchTask = task_of p r shut excluded stop.node stop.at goal in
     let behind = behind_passed p r prefix shut stop here shuts nodes goal goal_is excluded in
     let avoids = and_parts _ (not (has r.destination r.avoided)) asked.avoids in
@@ -251,6 +251,7 @@ task_passed p r prefix shut stop here shuts nodes goal goal_is excluded good ask
       nodes = nodes;
       margin = asked.margin;
       as_many = shuts.many;
+      few = few;
       start_in = slice_get_within p.table stop.node here.last_node here.stands;
       goal_in = slice_get_within p.table goal r.destination goal_is;
       start_shut = start_is_shut task prefix behind;

@@ -80,6 +80,7 @@ AreBy task late arrival = (k : ℕ) → slice_index_or task.shut k false ≡ fal
 -- what holds while the contacts of node u are taken, which is reached at t
 pub record AreSettling (task : SearchTask) (late near : List ℕ) (settled : List Bool) (u t : ℕ) (arrival : List ℕ) (queue : List Event) (best : Best) : Type 0 where
   pub flags : length arrival ≡ length task.shut
+  pub many : length settled ≡ length task.shut
   pub closed : AreClosed task.shut arrival t
   pub early : (n w b : ℕ) → Takes task n u t w b → AreSettledBy task near settled arrival (b + cost_to near w)
   pub lowered : AreBy task late arrival

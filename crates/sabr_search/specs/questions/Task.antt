@@ -41,13 +41,14 @@ never = 2 ^ 64 - 1
 abbrev pub latest_arrival : ℕ
 latest_arrival = 253372764799
 
--- what holds for every search: the plan and the request obey their rules, each node has a flag, the start is shut, and
--- the goal is open
+-- what holds for every search: the plan and the request obey their rules, each node has a flag, they are few, the start is
+-- shut, and the goal is open
 pub record IsTask (task : SearchTask) : Type 0 where
   pub plan : IsPlan task.plan
   pub nodes : HasNodes task.plan task.table
   pub margin : task.request.margin ≤ 1000000
   pub as_many : length task.shut ≡ length task.table
+  pub few : length task.table ≤ most_nodes
   pub start_in : task.start < length task.table
   pub goal_in : task.goal < length task.table
   pub start_shut : slice_index_or task.shut task.start false ≡ true
@@ -90,7 +91,6 @@ pub record IsAsked (task : SearchTask) (prefix : List ℕ) : Type 0 where
   pub task_is : IsTask task
   pub behind : IsBehind task prefix
   pub fits : IsTrue (is_prefix task.plan task.request prefix)
-  pub nodes : length task.table ≤ most_nodes
 
 -- the most hops that a way after the prefix may have: fewer than there are nodes, and those that a limit leaves
 abbrev pub left_of : SearchTask → List ℕ → ℕ

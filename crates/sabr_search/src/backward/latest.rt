@@ -40,12 +40,12 @@ impl<A: Allocator + Copy> Latest<A> {
         let mut taken = Vec::new(alloc);
         taken.resize(nodes, false)?;
         let mut queue = Queue::new(alloc);
-        queue.push(Event {
+        let first = Event {
             at: 0,
-            rank: 0,
             hops: 0,
             node: task.goal(),
-        })?;
+        };
+        queue.push(first, 0)?;
         Ok(Latest { late, taken, queue })
     }
 
@@ -91,12 +91,12 @@ impl<A: Allocator + Copy> Latest<A> {
         if last <= latest {
             return Ok(());
         }
-        self.queue.push(Event {
+        let event = Event {
             at: NEVER - last,
-            rank: 0,
             hops: 0,
             node,
-        })?;
+        };
+        self.queue.push(event, 0)?;
         self.late[node] = last;
         self.taken[node] = false;
         Ok(())

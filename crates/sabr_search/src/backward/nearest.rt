@@ -65,12 +65,12 @@ impl<A: Allocator + Copy> Latest<A> {
             return Ok(());
         }
         let rank = note_hops(hops, node, to);
-        self.queue.push(Event {
+        let event = Event {
             at: NEVER - last,
-            rank,
             hops: 0,
             node,
-        })?;
+        };
+        self.queue.push(event, rank)?;
         self.late[node] = last;
         self.taken[node] = false;
         Ok(())

@@ -1,105 +1,71 @@
 //! Waiting events, the earliest first.
 
-ghost use Rattle.std.specs.Prelude.{◌≡◌, ◌≤◌, ◌<◌, ◌∷◌, ◌++◌, ℕ, [], List, length, map, slice_index_or, All, IsTrue, false, Some, IfSome, IfNone, OnOk, OnErr};
-ghost use Rattle.std.specs.List.{AllPairs};
-ghost use Rattle.std.specs.declared.cmp.Reverse.{Reverse};
-ghost use Rattle.sabr_search.specs.declared.forward.queue.Event.{Event};
-ghost use Rattle.std.specs.BinaryHeap.{heap_items, IsHeap};
+ghost use Rattle.std.specs.Prelude.{◌≡◌, ◌≤◌, ◌<◌, ◌^◌, ◌∷◌, [], map, All, IfSome, IfNone, OnOk, OnErr};
 ghost use Rattle.std.specs.List.Sorted.{IsPermutation};
+ghost use Rattle.sabr_search.specs.layers.Events.{event_of};
 
 use sabr_model::NoMemory;
 use std::alloc::Allocator;
 use std::cmp::Reverse;
-use std::collections::{BinaryHeap, VecDeque};
+use std::collections::BinaryHeap;
 use std::marker::Model;
 
-/// A node and a second for it. The earlier one comes first; of two at the same second, the one of lesser rank.
-#[derive(Clone, Copy, PartialEq, Eq, PartialOrd, Ord)]
+/// The ranks that are told apart.
+const RANKS: u64 = 65536;
+
+/// The hops, and the nodes, that an event may have.
+const PLACES: u128 = 16777216;
+
+/// The keys of one second.
+const KEYS: u128 = 18446744073709551616;
+
+/// A node and a second for it.
+#[derive(Clone, Copy)]
 pub struct Event {
     pub at: u64,
-    pub rank: u64,
     pub hops: usize,
     pub node: usize,
 }
 
-impl Event {
-    /// Returns true if this one is earlier than the other; of two at the same second, if it has a lesser rank.
-    fn is_before(self, other: Event) -> bool
-        ensures before { IsTrue result → self.at ≤ other.at }
-        ensures behind { result ≡ false → other.at ≤ self.at }
-    {
-        self.at < other.at || (self.at == other.at && self.rank < other.rank)
-    }
+/// Returns the key of an event: the lesser, the earlier it is; of two at the same second, the lesser its rank is.
+fn key_of(event: Event, rank: u64) -> u128
+    requires hops { event.hops < 2 ^ 24 }
+    requires node { event.node < 2 ^ 24 }
+    ensures { event_of result ≡ event }
+{
+    let first = event.at as u128 * RANKS as u128 + rank.min(RANKS - 1) as u128;
+    (first * PLACES + event.hops as u128) * PLACES + event.node as u128
 }
 
-/// Removes and returns the earliest event.
-fn earliest<A: Allocator + Copy>(events: &mut BinaryHeap<Reverse<Event>, A>) -> Option<Event>
-    requires { IsHeap ⟦<Reverse<Event> as Ord>⟧.cmp (heap_items events.old) }
-    ensures ordered { IsHeap ⟦<Reverse<Event> as Ord>⟧.cmp (heap_items events.new) }
-    ensures none { IfNone result (heap_items events.old ≡ []) }
-    ensures moved { IfSome result (λ x. IsPermutation (map (λ e. e.0) (heap_items events.old)) (x ∷ map (λ e. e.0) (heap_items events.new))) }
-    ensures first { IfSome result (λ x. All (λ e. x.at ≤ e.0.at) (heap_items events.new)) }
+/// Returns the event that has a key.
+fn event_of_key(key: u128) -> Event
+    ensures { result ≡ event_of key }
 {
-    let Reverse(event) = events.pop()?;
-    Some(event)
-}
-
-/// Returns the earliest event.
-fn top<A: Allocator + Copy>(events: &BinaryHeap<Reverse<Event>, A>) -> Option<Event>
-    requires { IsHeap ⟦<Reverse<Event> as Ord>⟧.cmp (heap_items events.now) }
-    ensures none { IfNone result (heap_items events.now ≡ []) }
-    ensures first { IfSome result (λ x. All (λ e. x.at ≤ e.0.at) (heap_items events.now)) }
-    ensures some { IfSome result (λ x. 0 < length (heap_items events.now)) }
-    ensures least { IfSome result (λ x. (t : ℕ) → All (λ (e : Reverse Event). t ≤ e.0.at) (heap_items events.now) → t ≤ x.at) }
-{
-    match events.peek() {
-        Some(event) => Some(event.0),
-        None => None,
-    }
-}
-
-/// Returns true if the earliest event of the heap comes before the run's first one, or the run is empty.
-fn is_in_heap<A: Allocator + Copy>(
-    run: &VecDeque<Event, A>,
-    events: &BinaryHeap<Reverse<Event>, A>,
-) -> bool
-    requires heap { IsHeap ⟦<Reverse<Event> as Ord>⟧.cmp (heap_items events.now) }
-    requires run { AllPairs (λ (x y : Event). x.at ≤ y.at) run.now.items }
-    ensures none { IsTrue result → heap_items events.now ≡ [] → run.now.items ≡ [] }
-    ensures heap { IsTrue result → (t : ℕ) → All (λ (e : Reverse Event). t ≤ e.0.at) (heap_items events.now) → All (λ (e : Event). t ≤ e.at) run.now.items }
-    ensures run { result ≡ false → (0 < length run.now.items) × ((d : Event) → All (λ (e : Reverse Event). (slice_index_or run.now.items 0 d).at ≤ e.0.at) (heap_items events.now)) }
-{
-    let Some(front) = run.front() else {
-        return true;
-    };
-    match top(events) {
-        Some(event) => event.is_before(*front),
-        None => false,
+    Event {
+        at: (key / KEYS) as u64,
+        hops: (key / PLACES % PLACES) as usize,
+        node: (key % PLACES) as usize,
     }
 }
 
 /// Waiting events, seen as a list of them in some order.
 #[derive(Drop)]
 pub struct Queue<A: Allocator + Copy> {
-    /// Events in order: each came when no event of the run was later.
-    run: VecDeque<Event, A>,
-    /// The last one that came to the run.
-    last: Event,
-    /// The others.
-    events: BinaryHeap<Reverse<Event>, A>,
+    /// Their keys.
+    keys: BinaryHeap<Reverse<u128>, A>,
 }
 
 impl<A: Allocator + Copy> Model for Queue<A> {
-    ghost use Rattle.std.specs.Prelude.{List, map, ◌++◌, ◌≤◌, All};
-    ghost use Rattle.std.specs.List.{AllPairs};
+    ghost use Rattle.std.specs.Prelude.{List, map};
     ghost use Rattle.std.specs.BinaryHeap.{heap_items, IsHeap};
     ghost use Rattle.sabr_search.specs.declared.forward.queue.Event.{Event};
+    ghost use Rattle.sabr_search.specs.layers.Events.{event_of};
 
     ghost Value = { List Event };
 
-    ghost view = { λ q. q.run.items ++ map (λ e. e.0) (heap_items q.events) };
+    ghost view = { λ q. map (λ k. event_of k.0) (heap_items q.keys) };
 
-    ghost invariant = { λ q. IsHeap ⟦<Reverse<Event> as Ord>⟧.cmp (heap_items q.events) × AllPairs (λ (x y : Event). x.at ≤ y.at) q.run.items × All (λ (x : Event). x.at ≤ q.last.at) q.run.items };
+    ghost invariant = { λ q. IsHeap ⟦<Reverse<u128> as Ord>⟧.cmp (heap_items q.keys) };
 }
 
 impl<A: Allocator + Copy> Queue<A> {
@@ -108,14 +74,7 @@ impl<A: Allocator + Copy> Queue<A> {
         ensures { result ≡ [] }
     {
         Queue {
-            run: VecDeque::new(alloc),
-            last: Event {
-                at: 0,
-                rank: 0,
-                hops: 0,
-                node: 0,
-            },
-            events: BinaryHeap::new(alloc),
+            keys: BinaryHeap::new(alloc),
         }
     }
 
@@ -123,21 +82,18 @@ impl<A: Allocator + Copy> Queue<A> {
     pub fn clear(&mut self)
         ensures { self.new ≡ [] }
     {
-        self.run.clear();
-        self.events.clear();
+        self.keys.clear();
     }
 
-    /// Adds an event; refused if the queue has to grow and memory is refused.
-    pub fn push(&mut self, event: Event) -> Result<(), NoMemory>
+    /// Adds an event; refused if the queue has to grow and memory is refused. Of events at one second, those of lesser
+    /// rank come first.
+    pub fn push(&mut self, event: Event, rank: u64) -> Result<(), NoMemory>
+        requires hops { event.hops < 2 ^ 24 }
+        requires node { event.node < 2 ^ 24 }
         ensures ok { OnOk result (IsPermutation (event ∷ self.old) self.new) }
         ensures err { OnErr result (self.new ≡ self.old) }
     {
-        if self.run.is_empty() || !event.is_before(self.last) {
-            self.run.push_back(event)?;
-            self.last = event;
-            return Ok(());
-        }
-        self.events.push(Reverse(event))?;
+        self.keys.push(Reverse(key_of(event, rank)))?;
         Ok(())
     }
 
@@ -147,9 +103,7 @@ impl<A: Allocator + Copy> Queue<A> {
         ensures moved { IfSome result (λ x. IsPermutation self.old (x ∷ self.new)) }
         ensures first { IfSome result (λ x. All (λ e. x.at ≤ e.at) self.new) }
     {
-        if is_in_heap(&self.run, &self.events) {
-            return earliest(&mut self.events);
-        }
-        self.run.pop_front()
+        let Reverse(key) = self.keys.pop()?;
+        Some(event_of_key(key))
     }
 }

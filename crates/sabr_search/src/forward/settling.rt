@@ -136,12 +136,12 @@ impl<A: Allocator + Copy> Settling<A> {
         }
         let cost = forward.cost(node);
         let rank = forward.rank(node);
-        self.queue.push(Event {
+        let waiting = Event {
             at: at + cost,
-            rank,
             hops,
             node,
-        })?;
+        };
+        self.queue.push(waiting, rank)?;
         self.arrival[node] = at;
         Ok(best)
     }
@@ -246,7 +246,6 @@ impl<A: Allocator + Copy> Settling<A> {
     {
         let event = Event {
             at: forward.task.at(),
-            rank: 0,
             hops: 0,
             node: forward.task.start(),
         };
@@ -296,7 +295,6 @@ impl<A: Allocator + Copy> Settling<A> {
                 }
                 let reached = Event {
                     at: self.arrival[event.node],
-                    rank: event.rank,
                     hops: event.hops,
                     node: event.node,
                 };

@@ -10,6 +10,7 @@ use Rattle.sabr_search.specs.questions.Course.{AreShut, IsStop, AreStops}
 use Rattle.sabr_search.proofs.LinkLemmas.PlanFacts.{has_nodes}
 use Rattle.sabr_search.proofs.WayLemmas.Prefixes.{prefix_facts}
 use Rattle.sabr_search.proofs.WayLemmas.Courses.{shut_more, closed_more, hop_at, stop_after, arrival_at, taken_back, same_stops, stops_more, behind_passed, task_passed}
+use Rattle.sabr_search.proofs.WayLemmas.Shortness.{nodes_few}
 use Rattle.sabr_search.proofs.course.Course.go.Goals as goal
 
 pub open-requires : goal.open-requires
@@ -151,6 +152,6 @@ returns-clause-entered g c = λ excluded.
     let here : IsStop p r prefix c.loop-place.standing = rw whole at so_far.here in
     let shuts : AreShut p.table c.loop-place.self.shut (is_closed p.plan r prefix) = rw whole at so_far.shuts in
     let goal_is = ap (slice_get p.table) so_far.goal_is ∙ course.goal_is in (
-      task_passed p r prefix c.loop-place.self.shut c.loop-place.standing here shuts nodes c.loop-place.self.goal goal_is excluded course.plan course.asked (prefix_facts p.plan r prefix c.requires.fits),
+      task_passed p r prefix c.loop-place.self.shut c.loop-place.standing here shuts nodes c.loop-place.self.goal goal_is excluded course.plan (nodes_few p course.plan course.tabled) course.asked (prefix_facts p.plan r prefix c.requires.fits),
       behind_passed p r prefix c.loop-place.self.shut c.loop-place.standing here shuts nodes c.loop-place.self.goal goal_is excluded,
     )

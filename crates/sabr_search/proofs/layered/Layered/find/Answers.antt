@@ -3,13 +3,12 @@ use Rattle.sabr_search.proofs.WayLemmas.Since.{arrivals_since, filled}
 use Rattle.std.specs.Option.{option_map}
 use Rattle.sabr_model.specs.routes.Record.{record_of}
 use Rattle.sabr_model.specs.plan.Table.{node_count}
-use Rattle.sabr_search.specs.questions.Course.{IsCourse}
 use Rattle.sabr_search.specs.questions.Task.{SearchTask, IsTask, IsBehind, task_of}
 use Rattle.sabr_search.specs.questions.Told.{looks_taken}
 use Rattle.sabr_search.proofs.WayLemmas.Prefixes.{prefix_facts}
 use Rattle.sabr_search.proofs.WayLemmas.Least.{none_is}
 use Rattle.sabr_search.proofs.AnswerLemmas.Law.{contacts_few, prefix_few}
-use Rattle.sabr_search.proofs.WayLemmas.Shortness.{nodes_few, entered_looks}
+use Rattle.sabr_search.proofs.WayLemmas.Shortness.{entered_looks}
 use Rattle.sabr_search.proofs.layered.Layered.find.Goals as goal
 
 pub go-requires-clause-course : goal.go-requires-clause-course
@@ -39,12 +38,10 @@ pub least_after-requires-clause-asked : goal.least_after-requires-clause-asked
 least_after-requires-clause-asked g c =
     let found = rw c.plan-plan.ensures at c.in_ok-standing.ensures.entered in
     let both = found c.args.part.excluded.now in
-    let course : IsCourse c.args.index.now c.args.request.now c.go.new.self = rw c.plan-plan.ensures at c.in_ok-standing.ensures.course in
     rw c.new-task.ensures (record {
       task_is = both.0;
       behind = both.1;
       fits = c.requires.fits;
-      nodes = nodes_few c.args.index.now course.plan course.tabled;
     })
 
 pub least_after-requires-clause-few : goal.least_after-requires-clause-few

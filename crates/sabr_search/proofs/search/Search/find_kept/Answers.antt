@@ -4,7 +4,7 @@ use Rattle.sabr_search.proofs.AnswerLemmas.Answered.{left_less}
 use Rattle.sabr_search.proofs.search.Search.find_kept.Goals as goal
 
 pub run-requires-clause-nodes : goal.run-requires-clause-nodes
-run-requires-clause-nodes g c = omega (arith, c.left-left.ensures, left_less c.args.asked.now.task.now c.args.asked.now.prefix.now c.requires.asked, c.requires.asked.nodes)
+run-requires-clause-nodes g c = omega (arith, c.left-left.ensures, left_less c.args.asked.now.task.now c.args.asked.now.prefix.now c.requires.asked, c.requires.asked.task_is.few)
 
 pub shut_few-requires-clause-request : goal.shut_few-requires-clause-request
 shut_few-requires-clause-request g c = of_request c.args.asked.now.task.now c.args.asked.now.prefix.now c.requires.asked.behind

@@ -3,7 +3,7 @@ use Rattle.sabr_search.proofs.AnswerLemmas.Answered.{left_less, left_free, layer
 use Rattle.sabr_search.proofs.search.Search.find_own.Goals as goal
 
 pub run-requires-clause-nodes : goal.run-requires-clause-nodes
-run-requires-clause-nodes g c = omega (arith, c.left.ensures, left_less c.args.asked.now.task.now c.args.asked.now.prefix.now c.requires.asked, c.requires.asked.nodes)
+run-requires-clause-nodes g c = omega (arith, c.left.ensures, left_less c.args.asked.now.task.now c.args.asked.now.prefix.now c.requires.asked, c.requires.asked.task_is.few)
 
 pub unreachable-requires : goal.unreachable-requires
 unreachable-requires g c =

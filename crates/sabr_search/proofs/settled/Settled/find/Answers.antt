@@ -7,7 +7,7 @@ use Rattle.sabr_search.specs.questions.Told.{looks_taken}
 use Rattle.sabr_search.proofs.WayLemmas.Prefixes.{prefix_facts}
 use Rattle.sabr_search.proofs.WayLemmas.Least.{none_is}
 use Rattle.sabr_search.proofs.AnswerLemmas.Law.{contacts_few, prefix_few}
-use Rattle.sabr_search.proofs.WayLemmas.Shortness.{nodes_few, entered_looks}
+use Rattle.sabr_search.proofs.WayLemmas.Shortness.{entered_looks}
 use Rattle.sabr_search.proofs.settled.Settled.find.Goals as goal
 
 pub returns-in_err-taken-clause-kept : goal.returns-in_err-taken-clause-kept
@@ -49,12 +49,10 @@ pub least_beside-answer-requires-clause-asked : goal.least_beside-answer-require
 least_beside-answer-requires-clause-asked g c =
     let found = rw c.plan-plan.ensures at c.in_ok-standing.ensures.entered in
     let both = found c.args.part.excluded.now in
-    let course : IsCourse c.args.index.now c.args.request.now c.go.new.self = rw c.plan-plan.ensures at c.in_ok-standing.ensures.course in
     rw c.new-task.ensures (record {
       task_is = both.0;
       behind = both.1;
       fits = c.requires.fits;
-      nodes = nodes_few c.args.index.now course.plan course.tabled;
     })
 
 pub least_beside-answer-requires-clause-kept : goal.least_beside-answer-requires-clause-kept

@@ -4,7 +4,7 @@ use Rattle.sabr_search.proofs.AnswerLemmas.Answered.{left_less, layers_within, s
 use Rattle.sabr_search.proofs.forward.layers.Layers.least_after.Goals as goal
 
 pub least_within-requires-clause-nodes : goal.least_within-requires-clause-nodes
-least_within-requires-clause-nodes g c = omega (arith, c.left.ensures, left_less c.args.task.now c.args.prefix.now c.requires.asked, c.requires.asked.nodes)
+least_within-requires-clause-nodes g c = omega (arith, c.left.ensures, left_less c.args.task.now c.args.prefix.now c.requires.asked, c.requires.asked.task_is.few)
 
 pub unreachable-requires : goal.unreachable-requires
 unreachable-requires g c = omega (arith, rw (c.in_default.is, c.left.ensures) at c.in_ok-found.ensures.none, c.requires.few, search_fits c.args.task.now c.args.prefix.now c.requires.asked)

@@ -1,5 +1,6 @@
-use Rattle.std.proofs.Common.{◌≡◌, ◌≢◌, ◌+◌, ◌<◌, length, false, slice_index, slice_index_or, sym, ap, ◌∙◌, arith}
+use Rattle.std.proofs.Common.{◌≡◌, ◌≢◌, ◌+◌, ◌<◌, length, Bool, false, slice_index, slice_index_or, sym, ap, ◌∙◌, arith}
 use Rattle.std.proofs.lemmas.List.Sorted.{length_permutation}
+use Rattle.std.proofs.lemmas.List.Sums.{count_by-le-length}
 use Rattle.sabr_search.specs.declared.forward.queue.Event.{Event}
 use Rattle.sabr_search.specs.layers.Settling.{IsWayTo}
 use Rattle.sabr_search.proofs.ForwardLemmas.Queues.{found_better, way_more, open_sooner, pushed, pushed_falls}
@@ -24,7 +25,7 @@ returns-clause-state g c =
     let step = c.requires.step (open_sooner task _ _ _ _ _ w b _ _ _ c.requires.state c.requires.later less) in
     let way : IsWayTo task w (c.args.event.hops + 1) b = way_more task c.requires.task step.0 c.args.event.node c.args.event.hops c.args.event.at w b c.requires.real step.1 in
     let cost = c.cost-cost.result in
-    let event : Event = record { at = b + cost; rank = c.rank-rank.result; hops = c.args.event.hops + 1; node = w } in
+    let event : Event = record { at = b + cost; hops = c.args.event.hops + 1; node = w } in
     pushed task _ _ _ c.args.event.node c.args.event.at step.0 b event _ _ _ c.args.best c.requires.state c.requires.later within less other step.1 way (omega (arith, c.requires.few)) (omega (arith, c.cost-cost.ensures)) c.in_ok-push.ensures.ok
 
 pub returns-clause-fallen : goal.returns-clause-fallen
@@ -38,8 +39,16 @@ returns-clause-fallen g c =
     let step = c.requires.step (open_sooner task _ _ _ _ _ w b _ _ _ c.requires.state c.requires.later less) in
     let way : IsWayTo task w (c.args.event.hops + 1) b = way_more task c.requires.task step.0 c.args.event.node c.args.event.hops c.args.event.at w b c.requires.real step.1 in
     let cost = c.cost-cost.result in
-    let event : Event = record { at = b + cost; rank = c.rank-rank.result; hops = c.args.event.hops + 1; node = w } in
+    let event : Event = record { at = b + cost; hops = c.args.event.hops + 1; node = w } in
     pushed_falls task _ _ _ c.args.event.node c.args.event.at step.0 b event _ _ _ c.args.best c.requires.state c.requires.later within less other step.1 way (omega (arith, c.requires.few)) (omega (arith, c.cost-cost.ensures)) c.in_ok-push.ensures.ok
 
 pub returns-clause-pushes : goal.returns-clause-pushes
 returns-clause-pushes g c = omega (arith, length_permutation _ _ c.in_ok-push.ensures.ok)
+
+pub push-requires-clause-hops : goal.push-requires-clause-hops
+push-requires-clause-hops g c =
+    let task = c.args.forward.now.task.now in
+    omega (arith, c.requires.few, count_by-le-length (λ (b : Bool). b) c.args.self.now.settled.items, c.requires.state.many, c.requires.task.as_many, c.requires.task.few)
+
+pub push-requires-clause-node : goal.push-requires-clause-node
+push-requires-clause-node g c = omega (arith, c.requires.receiver, c.requires.task.few)

@@ -1,0 +1,7 @@
+-- The events that wait, each held as one number.
+use Rattle.std.specs.Prelude.{ℕ, ◌/◌, ◌%◌, ◌^◌}
+use Rattle.sabr_search.specs.declared.forward.queue.Event.{Event}
+
+-- the event of a key
+abbrev pub event_of : ℕ → Event
+event_of key = record { at = key / 2 ^ 64; hops = key / 2 ^ 24 % 2 ^ 24; node = key % 2 ^ 24 }
