@@ -2,7 +2,7 @@
 
 ghost use Rattle.std.specs.Prelude.{◌≡◌, Some, IsTrue, IfOk, slice_get};
 ghost use Rattle.sabr_model.specs.plan.Plan.{has};
-ghost use Rattle.sabr_model.specs.plan.Stretches.{AreEnds, AreEndsOf};
+ghost use Rattle.sabr_model.specs.plan.ContactEnds.{AreEnds, AreEndsOf};
 ghost use Rattle.sabr_model.specs.plan.Tabled.{IsTabled};
 
 use sabr_model::{Contact, Ends, Plan};

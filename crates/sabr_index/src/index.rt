@@ -1,7 +1,7 @@
 //! The index of a plan.
 
 ghost use Rattle.std.specs.Prelude.{◌≡◌, ◌<◌, ℕ, Some, IfOk, length, slice_get};
-ghost use Rattle.sabr_model.specs.plan.Stretches.{AreEnds};
+ghost use Rattle.sabr_model.specs.plan.ContactEnds.{AreEnds};
 ghost use Rattle.sabr_model.specs.plan.Tabled.{IsTabled};
 ghost use Rattle.sabr_index.specs.Links.{AreLinksOf, AreLinksTo};
 

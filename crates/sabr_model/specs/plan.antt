@@ -3,7 +3,7 @@ pub mod Plan
 pub mod Table
 pub mod Tabled
 pub mod Known
-pub mod Stretches
+pub mod ContactEnds
 pub mod Adding
 pub mod Openings
 pub mod Light

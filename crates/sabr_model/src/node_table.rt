@@ -6,7 +6,7 @@ ghost use Rattle.indexmap.specs.IndexMap.{IsUnique, get, keys, spare};
 ghost use Rattle.std.specs.List.{list_any};
 ghost use Rattle.sabr_model.specs.plan.Plan.{rises_above};
 ghost use Rattle.sabr_model.specs.plan.Table.{without_number, list_at, with_number, with_node, with_ends, KeepsPlaces, IsTableOf};
-ghost use Rattle.sabr_model.specs.plan.Stretches.{AreEndsOf, AreEnds};
+ghost use Rattle.sabr_model.specs.plan.ContactEnds.{AreEndsOf, AreEnds};
 
 use crate::contact::Contact;
 use crate::plan::ends::Ends;

@@ -11,7 +11,7 @@ use Rattle.sabr_model.specs.declared.contact.Contact.{Contact}
 use Rattle.sabr_model.specs.declared.plan.ends.Ends.{Ends}
 use Rattle.sabr_model.specs.plan.Plan.{ContactPlan, TabledPlan, contact_named, has}
 use Rattle.sabr_model.specs.plan.Table.{ends_of, KeepsPlaces, IsTableOf}
-use Rattle.sabr_model.specs.plan.Stretches.{AreEndsOf, AreEnds}
+use Rattle.sabr_model.specs.plan.ContactEnds.{AreEndsOf, AreEnds}
 use Rattle.sabr_model.specs.plan.Known.{BeginEnds, IsKnown}
 use Rattle.sabr_model.proofs.PlanLemmas.TableLemmas.{has_node}
 

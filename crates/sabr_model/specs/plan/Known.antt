@@ -6,7 +6,7 @@ use Rattle.sabr_model.specs.declared.contact.Range.{Range}
 use Rattle.sabr_model.specs.declared.plan.ends.Ends.{Ends}
 use Rattle.sabr_model.specs.plan.Plan.{TabledPlan}
 use Rattle.sabr_model.specs.plan.Light.{light_of}
-use Rattle.sabr_model.specs.plan.Stretches.{AreEndsOf}
+use Rattle.sabr_model.specs.plan.ContactEnds.{AreEndsOf}
 
 -- beside the first contacts stand their ends
 abbrev pub BeginEnds : List ℕ → List Contact → List Ends → Type 0

@@ -2,7 +2,7 @@ use Rattle.std.proofs.Common.{◌≡◌, ◌<◌, ◌∙◌, List, true, get_or,
 use Rattle.std.proofs.lemmas.Grind.{common_steps}
 use Rattle.sabr_model.specs.declared.contact.Contact.{Contact}
 use Rattle.sabr_model.specs.plan.Plan.{has}
-use Rattle.sabr_model.specs.plan.Stretches.{AreEnds, AreEndsOf}
+use Rattle.sabr_model.specs.plan.ContactEnds.{AreEnds, AreEndsOf}
 use Rattle.sabr_model.proofs.PlanLemmas.KnownLemmas.{beside_more, sender_there, receiver_there}
 use Rattle.sabr_index.proofs.ends.ends_of_contacts.Goals as goal
 

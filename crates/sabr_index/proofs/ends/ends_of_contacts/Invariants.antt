@@ -1,7 +1,7 @@
 use Rattle.std.proofs.Common.{◌≡◌, ◌<◌, ℕ, length, slice_index_or}
 use Rattle.sabr_model.specs.declared.contact.Contact.{Contact}
 use Rattle.sabr_model.specs.declared.plan.ends.Ends.{Ends}
-use Rattle.sabr_model.specs.plan.Stretches.{AreEndsOf}
+use Rattle.sabr_model.specs.plan.ContactEnds.{AreEndsOf}
 use Rattle.sabr_index.proofs.ends.ends_of_contacts.Given as goal
 
 abbrev pub invariant-loop-contact : goal.invariant-loop-contact

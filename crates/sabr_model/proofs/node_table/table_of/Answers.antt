@@ -4,7 +4,7 @@ use Rattle.std.proofs.lemmas.Grind.{common_steps}
 use Rattle.indexmap.specs.IndexMap.{keys}
 use Rattle.sabr_model.specs.declared.contact.Contact.{Contact}
 use Rattle.sabr_model.specs.plan.Table.{IsTableOf}
-use Rattle.sabr_model.specs.plan.Stretches.{AreEndsOf}
+use Rattle.sabr_model.specs.plan.ContactEnds.{AreEndsOf}
 use Rattle.sabr_model.proofs.PlanLemmas.KnownLemmas.{beside_more, ends_kept_at, take_enough}
 use Rattle.sabr_model.proofs.PlanLemmas.TableLemmas.{IsTableOf-push}
 use Rattle.sabr_model.proofs.node_table.table_of.Goals as goal

@@ -3,7 +3,7 @@ use Rattle.indexmap.specs.IndexMap.{keys}
 use Rattle.sabr_model.specs.declared.contact.Contact.{Contact}
 use Rattle.sabr_model.specs.declared.plan.ends.Ends.{Ends}
 use Rattle.sabr_model.specs.plan.Table.{IsTableOf}
-use Rattle.sabr_model.specs.plan.Stretches.{AreEndsOf}
+use Rattle.sabr_model.specs.plan.ContactEnds.{AreEndsOf}
 use Rattle.sabr_model.proofs.node_table.table_of.Given as goal
 
 abbrev pub invariant-loop-contact : goal.invariant-loop-contact

@@ -6,7 +6,7 @@ use Rattle.sabr_model.specs.declared.contact.Range.{Range}
 use Rattle.sabr_model.specs.plan.Plan.{ContactPlan}
 use Rattle.sabr_model.specs.plan.RangeOrder.{IsRangeList}
 use Rattle.sabr_model.specs.plan.Table.{IsTableOf}
-use Rattle.sabr_model.specs.plan.Stretches.{AreEnds}
+use Rattle.sabr_model.specs.plan.ContactEnds.{AreEnds}
 use Rattle.sabr_model.specs.plan.Known.{BeginLights}
 use Rattle.sabr_model.proofs.PlanLemmas.RangeKeys.{range_list}
 use Rattle.sabr_model.proofs.PlanLemmas.KnownLemmas.{all_ends}
