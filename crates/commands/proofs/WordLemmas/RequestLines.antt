@@ -1,5 +1,5 @@
 -- The lines of a text of requests.
-use Rattle.std.proofs.Common.{◌≡◌, ℕ, ◌+◌, ◌<◌, List, [], ◌∷◌, length, refl, ap, sym, ◌∙◌, arith, Result, Ok, Err, Option, Some, None}
+use Rattle.std.proofs.Common.{◌≡◌, ℕ, ◌+◌, ◌<◌, List, [], ◌∷◌, length, refl, ap, sym, ◌∙◌, arith, Result, Ok, Err, Some}
 use Rattle.sabr_model.specs.routes.Arrival.{RouteRequest}
 use Rattle.commands.specs.declared.words.requests_fault.RequestKind.{RequestKind}
 use Rattle.commands.specs.declared.words.requests_fault.RequestsFault.{RequestsFault}

@@ -1,5 +1,5 @@
 -- The text of a check: what a plan holds, and its digest.
-use Rattle.std.specs.Prelude.{◌≡◌, ℕ, Bool, List, [], ◌∷◌, ◌++◌, codes, decimal, length, Result, Ok, Err, is_none}
+use Rattle.std.specs.Prelude.{◌≡◌, ℕ, List, [], ◌∷◌, ◌++◌, codes, decimal, length, Result, Ok, Err, is_none}
 use Rattle.std.specs.List.{concat, filter}
 use Rattle.hex.specs.Hex.{encode_lower}
 use Rattle.sabr_model.specs.declared.contact.Contact.{Contact}

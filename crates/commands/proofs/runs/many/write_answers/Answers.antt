@@ -1,4 +1,4 @@
-use Rattle.std.proofs.Common.{Ok, Err, refl, ap, sym, ◌∙◌}
+use Rattle.std.proofs.Common.{Ok, Err, refl, ap, ◌∙◌}
 use Rattle.std.proofs.lemmas.Result.{err_from_is_err_and}
 use Rattle.commands.specs.words.Requests.{fault_of, lines_in, requests_from}
 use Rattle.commands.specs.declared.words.requests_fault.RequestsFault.TheVariants.{NoMemory}

@@ -1,4 +1,4 @@
-use Rattle.std.proofs.Common.{◌≡◌, refl, sym, ap, ◌∙◌, Err}
+use Rattle.std.proofs.Common.{refl, sym, ap, ◌∙◌, Err}
 use Rattle.std.proofs.lemmas.Result.{err_from_is_err_and}
 use Rattle.commands.specs.words.Requests.{fault_of, lines_in, requests_from}
 use Rattle.commands.proofs.WordLemmas.RequestsRead.{not_read, lines_read, fault_told}

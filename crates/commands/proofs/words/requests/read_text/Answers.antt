@@ -1,4 +1,4 @@
-use Rattle.std.proofs.Common.{◌≡◌, ◌≤◌, List, [], ℕ, length, take, append-nil, sym, subst, inl, arith, ◌++◌}
+use Rattle.std.proofs.Common.{◌≡◌, ◌≤◌, List, [], ℕ, length, take, append-nil, subst, inl, arith, ◌++◌}
 use Rattle.std.proofs.lemmas.Grind.{common_steps}
 use Rattle.std.specs.Io.KnownBytes.{Consumes}
 use Rattle.sabr_plan.proofs.Consumed.{Consumes-append}
