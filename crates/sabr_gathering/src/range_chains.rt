@@ -8,8 +8,9 @@ ghost use Rattle.sabr_gathering.specs.RangeChains.{bucket_of_pair, IsLastOf, Tel
 use sabr_model::Range;
 use std::alloc::{AllocError, Allocator};
 
-/// The number of buckets.
-const BUCKETS: usize = 8192;
+/// The number of buckets. With 8192, a plan of 500 contacts takes 5 percent more instructions for one route, and one of 10000
+/// ranges up to 1 percent fewer.
+const BUCKETS: usize = 2048;
 
 /// What stands beside a range in the chain of its bucket.
 #[derive(Clone, Copy)]
@@ -23,15 +24,15 @@ pub struct RangeLink {
 /// The bucket of an ordered pair.
 pub fn bucket_of(one: u64, other: u64) -> usize
     ensures value { result ≡ bucket_of_pair one other }
-    ensures limit { result < 8192 }
+    ensures limit { result < 2048 }
 {
-    ((one % 8192 * 509 + other % 8192) % 8192) as usize
+    ((one % 2048 * 509 + other % 2048) % 2048) as usize
 }
 
 /// Makes room for a number for each bucket, if there is none yet.
 pub fn size_table<A: Allocator + Copy>(lasts: &mut Vec<usize, A>) -> Result<(), AllocError>
-    ensures sized { OnOk result (length lasts.new.items ≡ 8192) }
-    ensures same { length lasts.old.items ≡ 8192 → lasts.new.items ≡ lasts.old.items }
+    ensures sized { OnOk result (length lasts.new.items ≡ 2048) }
+    ensures same { length lasts.old.items ≡ 2048 → lasts.new.items ≡ lasts.old.items }
 {
     if lasts.len() != BUCKETS {
         lasts.clear();
