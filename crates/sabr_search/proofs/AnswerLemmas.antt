@@ -2,4 +2,5 @@
 pub mod Law
 pub mod Answered
 pub mod Around
+pub mod Soonest
 pub mod KeptAnswers

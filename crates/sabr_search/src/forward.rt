@@ -4,3 +4,4 @@ mod first_steps;
 pub mod layers;
 pub mod queue;
 pub mod settling;
+pub mod soonest;

@@ -8,6 +8,7 @@ ghost use Rattle.sabr_search.specs.layers.Reach.{IsReach};
 use crate::backward::latest::latest_of;
 use crate::backward::nearest::nearest_of;
 use crate::course::Course;
+use crate::forward::soonest::soonest_of;
 use crate::links::finger::Excluded;
 use crate::links::looks::Looks;
 use crate::task::Task;
@@ -24,6 +25,8 @@ pub struct Reach<A: Allocator + Copy> {
     pub near: Vec<u64, A>,
     /// For each node, the hops of such a way, as far as the list goes.
     pub hops: Vec<u64, A>,
+    /// For each node, a second before which no way from the source comes there; 0 after the list's end.
+    pub soon: Vec<u64, A>,
 }
 
 impl<A: Allocator + Copy> Reach<A> {
@@ -35,11 +38,12 @@ impl<A: Allocator + Copy> Reach<A> {
             late: Vec::new(alloc),
             near: Vec::new(alloc),
             hops: Vec::new(alloc),
+            soon: Vec::new(alloc),
         }
     }
 
-    /// Finds what bounds the ways of a request. Nothing is known of any node if the plan hasn't both ends of the request,
-    /// or if more looks might be needed than are left.
+    /// Finds what bounds the ways of a request. Nothing is known of any node if the plan hasn't both ends of the request;
+    /// and what might need more looks than are left isn't known.
     pub fn of(
         alloc: A,
         looks: &mut Looks,
@@ -62,6 +66,12 @@ impl<A: Allocator + Copy> Reach<A> {
         let late = latest_of(alloc, &task, looks)?;
         let mut hops = Vec::new(alloc);
         let near = nearest_of(alloc, &task, &mut hops)?;
-        Ok(Reach { late, near, hops })
+        let soon = soonest_of(alloc, &task, looks, &late)?;
+        Ok(Reach {
+            late,
+            near,
+            hops,
+            soon,
+        })
     }
 }

@@ -3,13 +3,13 @@
 ghost use Rattle.std.specs.Prelude.{◌+◌, ◌*◌, ◌^◌, ◌≤◌, ◌<◌, Some, IfOk, IfSome, IfNone, length};
 ghost use Rattle.sabr_search.specs.questions.Task.{IsTask, most_nodes};
 ghost use Rattle.sabr_search.specs.answers.KeptAnswers.{IsFoundWay};
-ghost use Rattle.sabr_search.specs.layers.Late.{AreArrivals};
-ghost use Rattle.sabr_search.specs.layers.Settling.{IsBound, IsFirstWay};
+ghost use Rattle.sabr_search.specs.layers.Late.{AreSince};
+ghost use Rattle.sabr_search.specs.layers.Settling.{IsBound};
 
 use crate::backward::from_goal::Aim;
 use crate::backward::least_way::FoundWay;
 use crate::backward::pick::Standing;
-use crate::forward::layers::{Best, Layers};
+use crate::forward::layers::Layers;
 use crate::forward::settling::{Forward, Settling};
 use crate::links::looks::Looks;
 use crate::reach::Reach;
@@ -41,35 +41,6 @@ impl<A: Allocator + Copy> Search<A> {
         }
     }
 
-    /// Returns the first delivery and the hops of a way with it; no hops if no way leads to the goal. No way comes to a
-    /// node before its arrival. None if more looks might be needed than are left.
-    fn first_way(
-        &mut self,
-        task: &Task<'_, A>,
-        reach: &Reach<A>,
-        looks: &mut Looks,
-    ) -> Result<Option<Best>, NoMemory>
-        requires task { IsTask task.now }
-        requires bound { IsBound task.now reach.now.late.items reach.now.near.items }
-        ensures counted { looks.old.left ≤ looks.new.left + length task.now.plan.contacts }
-        ensures none { IfOk result (λ o. IfNone o (looks.old.left < length task.now.plan.contacts)) }
-        ensures way { IfOk result (λ o. IfSome o (IsFirstWay task.now)) }
-        ensures arrivals { IfOk result (λ o. IfSome o (λ best. AreArrivals task.now self.new.settling.arrival.items)) }
-    {
-        let whole = task.first_steps(looks, &mut self.first)?;
-        if !whole {
-            return Ok(None);
-        }
-        let forward = Forward {
-            task,
-            late: &reach.late,
-            near: &reach.near,
-            hops: &reach.hops,
-        };
-        let found = self.settling.run(&forward, looks, &self.first)?;
-        Ok(found)
-    }
-
     /// Returns the least way of at most so many hops, if there is one. If the first way has no more, its delivery is the
     /// least, and layers backward find the way. Otherwise layers forward find the least delivery. None if more looks might
     /// be needed than are left.
@@ -82,13 +53,21 @@ impl<A: Allocator + Copy> Search<A> {
     ) -> Result<Option<FoundWay<A>>, NoMemory>
         requires task { IsTask task.now }
         requires bound { IsBound task.now reach.now.late.items reach.now.near.items }
+        requires soon { AreSince task.now reach.now.soon.items }
         requires nodes { hops ≤ most_nodes }
         ensures counted { looks.old.left ≤ looks.new.left + (3 * hops + 1) * length task.now.plan.contacts }
         ensures none { IfOk result (λ o. IfNone o (looks.old.left < (3 * hops + 1) * length task.now.plan.contacts)) }
         ensures cut { IfOk result (λ o. IfSome o (λ way. length task.now.table ≤ hops + 1 → looks.old.left ≤ looks.new.left + (2 * length way.numbers.items + 1) * length task.now.plan.contacts)) }
         ensures found { IfOk result (λ o. IfSome o (λ way. IsFoundWay task.now hops way.numbers.items way.delivery)) }
     {
-        let reached = self.first_way(task, reach, looks)?;
+        let forward = Forward {
+            task,
+            late: &reach.late,
+            near: &reach.near,
+            hops: &reach.hops,
+            soon: &reach.soon,
+        };
+        let reached = self.settling.run(&forward, looks, &mut self.first)?;
         let Some(first) = reached else {
             return Ok(None);
         };

@@ -11,6 +11,7 @@ ghost use Rattle.sabr_search.specs.questions.Told.{hops_told, looks_taken, IsCut
 ghost use Rattle.sabr_search.specs.answers.Kept.{IsKept};
 ghost use Rattle.sabr_search.specs.answers.KeptAnswers.{IsFoundWay, AnswersAt};
 ghost use Rattle.sabr_search.specs.questions.FirstSteps.{tabled_of};
+ghost use Rattle.sabr_search.specs.layers.Late.{AreSince};
 ghost use Rattle.sabr_search.specs.layers.Settling.{IsBound};
 
 use crate::answers::breadth_of;
@@ -73,6 +74,7 @@ impl<A: Allocator + Copy> Search<A> {
     ) -> Result<FoundWay<A>, NoMemory>
         requires asked { IsAsked asked.now.task.now asked.now.prefix.now }
         requires bound { IsBound asked.now.task.now reach.now.late.items reach.now.near.items }
+        requires soon { AreSince asked.now.task.now reach.now.soon.items }
         requires few { looks_taken looks.old ≤ 2 * length asked.now.task.now.plan.contacts }
         ensures bound { looks_taken looks.new ≤ 3 * length asked.now.task.now.table * length asked.now.task.now.plan.contacts }
         ensures cut { IfOk result (λ way. asked.now.task.now.request.max_hops ≡ most_hops → looks_taken looks.new ≤ (2 * length way.numbers.items + 3) * length asked.now.task.now.plan.contacts) }

@@ -52,17 +52,15 @@ module _ (task : SearchTask) (prefix : List ℕ) (behind : IsBehind task prefix)
       ] behind.chained in
       behind.shuts task.start behind.last_node behind.stands ∙ or_left (has behind.last_node (source ∷ receivers p prefix)) (has behind.last_node task.request.avoided) listed
 
-  -- a chain over open nodes to the destination, in time, is a way; only its first contact leaves the start
-  pub way_from_chain : (s : List ℕ) (u v t e : ℕ) → slice_get task.table u ≡ Some v → chain_end task.plan v s ≡ Some task.request.destination → arrival_after task.plan task.request t s ≡ Some e
+  -- a chain over open nodes, in time, is a way; only its first contact leaves the start
+  pub way_from_chain : (s : List ℕ) (u v t z last e : ℕ) → slice_get task.table u ≡ Some v → chain_end task.plan v s ≡ Some last → slice_get task.table z ≡ Some last → arrival_after task.plan task.request t s ≡ Some e
       → ((x : ℕ) → has x (receivers task.plan s) ≡ true → is_closed task.plan task.request prefix x ≡ false)
-      → ((n : ℕ) (z : List ℕ) → s ≡ n ∷ z → u ≡ task.start → has n task.excluded ≡ false)
-      → Leads (Takes task) u t s task.goal e
-  way_from_chain [] u v t e at chain after stays first =
-      let here : v ≡ task.request.destination = same_some chain in
-      (behind.nodes.apart u task.goal task.request.destination (at ∙ ap Some here) behind.goal_is, same_some after)
-  way_from_chain (n ∷ s) u v t e at chain after stays first =
+      → ((n : ℕ) (more : List ℕ) → s ≡ n ∷ more → u ≡ task.start → has n task.excluded ≡ false)
+      → Leads (Takes task) u t s z e
+  way_from_chain [] u v t z last e at chain to after stays first = (behind.nodes.apart u z last (at ∙ chain) to, same_some after)
+  way_from_chain (n ∷ s) u v t z last e at chain to after stays first =
       let p = task.plan in
-      let h : FirstHop p v n s task.request.destination = first_hop p v n s task.request.destination chain in
+      let h : FirstHop p v n s last = first_hop p v n s last chain in
       let next = first_arrival p task.request t n s e h.contact h.named after in
       let place = behind.nodes.receivers n h.contact h.named in
       let closed : is_closed p task.request prefix h.contact.to ≡ false =
@@ -77,12 +75,20 @@ module _ (task : SearchTask) (prefix : List ℕ) (behind : IsBehind task prefix)
         allowed = first n s refl;
         arrives = next.1;
       } in
-      let rest : Leads (Takes task) place.0 next.0 s task.goal e =
-      way_from_chain s place.0 h.contact.to next.0 e place.1 h.rest next.2
+      let rest : Leads (Takes task) place.0 next.0 s z e =
+      way_from_chain s place.0 h.contact.to next.0 z last e place.1 h.rest to next.2
       (λ x has_x. stays x (ap (has x) (receivers-cons p n s h.contact h.named) ∙ or_right (eqb x h.contact.to) (has x (receivers p s)) has_x))
-      (λ m z same here. absurd (both_ways (slice_index_or task.shut place.0 false) unshut (rw here start_is_shut))) in
+      (λ m more same here. absurd (both_ways (slice_index_or task.shut place.0 false) unshut (rw here start_is_shut))) in
       (place.0, next.0, step, rest)
 
+-- no node is open that is closed after the prefix
+abbrev pub Opens : SearchTask → List ℕ → Type 0
+Opens task prefix = (k x : ℕ) → slice_get task.table k ≡ Some x → slice_index_or task.shut k false ≡ false → is_closed task.plan task.request prefix x ≡ false
+
+pub opens_of : (task : SearchTask) (prefix : List ℕ) → IsBehind task prefix → Opens task prefix
+opens_of task prefix behind k x at open' = sym (behind.shuts k x at) ∙ open'
+
+module _ (task : SearchTask) (prefix : List ℕ) (opens : Opens task prefix) where
   pub chain_of_way : (s : List ℕ) (u t v e x : ℕ) → slice_get task.table u ≡ Some x → Leads (Takes task) u t s v e → IsChain task prefix s v e t x
   chain_of_way [] u t v e x at way = record { last = x; stands = subst (λ k. slice_get task.table k ≡ Some x) way.0 at; chain = refl; after = ap Some way.1; open_nodes = λ z h. absurd cc }
   chain_of_way (n ∷ s) u t v e x at way =
@@ -97,7 +103,7 @@ module _ (task : SearchTask) (prefix : List ℕ) (behind : IsBehind task prefix)
         after = arrival_after-cons p task.request t n way.1 s step.contact step.named step.arrives ∙ rest.after;
         open_nodes = λ z h.
             ⊎_elim
-            (λ e. ap (is_closed p task.request prefix) (eqb-true z step.contact.to e) ∙ sym (behind.shuts way.0 step.contact.to step.receiver) ∙ step.unshut)
+            (λ e. ap (is_closed p task.request prefix) (eqb-true z step.contact.to e) ∙ opens way.0 step.contact.to step.receiver step.unshut)
             (λ k. rest.open_nodes z k)
             (or_cases (eqb z step.contact.to) (has z (receivers p s)) (sym (ap (has z) (receivers-cons p n s step.contact step.named)) ∙ h));
       }

@@ -17,7 +17,7 @@ use Rattle.sabr_search.proofs.WayLemmas.Ways.{Leads-append}
 use Rattle.sabr_search.proofs.BackwardLemmas.Picks.{no_return}
 use Rattle.sabr_search.proofs.WayLemmas.Chains.{arrival_after-append, all_of, all_from, has_right, has_either}
 use Rattle.sabr_search.proofs.WayLemmas.Prefixes.{IsPrefix, goes_on-append, goes_on_parts}
-use Rattle.sabr_search.proofs.WayLemmas.Bridge.{takes_timely, way_from_chain, IsChain, chain_of_way}
+use Rattle.sabr_search.proofs.WayLemmas.Bridge.{takes_timely, way_from_chain, IsChain, opens_of, chain_of_way}
 use Rattle.sabr_model.proofs.ListLemmas.Different.{different_append}
 use Rattle.sabr_model.proofs.RouteLemmas.Paths.{value_of}
 
@@ -56,7 +56,7 @@ module _ (task : SearchTask) (prefix : List ℕ) (behind : IsBehind task prefix)
         some_hop = omega arith;
         delivery = timed.0;
         delivers = ap (arrival_after p r r.at) parts.2 ∙ timed.1;
-        way = way_from_chain task prefix behind rest task.start behind.last_node task.at timed.0 behind.stands chain after stays
+        way = way_from_chain task prefix behind rest task.start behind.last_node task.at task.goal r.destination timed.0 behind.stands chain behind.goal_is after stays
             (λ n z same here. (let first : parts.0 ≡ n = cc (same) in rw first at parts.3));
       }
 
@@ -103,7 +103,7 @@ module _ (task : SearchTask) (prefix : List ℕ) (behind : IsBehind task prefix)
   way_is_route facts s d some way fewest short =
       let p = task.plan in
       let r = task.request in
-      let chain : IsChain task prefix s task.goal d task.at behind.last_node = chain_of_way task prefix behind s task.start task.at task.goal d behind.last_node behind.stands way in
+      let chain : IsChain task prefix s task.goal d task.at behind.last_node = chain_of_way task prefix (opens_of task prefix behind) s task.start task.at task.goal d behind.last_node behind.stands way in
       let ends : chain.last ≡ r.destination = (let e : Some chain.last ≡ Some r.destination = sym chain.stands ∙ behind.goal_is in cc (e)) in
       let reaches : chain_end p r.source (prefix ++ s) ≡ Some r.destination =
       chain_end-append p r.source prefix s ∙ ap (option_and_then (λ b. chain_end p b s)) behind.chained ∙ chain.chain ∙ ap Some ends in

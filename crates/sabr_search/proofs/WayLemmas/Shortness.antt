@@ -14,7 +14,7 @@ use Rattle.sabr_model.proofs.ListLemmas.Begins.{receivers-append, chain_end-appe
 use Rattle.sabr_search.specs.questions.Ways.{Leads}
 use Rattle.sabr_search.specs.questions.Task.{SearchTask, Takes, IsBehind, most_nodes}
 use Rattle.sabr_search.proofs.WayLemmas.Prefixes.{IsPrefix}
-use Rattle.sabr_search.proofs.WayLemmas.Bridge.{IsChain, chain_of_way}
+use Rattle.sabr_search.proofs.WayLemmas.Bridge.{IsChain, opens_of, chain_of_way}
 use Rattle.sabr_search.proofs.WayLemmas.PartWays.{way_differs}
 use Rattle.sabr_search.proofs.LinkLemmas.StepLists.{few_different}
 use Rattle.sabr_search.proofs.AnswerLemmas.Law.{chain_few, contacts_few, prefix_few}
@@ -27,7 +27,7 @@ pub way_few : (task : SearchTask) (prefix : List ℕ) → IsBehind task prefix �
 way_few task prefix behind facts s d way fewest =
     let p = task.plan in
     let r = task.request in
-    let chain : IsChain task prefix s task.goal d task.at behind.last_node = chain_of_way task prefix behind s task.start task.at task.goal d behind.last_node behind.stands way in
+    let chain : IsChain task prefix s task.goal d task.at behind.last_node = chain_of_way task prefix (opens_of task prefix behind) s task.start task.at task.goal d behind.last_node behind.stands way in
     let reaches : chain_end p r.source (prefix ++ s) ≡ Some chain.last =
     chain_end-append p r.source prefix s ∙ ap (option_and_then (λ b. chain_end p b s)) behind.chained ∙ chain.chain in
     let apart : are_different (r.source ∷ receivers p (prefix ++ s)) ≡ true =

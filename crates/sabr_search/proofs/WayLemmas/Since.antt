@@ -1,8 +1,8 @@
 -- Before which second no way comes to a node, and the least way within other limits.
-use Rattle.std.proofs.Common.{◌≡◌, ℕ, zero, suc, ◌-◌, ◌≤◌, min, List, [], ◌∷◌, ◌++◌, length, take, replicate, slice_index, ◌∙◌, arith}
+use Rattle.std.proofs.Common.{◌≡◌, ℕ, zero, suc, ◌-◌, ◌≤◌, min, max, List, [], ◌∷◌, ◌++◌, length, take, replicate, slice_index, ◌∙◌, arith}
 use Rattle.std.proofs.lemmas.Grind.{common_steps}
 use Rattle.sabr_search.specs.questions.Task.{SearchTask, Takes, IsTask}
-use Rattle.sabr_search.specs.layers.Late.{AreArrivals}
+use Rattle.sabr_search.specs.layers.Late.{AreSince, AreArrivals}
 use Rattle.sabr_search.specs.layers.Reach.{cost_to}
 use Rattle.sabr_search.specs.layers.Settling.{AreArrivalsBy}
 use Rattle.sabr_search.proofs.WayLemmas.Ways.{Leads-later}
@@ -23,11 +23,13 @@ arrivals_since task is n n_is = record {
   least = λ ns v t some way. omega (arith, same_everywhere n task.at v, Leads-later (Takes task) (takes_timely task is.nodes) ns task.start task.at v t way);
 }
 
--- nor before the arrivals that were found, each lowered to the last second from which a way may still deliver by then
-pub arrivals_lowered : (task : SearchTask) (near arrival arrival' : List ℕ) (d : ℕ) → AreArrivalsBy task near arrival d → length arrival' ≡ length arrival → ((k : ℕ) → slice_index arrival' k ≤ min (slice_index arrival k) (d - cost_to near k)) → AreArrivals task arrival'
-arrivals_lowered task near arrival arrival' d by many lowered = record {
+-- nor before the arrivals that were found, each lowered to the last second from which a way may still deliver by then; nor
+-- before the soonest seconds
+pub arrivals_lowered : (task : SearchTask) (near soon arrival arrival' : List ℕ) (d : ℕ) → AreSince task soon → AreArrivalsBy task near arrival d → length arrival' ≡ length arrival
+    → ((k : ℕ) → slice_index arrival' k ≤ max (min (slice_index arrival k) (d - cost_to near k)) (slice_index soon k)) → AreArrivals task arrival'
+arrivals_lowered task near soon arrival arrival' d since by many lowered = record {
   flags = many ∙ by.flags;
-  least = λ ns v t some way. omega (arith, lowered v, by.least ns v t some way);
+  least = λ ns v t some way. omega (arith, lowered v, since ns v t some way, by.least ns v t some way);
 }
 
 -- an empty list that is made longer has the new value alone

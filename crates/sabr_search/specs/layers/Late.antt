@@ -11,10 +11,14 @@ use Rattle.sabr_index.specs.declared.link.Pass.{Pass}
 use Rattle.sabr_index.specs.declared.link.SenderHead.{SenderHead}
 use Rattle.sabr_search.specs.layers.Made.{Entry}
 
--- by node a second before which no way comes there
+-- by node a second before which no way comes there; 0 after the list's end
+abbrev pub AreSince : SearchTask → List ℕ → Type 0
+AreSince task since = (ns : List ℕ) (v t : ℕ) → 0 < length ns → Leads (Takes task) task.start task.at ns v t → slice_index since v ≤ t
+
+-- so for each node of the table
 pub record AreArrivals (task : SearchTask) (since : List ℕ) : Type 0 where
   pub flags : length since ≡ length task.table
-  pub least : (ns : List ℕ) (v t : ℕ) → 0 < length ns → Leads (Takes task) task.start task.at ns v t → slice_index since v ≤ t
+  pub least : AreSince task since
 
 -- whoever is at node w at second b is in time for an entry at the places from `first` to before `begin`
 abbrev pub InTimeFor : List LayerEntry → ℕ → ℕ → ℕ → ℕ → Type 0

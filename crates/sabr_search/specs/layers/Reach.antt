@@ -1,9 +1,10 @@
 -- What bounds every search of a request over a plan, over the whole graph.
-use Rattle.std.specs.Prelude.{◌≡◌, ◌≢◌, ℕ, ◌+◌, ◌-◌, ◌≤◌, List, [], false, slice_get, slice_index_or}
+use Rattle.std.specs.Prelude.{◌≡◌, ◌≢◌, ℕ, ◌+◌, ◌-◌, ◌≤◌, ◌<◌, List, [], true, false, length, slice_get, slice_index, slice_index_or}
 use Rattle.std.specs.declared.option.Option.TheVariants.{Some}
 use Rattle.sabr_model.specs.declared.contact.Contact.{Contact}
-use Rattle.sabr_model.specs.plan.Plan.{TabledPlan, contact_named}
-use Rattle.sabr_model.specs.routes.Arrival.{RouteRequest, arrival}
+use Rattle.sabr_model.specs.plan.Plan.{TabledPlan, contact_named, has}
+use Rattle.sabr_model.specs.routes.Arrival.{RouteRequest, arrival, arrival_after}
+use Rattle.sabr_model.specs.routes.Route.{chain_end, receivers}
 use Rattle.sabr_search.specs.declared.reach.Reach.{Reach}
 use Rattle.sabr_search.specs.questions.Task.{is_closed, never}
 
@@ -40,7 +41,14 @@ pub record AreNearFor (p : TabledPlan) (r : RouteRequest) (near : List ℕ) : Ty
 abbrev pub cost_to : List ℕ → ℕ → ℕ
 cost_to near v = never - slice_index_or near v never
 
+-- by node a second before which no contacts lead there from the source over the whole graph; 0 after the list's end
+abbrev pub AreSoonFor : TabledPlan → RouteRequest → List ℕ → Type 0
+AreSoonFor p r soon =
+    (ns : List ℕ) (v node t : ℕ) → 0 < length ns → slice_get p.table v ≡ Some node → chain_end p.plan r.source ns ≡ Some node → arrival_after p.plan r r.at ns ≡ Some t
+    → ((x : ℕ) → has x (receivers p.plan ns) ≡ true → is_closed p.plan r [] x ≡ false) → slice_index soon v ≤ t
+
 -- what is known of the ways of every question of the request is true
 pub record IsReach {A : Type 0} (p : TabledPlan) (r : RouteRequest) (reach : Reach A) : Type 0 where
   pub late : AreLateFor p r reach.late.items
   pub near : AreNearFor p r reach.near.items
+  pub soon : AreSoonFor p r reach.soon.items

@@ -10,7 +10,7 @@ ghost use Rattle.sabr_search.specs.layers.Latest.{IsWhole, IsBegun, AreRising, A
 use crate::forward::layers::NEVER;
 use crate::forward::queue::{Event, Queue};
 use crate::links::looks::Looks;
-use crate::links::over_link::WalkedLink;
+use crate::links::over_link::{WalkedLink, rules_out};
 use crate::task::Task;
 use sabr_index::Sender;
 use sabr_model::NoMemory;
@@ -118,6 +118,10 @@ impl<A: Allocator + Copy> Latest<A> {
         let before = self.late[to];
         let senders = task.senders(to);
         for place in 0..senders.len() {
+            let head = senders.head(place);
+            if rules_out(head.bounds, self.late[head.node], before) {
+                continue;
+            }
             let from = senders.at(place);
             if from.passes.len() as u64 > looks.left {
                 return Ok(false);

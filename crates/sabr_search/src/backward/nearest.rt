@@ -1,6 +1,7 @@
 //! For each node, how near the destination is, by the bounds of links alone: from the goal backward over the whole graph.
 
-ghost use Rattle.std.specs.Prelude.{◌≡◌, ◌≢◌, ℕ, ◌+◌, ◌≤◌, ◌<◌, [], Some, IfOk, OnOk, IsTrue, false, length, slice_get, slice_index, slice_index_or};
+ghost use Rattle.sabr_index.specs.declared.link.Pass.{Pass};
+ghost use Rattle.std.specs.Prelude.{List, ◌≡◌, ◌≢◌, ℕ, ◌+◌, ◌≤◌, ◌<◌, [], Some, IfOk, OnOk, IsTrue, false, length, slice_get, slice_index, slice_index_or};
 ghost use Rattle.sabr_search.specs.questions.Task.{IsTask, Takes};
 ghost use Rattle.sabr_search.specs.questions.Linked.{IsLinkWithin, HasNumber};
 ghost use Rattle.sabr_search.specs.questions.FirstSteps.{tabled_of};
@@ -11,7 +12,7 @@ use crate::backward::latest::Latest;
 use crate::forward::layers::NEVER;
 use crate::forward::queue::Event;
 use crate::task::Task;
-use sabr_index::Sender;
+use sabr_index::SenderHead;
 use sabr_model::{MOST_LIGHT, NoMemory};
 use std::alloc::Allocator;
 
@@ -30,22 +31,21 @@ impl<A: Allocator + Copy> Latest<A> {
     fn near_sender(
         &mut self,
         task: &Task<'_, A>,
-        from: Sender<'_>,
+        head: SenderHead,
         to: usize,
         near: u64,
         hops: &mut Vec<u64, A>,
     ) -> Result<(), NoMemory>
         requires task { IsTask task.now }
-        requires link { IsLinkWithin task.now from.node to from.passes.now from.bounds }
-        requires node { from.node < length task.now.table }
+        requires node { head.node < length task.now.table }
         requires rising { AreRising (IsNearBy task.now) task.now self.old.late.items self.old.taken.items self.old.queue to }
         requires same { slice_index self.old.late.items to ≡ near }
         ensures rising { OnOk result (AreRising (IsNearBy task.now) task.now self.new.late.items self.new.taken.items self.new.queue to) }
         ensures same { OnOk result (slice_index self.new.late.items to ≡ near) }
         ensures rises { OnOk result ((k : ℕ) → slice_index self.old.late.items k ≤ slice_index self.new.late.items k) }
-        ensures told { OnOk result ((n t b : ℕ) → HasNumber from.entry.passes.now n → Takes task.now n from.entry.node t to b → IsNear task.now self.new.late.items from.entry.node t to b) }
+        ensures told { OnOk result ((passes : List Pass) → IsLinkWithin task.now head.node to passes head.bounds → (n t b : ℕ) → HasNumber passes n → Takes task.now n head.node t to b → IsNear task.now self.new.late.items head.node t to b) }
     {
-        let node = from.node;
+        let node = head.node;
         if node == to {
             return Ok(());
         }
@@ -55,10 +55,10 @@ impl<A: Allocator + Copy> Latest<A> {
         if task.shut()[node] {
             return Ok(());
         }
-        if from.bounds.latest_end <= task.request().at() {
+        if head.bounds.latest_end <= task.request().at() {
             return Ok(());
         }
-        let cost = task.cost(from.bounds.least_light.min(MOST_LIGHT));
+        let cost = task.cost(head.bounds.least_light.min(MOST_LIGHT));
         let latest = self.late[node];
         let last = near.saturating_sub(cost);
         if last <= latest {
@@ -92,8 +92,8 @@ impl<A: Allocator + Copy> Latest<A> {
         let near = self.late[to];
         let senders = task.senders(to);
         for place in 0..senders.len() {
-            let from = senders.at(place);
-            self.near_sender(task, from, to, near, hops)?;
+            let head = senders.head(place);
+            self.near_sender(task, head, to, near, hops)?;
         }
         Ok(())
     }

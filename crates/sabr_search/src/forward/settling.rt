@@ -1,12 +1,12 @@
 //! Nodes settled in order of their arrival and of what the goal costs from there, up to the first delivery at the goal.
 
-ghost use Rattle.std.specs.Prelude.{◌≡◌, ◌≢◌, ◌⊎◌, IsTrue, ℕ, min, [], ◌+◌, ◌-◌, ◌^◌, ◌≤◌, ◌<◌, length, slice_get, slice_set, slice_index, slice_index_or, replicate, Some, OnOk, IfOk, IfSome, IfNone, true, false};
+ghost use Rattle.std.specs.Prelude.{◌≡◌, ◌≢◌, ◌⊎◌, IsTrue, ℕ, min, max, [], ◌+◌, ◌-◌, ◌^◌, ◌≤◌, ◌<◌, length, slice_get, slice_set, slice_index, slice_index_or, replicate, Some, OnOk, IfOk, IfSome, IfNone, true, false};
 ghost use Rattle.sabr_search.specs.questions.Task.{IsTask, Takes};
 ghost use Rattle.sabr_search.specs.questions.Steps.{degree};
 ghost use Rattle.sabr_search.specs.questions.Linked.{AreLinksAt, IsLinkWithin, HasNumber};
 ghost use Rattle.sabr_search.specs.layers.Lists.{IsKnown};
 ghost use Rattle.sabr_search.specs.layers.Made.{AreOpened};
-ghost use Rattle.sabr_search.specs.layers.Late.{AreArrivals};
+ghost use Rattle.sabr_search.specs.layers.Late.{AreSince, AreArrivals};
 ghost use Rattle.sabr_search.specs.layers.Reach.{cost_to};
 ghost use Rattle.sabr_search.specs.questions.FirstSteps.{AreFirstSteps};
 ghost use Rattle.sabr_search.specs.layers.Settling.{IsBound, AreReal, AreArrivalsBy, settled_count, IsWayTo, IsFirstWay, AreSettling, AreSettled, IsFallen, AreSettledTaken};
@@ -15,9 +15,9 @@ use crate::backward::pick::Standing;
 use crate::forward::layers::{Best, NEVER, news_before, open_nodes};
 use crate::forward::queue::{Event, Queue};
 use crate::links::looks::Looks;
-use crate::links::over_link::{WalkedLink, link_passes, rules_out};
+use crate::links::over_link::{WalkedLink, is_soonest, link_passes, rules_out};
 use crate::task::Task;
-use sabr_index::Links;
+use sabr_index::{Link, Links};
 use sabr_model::NoMemory;
 use std::alloc::Allocator;
 
@@ -32,6 +32,8 @@ pub struct Forward<'t, 'a, 'b, A: Allocator + Copy> {
     pub near: &'b [u64],
     /// For each node, the hops of such a way, as far as the list goes.
     pub hops: &'b [u64],
+    /// For each node, a second before which no way comes there; 0 after the list's end.
+    pub soon: &'b [u64],
 }
 
 impl<'t, 'a, 'b, A: Allocator + Copy> Forward<'t, 'a, 'b, A> {
@@ -55,6 +57,17 @@ impl<'t, 'a, 'b, A: Allocator + Copy> Forward<'t, 'a, 'b, A> {
         }
     }
 
+    /// Returns a second before which no way comes to a node.
+    #[inline(always)]
+    fn soonest(&self, node: usize) -> u64
+        ensures { result ≡ slice_index self.now.soon.now node }
+    {
+        match self.soon.get(node) {
+            Some(soon) => *soon,
+            None => 0,
+        }
+    }
+
     /// Returns the second before which an arrival at a node is news: from then on, no way over it delivers before `delivery`.
     #[inline(always)]
     fn news(&self, arrival: &[u64], to: usize, delivery: u64) -> u64
@@ -72,6 +85,18 @@ impl<'t, 'a, 'b, A: Allocator + Copy> Forward<'t, 'a, 'b, A> {
             delivery.saturating_sub(self.cost(to)),
         )
     }
+}
+
+/// Returns true if, by the bounds of a link, nothing that is at its sender at `at` brings news to its receiver.
+#[inline(always)]
+fn is_told(arrival: &[u64], goal: usize, link: &Link, at: u64, best: u64) -> bool
+    requires { link.now.receiver < length arrival.now }
+    ensures goal { IsTrue result → link.now.receiver ≡ goal → (best ≤ link.now.bounds.soonest) ⊎ (best ≤ at + link.now.bounds.least_light) }
+    ensures other { IsTrue result → link.now.receiver ≢ goal → (slice_index arrival.now link.now.receiver ≤ link.now.bounds.soonest) ⊎ (slice_index arrival.now link.now.receiver ≤ at + link.now.bounds.least_light) }
+{
+    let to = link.receiver;
+    let known = if to == goal { best } else { arrival[to] };
+    is_soonest(link.bounds, at, known)
 }
 
 /// For each node, its least arrival so far and whether it is settled; and the waiting arrivals.
@@ -209,8 +234,12 @@ impl<A: Allocator + Copy> Settling<A> {
         ensures pushes { OnOk result (length self.new.queue + looks.new.left ≤ length self.old.queue + looks.old.left) }
     {
         self.settled[event.node] = true;
+        let goal = forward.task.goal();
         let mut least = best;
         for link in links.links {
+            if is_told(&self.arrival, goal, link, event.at, least.delivery) {
+                continue;
+            }
             let before = forward.news(&self.arrival, link.receiver, least.delivery);
             if rules_out(link.bounds, event.at, before) {
                 continue;
@@ -304,36 +333,40 @@ impl<A: Allocator + Copy> Settling<A> {
         Ok(Some(best))
     }
 
-    /// Lowers each arrival to the last second from which a way may still deliver by `delivery`, at the most.
+    /// Lowers each arrival to the last second from which a way may still deliver by `delivery`, at the most, but not below
+    /// what is known to be the soonest.
     fn lower(&mut self, forward: &Forward<'_, '_, '_, A>, delivery: u64)
         ensures many { length self.new.arrival.items ≡ length self.old.arrival.items }
-        ensures lowered { (k : ℕ) → slice_index self.new.arrival.items k ≤ min (slice_index self.old.arrival.items k) (delivery - cost_to forward.now.near.now k) }
+        ensures lowered { (k : ℕ) → slice_index self.new.arrival.items k ≤ max (min (slice_index self.old.arrival.items k) (delivery - cost_to forward.now.near.now k)) (slice_index forward.now.soon.now k) }
     {
         for place in 0..self.arrival.len() {
             let last = delivery.saturating_sub(forward.cost(place));
-            self.arrival[place] = self.arrival[place].min(last);
+            let since = self.arrival[place].min(last);
+            self.arrival[place] = since.max(forward.soonest(place));
         }
     }
 
-    /// Settles as many nodes as it takes to find the first delivery at the goal, from where the first steps come to.
-    /// Returns it and the hops of a way with it; no hops if no way leads there. No way comes to a node before its
-    /// arrival. Looks as in `settle_all`, and none as there.
+    /// Settles as many nodes as it takes to find the first delivery at the goal. Returns it and the hops of a way with it;
+    /// no hops if no way leads there. No way comes to a node before its arrival. None if more looks might be needed than
+    /// are left.
     pub fn run(
         &mut self,
         forward: &Forward<'_, '_, '_, A>,
         looks: &mut Looks,
-        first: &[Standing],
+        first: &mut Vec<Standing, A>,
     ) -> Result<Option<Best>, NoMemory>
         requires task { IsTask forward.now.task.now }
         requires bound { IsBound forward.now.task.now forward.now.late.now forward.now.near.now }
-        requires inside { (k : ℕ) (s : Standing) → slice_get first.now k ≡ Some s → s.node < length forward.now.task.now.table }
-        requires steps { AreFirstSteps forward.now.task.now first.now }
-        requires real { AreReal forward.now.task.now first.now }
-        ensures counted { looks.old.left + degree forward.now.task.now forward.now.task.now.start ≤ looks.new.left + length forward.now.task.now.plan.contacts }
-        ensures none { IfOk result (λ o. IfNone o (looks.old.left + degree forward.now.task.now forward.now.task.now.start < length forward.now.task.now.plan.contacts)) }
-        ensures first { IfOk result (λ o. IfSome o (IsFirstWay forward.now.task.now)) }
+        requires soon { AreSince forward.now.task.now forward.now.soon.now }
+        ensures counted { looks.old.left ≤ looks.new.left + length forward.now.task.now.plan.contacts }
+        ensures none { IfOk result (λ o. IfNone o (looks.old.left < length forward.now.task.now.plan.contacts)) }
+        ensures way { IfOk result (λ o. IfSome o (IsFirstWay forward.now.task.now)) }
         ensures arrivals { IfOk result (λ o. IfSome o (λ best. AreArrivals forward.now.task.now self.new.arrival.items)) }
     {
+        let whole = forward.task.first_steps(looks, first)?;
+        if !whole {
+            return Ok(None);
+        }
         let found = self.settle_all(forward, looks, first)?;
         let Some(best) = found else {
             return Ok(None);

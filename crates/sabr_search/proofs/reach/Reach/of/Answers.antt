@@ -21,5 +21,18 @@ nearest_of-requires g c =
     let both = found _ in
     record { whole = rw c.new-task.ensures (whole_task _ both.0 both.1 refl) }
 
+pub soonest_of-requires : goal.soonest_of-requires
+soonest_of-requires g c =
+    let found = rw c.plan-plan.ensures at c.in_ok-source.ensures.entered in
+    let both = found _ in
+    record {
+      whole = rw c.new-task.ensures (whole_task _ both.0 both.1 refl);
+      source = rw c.new-task.ensures both.1;
+      late = rw c.deref.ensures.value c.in_ok-late.ensures.late;
+    }
+
+pub returns-in_default : goal.returns-in_default
+returns-in_default g c = c.new.ensures _ _
+
 pub returns : goal.returns
-returns g c = record { late = rw c.new-task.ensures at c.in_ok-late.ensures.late; near = rw c.new-task.ensures at c.in_ok-near.ensures.near }
+returns g c = record { late = rw c.new-task.ensures at c.in_ok-late.ensures.late; near = rw c.new-task.ensures at c.in_ok-near.ensures.near; soon = rw c.new-task.ensures at c.in_ok-soon.ensures.soon }

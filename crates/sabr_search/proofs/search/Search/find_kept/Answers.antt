@@ -1,5 +1,7 @@
 use Rattle.std.proofs.Common.{arith}
+use Rattle.sabr_search.proofs.WayLemmas.Prefixes.{prefix_facts}
 use Rattle.sabr_search.proofs.AnswerLemmas.Around.{of_request, reach_bounds}
+use Rattle.sabr_search.proofs.AnswerLemmas.Soonest.{stop_of, soon_after}
 use Rattle.sabr_search.proofs.AnswerLemmas.Answered.{left_less}
 use Rattle.sabr_search.proofs.search.Search.find_kept.Goals as goal
 
@@ -16,4 +18,10 @@ pub returns-clause-some : goal.returns-clause-some
 returns-clause-some g c = rw c.recall.ensures.slots c.recall.ensures.some
 
 pub run-requires-clause-bound : goal.run-requires-clause-bound
-run-requires-clause-bound g c = rw c.with_shut-question.ensures (reach_bounds _ c.requires.asked.task_is.nodes c.in_ok-shut_near.ensures.request _ c.requires.kept.0)
+run-requires-clause-bound g c = rw c.with_shut-question.ensures (reach_bounds _ c.requires.asked.task_is.nodes c.in_ok-shut_near.ensures.request _ _ c.requires.kept.0.late c.requires.kept.0.near)
+
+pub run-requires-clause-soon : goal.run-requires-clause-soon
+run-requires-clause-soon g c =
+    let task = c.args.asked.now.task.now in
+    let prefix = c.args.asked.now.prefix.now in
+    rw c.with_shut-question.ensures (soon_after _ prefix c.in_ok-shut_near.ensures.request (prefix_facts task.plan task.request prefix c.requires.asked.fits) (stop_of task prefix c.requires.asked.behind) _ c.requires.kept.0.soon)

@@ -7,7 +7,9 @@ use Rattle.sabr_search.specs.questions.Task.{left_of}
 use Rattle.sabr_search.specs.questions.Told.{looks_taken}
 use Rattle.sabr_search.proofs.AnswerLemmas.Answered.{passes_within, route_fits, told_least, told_bound, told_cut}
 use Rattle.sabr_search.proofs.AnswerLemmas.KeptAnswers.{found_told}
+use Rattle.sabr_search.proofs.WayLemmas.Prefixes.{prefix_facts}
 use Rattle.sabr_search.proofs.AnswerLemmas.Around.{of_request, reach_bounds}
+use Rattle.sabr_search.proofs.AnswerLemmas.Soonest.{stop_of, soon_after}
 use Rattle.sabr_search.proofs.search.Search.least_beside.Goals as goal
 
 pub returns-in_err-place-clause-bound : goal.returns-in_err-place-clause-bound
@@ -68,4 +70,12 @@ route-requires-2-clause-few g c =
 pub find_own-requires-clause-bound : goal.find_own-requires-clause-bound
 find_own-requires-clause-bound g c =
     let task = c.args.task.now in
-    reach_bounds task c.requires.asked.task_is.nodes (of_request task c.args.prefix.now c.requires.asked.behind) _ c.find_kept-found.ensures.kept.0
+    let reach = c.find_kept-found.ensures.kept.0 in
+    reach_bounds task c.requires.asked.task_is.nodes (of_request task c.args.prefix.now c.requires.asked.behind) _ _ reach.late reach.near
+
+pub find_own-requires-clause-soon : goal.find_own-requires-clause-soon
+find_own-requires-clause-soon g c =
+    let task = c.args.task.now in
+    let prefix = c.args.prefix.now in
+    let behind = c.requires.asked.behind in
+    soon_after task prefix (of_request task prefix behind) (prefix_facts task.plan task.request prefix c.requires.asked.fits) (stop_of task prefix behind) _ c.find_kept-found.ensures.kept.0.soon

@@ -25,12 +25,12 @@ gave_up (Err e) old mid more all less le = tt
 pub returns-then-first-hops-clause-none : goal.returns-then-first-hops-clause-none
 returns-then-first-hops-clause-none g c =
     let contacts = length c.args.task.now.plan.contacts in
-    gave_up c.least_within.result c.args.looks.now.left c.first_way.new.looks.left (3 * (c.args.hops * contacts)) ((3 * c.args.hops + 1) * contacts) c.least_within.ensures.none (omega (arith, c.first_way.ensures.counted))
+    gave_up c.least_within.result c.args.looks.now.left c.run.new.looks.left (3 * (c.args.hops * contacts)) ((3 * c.args.hops + 1) * contacts) c.least_within.ensures.none (omega (arith, c.run.ensures.counted))
 
 pub returns-clause-none : goal.returns-clause-none
 returns-clause-none g c =
     let contacts = length c.args.task.now.plan.contacts in
-    gave_up c.least_by.result c.args.looks.now.left c.first_way.new.looks.left (2 * (c.args.hops * contacts)) ((3 * c.args.hops + 1) * contacts) c.least_by.ensures.none (omega (arith, c.first_way.ensures.counted))
+    gave_up c.least_by.result c.args.looks.now.left c.run.new.looks.left (2 * (c.args.hops * contacts)) ((3 * c.args.hops + 1) * contacts) c.least_by.ensures.none (omega (arith, c.run.ensures.counted))
 
 -- the first way has fewer hops than there are nodes, so that only a limit forbids it
 forbidden : {T E : Type 0} (result : Result (Option T) E) (Q : Type 0) (P : T → Type 0) → (Q → ⊥) → IfOk result (λ o. IfSome o (λ way. Q → P way))
@@ -52,5 +52,5 @@ cut_more (Err e) Q size old mid new c few le = tt
 
 pub returns-clause-cut : goal.returns-clause-cut
 returns-clause-cut g c =
-    cut_more c.least_by.result (length c.args.task.now.table ≤ c.args.hops + 1) (λ way. length way.numbers.items) c.args.looks.now.left c.first_way.new.looks.left c.least_by.new.looks.left (length c.args.task.now.plan.contacts)
-    c.least_by.ensures.cut c.first_way.ensures.counted
+    cut_more c.least_by.result (length c.args.task.now.table ≤ c.args.hops + 1) (λ way. length way.numbers.items) c.args.looks.now.left c.run.new.looks.left c.least_by.new.looks.left (length c.args.task.now.plan.contacts)
+    c.least_by.ensures.cut c.run.ensures.counted

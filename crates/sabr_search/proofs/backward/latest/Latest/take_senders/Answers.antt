@@ -1,4 +1,7 @@
-use Rattle.std.proofs.Common.{◌≡◌, inl, inr, slice_get, sym, ap, ◌∙◌, arith}
+use Rattle.std.proofs.Common.{◌≡◌, inl, inr, slice_get, slice_index, sym, ap, ◌∙◌, arith}
+use Rattle.std.proofs.lemmas.Bool.{cases_lt}
+use Rattle.sabr_index.specs.Links.{SentLink}
+use Rattle.sabr_search.proofs.LinkLemmas.OverLinks.{ruled_out}
 use Rattle.std.proofs.lemmas.Option.{slice_get_within}
 use Rattle.sabr_search.proofs.ForwardLemmas.Between.{read_at}
 use Rattle.sabr_search.proofs.WayLemmas.Bridge.{same_some}
@@ -12,6 +15,32 @@ loop-place-init g c = record {
   same = sym (read_at c.args.self.now.late.items c.args.to c.index-before.result.now (omega (arith, c.requires.node, c.requires.rising.many)) c.index-before.ensures);
   told = λ j s n t b less. absurd (omega (arith, less));
 }
+
+pub index-requires : goal.index-requires
+index-requires g c = omega (arith, c.senders-senders.ensures.senders c.loop-place.place (record { sender = c.head-head.result.node; passes = c.head-head.ensures.0 }) c.head-head.ensures.1, c.loop-place.invariant.rising.many)
+
+pub loop-place-preserved-then-rules_out : goal.loop-place-preserved-then-rules_out
+loop-place-preserved-then-rules_out g c =
+    let task = c.args.task.now in
+    let so_far = c.loop-place.invariant in
+    let here = c.head-head.ensures in
+    let u = c.head-head.result.node in
+    let sent : SentLink = record { sender = u; passes = here.0 } in
+    let link = c.senders-senders.ensures.each c.loop-place.place sent here.1 in
+    let late = read_at c.loop-place.self.late.items u c.index.result.now (omega (arith, c.senders-senders.ensures.senders c.loop-place.place sent here.1, so_far.rising.many)) c.index.ensures in
+    record {
+      rising = so_far.rising;
+      same = so_far.same;
+      told = λ j s n t b less at has step by. elim (last_or_before j c.loop-place.place less) [
+        | inl before ↦ so_far.told j s n t b before at has step by
+        | inr same ↦
+            (let is : s ≡ sent = same_some (sym at ∙ ap (slice_get c.senders-senders.result) same ∙ here.1) in
+            rw is (λ open' other. elim (cases_lt t (slice_index c.loop-place.self.late.items u)) [
+              | inl early ↦ early
+              | inr late_there ↦ absurd (omega (arith, by, late, ruled_out task c.requires.task u c.args.to here.0 link c.head-head.result.bounds here.2 c.index.result.now c.index-before.result.now (c.rules_out.ensures.late c.if-rules_out.true) n t c.args.to b (rw is at has) (omega (arith, late, late_there)) (rw is at step)))
+            ]))
+      ];
+    }
 
 pub take_sender-requires-clause-link : goal.take_sender-requires-clause-link
 take_sender-requires-clause-link g c = (c.senders-senders.ensures.each c.loop-place.place (record { sender = c.at-from.result.node; passes = c.at-from.result.passes.now }) c.at-from.ensures.link, c.at-from.ensures.bounds)

@@ -1,0 +1,42 @@
+//! For each node, the soonest arrival from the source: from there forward over the whole graph.
+
+ghost use Rattle.std.specs.Prelude.{[], IfOk};
+ghost use Rattle.sabr_search.specs.questions.Task.{IsBehind};
+ghost use Rattle.sabr_search.specs.questions.FirstSteps.{tabled_of};
+ghost use Rattle.sabr_search.specs.layers.Latest.{IsWhole};
+ghost use Rattle.sabr_search.specs.layers.Reach.{AreLateFor, AreSoonFor};
+
+use crate::forward::settling::{Forward, Settling};
+use crate::links::looks::Looks;
+use crate::task::Task;
+use sabr_model::NoMemory;
+use std::alloc::Allocator;
+
+/// Finds for each node a second before which no way over the whole graph comes there from the source: its soonest arrival,
+/// or the first delivery if that is sooner. Nothing is known of any node if more looks might be needed than are left.
+pub fn soonest_of<A: Allocator + Copy>(
+    alloc: A,
+    task: &Task<'_, A>,
+    looks: &mut Looks,
+    late: &[u64],
+) -> Result<Vec<u64, A>, NoMemory>
+    requires whole { IsWhole task.now }
+    requires source { IsBehind task.now [] }
+    requires late { AreLateFor (tabled_of task.now) task.now.request late.now }
+    ensures soon { IfOk result (λ v. AreSoonFor (tabled_of task.now) task.now.request v.items) }
+{
+    let forward = Forward {
+        task,
+        late,
+        near: &[],
+        hops: &[],
+        soon: &[],
+    };
+    let mut settling = Settling::new(alloc);
+    let mut first = Vec::new(alloc);
+    let found = settling.run(&forward, looks, &mut first)?;
+    let Some(_best) = found else {
+        return Ok(Vec::new(alloc));
+    };
+    Ok(settling.arrival)
+}
