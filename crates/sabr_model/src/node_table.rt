@@ -1,6 +1,6 @@
 //! The table of nodes: for each node, the numbers of the contacts that it sends.
 
-ghost use Rattle.std.specs.Prelude.{◌≡◌, ℕ, ◌==◌, ◌<◌, ◌≤◌, ◌+◌, ◌∷◌, ◌++◌, Some, None, is_some, IfSome, IsTrue, map, find, not, ◌&&◌, ◌||◌, filter, nat_eq, slice_get, IfOk, OnOk, OnErr, IsOk, if◌then◌else◌};
+ghost use Rattle.std.specs.Prelude.{◌≡◌, ℕ, ◌==◌, ◌<◌, ◌≤◌, ◌+◌, ◌∷◌, ◌++◌, Some, None, is_some, IsTrue, map, find, not, ◌&&◌, ◌||◌, filter, nat_eq, slice_get, IfOk, OnOk, OnErr, IsOk, if◌then◌else◌};
 ghost use Rattle.std.specs.Option.{option_map};
 ghost use Rattle.indexmap.specs.IndexMap.{IsUnique, get, keys, spare};
 ghost use Rattle.std.specs.List.{list_any};
@@ -14,20 +14,21 @@ use indexmap::IndexMap;
 use std::alloc::{AllocError, Allocator};
 use std::hash::{BuildHasherDefault, FoldHasher};
 
+/// So many indexes are guessed, each for the nodes of one remainder.
+const GUESSES: usize = 2048;
+
 /// For each node, the rising numbers of the contacts that it sends.
 pub type NodeTable<A> = IndexMap<u64, Vec<u32, A>, BuildHasherDefault<FoldHasher>, A>;
 
-/// Returns the index of a node of the table. It is looked for first at the guess, which takes no hash.
-fn index_near<A: Allocator + Copy>(table: &NodeTable<A>, node: u64, guess: usize) -> Option<usize>
-    ensures index { IfSome result (λ i. slice_get (keys table.now) i ≡ Some node) }
-    ensures found { is_some result ≡ is_some (get nat_eq table.now node) }
+/// Returns true if the node stands at a place of the table. This takes no hash.
+fn stands_at<A: Allocator + Copy>(table: &NodeTable<A>, node: u64, place: usize) -> bool
+    ensures index { IsTrue result → slice_get (keys table.now) place ≡ Some node }
+    ensures found { IsTrue result → IsTrue (is_some (get nat_eq table.now node)) }
 {
-    if let Some((key, _)) = table.get_index(guess)
-        && *key == node
-    {
-        return Some(guess);
+    match table.get_index(place) {
+        Some((key, _)) => *key == node,
+        None => false,
     }
-    table.get_index_of(&node)
 }
 
 /// Adds the number after those that the node sends, and returns the node's index.
@@ -36,7 +37,6 @@ fn add_number<A: Allocator + Copy>(
     table: &mut NodeTable<A>,
     node: u64,
     number: u32,
-    guess: usize,
 ) -> Result<usize, AllocError>
     requires { IsUnique nat_eq table.old }
 
@@ -53,7 +53,7 @@ fn add_number<A: Allocator + Copy>(
     ensures unique { IsUnique nat_eq table.new }
     ensures room { spare table.old ≤ spare table.new + 1 }
 {
-    match index_near(table, node, guess) {
+    match table.get_index_of(&node) {
         Some(index) => {
             push_number(table, index, number)?;
             Ok(index)
@@ -92,7 +92,6 @@ fn add_node<A: Allocator + Copy>(
     alloc: A,
     table: &mut NodeTable<A>,
     node: u64,
-    guess: usize,
 ) -> Result<usize, AllocError>
     requires { IsUnique nat_eq table.old }
 
@@ -109,7 +108,7 @@ fn add_node<A: Allocator + Copy>(
     ensures unique { IsUnique nat_eq table.new }
     ensures succeeds { 0 < spare table.old → IsOk result }
 {
-    match index_near(table, node, guess) {
+    match table.get_index_of(&node) {
         Some(index) => Ok(index),
         None => {
             let index = table.len();
@@ -119,8 +118,8 @@ fn add_node<A: Allocator + Copy>(
     }
 }
 
-/// Notes a contact that is to be added after the others, and returns the indexes of its nodes. Each is looked up once,
-/// first at a guess.
+/// Notes a contact that is to be added after the others, and returns the indexes of its nodes. Unless both are as guessed,
+/// each is looked up.
 pub fn note_contact<A: Allocator + Copy>(
     alloc: A,
     table: &mut NodeTable<A>,
@@ -139,9 +138,13 @@ pub fn note_contact<A: Allocator + Copy>(
     ensures err_nodes { OnErr result (keys table.new ≡ keys table.old) }
     ensures unique { IsUnique nat_eq table.new }
 {
+    if stands_at(table, contact.from, guess.from) && stands_at(table, contact.to, guess.to) {
+        push_number(table, guess.from, contact.number)?;
+        return Ok(guess);
+    }
     table.reserve(2)?;
-    let from = add_number(alloc, table, contact.from, contact.number, guess.from)?;
-    let to = add_node(alloc, table, contact.to, guess.to)?;
+    let from = add_number(alloc, table, contact.from, contact.number)?;
+    let to = add_node(alloc, table, contact.to)?;
     Ok(Ends { from, to })
 }
 
@@ -157,15 +160,15 @@ pub fn table_of<A: Allocator + Copy>(
     let mut ends = Vec::new(alloc);
     ends.reserve(contacts.len())?;
     let mut guesses = Vec::new(alloc);
-    guesses.resize(contacts.len() / 8 + 16, 0)?;
+    guesses.resize(GUESSES, 0)?;
     for contact in contacts {
         let guess = Ends {
             from: guess_of(&guesses, contact.from),
             to: guess_of(&guesses, contact.to),
         };
         let both = note_contact(alloc, &mut table, contact, guess)?;
-        note_guess(&mut guesses, contact.from, both.from);
-        note_guess(&mut guesses, contact.to, both.to);
+        note_guess(&mut guesses, contact.from, guess.from, both.from);
+        note_guess(&mut guesses, contact.to, guess.to, both.to);
         ends.push(both)?;
     }
     Ok((table, ends))
@@ -173,16 +176,16 @@ pub fn table_of<A: Allocator + Copy>(
 
 /// Where a node may stand in the table.
 fn guess_of(guesses: &[u32], node: u64) -> usize {
-    match guesses.get(node as usize % guesses.len().max(1)) {
+    match guesses.get(node as usize % GUESSES) {
         Some(guess) => *guess as usize,
         None => 0,
     }
 }
 
-/// Notes where a node stands in the table, as a guess for it.
-fn note_guess(guesses: &mut [u32], node: u64, index: usize) {
-    let place = node as usize % guesses.len().max(1);
-    if place < guesses.len() {
+/// Notes where a node stands in the table, as a guess for it, unless that was guessed.
+fn note_guess(guesses: &mut [u32], node: u64, guess: usize, index: usize) {
+    let place = node as usize % GUESSES;
+    if guess != index && place < guesses.len() {
         guesses[place] = index.min(u32::MAX as usize) as u32;
     }
 }

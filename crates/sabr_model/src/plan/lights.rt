@@ -10,6 +10,11 @@ use super::ranges::{light_of_range, light_until, ranges_until};
 use crate::contact::{Contact, Range};
 use std::alloc::{AllocError, Allocator};
 
+/// So many slots have guesses for a plan of few ranges, and so many for others.
+const FEW_SLOTS: usize = 1024;
+
+const MANY_SLOTS: usize = 65536;
+
 /// Returns the light time of each contact. It takes a few steps for a contact whose pair's last one had the same range, or
 /// the range before, and a binary search of the ranges or two for others.
 pub fn lights_of<A: Allocator + Copy>(
@@ -23,13 +28,43 @@ pub fn lights_of<A: Allocator + Copy>(
     let rising = are_rising(ranges);
     let mut lights = Vec::new(alloc);
     lights.reserve(contacts.len())?;
-    let mut guesses = Vec::new(alloc);
-    guesses.resize(contacts.len(), 0)?;
+    let mut guesses = guesses_of(alloc, ranges)?;
     for contact in contacts {
         let light = light_of_contact_near(ranges, contact, rising, &mut guesses);
         lights.push(light)?;
     }
     Ok(lights)
+}
+
+/// Returns for each pair of nodes the place of its first range, as a guess. Pairs may share a slot.
+fn guesses_of<A: Allocator + Copy>(alloc: A, ranges: &[Range]) -> Result<Vec<u32, A>, AllocError> {
+    let mut guesses = Vec::new(alloc);
+    let slots = if ranges.len() < FEW_SLOTS {
+        FEW_SLOTS
+    } else {
+        MANY_SLOTS
+    };
+    guesses.resize(slots, 0)?;
+    for after in 0..ranges.len() {
+        let place = ranges.len() - 1 - after;
+        let slot = slot_of(&guesses, ranges[place].one, ranges[place].other);
+        note_guess(&mut guesses, slot, place);
+    }
+    Ok(guesses)
+}
+
+/// The slot of an ordered pair; the number of slots is a power of two.
+#[inline(always)]
+fn slot_of(guesses: &[u32], one: u64, other: u64) -> usize {
+    one.wrapping_mul(509).wrapping_add(other) as usize & guesses.len().saturating_sub(1)
+}
+
+/// Notes the place of a range in a slot.
+#[inline(always)]
+fn note_guess(guesses: &mut [u32], slot: usize, place: usize) {
+    if slot < guesses.len() {
+        guesses[slot] = place.min(u32::MAX as usize) as u32;
+    }
 }
 
 /// Returns true if each range is written from the lesser node, so that it holds both ways.
@@ -71,7 +106,7 @@ fn light_near(ranges: &[Range], one: u64, other: u64, t: u64, guesses: &mut [u32
     requires { IsRangeList ranges.now }
     ensures { result ≡ light_of_pair ranges.now one other t }
 {
-    let slot = one.wrapping_mul(509).wrapping_add(other) as usize % guesses.len().max(1);
+    let slot = slot_of(guesses, one, other);
     let guess = match guesses.get(slot) {
         Some(guess) => *guess as usize,
         None => 0,
@@ -81,9 +116,7 @@ fn light_near(ranges: &[Range], one: u64, other: u64, t: u64, guesses: &mut [u32
         return light;
     }
     let (light, place) = light_behind(ranges, one, other, t, guess.saturating_add(1));
-    if slot < guesses.len() {
-        guesses[slot] = place.min(u32::MAX as usize) as u32;
-    }
+    note_guess(guesses, slot, place);
     light
 }
 
