@@ -1,5 +1,5 @@
 -- A text of graphic words, each after blanks, has those words.
-use Rattle.std.proofs.Common.{◌≡◌, ◌≢◌, ℕ, ◌<◌, true, false, eqb, leb, List, [], ◌∷◌, ◌++◌, length, get_or, refl, sym, ap, ◌∙◌, arith, append_assoc, append-nil, not, ◌||◌, ◌&&◌}
+use Rattle.std.proofs.Common.{◌≡◌, ◌≢◌, ℕ, ◌<◌, true, false, eqb, leb, List, [], ◌∷◌, ◌++◌, length, get_or, refl, sym, ap, ◌∙◌, arith, append_assoc, append-nil, length-append, not, ◌||◌, ◌&&◌}
 use Rattle.std.specs.List.{All, list_all}
 use Rattle.std.proofs.lemmas.Bool.{and_parts, ne_eqb, false≢true}
 use Rattle.std.proofs.Math.Bool.{or-true}
@@ -101,6 +101,17 @@ ended_blanks {text} {rest} after lf = still_ended after.blanks rest (plain_blank
 
 pub ended_gap : {text rest : List ℕ} → IsAfterGap text rest → is_one_line text ≡ false → is_one_line rest ≡ false
 ended_gap {text} {rest} gap lf = still_ended gap.blanks rest (plain_blanks gap.blanks gap.blank) (rw gap.parts at lf)
+
+-- more blanks after one
+pub more_blanks : {text start rest : List ℕ} → IsAfterGap text start → IsAfterBlanks start rest → IsAfterGap text rest
+more_blanks {text} {start} {rest} gap more =
+    let blanks = gap.blanks ++ more.blanks in
+    record {
+      blanks = blanks;
+      parts = gap.parts ∙ ap (λ r. gap.blanks ++ r) more.parts ∙ rw append_assoc refl;
+      some = lt-ltb 0 (length blanks) (omega (arith, length-append gap.blanks more.blanks, ltb-true 0 (length gap.blanks) gap.some));
+      blank = rw (list_all-append is_blank gap.blanks more.blanks, gap.blank) more.blank;
+    }
 
 pub ended_front : {Holds : List ℕ → Type 0} {text rest : List ℕ} → IsFront Holds text rest → is_one_line text ≡ false → is_one_line rest ≡ false
 ended_front {Holds} {text} {rest} front lf =

@@ -7,8 +7,10 @@ ghost use Rattle.sabr_plan.specs.Operands.{time_at, greatest_value};
 ghost use Rattle.sabr_plan.specs.Commands.{line_command, addition_of};
 ghost use Rattle.sabr_plan.specs.Words.{is_one_line, words_of};
 ghost use Rattle.sabr_plan.specs.declared.command.Command.TheVariants.{Add};
+ghost use Rattle.sabr_plan.specs.declared.command.Target.TheVariants as target;
 
 use crate::command::{Addition, Command, Target};
+use crate::eight_digits::first_eight;
 use crate::known_day::KnownDay;
 use crate::number::{leading_digits, spell};
 use crate::operand::{after_reference, greatest_value};
@@ -16,6 +18,12 @@ use crate::words::is_blank;
 
 /// The bytes of an absolute time.
 const TIME_BYTES: usize = 19;
+
+/// The bytes `a contac` as one number, the first of them lowest.
+const A_CONTAC: u64 = 0x6361_746e_6f63_2061;
+
+/// The bytes `a range ` as one number, the first of them lowest.
+const A_RANGE: u64 = 0x2065_676e_6172_2061;
 
 /// Returns what comes after a byte, if a text begins with it.
 #[inline(always)]
@@ -75,9 +83,9 @@ fn after_end(text: &[u8]) -> Option<&[u8]>
     Some(&end[1..])
 }
 
-/// Returns what comes after the blanks at the front of a text, if there is one.
+/// Returns what comes after the blank at the front of a text, if there is one.
 #[inline(always)]
-fn after_gap(text: &[u8]) -> Option<&[u8]>
+fn after_blank(text: &[u8]) -> Option<&[u8]>
     requires { IsFalse (is_one_line text.now) }
     ensures gap { IfSome result (λ r. IsAfterGap text.now r.now) }
     ensures ended { IfSome result (λ r. IsFalse (is_one_line r.now)) }
@@ -85,7 +93,17 @@ fn after_gap(text: &[u8]) -> Option<&[u8]>
     if !is_blank(text[0]) {
         return None;
     }
-    Some(after_blanks(&text[1..]))
+    Some(&text[1..])
+}
+
+/// Returns what comes after the blanks at the front of a text, if there is one.
+#[inline(always)]
+fn after_gap(text: &[u8]) -> Option<&[u8]>
+    requires { IsFalse (is_one_line text.now) }
+    ensures gap { IfSome result (λ r. IsAfterGap text.now r.now) }
+    ensures ended { IfSome result (λ r. IsFalse (is_one_line r.now)) }
+{
+    Some(after_blanks(after_blank(text)?))
 }
 
 /// Reads a number at the front of a text, after blanks. Returns the number and the text after it.
@@ -159,8 +177,12 @@ fn time_ahead<'a>(
     ensures word { IfSome result (λ r. IsAhead (λ w. time_at reference w ≡ Ok r.0) text.now r.1.now) }
     ensures ended { IfSome result (λ r. IsFalse (is_one_line r.1.now)) }
 {
-    let start = after_gap(text)?;
-    let (time, rest) = time_front(reference, day, start)?;
+    let start = after_blank(text)?;
+    if start[0] == b'+' {
+        let (time, rest) = relative_front(reference, start)?;
+        return Some((time, rest));
+    }
+    let (time, rest) = time_front(reference, day, after_blanks(start))?;
     Some((time, rest))
 }
 
@@ -191,6 +213,28 @@ fn operands_ahead<'a>(
     Some((addition, behind))
 }
 
+/// Returns what comes after `a contact`, if a line begins with it.
+#[inline(always)]
+fn after_contact(line: &[u8]) -> Option<&[u8]>
+    ensures { IfSome result (λ r. AddsAhead target.Contact line.now r.now) }
+{
+    if line.len() < 9 || first_eight(line) != A_CONTAC || line[8] != b't' {
+        return None;
+    }
+    Some(&line[9..])
+}
+
+/// Returns what comes after `a range`, if a line begins with it and a space.
+#[inline(always)]
+fn after_range(line: &[u8]) -> Option<&[u8]>
+    ensures { IfSome result (λ r. AddsAhead target.Range line.now r.now) }
+{
+    if line.len() < 8 || first_eight(line) != A_RANGE {
+        return None;
+    }
+    Some(&line[7..])
+}
+
 /// Returns the target of the addition that a line begins with, and the text after its name.
 #[cold]
 #[inline(never)]
@@ -206,23 +250,25 @@ fn any_target_ahead(line: &[u8]) -> Option<(Target, &[u8])>
     Some((Target::Range, text))
 }
 
-/// The same. Most lines have no blanks but one space before each word.
+/// Returns the command of a line whose operands come next, and the text after the line's LF. None says nothing.
 #[inline(always)]
-fn target_ahead(line: &[u8]) -> Option<(Target, &[u8])>
-    requires { IsFalse (is_one_line line.now) }
-    ensures { IfSome result (λ r. AddsAhead r.0 line.now r.1.now) }
+fn command_ahead<'a>(
+    reference: Option<u64>,
+    day: &mut KnownDay,
+    target: Target,
+    line: &'a [u8],
+    operands: &'a [u8],
+) -> Option<(Command, &'a [u8])>
+    requires ended { IsFalse (is_one_line line.now) }
+    requires adds { AddsAhead target line.now operands.now }
+    ensures { IfSome result (λ r. BeginsWithLine (λ l. line_command reference l ≡ Ok r.0) line.now r.1.now) }
 {
-    if let Some(text) = line.strip_prefix(b"a contact") {
-        return Some((Target::Contact, text));
-    }
-    if let Some(text) = line.strip_prefix(b"a range") {
-        return Some((Target::Range, text));
-    }
-    any_target_ahead(line)
+    let (addition, rest) = operands_ahead(reference, day, target, operands)?;
+    Some((Command::Add(target, addition), rest))
 }
 
 /// Returns the command of a text's first line, if it is an addition that is quick to read, and the text after the line's
-/// LF. None says nothing.
+/// LF. None says nothing. Most lines have no blanks but one space before each word.
 #[inline(always)]
 pub fn swift_addition<'a>(
     reference: Option<u64>,
@@ -232,7 +278,12 @@ pub fn swift_addition<'a>(
     requires { IsFalse (is_one_line text.now) }
     ensures { IfSome result (λ r. BeginsWithLine (λ line. line_command reference line ≡ Ok r.0) text.now r.1.now) }
 {
-    let (target, text) = target_ahead(text)?;
-    let (addition, rest) = operands_ahead(reference, day, target, text)?;
-    Some((Command::Add(target, addition), rest))
+    if let Some(operands) = after_contact(text) {
+        return command_ahead(reference, day, Target::Contact, text, operands);
+    }
+    if let Some(operands) = after_range(text) {
+        return command_ahead(reference, day, Target::Range, text, operands);
+    }
+    let (target, operands) = any_target_ahead(text)?;
+    command_ahead(reference, day, target, text, operands)
 }
