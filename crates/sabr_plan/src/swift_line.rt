@@ -1,18 +1,16 @@
 //! A fast reader of additions, in one pass over a line. It says nothing about other lines.
 
-ghost use Rattle.std.specs.Prelude.{◌≡◌, ◌≢◌, ℕ, Option, ◌∷◌, Ok, Some, IfSome, IsTrue, IsFalse};
+ghost use Rattle.std.specs.Prelude.{◌≡◌, ◌≢◌, ◌∷◌, Ok, Some, IfSome, IsFalse};
 ghost use Rattle.sabr_plan.specs.Numbers.{number_within};
-ghost use Rattle.sabr_plan.specs.PlainWords.{is_plain_from_blank, IsAfterBlanks, IsAfterGap, IsFront, IsAhead, BeginsWithLine, AddsAhead};
-ghost use Rattle.sabr_plan.specs.Operands.{time_at, greatest_value};
-ghost use Rattle.sabr_plan.specs.Commands.{line_command, addition_of};
-ghost use Rattle.sabr_plan.specs.Words.{is_one_line, words_of};
-ghost use Rattle.sabr_plan.specs.declared.command.Command.TheVariants.{Add};
-ghost use Rattle.sabr_plan.specs.declared.command.Target.TheVariants as target;
+ghost use Rattle.sabr_plan.specs.PlainWords.{IsAfterBlanks, IsAfterGap, IsFront, IsAhead, BeginsWithLine, AddsAhead};
+ghost use Rattle.sabr_plan.specs.Operands.{time_at};
+ghost use Rattle.sabr_plan.specs.Commands.{line_command};
+ghost use Rattle.sabr_plan.specs.Words.{is_one_line};
 
 use crate::command::{Addition, Command, Target};
 use crate::eight_digits::first_eight;
 use crate::known_day::KnownDay;
-use crate::number::{leading_digits, spell};
+use crate::number::{leading_digits, leading_number};
 use crate::operand::{after_reference, greatest_value};
 use crate::words::is_blank;
 
@@ -113,10 +111,7 @@ fn number_ahead(low: u64, high: u64, text: &[u8]) -> Option<(u64, &[u8])>
     ensures word { IfSome result (λ r. IsAhead (λ w. number_within low high w ≡ Some r.0) text.now r.1.now) }
     ensures ended { IfSome result (λ r. IsFalse (is_one_line r.1.now)) }
 {
-    let (value, word, rest) = leading_digits(after_gap(text)?)?;
-    if !spell(word, value, low, high) {
-        return None;
-    }
+    let (value, _, rest) = leading_number(after_gap(text)?, low, high)?;
     Some((value, rest))
 }
 
@@ -136,19 +131,6 @@ fn relative_front(reference: Option<u64>, text: &[u8]) -> Option<(u64, &[u8])>
     Some((time, rest))
 }
 
-/// Reads an absolute time at the front of a text. Returns the time and the text after it.
-#[inline(always)]
-fn absolute_front<'a>(day: &mut KnownDay, text: &'a [u8]) -> Option<(u64, &'a [u8])>
-    ensures { IfSome result (λ r. (reference : Option ℕ) → IsFront (λ w. time_at reference w ≡ Ok r.0) text.now r.1.now) }
-{
-    if text.len() < TIME_BYTES {
-        return None;
-    }
-    let (word, rest) = text.split_at(TIME_BYTES);
-    let time = day.second_of(word)?;
-    Some((time, rest))
-}
-
 /// Reads a time at the front of a text. Returns the time and the text after it.
 #[inline(always)]
 fn time_front<'a>(
@@ -162,7 +144,11 @@ fn time_front<'a>(
     if text[0] == b'+' {
         return relative_front(reference, text);
     }
-    let (time, rest) = absolute_front(day, text)?;
+    if text.len() < TIME_BYTES {
+        return None;
+    }
+    let (word, rest) = text.split_at(TIME_BYTES);
+    let time = day.second_of(word)?;
     Some((time, rest))
 }
 
@@ -186,55 +172,6 @@ fn time_ahead<'a>(
     Some((time, rest))
 }
 
-/// Reads the operands after `a contact` or `a range`, up to an LF. Returns them and the text after the LF.
-#[inline(always)]
-fn operands_ahead<'a>(
-    reference: Option<u64>,
-    day: &mut KnownDay,
-    target: Target,
-    text: &'a [u8],
-) -> Option<(Addition, &'a [u8])>
-    requires { IsFalse (is_one_line text.now) }
-    ensures { IfSome result (λ r. BeginsWithLine (λ line. IsTrue (is_plain_from_blank line) × (addition_of reference target (words_of line) ≡ Ok (Add target r.0))) text.now r.1.now) }
-{
-    let (start, rest) = time_ahead(reference, day, text)?;
-    let (end, rest) = time_ahead(reference, day, rest)?;
-    let (first, rest) = number_ahead(1, u64::MAX, rest)?;
-    let (second, rest) = number_ahead(1, u64::MAX, rest)?;
-    let (value, rest) = number_ahead(0, greatest_value(target), rest)?;
-    let behind = after_end(rest)?;
-    let addition = Addition {
-        start,
-        end,
-        first,
-        second,
-        value,
-    };
-    Some((addition, behind))
-}
-
-/// Returns what comes after `a contact`, if a line begins with it.
-#[inline(always)]
-fn after_contact(line: &[u8]) -> Option<&[u8]>
-    ensures { IfSome result (λ r. AddsAhead target.Contact line.now r.now) }
-{
-    if line.len() < 9 || first_eight(line) != A_CONTAC || line[8] != b't' {
-        return None;
-    }
-    Some(&line[9..])
-}
-
-/// Returns what comes after `a range`, if a line begins with it and a space.
-#[inline(always)]
-fn after_range(line: &[u8]) -> Option<&[u8]>
-    ensures { IfSome result (λ r. AddsAhead target.Range line.now r.now) }
-{
-    if line.len() < 8 || first_eight(line) != A_RANGE {
-        return None;
-    }
-    Some(&line[7..])
-}
-
 /// Returns the target of the addition that a line begins with, and the text after its name.
 #[cold]
 #[inline(never)]
@@ -250,25 +187,27 @@ fn any_target_ahead(line: &[u8]) -> Option<(Target, &[u8])>
     Some((Target::Range, text))
 }
 
-/// Returns the command of a line whose operands come next, and the text after the line's LF. None says nothing.
+/// The same. Most lines have no blanks but one space before each word.
 #[inline(always)]
-fn command_ahead<'a>(
-    reference: Option<u64>,
-    day: &mut KnownDay,
-    target: Target,
-    line: &'a [u8],
-    operands: &'a [u8],
-) -> Option<(Command, &'a [u8])>
-    requires ended { IsFalse (is_one_line line.now) }
-    requires adds { AddsAhead target line.now operands.now }
-    ensures { IfSome result (λ r. BeginsWithLine (λ l. line_command reference l ≡ Ok r.0) line.now r.1.now) }
+fn target_ahead(line: &[u8]) -> Option<(Target, &[u8])>
+    requires { IsFalse (is_one_line line.now) }
+    ensures { IfSome result (λ r. AddsAhead r.0 line.now r.1.now) }
 {
-    let (addition, rest) = operands_ahead(reference, day, target, operands)?;
-    Some((Command::Add(target, addition), rest))
+    if line.len() < 9 {
+        return any_target_ahead(line);
+    }
+    let word = first_eight(line);
+    if word == A_CONTAC && line[8] == b't' {
+        return Some((Target::Contact, &line[9..]));
+    }
+    if word == A_RANGE {
+        return Some((Target::Range, &line[7..]));
+    }
+    any_target_ahead(line)
 }
 
 /// Returns the command of a text's first line, if it is an addition that is quick to read, and the text after the line's
-/// LF. None says nothing. Most lines have no blanks but one space before each word.
+/// LF. None says nothing.
 #[inline(always)]
 pub fn swift_addition<'a>(
     reference: Option<u64>,
@@ -278,12 +217,19 @@ pub fn swift_addition<'a>(
     requires { IsFalse (is_one_line text.now) }
     ensures { IfSome result (λ r. BeginsWithLine (λ line. line_command reference line ≡ Ok r.0) text.now r.1.now) }
 {
-    if let Some(operands) = after_contact(text) {
-        return command_ahead(reference, day, Target::Contact, text, operands);
-    }
-    if let Some(operands) = after_range(text) {
-        return command_ahead(reference, day, Target::Range, text, operands);
-    }
-    let (target, operands) = any_target_ahead(text)?;
-    command_ahead(reference, day, target, text, operands)
+    let (target, rest) = target_ahead(text)?;
+    let (start, rest) = time_ahead(reference, day, rest)?;
+    let (end, rest) = time_ahead(reference, day, rest)?;
+    let (first, rest) = number_ahead(1, u64::MAX, rest)?;
+    let (second, rest) = number_ahead(1, u64::MAX, rest)?;
+    let (value, rest) = number_ahead(0, greatest_value(target), rest)?;
+    let behind = after_end(rest)?;
+    let addition = Addition {
+        start,
+        end,
+        first,
+        second,
+        value,
+    };
+    Some((Command::Add(target, addition), behind))
 }
