@@ -173,8 +173,7 @@ fn time_ahead<'a>(
 }
 
 /// Returns the target of the addition that a line begins with, and the text after its name.
-#[cold]
-#[inline(never)]
+#[inline(always)]
 fn any_target_ahead(line: &[u8]) -> Option<(Target, &[u8])>
     requires { IsFalse (is_one_line line.now) }
     ensures adds { IfSome result (λ r. AddsAhead r.0 line.now r.1.now) }
@@ -193,15 +192,14 @@ fn target_ahead(line: &[u8]) -> Option<(Target, &[u8])>
     requires { IsFalse (is_one_line line.now) }
     ensures { IfSome result (λ r. AddsAhead r.0 line.now r.1.now) }
 {
-    if line.len() < 9 {
-        return any_target_ahead(line);
-    }
-    let word = first_eight(line);
-    if word == A_CONTAC && line[8] == b't' {
-        return Some((Target::Contact, &line[9..]));
-    }
-    if word == A_RANGE {
-        return Some((Target::Range, &line[7..]));
+    if line.len() > 8 {
+        let word = first_eight(line);
+        if word == A_CONTAC && line[8] == b't' {
+            return Some((Target::Contact, &line[9..]));
+        }
+        if word == A_RANGE {
+            return Some((Target::Range, &line[7..]));
+        }
     }
     any_target_ahead(line)
 }

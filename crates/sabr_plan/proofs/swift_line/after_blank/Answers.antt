@@ -1,13 +1,8 @@
 -- One blank.
-use Rattle.std.proofs.Common.{◌≡◌, ℕ, true, [], ◌∷◌, get_or, refl, sym, ◌∙◌}
-use Rattle.std.specs.List.{list_all}
-use Rattle.sabr_plan.specs.Words.{is_blank}
+use Rattle.std.proofs.Common.{[], ◌∷◌, get_or, refl, sym, ◌∙◌}
 use Rattle.sabr_plan.proofs.Lines.{first_byte}
 use Rattle.sabr_plan.proofs.PlainWords.{ended_gap}
 use Rattle.sabr_plan.proofs.swift_line.after_blank.Goals as goal
-
-one : (b : ℕ) → is_blank b ≡ true → list_all is_blank (b ∷ []) ≡ true
-one b h = rw h refl
 
 pub returns-clause-gap : goal.returns-clause-gap
 returns-clause-gap c =
@@ -16,7 +11,7 @@ returns-clause-gap c =
       blanks = get_or text 0 0 ∷ [];
       parts = first_byte text c.requires;
       some = refl;
-      blank = one (get_or text 0 0) (sym c.is_blank.ensures ∙ c.if-not-is_blank.false);
+      blank = rw (sym c.is_blank.ensures ∙ c.if-not-is_blank.false) refl;
     }
 
 pub returns-clause-ended : goal.returns-clause-ended
