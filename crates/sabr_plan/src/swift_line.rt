@@ -209,15 +209,16 @@ fn target_ahead(line: &[u8]) -> Option<(Target, &[u8])>
 #[inline(always)]
 pub fn swift_addition<'a>(
     reference: Option<u64>,
-    day: &mut KnownDay,
+    start_day: &mut KnownDay,
+    end_day: &mut KnownDay,
     text: &'a [u8],
 ) -> Option<(Command, &'a [u8])>
     requires { IsFalse (is_one_line text.now) }
     ensures { IfSome result (λ r. BeginsWithLine (λ line. line_command reference line ≡ Ok r.0) text.now r.1.now) }
 {
     let (target, rest) = target_ahead(text)?;
-    let (start, rest) = time_ahead(reference, day, rest)?;
-    let (end, rest) = time_ahead(reference, day, rest)?;
+    let (start, rest) = time_ahead(reference, start_day, rest)?;
+    let (end, rest) = time_ahead(reference, end_day, rest)?;
     let (first, rest) = number_ahead(1, u64::MAX, rest)?;
     let (second, rest) = number_ahead(1, u64::MAX, rest)?;
     let (value, rest) = number_ahead(0, greatest_value(target), rest)?;
