@@ -1,7 +1,7 @@
 -- The name of what is added, at the front of a line in plain spelling.
-use Rattle.std.proofs.Common.{◌≡◌, ℕ, List, [], ◌∷◌, ◌++◌, take, drop, refl, sym, ap, ◌∙◌, true, false}
-use Rattle.std.specs.Str.{bytes_eq}
-use Rattle.std.proofs.lemmas.Slice.Eq.{bytes_eq-Decides}
+use Rattle.std.proofs.Common.{◌≡◌, ℕ, ◌+◌, ◌*◌, ◌/◌, ◌%◌, List, [], ◌∷◌, ◌++◌, length, take, drop, refl, sym, ap, ◌∙◌, arith, true, false}
+use lib.Lanes.{number_l, digits_l}
+use Rattle.core.specs.Int.Digits.{AllBelowBase}
 use Rattle.std.proofs.lemmas.List.{take-append-drop}
 use Rattle.sabr_plan.specs.Words.{is_one_line}
 use Rattle.sabr_plan.specs.PlainWords.{AddsAhead, name_of, is_graphic_word}
@@ -14,20 +14,28 @@ graphic_name Contact = refl
 graphic_name Range = refl
 
 -- `a`, a space and a name
-pub adds_plain : (target : Target) (count : ℕ) (line text : List ℕ) → bytes_eq (take count line) (97 ∷ 32 ∷ name_of target) ≡ true → text ≡ drop count line → AddsAhead target line text
-adds_plain target count line text front rest = record {
-  behind = 32 ∷ (name_of target ++ text);
-  first = record {
-    blanks = [];
-    parts = sym (take-append-drop count line) ∙ ap (λ f. f ++ drop count line) ((bytes_eq-Decides (take count line) (97 ∷ 32 ∷ name_of target)).0 front) ∙ ap (λ r. 97 ∷ 32 ∷ (name_of target ++ r)) (sym rest);
-    blank = refl;
-  };
+pub adds_plain : (target : Target) (count : ℕ) (line : List ℕ) → take count line ≡ 97 ∷ 32 ∷ name_of target → AddsAhead target line (drop count line)
+adds_plain target count line front = record {
+  behind = 32 ∷ (name_of target ++ drop count line);
+  first = record { blanks = []; parts = sym (take-append-drop count line) ∙ ap (λ f. f ++ drop count line) front; blank = refl };
   name = record {
-    start = name_of target ++ text;
+    start = name_of target ++ drop count line;
     gap = record { blanks = 32 ∷ []; parts = refl; some = refl; blank = refl };
     front = record { word = name_of target; parts = refl; graphic = graphic_name target; holds = refl };
   };
 }
+
+-- bytes are the digits of the number that they make
+pub bytes_are : (xs : List ℕ) (n word : ℕ) → (length xs ≡ n) × AllBelowBase 256 xs → number_l 256 xs ≡ word → xs ≡ digits_l 256 n word
+bytes_are xs n word h is = digits xs h.1 ∙ (λ i. digits_l 256 (h.0 i) (is i))
+  where
+    digits : (ys : List ℕ) → AllBelowBase 256 ys → ys ≡ digits_l 256 (length ys) (number_l 256 ys)
+    digits [] h = refl
+    digits (y ∷ ys) h =
+        let n = number_l 256 ys in
+        let low : y ≡ (y + 256 * n) % 256 = omega (arith, h.0) in
+        let high : n ≡ (y + 256 * n) / 256 = omega (arith, h.0) in
+        λ i. low i ∷ (digits ys h.1 ∙ ap (digits_l 256 (length ys)) high) i
 
 -- what comes after the name has an LF
 pub ended_name : {target : Target} {text rest : List ℕ} → AddsAhead target text rest → is_one_line text ≡ false → is_one_line rest ≡ false

@@ -1,14 +1,14 @@
 -- A text of graphic words, each after blanks, has those words.
-use Rattle.std.proofs.Common.{◌≡◌, ◌≢◌, ℕ, ◌<◌, true, false, eqb, leb, List, [], ◌∷◌, ◌++◌, length, get_or, refl, sym, ap, ◌∙◌, arith, append_assoc, append-nil, not, ◌||◌, ◌&&◌}
+use Rattle.std.proofs.Common.{◌≡◌, ◌≢◌, ℕ, ◌<◌, true, false, eqb, leb, List, [], ◌∷◌, ◌++◌, length, get_or, refl, sym, ap, ◌∙◌, arith, append_assoc, append-nil, length-append, not, ◌||◌, ◌&&◌}
 use Rattle.std.specs.List.{All, list_all}
 use Rattle.std.proofs.lemmas.Bool.{and_parts, ne_eqb, false≢true}
 use Rattle.std.proofs.Math.Bool.{or-true}
 use Rattle.std.proofs.lemmas.List.Folds.{list_all-append}
 use Rattle.std.proofs.lemmas.List.Sums.{AllPass-from_list_all}
 use borrow.Author.Tests.{leb-true, le-leb, ltb-true, lt-ltb, eqb-true}
-use Rattle.sabr_plan.specs.Digits.{is_digit, SpellsNumber}
+use Rattle.sabr_plan.specs.Digits.{is_digit}
 use Rattle.sabr_plan.specs.Words.{is_blank, is_plain, is_comment, has_bytes, is_one_line, words_of}
-use Rattle.sabr_plan.specs.PlainWords.{is_graphic, is_graphic_word, is_plain_from_blank, IsAfterBlanks, IsAfterGap, IsFront, IsAhead}
+use Rattle.sabr_plan.specs.PlainWords.{is_graphic, is_graphic_word, IsAfterBlanks, IsAfterGap, IsFront, IsAhead}
 use Rattle.sabr_plan.proofs.FirstWords.{first_is, words_of-blank, words_of-nil}
 
 -- a graphic byte is no blank
@@ -45,8 +45,8 @@ pub graphic_digits : (w : List ℕ) → list_all is_digit w ≡ true → list_al
 graphic_digits [] h = refl
 graphic_digits (b ∷ w) h = let p = and_parts (is_digit b) (list_all is_digit w) h in rw (graphic_digit b p.0, graphic_digits w p.1) refl
 
-pub graphic_number : {w : List ℕ} {n : ℕ} → SpellsNumber w n → is_graphic_word w ≡ true
-graphic_number {w} {n} is = rw (lt-ltb 0 (length w) is.some, graphic_digits w is.digits) refl
+pub graphic_number : (w : List ℕ) → (0 < length w) × (list_all is_digit w ≡ true) → is_graphic_word w ≡ true
+graphic_number w is = rw (lt-ltb 0 (length w) is.0, graphic_digits w is.1) refl
 
 pub graphic_behind : (b : ℕ) (w : List ℕ) → is_graphic b ≡ true → list_all is_graphic w ≡ true → is_graphic_word (b ∷ w) ≡ true
 graphic_behind b w one all = rw (lt-ltb 0 (length (b ∷ w)) (omega arith), one, all) refl
@@ -102,6 +102,17 @@ ended_blanks {text} {rest} after lf = still_ended after.blanks rest (plain_blank
 pub ended_gap : {text rest : List ℕ} → IsAfterGap text rest → is_one_line text ≡ false → is_one_line rest ≡ false
 ended_gap {text} {rest} gap lf = still_ended gap.blanks rest (plain_blanks gap.blanks gap.blank) (rw gap.parts at lf)
 
+-- more blanks after one
+pub more_blanks : {text start rest : List ℕ} → IsAfterGap text start → IsAfterBlanks start rest → IsAfterGap text rest
+more_blanks {text} {start} {rest} gap more =
+    let blanks = gap.blanks ++ more.blanks in
+    record {
+      blanks = blanks;
+      parts = gap.parts ∙ ap (λ r. gap.blanks ++ r) more.parts ∙ rw append_assoc refl;
+      some = lt-ltb 0 (length blanks) (omega (arith, length-append gap.blanks more.blanks, ltb-true 0 (length gap.blanks) gap.some));
+      blank = rw (list_all-append is_blank gap.blanks more.blanks, gap.blank) more.blank;
+    }
+
 pub ended_front : {Holds : List ℕ → Type 0} {text rest : List ℕ} → IsFront Holds text rest → is_one_line text ≡ false → is_one_line rest ≡ false
 ended_front {Holds} {text} {rest} front lf =
     still_ended front.word rest (plain_word front.word (and_parts (has_bytes front.word) (list_all is_graphic front.word) front.graphic).1) (rw front.parts at lf)
@@ -143,21 +154,6 @@ more_words {Holds} {text} {start} {rest} {words} ahead back =
       apart = λ _. first_blank blanks (word ++ back.line) (ltb-true 0 (length blanks) ahead.gap.some) ahead.gap.blank;
       has = words_of-blanks blanks (word ++ back.line) ahead.gap.blank ∙ first_of word back.line ahead.front.graphic back.apart ∙ ap (λ ws. word ∷ ws) back.has;
     }
-
--- a line with a word begins with a blank
-pub from_blank : {word text rest : List ℕ} {words : List (List ℕ)} (has : HasLine (word ∷ words) text rest) → is_plain_from_blank has.line ≡ true
-from_blank {word} {text} {rest} {words} has =
-    let some : 0 < length has.line = (elim has.line as (λ l. words_of l ≡ word ∷ words → 0 < length l) [
-      | [] ↦ λ e. let none = words_of-nil in cc
-      | b ∷ l ↦ λ _. omega arith
-    ]) has.has in
-    rw (has.apart some, has.plain) refl
-
--- any line that begins with a blank
-pub from_line : {text rest : List ℕ} (line : List ℕ) → text ≡ line ++ 10 ∷ rest → is_plain_from_blank line ≡ true → HasLine (words_of line) text rest
-from_line {text} {rest} line parts from =
-    let plain = and_parts (is_blank (get_or line 0 0)) (list_all is_plain line) from in
-    record { line = line; parts = parts; plain = plain.1; apart = λ _. plain.0; has = refl }
 
 -- `a` before them, where a line begins
 pub first_a : {text start rest : List ℕ} {words : List (List ℕ)} (after : IsAfterBlanks text (97 ∷ start)) (back : HasLine words start rest) → (text ≡ (after.blanks ++ 97 ∷ back.line) ++ 10 ∷ rest) × (list_all is_plain (after.blanks ++ 97 ∷ back.line) ≡ true) × (words_of (after.blanks ++ 97 ∷ back.line) ≡ (97 ∷ []) ∷ words)

@@ -1,7 +1,7 @@
 -- Words at the front of a text, each after blanks.
-use Rattle.std.specs.Prelude.{◌≡◌, ℕ, nat_le, ◌&&◌, Bool, List, ◌∷◌, ◌++◌, slice_index, codes, IsTrue}
+use Rattle.std.specs.Prelude.{◌≡◌, ℕ, nat_le, ◌&&◌, Bool, List, ◌∷◌, ◌++◌, codes, IsTrue}
 use Rattle.std.specs.List.{list_all}
-use Rattle.sabr_plan.specs.Words.{has_bytes, is_blank, is_plain, is_one_line}
+use Rattle.sabr_plan.specs.Words.{has_bytes, is_blank, is_one_line}
 use Rattle.sabr_plan.specs.declared.command.Target.{Target}
 use Rattle.sabr_plan.specs.declared.command.Target.TheVariants.{Contact, Range}
 
@@ -12,10 +12,6 @@ is_graphic b = nat_le 33 b && nat_le b 126
 -- whether there are bytes, and each is graphic
 abbrev pub is_graphic_word : List ℕ → Bool
 is_graphic_word word = has_bytes word && list_all is_graphic word
-
--- whether it is a blank with plain bytes after it
-abbrev pub is_plain_from_blank : List ℕ → Bool
-is_plain_from_blank text = is_blank (slice_index text 0) && list_all is_plain text
 
 -- a text begins with blanks, if any, and continues with the rest
 pub record IsAfterBlanks (text rest : List ℕ) : Type 0 where

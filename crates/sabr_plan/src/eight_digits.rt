@@ -14,7 +14,7 @@ const ZEROS: u64 = 0x3030_3030_3030_3030;
 
 /// Returns the first eight bytes as one number, the first of them lowest.
 #[inline(always)]
-fn first_eight(text: &[u8]) -> u64
+pub fn first_eight(text: &[u8]) -> u64
     requires { 8 ≤ length text.now }
     ensures { result ≡ number_l 256 (take 8 text.now) }
 {

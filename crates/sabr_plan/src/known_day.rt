@@ -1,4 +1,4 @@
-//! The day of the last absolute time. If the next one has the same date, only its time of day is read.
+//! The day of the last absolute start or end. If the next one has the same date, only its time of day is read.
 
 ghost use Rattle.std.specs.Prelude.{◌≡◌, ◌<◌, ◌≤◌, IfSome, IsTrue, length};
 ghost use Rattle.sabr_model.specs.plan.Plan.{last_time};

@@ -76,16 +76,6 @@ fn starts_with_zero(word: &[u8], low: u64) -> bool
     word[0] == b'0' && (low > 0 || word.len() > 1)
 }
 
-/// Returns true only if digits that stand for this value spell a number from `low` to `high`.
-#[inline(always)]
-pub fn spell(word: &[u8], value: u64, low: u64, high: u64) -> bool
-    requires { SpellsNumber word.now value }
-    ensures value { IsTrue result → number_within low high word.now ≡ Some value }
-    ensures range { IsTrue result → (low ≤ value) × (value ≤ high) }
-{
-    !starts_with_zero(word, low) && low <= value && value <= high
-}
-
 /// Returns the number from `low` to `high` that the digits at the front of a text spell, those digits, and the text
 /// after them. The digits are at most 19, without a leading zero. None says nothing about the text.
 #[inline(always)]
@@ -96,7 +86,7 @@ pub fn leading_number(text: &[u8], low: u64, high: u64) -> Option<(u64, &[u8], &
     ensures range { IfSome result (λ r. (low ≤ r.0) × (r.0 ≤ high)) }
 {
     let (value, word, rest) = leading_digits(text)?;
-    if !spell(word, value, low, high) {
+    if starts_with_zero(word, low) || value < low || value > high {
         return None;
     }
     Some((value, word, rest))

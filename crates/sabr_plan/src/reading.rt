@@ -29,8 +29,10 @@ pub struct PlanReading<A: Allocator + Copy> {
     ranges: GatheredRanges<A>,
     /// The second from which relative times count, if a line has set it.
     reference: Option<u64>,
-    /// The day of the last absolute time.
-    day: KnownDay,
+    /// The day of the last absolute start.
+    start_day: KnownDay,
+    /// The day of the last absolute end.
+    end_day: KnownDay,
 }
 
 impl<A: Allocator + Copy> Model for PlanReading<A> {
@@ -68,7 +70,8 @@ impl<A: Allocator + Copy> PlanReading<A> {
             contacts: GatheredContacts::new(alloc),
             ranges: GatheredRanges::new(alloc),
             reference: None,
-            day: KnownDay::new(),
+            start_day: KnownDay::new(),
+            end_day: KnownDay::new(),
         }
     }
 
@@ -81,7 +84,8 @@ impl<A: Allocator + Copy> PlanReading<A> {
             contacts,
             ranges,
             reference: _,
-            day: _,
+            start_day: _,
+            end_day: _,
         } = self;
         gathered_plan(alloc, contacts, ranges)
     }
@@ -94,7 +98,7 @@ impl<A: Allocator + Copy> PlanReading<A> {
         ensures same { self.new ≡ self.old }
         ensures value { IfSome result (λ r. BeginsWithLine (λ line. line_command self.old.reference line ≡ Ok r.0) text.now r.1.now) }
     {
-        swift_addition(self.reference, &mut self.day, text)
+        swift_addition(self.reference, &mut self.start_day, &mut self.end_day, text)
     }
 
     /// Reads a line without its LF, and does what it says.

@@ -1,21 +1,27 @@
 //! A fast reader of additions, in one pass over a line. It says nothing about other lines.
 
-ghost use Rattle.std.specs.Prelude.{◌≡◌, ◌≢◌, ℕ, Option, ◌∷◌, Ok, Some, IfSome, IsTrue, IsFalse};
+ghost use Rattle.std.specs.Prelude.{◌≡◌, ◌≢◌, ◌∷◌, Ok, Some, IfSome, IsFalse};
 ghost use Rattle.sabr_plan.specs.Numbers.{number_within};
-ghost use Rattle.sabr_plan.specs.PlainWords.{is_plain_from_blank, IsAfterBlanks, IsAfterGap, IsFront, IsAhead, BeginsWithLine, AddsAhead};
-ghost use Rattle.sabr_plan.specs.Operands.{time_at, greatest_value};
-ghost use Rattle.sabr_plan.specs.Commands.{line_command, addition_of};
-ghost use Rattle.sabr_plan.specs.Words.{is_one_line, words_of};
-ghost use Rattle.sabr_plan.specs.declared.command.Command.TheVariants.{Add};
+ghost use Rattle.sabr_plan.specs.PlainWords.{IsAfterBlanks, IsAfterGap, IsFront, IsAhead, BeginsWithLine, AddsAhead};
+ghost use Rattle.sabr_plan.specs.Operands.{time_at};
+ghost use Rattle.sabr_plan.specs.Commands.{line_command};
+ghost use Rattle.sabr_plan.specs.Words.{is_one_line};
 
 use crate::command::{Addition, Command, Target};
+use crate::eight_digits::first_eight;
 use crate::known_day::KnownDay;
-use crate::number::{leading_digits, spell};
+use crate::number::{leading_digits, leading_number};
 use crate::operand::{after_reference, greatest_value};
 use crate::words::is_blank;
 
 /// The bytes of an absolute time.
 const TIME_BYTES: usize = 19;
+
+/// The bytes `a contac` as one number, the first of them lowest.
+const A_CONTAC: u64 = 0x6361_746e_6f63_2061;
+
+/// The bytes `a range ` as one number, the first of them lowest.
+const A_RANGE: u64 = 0x2065_676e_6172_2061;
 
 /// Returns what comes after a byte, if a text begins with it.
 #[inline(always)]
@@ -75,9 +81,9 @@ fn after_end(text: &[u8]) -> Option<&[u8]>
     Some(&end[1..])
 }
 
-/// Returns what comes after the blanks at the front of a text, if there is one.
+/// Returns what comes after the blank at the front of a text, if there is one.
 #[inline(always)]
-fn after_gap(text: &[u8]) -> Option<&[u8]>
+fn after_blank(text: &[u8]) -> Option<&[u8]>
     requires { IsFalse (is_one_line text.now) }
     ensures gap { IfSome result (λ r. IsAfterGap text.now r.now) }
     ensures ended { IfSome result (λ r. IsFalse (is_one_line r.now)) }
@@ -85,7 +91,17 @@ fn after_gap(text: &[u8]) -> Option<&[u8]>
     if !is_blank(text[0]) {
         return None;
     }
-    Some(after_blanks(&text[1..]))
+    Some(&text[1..])
+}
+
+/// Returns what comes after the blanks at the front of a text, if there is one.
+#[inline(always)]
+fn after_gap(text: &[u8]) -> Option<&[u8]>
+    requires { IsFalse (is_one_line text.now) }
+    ensures gap { IfSome result (λ r. IsAfterGap text.now r.now) }
+    ensures ended { IfSome result (λ r. IsFalse (is_one_line r.now)) }
+{
+    Some(after_blanks(after_blank(text)?))
 }
 
 /// Reads a number at the front of a text, after blanks. Returns the number and the text after it.
@@ -95,10 +111,7 @@ fn number_ahead(low: u64, high: u64, text: &[u8]) -> Option<(u64, &[u8])>
     ensures word { IfSome result (λ r. IsAhead (λ w. number_within low high w ≡ Some r.0) text.now r.1.now) }
     ensures ended { IfSome result (λ r. IsFalse (is_one_line r.1.now)) }
 {
-    let (value, word, rest) = leading_digits(after_gap(text)?)?;
-    if !spell(word, value, low, high) {
-        return None;
-    }
+    let (value, _, rest) = leading_number(after_gap(text)?, low, high)?;
     Some((value, rest))
 }
 
@@ -118,19 +131,6 @@ fn relative_front(reference: Option<u64>, text: &[u8]) -> Option<(u64, &[u8])>
     Some((time, rest))
 }
 
-/// Reads an absolute time at the front of a text. Returns the time and the text after it.
-#[inline(always)]
-fn absolute_front<'a>(day: &mut KnownDay, text: &'a [u8]) -> Option<(u64, &'a [u8])>
-    ensures { IfSome result (λ r. (reference : Option ℕ) → IsFront (λ w. time_at reference w ≡ Ok r.0) text.now r.1.now) }
-{
-    if text.len() < TIME_BYTES {
-        return None;
-    }
-    let (word, rest) = text.split_at(TIME_BYTES);
-    let time = day.second_of(word)?;
-    Some((time, rest))
-}
-
 /// Reads a time at the front of a text. Returns the time and the text after it.
 #[inline(always)]
 fn time_front<'a>(
@@ -144,7 +144,11 @@ fn time_front<'a>(
     if text[0] == b'+' {
         return relative_front(reference, text);
     }
-    let (time, rest) = absolute_front(day, text)?;
+    if text.len() < TIME_BYTES {
+        return None;
+    }
+    let (word, rest) = text.split_at(TIME_BYTES);
+    let time = day.second_of(word)?;
     Some((time, rest))
 }
 
@@ -159,41 +163,17 @@ fn time_ahead<'a>(
     ensures word { IfSome result (λ r. IsAhead (λ w. time_at reference w ≡ Ok r.0) text.now r.1.now) }
     ensures ended { IfSome result (λ r. IsFalse (is_one_line r.1.now)) }
 {
-    let start = after_gap(text)?;
-    let (time, rest) = time_front(reference, day, start)?;
+    let start = after_blank(text)?;
+    if start[0] == b'+' {
+        let (time, rest) = relative_front(reference, start)?;
+        return Some((time, rest));
+    }
+    let (time, rest) = time_front(reference, day, after_blanks(start))?;
     Some((time, rest))
 }
 
-/// Reads the operands after `a contact` or `a range`, up to an LF. Returns them and the text after the LF.
-#[inline(always)]
-fn operands_ahead<'a>(
-    reference: Option<u64>,
-    day: &mut KnownDay,
-    target: Target,
-    text: &'a [u8],
-) -> Option<(Addition, &'a [u8])>
-    requires { IsFalse (is_one_line text.now) }
-    ensures { IfSome result (λ r. BeginsWithLine (λ line. IsTrue (is_plain_from_blank line) × (addition_of reference target (words_of line) ≡ Ok (Add target r.0))) text.now r.1.now) }
-{
-    let (start, rest) = time_ahead(reference, day, text)?;
-    let (end, rest) = time_ahead(reference, day, rest)?;
-    let (first, rest) = number_ahead(1, u64::MAX, rest)?;
-    let (second, rest) = number_ahead(1, u64::MAX, rest)?;
-    let (value, rest) = number_ahead(0, greatest_value(target), rest)?;
-    let behind = after_end(rest)?;
-    let addition = Addition {
-        start,
-        end,
-        first,
-        second,
-        value,
-    };
-    Some((addition, behind))
-}
-
 /// Returns the target of the addition that a line begins with, and the text after its name.
-#[cold]
-#[inline(never)]
+#[inline(always)]
 fn any_target_ahead(line: &[u8]) -> Option<(Target, &[u8])>
     requires { IsFalse (is_one_line line.now) }
     ensures adds { IfSome result (λ r. AddsAhead r.0 line.now r.1.now) }
@@ -212,11 +192,14 @@ fn target_ahead(line: &[u8]) -> Option<(Target, &[u8])>
     requires { IsFalse (is_one_line line.now) }
     ensures { IfSome result (λ r. AddsAhead r.0 line.now r.1.now) }
 {
-    if let Some(text) = line.strip_prefix(b"a contact") {
-        return Some((Target::Contact, text));
-    }
-    if let Some(text) = line.strip_prefix(b"a range") {
-        return Some((Target::Range, text));
+    if line.len() > 8 {
+        let word = first_eight(line);
+        if word == A_CONTAC && line[8] == b't' {
+            return Some((Target::Contact, &line[9..]));
+        }
+        if word == A_RANGE {
+            return Some((Target::Range, &line[7..]));
+        }
     }
     any_target_ahead(line)
 }
@@ -226,13 +209,26 @@ fn target_ahead(line: &[u8]) -> Option<(Target, &[u8])>
 #[inline(always)]
 pub fn swift_addition<'a>(
     reference: Option<u64>,
-    day: &mut KnownDay,
+    start_day: &mut KnownDay,
+    end_day: &mut KnownDay,
     text: &'a [u8],
 ) -> Option<(Command, &'a [u8])>
     requires { IsFalse (is_one_line text.now) }
     ensures { IfSome result (λ r. BeginsWithLine (λ line. line_command reference line ≡ Ok r.0) text.now r.1.now) }
 {
-    let (target, text) = target_ahead(text)?;
-    let (addition, rest) = operands_ahead(reference, day, target, text)?;
-    Some((Command::Add(target, addition), rest))
+    let (target, rest) = target_ahead(text)?;
+    let (start, rest) = time_ahead(reference, start_day, rest)?;
+    let (end, rest) = time_ahead(reference, end_day, rest)?;
+    let (first, rest) = number_ahead(1, u64::MAX, rest)?;
+    let (second, rest) = number_ahead(1, u64::MAX, rest)?;
+    let (value, rest) = number_ahead(0, greatest_value(target), rest)?;
+    let behind = after_end(rest)?;
+    let addition = Addition {
+        start,
+        end,
+        first,
+        second,
+        value,
+    };
+    Some((Command::Add(target, addition), behind))
 }

@@ -4,8 +4,8 @@ use Rattle.sabr_plan.proofs.swift_line.number_ahead.Goals as goal
 
 pub returns-clause-word : goal.returns-clause-word
 returns-clause-word c =
-    let d = c.in_ok-value.ensures in
-    record { start = _; gap = c.in_ok-after_gap.ensures.gap; front = record { word = _; parts = d.parts; graphic = graphic_number d.digits; holds = c.spell.ensures.value c.if-not-spell.false } }
+    let n = c.in_ok-value.ensures in
+    record { start = _; gap = c.in_ok-after_gap.ensures.gap; front = record { word = _; parts = n.parts; graphic = graphic_number _ n.digits; holds = n.value } }
 
 pub returns-clause-ended : goal.returns-clause-ended
 returns-clause-ended c = ended_ahead (returns-clause-word c) c.requires
