@@ -42,7 +42,7 @@ fn links_at<A: Allocator + Copy>(
     alloc: A,
     plan: &Plan<A>,
     order: &ContactOrder<A>,
-    places: &[usize],
+    places: &[u32],
     written: &mut Vec<Link, A>,
 ) -> Result<KeptLinks<A>, AllocError>
     requires { AreStanding plan.now.plan.contacts order.now.places.items places.now }
@@ -61,7 +61,7 @@ fn passes_at<A: Allocator + Copy>(
     alloc: A,
     plan: &Plan<A>,
     order: &ContactOrder<A>,
-    places: &[usize],
+    places: &[u32],
 ) -> Result<Vec<Pass, A>, AllocError>
     requires { AreStanding plan.now.plan.contacts order.now.places.items places.now }
     ensures are { IfOk result (λ v. ArePassesOf plan.now (numbers_of_places plan.now.plan.contacts order.now.places.items places.now) v.items) }
@@ -69,7 +69,7 @@ fn passes_at<A: Allocator + Copy>(
 {
     let mut passes = Vec::with_capacity(alloc, places.len())?;
     for place in places {
-        if let Some(pass) = pass_of(plan, order.places[*place]) {
+        if let Some(pass) = pass_of(plan, order.places[*place as usize] as usize) {
             passes.push(pass)?;
         }
     }

@@ -12,8 +12,8 @@ use std::marker::Model;
 /// A link by the index of its sender in the table of nodes and its place among the sender's links, with its bounds.
 #[derive(Clone, Copy)]
 pub struct Incoming {
-    pub sender: usize,
-    pub place: usize,
+    pub sender: u32,
+    pub place: u32,
     pub bounds: LinkBounds,
 }
 
@@ -61,7 +61,7 @@ impl<'a, A: Allocator + Copy> Senders<'a, A> {
         let incoming = self.incoming;
         let top = incoming[place];
         SenderHead {
-            node: top.sender,
+            node: top.sender as usize,
             bounds: top.bounds,
         }
     }
@@ -74,11 +74,11 @@ impl<'a, A: Allocator + Copy> Senders<'a, A> {
     {
         let linked = self.linked;
         let named = self.incoming[place];
-        let sent = linked.of(named.sender);
-        let link = sent.links[named.place];
+        let sent = linked.of(named.sender as usize);
+        let link = sent.links[named.place as usize];
         let passes = sent.passes;
         Sender {
-            node: named.sender,
+            node: named.sender as usize,
             passes: &passes[link.first..link.end],
             bounds: named.bounds,
         }
