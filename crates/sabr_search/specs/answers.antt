@@ -1,4 +1,5 @@
 -- What is kept from one question for later ones.
+pub mod AnswerLists
 pub mod KeptAnswers
 pub mod Kept
 pub mod Answers

@@ -4,10 +4,11 @@
 //! shuts more, starts no earlier and leaves no more hops, as long as its way may be taken and delivers at the same second.
 //! Where there was none, there is none.
 
+mod lists;
 mod payoff;
 pub mod wide;
 
-ghost use Rattle.std.specs.Prelude.{◌≡◌, ◌^◌, ◌≤◌, ◌<◌, [], Some, All, IfOk, IfSome, IsTrue, OnOk, length, slice_get};
+ghost use Rattle.std.specs.Prelude.{◌≡◌, ◌^◌, ◌≤◌, ◌<◌, [], Some, All, IfOk, IfSome, IsTrue, OnOk, length, slice_get, slice_set};
 ghost use Rattle.sabr_search.specs.questions.Ways.{Leads};
 ghost use Rattle.sabr_search.specs.questions.Task.{IsTask, IsAsked, IsOfRequest, Takes, left_of};
 ghost use Rattle.sabr_search.specs.questions.WideTasks.{ShutsFewer};
@@ -15,6 +16,7 @@ ghost use Rattle.sabr_search.specs.questions.FirstSteps.{tabled_of};
 ghost use Rattle.sabr_search.specs.answers.Answers.{narrowed};
 ghost use Rattle.sabr_search.specs.answers.KeptAnswers.{AllShut, Covers, IsAnswerTo, AnswersAt, IsFoundWay, IsAnswer, IsPut};
 
+use crate::answers::lists::Lists;
 use crate::answers::payoff::Payoff;
 use crate::answers::wide::shut_one;
 use crate::backward::least_way::FoundWay;
@@ -25,6 +27,7 @@ use crate::question::Question;
 use crate::task::Task;
 use sabr_model::NoMemory;
 use std::alloc::{Allocator, Global};
+use std::mem::replace;
 
 /// So many answers are kept; the oldest goes. Not varied.
 const SLOTS: usize = 4096;
@@ -89,12 +92,8 @@ pub struct Answer<A: Allocator + Copy = Global> {
     pub from: Standing,
     /// How many hops were left.
     pub left: usize,
-    /// The numbers that no way takes first.
-    pub excluded: Vec<u32, A>,
-    /// The indices of the nodes that were shut.
-    pub shut: Vec<usize, A>,
-    /// The contact numbers of the least way; none where there is no way.
-    pub way: Vec<u32, A>,
+    /// The numbers that no way takes first, the nodes that were shut, and the least way.
+    pub lists: Lists<A>,
     /// When the way delivers.
     pub delivery: u64,
     /// Which nodes the question shut.
@@ -116,6 +115,8 @@ pub struct Answers<A: Allocator + Copy = Global> {
     next: usize,
     /// By bucket the place of the latest answer.
     heads: Vec<u32, A>,
+    /// The memory of an answer that went, for the next one.
+    spare: Lists<A>,
     /// Whether wide questions pay.
     wide: Payoff,
     /// Whether those near an answer pay.
@@ -132,12 +133,14 @@ fn more_shut(near: Option<Near>, place: usize, shut: usize, node: usize) -> Opti
     Some(Near { place, shut, node })
 }
 
-/// Returns whether each of these nodes is shut.
-fn are_shut(flags: &[bool], nodes: &[usize]) -> bool
+/// Returns whether each of these nodes is shut. It begins with the last, since prefixes that begin alike differ behind.
+fn are_shut(flags: &[bool], nodes: &[u32]) -> bool
     ensures { IsTrue result → AllShut flags.now nodes.now }
 {
-    for place in 0..nodes.len() {
-        let node = nodes[place];
+    let mut end = nodes.len();
+    while 0 < end {
+        end -= 1;
+        let node = nodes[end] as usize;
         if node >= flags.len() || !flags[node] {
             return false;
         }
@@ -154,10 +157,10 @@ impl<A: Allocator + Copy> Answer<A> {
         if self.from.node != task.start() || self.from.at > task.at() || left > self.left {
             return false;
         }
-        if self.excluded.as_slice() != task.excluded() {
+        if !are_shut(task.shut(), self.lists.shut()) {
             return false;
         }
-        are_shut(task.shut(), &self.shut)
+        self.lists.excluded() == task.excluded()
     }
 
     /// Goes along its way from where a question stands, a look for each contact; returns whether it delivers at the same
@@ -167,21 +170,25 @@ impl<A: Allocator + Copy> Answer<A> {
         requires goal { slice_get task.now.table task.now.goal ≡ Some task.now.request.destination }
         requires answer { IsAnswer (tabled_of task.now) task.now.request self.now }
         requires node { self.now.from.node ≡ task.now.start }
-        requires same { self.now.excluded.items ≡ task.now.excluded }
-        requires some { 0 < length self.now.way.items }
-        ensures { IsTrue result → Leads (Takes task.now) task.now.start task.now.at self.now.way.items task.now.goal self.now.delivery }
+        requires same { self.now.lists.excluded ≡ task.now.excluded }
+        requires some { 0 < length self.now.lists.way }
+        ensures { IsTrue result → Leads (Takes task.now) task.now.start task.now.at self.now.lists.way task.now.goal self.now.delivery }
     {
         let mut from = Standing {
             node: task.start(),
             at: task.at(),
         };
-        for place in 0..self.way.len() {
+        let way = self.lists.way();
+        for place in 0..way.len() {
             if looks.left == 0 {
                 return false;
             }
-            let Some(next) = task.arrive_by(looks, self.way[place], from.at, passed) else {
+            let Some(next) = task.arrive_by(looks, way[place], from.at, passed) else {
                 return false;
             };
+            if next.at > self.delivery {
+                return false;
+            }
             from = next;
         }
         from.node == task.goal() && from.at == self.delivery
@@ -204,10 +211,11 @@ impl<A: Allocator + Copy> Answer<A> {
         if !self.covers(task, left) {
             return false;
         }
-        if self.way.is_empty() {
+        let hops = self.lists.way().len();
+        if hops == 0 {
             return true;
         }
-        if self.way.len() > left {
+        if hops > left {
             return false;
         }
         self.leads(task, looks, passed)
@@ -220,6 +228,19 @@ fn is_kept<A: Allocator + Copy>(asked: &Question<'_, '_, '_, A>) -> bool {
     !asked.prefix.is_empty()
         && asked.prefix.len() <= MOST_PREFIX
         && asked.task.excluded().len() <= MOST_EXCLUDED
+}
+
+/// Puts an answer in place of another one, and returns the lists of that.
+fn put_at<A: Allocator + Copy>(
+    slots: &mut Vec<Answer<A>, A>,
+    place: usize,
+    answer: Answer<A>,
+) -> Lists<A>
+    requires { place < length slots.old.items }
+    ensures { slots.new.items ≡ slice_set slots.old.items place answer }
+{
+    let Answer { lists, .. } = replace(&mut slots[place], answer);
+    lists
 }
 
 /// Which nodes a wide question shuts to which this answer is near.
@@ -249,6 +270,7 @@ impl<A: Allocator + Copy> Answers<A> {
             slots: Vec::new(alloc),
             next: 0,
             heads: Vec::new(alloc),
+            spare: Lists::new(alloc),
             wide: Payoff::new(),
             nearer: Payoff::new(),
         }
@@ -291,8 +313,9 @@ impl<A: Allocator + Copy> Answers<A> {
             return Ok(());
         };
         shut_one(shut, task, near.node)?;
-        for place in 0..answer.shut.len() {
-            shut_one(shut, task, answer.shut[place])?;
+        let nodes = answer.lists.shut();
+        for place in 0..nodes.len() {
+            shut_one(shut, task, nodes[place] as usize)?;
         }
         Ok(())
     }
@@ -340,7 +363,7 @@ impl<A: Allocator + Copy> Answers<A> {
                 };
             }
             if passed != NONE {
-                near = more_shut(near, place, answer.shut.len(), passed);
+                near = more_shut(near, place, answer.lists.shut().len(), passed);
             }
             place = answer.next;
         }
@@ -367,6 +390,29 @@ impl<A: Allocator + Copy> Answers<A> {
         found
     }
 
+    /// This place, if the answer there is the answer to a question, too; counts it then.
+    pub fn recall_at(
+        &mut self,
+        place: usize,
+        asked: &Question<'_, '_, '_, A>,
+        looks: &mut Looks,
+    ) -> Option<usize>
+        requires asked { IsAsked asked.now.task.now asked.now.prefix.now }
+        requires kept { All (IsAnswer (tabled_of asked.now.task.now) asked.now.task.now.request) self.old.slots.items }
+        ensures slots { self.new.slots ≡ self.old.slots }
+        ensures some { IfSome result (λ place. AnswersAt self.old.slots.items place asked.now.task.now (left_of asked.now.task.now asked.now.prefix.now)) }
+    {
+        let mut passed = NONE;
+        let Some(answer) = self.slots.get(place) else {
+            return None;
+        };
+        if answer.answers(asked.task, looks, asked.left(), &mut passed) {
+            self.count_win(place);
+            return Some(place);
+        }
+        None
+    }
+
     /// Makes the buckets, if there are none; returns whether there are some.
     fn open(&mut self) -> bool
         ensures { self.new.slots ≡ self.old.slots }
@@ -383,7 +429,7 @@ impl<A: Allocator + Copy> Answers<A> {
     {
         let place = self.next;
         if place < self.slots.len() {
-            self.slots[place] = answer;
+            self.spare = put_at(&mut self.slots, place, answer);
         } else {
             self.slots.push(answer).ok()?;
         }
@@ -402,20 +448,20 @@ impl<A: Allocator + Copy> Answers<A> {
 
     /// Makes the answer to a question from its least way.
     fn made(
-        &self,
+        &mut self,
         task: &Task<'_, A>,
         left: usize,
-        found: FoundWay<A>,
+        found: &FoundWay<A>,
         breadth: Breadth,
+        bucket: usize,
     ) -> Result<Answer<A>, NoMemory>
         requires goal { slice_get task.now.table task.now.goal ≡ Some task.now.request.destination }
-        requires found { IsFoundWay task.now left found.numbers.items found.delivery }
-        ensures { IfOk result (IsAnswer (tabled_of task.now) task.now.request) }
+        requires found { IsFoundWay task.now left found.now.numbers.items found.now.delivery }
+        ensures slots { self.new.slots ≡ self.old.slots }
+        ensures answer { IfOk result (IsAnswer (tabled_of task.now) task.now.request) }
     {
-        let mut excluded = Vec::new(self.alloc);
-        excluded.extend_from_slice(task.excluded())?;
-        let mut shut = Vec::new(self.alloc);
-        shut.extend_from_slice(task.shut_nodes())?;
+        let mut lists = replace(&mut self.spare, Lists::new(self.alloc));
+        lists.set(task.excluded(), task.shut_nodes(), &found.numbers)?;
         let from = Standing {
             node: task.start(),
             at: task.at(),
@@ -423,38 +469,45 @@ impl<A: Allocator + Copy> Answers<A> {
         Ok(Answer {
             from,
             left,
-            excluded,
-            shut,
-            way: found.numbers,
+            lists,
             delivery: found.delivery,
             breadth,
-            next: self.head(bucket_of(task.start(), task.excluded())),
+            next: self.head(bucket),
         })
     }
 
-    /// Keeps the answer to a question, if no growth is refused.
-    pub fn keep(&mut self, task: &Task<'_, A>, left: usize, found: FoundWay<A>, breadth: Breadth)
+    /// Keeps the answer to a question, and returns its place; or leaves it out, where a growth is refused.
+    pub fn keep(
+        &mut self,
+        task: &Task<'_, A>,
+        left: usize,
+        found: &FoundWay<A>,
+        breadth: Breadth,
+    ) -> Option<usize>
         requires goal { slice_get task.now.table task.now.goal ≡ Some task.now.request.destination }
         requires kept { All (IsAnswer (tabled_of task.now) task.now.request) self.old.slots.items }
-        requires found { IsFoundWay task.now left found.numbers.items found.delivery }
+        requires found { IsFoundWay task.now left found.now.numbers.items found.now.delivery }
         ensures { All (IsAnswer (tabled_of task.now) task.now.request) self.new.slots.items }
     {
         if !self.open() {
-            return;
+            return None;
         }
-        let Ok(answer) = self.made(task, left, found, breadth) else {
-            return;
+        let bucket = bucket_of(task.start(), task.excluded());
+        let Ok(answer) = self.made(task, left, found, breadth, bucket) else {
+            return None;
         };
-        if let Some(place) = self.put(answer) {
-            self.put_head(bucket_of(task.start(), task.excluded()), place);
-        }
+        let Some(place) = self.put(answer) else {
+            return None;
+        };
+        self.put_head(bucket, place);
+        Some(place)
     }
 
     /// Keeps the answer to a question after a prefix, if it is one that is kept and no growth is refused.
-    pub fn keep_after(&mut self, asked: &Question<'_, '_, '_, A>, found: FoundWay<A>)
+    pub fn keep_after(&mut self, asked: &Question<'_, '_, '_, A>, found: &FoundWay<A>)
         requires asked { IsAsked asked.now.task.now asked.now.prefix.now }
         requires kept { All (IsAnswer (tabled_of asked.now.task.now) asked.now.task.now.request) self.old.slots.items }
-        requires found { IsFoundWay asked.now.task.now (left_of asked.now.task.now asked.now.prefix.now) found.numbers.items found.delivery }
+        requires found { IsFoundWay asked.now.task.now (left_of asked.now.task.now asked.now.prefix.now) found.now.numbers.items found.now.delivery }
         ensures { All (IsAnswer (tabled_of asked.now.task.now) asked.now.task.now.request) self.new.slots.items }
     {
         if is_kept(asked) {

@@ -61,8 +61,11 @@ impl<A: Allocator + Copy> Search<A> {
         let Some(way) = found else {
             return Ok(None);
         };
-        kept.answers.keep(&question, left, way, breadth_of(near));
-        Ok(kept.answers.recall(asked, looks).place)
+        let newest = kept.answers.keep(&question, left, &way, breadth_of(near));
+        let Some(place) = newest else {
+            return Ok(None);
+        };
+        Ok(kept.answers.recall_at(place, asked, looks))
     }
 
     /// The least way of the question, by a search that never gives up.
@@ -110,11 +113,11 @@ impl<A: Allocator + Copy> Search<A> {
         looks.put_back(aside);
         if let Some(place) = found? {
             let answer = &kept.answers.slots[place];
-            return asked.route(self.alloc, looks, &answer.way, answer.delivery);
+            return asked.route(self.alloc, looks, answer.lists.way(), answer.delivery);
         }
         let way = self.find_own(&asked, &kept.reach, looks)?;
         let route = asked.route(self.alloc, looks, &way.numbers, way.delivery)?;
-        kept.answers.keep_after(&asked, way);
+        kept.answers.keep_after(&asked, &way);
         Ok(route)
     }
 }

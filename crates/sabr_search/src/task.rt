@@ -169,7 +169,7 @@ impl<'a, A: Allocator + Copy> Task<'a, A> {
     }
 
     /// The nodes that are shut.
-    pub fn shut_nodes(&self) -> &[usize]
+    pub fn shut_nodes(&self) -> &[u32]
         ensures { AreListed self.now.shut result.now }
     {
         self.shut.nodes()
@@ -184,6 +184,7 @@ impl<'a, A: Allocator + Copy> Task<'a, A> {
 
     /// Returns where a contact leads that is taken at this second, and when, if it leads to an open node in time: one
     /// look. If it leads to a shut node, notes that.
+    #[inline(always)]
     pub fn arrive_by(
         &self,
         looks: &mut Looks,

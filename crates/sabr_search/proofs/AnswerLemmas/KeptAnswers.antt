@@ -26,7 +26,7 @@ pub record Joins (task : SearchTask) (n u t w b : ℕ) : Type 0 where
   pub receiver : slice_get task.table w ≡ Some contact.to
   pub allowed : u ≡ task.start → has n task.excluded ≡ false
 
-module _ {A : Type 0} (task : SearchTask) (a : Answer A) (node : a.from.node ≡ task.start) (same : a.excluded.items ≡ task.excluded) where
+module _ {A : Type 0} (task : SearchTask) (a : Answer A) (node : a.from.node ≡ task.start) (same : a.lists.excluded ≡ task.excluded) where
   -- the way that was found joins where the question stands, too
   pub joins : (shut : List Bool) (goal : ℕ) (ns : List ℕ) (u t v e : ℕ) → Leads (Takes (asked (tabled_of task) task.request a shut goal)) u t ns v e → Leads (Joins task) u t ns v e
   joins shut goal [] u t v e way = way
@@ -106,30 +106,30 @@ module _ {A : Type 0} (task : SearchTask) (is : IsTask task) (goal_is : slice_ge
       by k off false at = at
       by k off true at = let listed = answer.listed k at in absurd (both_ways (slice_index_or task.shut k false) off (covers.shuts listed.0 k listed.1))
 
-  pub none_kept : (left : ℕ) → Covers a task left → a.way.items ≡ [] → HasNoWayWithin task left
+  pub none_kept : (left : ℕ) → Covers a task left → a.lists.way ≡ [] → HasNoWayWithin task left
   none_kept left covers none =
       subst (λ t. HasNoWayWithin t left) (narrowed_is task a covers.node covers.same answer.flags answer.goal goals)
       (answers_stay.none (asked (tabled_of task) task.request a answer.flags answer.goal) task.shut task.at a.left left is.nodes (narrows left covers) covers.fewer (answer.found.none none))
 
-  pub way_kept : (left : ℕ) → IsAnswerTo a task left → 0 < length a.way.items → IsLeastWay task left (a.delivery + 1) a.way.items a.delivery
+  pub way_kept : (left : ℕ) → IsAnswerTo a task left → 0 < length a.lists.way → IsLeastWay task left (a.delivery + 1) a.lists.way a.delivery
   way_kept left to some =
       let was = asked (tabled_of task) task.request a answer.flags answer.goal in
       let same = narrowed_is task a to.covers.node to.covers.same answer.flags answer.goal goals in
       let way = to.way some in
-      let taken : Leads (Takes (narrowed was task.shut task.at)) a.from.node task.at a.way.items answer.goal a.delivery =
-      subst (λ (t : SearchTask). Leads (Takes t) t.start t.at a.way.items t.goal a.delivery) (sym same) way.1 in
-      subst (λ t. IsLeastWay t left (a.delivery + 1) a.way.items a.delivery) same
-      (answers_stay.least was task.shut task.at a.left left (a.delivery + 1) a.way.items a.delivery is.nodes (narrows left to.covers) to.covers.fewer (answer.found.some some) way.0 taken)
+      let taken : Leads (Takes (narrowed was task.shut task.at)) a.from.node task.at a.lists.way answer.goal a.delivery =
+      subst (λ (t : SearchTask). Leads (Takes t) t.start t.at a.lists.way t.goal a.delivery) (sym same) way.1 in
+      subst (λ t. IsLeastWay t left (a.delivery + 1) a.lists.way a.delivery) same
+      (answers_stay.least was task.shut task.at a.left left (a.delivery + 1) a.lists.way a.delivery is.nodes (narrows left to.covers) to.covers.fewer (answer.found.some some) way.0 taken)
 
   -- the way stands at the start
-  pub on_way_first : a.from.node ≡ task.start → a.excluded.items ≡ task.excluded → 0 < length a.way.items → IsOnWay task a.way.items 0 task.start task.at
+  pub on_way_first : a.from.node ≡ task.start → a.lists.excluded ≡ task.excluded → 0 < length a.lists.way → IsOnWay task a.lists.way 0 task.start task.at
   on_way_first node same some = record {
     gone = (refl, refl);
     before = a.from.at;
     goal = answer.goal;
     end = a.delivery;
-    rest = subst (λ u. Leads (Joins task) u a.from.at a.way.items answer.goal a.delivery) node
-        (joins task a node same answer.flags answer.goal a.way.items a.from.node a.from.at answer.goal a.delivery (answer.found.some some).way);
+    rest = subst (λ u. Leads (Joins task) u a.from.at a.lists.way answer.goal a.delivery) node
+        (joins task a node same answer.flags answer.goal a.lists.way a.from.node a.from.at answer.goal a.delivery (answer.found.some some).way);
   }
 
 -- what is told by the answer at a place
@@ -144,21 +144,21 @@ module _ {A : Type 0} (task : SearchTask) (is : IsTask task) (goal_is : slice_ge
   to : IsAnswerTo a task left
   to = subst (λ x. IsAnswerTo x task left) (let q : Some at.0 ≡ Some a = sym at.1 ∙ there in cc (q)) at.2
 
-  pub found_told : IsFoundWay task left a.way.items a.delivery
+  pub found_told : IsFoundWay task left a.lists.way a.delivery
   found_told = record {
     none = λ empty. none_kept task is goal_is a one left to.covers empty;
     some = λ some. way_kept task is goal_is a one left to some;
   }
 
 -- the answer to a question, kept
-pub kept_is : {A : Type 0} (task : SearchTask) (a : Answer A) → slice_get task.table task.goal ≡ Some task.request.destination → IsFoundWay task a.left a.way.items a.delivery →
-    a.from.node ≡ task.start → a.from.at ≡ task.at → a.excluded.items ≡ task.excluded → AreListed task.shut a.shut.items → IsAnswer (tabled_of task) task.request a
+pub kept_is : {A : Type 0} (task : SearchTask) (a : Answer A) → slice_get task.table task.goal ≡ Some task.request.destination → IsFoundWay task a.left a.lists.way a.delivery →
+    a.from.node ≡ task.start → a.from.at ≡ task.at → a.lists.excluded ≡ task.excluded → AreListed task.shut a.lists.shut → IsAnswer (tabled_of task) task.request a
 kept_is task a goal_is found node at same listed = record {
   flags = task.shut;
   goal = task.goal;
   goal_is = goal_is;
   listed = listed;
-  found = subst (λ t. IsFoundWay t a.left a.way.items a.delivery) (sym (asked_is task a node same at)) found;
+  found = subst (λ t. IsFoundWay t a.left a.lists.way a.delivery) (sym (asked_is task a node same at)) found;
 }
 
 -- what holds for those before and for the one that was put holds for all

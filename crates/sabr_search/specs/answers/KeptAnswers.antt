@@ -13,7 +13,7 @@ use Rattle.sabr_search.specs.answers.Answers.{HasNoWayWithin}
 
 -- what was asked, with these nodes shut and this goal
 abbrev pub asked : {A : Type 0} → TabledPlan → RouteRequest → Answer A → List Bool → ℕ → SearchTask
-asked p r a shut goal = record { plan = p.plan; request = r; table = p.table; shut = shut; excluded = a.excluded.items; start = a.from.node; goal = goal; at = a.from.at }
+asked p r a shut goal = record { plan = p.plan; request = r; table = p.table; shut = shut; excluded = a.lists.excluded; start = a.from.node; goal = goal; at = a.from.at }
 
 -- the places of the nodes that are shut are listed
 abbrev pub AreListed : List Bool → List ℕ → Type 0
@@ -39,21 +39,21 @@ pub record IsAnswer {A : Type 0} (p : TabledPlan) (r : RouteRequest) (a : Answer
   pub flags : List Bool
   pub goal : ℕ
   pub goal_is : slice_get p.table goal ≡ Some r.destination
-  pub listed : AreListed flags a.shut.items
-  pub found : IsFoundWay (asked p r a flags goal) a.left a.way.items a.delivery
+  pub listed : AreListed flags a.lists.shut
+  pub found : IsFoundWay (asked p r a flags goal) a.left a.lists.way a.delivery
 
 -- the search starts at the same node and no earlier, excludes the same numbers, shuts these nodes, too, and leaves no more hops
 pub record Covers {A : Type 0} (a : Answer A) (task : SearchTask) (left : ℕ) : Type 0 where
   pub node : a.from.node ≡ task.start
   pub later : a.from.at ≤ task.at
   pub fewer : left ≤ a.left
-  pub same : a.excluded.items ≡ task.excluded
-  pub shuts : AllShut task.shut a.shut.items
+  pub same : a.lists.excluded ≡ task.excluded
+  pub shuts : AllShut task.shut a.lists.shut
 
 -- and its way, if it has one, may be taken still, and delivers at the same second
 pub record IsAnswerTo {A : Type 0} (a : Answer A) (task : SearchTask) (left : ℕ) : Type 0 where
   pub covers : Covers a task left
-  pub way : 0 < length a.way.items → (length a.way.items ≤ left) × Leads (Takes task) task.start task.at a.way.items task.goal a.delivery
+  pub way : 0 < length a.lists.way → (length a.lists.way ≤ left) × Leads (Takes task) task.start task.at a.lists.way task.goal a.delivery
 
 -- so the answer at this place
 abbrev pub AnswersAt : {A : Type 0} → List (Answer A) → ℕ → SearchTask → ℕ → Type 0

@@ -1,6 +1,7 @@
 //! The nodes that a search may not enter.
 
-ghost use Rattle.std.specs.Prelude.{◌≡◌, ℕ, ◌<◌, [], Some, false, true, length, slice_get, slice_index_or, slice_set, IfSome, IfNone, OnOk};
+ghost use Rattle.std.specs.Prelude.{◌≡◌, ℕ, ◌<◌, ◌≤◌, [], Some, false, true, length, slice_get, slice_index_or, slice_set, IfSome, IfNone, OnOk};
+ghost use Rattle.sabr_search.specs.questions.Task.{most_nodes};
 ghost use Rattle.sabr_search.specs.answers.KeptAnswers.{IsListing};
 
 use sabr_model::NoMemory;
@@ -11,22 +12,23 @@ use std::marker::Model;
 #[derive(Drop)]
 pub struct Shut<A: Allocator + Copy = Global> {
     flags: Vec<bool, A>,
-    nodes: Vec<usize, A>,
+    nodes: Vec<u32, A>,
 }
 
 impl<A: Allocator + Copy> Model for Shut<A> {
-    ghost use Rattle.std.specs.Prelude.{Bool, List};
+    ghost use Rattle.std.specs.Prelude.{◌≤◌, Bool, List, length};
+    ghost use Rattle.sabr_search.specs.questions.Task.{most_nodes};
     ghost use Rattle.sabr_search.specs.answers.KeptAnswers.{IsListing};
 
     ghost Value = { List Bool };
 
     ghost view = { λ s. s.flags.items };
 
-    ghost invariant = { λ s. IsListing s.flags.items s.nodes.items };
+    ghost invariant = { λ s. IsListing s.flags.items s.nodes.items × (length s.flags.items ≤ most_nodes) };
 }
 
 /// Returns the last place of a node in a list.
-fn last_place(nodes: &[usize], node: usize) -> Option<usize>
+fn last_place(nodes: &[u32], node: u32) -> Option<usize>
     ensures some { IfSome result (λ place. slice_get nodes.now place ≡ Some node) }
     ensures none { IfNone result ((place : ℕ) → slice_get nodes.now place ≡ Some node → ⊥) }
 {
@@ -53,6 +55,7 @@ impl<A: Allocator + Copy> Shut<A> {
 
     /// Begins anew with `count` nodes, all open.
     pub fn open_all(&mut self, count: usize) -> Result<(), NoMemory>
+        requires { count ≤ most_nodes }
         ensures many { OnOk result (length self.new ≡ count) }
         ensures none { OnOk result ((k : ℕ) → slice_index_or self.new k false ≡ false) }
     {
@@ -68,7 +71,7 @@ impl<A: Allocator + Copy> Shut<A> {
         ensures { OnOk result (self.new ≡ slice_set self.old node true) }
     {
         if !self.flags[node] {
-            self.nodes.push(node)?;
+            self.nodes.push(node as u32)?;
             self.flags[node] = true;
         }
         Ok(())
@@ -80,7 +83,7 @@ impl<A: Allocator + Copy> Shut<A> {
         ensures { self.new ≡ slice_set self.old node false }
     {
         self.flags[node] = false;
-        if let Some(place) = last_place(&self.nodes, node) {
+        if let Some(place) = last_place(&self.nodes, node as u32) {
             self.nodes.swap_remove(place);
         }
     }
@@ -93,7 +96,7 @@ impl<A: Allocator + Copy> Shut<A> {
     }
 
     /// The nodes that are shut, each once.
-    pub fn nodes(&self) -> &[usize]
+    pub fn nodes(&self) -> &[u32]
         ensures { IsListing self.now result.now }
     {
         self.nodes.as_slice()

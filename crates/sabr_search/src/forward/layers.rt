@@ -80,7 +80,7 @@ pub fn open_nodes<A: Allocator + Copy>(
     too_late(arrival, shut.len(), late)?;
     let nodes = task.shut_nodes();
     for place in 0..nodes.len() {
-        shut_out(arrival, shut, nodes[place]);
+        shut_out(arrival, shut, nodes[place] as usize);
     }
     arrival[task.start()] = task.at();
     Ok(())

@@ -84,6 +84,7 @@ impl Looks {
     }
 
     /// Returns the record of a standing contact: one look.
+    #[inline(always)]
     pub fn hop<A: Allocator + Copy>(&mut self, plan: &Plan<A>, number: u32) -> Option<Hop>
         requires plan { IsPlan plan.now.plan }
         requires few { 0 < self.old.left }

@@ -1,6 +1,4 @@
-use Rattle.std.proofs.Common.{◌≡◌, ◌<◌, Some, length, slice_index, ap, sym, subst, ◌∙◌, arith}
-use Rattle.std.proofs.lemmas.Option.{slice_get-get_or, get_or_from_slice_get}
-use Rattle.sabr_search.specs.answers.KeptAnswers.{Arrives}
+use Rattle.std.proofs.Common.{◌<◌, length, ap, arith}
 use Rattle.sabr_search.proofs.AnswerLemmas.KeptAnswers.{on_way_first, on_way_more}
 use Rattle.sabr_search.proofs.answers.Answer.leads.Goals as goal
 
@@ -12,9 +10,7 @@ loop-place-init g c =
 pub loop-place-preserved : goal.loop-place-preserved
 loop-place-preserved g c =
     let task = c.args.task.now in
-    let way = c.args.self.now.way.items in
+    let way = c.args.self.now.lists.way in
     let i = c.loop-place.place in
-    let n = c.index.result.now in
-    let within : i < length way = omega (arith, c.loop-place-test.true, c.len-place-end.ensures) in
-    let here : slice_index way i ≡ n = get_or_from_slice_get way i n 0 (slice_get-get_or way i n within ∙ ap Some (sym c.index.ensures)) in
-    on_way_more task c.requires.task way i c.loop-place.from.node c.loop-place.from.at within c.loop-place.invariant c.in-Some.next (subst (λ m. Arrives task m c.loop-place.from.at c.in-Some.next) (sym here) c.in-Some.ensures.some)
+    let within : i < length way = omega (arith, c.loop-place-test.true, ap length c.way-way.ensures) in
+    on_way_more task c.requires.task way i c.loop-place.from.node c.loop-place.from.at within c.loop-place.invariant c.in-Some.next (rw c.way-way.ensures at c.in-Some.ensures.some)

@@ -1,6 +1,15 @@
-use Rattle.std.proofs.Common.{◌≡◌, Some, slice_get, refl, ap, sym, ◌∙◌}
+use Rattle.std.proofs.Common.{◌≡◌, Some, slice_get, refl, ap, sym, subst, ◌∙◌}
 use Rattle.std.proofs.lemmas.Option.{slice_get-get_or}
+use Rattle.sabr_search.specs.questions.FirstSteps.{tabled_of}
+use Rattle.sabr_search.specs.answers.KeptAnswers.{IsAnswer}
 use Rattle.sabr_search.proofs.answers.Answers.find.Goals as goal
+
+pub answers-requires-clause-answer : goal.answers-requires-clause-answer
+answers-requires-clause-answer g c =
+    let task = c.args.task.now in
+    let answer = c.in-Some.answer.now in
+    let lookup = rw c.deref.ensures.value at c.in-Some.ensures.lookup in
+    subst (IsAnswer (tabled_of task) task.request) (sym lookup.1) (c.requires.kept c.loop.place answer lookup.3.0)
 
 pub returns-then-answers : goal.returns-then-answers
 returns-then-answers g c =

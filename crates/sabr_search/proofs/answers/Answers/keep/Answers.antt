@@ -3,10 +3,10 @@ use Rattle.sabr_search.specs.answers.KeptAnswers.{IsAnswer}
 use Rattle.sabr_search.proofs.AnswerLemmas.KeptAnswers.{put_all}
 use Rattle.sabr_search.proofs.answers.Answers.keep.Goals as goal
 
-pub returns-in-Some : goal.returns-in-Some
-returns-in-Some g c =
-    rw c.put_head.ensures (put_all (IsAnswer (tabled_of c.args.task.now) c.args.task.now.request) _ _ c.in-Ok.answer (rw c.open.ensures c.requires.kept) c.in-Ok.ensures c.put.ensures)
+pub returns : goal.returns
+returns g c =
+    rw c.put_head.ensures (put_all (IsAnswer (tabled_of c.args.task.now) c.args.task.now.request) _ _ c.in-Ok.answer (rw (c.made.ensures.slots, c.open.ensures) c.requires.kept) c.in-Ok.ensures.answer c.put.ensures)
 
 pub returns-in_default-put : goal.returns-in_default-put
 returns-in_default-put g c =
-    put_all (IsAnswer (tabled_of c.args.task.now) c.args.task.now.request) _ _ c.in-Ok.answer (rw c.open.ensures c.requires.kept) c.in-Ok.ensures c.put.ensures
+    put_all (IsAnswer (tabled_of c.args.task.now) c.args.task.now.request) _ _ c.in-Ok.answer (rw (c.made.ensures.slots, c.open.ensures) c.requires.kept) c.in-Ok.ensures.answer c.put.ensures

@@ -1,10 +1,11 @@
-use Rattle.std.proofs.Common.{◌≡◌, ◌+◌, [], ◌∷◌, ◌++◌, Some, length, ap, sym, subst, ◌∙◌}
+use Rattle.std.proofs.Common.{◌≡◌, ◌+◌, [], ◌∷◌, ◌++◌, Some, length, ap, sym, subst, ◌∙◌, arith}
 use Rattle.sabr_model.specs.plan.Plan.{has}
 use Rattle.sabr_model.proofs.RouteLemmas.Prefixes.{empty_is_prefix}
 use Rattle.sabr_search.specs.declared.backward.pick.Standing.{Standing}
 use Rattle.sabr_search.specs.questions.Course.{AreStops}
 use Rattle.sabr_search.proofs.LinkLemmas.PlanFacts.{has_nodes}
 use Rattle.sabr_search.proofs.WayLemmas.Courses.{no_source, no_destination, first_stop}
+use Rattle.sabr_search.proofs.WayLemmas.Shortness.{nodes_few}
 use Rattle.sabr_search.proofs.course.Course.open.Goals as goal
 
 pub returns-in_default-clause-none : goal.returns-in_default-clause-none
@@ -14,6 +15,9 @@ returns-in_default-clause-none g c =
 pub returns-in_default-node_index-clause-none : goal.returns-in_default-node_index-clause-none
 returns-in_default-node_index-clause-none g c =
     no_destination c.args.plan.now.plan c.args.request.now c.args.plan.now.table (has_nodes c.args.plan.now c.nodes-nodes.ensures.tabled) (ap (λ x. has x c.args.plan.now.table) (sym c.to.ensures.value) ∙ c.in_default-node_index.ensures)
+
+pub open_all-requires : goal.open_all-requires
+open_all-requires g c = omega (arith, c.nodes-nodes.ensures.table, nodes_few c.args.plan.now c.tell_rules.ensures c.nodes-nodes.ensures.tabled)
 
 pub shut_closed-requires-clause-nodes : goal.shut_closed-requires-clause-nodes
 shut_closed-requires-clause-nodes g c = has_nodes c.args.plan.now c.nodes-nodes.ensures.tabled

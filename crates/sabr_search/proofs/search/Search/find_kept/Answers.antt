@@ -15,7 +15,7 @@ pub returns-in-Some-clause-some : goal.returns-in-Some-clause-some
 returns-in-Some-clause-some g c = rw c.recall-recalled.ensures.slots (rw c.in-Some.is at c.recall-recalled.ensures.some)
 
 pub returns-clause-some : goal.returns-clause-some
-returns-clause-some g c = rw c.recall.ensures.slots c.recall.ensures.some
+returns-clause-some g c = rw c.recall_at.ensures.slots c.recall_at.ensures.some
 
 pub run-requires-clause-bound : goal.run-requires-clause-bound
 run-requires-clause-bound g c = rw c.with_shut-question.ensures (reach_bounds _ c.requires.asked.task_is.nodes c.in_ok-shut_near.ensures.request _ _ c.requires.kept.0.late c.requires.kept.0.near)

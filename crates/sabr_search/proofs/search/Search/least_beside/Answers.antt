@@ -47,12 +47,12 @@ returns-clause-bound g c =
 pub returns-clause-cut : goal.returns-clause-cut
 returns-clause-cut g c =
     let result : Result (Option RouteRecord) NoMemory = Ok c.in_ok-route.route in
-    told_cut c.args.task.now c.args.prefix.now c.requires.asked result c.in_ok-route.ensures.answered (looks_taken c.find_own.new.looks) _ (length c.in_ok-way.way.numbers.items) c.in_ok-route.ensures.looks (c.in_ok-route.ensures.hops ∙ ap length c.deref-2.ensures.value) c.in_ok-way.ensures.cut
+    told_cut c.args.task.now c.args.prefix.now c.requires.asked result c.in_ok-route.ensures.answered (looks_taken c.find_own.new.looks) _ (length c.in_ok-way.way.numbers.items) c.in_ok-route.ensures.looks (c.in_ok-route.ensures.hops ∙ ap length c.deref.ensures.value) c.in_ok-way.ensures.cut
 
 pub route-requires-clause-found : goal.route-requires-clause-found
 route-requires-clause-found g c =
     let task = c.args.task.now in
-    rw c.deref.ensures.value
+    rw c.way.ensures
     (found_told task c.requires.asked.task_is c.requires.asked.behind.goal_is c.find_kept-found.new.kept.answers.slots.items c.find_kept-found.ensures.kept.1 c.in-Some.place (left_of task c.args.prefix.now) (rw c.in-Some.is at c.in_ok-place.ensures.some) c.index-answer.result.now c.index-answer.ensures)
 
 pub route-requires-clause-few : goal.route-requires-clause-few
@@ -61,11 +61,11 @@ route-requires-clause-few g c =
     let prefix = c.args.prefix.now in
     let answer = c.index-answer.result.now in
     let found = found_told task c.requires.asked.task_is c.requires.asked.behind.goal_is c.find_kept-found.new.kept.answers.slots.items c.find_kept-found.ensures.kept.1 c.in-Some.place (left_of task prefix) (rw c.in-Some.is at c.in_ok-place.ensures.some) answer c.index-answer.ensures in
-    rw c.deref.ensures.value (route_fits task prefix c.requires.asked answer.way.items answer.delivery c.put_back.new.self found (omega (arith, c.put_back.ensures, c.set_aside-aside.ensures.aside, c.two_passes.ensures, passes_within task prefix c.requires.asked)))
+    rw c.way.ensures (route_fits task prefix c.requires.asked answer.lists.way answer.delivery c.put_back.new.self found (omega (arith, c.put_back.ensures, c.set_aside-aside.ensures.aside, c.two_passes.ensures, passes_within task prefix c.requires.asked)))
 
 pub route-requires-2-clause-few : goal.route-requires-2-clause-few
 route-requires-2-clause-few g c =
-    rw c.deref-2.ensures.value (route_fits c.args.task.now c.args.prefix.now c.requires.asked c.in_ok-way.way.numbers.items c.in_ok-way.way.delivery c.find_own.new.looks c.in_ok-way.ensures.found c.find_own.ensures.bound)
+    rw c.deref.ensures.value (route_fits c.args.task.now c.args.prefix.now c.requires.asked c.in_ok-way.way.numbers.items c.in_ok-way.way.delivery c.find_own.new.looks c.in_ok-way.ensures.found c.find_own.ensures.bound)
 
 pub find_own-requires-clause-bound : goal.find_own-requires-clause-bound
 find_own-requires-clause-bound g c =

@@ -1,5 +1,6 @@
 use Rattle.std.proofs.Common.{◌≡◌, ◌≢◌, ◌⊎◌, inl, inr, ℕ, ◌+◌, ◌-◌, ◌<◌, Bool, false, List, Some, length, vec_len, slice_get, slice_index_or, slice_set, ap, sym, ◌∙◌, arith}
 use Rattle.std.proofs.lemmas.Bool.{cases_eq, both_ways}
+use Rattle.std.proofs.lemmas.Grind.{common_steps}
 use Rattle.std.proofs.lemmas.Option.{slice_get-get_or, slice_get_within, get_or_from_slice_get}
 use Rattle.sabr_search.specs.answers.KeptAnswers.{IsListing}
 use Rattle.sabr_search.proofs.WayLemmas.Courses.{off_here, off_other}
@@ -66,4 +67,4 @@ invariant_of-self g c =
     let nodes = c.self.inside.nodes.items in
     let at : slice_get nodes c.in-Some.place ≡ Some c.args.node = ap (λ xs. slice_get xs c.in-Some.place) (sym c.deref.ensures.value) ∙ c.in-Some.ensures.some in
     let within = slice_get_within nodes c.in-Some.place c.args.node at in
-    listing_less c.self.inside.flags.items nodes c.swap_remove.new.self.items c.args.node c.in-Some.place c.self.invariant at (vec_len c.self.inside.nodes - 1) (omega (arith, within)) (omega (arith, c.swap_remove.ensures.len)) (λ lt. c.swap_remove.ensures.by_index.0 0 (omega (arith, lt))) (λ k other lt. c.swap_remove.ensures.by_index.1 k 0 other (omega (arith, lt)))
+    (listing_less c.self.inside.flags.items nodes c.swap_remove.new.self.items c.args.node c.in-Some.place c.self.invariant.0 at (vec_len c.self.inside.nodes - 1) (omega (arith, within)) (omega (arith, c.swap_remove.ensures.len)) (λ lt. c.swap_remove.ensures.by_index.0 0 (omega (arith, lt))) (λ k other lt. c.swap_remove.ensures.by_index.1 k 0 other (omega (arith, lt))), grind (arith, common_steps, c.self.invariant.1))
