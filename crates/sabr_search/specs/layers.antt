@@ -9,4 +9,5 @@ pub mod Settling
 pub mod Deadlines
 pub mod Picks
 pub mod Reach
+pub mod Since
 pub mod Latest

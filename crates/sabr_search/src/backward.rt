@@ -6,3 +6,4 @@ pub mod latest;
 pub mod least_way;
 pub mod nearest;
 pub mod pick;
+pub mod since;

@@ -9,6 +9,7 @@ ghost use Rattle.sabr_search.specs.layers.Late.{AreArrivals};
 ghost use Rattle.sabr_search.specs.questions.Told.{hops_told, looks_taken};
 
 use crate::backward::from_goal::Aim;
+use crate::backward::since::Since;
 use crate::best::BestOf;
 use crate::course::Course;
 use crate::forward::layers::Layers;
@@ -39,9 +40,10 @@ impl<A: Allocator + Copy> Layers<A> {
         ensures counted { IfOk result (λ answer. hops_told answer ≤ looks_taken looks.new) }
     {
         let asked = Question { task, prefix };
+        let since = Since::of(since);
         let aim = Aim {
             task,
-            since,
+            since: &since,
             delivery: 0,
         };
         let found = self.least_within(&aim, looks, asked.left())?;

@@ -9,6 +9,7 @@ ghost use Rattle.sabr_search.specs.layers.Settling.{IsBound};
 use crate::backward::from_goal::Aim;
 use crate::backward::least_way::FoundWay;
 use crate::backward::pick::Standing;
+use crate::backward::since::Since;
 use crate::forward::layers::Layers;
 use crate::forward::settling::{Forward, Settling};
 use crate::links::looks::Looks;
@@ -65,7 +66,6 @@ impl<A: Allocator + Copy> Search<A> {
             late: &reach.late,
             near: &reach.near,
             hops: &reach.hops,
-            soon: &reach.soon,
         };
         let reached = self.settling.run(&forward, looks, &mut self.first)?;
         let Some(first) = reached else {
@@ -74,9 +74,16 @@ impl<A: Allocator + Copy> Search<A> {
         if first.hops == 0 {
             return Ok(Some(FoundWay::none(self.alloc)));
         }
+        let since = Since {
+            nodes: task.shut().len(),
+            arrival: &self.settling.arrival,
+            near: &reach.near,
+            soon: &reach.soon,
+            delivery: first.delivery,
+        };
         let aim = Aim {
             task,
-            since: &self.settling.arrival,
+            since: &since,
             delivery: first.delivery,
         };
         if first.hops > hops {

@@ -1,11 +1,14 @@
 -- Before which second no way comes to a node, and the least way within other limits.
-use Rattle.std.proofs.Common.{◌≡◌, ℕ, zero, suc, ◌-◌, ◌≤◌, min, max, List, [], ◌∷◌, ◌++◌, length, take, replicate, slice_index, ◌∙◌, arith}
+use Rattle.std.proofs.Common.{◌≡◌, inl, inr, ℕ, zero, suc, ◌<◌, ◌≤◌, List, [], ◌∷◌, ◌++◌, length, take, replicate, slice_index, ◌∙◌, arith}
+use Rattle.std.proofs.lemmas.Bool.{cases_lt}
 use Rattle.std.proofs.lemmas.Grind.{common_steps}
+use Rattle.std.proofs.lemmas.List.FromFn.{get_or-map-range_with_len, length-map-range_with_len}
 use Rattle.sabr_search.specs.questions.Task.{SearchTask, Takes, IsTask}
 use Rattle.sabr_search.specs.layers.Late.{AreSince, AreArrivals}
-use Rattle.sabr_search.specs.layers.Reach.{cost_to}
+use Rattle.sabr_search.specs.layers.Since.{since_at, since_of}
 use Rattle.sabr_search.specs.layers.Settling.{AreArrivalsBy}
 use Rattle.sabr_search.proofs.WayLemmas.Ways.{Leads-later}
+use Rattle.sabr_search.proofs.ForwardLemmas.MadeLayers.{index_past}
 use Rattle.sabr_search.proofs.WayLemmas.Bridge.{takes_timely}
 
 pub same_everywhere : (n x k : ℕ) → slice_index (replicate n x) k ≤ x
@@ -23,13 +26,31 @@ arrivals_since task is n n_is = record {
   least = λ ns v t some way. omega (arith, same_everywhere n task.at v, Leads-later (Takes task) (takes_timely task is.nodes) ns task.start task.at v t way);
 }
 
+-- nor before sooner seconds
+pub arrivals_sooner : (task : SearchTask) (since since' : List ℕ) → AreArrivals task since → length since' ≡ length since → ((k : ℕ) → slice_index since' k ≤ slice_index since k) → AreArrivals task since'
+arrivals_sooner task since since' are many sooner = record {
+  flags = many ∙ are.flags;
+  least = λ ns v t some way. omega (arith, sooner v, are.least ns v t some way);
+}
+
+pub since_many : (nodes : ℕ) (arrival near soon : List ℕ) (d : ℕ) → length (since_of nodes arrival near soon d) ≡ nodes
+since_many nodes arrival near soon d = length-map-range_with_len (since_at arrival near soon d) 0 nodes
+
+pub since_read : (nodes : ℕ) (arrival near soon : List ℕ) (d k : ℕ) → k < nodes → slice_index (since_of nodes arrival near soon d) k ≡ since_at arrival near soon d k
+since_read nodes arrival near soon d k less = get_or-map-range_with_len (since_at arrival near soon d) 0 nodes k k 0 less (omega arith)
+
+pub since_most : (nodes : ℕ) (arrival near soon : List ℕ) (d k : ℕ) → slice_index (since_of nodes arrival near soon d) k ≤ since_at arrival near soon d k
+since_most nodes arrival near soon d k = elim (cases_lt k nodes) [
+  | inl less ↦ omega (arith, since_read nodes arrival near soon d k less)
+  | inr past ↦ omega (arith, index_past (since_of nodes arrival near soon d) k (omega (arith, since_many nodes arrival near soon d)))
+]
+
 -- nor before the arrivals that were found, each lowered to the last second from which a way may still deliver by then; nor
 -- before the soonest seconds
-pub arrivals_lowered : (task : SearchTask) (near soon arrival arrival' : List ℕ) (d : ℕ) → AreSince task soon → AreArrivalsBy task near arrival d → length arrival' ≡ length arrival
-    → ((k : ℕ) → slice_index arrival' k ≤ max (min (slice_index arrival k) (d - cost_to near k)) (slice_index soon k)) → AreArrivals task arrival'
-arrivals_lowered task near soon arrival arrival' d since by many lowered = record {
-  flags = many ∙ by.flags;
-  least = λ ns v t some way. omega (arith, lowered v, since ns v t some way, by.least ns v t some way);
+pub arrivals_lowered : (task : SearchTask) (nodes : ℕ) (arrival near soon : List ℕ) (d : ℕ) → nodes ≡ length task.table → AreSince task soon → AreArrivalsBy task near arrival d → AreArrivals task (since_of nodes arrival near soon d)
+arrivals_lowered task nodes arrival near soon d all since by = record {
+  flags = since_many nodes arrival near soon d ∙ all;
+  least = λ ns v t some way. omega (arith, since_most nodes arrival near soon d v, since ns v t some way, by.least ns v t some way);
 }
 
 -- an empty list that is made longer has the new value alone

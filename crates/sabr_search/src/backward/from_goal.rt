@@ -8,6 +8,7 @@ ghost use Rattle.sabr_search.specs.questions.Linked.{IsLinkWithin, HasNumber};
 ghost use Rattle.sabr_search.specs.layers.Deadlines.{IsApart};
 ghost use Rattle.sabr_search.specs.layers.Late.{InTimeFor, AreLateAfter, StartsInTime, IsNotedLate, IsToldLate, IsToldOver, IsToldByHead, IsLayerTold, AreArrivals, AreMet, IsNoneSeen};
 
+use crate::backward::since::Since;
 use crate::forward::layers::{LayerEntry, Layers};
 use crate::links::looks::Looks;
 use crate::links::over_link::{WalkedLink, rules_out};
@@ -22,7 +23,7 @@ pub struct Aim<'t, 'a, 's, A: Allocator + Copy> {
     /// The search.
     pub task: &'t Task<'a, A>,
     /// For each node, a second before which no way comes there.
-    pub since: &'s [u64],
+    pub since: &'s Since<'s>,
     /// The second by which the goal is to be reached.
     pub delivery: u64,
 }
@@ -75,7 +76,7 @@ impl<A: Allocator + Copy> Layers<A> {
     }
 
     /// Returns true if a link to a node that is left in time before `before` needn't be taken: its sender is in no layer
-    /// but the start's, or its bounds show that its sender is too late then already.
+    /// but the start's, or its bounds show that its sender is too late then already. What is cheapest is compared first.
     #[inline(always)]
     fn is_told(&self, aim: &Aim<'_, '_, '_, A>, head: SenderHead, before: u64) -> bool
         requires task { IsTask aim.now.task.now }
@@ -84,9 +85,16 @@ impl<A: Allocator + Copy> Layers<A> {
         requires node { head.node < length aim.now.task.now.table }
         ensures { IsTrue result → IsToldByHead aim.now.task.now aim.now.since.now self.now.late.items head before }
     {
+        if before <= head.bounds.soonest {
+            return true;
+        }
         let node = head.node;
         if node == aim.task.start() {
             return false;
+        }
+        let late = self.late[node];
+        if rules_out(head.bounds, late, before) {
+            return true;
         }
         if node == aim.task.goal() {
             return true;
@@ -94,8 +102,7 @@ impl<A: Allocator + Copy> Layers<A> {
         if aim.task.shut()[node] {
             return true;
         }
-        let at = self.late[node].max(aim.since[node]);
-        rules_out(head.bounds, at, before)
+        rules_out(head.bounds, aim.since.at(node).max(late), before)
     }
 
     /// Takes one link to the node of an entry, for the layer before `left`. Returns whether the start is in time for it.
@@ -136,7 +143,7 @@ impl<A: Allocator + Copy> Layers<A> {
             return Ok(false);
         }
         let latest = self.late[from.node];
-        let since = aim.since[from.node];
+        let since = aim.since.at(from.node);
         let link = WalkedLink {
             from: from.node,
             to: to.node,

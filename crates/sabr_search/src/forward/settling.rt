@@ -1,17 +1,17 @@
 //! Nodes settled in order of their arrival and of what the goal costs from there, up to the first delivery at the goal.
 
-ghost use Rattle.std.specs.Prelude.{◌≡◌, ◌≢◌, ◌⊎◌, IsTrue, ℕ, min, max, [], ◌+◌, ◌-◌, ◌^◌, ◌≤◌, ◌<◌, length, slice_get, slice_set, slice_index, slice_index_or, replicate, Some, OnOk, IfOk, IfSome, IfNone, true, false};
+ghost use Rattle.std.specs.Prelude.{◌≡◌, ◌≢◌, ◌⊎◌, IsTrue, ℕ, min, [], ◌+◌, ◌-◌, ◌^◌, ◌≤◌, ◌<◌, length, slice_get, slice_set, slice_index, slice_index_or, replicate, Some, OnOk, IfOk, IfSome, IfNone, true, false};
 ghost use Rattle.sabr_search.specs.questions.Task.{IsTask, Takes};
 ghost use Rattle.sabr_search.specs.questions.Steps.{degree};
 ghost use Rattle.sabr_search.specs.questions.Linked.{AreLinksAt, IsLinkWithin, HasNumber};
 ghost use Rattle.sabr_search.specs.layers.Lists.{IsKnown};
 ghost use Rattle.sabr_search.specs.layers.Made.{AreOpened};
-ghost use Rattle.sabr_search.specs.layers.Late.{AreSince, AreArrivals};
 ghost use Rattle.sabr_search.specs.layers.Reach.{cost_to};
 ghost use Rattle.sabr_search.specs.questions.FirstSteps.{AreFirstSteps};
 ghost use Rattle.sabr_search.specs.layers.Settling.{IsBound, AreReal, AreArrivalsBy, settled_count, IsWayTo, IsFirstWay, AreSettling, AreSettled, IsFallen, AreSettledTaken};
 
 use crate::backward::pick::Standing;
+use crate::backward::since::cost_by;
 use crate::forward::layers::{Best, NEVER, news_before, open_nodes};
 use crate::forward::queue::{Event, Queue};
 use crate::links::looks::Looks;
@@ -32,8 +32,6 @@ pub struct Forward<'t, 'a, 'b, A: Allocator + Copy> {
     pub near: &'b [u64],
     /// For each node, the hops of such a way, as far as the list goes.
     pub hops: &'b [u64],
-    /// For each node, a second before which no way comes there; 0 after the list's end.
-    pub soon: &'b [u64],
 }
 
 impl<'t, 'a, 'b, A: Allocator + Copy> Forward<'t, 'a, 'b, A> {
@@ -42,10 +40,7 @@ impl<'t, 'a, 'b, A: Allocator + Copy> Forward<'t, 'a, 'b, A> {
     fn cost(&self, node: usize) -> u64
         ensures { result ≡ cost_to self.now.near.now node }
     {
-        match self.near.get(node) {
-            Some(near) => NEVER - *near,
-            None => 0,
-        }
+        cost_by(self.near, node)
     }
 
     /// Returns the rank of a node among those of one second: the hops from it to the goal.
@@ -53,17 +48,6 @@ impl<'t, 'a, 'b, A: Allocator + Copy> Forward<'t, 'a, 'b, A> {
     fn rank(&self, node: usize) -> u64 {
         match self.hops.get(node) {
             Some(hops) => *hops,
-            None => 0,
-        }
-    }
-
-    /// Returns a second before which no way comes to a node.
-    #[inline(always)]
-    fn soonest(&self, node: usize) -> u64
-        ensures { result ≡ slice_index self.now.soon.now node }
-    {
-        match self.soon.get(node) {
-            Some(soon) => *soon,
             None => 0,
         }
     }
@@ -333,22 +317,9 @@ impl<A: Allocator + Copy> Settling<A> {
         Ok(Some(best))
     }
 
-    /// Lowers each arrival to the last second from which a way may still deliver by `delivery`, at the most, but not below
-    /// what is known to be the soonest.
-    fn lower(&mut self, forward: &Forward<'_, '_, '_, A>, delivery: u64)
-        ensures many { length self.new.arrival.items ≡ length self.old.arrival.items }
-        ensures lowered { (k : ℕ) → slice_index self.new.arrival.items k ≤ max (min (slice_index self.old.arrival.items k) (delivery - cost_to forward.now.near.now k)) (slice_index forward.now.soon.now k) }
-    {
-        for place in 0..self.arrival.len() {
-            let last = delivery.saturating_sub(forward.cost(place));
-            let since = self.arrival[place].min(last);
-            self.arrival[place] = since.max(forward.soonest(place));
-        }
-    }
-
     /// Settles as many nodes as it takes to find the first delivery at the goal. Returns it and the hops of a way with it;
-    /// no hops if no way leads there. No way comes to a node before its arrival. None if more looks might be needed than
-    /// are left.
+    /// no hops if no way leads there. No way that may deliver by then comes to a node before its arrival. None if more
+    /// looks might be needed than are left.
     pub fn run(
         &mut self,
         forward: &Forward<'_, '_, '_, A>,
@@ -357,21 +328,15 @@ impl<A: Allocator + Copy> Settling<A> {
     ) -> Result<Option<Best>, NoMemory>
         requires task { IsTask forward.now.task.now }
         requires bound { IsBound forward.now.task.now forward.now.late.now forward.now.near.now }
-        requires soon { AreSince forward.now.task.now forward.now.soon.now }
         ensures counted { looks.old.left ≤ looks.new.left + length forward.now.task.now.plan.contacts }
         ensures none { IfOk result (λ o. IfNone o (looks.old.left < length forward.now.task.now.plan.contacts)) }
         ensures way { IfOk result (λ o. IfSome o (IsFirstWay forward.now.task.now)) }
-        ensures arrivals { IfOk result (λ o. IfSome o (λ best. AreArrivals forward.now.task.now self.new.arrival.items)) }
+        ensures arrivals { IfOk result (λ o. IfSome o (λ best. AreArrivalsBy forward.now.task.now forward.now.near.now self.new.arrival.items best.delivery)) }
     {
         let whole = forward.task.first_steps(looks, first)?;
         if !whole {
             return Ok(None);
         }
-        let found = self.settle_all(forward, looks, first)?;
-        let Some(best) = found else {
-            return Ok(None);
-        };
-        self.lower(forward, best.delivery);
-        Ok(Some(best))
+        self.settle_all(forward, looks, first)
     }
 }

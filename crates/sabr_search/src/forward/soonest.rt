@@ -1,6 +1,6 @@
 //! For each node, the soonest arrival from the source: from there forward over the whole graph.
 
-ghost use Rattle.std.specs.Prelude.{[], IfOk};
+ghost use Rattle.std.specs.Prelude.{[], ◌≤◌, ℕ, IfOk, min, slice_index};
 ghost use Rattle.sabr_search.specs.questions.Task.{IsBehind};
 ghost use Rattle.sabr_search.specs.questions.FirstSteps.{tabled_of};
 ghost use Rattle.sabr_search.specs.layers.Latest.{IsWhole};
@@ -11,6 +11,15 @@ use crate::links::looks::Looks;
 use crate::task::Task;
 use sabr_model::NoMemory;
 use std::alloc::Allocator;
+
+/// Lowers each second to a given one at the most.
+fn lower<A: Allocator + Copy>(seconds: &mut Vec<u64, A>, most: u64)
+    ensures { (k : ℕ) → slice_index seconds.new.items k ≤ min (slice_index seconds.old.items k) most }
+{
+    for place in 0..seconds.len() {
+        seconds[place] = seconds[place].min(most);
+    }
+}
 
 /// Finds for each node a second before which no way over the whole graph comes there from the source: its soonest arrival,
 /// or the first delivery if that is sooner. Nothing is known of any node if more looks might be needed than are left.
@@ -30,13 +39,13 @@ pub fn soonest_of<A: Allocator + Copy>(
         late,
         near: &[],
         hops: &[],
-        soon: &[],
     };
     let mut settling = Settling::new(alloc);
     let mut first = Vec::new(alloc);
     let found = settling.run(&forward, looks, &mut first)?;
-    let Some(_best) = found else {
+    let Some(best) = found else {
         return Ok(Vec::new(alloc));
     };
+    lower(&mut settling.arrival, best.delivery);
     Ok(settling.arrival)
 }

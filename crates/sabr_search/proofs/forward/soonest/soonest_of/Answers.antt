@@ -10,13 +10,10 @@ run-requires-clause-bound g c =
     let task = c.args.task.now in
     reach_bounds task c.requires.whole.is.nodes (of_request task [] c.requires.source) _ [] c.requires.late (none_near _ _ [] refl)
 
-pub run-requires-clause-soon : goal.run-requires-clause-soon
-run-requires-clause-soon g c = λ ns v t some way. omega arith
-
 pub returns-in_default : goal.returns-in_default
 returns-in_default g c = record { soon = none_soon (tabled_of c.args.task.now) c.args.task.now.request _ c.new.ensures.items }
 
 pub returns : goal.returns
 returns g c =
-    let arrivals = rw c.in-Some.is at c.in_ok-found.ensures.arrivals in
-    record { soon = soon_for c.args.task.now c.requires.source c.requires.whole.free _ arrivals.least }
+    let by = rw c.in-Some.is at c.in_ok-found.ensures.arrivals in
+    record { soon = soon_for c.args.task.now c.requires.source c.requires.whole.free _ (λ ns v t some way. omega (arith, c.lower.ensures v, by.least ns v t some way)) }

@@ -2,6 +2,7 @@ use Rattle.std.proofs.Common.{ℕ, ◌+◌, ◌*◌, ◌<◌, ◌≤◌, Option,
 use Rattle.std.specs.Prelude.{IfOk, IfSome, IfNone}
 use Rattle.std.specs.declared.result.Result.{Result}
 use Rattle.std.specs.declared.result.Result.TheVariants.{Ok, Err}
+use Rattle.sabr_search.proofs.WayLemmas.Since.{arrivals_lowered}
 use Rattle.sabr_search.proofs.search.Search.run.Goals as goal
 
 pub returns-then-first-eq0-clause-found : goal.returns-then-first-eq0-clause-found
@@ -9,6 +10,18 @@ returns-then-first-eq0-clause-found g c = record {
   none = λ empty ns e within way. (rw c.in-Some.is at c.in_ok-reached.ensures.way).none c.if-first-eq0.true ns e way;
   some = λ some. absurd (omega (arith, some, ap length c.none.ensures));
 }
+
+pub least_within-requires-clause-arrivals : goal.least_within-requires-clause-arrivals
+least_within-requires-clause-arrivals g c =
+    let by = rw c.in-Some.is at c.in_ok-reached.ensures.arrivals in
+    arrivals_lowered c.args.task.now (length c.shut.result.now) c.deref-4.result.now c.deref-5.result.now c.deref-6.result.now c.in-Some.first.delivery (omega (arith, ap length c.shut.ensures, c.requires.task.as_many)) (rw c.deref-6.ensures.value c.requires.soon)
+    (rw (c.deref-4.ensures.value, c.deref-5.ensures.value) (rw c.deref-2.ensures.value at by))
+
+pub least_by-requires-clause-arrivals : goal.least_by-requires-clause-arrivals
+least_by-requires-clause-arrivals g c =
+    let by = rw c.in-Some.is at c.in_ok-reached.ensures.arrivals in
+    arrivals_lowered c.args.task.now (length c.shut.result.now) c.deref-4.result.now c.deref-5.result.now c.deref-6.result.now c.in-Some.first.delivery (omega (arith, ap length c.shut.ensures, c.requires.task.as_many)) (rw c.deref-6.ensures.value c.requires.soon)
+    (rw (c.deref-4.ensures.value, c.deref-5.ensures.value) (rw c.deref-2.ensures.value at by))
 
 pub least_by-requires-clause-way : goal.least_by-requires-clause-way
 least_by-requires-clause-way g c =

@@ -1,4 +1,4 @@
-use Rattle.std.proofs.Common.{◌≡◌, ◌<◌, ◌+◌, false, slice_index, slice_index_or, refl, sym, ◌∙◌, arith, subst}
+use Rattle.std.proofs.Common.{◌≡◌, ◌<◌, ◌+◌, false, slice_index, slice_index_or, sym, ◌∙◌, arith, subst}
 use Rattle.sabr_search.specs.questions.Task.{Takes}
 use Rattle.sabr_search.proofs.ForwardLemmas.Between.{read_at}
 use Rattle.sabr_search.proofs.BackwardLemmas.Backward.{not_start}
@@ -31,7 +31,7 @@ returns-clause-lists g c =
     let begin : c.index-begin.result.now ≡ slice_index c.args.self.now.ends.items (c.args.left + 1) = read_at c.args.self.now.ends.items (c.args.left + 1) c.index-begin.result.now c.requires.bounded c.index-begin.ensures in
     rw c.in_ok-note_late.ensures.late
     ((late_noted c.args.aim.now.task.now c.args.aim.now.since.now (slice_index c.args.self.now.ends.items c.args.left) (slice_index c.args.self.now.ends.items (c.args.left + 1)) c.args.self.now.late.items c.args.self.now.place.items c.args.self.now.reached.items c.requires.lists
-    c.args.from.node (slice_index c.args.aim.now.since.now c.args.from.node) c.leave_over-last.result c.requires.node (subst (λ xs. slice_index_or xs c.args.from.node false ≡ false) c.shut.ensures c.if-shut-from.false) (λ same. c.if-from-goal.false (same ∙ sym c.goal.ensures)) refl (omega (arith, latest, c.if-last-latest.false))
+    c.args.from.node c.at-since.result c.leave_over-last.result c.requires.node (subst (λ xs. slice_index_or xs c.args.from.node false ≡ false) c.shut.ensures c.if-shut-from.false) (λ same. c.if-from-goal.false (same ∙ sym c.goal.ensures)) c.at-since.ensures (omega (arith, latest, c.if-last-latest.false))
     (sound_back c.args.aim.now.task.now c.requires.task c.args.from.node c.args.to.node c.index-latest.result.now c.leave_over-last.result c.args.to.deadline (slice_index c.args.self.now.ends.items c.args.left) (slice_index c.args.self.now.ends.items (c.args.left + 1)) c.args.self.now.reached.items
     (λ t from less. c.leave_over-last.ensures.sound t from less) c.if-last-latest.false c.requires.receiver c.requires.given)
     _ _ (rw begin at c.in_ok-note_late.ensures.noted)).0)
@@ -41,7 +41,7 @@ returns-clause-kept g c =
     let latest : c.index-latest.result.now ≡ slice_index c.args.self.now.late.items c.args.from.node = read_at c.args.self.now.late.items c.args.from.node c.index-latest.result.now (omega (arith, c.requires.node, c.requires.lists.many)) c.index-latest.ensures in
     let begin : c.index-begin.result.now ≡ slice_index c.args.self.now.ends.items (c.args.left + 1) = read_at c.args.self.now.ends.items (c.args.left + 1) c.index-begin.result.now c.requires.bounded c.index-begin.ensures in
     (late_noted c.args.aim.now.task.now c.args.aim.now.since.now (slice_index c.args.self.now.ends.items c.args.left) (slice_index c.args.self.now.ends.items (c.args.left + 1)) c.args.self.now.late.items c.args.self.now.place.items c.args.self.now.reached.items c.requires.lists
-    c.args.from.node (slice_index c.args.aim.now.since.now c.args.from.node) c.leave_over-last.result c.requires.node (subst (λ xs. slice_index_or xs c.args.from.node false ≡ false) c.shut.ensures c.if-shut-from.false) (λ same. c.if-from-goal.false (same ∙ sym c.goal.ensures)) refl (omega (arith, latest, c.if-last-latest.false))
+    c.args.from.node c.at-since.result c.leave_over-last.result c.requires.node (subst (λ xs. slice_index_or xs c.args.from.node false ≡ false) c.shut.ensures c.if-shut-from.false) (λ same. c.if-from-goal.false (same ∙ sym c.goal.ensures)) c.at-since.ensures (omega (arith, latest, c.if-last-latest.false))
     (sound_back c.args.aim.now.task.now c.requires.task c.args.from.node c.args.to.node c.index-latest.result.now c.leave_over-last.result c.args.to.deadline (slice_index c.args.self.now.ends.items c.args.left) (slice_index c.args.self.now.ends.items (c.args.left + 1)) c.args.self.now.reached.items
     (λ t from less. c.leave_over-last.ensures.sound t from less) c.if-last-latest.false c.requires.receiver c.requires.given)
     _ _ (rw begin at c.in_ok-note_late.ensures.noted)).1

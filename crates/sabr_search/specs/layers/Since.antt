@@ -1,0 +1,12 @@
+-- For each node, a second before which no way comes there: by the arrivals of a search, and by what is known of every way.
+use Rattle.std.specs.Prelude.{ℕ, ◌-◌, min, max, List, map, slice_index}
+use Rattle.std.specs.List.{range_with_len}
+use Rattle.sabr_search.specs.layers.Reach.{cost_to}
+
+-- the arrival at node k, or if that is sooner the last second from which a way may still deliver at d; no sooner than `soon` says
+abbrev pub since_at : (arrival near soon : List ℕ) (d k : ℕ) → ℕ
+since_at arrival near soon d k = max (min (slice_index arrival k) (d - cost_to near k)) (slice_index soon k)
+
+-- that second by node
+abbrev pub since_of : ℕ → (arrival near soon : List ℕ) → ℕ → List ℕ
+since_of nodes arrival near soon d = map (since_at arrival near soon d) (range_with_len 0 nodes)

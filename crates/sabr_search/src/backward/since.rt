@@ -1,0 +1,81 @@
+//! For each node, a second before which no way comes there.
+
+ghost use Rattle.std.specs.Prelude.{◌≡◌, ◌≤◌, ◌<◌, ◌^◌, ℕ, length, slice_index};
+ghost use Rattle.sabr_search.specs.layers.Reach.{cost_to};
+
+use crate::forward::layers::NEVER;
+use std::marker::Model;
+
+/// For each node, a second before which no way comes there. Contracts see a list of them. Each is found when it is asked
+/// for, since layers ask for few nodes of a large plan.
+#[derive(Drop)]
+pub struct Since<'a> {
+    /// How many nodes there are.
+    pub nodes: usize,
+    /// For each node, its least arrival, or a later second; 0 after the list's end.
+    pub arrival: &'a [u64],
+    /// For each node, `NEVER` less the least seconds of a way to the goal; `NEVER` after the list's end.
+    pub near: &'a [u64],
+    /// For each node, a second before which no way comes there; 0 after the list's end.
+    pub soon: &'a [u64],
+    /// The delivery up to which arrivals are known.
+    pub delivery: u64,
+}
+
+impl<'a> Model for Since<'a> {
+    ghost use Rattle.std.specs.Prelude.{List, ℕ};
+    ghost use Rattle.sabr_search.specs.layers.Since.{since_of};
+
+    ghost Value = { List ℕ };
+
+    ghost view = { λ s. since_of s.nodes s.arrival.now s.near.now s.soon.now s.delivery };
+}
+
+/// Returns the least seconds of a way from a node to the goal, by how near each node is.
+#[inline(always)]
+pub fn cost_by(near: &[u64], node: usize) -> u64
+    ensures { result ≡ cost_to near.now node }
+{
+    match near.get(node) {
+        Some(near) => NEVER - *near,
+        None => 0,
+    }
+}
+
+/// Returns a second of a list; 0 after its end.
+#[inline(always)]
+fn second(seconds: &[u64], node: usize) -> u64
+    ensures { result ≡ slice_index seconds.now node }
+{
+    match seconds.get(node) {
+        Some(second) => *second,
+        None => 0,
+    }
+}
+
+impl<'a> Since<'a> {
+    /// These seconds.
+    pub fn of(seconds: &'a [u64]) -> Since<'a>
+        ensures many { length result ≡ length seconds.now }
+        ensures each { (k : ℕ) → slice_index result k ≤ slice_index seconds.now k }
+    {
+        Since {
+            nodes: seconds.len(),
+            arrival: &[],
+            near: &[],
+            soon: seconds,
+            delivery: 0,
+        }
+    }
+
+    /// Returns a second before which no way comes to a node.
+    #[inline(always)]
+    pub fn at(&self, node: usize) -> u64
+        requires { node < length self.now }
+        ensures { result ≡ slice_index self.now node }
+    {
+        let last = self.delivery.saturating_sub(cost_by(self.near, node));
+        let since = second(self.arrival, node).min(last);
+        since.max(second(self.soon, node))
+    }
+}
