@@ -29,16 +29,18 @@ use sabr_model::NoMemory;
 use std::alloc::{Allocator, Global};
 use std::mem::replace;
 
-/// So many answers are kept; the oldest goes. Not varied.
+/// So many answers are kept; the oldest goes. With 1024, 1000 routes took 7 percent more instructions over a grid of 64 nodes
+/// and 10 over one of two satellite plans; with 16384 they took up to 2 percent more, over nine plans. This and the next
+/// constants, but for the prefix, were varied in a copy of this design in plain Rust, over these nine plans.
 const SLOTS: usize = 4096;
 
-/// So many answers are compared for a question. Not varied; without a limit a native prototype took 2.7 times as many
-/// instructions for 1000 routes over a grid of 64 nodes.
+/// So many answers are compared for a question. With 4, relays took up to 17 percent more, satellites up to 31, and a small
+/// relay 3 percent fewer; with 64, the grid took 14 percent more and a satellite plan 16 percent fewer.
 const COMPARED: usize = 16;
 
-/// Questions that exclude more numbers aren't kept, since each list is copied. Without a limit the ten thousandth route of a
-/// line of 20000 contacts took 4.25 times the instructions of a native program, with this one 1.18, both in a copy of this
-/// design in plain Rust.
+/// Questions that exclude more numbers aren't kept, since each list is copied. With 16, 60 nodes that all see each other took
+/// 7 percent more; with 256 nothing changed. Without a limit the ten thousandth route of a line of 20000 contacts took 4.25
+/// times the instructions of a native program, with this one 1.18.
 const MOST_EXCLUDED: usize = 64;
 
 /// Questions after a longer prefix aren't kept: an answer lists the nodes that were shut. Without a limit 4096 answers of a
@@ -46,12 +48,12 @@ const MOST_EXCLUDED: usize = 64;
 /// nodes weren't kept.
 const MOST_PREFIX: usize = 128;
 
-/// The answers to so many wide questions must have answered as many, or `REST` go by. With 16, a copy of this design in plain
-/// Rust took a third more instructions over a grid of 64 nodes and 7 percent more over walkers, and 4 percent fewer over
-/// relays, where few are answered.
+/// The answers to so many wide questions must have answered as many, or `REST` go by. With 16, the grid took 23 percent more,
+/// a satellite plan 7 percent more and another 4 percent fewer, and a small relay 3 percent fewer; with 256, the grid took 8
+/// percent more and the relay 13.
 const ASKED: u32 = 64;
 
-/// So many wide questions go by before one is asked again. Taken from a native prototype, not varied.
+/// So many wide questions go by before one is asked again. With 256, the grid took 15 percent more and the relay 4.
 const REST: u32 = 1024;
 
 /// The place of no answer.

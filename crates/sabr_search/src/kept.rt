@@ -25,15 +25,15 @@ pub struct Kept<A: Allocator + Copy = Global> {
     /// Where it takes its memory.
     alloc: A,
     /// What bounds every search.
-    pub reach: Reach<A>,
+    pub(crate) reach: Reach<A>,
     /// Whether that is still to be found.
     is_new: bool,
     /// Answers to questions so far.
-    pub answers: Answers<A>,
+    pub(crate) answers: Answers<A>,
     /// The nodes that the last wide question shut.
-    pub wide: Shut<A>,
+    pub(crate) wide: Shut<A>,
     /// Where the last prefix led, if one is known.
-    pub course: Option<Course<A>>,
+    pub(crate) course: Option<Course<A>>,
 }
 
 impl<A: Allocator + Copy> Kept<A> {
