@@ -6,4 +6,5 @@ pub mod latest;
 pub mod least_way;
 pub mod nearest;
 pub mod pick;
+pub mod seconds;
 pub mod since;

@@ -66,27 +66,21 @@ module _ (task : SearchTask) (since : List ℕ) (first begin : ℕ) (late place 
   ]
 
   old_entry : (e : LayerEntry) → IsLateEntry task since late e → IsLateEntry task since (slice_set late u x) e
-  old_entry e is = record { inside = is.inside; unshut = is.unshut; other = is.other; soon = is.soon; by = omega (arith, is.by, late_rises e.node) }
+  old_entry e is = record { inside = is.inside; unshut = is.unshut; other = is.other; soon = is.soon; some = is.some; by = omega (arith, is.by, late_rises e.node) }
 
   new_entry : (e : LayerEntry) → e ≡ record { node = u; arrival = a; deadline = x } → IsLateEntry task since (slice_set late u x) e
-  new_entry e is = rw is (record { inside = inside; unshut = unshut; other = other; soon = a_is; by = omega (arith, now_late) })
+  new_entry e is = rw is (record { inside = inside; unshut = unshut; other = other; soon = a_is; some = omega (arith, later); by = omega (arith, now_late) })
 
-  module _ (above : begin ≤ slice_index place u) where
-    at_within : slice_index place u < length reached
-    at_within = was.within u inside
-
+  module _ (some : 0 < slice_index late u) (above : begin ≤ slice_index place u) where
     -- what stands there
     abbrev e0 : LayerEntry
-    e0 = slice_index_or reached (slice_index place u) (record { node = u; arrival = a; deadline = x })
+    e0 = record { node = u; arrival = (was.top u inside some).0; deadline = slice_index late u }
 
-    e0_at : slice_get reached (slice_index place u) ≡ Some (slice_index_or reached (slice_index place u) (record { node = u; arrival = a; deadline = x }))
-    e0_at = slice_get-get_or reached (slice_index place u) (record { node = u; arrival = a; deadline = x }) at_within
+    e0_at : slice_get reached (slice_index place u) ≡ Some (record { node = u; arrival = (was.top u inside some).0; deadline = slice_index late u })
+    e0_at = (was.top u inside some).1
 
-    e0_node : (slice_index_or reached (slice_index place u) (record { node = u; arrival = a; deadline = x })).node ≡ u
-    e0_node = was.own u (slice_index_or reached (slice_index place u) (record { node = u; arrival = a; deadline = x })) inside (omega (arith, was.later)) e0_at
-
-    e0_by : (slice_index_or reached (slice_index place u) (record { node = u; arrival = a; deadline = x })).deadline < x
-    e0_by = omega (arith, later, (was.each (slice_index place u) (slice_index_or reached (slice_index place u) (record { node = u; arrival = a; deadline = x })) (omega (arith, was.later)) e0_at).by, ap (slice_index late) e0_node)
+    at_within : slice_index place u < length reached
+    at_within = slice_get_within reached (slice_index place u) e0 e0_at
 
     in_time_changed : (w b : ℕ) → InTimeFor reached first begin w b → InTimeFor (slice_set reached (slice_index place u) (record { node = u; arrival = a; deadline = x })) first begin w b
     in_time_changed w b t = (t.0, t.1, t.2, t.3, get_set_other reached (slice_index place u) t.0 (record { node = u; arrival = a; deadline = x }) (λ same. omega (arith, same, t.3)) ∙ t.4, t.5, t.6)
@@ -95,13 +89,6 @@ module _ (task : SearchTask) (since : List ℕ) (first begin : ℕ) (late place 
     changed_late = record {
       flags = was.flags;
       many = set_many late u x ∙ was.many;
-      within = λ k less. omega (arith, was.within k less, set_many reached (slice_index place u) f);
-      own = λ k e less some at. elim (set_cases reached (slice_index place u) f (slice_index place k) e at_within at) [
-        | inl old ↦ was.own k e less some old.1
-        | inr here ↦
-            (let k_is : e0.node ≡ k = was.own k e0 less some (ap (slice_get reached) here.0 ∙ e0_at) in
-            ap (λ (y : LayerEntry). y.node) here.1 ∙ sym e0_node ∙ k_is)
-      ];
       later = was.later;
       begins = omega (arith, was.begins, set_many reached (slice_index place u) f);
       top = λ v less some. elim (cases_eq v u) [
@@ -109,7 +96,7 @@ module _ (task : SearchTask) (since : List ℕ) (first begin : ℕ) (late place 
         | inr differs ↦
             (let keeps : slice_index (slice_set late u x) v ≡ slice_index late v = set_other late u v x differs in
             let old = was.top v less (omega (arith, some, keeps)) in
-            let away : slice_index place v ≡ slice_index place u → ⊥ = λ same. differs (ap (λ (y : LayerEntry). y.node) (same_some (sym old.1 ∙ ap (slice_get reached) same ∙ e0_at)) ∙ e0_node) in
+            let away : slice_index place v ≡ slice_index place u → ⊥ = λ same. differs (ap (λ (y : LayerEntry). y.node) (same_some (sym old.1 ∙ ap (slice_get reached) same ∙ e0_at))) in
             rw keeps (old.0, get_set_other reached (slice_index place u) (slice_index place v) f away ∙ old.1))
       ];
       each = λ p e some at. elim (set_cases reached (slice_index place u) f p e at_within at) [
@@ -120,8 +107,8 @@ module _ (task : SearchTask) (since : List ℕ) (first begin : ℕ) (late place 
         | inl old_p ↦ elim (set_cases reached (slice_index place u) f q g at_within at_q) [
           | inl old_q ↦ was.rising p q e g some less old_p.1 old_q.1 same
           | inr here_q ↦
-              (let node : e.node ≡ e0.node = same ∙ ap (λ (y : LayerEntry). y.node) here_q.1 ∙ sym e0_node in
-              omega (arith, was.rising p (slice_index place u) e e0 some (omega (arith, here_q.0)) old_p.1 e0_at node, e0_by, ap (λ (y : LayerEntry). y.deadline) here_q.1))
+              (let node : e.node ≡ e0.node = same ∙ ap (λ (y : LayerEntry). y.node) here_q.1 in
+              omega (arith, was.rising p (slice_index place u) e e0 some (omega (arith, here_q.0)) old_p.1 e0_at node, later, ap (λ (y : LayerEntry). y.deadline) here_q.1))
         ]
         | inr here_p ↦ elim (set_cases reached (slice_index place u) f q g at_within at_q) [
           | inl old_q ↦
@@ -142,7 +129,7 @@ module _ (task : SearchTask) (since : List ℕ) (first begin : ℕ) (late place 
       ];
     }
 
-  module _ (below : slice_index place u < begin) where
+  module _ (below : 0 < slice_index late u → slice_index place u < begin) where
     in_time_pushed : (w b : ℕ) → InTimeFor reached first begin w b → InTimeFor (reached ++ record { node = u; arrival = a; deadline = x } ∷ []) first begin w b
     in_time_pushed w b t = (t.0, t.1, t.2, t.3, get_push_before reached (record { node = u; arrival = a; deadline = x }) t.0 (slice_get_within reached t.0 t.1 t.4) ∙ t.4, t.5, t.6)
 
@@ -156,18 +143,6 @@ module _ (task : SearchTask) (since : List ℕ) (first begin : ℕ) (late place 
     pushed_late = record {
       flags = place_many;
       many = set_many late u x ∙ was.many;
-      within = λ k less. elim (cases_eq k u) [
-        | inl same ↦ rw same (omega (arith, place_here, length-append reached (f ∷ [])))
-        | inr differs ↦ omega (arith, set_other place u k (length reached) differs, was.within k less, length-append reached (f ∷ []))
-      ];
-      own = λ k e less some at. elim (cases_eq k u) [
-        | inl same ↦
-            (let at' : slice_get (reached ++ f ∷ []) (length reached) ≡ Some e = sym (ap (slice_get (reached ++ f ∷ [])) (ap (slice_index (slice_set place u (length reached))) same ∙ place_here)) ∙ at in
-            ap (λ (y : LayerEntry). y.node) (same_some (sym at' ∙ get_push_here reached f)) ∙ sym same)
-        | inr differs ↦
-            (let keeps : slice_index (slice_set place u (length reached)) k ≡ slice_index place k = set_other place u k (length reached) differs in
-            was.own k e less (omega (arith, some, keeps)) (sym (get_push_before reached f (slice_index place k) (was.within k less)) ∙ ap (slice_get (reached ++ f ∷ [])) (sym keeps) ∙ at))
-      ];
       later = was.later;
       begins = omega (arith, was.begins, length-append reached (f ∷ []));
       top = λ v less some. elim (cases_eq v u) [
@@ -176,7 +151,7 @@ module _ (task : SearchTask) (since : List ℕ) (first begin : ℕ) (late place 
             (let keeps : slice_index (slice_set late u x) v ≡ slice_index late v = set_other late u v x differs in
             let stays : slice_index (slice_set place u (length reached)) v ≡ slice_index place v = set_other place u v (length reached) differs in
             let old = was.top v less (omega (arith, some, keeps)) in
-            rw (keeps, stays) (old.0, get_push_before reached f (slice_index place v) (was.within v less) ∙ old.1))
+            rw (keeps, stays) (old.0, get_push_before reached f (slice_index place v) (slice_get_within reached (slice_index place v) (record { node = v; arrival = old.0; deadline = slice_index late v }) old.1) ∙ old.1))
       ];
       each = λ p e some at. elim (push_cases reached f p e at) [
         | inl old ↦ old_entry e (was.each p e some old.1)
@@ -196,7 +171,9 @@ module _ (task : SearchTask) (since : List ℕ) (first begin : ℕ) (late place 
       ];
       once = λ p e from at. elim (push_cases reached f p e at) [
         | inl old ↦ elim (cases_eq e.node u) [
-          | inl same ↦ absurd (omega (arith, was.once p e from old.1, ap (slice_index place) same))
+          | inl same ↦
+              (let entry = was.each p e (omega (arith, from, was.later)) old.1 in
+              absurd (omega (arith, was.once p e from old.1, ap (slice_index place) same, below (omega (arith, entry.some, entry.by, ap (slice_index late) same)))))
           | inr differs ↦ set_other place u e.node (length reached) differs ∙ was.once p e from old.1
         ]
         | inr here ↦ ap (λ (y : LayerEntry). slice_index (slice_set place u (length reached)) y.node) here.1 ∙ place_here ∙ sym here.0
@@ -210,8 +187,8 @@ module _ (task : SearchTask) (since : List ℕ) (first begin : ℕ) (late place 
     }
 
   -- either way, what stood before the layer stays
-  pub late_noted : (place' : List ℕ) (reached' : List LayerEntry) → IsNotedLate place reached begin u a x place' reached' → AreLate task since first begin (slice_set late u x) place' reached' × (take begin reached' ≡ take begin reached)
-  late_noted place' reached' (inl here) = rw (here.1, here.2) (changed_late here.0, take_set begin reached (slice_index place u) f here.0)
+  pub late_noted : (place' : List ℕ) (reached' : List LayerEntry) → IsNotedLate late place reached begin u a x place' reached' → AreLate task since first begin (slice_set late u x) place' reached' × (take begin reached' ≡ take begin reached)
+  late_noted place' reached' (inl here) = rw (here.2, here.3) (changed_late here.0 here.1, take_set begin reached (slice_index place u) f here.1)
   late_noted place' reached' (inr new) = rw (new.1, new.2) (pushed_late new.0, take_push begin reached f was.begins)
 
 -- if a link can be left later than before, each second sooner than that has a step in time

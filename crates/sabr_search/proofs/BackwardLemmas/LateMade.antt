@@ -7,6 +7,7 @@ use Rattle.std.proofs.lemmas.Option.{slice_get_within}
 use Rattle.sabr_search.specs.declared.forward.layers.LayerEntry.{LayerEntry}
 use Rattle.sabr_search.specs.questions.Task.{SearchTask, Takes, IsTask}
 use Rattle.sabr_search.specs.layers.Made.{Entry}
+use Rattle.sabr_search.specs.layers.Seconds.{AreNamed}
 use Rattle.sabr_search.specs.layers.Late.{InTimeFor, AreLate, AreTold, IsToldBy, AreLateLayers, IsMet}
 use Rattle.sabr_search.proofs.ForwardLemmas.Between.{same_below}
 use Rattle.sabr_search.proofs.ForwardLemmas.Forward.{last_or_before}
@@ -25,8 +26,6 @@ pub nothing_past : (task : SearchTask) (since : List ℕ) (first begin first' be
 nothing_past task since first begin first' begin' late place reached was all = record {
   flags = was.flags;
   many = was.many;
-  within = was.within;
-  own = was.own;
   later = omega (arith, was.later, was.begins);
   begins = omega arith;
   top = was.top;
@@ -128,7 +127,7 @@ module _ (task : SearchTask) (is : IsTask task) (since : List ℕ) (d left : ℕ
   newest v t inside by =
       let on = after.top v inside (omega arith) in
       let p : ℕ = slice_index place' v in
-      let within : p < length reached' = after.within v inside in
+      let within : p < length reached' = slice_get_within reached' p (record { node = v; arrival = on.0; deadline = slice_index late' v }) on.1 in
       let layer = layer_of ends' p (left + 1 + 1) (end_before 0 (omega arith) ∙ made.first_end) (omega (arith, last')) in
       (layer.0, on.0, slice_index late' v, omega (arith, layer.1), (p, layer.2, layer.3, on.1), by)
 
@@ -176,27 +175,37 @@ met_at task left ends reached n w b step t =
       in_time = t.6;
     }
 
+-- zeros stand in a list of them
 pub all_zero : (n k : ℕ) → slice_index (replicate n 0) k ≡ 0
 all_zero zero k = refl
 all_zero (suc n) zero = refl
 all_zero (suc n) (suc k) = all_zero n k
 
-pub all_many : (n : ℕ) → length {A = ℕ} (replicate n 0) ≡ n
-all_many n = grind (arith, common_steps)
+-- and there still is if some are left out, and others added
+pub zeros_taken : (n m k : ℕ) (xs : List ℕ) → ((i : ℕ) → slice_index xs i ≡ 0) → slice_index (take n xs ++ replicate m 0) k ≡ 0
+zeros_taken zero m k xs none = all_zero m k
+zeros_taken (suc n) m k [] none = all_zero m k
+zeros_taken (suc n) m zero (x ∷ xs) none = none 0
+zeros_taken (suc n) m (suc k) (x ∷ xs) none = zeros_taken n m k xs (λ i. none (suc i))
+
+-- where nothing is set no node has to be named
+pub named_none : (seconds : List ℕ) → ((k : ℕ) → slice_index seconds k ≡ 0) → AreNamed seconds []
+named_none seconds none = record {
+  named = λ k on. absurd (omega (arith, on, none k));
+  inside = λ p k at. absurd (omega (arith, slice_get_within [] p k at));
+}
 
 -- the goal alone
 pub late_first : (task : SearchTask) → IsTask task → (since : List ℕ) (d : ℕ) (ends late place : List ℕ) (reached : List LayerEntry) → ends ≡ 0 ∷ 1 ∷ [] → reached ≡ record { node = task.goal; arrival = d; deadline = d + 1 } ∷ [] →
-    place ≡ replicate (length task.shut) 0 → late ≡ replicate (length task.shut) 0 → AreLateLayers task since d 0 ends late place reached
-late_first task is since d ends late place reached ends_is reached_is place_is late_is =
-    rw (ends_is, reached_is, place_is, late_is) (record {
+    length place ≡ length task.shut → length late ≡ length task.shut → ((k : ℕ) → slice_index late k ≡ 0) → AreLateLayers task since d 0 ends late place reached
+late_first task is since d ends late place reached ends_is reached_is places many none =
+    rw (ends_is, reached_is) (record {
       lists = record {
-        flags = omega (arith, all_many (length task.shut), is.as_many);
-        many = omega (arith, all_many (length task.shut), is.as_many);
-        within = λ k less. omega (arith, all_zero (length task.shut) k);
-        own = λ k e less some at. absurd (omega (arith, all_zero (length task.shut) k));
+        flags = omega (arith, places, is.as_many);
+        many = omega (arith, many, is.as_many);
         later = omega arith;
         begins = omega arith;
-        top = λ v less some. absurd (omega (arith, all_zero (length task.shut) v));
+        top = λ v less some. absurd (omega (arith, some, none v));
         each = λ p e some at. absurd (omega (arith, slice_get_within (record { node = task.goal; arrival = d; deadline = d + 1 } ∷ []) p e at));
         rising = λ p q e f some less at_p at_q same. absurd (omega (arith, slice_get_within (record { node = task.goal; arrival = d; deadline = d + 1 } ∷ []) p e at_p));
         once = λ p e from at. absurd (omega (arith, slice_get_within (record { node = task.goal; arrival = d; deadline = d + 1 } ∷ []) p e at));

@@ -31,14 +31,13 @@ pub record IsLateEntry (task : SearchTask) (since late : List ℕ) (e : LayerEnt
   pub unshut : slice_index_or task.shut e.node false ≡ false
   pub other : e.node ≢ task.goal
   pub soon : e.arrival ≡ slice_index since e.node
+  pub some : 0 < e.deadline
   pub by : e.deadline ≤ slice_index late e.node
 
 -- the lists while the layer that begins at `begin` is made from the entries from `first` on
 pub record AreLate (task : SearchTask) (since : List ℕ) (first begin : ℕ) (late place : List ℕ) (reached : List LayerEntry) : Type 0 where
   pub flags : length place ≡ length task.table
   pub many : length late ≡ length task.table
-  pub within : (k : ℕ) → k < length task.table → slice_index place k < length reached
-  pub own : (k : ℕ) (e : LayerEntry) → k < length task.table → 0 < slice_index place k → slice_get reached (slice_index place k) ≡ Some e → e.node ≡ k
   pub later : 0 < begin
   pub begins : begin ≤ length reached
   pub top : (v : ℕ) → v < length task.table → 0 < slice_index late v → (a : ℕ) × (slice_get reached (slice_index place v) ≡ Some (record { node = v; arrival = a; deadline = slice_index late v }))
@@ -56,10 +55,10 @@ abbrev pub StartsInTime : SearchTask → List ℕ → ℕ → List LayerEntry �
 StartsInTime task ends left reached = (n : ℕ) × (w : ℕ) × (b : ℕ) × Takes task n task.start task.at w b × InTimeFor reached (slice_index ends left) (slice_index ends (left + 1)) w b
 
 -- node u is too late from x on: its entry in the layer that begins at `begin` says so, or a new one does
-abbrev pub IsNotedLate : List ℕ → List LayerEntry → ℕ → ℕ → ℕ → ℕ → List ℕ → List LayerEntry → Type 0
-IsNotedLate place reached begin u a x place' reached' =
-    ((begin ≤ slice_index place u) × (place' ≡ place) × (reached' ≡ slice_set reached (slice_index place u) (record { node = u; arrival = a; deadline = x })))
-    ⊎ ((slice_index place u < begin) × (place' ≡ slice_set place u (length reached)) × (reached' ≡ reached ++ record { node = u; arrival = a; deadline = x } ∷ []))
+abbrev pub IsNotedLate : List ℕ → List ℕ → List LayerEntry → ℕ → ℕ → ℕ → ℕ → List ℕ → List LayerEntry → Type 0
+IsNotedLate late place reached begin u a x place' reached' =
+    ((0 < slice_index late u) × (begin ≤ slice_index place u) × (place' ≡ place) × (reached' ≡ slice_set reached (slice_index place u) (record { node = u; arrival = a; deadline = x })))
+    ⊎ ((0 < slice_index late u → slice_index place u < begin) × (place' ≡ slice_set place u (length reached)) × (reached' ≡ reached ++ record { node = u; arrival = a; deadline = x } ∷ []))
 
 -- what a step from node u at t leaves, if it leads to where there still is time: it is not from the start in time, and
 -- any other u is not too late

@@ -57,22 +57,21 @@ impl<A: Allocator + Copy> Layers<A> {
     /// Notes the first second that is too late at a node, in the layer that begins at `begin`, once for each node.
     fn note_late(&mut self, entry: LayerEntry, begin: usize) -> Result<(), NoMemory>
         requires place { entry.node < length self.old.place.items }
-        requires late { entry.node < length self.old.late.items }
-        requires placed { slice_index self.old.place.items entry.node < length self.old.reached.items }
+        requires late { entry.node < length self.old.late }
+        requires placed { 0 < slice_index self.old.late entry.node → slice_index self.old.place.items entry.node < length self.old.reached.items }
         ensures ends { self.new.ends ≡ self.old.ends }
-        ensures late { OnOk result (self.new.late.items ≡ slice_set self.old.late.items entry.node entry.deadline) }
-        ensures noted { OnOk result (IsNotedLate self.old.place.items self.old.reached.items begin entry.node entry.arrival entry.deadline self.new.place.items self.new.reached.items) }
+        ensures late { OnOk result (self.new.late ≡ slice_set self.old.late entry.node entry.deadline) }
+        ensures noted { OnOk result (IsNotedLate self.old.late self.old.place.items self.old.reached.items begin entry.node entry.arrival entry.deadline self.new.place.items self.new.reached.items) }
     {
         let at = self.place[entry.node];
-        if at >= begin {
+        if self.late.at(entry.node) > 0 && at >= begin {
             self.reached[at] = entry;
         } else {
             let end = self.reached.len();
             self.reached.push(entry)?;
             self.place[entry.node] = end;
         }
-        self.late[entry.node] = entry.deadline;
-        Ok(())
+        self.late.set(entry.node, entry.deadline)
     }
 
     /// Returns true if a link to a node that is left in time before `before` needn't be taken: its sender is in no layer
@@ -81,9 +80,9 @@ impl<A: Allocator + Copy> Layers<A> {
     fn is_told(&self, aim: &Aim<'_, '_, '_, A>, head: SenderHead, before: u64) -> bool
         requires task { IsTask aim.now.task.now }
         requires arrivals { length aim.now.since.now ≡ length aim.now.task.now.table }
-        requires many { length self.now.late.items ≡ length aim.now.task.now.table }
+        requires many { length self.now.late ≡ length aim.now.task.now.table }
         requires node { head.node < length aim.now.task.now.table }
-        ensures { IsTrue result → IsToldByHead aim.now.task.now aim.now.since.now self.now.late.items head before }
+        ensures { IsTrue result → IsToldByHead aim.now.task.now aim.now.since.now self.now.late head before }
     {
         if before <= head.bounds.soonest {
             return true;
@@ -92,7 +91,7 @@ impl<A: Allocator + Copy> Layers<A> {
         if node == aim.task.start() {
             return false;
         }
-        let late = self.late[node];
+        let late = self.late.at(node);
         if rules_out(head.bounds, late, before) {
             return true;
         }
@@ -122,14 +121,14 @@ impl<A: Allocator + Copy> Layers<A> {
         requires arrivals { length aim.now.since.now ≡ length aim.now.task.now.table }
         requires few { length from.passes.now ≤ looks.old.left }
         requires given { (b : ℕ) → b < to.deadline → InTimeFor self.old.reached.items (slice_index self.old.ends.items left) (slice_index self.old.ends.items (left + 1)) to.node b }
-        requires lists { AreLateAfter aim.now.task.now aim.now.since.now self.old.ends.items left self.old.late.items self.old.place.items self.old.reached.items }
+        requires lists { AreLateAfter aim.now.task.now aim.now.since.now self.old.ends.items left self.old.late self.old.place.items self.old.reached.items }
         ensures ends { self.new.ends ≡ self.old.ends }
         ensures looks { looks.old.left ≤ looks.new.left + length from.entry.passes.now }
-        ensures lists { OnOk result (AreLateAfter aim.now.task.now aim.now.since.now self.old.ends.items left self.new.late.items self.new.place.items self.new.reached.items) }
+        ensures lists { OnOk result (AreLateAfter aim.now.task.now aim.now.since.now self.old.ends.items left self.new.late self.new.place.items self.new.reached.items) }
         ensures kept { OnOk result (take (slice_index self.old.ends.items (left + 1)) self.new.reached.items ≡ take (slice_index self.old.ends.items (left + 1)) self.old.reached.items) }
-        ensures rises { OnOk result ((k : ℕ) → slice_index self.old.late.items k ≤ slice_index self.new.late.items k) }
+        ensures rises { OnOk result ((k : ℕ) → slice_index self.old.late k ≤ slice_index self.new.late k) }
         ensures met { IfOk result (λ met. IsTrue met → (n : ℕ) × (b : ℕ) × Takes aim.now.task.now n aim.now.task.now.start aim.now.task.now.at to.node b × (b < to.deadline)) }
-        ensures told { IfOk result (λ met. met ≡ false → IsToldOver aim.now.task.now aim.now.since.now self.new.late.items from.entry.node from.entry.passes.now to.deadline) }
+        ensures told { IfOk result (λ met. met ≡ false → IsToldOver aim.now.task.now aim.now.since.now self.new.late from.entry.node from.entry.passes.now to.deadline) }
     {
         let task = aim.task;
         if from.node == task.start() {
@@ -142,7 +141,7 @@ impl<A: Allocator + Copy> Layers<A> {
         if task.shut()[from.node] {
             return Ok(false);
         }
-        let latest = self.late[from.node];
+        let latest = self.late.at(from.node);
         let since = aim.since.at(from.node);
         let link = WalkedLink {
             from: from.node,
@@ -179,15 +178,15 @@ impl<A: Allocator + Copy> Layers<A> {
         requires receiver { slice_index_or aim.now.task.now.shut to.node false ≡ false }
         requires arrivals { length aim.now.since.now ≡ length aim.now.task.now.table }
         requires given { (b : ℕ) → b < to.deadline → InTimeFor self.old.reached.items (slice_index self.old.ends.items left) (slice_index self.old.ends.items (left + 1)) to.node b }
-        requires lists { AreLateAfter aim.now.task.now aim.now.since.now self.old.ends.items left self.old.late.items self.old.place.items self.old.reached.items }
+        requires lists { AreLateAfter aim.now.task.now aim.now.since.now self.old.ends.items left self.old.late self.old.place.items self.old.reached.items }
         ensures ends { self.new.ends ≡ self.old.ends }
         ensures counted { looks.old.left ≤ looks.new.left + received aim.now.task.now to.node }
         ensures none { IfOk result (λ o. IfNone o (looks.old.left < received aim.now.task.now to.node)) }
-        ensures lists { OnOk result (AreLateAfter aim.now.task.now aim.now.since.now self.old.ends.items left self.new.late.items self.new.place.items self.new.reached.items) }
+        ensures lists { OnOk result (AreLateAfter aim.now.task.now aim.now.since.now self.old.ends.items left self.new.late self.new.place.items self.new.reached.items) }
         ensures kept { OnOk result (take (slice_index self.old.ends.items (left + 1)) self.new.reached.items ≡ take (slice_index self.old.ends.items (left + 1)) self.old.reached.items) }
-        ensures rises { OnOk result ((k : ℕ) → slice_index self.old.late.items k ≤ slice_index self.new.late.items k) }
+        ensures rises { OnOk result ((k : ℕ) → slice_index self.old.late k ≤ slice_index self.new.late k) }
         ensures met { IfOk result (λ o. o ≡ Some true → (n : ℕ) × (b : ℕ) × Takes aim.now.task.now n aim.now.task.now.start aim.now.task.now.at to.node b × (b < to.deadline)) }
-        ensures told { IfOk result (λ o. o ≡ Some false → (n u t b : ℕ) → Takes aim.now.task.now n u t to.node b → b < to.deadline → IsToldLate aim.now.task.now aim.now.since.now self.new.late.items u t) }
+        ensures told { IfOk result (λ o. o ≡ Some false → (n u t b : ℕ) → Takes aim.now.task.now n u t to.node b → b < to.deadline → IsToldLate aim.now.task.now aim.now.since.now self.new.late u t) }
     {
         let senders = aim.task.senders(to.node);
         for place in 0..senders.len() {
@@ -220,14 +219,14 @@ impl<A: Allocator + Copy> Layers<A> {
         requires bounded { left + 1 < length self.old.ends.items }
         requires goal { IfSome (slice_get self.old.reached.items 0) (λ e. e.node ≡ aim.now.task.now.goal) }
         requires apart { IsApart self.old.ends.items self.old.reached.items left }
-        requires lists { AreLateAfter aim.now.task.now aim.now.since.now self.old.ends.items left self.old.late.items self.old.place.items self.old.reached.items }
+        requires lists { AreLateAfter aim.now.task.now aim.now.since.now self.old.ends.items left self.old.late self.old.place.items self.old.reached.items }
         ensures ends { self.new.ends ≡ self.old.ends }
         ensures counted { looks.old.left ≤ looks.new.left + length aim.now.task.now.plan.contacts }
         ensures none { IfOk result (λ o. IfNone o (looks.old.left < length aim.now.task.now.plan.contacts)) }
-        ensures lists { OnOk result (AreLateAfter aim.now.task.now aim.now.since.now self.old.ends.items left self.new.late.items self.new.place.items self.new.reached.items) }
+        ensures lists { OnOk result (AreLateAfter aim.now.task.now aim.now.since.now self.old.ends.items left self.new.late self.new.place.items self.new.reached.items) }
         ensures kept { OnOk result (take (slice_index self.old.ends.items (left + 1)) self.new.reached.items ≡ take (slice_index self.old.ends.items (left + 1)) self.old.reached.items) }
         ensures met { IfOk result (λ o. o ≡ Some true → StartsInTime aim.now.task.now self.old.ends.items left self.old.reached.items) }
-        ensures told { IfOk result (λ o. o ≡ Some false → IsLayerTold aim.now.task.now aim.now.since.now self.old.ends.items left self.old.reached.items self.new.late.items) }
+        ensures told { IfOk result (λ o. o ≡ Some false → IsLayerTold aim.now.task.now aim.now.since.now self.old.ends.items left self.old.reached.items self.new.late) }
     {
         let first = self.ends[left];
         let begin = self.ends[left + 1];
@@ -250,13 +249,12 @@ impl<A: Allocator + Copy> Layers<A> {
         requires early { delivery < never }
         ensures ends { OnOk result (self.new.ends.items ≡ 0 ∷ 1 ∷ []) }
         ensures reached { OnOk result (self.new.reached.items ≡ record { node = task.now.goal; arrival = delivery; deadline = delivery + 1 } ∷ []) }
-        ensures place { OnOk result (self.new.place.items ≡ replicate (length task.now.shut) 0) }
-        ensures late { OnOk result (self.new.late.items ≡ replicate (length task.now.shut) 0) }
+        ensures place { OnOk result (length self.new.place.items ≡ length task.now.shut) }
+        ensures many { OnOk result (length self.new.late ≡ length task.now.shut) }
+        ensures none { OnOk result ((k : ℕ) → slice_index self.new.late k ≡ 0) }
     {
-        self.place.clear();
         self.place.resize(task.shut().len(), 0)?;
-        self.late.clear();
-        self.late.resize(task.shut().len(), 0)?;
+        self.late.begin(task.shut().len())?;
         self.reached.clear();
         self.reached.push(LayerEntry {
             node: task.goal(),

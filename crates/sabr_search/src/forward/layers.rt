@@ -8,6 +8,7 @@ ghost use Rattle.sabr_search.specs.layers.Lists.{IsPlaced, StayLinked, IsLayer, 
 ghost use Rattle.sabr_search.specs.questions.FirstSteps.{IsNoneBefore};
 ghost use Rattle.sabr_search.specs.layers.Made.{AreOpened, IsBestWithin};
 
+use crate::backward::seconds::Seconds;
 use crate::links::looks::Looks;
 use crate::links::over_link::{WalkedLink, link_passes};
 use crate::task::Task;
@@ -115,14 +116,14 @@ pub struct Layers<A: Allocator + Copy> {
     pub alloc: A,
     /// For each node, the least arrival so far.
     pub arrival: Vec<u64, A>,
-    /// For each node, the place of an entry, or 0.
+    /// For each node, the place of an entry; any place if it has none in layers made backward, and 0 in others.
     pub place: Vec<usize, A>,
     /// The entries, layer by layer; the first is the start.
     pub reached: Vec<LayerEntry, A>,
     /// Where each layer begins.
     pub bounds: Vec<usize, A>,
     /// For each node, the first second that is too late so far, in layers made backward.
-    pub late: Vec<u64, A>,
+    pub late: Seconds<A>,
     /// Where each of the layers made backward begins.
     pub ends: Vec<usize, A>,
 }
@@ -136,7 +137,7 @@ impl<A: Allocator + Copy> Layers<A> {
             place: Vec::new(alloc),
             reached: Vec::new(alloc),
             bounds: Vec::new(alloc),
-            late: Vec::new(alloc),
+            late: Seconds::new(alloc),
             ends: Vec::new(alloc),
         }
     }

@@ -1,6 +1,5 @@
-use Rattle.std.proofs.Common.{◌≡◌, inl, inr, slice_index, sym, ◌∙◌, arith}
+use Rattle.std.proofs.Common.{inl, inr, slice_index, sym, ◌∙◌, arith}
 use Rattle.std.proofs.lemmas.Bool.{cases_lt}
-use Rattle.sabr_search.proofs.ForwardLemmas.Between.{read_at}
 use Rattle.sabr_search.proofs.LinkLemmas.OverLinks.{ruled_out}
 use Rattle.sabr_search.proofs.forward.layers.Layers.is_told.Goals as goal
 
@@ -11,12 +10,11 @@ pub returns-then-rules_out : goal.returns-then-rules_out
 returns-then-rules_out g c = λ told to passes n t w b link has s less. (
   λ same since. absurd (c.if-node-start.false (same ∙ sym c.start.ensures)),
   λ unshut other soon.
-      (let latest : c.index-late.result.now ≡ slice_index c.args.self.now.late.items c.args.head.node = read_at c.args.self.now.late.items c.args.head.node c.index-late.result.now (omega (arith, c.requires.node, c.requires.many)) c.index-late.ensures in
-      elim (cases_lt t (slice_index c.args.self.now.late.items c.args.head.node)) [
+      elim (cases_lt t (slice_index c.args.self.now.late c.args.head.node)) [
         | inl before ↦ before
         | inr behind ↦
-            absurd (omega (arith, less, ruled_out c.args.aim.now.task.now c.requires.task c.args.head.node to passes link.0 c.args.head.bounds link.1 c.index-late.result.now c.args.before (c.rules_out.ensures.late c.if-rules_out.true) n t w b has (omega (arith, behind, latest)) s))
-      ]),
+            absurd (omega (arith, less, ruled_out c.args.aim.now.task.now c.requires.task c.args.head.node to passes link.0 c.args.head.bounds link.1 c.at-late.result c.args.before (c.rules_out.ensures.late c.if-rules_out.true) n t w b has (omega (arith, behind, c.at-late.ensures)) s))
+      ],
 )
 
 pub returns-then-node-goal : goal.returns-then-node-goal
@@ -29,10 +27,9 @@ pub returns : goal.returns
 returns g c = λ told to passes n t w b link has s less. (
   λ same since. absurd (c.if-node-start.false (same ∙ sym c.start.ensures)),
   λ unshut other soon.
-      (let latest : c.index-late.result.now ≡ slice_index c.args.self.now.late.items c.args.head.node = read_at c.args.self.now.late.items c.args.head.node c.index-late.result.now (omega (arith, c.requires.node, c.requires.many)) c.index-late.ensures in
-      elim (cases_lt t (slice_index c.args.self.now.late.items c.args.head.node)) [
+      elim (cases_lt t (slice_index c.args.self.now.late c.args.head.node)) [
         | inl before ↦ before
         | inr behind ↦
-            absurd (omega (arith, less, ruled_out c.args.aim.now.task.now c.requires.task c.args.head.node to passes link.0 c.args.head.bounds link.1 c.max.result c.args.before (c.rules_out-2.ensures.late told) n t w b has (omega (arith, behind, soon, latest, c.max.ensures, c.at.ensures)) s))
-      ]),
+            absurd (omega (arith, less, ruled_out c.args.aim.now.task.now c.requires.task c.args.head.node to passes link.0 c.args.head.bounds link.1 c.max.result c.args.before (c.rules_out-2.ensures.late told) n t w b has (omega (arith, behind, soon, c.at-late.ensures, c.max.ensures, c.at.ensures)) s))
+      ],
 )

@@ -10,7 +10,7 @@ loop-left-init g c =
     let first = c.in_ok-first_back.ensures in
     record {
       counted = omega arith;
-      made = late_first c.args.aim.now.task.now c.requires.task c.args.aim.now.since.now c.args.aim.now.delivery _ _ _ _ first.ends first.reached first.place first.late;
+      made = late_first c.args.aim.now.task.now c.requires.task c.args.aim.now.since.now c.args.aim.now.delivery _ _ _ _ first.ends first.reached first.place first.many first.none;
     }
 
 pub next_back-requires-clause-apart : goal.next_back-requires-clause-apart
@@ -30,7 +30,7 @@ returns-then-starts-clause-met g c =
     c.truncate.ensures.items ∙ ap (λ k. take k next.reached.items) (end ∙ ap (λ xs. slice_index xs (left + 1)) same_ends) ∙ c.in_ok-told.ensures.kept
     ∙ ap (λ k. take k old.reached.items) made.last_end ∙ take_whole old.reached.items in
     rw (same_ends, cut) (record {
-      late = old.late.items;
+      late = old.late;
       places = old.place.items;
       made = made;
       arrivals = c.requires.arrivals;
@@ -49,8 +49,8 @@ loop-left-preserved g c =
     let many : c.len-end.result ≡ length next.reached.items = omega (arith, c.len-end.ensures, next.reached.ok.0) in
     record {
       counted = omega (arith, c.next_back.ensures.counted, c.loop-left.invariant.counted);
-      made = late_next task c.requires.task c.args.aim.now.since.now c.args.aim.now.delivery left old.ends.items old.late.items old.place.items old.reached.items c.loop-left.invariant.made
-          c.push.new.self.items next.late.items next.place.items next.reached.items one.lists one.kept (one.told (c.in-Some.is ∙ ap Some c.if-starts.false))
+      made = late_next task c.requires.task c.args.aim.now.since.now c.args.aim.now.delivery left old.ends.items old.late old.place.items old.reached.items c.loop-left.invariant.made
+          c.push.new.self.items next.late next.place.items next.reached.items one.lists one.kept (one.told (c.in-Some.is ∙ ap Some c.if-starts.false))
           (c.in_ok-push.ensures.items ∙ ap (λ xs. xs ++ c.len-end.result ∷ []) same_ends ∙ ap (λ k. old.ends.items ++ k ∷ []) many);
     }
 
@@ -61,10 +61,10 @@ returns-then-index-clause-none g c =
     let made = c.loop-left.invariant.made in
     let empty : slice_index old.ends.items left ≡ slice_index old.ends.items (left + 1) =
     sym (read_at old.ends.items left c.index.result.now (omega (arith, made.many)) c.index.ensures) ∙ c.if-index.true ∙ read_at old.ends.items (left + 1) c.index-in-loop-left.result.now (omega (arith, made.many)) c.index-in-loop-left.ensures in
-    let none = none_by c.args.aim.now.task.now c.requires.task _ _ left old.ends.items old.late.items old.place.items old.reached.items made empty c.requires.arrivals in
+    let none = none_by c.args.aim.now.task.now c.requires.task _ _ left old.ends.items old.late old.place.items old.reached.items made empty c.requires.arrivals in
     inr (λ ns e le way. omega (arith, none ns e way))
 
 pub returns-clause-none : goal.returns-clause-none
 returns-clause-none g c =
     let old = c.loop-left.self in
-    inr (λ ns e le way. fewest c.args.aim.now.task.now c.requires.task _ _ c.loop-left.left old.ends.items old.late.items old.place.items old.reached.items c.loop-left.invariant.made c.requires.arrivals ns e (omega (arith, le, c.loop-left-test.false)) way)
+    inr (λ ns e le way. fewest c.args.aim.now.task.now c.requires.task _ _ c.loop-left.left old.ends.items old.late old.place.items old.reached.items c.loop-left.invariant.made c.requires.arrivals ns e (omega (arith, le, c.loop-left-test.false)) way)

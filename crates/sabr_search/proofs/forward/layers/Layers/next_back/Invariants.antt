@@ -8,7 +8,7 @@ abbrev pub invariant-loop-place : goal.invariant-loop-place
 invariant-loop-place g l = record {
   ends : l.self.ends ≡ l.fn.self.ends;
   counted : l.fn.looks.left ≤ l.looks.left + received_by_all l.aim.task.now (nodes_between l.fn.self.reached.items l.first l.place);
-  lists : AreLate l.aim.task.now l.aim.since.now (slice_index l.fn.self.ends.items l.left) (slice_index l.fn.self.ends.items (l.left + 1)) l.self.late.items l.self.place.items l.self.reached.items;
+  lists : AreLate l.aim.task.now l.aim.since.now (slice_index l.fn.self.ends.items l.left) (slice_index l.fn.self.ends.items (l.left + 1)) l.self.late l.self.place.items l.self.reached.items;
   kept : take (slice_index l.fn.self.ends.items (l.left + 1)) l.self.reached.items ≡ take (slice_index l.fn.self.ends.items (l.left + 1)) l.fn.self.reached.items;
-  told : AreTold l.aim.task.now l.aim.since.now l.fn.self.reached.items (slice_index l.fn.self.ends.items l.left) l.place l.self.late.items;
+  told : AreTold l.aim.task.now l.aim.since.now l.fn.self.reached.items (slice_index l.fn.self.ends.items l.left) l.place l.self.late;
 }

@@ -1,4 +1,5 @@
 use Rattle.std.proofs.Common.{◌≡◌, ◌<◌, ◌+◌, false, slice_index, slice_index_or, sym, ◌∙◌, arith, subst}
+use Rattle.std.proofs.lemmas.Option.{slice_get_within}
 use Rattle.sabr_search.specs.questions.Task.{Takes}
 use Rattle.sabr_search.proofs.ForwardLemmas.Between.{read_at}
 use Rattle.sabr_search.proofs.BackwardLemmas.Backward.{not_start}
@@ -17,32 +18,36 @@ pub returns-then-last-latest-clause-told : goal.returns-then-last-latest-clause-
 returns-then-last-latest-clause-told g c = λ not_met n t w b has s less. (
   λ same since. absurd (c.if-from-start.false (same ∙ sym c.start.ensures)),
   λ unshut other soon.
-      (let latest : c.index-latest.result.now ≡ slice_index c.args.self.now.late.items c.args.from.node = read_at c.args.self.now.late.items c.args.from.node c.index-latest.result.now (omega (arith, c.requires.node, c.requires.lists.many)) c.index-latest.ensures in
-      let sooner : t < c.leave_over-last.result = c.leave_over-last.ensures.full n t w b has (omega (arith, soon)) s less in
+      (let sooner : t < c.leave_over-last.result = c.leave_over-last.ensures.full n t w b has (omega (arith, soon)) s less in
       elim c.then-last-latest.branch [
-        | then-last-latest-via-then-last-latest z ↦ omega (arith, sooner, latest, z.if-last-latest.true)
+        | then-last-latest-via-then-last-latest z ↦ omega (arith, sooner, c.at-latest.ensures, z.if-last-latest.true)
         | then-last-latest-via-else-last-latest+then-last-since z ↦ absurd (omega (arith, sooner, soon, z.if-last-since.true))
       ]),
 )
 
+pub note_late-requires-clause-placed : goal.note_late-requires-clause-placed
+note_late-requires-clause-placed g c = λ some.
+    let own = c.args.self.now in
+    let node = c.args.from.node in
+    let top = c.requires.lists.top node c.requires.node some in
+    slice_get_within own.reached.items (slice_index own.place.items node) (record { node = node; arrival = top.0; deadline = slice_index own.late node }) top.1
+
 pub returns-clause-lists : goal.returns-clause-lists
 returns-clause-lists g c =
-    let latest : c.index-latest.result.now ≡ slice_index c.args.self.now.late.items c.args.from.node = read_at c.args.self.now.late.items c.args.from.node c.index-latest.result.now (omega (arith, c.requires.node, c.requires.lists.many)) c.index-latest.ensures in
     let begin : c.index-begin.result.now ≡ slice_index c.args.self.now.ends.items (c.args.left + 1) = read_at c.args.self.now.ends.items (c.args.left + 1) c.index-begin.result.now c.requires.bounded c.index-begin.ensures in
     rw c.in_ok-note_late.ensures.late
-    ((late_noted c.args.aim.now.task.now c.args.aim.now.since.now (slice_index c.args.self.now.ends.items c.args.left) (slice_index c.args.self.now.ends.items (c.args.left + 1)) c.args.self.now.late.items c.args.self.now.place.items c.args.self.now.reached.items c.requires.lists
-    c.args.from.node c.at-since.result c.leave_over-last.result c.requires.node (subst (λ xs. slice_index_or xs c.args.from.node false ≡ false) c.shut.ensures c.if-shut-from.false) (λ same. c.if-from-goal.false (same ∙ sym c.goal.ensures)) c.at-since.ensures (omega (arith, latest, c.if-last-latest.false))
-    (sound_back c.args.aim.now.task.now c.requires.task c.args.from.node c.args.to.node c.index-latest.result.now c.leave_over-last.result c.args.to.deadline (slice_index c.args.self.now.ends.items c.args.left) (slice_index c.args.self.now.ends.items (c.args.left + 1)) c.args.self.now.reached.items
+    ((late_noted c.args.aim.now.task.now c.args.aim.now.since.now (slice_index c.args.self.now.ends.items c.args.left) (slice_index c.args.self.now.ends.items (c.args.left + 1)) c.args.self.now.late c.args.self.now.place.items c.args.self.now.reached.items c.requires.lists
+    c.args.from.node c.at-since.result c.leave_over-last.result c.requires.node (subst (λ xs. slice_index_or xs c.args.from.node false ≡ false) c.shut.ensures c.if-shut-from.false) (λ same. c.if-from-goal.false (same ∙ sym c.goal.ensures)) c.at-since.ensures (omega (arith, c.at-latest.ensures, c.if-last-latest.false))
+    (sound_back c.args.aim.now.task.now c.requires.task c.args.from.node c.args.to.node c.at-latest.result c.leave_over-last.result c.args.to.deadline (slice_index c.args.self.now.ends.items c.args.left) (slice_index c.args.self.now.ends.items (c.args.left + 1)) c.args.self.now.reached.items
     (λ t from less. c.leave_over-last.ensures.sound t from less) c.if-last-latest.false c.requires.receiver c.requires.given)
     _ _ (rw begin at c.in_ok-note_late.ensures.noted)).0)
 
 pub returns-clause-kept : goal.returns-clause-kept
 returns-clause-kept g c =
-    let latest : c.index-latest.result.now ≡ slice_index c.args.self.now.late.items c.args.from.node = read_at c.args.self.now.late.items c.args.from.node c.index-latest.result.now (omega (arith, c.requires.node, c.requires.lists.many)) c.index-latest.ensures in
     let begin : c.index-begin.result.now ≡ slice_index c.args.self.now.ends.items (c.args.left + 1) = read_at c.args.self.now.ends.items (c.args.left + 1) c.index-begin.result.now c.requires.bounded c.index-begin.ensures in
-    (late_noted c.args.aim.now.task.now c.args.aim.now.since.now (slice_index c.args.self.now.ends.items c.args.left) (slice_index c.args.self.now.ends.items (c.args.left + 1)) c.args.self.now.late.items c.args.self.now.place.items c.args.self.now.reached.items c.requires.lists
-    c.args.from.node c.at-since.result c.leave_over-last.result c.requires.node (subst (λ xs. slice_index_or xs c.args.from.node false ≡ false) c.shut.ensures c.if-shut-from.false) (λ same. c.if-from-goal.false (same ∙ sym c.goal.ensures)) c.at-since.ensures (omega (arith, latest, c.if-last-latest.false))
-    (sound_back c.args.aim.now.task.now c.requires.task c.args.from.node c.args.to.node c.index-latest.result.now c.leave_over-last.result c.args.to.deadline (slice_index c.args.self.now.ends.items c.args.left) (slice_index c.args.self.now.ends.items (c.args.left + 1)) c.args.self.now.reached.items
+    (late_noted c.args.aim.now.task.now c.args.aim.now.since.now (slice_index c.args.self.now.ends.items c.args.left) (slice_index c.args.self.now.ends.items (c.args.left + 1)) c.args.self.now.late c.args.self.now.place.items c.args.self.now.reached.items c.requires.lists
+    c.args.from.node c.at-since.result c.leave_over-last.result c.requires.node (subst (λ xs. slice_index_or xs c.args.from.node false ≡ false) c.shut.ensures c.if-shut-from.false) (λ same. c.if-from-goal.false (same ∙ sym c.goal.ensures)) c.at-since.ensures (omega (arith, c.at-latest.ensures, c.if-last-latest.false))
+    (sound_back c.args.aim.now.task.now c.requires.task c.args.from.node c.args.to.node c.at-latest.result c.leave_over-last.result c.args.to.deadline (slice_index c.args.self.now.ends.items c.args.left) (slice_index c.args.self.now.ends.items (c.args.left + 1)) c.args.self.now.reached.items
     (λ t from less. c.leave_over-last.ensures.sound t from less) c.if-last-latest.false c.requires.receiver c.requires.given)
     _ _ (rw begin at c.in_ok-note_late.ensures.noted)).1
 
@@ -50,5 +55,5 @@ pub returns-clause-told : goal.returns-clause-told
 returns-clause-told g c = λ not_met n t w b has s less. (
   λ same since. absurd (c.if-from-start.false (same ∙ sym c.start.ensures)),
   λ unshut other soon.
-      rw c.in_ok-note_late.ensures.late (omega (arith, set_here c.args.self.now.late.items c.args.from.node c.leave_over-last.result (omega (arith, c.requires.node, c.requires.lists.many)), c.leave_over-last.ensures.full n t w b has (omega (arith, soon)) s less)),
+      rw c.in_ok-note_late.ensures.late (omega (arith, set_here c.args.self.now.late c.args.from.node c.leave_over-last.result (omega (arith, c.requires.node, c.requires.lists.many)), c.leave_over-last.ensures.full n t w b has (omega (arith, soon)) s less)),
 )
