@@ -1,7 +1,7 @@
 -- From the goal backward.
 pub mod Picks
 pub mod Backward
-pub mod Front
+pub mod LeastPicks
 pub mod LateLayers
 pub mod LateLists
 pub mod LateMade

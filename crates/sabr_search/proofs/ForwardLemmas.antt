@@ -2,7 +2,7 @@
 pub mod HopLayers
 pub mod Keys
 pub mod Forward
-pub mod Between
+pub mod LayerEntries
 pub mod MadeLayers
 pub mod Queues
 pub mod FirstWays

@@ -1,12 +1,12 @@
 -- Ways of a question, and routes of a part.
 pub mod Ways
 pub mod Chains
-pub mod Bridge
+pub mod RoutesAndWays
 pub mod Prefixes
 pub mod PartWays
 pub mod Least
 pub mod Courses
 pub mod Shortness
 pub mod FaultsOfPrefixes
-pub mod Since
+pub mod EarliestSeconds
 pub mod Staying

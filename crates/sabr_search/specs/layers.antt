@@ -1,6 +1,6 @@
 -- Layers by hops, forward and backward, arrivals in order, and the last seconds.
 pub mod Layers
-pub mod Front
+pub mod NumberOrder
 pub mod Lists
 pub mod Made
 pub mod Late

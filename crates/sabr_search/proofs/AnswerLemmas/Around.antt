@@ -7,7 +7,7 @@ use Rattle.sabr_search.specs.questions.Task.{SearchTask, HasNodes, IsBehind, IsO
 use Rattle.sabr_search.specs.questions.FirstSteps.{tabled_of}
 use Rattle.sabr_search.specs.layers.Reach.{Goes, IsBetween, AreLateFor, AreNearFor, cost_to}
 use Rattle.sabr_search.specs.layers.Settling.{IsBound}
-use Rattle.sabr_search.proofs.WayLemmas.Bridge.{takes_timely}
+use Rattle.sabr_search.proofs.WayLemmas.RoutesAndWays.{takes_timely}
 use Rattle.sabr_search.proofs.WayLemmas.Courses.{after_later}
 
 -- what is shut for fewer nodes

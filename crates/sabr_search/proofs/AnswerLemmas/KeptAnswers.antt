@@ -16,7 +16,7 @@ use Rattle.sabr_search.specs.answers.Answers.{narrowed, Narrows, HasNoWayWithin}
 use Rattle.sabr_search.specs.answers.KeptAnswers.{asked, AreListed, IsFoundWay, IsAnswer, Covers, IsAnswerTo, AnswersAt, IsPut, Arrives}
 use Rattle.sabr_search.proofs.WayLemmas.Staying.{answers_stay}
 use Rattle.sabr_search.proofs.WayLemmas.Ways.{Leads-append}
-use Rattle.sabr_search.proofs.WayLemmas.Bridge.{takes_timely}
+use Rattle.sabr_search.proofs.WayLemmas.RoutesAndWays.{takes_timely}
 
 -- contact n leads from node u to node w, if no node were shut and all were in time
 pub record Joins (task : SearchTask) (n u t w b : ℕ) : Type 0 where

@@ -13,7 +13,7 @@ use Rattle.sabr_model.proofs.ListLemmas.Members.{IsIn, in_map}
 use Rattle.sabr_model.proofs.RouteLemmas.Listed.{has_from_in}
 use Rattle.sabr_model.proofs.RouteLemmas.Routes.{route_facts}
 use Rattle.sabr_model.proofs.ListLemmas.Begins.{first_hop, receivers-cons}
-use Rattle.sabr_search.specs.layers.Front.{IsNotAfter}
+use Rattle.sabr_search.specs.layers.NumberOrder.{IsNotAfter}
 use Rattle.sabr_search.specs.questions.Part.{IsLeast}
 use Rattle.sabr_search.specs.layers.Picks.{IsLeastWay}
 use Rattle.sabr_search.specs.questions.Told.{IsTold}

@@ -13,7 +13,7 @@ use Rattle.sabr_search.specs.layers.Late.{AreSince}
 use Rattle.sabr_search.specs.layers.Reach.{AreSoonFor}
 use Rattle.sabr_search.proofs.WayLemmas.Prefixes.{IsPrefix}
 use Rattle.sabr_search.proofs.WayLemmas.Chains.{arrival_after-append, all_of, has_either}
-use Rattle.sabr_search.proofs.WayLemmas.Bridge.{same_some, way_from_chain, IsChain, chain_of_way}
+use Rattle.sabr_search.proofs.WayLemmas.RoutesAndWays.{same_some, way_from_chain, IsChain, chain_of_way}
 
 -- an empty list knows nothing
 pub none_soon : (p : TabledPlan) (r : RouteRequest) (soon : List ℕ) → soon ≡ [] → AreSoonFor p r soon

@@ -8,7 +8,7 @@ use Rattle.sabr_search.specs.layers.Made.{Entry}
 use Rattle.sabr_search.specs.layers.Late.{AreArrivals, AreLateLayers}
 use Rattle.sabr_search.specs.questions.FirstSteps.{IsNoneBefore}
 use Rattle.sabr_search.proofs.WayLemmas.Ways.{Leads-append, Leads-later}
-use Rattle.sabr_search.proofs.WayLemmas.Bridge.{takes_timely}
+use Rattle.sabr_search.proofs.WayLemmas.RoutesAndWays.{takes_timely}
 use Rattle.sabr_search.proofs.ForwardLemmas.FirstWays.{goal_other}
 use Rattle.sabr_search.proofs.ForwardLemmas.MadeLayers.{index_past}
 

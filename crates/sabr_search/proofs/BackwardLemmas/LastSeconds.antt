@@ -20,9 +20,9 @@ use Rattle.sabr_model.specs.routes.Arrival.{cost}
 use Rattle.sabr_search.specs.questions.Linked.{IsLinkWithin, HasNumber}
 use Rattle.sabr_search.proofs.LinkLemmas.Linking.{cost_rises}
 use Rattle.sabr_search.proofs.LinkLemmas.OverLinks.{over_pass, step_over}
-use Rattle.sabr_search.proofs.WayLemmas.Bridge.{same_some}
+use Rattle.sabr_search.proofs.WayLemmas.RoutesAndWays.{same_some}
 use Rattle.sabr_search.proofs.ForwardLemmas.Queues.{set_here, set_other, set_many}
-use Rattle.sabr_search.proofs.WayLemmas.Since.{same_everywhere, replicate_many}
+use Rattle.sabr_search.proofs.WayLemmas.EarliestSeconds.{same_everywhere, replicate_many}
 
 flag_off : (xs : List Bool) (k : ℕ) → slice_index_or (slice_set xs k false) k false ≡ false
 flag_off xs k = grind (arith, common_steps)

@@ -7,7 +7,7 @@ use Rattle.sabr_search.specs.questions.Task.{SearchTask, Takes, IsTask}
 use Rattle.sabr_search.specs.layers.Made.{Entry}
 use Rattle.sabr_search.specs.layers.Late.{AreArrivals, AreLateLayers, IsMet, IsNoneSooner}
 use Rattle.sabr_search.proofs.WayLemmas.Ways.{Leads-append, Leads-later}
-use Rattle.sabr_search.proofs.WayLemmas.Bridge.{takes_timely, same_some}
+use Rattle.sabr_search.proofs.WayLemmas.RoutesAndWays.{takes_timely, same_some}
 use Rattle.sabr_search.proofs.ForwardLemmas.FirstWays.{goal_other}
 use Rattle.sabr_search.proofs.BackwardLemmas.Backward.{way_open}
 use Rattle.sabr_search.proofs.ForwardLemmas.Forward.{last_or_before}

@@ -7,8 +7,8 @@ use Rattle.sabr_search.specs.declared.forward.layers.LayerEntry.{LayerEntry}
 use Rattle.sabr_search.specs.questions.Task.{SearchTask, Takes, IsTask}
 use Rattle.sabr_search.specs.layers.Late.{InTimeFor, IsLateEntry, AreLate, IsNotedLate, IsToldLate}
 use Rattle.sabr_search.proofs.BackwardLemmas.Backward.{get_set_here, get_set_other, set_other}
-use Rattle.sabr_search.proofs.ForwardLemmas.Between.{same_below}
-use Rattle.sabr_search.proofs.WayLemmas.Bridge.{takes_timely, same_some}
+use Rattle.sabr_search.proofs.ForwardLemmas.LayerEntries.{same_below}
+use Rattle.sabr_search.proofs.WayLemmas.RoutesAndWays.{takes_timely, same_some}
 use Rattle.sabr_search.proofs.ForwardLemmas.Queues.{set_here}
 
 pub get_push_here : {X : Type 0} (xs : List X) (y : X) → slice_get (xs ++ y ∷ []) (length xs) ≡ Some y

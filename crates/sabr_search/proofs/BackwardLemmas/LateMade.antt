@@ -9,7 +9,7 @@ use Rattle.sabr_search.specs.questions.Task.{SearchTask, Takes, IsTask}
 use Rattle.sabr_search.specs.layers.Made.{Entry}
 use Rattle.sabr_search.specs.layers.Seconds.{AreNamed}
 use Rattle.sabr_search.specs.layers.Late.{InTimeFor, AreLate, AreTold, IsToldBy, AreLateLayers, IsMet}
-use Rattle.sabr_search.proofs.ForwardLemmas.Between.{same_below}
+use Rattle.sabr_search.proofs.ForwardLemmas.LayerEntries.{same_below}
 use Rattle.sabr_search.proofs.ForwardLemmas.Forward.{last_or_before}
 use Rattle.sabr_search.proofs.ForwardLemmas.MadeLayers.{index_before, index_at, index_past, layer_of}
 

@@ -1,6 +1,6 @@
 use Rattle.std.proofs.Common.{◌≡◌, ◌⊎◌, inl, inr, ℕ, ◌+◌, ◌<◌, ◌≤◌, List, [], ◌∷◌, ◌++◌, length, refl, ap, arith, length-append}
 use Rattle.sabr_search.specs.questions.Ways.{StepRelation, Leads, IsTimely}
-use Rattle.sabr_search.specs.layers.Front.{IsNotAfter}
+use Rattle.sabr_search.specs.layers.NumberOrder.{IsNotAfter}
 use Rattle.sabr_search.proofs.WayLemmas.Ways.{Leads-append, Leads-split, Leads-later, Leads-earlier, Leads-one}
 
 le_cases : (i j : ℕ) → i ≤ j → (i < j) ⊎ (i ≡ j)

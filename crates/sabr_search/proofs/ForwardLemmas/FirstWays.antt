@@ -18,7 +18,7 @@ use Rattle.sabr_search.specs.layers.Made.{AreOpened}
 use Rattle.sabr_search.specs.layers.Settling.{IsBound, IsWaiting, AreBy, settled_count, AreArrivalsBy, sent_by_settled, IsQueue, AreSettling, IsFallen, AreSettledTaken, AreSettled, IsFirstWay, IsWayTo}
 use Rattle.sabr_search.proofs.WayLemmas.Ways.{Leads-later}
 use Rattle.sabr_search.proofs.LinkLemmas.Counts.{settled_more}
-use Rattle.sabr_search.proofs.WayLemmas.Bridge.{takes_timely}
+use Rattle.sabr_search.proofs.WayLemmas.RoutesAndWays.{takes_timely}
 use Rattle.sabr_search.proofs.AnswerLemmas.Law.{way_early}
 use Rattle.sabr_search.proofs.LinkLemmas.StepLists.{senders_length}
 use Rattle.sabr_search.proofs.ForwardLemmas.Queues.{flag_here, flag_other, flag_many, count_more, count_short, head_inside, head_other, head_way, settles}

@@ -10,7 +10,7 @@ use Rattle.sabr_search.specs.questions.Steps.{IsHopAt}
 use Rattle.sabr_model.specs.routes.Hops.{hop_arrival}
 use Rattle.sabr_search.specs.layers.Lists.{AreLists, IsLowered, IsKnown, Arrivals}
 use Rattle.sabr_search.proofs.LinkLemmas.PlanFacts.{hop_arrival_is}
-use Rattle.sabr_search.proofs.WayLemmas.Bridge.{same_some}
+use Rattle.sabr_search.proofs.WayLemmas.RoutesAndWays.{same_some}
 
 -- nothing was taken
 pub lowered_none : (shut : List Bool) (goal at begin : ℕ) (Given : Arrivals) (arrival place : List ℕ) (reached : List LayerEntry) (best : ℕ) →

@@ -14,9 +14,9 @@ use Rattle.sabr_search.specs.layers.Made.{Entry, AreLayers, IsBestWithin}
 use Rattle.sabr_search.specs.layers.Late.{IsNoneSooner}
 use Rattle.sabr_search.proofs.WayLemmas.Ways.{Leads-append, Leads-later}
 use Rattle.sabr_search.proofs.ForwardLemmas.HopLayers.{none_sooner}
-use Rattle.sabr_search.proofs.ForwardLemmas.Between.{same_below}
+use Rattle.sabr_search.proofs.ForwardLemmas.LayerEntries.{same_below}
 use Rattle.sabr_search.proofs.ForwardLemmas.Forward.{last_or_before}
-use Rattle.sabr_search.proofs.WayLemmas.Bridge.{takes_timely}
+use Rattle.sabr_search.proofs.WayLemmas.RoutesAndWays.{takes_timely}
 use Rattle.sabr_search.proofs.LinkLemmas.PlanFacts.{takes_early}
 
 -- reading a list with one element more

@@ -13,7 +13,7 @@ use Rattle.sabr_search.specs.layers.Lists.{AreClosed, IsKnown}
 use Rattle.sabr_search.specs.layers.Reach.{cost_to}
 use Rattle.sabr_search.specs.layers.Settling.{IsBound, IsWaiting, AreSettledBy, AreBy, settled_count, IsWayTo, IsQueue, IsFirst, AreSettling, IsFallen, AreSettledTaken}
 use Rattle.sabr_search.proofs.WayLemmas.Ways.{Leads-append}
-use Rattle.sabr_search.proofs.WayLemmas.Bridge.{takes_timely}
+use Rattle.sabr_search.proofs.WayLemmas.RoutesAndWays.{takes_timely}
 use Rattle.sabr_search.proofs.ForwardLemmas.Forward.{known_lower}
 
 -- a list of numbers after one is set

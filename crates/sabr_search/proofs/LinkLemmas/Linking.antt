@@ -18,7 +18,7 @@ use Rattle.sabr_search.specs.questions.Linked.{IsPassAt, IsLinkAt, passes_of, Ar
 use Rattle.sabr_search.proofs.LinkLemmas.Arrivals.{arrival_parts}
 use Rattle.sabr_search.proofs.LinkLemmas.StepLists.{place_is, sum_taken, sum_taken_le}
 use Rattle.sabr_model.proofs.ListLemmas.Different.{part_has, part_at}
-use Rattle.sabr_search.proofs.WayLemmas.Bridge.{same_some}
+use Rattle.sabr_search.proofs.WayLemmas.RoutesAndWays.{same_some}
 
 -- a node's contacts, by their senders or by their receivers, are as many as those of its place
 ends_few : (end : Contact → ℕ) (table : List ℕ) (u node : ℕ) → place_in table node ≡ u → (cs : List Contact) →

@@ -29,7 +29,7 @@ use Rattle.sabr_search.proofs.LinkLemmas.Arrivals.{arrival_parts}
 use Rattle.sabr_search.proofs.LinkLemmas.PlanFacts.{hop_small, light_small}
 use Rattle.sabr_search.proofs.ForwardLemmas.Forward.{hop_takes}
 use Rattle.sabr_search.proofs.LinkLemmas.Linking.{cost_rises}
-use Rattle.sabr_search.proofs.WayLemmas.Bridge.{same_some}
+use Rattle.sabr_search.proofs.WayLemmas.RoutesAndWays.{same_some}
 
 -- the default after the end of a list of passes
 abbrev pub no_pass : Pass

@@ -20,7 +20,7 @@ use Rattle.sabr_search.specs.declared.backward.pick.Standing.{Standing}
 use Rattle.sabr_search.specs.questions.Task.{SearchTask, HasNodes, IsTask, IsBehind, is_closed, task_of, most_nodes, latest_arrival}
 use Rattle.sabr_search.specs.questions.Course.{AreShut, IsStop, AreStops}
 use Rattle.sabr_search.proofs.LinkLemmas.Arrivals.{arrival_parts, arrives_later}
-use Rattle.sabr_search.proofs.WayLemmas.Bridge.{start_is_shut}
+use Rattle.sabr_search.proofs.WayLemmas.RoutesAndWays.{start_is_shut}
 use Rattle.sabr_search.proofs.WayLemmas.Chains.{has_append, first_arrival}
 use Rattle.sabr_search.proofs.LinkLemmas.PlanFacts.{hop_arrival_is, contact_window, light_small, cost_small}
 use Rattle.sabr_search.proofs.WayLemmas.Prefixes.{IsPrefix}

@@ -17,7 +17,7 @@ use Rattle.sabr_search.proofs.WayLemmas.Ways.{Leads-append}
 use Rattle.sabr_search.proofs.BackwardLemmas.Picks.{no_return}
 use Rattle.sabr_search.proofs.WayLemmas.Chains.{arrival_after-append, all_of, all_from, has_right, has_either}
 use Rattle.sabr_search.proofs.WayLemmas.Prefixes.{IsPrefix, goes_on-append, goes_on_parts}
-use Rattle.sabr_search.proofs.WayLemmas.Bridge.{takes_timely, way_from_chain, IsChain, opens_of, chain_of_way}
+use Rattle.sabr_search.proofs.WayLemmas.RoutesAndWays.{takes_timely, way_from_chain, IsChain, opens_of, chain_of_way}
 use Rattle.sabr_model.proofs.ListLemmas.Different.{different_append}
 use Rattle.sabr_model.proofs.RouteLemmas.Paths.{value_of}
 

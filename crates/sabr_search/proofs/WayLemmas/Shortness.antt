@@ -14,7 +14,7 @@ use Rattle.sabr_model.proofs.ListLemmas.Begins.{receivers-append, chain_end-appe
 use Rattle.sabr_search.specs.questions.Ways.{Leads}
 use Rattle.sabr_search.specs.questions.Task.{SearchTask, Takes, IsBehind, most_nodes}
 use Rattle.sabr_search.proofs.WayLemmas.Prefixes.{IsPrefix}
-use Rattle.sabr_search.proofs.WayLemmas.Bridge.{IsChain, opens_of, chain_of_way}
+use Rattle.sabr_search.proofs.WayLemmas.RoutesAndWays.{IsChain, opens_of, chain_of_way}
 use Rattle.sabr_search.proofs.WayLemmas.PartWays.{way_differs}
 use Rattle.sabr_search.proofs.LinkLemmas.StepLists.{few_different}
 use Rattle.sabr_search.proofs.AnswerLemmas.Law.{chain_few, contacts_few, prefix_few}

@@ -5,7 +5,7 @@ use Rattle.sabr_search.specs.questions.Task.{SearchTask, HasNodes, Takes}
 use Rattle.sabr_search.specs.layers.Picks.{IsLeastWay}
 use Rattle.sabr_search.specs.answers.Answers.{narrowed, Narrows, HasNoWayWithin, AnswersStay}
 use Rattle.sabr_search.proofs.WayLemmas.Ways.{Leads-earlier}
-use Rattle.sabr_search.proofs.WayLemmas.Bridge.{takes_timely}
+use Rattle.sabr_search.proofs.WayLemmas.RoutesAndWays.{takes_timely}
 
 module _ (task : SearchTask) (shut : List Bool) (at : ℕ) (nodes : HasNodes task.plan task.table) (narrows : Narrows task shut at) where
   -- what may be taken may be taken there

@@ -5,7 +5,7 @@ use Rattle.std.specs.declared.option.Option.TheVariants.{Some, None}
 use Rattle.sabr_search.specs.declared.forward.layers.LayerEntry.{LayerEntry}
 use Rattle.sabr_search.specs.declared.backward.pick.Step.{Step}
 use Rattle.sabr_search.specs.questions.Ways.{Leads}
-use Rattle.sabr_search.specs.layers.Front.{IsNotAfter}
+use Rattle.sabr_search.specs.layers.NumberOrder.{IsNotAfter}
 use Rattle.sabr_search.specs.questions.Task.{SearchTask, Takes}
 use Rattle.sabr_search.specs.layers.Deadlines.{IsInTime}
 

@@ -5,7 +5,7 @@ use Rattle.std.proofs.lemmas.Grind.{common_steps}
 use Rattle.sabr_search.specs.questions.Task.{SearchTask, IsTask, never}
 use Rattle.sabr_search.specs.layers.Made.{AreOpened}
 use Rattle.sabr_search.specs.answers.KeptAnswers.{AreListed}
-use Rattle.sabr_search.proofs.WayLemmas.Bridge.{same_some}
+use Rattle.sabr_search.proofs.WayLemmas.RoutesAndWays.{same_some}
 use Rattle.sabr_search.proofs.ForwardLemmas.Forward.{last_or_before}
 use Rattle.sabr_search.proofs.forward.layers.open_nodes.Goals as goal
 

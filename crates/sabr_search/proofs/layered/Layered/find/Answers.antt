@@ -1,5 +1,5 @@
 use Rattle.std.proofs.Common.{◌≡◌, length, replicate, ap, sym, ◌∙◌, arith}
-use Rattle.sabr_search.proofs.WayLemmas.Since.{arrivals_since, filled}
+use Rattle.sabr_search.proofs.WayLemmas.EarliestSeconds.{arrivals_since, filled}
 use Rattle.std.specs.Option.{option_map}
 use Rattle.sabr_model.specs.routes.Record.{record_of}
 use Rattle.sabr_model.specs.plan.Table.{node_count}

@@ -2,7 +2,7 @@ use Rattle.std.proofs.Common.{ℕ, ◌+◌, ◌*◌, ◌<◌, ◌≤◌, Option,
 use Rattle.std.specs.Prelude.{IfOk, IfSome, IfNone}
 use Rattle.std.specs.declared.result.Result.{Result}
 use Rattle.std.specs.declared.result.Result.TheVariants.{Ok, Err}
-use Rattle.sabr_search.proofs.WayLemmas.Since.{arrivals_lowered}
+use Rattle.sabr_search.proofs.WayLemmas.EarliestSeconds.{arrivals_lowered}
 use Rattle.sabr_search.proofs.search.Search.run.Goals as goal
 
 pub returns-then-first-eq0-clause-found : goal.returns-then-first-eq0-clause-found

@@ -7,7 +7,7 @@ use Rattle.sabr_search.proofs.ForwardLemmas.Forward.{step_of_hop, last_or_before
 use Rattle.sabr_search.proofs.LinkLemmas.OverLinks.{no_pass, none_ended, none_excluded, least_light_small, late_over, ruled_out, pass_takes, step_at, step_over}
 use Rattle.sabr_search.proofs.task.Task.arrive_over.Goals as goal
 use Rattle.sabr_search.proofs.task.Task.arrive_over.Goals.{in-Some+else-is_soonest, in_default}
-use Rattle.sabr_search.proofs.WayLemmas.Bridge.{same_some}
+use Rattle.sabr_search.proofs.WayLemmas.RoutesAndWays.{same_some}
 
 pub returns-then-rules_out-clause-full : goal.returns-then-rules_out-clause-full
 returns-then-rules_out-clause-full g c = λ n w b has s.

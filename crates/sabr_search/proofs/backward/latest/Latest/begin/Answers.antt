@@ -1,5 +1,5 @@
 use Rattle.std.proofs.Common.{◌≡◌, false, length, replicate, refl, ap, ◌∙◌, arith}
-use Rattle.sabr_search.proofs.WayLemmas.Since.{filled}
+use Rattle.sabr_search.proofs.WayLemmas.EarliestSeconds.{filled}
 use Rattle.sabr_search.proofs.backward.latest.Latest.begin.Goals as goal
 
 pub returns : goal.returns

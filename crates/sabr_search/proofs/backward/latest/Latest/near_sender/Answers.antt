@@ -1,8 +1,8 @@
 use Rattle.std.proofs.Common.{◌≡◌, ◌+◌, ◌≤◌, min, true, false, slice_index, slice_index_or, ap, sym, subst, ◌∙◌, inl, arith}
 use Rattle.std.proofs.lemmas.Bool.{both_ways}
 use Rattle.sabr_model.specs.routes.Arrival.{RouteRequest, cost}
-use Rattle.sabr_search.proofs.ForwardLemmas.Between.{read_at}
-use Rattle.sabr_search.proofs.WayLemmas.Bridge.{takes_timely}
+use Rattle.sabr_search.proofs.ForwardLemmas.LayerEntries.{read_at}
+use Rattle.sabr_search.proofs.WayLemmas.RoutesAndWays.{takes_timely}
 use Rattle.sabr_search.proofs.LinkLemmas.OverLinks.{ruled_out}
 use Rattle.sabr_search.proofs.BackwardLemmas.LastSeconds.{risen, late_rises, still_near, over_bounds}
 use Rattle.sabr_search.proofs.ForwardLemmas.Queues.{set_here, set_other}

@@ -1,8 +1,8 @@
 use Rattle.std.proofs.Common.{◌≡◌, inl, inr, slice_get, sym, ap, ◌∙◌, arith}
 use Rattle.std.proofs.lemmas.Option.{slice_get_within}
 use Rattle.sabr_index.specs.Links.{SentLink}
-use Rattle.sabr_search.proofs.ForwardLemmas.Between.{read_at}
-use Rattle.sabr_search.proofs.WayLemmas.Bridge.{same_some}
+use Rattle.sabr_search.proofs.ForwardLemmas.LayerEntries.{read_at}
+use Rattle.sabr_search.proofs.WayLemmas.RoutesAndWays.{same_some}
 use Rattle.sabr_search.proofs.ForwardLemmas.Forward.{last_or_before}
 use Rattle.sabr_search.proofs.BackwardLemmas.LastSeconds.{near_later}
 use Rattle.sabr_search.proofs.backward.latest.Latest.near_senders.Goals as goal

@@ -1,8 +1,8 @@
 use Rattle.std.proofs.Common.{◌≡◌, true, false, slice_index, slice_index_or, ap, sym, subst, ◌∙◌, arith}
 use Rattle.std.proofs.lemmas.Bool.{both_ways}
 use Rattle.sabr_search.proofs.BackwardLemmas.Backward.{not_start}
-use Rattle.sabr_search.proofs.ForwardLemmas.Between.{read_at}
-use Rattle.sabr_search.proofs.WayLemmas.Bridge.{takes_timely}
+use Rattle.sabr_search.proofs.ForwardLemmas.LayerEntries.{read_at}
+use Rattle.sabr_search.proofs.WayLemmas.RoutesAndWays.{takes_timely}
 use Rattle.sabr_search.proofs.BackwardLemmas.LastSeconds.{risen, late_rises, still_taken}
 use Rattle.sabr_search.proofs.ForwardLemmas.Queues.{set_here, set_other}
 use Rattle.sabr_search.proofs.backward.latest.Latest.take_sender.Goals as goal

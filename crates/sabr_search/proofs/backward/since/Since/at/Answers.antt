@@ -1,5 +1,5 @@
 use Rattle.std.proofs.Common.{arith}
-use Rattle.sabr_search.proofs.WayLemmas.Since.{since_many, since_read}
+use Rattle.sabr_search.proofs.WayLemmas.EarliestSeconds.{since_many, since_read}
 use Rattle.sabr_search.proofs.backward.since.Since.at.Goals as goal
 
 pub returns : goal.returns

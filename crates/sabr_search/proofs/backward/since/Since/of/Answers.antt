@@ -1,5 +1,5 @@
 use Rattle.std.proofs.Common.{[], length, arith}
-use Rattle.sabr_search.proofs.WayLemmas.Since.{since_many, since_most}
+use Rattle.sabr_search.proofs.WayLemmas.EarliestSeconds.{since_many, since_most}
 use Rattle.sabr_search.proofs.backward.since.Since.of.Goals as goal
 
 pub returns-clause-many : goal.returns-clause-many

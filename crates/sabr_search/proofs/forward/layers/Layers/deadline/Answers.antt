@@ -1,6 +1,6 @@
 use Rattle.std.proofs.Common.{◌≡◌, ◌+◌, length, slice_index, refl, arith}
 use Rattle.std.proofs.lemmas.Option.{slice_get_read}
-use Rattle.sabr_search.proofs.ForwardLemmas.Between.{read_at}
+use Rattle.sabr_search.proofs.ForwardLemmas.LayerEntries.{read_at}
 use Rattle.sabr_search.proofs.BackwardLemmas.Backward.{deadline_in, deadline_other}
 use Rattle.sabr_search.proofs.forward.layers.Layers.deadline.Goals as goal
 

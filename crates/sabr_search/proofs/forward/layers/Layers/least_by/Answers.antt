@@ -1,5 +1,5 @@
 use Rattle.std.proofs.Common.{◌+◌, length, ap, arith, inl, inr}
-use Rattle.sabr_search.proofs.BackwardLemmas.Front.{least_way}
+use Rattle.sabr_search.proofs.BackwardLemmas.LeastPicks.{least_way}
 use Rattle.sabr_search.proofs.forward.layers.Layers.least_by.Goals as goal
 
 pub returns-in_default-clause-none : goal.returns-in_default-clause-none

@@ -1,7 +1,7 @@
 use Rattle.std.proofs.Common.{inl, inr, slice_index_or, arith}
 use Rattle.std.proofs.lemmas.Option.{slice_get_within}
 use Rattle.sabr_search.proofs.ForwardLemmas.Forward.{last_or_before}
-use Rattle.sabr_search.proofs.BackwardLemmas.Front.{least_found, least_missing}
+use Rattle.sabr_search.proofs.BackwardLemmas.LeastPicks.{least_found, least_missing}
 use Rattle.sabr_search.proofs.LinkLemmas.OverLinks.{link_here, link_by_place, no_link, chosen_from}
 use Rattle.sabr_search.proofs.forward.layers.Layers.least_step.Goals as goal
 

@@ -1,6 +1,6 @@
 use Rattle.std.proofs.Common.{◌≡◌, ◌+◌, ◌++◌, [], ◌∷◌, inl, inr, length, slice_index, ap, ◌∙◌, refl, arith}
 use Rattle.sabr_search.specs.layers.Made.{AreLayers}
-use Rattle.sabr_search.proofs.ForwardLemmas.Between.{read_at}
+use Rattle.sabr_search.proofs.ForwardLemmas.LayerEntries.{read_at}
 use Rattle.sabr_search.proofs.ForwardLemmas.MadeLayers.{layers_next, best_within, least_within, least_of_all, sources_of, index_before}
 use Rattle.sabr_search.proofs.forward.layers.Layers.make.Given.{Over}
 use Rattle.sabr_search.proofs.forward.layers.Layers.make.Goals.{In_ok-push, then-delivery-best, else-delivery-best}

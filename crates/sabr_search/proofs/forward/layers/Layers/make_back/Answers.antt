@@ -1,5 +1,5 @@
 use Rattle.std.proofs.Common.{◌≡◌, inr, ◌+◌, ◌++◌, [], ◌∷◌, Some, length, take, slice_index, ap, sym, ◌∙◌, arith}
-use Rattle.sabr_search.proofs.ForwardLemmas.Between.{read_at}
+use Rattle.sabr_search.proofs.ForwardLemmas.LayerEntries.{read_at}
 use Rattle.sabr_search.proofs.BackwardLemmas.LateMade.{late_first, late_next, met_at, take_whole}
 use Rattle.sabr_search.proofs.BackwardLemmas.Ended.{none_by}
 use Rattle.sabr_search.proofs.BackwardLemmas.LateLayers.{fewest}

@@ -2,11 +2,11 @@ use Rattle.std.proofs.Common.{◌≡◌, ◌+◌, ◌<◌, ◌≤◌, ℕ, inl, 
 use Rattle.sabr_search.specs.questions.Steps.{received, received_by_all}
 use Rattle.sabr_search.specs.layers.Lists.{nodes_between}
 use Rattle.sabr_search.specs.layers.Late.{InTimeFor}
-use Rattle.sabr_search.proofs.ForwardLemmas.Between.{entry_read, received_next, received_within, received_at_most, read_at}
+use Rattle.sabr_search.proofs.ForwardLemmas.LayerEntries.{entry_read, received_next, received_within, received_at_most, read_at}
 use Rattle.sabr_search.proofs.ForwardLemmas.Forward.{last_or_before}
 use Rattle.sabr_search.proofs.BackwardLemmas.LateLists.{in_time_kept, told_rises}
 use Rattle.sabr_search.proofs.BackwardLemmas.LateMade.{open_entry}
-use Rattle.sabr_search.proofs.WayLemmas.Bridge.{same_some}
+use Rattle.sabr_search.proofs.WayLemmas.RoutesAndWays.{same_some}
 use Rattle.sabr_search.proofs.forward.layers.Layers.next_back.Given.{Over}
 use Rattle.sabr_search.proofs.forward.layers.Layers.next_back.Goals.{After-index-to}
 use Rattle.sabr_search.proofs.forward.layers.Layers.next_back.Goals as goal

@@ -2,7 +2,7 @@ use Rattle.std.proofs.Common.{◌≤◌, ◌+◌, ◌-◌, [], length, arith}
 use Rattle.std.proofs.lemmas.Option.{slice_get_within}
 use Rattle.sabr_search.specs.layers.Late.{AreMet}
 use Rattle.sabr_search.specs.layers.Picks.{IsLeastStep}
-use Rattle.sabr_search.proofs.BackwardLemmas.Front.{IsFront, ends_below, entries_open, front_none, some_step, front_more, front_all, met_place, degree_at_most}
+use Rattle.sabr_search.proofs.BackwardLemmas.LeastPicks.{IsFront, ends_below, entries_open, front_none, some_step, front_more, front_all, met_place, degree_at_most}
 use Rattle.sabr_search.proofs.ForwardLemmas.MadeLayers.{layer_more}
 use Rattle.sabr_search.proofs.forward.layers.Layers.pick.Given.{Over}
 use Rattle.sabr_search.proofs.forward.layers.Layers.pick.Goals.{After-point_at, After-links-links}

@@ -1,6 +1,6 @@
 use Rattle.std.proofs.Common.{◌+◌, ◌*◌, ◌≤◌, ◌<◌, length}
 use Rattle.sabr_search.specs.layers.Late.{AreMet}
-use Rattle.sabr_search.proofs.BackwardLemmas.Front.{IsFront}
+use Rattle.sabr_search.proofs.BackwardLemmas.LeastPicks.{IsFront}
 use Rattle.sabr_search.proofs.forward.layers.Layers.pick.Given as goal
 
 abbrev pub invariant-loop-hop : goal.invariant-loop-hop

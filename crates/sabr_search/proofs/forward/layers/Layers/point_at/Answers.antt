@@ -1,6 +1,6 @@
 use Rattle.std.proofs.Common.{◌≡◌, ◌<◌, ◌+◌, Some, length, slice_index, slice_get, refl, ◌∙◌, arith}
 use Rattle.std.proofs.lemmas.Option.{slice_get_read}
-use Rattle.sabr_search.proofs.ForwardLemmas.Between.{read_at}
+use Rattle.sabr_search.proofs.ForwardLemmas.LayerEntries.{read_at}
 use Rattle.sabr_search.proofs.BackwardLemmas.Backward.{pointed_more}
 use Rattle.sabr_search.proofs.forward.layers.Layers.point_at.Goals as goal
 use Rattle.sabr_search.proofs.ForwardLemmas.Queues.{set_many}

@@ -1,7 +1,7 @@
 use Rattle.std.proofs.Common.{◌≡◌, ◌<◌, ◌+◌, false, slice_index, slice_index_or, sym, ◌∙◌, arith, subst}
 use Rattle.std.proofs.lemmas.Option.{slice_get_within}
 use Rattle.sabr_search.specs.questions.Task.{Takes}
-use Rattle.sabr_search.proofs.ForwardLemmas.Between.{read_at}
+use Rattle.sabr_search.proofs.ForwardLemmas.LayerEntries.{read_at}
 use Rattle.sabr_search.proofs.BackwardLemmas.Backward.{not_start}
 use Rattle.sabr_search.proofs.BackwardLemmas.LateLists.{late_noted, sound_back}
 use Rattle.sabr_search.proofs.forward.layers.Layers.take_sender.Goals as goal

@@ -6,7 +6,7 @@ use Rattle.sabr_search.proofs.BackwardLemmas.LateLists.{in_time_kept, told_rises
 use Rattle.sabr_search.proofs.LinkLemmas.Linking.{passes_within}
 use Rattle.sabr_search.proofs.LinkLemmas.StepLists.{sum_taken_le}
 use Rattle.sabr_search.proofs.forward.layers.Layers.take_senders.Goals as goal
-use Rattle.sabr_search.proofs.WayLemmas.Bridge.{same_some}
+use Rattle.sabr_search.proofs.WayLemmas.RoutesAndWays.{same_some}
 
 pub take_sender-requires-clause-link : goal.take_sender-requires-clause-link
 take_sender-requires-clause-link g c = (c.senders-senders.ensures.each c.loop-place.place (record { sender = c.at-from.result.node; passes = c.at-from.result.passes.now }) c.at-from.ensures.link, c.at-from.ensures.bounds)

@@ -1,5 +1,5 @@
 use Rattle.std.proofs.Common.{arith}
-use Rattle.sabr_search.proofs.BackwardLemmas.Front.{degree_at_most}
+use Rattle.sabr_search.proofs.BackwardLemmas.LeastPicks.{degree_at_most}
 use Rattle.sabr_search.proofs.forward.settling.Settling.run.Goals as goal
 
 pub returns-in_err-whole-clause-counted : goal.returns-in_err-whole-clause-counted

@@ -2,7 +2,7 @@ use Rattle.std.proofs.Common.{◌≡◌, ◌<◌, length, slice_index_or, false,
 use Rattle.std.proofs.lemmas.List.Sorted.{length_permutation}
 use Rattle.sabr_search.proofs.ForwardLemmas.Queues.{head_inside, head_few, waits_later, queue_stale}
 use Rattle.sabr_search.proofs.ForwardLemmas.FirstWays.{start_sent, next_most, next_way, next_state, next_counted, next_settled, settled_stale, first_found, arrivals_found, read_flag}
-use Rattle.sabr_search.proofs.ForwardLemmas.Between.{read_at}
+use Rattle.sabr_search.proofs.ForwardLemmas.LayerEntries.{read_at}
 use Rattle.sabr_search.proofs.forward.settling.Settling.settle_all.Goals as goal
 
 pub loop-event-init : goal.loop-event-init

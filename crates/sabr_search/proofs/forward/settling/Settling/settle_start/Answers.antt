@@ -2,7 +2,7 @@ use Rattle.std.proofs.Common.{◌≡◌, inl, inr, [], refl, Some, slice_get, sl
 use Rattle.std.proofs.lemmas.Option.{slice_get-get_or, slice_get_within}
 use Rattle.sabr_search.specs.declared.backward.pick.Standing.{Standing}
 use Rattle.sabr_search.specs.questions.Task.{never}
-use Rattle.sabr_search.proofs.WayLemmas.Bridge.{same_some}
+use Rattle.sabr_search.proofs.WayLemmas.RoutesAndWays.{same_some}
 use Rattle.sabr_search.proofs.ForwardLemmas.Forward.{known_lower, known_old, known_later, last_or_before}
 use Rattle.sabr_search.proofs.ForwardLemmas.FirstWays.{start_settled}
 use Rattle.sabr_search.proofs.ForwardLemmas.Queues.{fallen_more}

@@ -9,7 +9,7 @@ use Rattle.sabr_search.specs.layers.Since.{since_at, since_of}
 use Rattle.sabr_search.specs.layers.Settling.{AreArrivalsBy}
 use Rattle.sabr_search.proofs.WayLemmas.Ways.{Leads-later}
 use Rattle.sabr_search.proofs.ForwardLemmas.MadeLayers.{index_past}
-use Rattle.sabr_search.proofs.WayLemmas.Bridge.{takes_timely}
+use Rattle.sabr_search.proofs.WayLemmas.RoutesAndWays.{takes_timely}
 
 pub same_everywhere : (n x k : ℕ) → slice_index (replicate n x) k ≤ x
 same_everywhere zero x k = omega arith

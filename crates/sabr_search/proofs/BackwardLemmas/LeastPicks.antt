@@ -6,7 +6,7 @@ use Rattle.std.proofs.lemmas.List.Sums.{count_by-le-length}
 use Rattle.sabr_search.specs.declared.forward.layers.LayerEntry.{LayerEntry}
 use Rattle.sabr_search.specs.declared.backward.pick.Step.{Step}
 use Rattle.sabr_search.specs.questions.Ways.{Leads}
-use Rattle.sabr_search.specs.layers.Front.{IsNotAfter}
+use Rattle.sabr_search.specs.layers.NumberOrder.{IsNotAfter}
 use Rattle.sabr_search.specs.questions.Task.{SearchTask, Takes, IsTask}
 use Rattle.sabr_search.specs.questions.Steps.{degree, senders}
 use Rattle.sabr_search.specs.layers.Late.{AreMet, AreOpen, IsNoneSooner}
@@ -14,7 +14,7 @@ use Rattle.sabr_search.specs.layers.Deadlines.{IsInTime}
 use Rattle.sabr_search.specs.layers.Picks.{IsAtMost, IsLeastStep, IsPicked, IsLeastWay}
 use Rattle.sabr_search.proofs.WayLemmas.Ways.{Leads-append}
 use Rattle.sabr_search.proofs.BackwardLemmas.Picks.{least_from_front}
-use Rattle.sabr_search.proofs.WayLemmas.Bridge.{takes_timely}
+use Rattle.sabr_search.proofs.WayLemmas.RoutesAndWays.{takes_timely}
 use Rattle.sabr_search.proofs.BackwardLemmas.Backward.{bounds_rise}
 use Rattle.sabr_search.proofs.BackwardLemmas.LateLayers.{rest, placed_at, fewest, way_of}
 use Rattle.sabr_search.proofs.BackwardLemmas.LateMade.{open_entry}
