@@ -12,7 +12,7 @@ ghost use Rattle.std.specs.Option.{option_copied};
 ghost use Rattle.sabr_frontier.specs.declared.loader.load_fault.LoadFault.{LoadFault};
 ghost use Rattle.sabr_frontier.specs.declared.loader.load_fault.LoadFault.TheVariants as load;
 ghost use Rattle.sabr_frontier.specs.listing.Listing.{IsState};
-ghost use Rattle.sabr_frontier.specs.loading.Loading.{IsRefusedBy, part_refusal, session_with, state_with, with_part};
+ghost use Rattle.sabr_frontier.specs.loading.Loading.{IsRefusedBy, refusal_by, session_with, state_with, with_part};
 ghost use Rattle.sabr_frontier.specs.listing.State.{part_with};
 
 use crate::giving::asker::Asker;
@@ -86,8 +86,12 @@ impl<'p, B: BestOf<A>, A: Allocator + Copy> Loader<'p, B, A> {
         excluded: &[u32],
         route: Option<&[u32]>,
     ) -> Result<(), LoadFault>
-        ensures refused { (f : LoadFault) → part_refusal self.old.plan.plan self.old.request self.old.parts (part_with prefix.now excluded.now (option_copied route.entry)) ≡ Some f → result ≡ Err f }
-        ensures accepted { part_refusal self.old.plan.plan self.old.request self.old.parts (part_with prefix.now excluded.now (option_copied route.entry)) ≡ None → IsOkUnless result load.NoMemory }
+
+        // It is refused for the first reason that holds, and else is added, or memory was refused.
+        ensures refused { (f : LoadFault) → refusal_by self.old (part_with prefix.now excluded.now (option_copied route.entry)) ≡ Some f → result ≡ Err f }
+        ensures accepted { refusal_by self.old (part_with prefix.now excluded.now (option_copied route.entry)) ≡ None → IsOkUnless result load.NoMemory }
+
+        // It stands after the others. After a refusal all is as before.
         ensures ok { OnOk result (self.new ≡ with_part self.old (part_with prefix.now excluded.now (option_copied route.entry))) }
         ensures err { OnErr result (self.new ≡ self.old) }
     {
@@ -95,16 +99,9 @@ impl<'p, B: BestOf<A>, A: Allocator + Copy> Loader<'p, B, A> {
             return Err(LoadFault::BadOrder);
         }
         let due = self.held.due(&self.question, prefix);
-        let route = match carried(&self.question, prefix, excluded, due, route) {
-            Ok(route) => route,
-            Err(fault) => return Err(fault),
-        };
-        let taken = self
-            .held
-            .take_in(&self.question, prefix, excluded, due, route);
-        let Ok(()) = taken else {
-            return Err(LoadFault::NoMemory);
-        };
+        let route = carried(&self.question, prefix, excluded, due, route)?;
+        self.held
+            .take_in(&self.question, prefix, excluded, due, route)?;
         Ok(())
     }
 
@@ -127,12 +124,8 @@ impl<'p, B: BestOf<A>, A: Allocator + Copy> Loader<'p, B, A> {
         let Some(last) = last_place(self.held.leaves.as_slice(), emitted, last) else {
             return Err(LoadFault::BadCount);
         };
-        let Ok(tree) = self.held.into_tree(self.question.alloc(), last) else {
-            return Err(LoadFault::NoMemory);
-        };
-        let Ok(asker) = Asker::new(self.question, self.finder) else {
-            return Err(LoadFault::NoMemory);
-        };
+        let tree = self.held.into_tree(self.question.alloc(), last)?;
+        let asker = Asker::new(self.question, self.finder)?;
         Ok(Session::of_tree(asker, tree))
     }
 }

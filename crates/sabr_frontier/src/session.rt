@@ -1,16 +1,16 @@
 //! A session over a listing of routes: the next routes a page at a time, and back.
 
-ghost use Rattle.std.specs.Prelude.{◌≡◌, ◌≢◌, ℕ, ◌+◌, ◌^◌, ◌<◌, ◌≤◌, ◌⊎◌, ◌↔◌, ◌∷◌, ◌++◌, [], map, length, is_some, None, IfOk, OnOk, OnErr, IsOk, IsTrue, IsFalse};
+ghost use Rattle.std.specs.Prelude.{◌≡◌, ◌≢◌, ℕ, ◌+◌, ◌^◌, ◌<◌, ◌≤◌, ◌⊎◌, ◌↔◌, ◌∷◌, [], map, length, is_some, None, IfOk, OnOk, OnErr, IsOk, IsTrue, IsFalse};
 ghost use Rattle.sabr_model.specs.plan.Plan.{IsPlan};
 ghost use Rattle.sabr_model.specs.routes.Asking.{IsRequest};
 ghost use Rattle.sabr_model.specs.routes.Record.{record_of};
 ghost use Rattle.sabr_frontier.specs.listing.Fresh.{GivesNewRoutes};
-ghost use Rattle.sabr_frontier.specs.listing.Listing.{most_routes, next_route, searches_in, state_at, steps};
-ghost use Rattle.sabr_frontier.specs.session.Session.{former_then, told_part};
+ghost use Rattle.sabr_frontier.specs.listing.Listing.{most_routes, next_route, state_at};
+ghost use Rattle.sabr_frontier.specs.session.Session.{former_then, next_page, page_searches, session_over, seen_part, started};
 ghost use Rattle.sabr_frontier.specs.tree.Shape.{shape_of, shown};
 ghost use Rattle.sabr_frontier.specs.tree.Sound.{IsTree};
 ghost use Rattle.sabr_frontier.specs.tree.Undo.{IsRoomy};
-ghost use Rattle.sabr_frontier.specs.session.Views.{told_left};
+ghost use Rattle.sabr_frontier.specs.session.Views.{seen_left};
 
 use crate::giving::asker::Asker;
 use crate::plan_request::PlanRequest;
@@ -60,7 +60,7 @@ impl<'p, B: BestOf<A>, A: Allocator + Copy> Session<'p, B, A> {
         request: Request,
         finder: B,
     ) -> Result<Session<'p, B, A>, NoMemory>
-        ensures { IfOk result (λ s. s ≡ record { plan = plan.now; request = request; state = state_at plan.now.plan request 0; former = []; searches = 1; calls = B.calls_of finder + 1 }) }
+        ensures { IfOk result (λ s. s ≡ started plan.now request (B.calls_of finder + 1)) }
     {
         plan.tell_rules();
         request.tell_limits();
@@ -79,7 +79,7 @@ impl<'p, B: BestOf<A>, A: Allocator + Copy> Session<'p, B, A> {
     ///
     /// [`NoMemory`] if a growth was refused. The finder is dropped.
     pub fn start_again(self, request: Request) -> Result<Session<'p, B, A>, NoMemory>
-        ensures { IfOk result (λ s. s ≡ record { plan = self.entry.plan; request = request; state = state_at self.entry.plan.plan request 0; former = []; searches = 1; calls = self.entry.calls + 1 }) }
+        ensures { IfOk result (λ s. s ≡ started self.entry.plan request (self.entry.calls + 1)) }
     {
         self.plan().tell_rules();
         request.tell_limits();
@@ -96,7 +96,7 @@ impl<'p, B: BestOf<A>, A: Allocator + Copy> Session<'p, B, A> {
     fn begin(asker: Asker<'p, B, A>) -> Result<Session<'p, B, A>, NoMemory>
         requires rules { IsPlan asker.asked.plan.plan }
         requires limits { IsRequest asker.asked.request }
-        ensures { IfOk result (λ s. s ≡ record { plan = asker.entry.asked.plan; request = asker.entry.asked.request; state = state_at asker.entry.asked.plan.plan asker.entry.asked.request 0; former = []; searches = 1; calls = asker.entry.calls + 1 }) }
+        ensures { IfOk result (λ s. s ≡ started asker.entry.asked.plan asker.entry.asked.request (asker.entry.calls + 1)) }
     {
         let mut asker = asker;
         let alloc = asker.alloc();
@@ -120,7 +120,7 @@ impl<'p, B: BestOf<A>, A: Allocator + Copy> Session<'p, B, A> {
         requires room { IsRoomy tree }
 
         // Nothing can be taken back, and no search was counted.
-        ensures { result ≡ record { plan = asker.entry.asked.plan; request = asker.entry.asked.request; state = shown (shape_of tree); former = []; searches = 0; calls = asker.entry.calls } }
+        ensures { result ≡ session_over asker.entry.asked.plan asker.entry.asked.request (shown (shape_of tree)) asker.entry.calls }
     {
         let pages = Vec::new(asker.alloc());
         Session {
@@ -145,13 +145,13 @@ impl<'p, B: BestOf<A>, A: Allocator + Copy> Session<'p, B, A> {
         requires { count ≤ most_routes }
 
         // It gives the next routes of the list, and the state is the one after them. The former one can be had back.
-        ensures routes { IfOk result (λ given. given.items ≡ map (record_of self.old.plan.plan self.old.request) (steps self.old.plan.plan self.old.request count self.old.state).0) }
-        ensures state { OnOk result (self.new.state ≡ (steps self.old.plan.plan self.old.request count self.old.state).1) }
-        ensures former { OnOk result (self.new.former ≡ former_then (steps self.old.plan.plan self.old.request count self.old.state).0 self.old.state self.old.former) }
+        ensures routes { IfOk result (λ given. given.items ≡ map (record_of self.old.plan.plan self.old.request) (next_page self.old count).0) }
+        ensures state { OnOk result (self.new.state ≡ (next_page self.old count).1) }
+        ensures former { OnOk result (self.new.former ≡ former_then (next_page self.old count).0 self.old.state self.old.former) }
 
         // So many searches were taken.
-        ensures searches { OnOk result (self.new.searches ≡ searches_in self.old.plan.plan self.old.request count self.old.state) }
-        ensures calls { OnOk result (self.new.calls ≡ self.old.calls + searches_in self.old.plan.plan self.old.request count self.old.state) }
+        ensures searches { OnOk result (self.new.searches ≡ page_searches self.old count) }
+        ensures calls { OnOk result (self.new.calls ≡ self.old.calls + page_searches self.old count) }
 
         // The plan and the request stay, and no route comes twice.
         ensures plan { self.new.plan ≡ self.old.plan }
@@ -161,7 +161,7 @@ impl<'p, B: BestOf<A>, A: Allocator + Copy> Session<'p, B, A> {
         // After a refusal all but the calls is as before. A page without routes is never refused.
         ensures err { OnErr result (self.new ≡ record self.old { calls = self.new.calls }) }
         ensures no_fewer { OnErr result (self.old.calls ≤ self.new.calls) }
-        ensures at_most { OnErr result (self.new.calls ≤ self.old.calls + searches_in self.old.plan.plan self.old.request count self.old.state) }
+        ensures at_most { OnErr result (self.new.calls ≤ self.old.calls + page_searches self.old count) }
         ensures free { (count ≡ 0) ⊎ (next_route self.old.plan.plan self.old.request self.old.state ≡ None) → IsOk result }
     {
         let mut given = Vec::new(self.asker.alloc());
@@ -271,7 +271,7 @@ impl<'p, B: BestOf<A>, A: Allocator + Copy> Session<'p, B, A> {
     /// The parts, rising by prefix, all borrowed. Those without a route are among them. It takes a step for each, and
     /// no memory.
     pub fn parts(&self) -> Parts<'_, A>
-        ensures { told_left result ≡ map (told_part self.now.plan.plan self.now.request) self.now.state.parts }
+        ensures { seen_left result ≡ map (seen_part self.now.plan.plan self.now.request) self.now.state.parts }
     {
         Parts {
             index: self.tree.index.as_slice(),

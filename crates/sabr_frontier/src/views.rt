@@ -1,7 +1,7 @@
 //! The parts of a session, one after another, all borrowed.
 
 ghost use Rattle.std.specs.Prelude.{◌≡◌};
-ghost use Rattle.sabr_frontier.specs.session.Views.{told_at, told_of};
+ghost use Rattle.sabr_frontier.specs.session.Views.{seen_at, seen_of};
 
 use crate::tree::places::prefix;
 use crate::tree::{Node, NodeId};
@@ -34,7 +34,7 @@ fn part_view<'a, A: Allocator + Copy>(
     nodes: &'a [Node<A>],
     id: NodeId,
 ) -> PartView<'a, A>
-    ensures { told_of result ≡ told_at leaves.now nodes.now id }
+    ensures { seen_of result ≡ seen_at leaves.now nodes.now id }
 {
     match nodes.get(id.0) {
         Some(node) => PartView {
@@ -54,11 +54,11 @@ impl<'a, A: Allocator + Copy> Iterator for Parts<'a, A> {
     type Item = PartView<'a, A>;
 
     ghost use Rattle.std.specs.Iterator.{YieldsFirstBy, item_count};
-    ghost use Rattle.sabr_frontier.specs.session.Views.{told_of, told_left};
+    ghost use Rattle.sabr_frontier.specs.session.Views.{seen_of, seen_left};
 
-    ghost next_gives = { YieldsFirstBy told_of told_left };
+    ghost next_gives = { YieldsFirstBy seen_of seen_left };
 
-    ghost remaining = { item_count told_left };
+    ghost remaining = { item_count seen_left };
 
     fn next(&mut self) -> Option<PartView<'a, A>> {
         let (first, others) = self.index.split_first()?;

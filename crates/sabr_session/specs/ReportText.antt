@@ -10,8 +10,8 @@ abbrev pub HasSpelledTimes : RouteRecord → Type 0
 HasSpelledTimes r = (r.delivery ≤ last_spelled) × (r.until ≤ last_spelled)
 
 -- a route's line up to the numbers of its contacts, in pieces
-abbrev pub told_pieces : RouteRecord → List (List ℕ)
-told_pieces r =
+abbrev pub figure_pieces : RouteRecord → List (List ℕ)
+figure_pieces r =
     codes "delivery " ∷ time_text_of r.delivery
     ∷ codes " hops " ∷ decimal (length r.contacts)
     ∷ codes " entry " ∷ decimal r.entry

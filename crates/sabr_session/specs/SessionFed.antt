@@ -4,7 +4,7 @@ use Rattle.sabr_model.specs.plan.Plan.{ContactPlan, TabledPlan}
 use Rattle.sabr_plan.specs.Canonical.{digest_of}
 use Rattle.sabr_plan.specs.Steps.{and_then}
 use Rattle.sabr_plan.specs.Words.{has_bytes, lines_of}
-use Rattle.sabr_frontier.specs.session.Session.{Seen}
+use Rattle.sabr_frontier.specs.session.Session.{Seen, session_over}
 use Rattle.sabr_session.specs.SessionRead.{Said, nothing_said, read_lines, is_after, last_line, most_bytes, misspelled, ComesTo}
 use Rattle.sabr_session.specs.declared.session_fault.SessionFault.{SessionFault}
 use Rattle.sabr_session.specs.declared.session_fault.SessionFault.TheVariants.{Read, NoMemory}
@@ -92,7 +92,7 @@ weight_of (Err f) = 0
 -- the session of what a text says, without former states or a search; or the text's fault, or out of memory
 abbrev pub IsSessionFrom : TabledPlan → Result Said SessionFault → Result Seen SessionFault → Type 0
 IsSessionFrom plan said (Ok s) =
-    (s ≡ record { plan = plan; request = s.request; state = s.state; former = []; searches = 0; calls = s.calls }) × ComesTo plan.plan said (Ok (s.request, s.state))
+    (s ≡ session_over plan s.request s.state s.calls) × ComesTo plan.plan said (Ok (s.request, s.state))
 IsSessionFrom plan said (Err f) = (f ≡ NoMemory) ⊎ ComesTo plan.plan said (Err f)
 
 -- the text has ended after what was fed; a text that was refused before is refused again

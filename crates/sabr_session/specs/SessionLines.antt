@@ -7,7 +7,7 @@ use Rattle.std.specs.declared.option.Option.TheVariants.{Some, None}
 use Rattle.sabr_model.specs.routes.Asking.{most_hops}
 use Rattle.sabr_plan.specs.Times.{time_of}
 use Rattle.sabr_frontier.specs.listing.State.{PartState}
-use Rattle.sabr_session.specs.SessionWords.{words_of, contacts_of, nodes_of, is_slash, before_slash, after_slash}
+use Rattle.sabr_session.specs.SessionWords.{words_of, contacts_of, nodes_of, is_slash, before_slash, after_slash, most_number}
 use Rattle.sabr_plan.specs.Numbers.{number_within}
 use Rattle.sabr_session.specs.declared.reading.first_lines.Version.{Version}
 use Rattle.sabr_session.specs.declared.reading.first_lines.Version.TheVariants.{One, Two}
@@ -41,7 +41,7 @@ abbrev pub four_of : List ℕ → List ℕ → List ℕ → List ℕ → Option 
 four_of from to time margin =
     option_and_then (λ f. option_and_then (λ t. option_and_then (λ s. option_map (λ m.
     record { from = f; to = t; at = s; margin_ppm = m; max_hops = most_hops; avoid = [] })
-    (number_within 0 4294967295 margin)) (time_of time)) (number_within 0 18446744073709551615 to)) (number_within 0 18446744073709551615 from)
+    (number_within 0 most_number margin)) (time_of time)) (number_within 0 18446744073709551615 to)) (number_within 0 18446744073709551615 from)
 
 -- `FROM TO AT PPM`
 abbrev pub unlimited_of : List (List ℕ) → Option RequestValues
@@ -53,7 +53,7 @@ abbrev pub limited_of : List (List ℕ) → Option RequestValues
 limited_of (from ∷ to ∷ time ∷ margin ∷ hops ∷ slash ∷ nodes) =
     if is_slash slash then
     option_and_then (λ ns. option_and_then (λ h. option_map (λ (v : RequestValues). record v { max_hops = h; avoid = ns }) (four_of from to time margin))
-    (number_within 0 4294967295 hops)) (nodes_of nodes)
+    (number_within 0 most_number hops)) (nodes_of nodes)
     else None
 limited_of _ = None
 

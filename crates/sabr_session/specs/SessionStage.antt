@@ -4,7 +4,7 @@ use Rattle.sabr_model.specs.plan.Plan.{TabledPlan}
 use Rattle.sabr_model.specs.routes.Arrival.{RouteRequest}
 use Rattle.sabr_model.specs.routes.Asking.{unlimited}
 use Rattle.sabr_frontier.specs.listing.State.{PartState}
-use Rattle.sabr_frontier.specs.session.Session.{Seen}
+use Rattle.sabr_frontier.specs.session.Session.{Seen, session_over}
 use Rattle.sabr_frontier.specs.loading.Loading.{Loaded, state_with}
 use Rattle.sabr_session.specs.SessionRead.{Said, nothing_said}
 
@@ -38,4 +38,4 @@ said_to l = record nothing_said { request = l.request; parts = l.parts }
 
 -- the session of the parts, with this count of routes and this last one
 abbrev pub session_of : Staged → ℕ → List ℕ → Seen
-session_of t emitted last = record { plan = t.plan; request = t.request; state = state_with t.parts emitted last; former = []; searches = 0; calls = t.calls }
+session_of t emitted last = session_over t.plan t.request (state_with t.parts emitted last) t.calls

@@ -40,9 +40,13 @@ is_dash (w ∷ v ∷ ws) = false
 unfoldable pub list_within : ℕ → ℕ → ℕ → List (List ℕ) → Option (List ℕ)
 list_within most low high words = if is_dash words then Some [] else counted most (all_of (map (number_within low high) words))
 
+-- the greatest number of 32 bits, as a contact, a margin and a limit on hops have
+abbrev pub most_number : ℕ
+most_number = 4294967295
+
 -- the contact numbers that all the words are
 abbrev pub contact_numbers : List (List ℕ) → Option (List ℕ)
-contact_numbers words = all_of (map (number_within 1 4294967295) words)
+contact_numbers words = all_of (map (number_within 1 most_number) words)
 
 -- the greatest number of nodes that a request avoids
 abbrev pub most_avoided : ℕ
@@ -54,7 +58,7 @@ node_numbers words = counted most_avoided (all_of (map (number_within 0 18446744
 
 -- a list of contact numbers
 abbrev pub contacts_of : List (List ℕ) → Option (List ℕ)
-contacts_of words = list_within most_records 1 4294967295 words
+contacts_of words = list_within most_records 1 most_number words
 
 -- a list of nodes
 abbrev pub nodes_of : List (List ℕ) → Option (List ℕ)

@@ -1,5 +1,6 @@
 //! Why a session text is refused.
 
+use sabr_model::NoMemory;
 use thiserror::Error;
 
 /// The first fault of a session text. Lines are counted from 1.
@@ -32,4 +33,15 @@ pub enum SessionFault {
     /// Memory was refused.
     #[error("out of memory")]
     NoMemory,
+}
+
+ghost use Rattle.std.specs.Prelude.{◌≡◌};
+ghost use Rattle.sabr_session.specs.declared.session_fault.SessionFault.TheVariants as fault;
+
+impl From<NoMemory> for SessionFault {
+    ghost from_gives = { λ _ e. e ≡ fault.NoMemory };
+
+    fn from(_refused: NoMemory) -> SessionFault {
+        SessionFault::NoMemory
+    }
 }

@@ -1,11 +1,8 @@
 -- The laws of the frontier, from what holds for any notion of route.
-use Rattle.std.proofs.Common.{◌≡◌, ℕ, zero, suc, ◌+◌, ◌<◌, ◌≤◌, Bool, true, false, ltb, List, [], ◌∷◌, ◌++◌, map, take, drop, length, refl, sym, ap, subst, ◌∙◌, ◌⊎◌, inl, inr, arith, Some, None, true≢false}
+use Rattle.std.proofs.Common.{◌≡◌, ℕ, zero, suc, ◌+◌, ◌<◌, ◌≤◌, Bool, true, false, ltb, List, [], ◌∷◌, ◌++◌, map, take, drop, length, refl, sym, ap, subst, ◌∙◌, ◌⊎◌, inl, inr, arith, Some, None}
 use Rattle.sabr_frontier.proofs.TreeLemmas.IndexOrder.{less_from_test}
 use Rattle.std.specs.Prelude.{is_some, slice_get}
 use Rattle.std.proofs.lemmas.Bool.{false_from_ne_true, ltb-true, lt-ltb, cases_Bool}
-use Rattle.std.specs.Ordering.{is_lt}
-use Rattle.std.specs.declared.cmp.Ordering.{Ordering}
-use Rattle.std.specs.declared.cmp.Ordering.TheVariants.{Less, Equal, Greater}
 use Rattle.sabr_model.specs.Order.{by_numbers}
 use Rattle.sabr_model.specs.plan.Plan.{ContactPlan, IsPlan}
 use Rattle.sabr_model.specs.routes.Arrival.{RouteRequest}

@@ -39,7 +39,7 @@ one_pair p X Y (e ∷ T) r (inl a) (inr b) = absurd (Less-apart nat_list_cmp_tot
 one_pair p X Y (e ∷ T) r (inr a) (inl b) = absurd (Less-apart nat_list_cmp_total p (ap (λ (z : List ℕ × List ℕ). by_numbers z.0 p) b ∙ Below-member nat_list_cmp_total e.0 p (map (λ e. e.0) T) r.0 (Member-map (λ e. e.0) (p, X) T a)))
 one_pair p X Y (e ∷ T) r (inr a) (inr b) = one_pair p X Y T r.1 a b
 
-not_empty : (p : List ℕ) (x : ℕ) → p ++ x ∷ [] ≡ [] → ⊥
+pub not_empty : (p : List ℕ) (x : ℕ) → p ++ x ∷ [] ≡ [] → ⊥
 not_empty [] x e = cc
 not_empty (y ∷ p) x e = cc
 

@@ -1,6 +1,6 @@
 -- What holds of the number that follows a beginning.
-use Rattle.std.proofs.Common.{◌≡◌, ℕ, true, false, cond, ◌==◌, List, [], ◌∷◌, ◌++◌, sym, ap, subst, refl, ◌∙◌, ◌⊎◌, inl, inr, arith, Some, None}
-use Rattle.std.proofs.lemmas.Bool.Decides.{nat_tests}
+use Rattle.std.proofs.Common.{◌≡◌, ℕ, true, false, cond, ◌==◌, List, [], ◌∷◌, ◌++◌, sym, ap, subst, refl, ◌∙◌, ◌⊎◌, inl, inr, Some, None}
+use Rattle.std.proofs.lemmas.Bool.{eq-eqb, eqb-true}
 use Rattle.std.specs.Ordering.{nat_cmp}
 use Rattle.std.specs.FinMap.{slice_cmp-IsAntisymmetric, nat_cmp-IsAntisymmetric}
 use Rattle.sabr_model.specs.Order.{by_numbers}
@@ -13,25 +13,19 @@ lists_exact = slice_cmp-IsAntisymmetric nat_cmp-IsAntisymmetric
 pub numbers_exact : IsExact nat_cmp
 numbers_exact = nat_cmp-IsAntisymmetric
 
-pub same_head : (x : ℕ) → (x == x) ≡ true
-same_head x = grind (arith, nat_tests)
-
-pub equal_heads : (x y : ℕ) → (x == y) ≡ true → x ≡ y
-equal_heads x y e = grind (arith, nat_tests)
-
 pub number_after-snoc : (p r : List ℕ) (x : ℕ) → number_after p (p ++ x ∷ r) ≡ Some x
 number_after-snoc [] r x = refl
-number_after-snoc (y ∷ p) r x = ap (λ b. cond b (number_after p (p ++ x ∷ r)) None) (same_head y) ∙ number_after-snoc p r x
+number_after-snoc (y ∷ p) r x = ap (λ b. cond b (number_after p (p ++ x ∷ r)) None) (eq-eqb y y refl) ∙ number_after-snoc p r x
 
 -- the head test taken apart
 pub number_after-step : (x y n : ℕ) (p s : List ℕ) → number_after (x ∷ p) (y ∷ s) ≡ Some n → (x ≡ y) × (number_after p s ≡ Some n)
 number_after-step x y n p s e = elim (x == y) as (λ b. (x == y) ≡ b → cond b (number_after p s) None ≡ Some n → (x ≡ y) × (number_after p s ≡ Some n)) [
-  | true ↦ λ t e. (equal_heads x y t, e)
+  | true ↦ λ t e. (eqb-true x y t, e)
   | false ↦ λ t e. cc
 ] refl e
 
 pub number_after-same : (x n : ℕ) (p s : List ℕ) → number_after p s ≡ Some n → number_after (x ∷ p) (x ∷ s) ≡ Some n
-number_after-same x n p s e = ap (λ b. cond b (number_after p s) None) (same_head x) ∙ e
+number_after-same x n p s e = ap (λ b. cond b (number_after p s) None) (eq-eqb x x refl) ∙ e
 
 pub number_after-irrefl : (p : List ℕ) (x : ℕ) → number_after p p ≡ Some x → ⊥
 number_after-irrefl [] x e = cc

@@ -2,7 +2,7 @@
 use Rattle.std.proofs.Common.{◌≡◌, ℕ, zero, suc, ◌+◌, ◌<◌, true, false, cond, not, List, [], ◌∷◌, ◌++◌, map, filter, take, get_or, length, refl, sym, ap, subst, ◌∙◌, ◌⊎◌, inl, inr, arith, true≢false, Some, None}
 use Rattle.std.proofs.lemmas.Bool.{or_cases}
 use Rattle.std.specs.Prelude.{IfOk, IfErr, IfSome, IfNone, Ok, Err, Result, Option, unwrap_or, ◌==◌}
-use Rattle.std.proofs.lemmas.Bool.Decides.{nat_tests}
+use Rattle.std.proofs.Math.Dec.{eqb-suc-zero}
 use Rattle.std.specs.Ordering.{nat_cmp}
 use Rattle.std.proofs.lemmas.Cmp.{nat_cmp_total}
 use Rattle.std.proofs.lemmas.List.{take_more, map-append}
@@ -110,10 +110,7 @@ some_number (x ∷ X) h = (x, has_itself nat_cmp_total x X)
 
 pub empty_list : (q : List ℕ) → (length q == 0) ≡ true → q ≡ []
 empty_list [] h = refl
-empty_list (x ∷ q) h = absurd (true≢false (sym h ∙ more (length q)))
-  where
-    more : (n : ℕ) → (suc n == 0) ≡ false
-    more n = grind (arith, nat_tests)
+empty_list (x ∷ q) h = absurd (true≢false (sym h ∙ eqb-suc-zero (length q)))
 
 module _ {A : Type 0} (p : ContactPlan) (r : RouteRequest) (h : Holding A) (e : List ℕ × List ℕ) (due : is_due h e.0 ≡ true) (busy : (e.0 ≡ []) ⊎ ((x : ℕ) × (has nat_cmp x e.1 ≡ true))) where
   verdict_of : (o : Option (Judged A)) → IfSome o (λ j. AllGoOn p r e × IsJudged p r e j) → IfNone o (AllGoOn p r e → ⊥) → IsVerdict p r h e o

@@ -31,15 +31,11 @@ use Rattle.sabr_frontier.proofs.ListingLemmas.Rising.{length-put_in}
 use Rattle.sabr_frontier.proofs.ListingLemmas.NumbersAfter.{number_after-snoc, number_after-of_longer}
 use Rattle.sabr_frontier.proofs.ListingLemmas.ClosedTrees.{In_Member, Member_In, set_of_has, has_set_of, last_same}
 use Rattle.sabr_frontier.proofs.ListingLemmas.ListMembers.{Member-map, Member-map_cases, Member-filter_cases, Member-flat_map_cases, Below-member, Less-apart}
-use Rattle.sabr_frontier.proofs.ListingLemmas.Leaves.{Pairs}
+use Rattle.sabr_frontier.proofs.ListingLemmas.Leaves.{Pairs, not_empty}
 use Rattle.sabr_frontier.proofs.TreeLemmas.NodePlaces.{get_at_end, ids_cases, ids_has}
 use Rattle.sabr_frontier.proofs.LoadingLemmas.AnsweredParts.{paid_closed, paid_owes, pairs_two}
 use Rattle.std.proofs.Math.Seq.{take-append_seam}
 use Rattle.sabr_search.proofs.WayLemmas.Prefixes.{number_after_some}
-
-no_empty : (p : List ℕ) (x : ℕ) → p ++ x ∷ [] ≡ [] → ⊥
-no_empty [] x e = cc
-no_empty (y ∷ p) x e = cc
 
 module _ (route path : List ℕ → Bool) where
   leaf_is : (s : List ℕ) (e : List ℕ × List ℕ) → Member s (leaves_of route e) → (x : ℕ) × (s ≡ e.0 ++ x ∷ []) × Member x e.1
@@ -82,7 +78,7 @@ module _ (route path : List ℕ → Bool) where
         let is : (e.0 ++ v.0 ∷ []) ∷ (v.1 ++ w.0) ≡ f.0 ∷ o.0 = sym (ap (λ z. z ++ w.0) v.2) ∙ o.1 in
         let same : f.0 ≡ e.0 ++ v.0 ∷ [] = cc in
         elim o.2.busy [
-          | inl z ↦ absurd (no_empty e.0 v.0 (sym same ∙ z))
+          | inl z ↦ absurd (not_empty e.0 v.0 (sym same ∙ z))
           | inr b ↦
               let u = first_leaf f T (onward route path e ++ w.0) o b.0 b.1 in
               (u.0, u.1, v.0, ap (λ z. z ++ flat_map (leaves_of route) (f ∷ T)) k ∙ u.3, number_after-of_longer e.0 u.0 v.0 u.2 (ap (λ z. number_after z u.0) (sym same) ∙ u.4))

@@ -16,8 +16,8 @@ use Rattle.sabr_frontier.specs.tree.Shape.{Shape, shown, part_at, numbers_of, ro
 use Rattle.sabr_frontier.specs.tree.Best.{best_of}
 use Rattle.sabr_frontier.specs.tree.Sound.{IsTree}
 use Rattle.sabr_frontier.specs.tree.Root.{root, first_id}
-use Rattle.sabr_frontier.specs.session.Session.{told_part}
-use Rattle.sabr_frontier.specs.session.Views.{told_at, told_node}
+use Rattle.sabr_frontier.specs.session.Session.{seen_part}
+use Rattle.sabr_frontier.specs.session.Views.{seen_at, seen_node}
 use Rattle.sabr_frontier.proofs.ListingLemmas.FormedSteps.{formed_start}
 use Rattle.sabr_frontier.proofs.ListingLemmas.Paths.{route_filled, routes_apart, route_chains, route_fits}
 use Rattle.sabr_frontier.proofs.ListingLemmas.AllRoutes.{least_some}
@@ -51,19 +51,19 @@ module _ (A : Type 0) (p : ContactPlan) (r : RouteRequest) (good : IsPlan p) whe
   pub root_is_tree : IsTree p r (root {A = A} (best_of p r [] []))
   root_is_tree = root_parts (best_of p r [] []) (best_is p r [] []) (subst (IsState p r) (sym (shown_root A p r)) (first_formed p r good)) refl
 
--- ---- what is told of the parts
+-- ---- what is seen of the parts
 
 module _ {A : Type 0} (p : ContactPlan) (r : RouteRequest) (t : Shape A) (is : IsTree p r t) where
-  pub told_route : (n : Node A) (o : Option RouteRecord) → Member n t.nodes → n.route ≡ o → o ≡ option_map (record_of p r) (option_map numbers_of o)
-  told_route n None m e = refl
-  told_route n (Some x) m e = ap Some (is.records n x m e)
+  pub seen_route : (n : Node A) (o : Option RouteRecord) → Member n t.nodes → n.route ≡ o → o ≡ option_map (record_of p r) (option_map numbers_of o)
+  seen_route n None m e = refl
+  seen_route n (Some x) m e = ap Some (is.records n x m e)
 
-  told_one : (id : NodeId) → told_at t.leaves t.nodes id ≡ told_part p r (part_at t.leaves t.nodes id)
-  told_one id = elim (slice_get t.nodes id.0) as (λ o. slice_get t.nodes id.0 ≡ o → told_node t.leaves o ≡ told_part p r (Rattle.sabr_frontier.specs.tree.Shape.part_of t.leaves o)) [
+  seen_one : (id : NodeId) → seen_at t.leaves t.nodes id ≡ seen_part p r (part_at t.leaves t.nodes id)
+  seen_one id = elim (slice_get t.nodes id.0) as (λ o. slice_get t.nodes id.0 ≡ o → seen_node t.leaves o ≡ seen_part p r (Rattle.sabr_frontier.specs.tree.Shape.part_of t.leaves o)) [
     | None ↦ λ _. refl
-    | Some n ↦ λ e. let w = told_route n n.route (get_Member t.nodes id.0 n e) refl in λ i. record { prefix = Rattle.sabr_frontier.specs.tree.Shape.prefix_of t.leaves n; excluded = n.excluded; route = w i }
+    | Some n ↦ λ e. let w = seen_route n n.route (get_Member t.nodes id.0 n e) refl in λ i. record { prefix = Rattle.sabr_frontier.specs.tree.Shape.prefix_of t.leaves n; excluded = n.excluded; route = w i }
   ] refl
 
-  pub told_all : (ids : List NodeId) → map (told_at t.leaves t.nodes) ids ≡ map (told_part p r) (map (part_at t.leaves t.nodes) ids)
-  told_all [] = refl
-  told_all (id ∷ ids) = λ i. told_one id i ∷ told_all ids i
+  pub seen_all : (ids : List NodeId) → map (seen_at t.leaves t.nodes) ids ≡ map (seen_part p r) (map (part_at t.leaves t.nodes) ids)
+  seen_all [] = refl
+  seen_all (id ∷ ids) = λ i. seen_one id i ∷ seen_all ids i

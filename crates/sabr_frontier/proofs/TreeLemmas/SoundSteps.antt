@@ -1,11 +1,10 @@
 -- A sound tree stays sound where a node's route is given, and the undo of that gives the tree back.
-use Rattle.std.proofs.Common.{◌≡◌, ℕ, ◌+◌, ◌<◌, true, nat_lt, List, [], ◌∷◌, ◌++◌, length, take, drop, refl, sym, ap, subst, ◌∙◌, ◌⊎◌, inl, inr, arith, Option, Some, None, append_assoc, length-append, slice_index, take_at}
+use Rattle.std.proofs.Common.{◌≡◌, ℕ, ◌+◌, ◌<◌, nat_lt, List, [], ◌∷◌, ◌++◌, length, take, drop, refl, sym, ap, subst, ◌∙◌, ◌⊎◌, inl, inr, arith, Option, Some, None, append_assoc, length-append, slice_index, take_at}
 use Rattle.std.specs.Prelude.{slice_get, slice_index_or}
 use Rattle.std.specs.Option.{option_map}
-use Rattle.std.proofs.lemmas.Bool.{cases_lt}
+use Rattle.std.proofs.lemmas.Bool.{cases_lt, lt-ltb}
 use Rattle.std.proofs.lemmas.List.{take-append-drop}
 use Rattle.std.proofs.lemmas.Option.{get_or_from_slice_get}
-use Rattle.std.proofs.lemmas.Bool.Decides.{nat_tests}
 use Rattle.sabr_model.specs.Order.{put_in, by_numbers}
 use Rattle.sabr_model.specs.plan.Plan.{ContactPlan, IsPlan}
 use Rattle.sabr_model.specs.routes.Arrival.{RouteRequest}
@@ -58,9 +57,6 @@ fresh_lent {A} p r leaves leaf x is q (y ∷ rest) n e (inl h) =
     let d : n.length ≡ length q = ap (λ (z : Node A). z.length) h in
     inr (x, ap (slice_get leaves) l ∙ is, omega (arith, d, ap length e, length-append q (y ∷ rest)))
 fresh_lent p r leaves leaf x is q (y ∷ rest) n e (inr m) = fresh_lent p r leaves leaf x is (q ++ y ∷ []) rest n (e ∙ sym (append_assoc q (y ∷ []) rest)) m
-
-below_test : (a b : ℕ) → a < b → nat_lt a b ≡ true
-below_test a b l = grind (arith, nat_tests)
 
 module _ {A : Type 0} (p : ContactPlan) (r : RouteRequest) (good : IsPlan p) (t : Shape A) (is : IsTree p r t) (node : NodeId)
     (n : Node A) (x : RouteRecord) (stands : slice_get t.nodes node.0 ≡ Some n) (carries : n.route ≡ Some x) where
@@ -174,7 +170,7 @@ module _ {A : Type 0} (p : ContactPlan) (r : RouteRequest) (good : IsPlan p) (t 
   forgets = forget-put_in (slice_index s n.length) n.excluded (can_exclude p r t is node n x stands carries).absent
 
   pub undone_divided : undone D ≡ t
-  undone_divided = undone-after t node n x wide found new (passing (stands_before t.leaves t.nodes q0) t.index) stands carries forgets (passes_from (λ (id : NodeId). nat_lt id.0 N) t.index (λ id m. below_test id.0 N (is.known id m)))
+  undone_divided = undone-after t node n x wide found new (passing (stands_before t.leaves t.nodes q0) t.index) stands carries forgets (passes_from (λ (id : NodeId). nat_lt id.0 N) t.index (λ id m. lt-ltb id.0 N (is.known id m)))
 
   pub can_undo : CanUndo D
   can_undo = record {

@@ -13,7 +13,7 @@ use Rattle.sabr_frontier.specs.listing.Rising.{has}
 use Rattle.sabr_frontier.specs.listing.State.{PartState, State, pair_of}
 use Rattle.sabr_frontier.specs.listing.Formed.{IsClosed}
 use Rattle.sabr_frontier.specs.listing.Listing.{IsState, leaves_in}
-use Rattle.sabr_frontier.specs.session.Session.{Seen}
+use Rattle.sabr_frontier.specs.session.Session.{Seen, session_over}
 use Rattle.sabr_frontier.specs.tree.Undo.{last_item}
 
 -- what callers see of a loader: the plan, the request, the parts so far, and how often the finder was called
@@ -45,6 +45,10 @@ part_refusal p r parts t =
     else if not (may_carry p r t) then Some BadRoute
     else None
 
+-- the reason why a loader refuses a part
+abbrev pub refusal_by : Loaded → PartState → Option LoadFault
+refusal_by l t = part_refusal l.plan.plan l.request l.parts t
+
 -- the loader with the part after the others
 abbrev pub with_part : Loaded → PartState → Loaded
 with_part l t = record l { parts = l.parts ++ t ∷ [] }
@@ -57,7 +61,7 @@ state_with parts emitted last = record { emitted = emitted; last = last; parts =
 
 -- what callers see of the session over a loader's parts, after so many routes and this last one
 abbrev pub session_with : Loaded → ℕ → List ℕ → Seen
-session_with l emitted last = record { plan = l.plan; request = l.request; state = state_with l.parts emitted last; former = []; searches = 0; calls = l.calls }
+session_with l emitted last = session_over l.plan l.request (state_with l.parts emitted last) l.calls
 
 -- its pairs are closed
 abbrev pub IsClosedState : ContactPlan → RouteRequest → State → Type 0

@@ -8,6 +8,7 @@ use Rattle.sabr_model.specs.routes.Record.{RouteRecord, record_of}
 use Rattle.sabr_frontier.specs.declared.tree.Tree.{Tree}
 use Rattle.sabr_frontier.specs.tree.Asking.{Asked, Asking}
 use Rattle.sabr_frontier.specs.listing.State.{State, PartState}
+use Rattle.sabr_frontier.specs.listing.Listing.{searches_in, state_at, steps}
 use Rattle.sabr_frontier.specs.tree.Shape.{Shape, shape_of, shown}
 use Rattle.sabr_frontier.specs.tree.Undo.{CanUndo, IsRoomy, undone, undone_times}
 use Rattle.sabr_frontier.specs.tree.Sound.{IsTree}
@@ -21,6 +22,22 @@ pub record Seen : Type 0 where
   pub former : List State
   pub searches : ℕ
   pub calls : ℕ
+
+-- a session just started: no route was given yet, by one search
+abbrev pub started : TabledPlan → RouteRequest → ℕ → Seen
+started plan r calls = record { plan = plan; request = r; state = state_at plan.plan r 0; former = []; searches = 1; calls = calls }
+
+-- a session over a state that was loaded: nothing can be taken back, and no search was counted
+abbrev pub session_over : TabledPlan → RouteRequest → State → ℕ → Seen
+session_over plan r s calls = record { plan = plan; request = r; state = s; former = []; searches = 0; calls = calls }
+
+-- the next page of at most so many routes: its routes, and the state after it
+abbrev pub next_page : Seen → ℕ → List (List ℕ) × State
+next_page s count = steps s.plan.plan s.request count s.state
+
+-- the searches that it takes
+abbrev pub page_searches : Seen → ℕ → ℕ
+page_searches s count = searches_in s.plan.plan s.request count s.state
 
 -- the tree is sound, and so is each of the n trees before it, to which undos lead
 abbrev pub IsSoundFor : {A : Type 0} → ContactPlan → RouteRequest → ℕ → Shape A → Type 0
@@ -47,7 +64,8 @@ former_of [] t = []
 former_of (s ∷ ss) t = shown (tree_before s t) ∷ former_of ss (tree_before s t)
 
 abbrev pub seen : {A : Type 0} → Asking → Tree A → List ℕ → ℕ → Seen
-seen asker tree pages searches = record { plan = asker.asked.plan; request = asker.asked.request; state = shown (shape_of tree); former = former_of (reverse pages) (shape_of tree); searches = searches; calls = asker.calls }
+seen asker tree pages searches =
+    record (session_over asker.asked.plan asker.asked.request (shown (shape_of tree)) asker.calls) { former = former_of (reverse pages) (shape_of tree); searches = searches }
 
 pub record IsSession {A : Type 0} (asked : Asked) (tree : Tree A) (pages : List ℕ) : Type 0 where
   pub rules : IsPlan asked.plan.plan
@@ -63,10 +81,10 @@ former_then [] s former = former
 former_then (r ∷ rs) s former = s ∷ former
 
 -- a part with the record of what it carries
-pub record PartTold : Type 0 where
+pub record PartSeen : Type 0 where
   pub prefix : List ℕ
   pub excluded : List ℕ
   pub route : Option RouteRecord
 
-abbrev pub told_part : ContactPlan → RouteRequest → PartState → PartTold
-told_part p r t = record { prefix = t.prefix; excluded = t.excluded; route = option_map (record_of p r) t.carried }
+abbrev pub seen_part : ContactPlan → RouteRequest → PartState → PartSeen
+seen_part p r t = record { prefix = t.prefix; excluded = t.excluded; route = option_map (record_of p r) t.carried }

@@ -31,6 +31,10 @@ with_block place block xs = take place xs ++ block ++ drop place xs
 
 -- ---- the division of a part
 
+-- what holds of the node of this number, if it is there
+abbrev pub OfNode : {A : Type 0} → List (Node A) → NodeId → (Node A → Type 0) → Type 0
+OfNode {A} nodes id P = (n : Node A) → slice_get nodes id.0 ≡ Some n → P n
+
 -- the nodes for the beginnings of q ++ rest from q on, each with its next number excluded, of this leaf
 abbrev pub fresh_nodes : {A : Type 0} → (List ℕ → List ℕ → Option RouteRecord) → ℕ → List ℕ → List ℕ → List (Node A)
 fresh_nodes best leaf q [] = []

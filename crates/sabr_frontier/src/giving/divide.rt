@@ -1,12 +1,12 @@
 //! Dividing a part by the route that it carries: the number that it then excludes, and all searches.
 
-ghost use Rattle.std.specs.Prelude.{◌≡◌, ◌+◌, ◌≤◌, ◌<◌, ◌++◌, take, drop, slice_index, slice_get, length, vec_len, vec_capacity, Some, [], ◌∷◌, IfOk, OnOk, OnErr, IsTrue};
+ghost use Rattle.std.specs.Prelude.{◌≡◌, ◌+◌, ◌≤◌, ◌<◌, ◌++◌, take, drop, length, vec_len, vec_capacity, IfOk, OnOk, OnErr, IsTrue};
 ghost use Rattle.std.specs.Ordering.{nat_cmp};
 ghost use Rattle.sabr_model.specs.routes.Route.{is_route};
 ghost use Rattle.sabr_frontier.specs.tree.Asking.{best_for};
 ghost use Rattle.sabr_frontier.specs.listing.Rising.{Rises};
 ghost use Rattle.sabr_frontier.specs.tree.Undo.{modify};
-ghost use Rattle.sabr_frontier.specs.tree.Taking.{fresh_after, fresh_node, fresh_nodes, wide_of};
+ghost use Rattle.sabr_frontier.specs.tree.Taking.{OfNode, fresh_after, fresh_node, fresh_nodes, wide_of};
 ghost use Rattle.sabr_frontier.specs.tree.Sound.{CanExclude};
 ghost use Rattle.sabr_frontier.specs.tree.Prepared.{excluding, including};
 
@@ -110,18 +110,18 @@ fn search<B: BestOf<A>, A: Allocator + Copy>(
 ) -> Result<Option<Route<A>>, NoMemory>
     requires in_range { node.0 < vec_len nodes.old }
     requires route { IsTrue (is_route asker.old.asked.plan.plan asker.old.asked.request route.now) }
-    requires longer { (n : Node A) → slice_get nodes.old.items node.0 ≡ Some n → n.length < length route.now }
-    requires rising { (n : Node A) → slice_get nodes.old.items node.0 ≡ Some n → Rises nat_cmp n.excluded }
+    requires longer { OfNode nodes.old.items node (λ n. n.length < length route.now) }
+    requires rising { OfNode nodes.old.items node (λ n. Rises nat_cmp n.excluded) }
     requires room { vec_len nodes.old + length route.now ≤ vec_capacity nodes.old }
 
     // It finds what the node carries, and adds the new nodes, by a search each.
-    ensures found { IfOk result (λ found. (n : Node A) → slice_get nodes.old.items node.0 ≡ Some n → found ≡ best_for asker.old.asked (take n.length route.now) n.excluded) }
-    ensures nodes { OnOk result ((n : Node A) → slice_get nodes.old.items node.0 ≡ Some n → nodes.new.items ≡ nodes.old.items ++ fresh_after (best_for asker.old.asked) leaf n route.now) }
+    ensures found { IfOk result (λ found. OfNode nodes.old.items node (λ n. found ≡ best_for asker.old.asked (take n.length route.now) n.excluded)) }
+    ensures nodes { OnOk result (OfNode nodes.old.items node (λ n. nodes.new.items ≡ nodes.old.items ++ fresh_after (best_for asker.old.asked) leaf n route.now)) }
     ensures called { OnOk result (asker.new.calls + vec_len nodes.old ≡ asker.old.calls + (vec_len nodes.new + 1)) }
 
     // A refusal comes after some of the searches, and may leave some of the nodes.
     ensures no_fewer { OnErr result (asker.old.calls ≤ asker.new.calls) }
-    ensures at_most { OnErr result ((n : Node A) → slice_get nodes.old.items node.0 ≡ Some n → asker.new.calls + n.length ≤ asker.old.calls + length route.now) }
+    ensures at_most { OnErr result (OfNode nodes.old.items node (λ n. asker.new.calls + n.length ≤ asker.old.calls + length route.now)) }
 
     // The question and the former nodes stay.
     ensures longer { OnOk result (vec_len nodes.old ≤ vec_len nodes.new) }
@@ -142,7 +142,7 @@ fn exclude_next<A: Allocator + Copy>(
     route: &[u32],
 ) -> Result<(), NoMemory>
     requires in_range { node.0 < vec_len nodes.old }
-    requires next { (n : Node A) → slice_get nodes.old.items node.0 ≡ Some n → CanExclude n route.now }
+    requires next { OfNode nodes.old.items node (λ n. CanExclude n route.now) }
     ensures ok { OnOk result (nodes.new.items ≡ modify (excluding route.now) nodes.old.items node.0) }
     ensures err { OnErr result (nodes.new.items ≡ nodes.old.items) }
     ensures len { vec_len nodes.new ≡ vec_len nodes.old }
@@ -157,7 +157,7 @@ fn exclude_next<A: Allocator + Copy>(
 /// Includes the number again that a route takes after the node's prefix. It takes no memory.
 fn include_next<A: Allocator + Copy>(nodes: &mut Vec<Node<A>, A>, node: NodeId, route: &[u32])
     requires in_range { node.0 < vec_len nodes.old }
-    requires longer { (n : Node A) → slice_get nodes.old.items node.0 ≡ Some n → n.length < length route.now }
+    requires longer { OfNode nodes.old.items node (λ n. n.length < length route.now) }
     ensures { nodes.new.items ≡ modify (including route.now) nodes.old.items node.0 }
 {
     let part = &mut nodes[node.0];
@@ -177,17 +177,17 @@ pub fn divide<B: BestOf<A>, A: Allocator + Copy>(
 ) -> Result<Option<Route<A>>, NoMemory>
     requires in_range { node.0 < vec_len nodes.old }
     requires route { IsTrue (is_route asker.old.asked.plan.plan asker.old.asked.request route.now) }
-    requires next { (n : Node A) → slice_get nodes.old.items node.0 ≡ Some n → CanExclude n route.now }
+    requires next { OfNode nodes.old.items node (λ n. CanExclude n route.now) }
     requires room { vec_len nodes.old + length route.now ≤ vec_capacity nodes.old }
 
     // It finds what the node carries, and changes and adds nodes, by a search each.
-    ensures found { IfOk result (λ found. (n : Node A) → slice_get nodes.old.items node.0 ≡ Some n → found ≡ best_for asker.old.asked (take n.length route.now) (wide_of n route.now)) }
-    ensures ok { OnOk result ((n : Node A) → slice_get nodes.old.items node.0 ≡ Some n → nodes.new.items ≡ modify (excluding route.now) nodes.old.items node.0 ++ fresh_after (best_for asker.old.asked) leaf n route.now) }
+    ensures found { IfOk result (λ found. OfNode nodes.old.items node (λ n. found ≡ best_for asker.old.asked (take n.length route.now) (wide_of n route.now))) }
+    ensures ok { OnOk result (OfNode nodes.old.items node (λ n. nodes.new.items ≡ modify (excluding route.now) nodes.old.items node.0 ++ fresh_after (best_for asker.old.asked) leaf n route.now)) }
     ensures called { OnOk result (asker.new.calls + vec_len nodes.old ≡ asker.old.calls + (vec_len nodes.new + 1)) }
 
     // A refusal comes after some of the searches, and leaves the nodes as they were.
     ensures no_fewer { OnErr result (asker.old.calls ≤ asker.new.calls) }
-    ensures at_most { OnErr result ((n : Node A) → slice_get nodes.old.items node.0 ≡ Some n → asker.new.calls + n.length ≤ asker.old.calls + length route.now) }
+    ensures at_most { OnErr result (OfNode nodes.old.items node (λ n. asker.new.calls + n.length ≤ asker.old.calls + length route.now)) }
     ensures err { OnErr result (nodes.new.items ≡ nodes.old.items) }
 
     // No node goes, and the question stays.

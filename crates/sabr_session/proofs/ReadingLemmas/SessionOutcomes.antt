@@ -2,7 +2,7 @@
 use Rattle.std.proofs.Common.{◌≡◌, ℕ, suc, ◌+◌, ◌<◌, Bool, true, false, ◌&&◌, ◌||◌, not, eqb, ltb, List, [], ◌∷◌, ◌++◌, length, refl, sym, ap, ◌∙◌, arith, append_assoc, append-nil, length-append, Result, Ok, Err}
 use Rattle.sabr_session.proofs.WordLemmas.SpelledWords.{other_number}
 use borrow.Author.Tests.{lt-ltb, ltb-true, ltb-false}
-use Rattle.std.proofs.lemmas.Bool.Decides.{nat_tests}
+use Rattle.std.proofs.lemmas.Bool.{le-ltb}
 use Rattle.std.proofs.lemmas.List.Folds.{list_all-append}
 use Rattle.std.specs.Prelude.{if◌then◌else◌}
 use Rattle.sabr_model.specs.plan.Plan.{ContactPlan}
@@ -94,9 +94,6 @@ module _ (p : ContactPlan) (h : List ℕ) where
       by_length true false some false long q = absurd cc
       by_length false some is false long q = absurd cc
 
-  not_before : (n m : ℕ) → m < n → ltb n m ≡ false
-  not_before n m less = grind (arith, nat_tests)
-
   -- a line after `end` is refused
   said_after : (n : ℕ) (s : Said) (line : List ℕ) → is_after n s ≡ true → line_said p h n s line ≡ Err (misspelled n)
   unfolding line_said
@@ -109,7 +106,7 @@ module _ (p : ContactPlan) (h : List ℕ) where
         other_number n 4 (omega arith),
         other_number n 5 (omega arith),
         other_number n 6 (omega arith),
-        not_before n (7 + s.count) far,
+        le-ltb n (7 + s.count) (omega (arith, far)),
         other_number n (7 + s.count) far,
       ) refl
 

@@ -33,6 +33,7 @@ use Rattle.sabr_frontier.proofs.ListingLemmas.ListMembers.{Member-map}
 use Rattle.sabr_frontier.proofs.ListingLemmas.Paths.{route_filled}
 use Rattle.sabr_session.specs.SessionText.{HasText}
 use Rattle.sabr_session.specs.SessionRead.{rise_strictly}
+use Rattle.sabr_session.specs.SessionWords.{most_number}
 use Rattle.sabr_session.proofs.WordLemmas.SpelledWords.{AreWithin}
 use Rattle.sabr_session.proofs.TextLemmas.SpelledHead.{IsContactList}
 use Rattle.sabr_session.proofs.TextLemmas.SpelledParts.{PartIsTellable, IsPartOf, ArePartsOf}
@@ -47,7 +48,7 @@ pub record StateIsTellable (p : ContactPlan) (r : RouteRequest) (s : State) : Ty
 abbrev AreLow : List ℕ → Type 0
 AreLow = AreWithin 1 20000
 
-low_within : (ns : List ℕ) → AreLow ns → AreWithin 1 4294967295 ns
+low_within : (ns : List ℕ) → AreLow ns → AreWithin 1 most_number ns
 low_within [] h = tt
 low_within (n ∷ ns) h = ((h.0.0, omega (arith, h.0.1)), low_within ns h.1)
 

@@ -13,7 +13,7 @@ use Rattle.sabr_plan.proofs.Seconds.{time_of_tells}
 use Rattle.sabr_frontier.specs.listing.State.{PartState}
 use Rattle.sabr_session.specs.SpacedNumbers.{list_text}
 use Rattle.sabr_session.specs.SessionText.{part_line}
-use Rattle.sabr_session.specs.SessionWords.{words_of, contacts_of, nodes_of, is_slash, before_slash, after_slash}
+use Rattle.sabr_session.specs.SessionWords.{words_of, contacts_of, nodes_of, is_slash, before_slash, after_slash, most_number}
 use Rattle.sabr_plan.specs.Numbers.{number_within}
 use Rattle.sabr_session.specs.SessionLines.{after_label, header_of, is_digest, digest_named, four_of, unlimited_of, limited_of, values_of, request_of, emitted_of, last_listed, count_of, carried_of, lists_of, part_of, is_end}
 use Rattle.sabr_session.specs.SessionRead.{Said, same_plan, spelled_at, asked, digest_said}
@@ -82,12 +82,12 @@ four_told from to time margin v e =
     let f = and_then_some _ (number_within 0 18446744073709551615 from) v e in
     let t = and_then_some _ (number_within 0 18446744073709551615 to) v f.2 in
     let s = and_then_some _ (time_of time) v t.2 in
-    let m = map_some (values f.0 t.0 s.0) (number_within 0 4294967295 margin) v s.2 in
+    let m = map_some (values f.0 t.0 s.0) (number_within 0 most_number margin) v s.2 in
     let told : FourTold from to time margin (values f.0 t.0 s.0 m.0) = record {
       from_is = number_told 0 18446744073709551615 from f.0 f.1;
       to_is = number_told 0 18446744073709551615 to t.0 t.1;
       time_is = (time_of_tells time s.0 s.1).0;
-      margin_is = number_told 0 4294967295 margin m.0 m.1;
+      margin_is = number_told 0 most_number margin m.0 m.1;
       hops_are = refl;
       avoid_is = refl;
     } in
@@ -132,17 +132,17 @@ limited_told (from ∷ to ∷ time ∷ margin ∷ hops ∷ slash ∷ nodes) v e 
     limited ns h = option_map (λ (w : RequestValues). record w { max_hops = h; avoid = ns }) (four_of from to time margin)
 
     found : Option RequestValues
-    found = option_and_then (λ (ns : List ℕ). option_and_then (limited ns) (number_within 0 4294967295 hops)) (nodes_of nodes)
+    found = option_and_then (λ (ns : List ℕ). option_and_then (limited ns) (number_within 0 most_number hops)) (nodes_of nodes)
 
     by_slash : (b : Bool) → is_slash slash ≡ b → cond b found None ≡ Some v → joined (from ∷ to ∷ time ∷ margin ∷ hops ∷ slash ∷ nodes) ≡ values_text Two v
     by_slash false is e = absurd cc
     by_slash true is e =
-        let n = and_then_some (λ (ns : List ℕ). option_and_then (limited ns) (number_within 0 4294967295 hops)) (nodes_of nodes) v e in
-        let k = and_then_some (limited n.0) (number_within 0 4294967295 hops) v n.2 in
+        let n = and_then_some (λ (ns : List ℕ). option_and_then (limited ns) (number_within 0 most_number hops)) (nodes_of nodes) v e in
+        let k = and_then_some (limited n.0) (number_within 0 most_number hops) v n.2 in
         let w = map_some (λ (w : RequestValues). record w { max_hops = k.0; avoid = n.0 }) (four_of from to time margin) v k.2 in
         let h = four_told from to time margin w.0 w.1 in
         let stroke : slash ≡ codes "/" = (bytes_eq-Decides slash (codes "/")).0 is in
-        let limit : hops ≡ decimal k.0 = number_told 0 4294967295 hops k.0 k.1 in
+        let limit : hops ≡ decimal k.0 = number_told 0 most_number hops k.0 k.1 in
         let listed : joined nodes ≡ list_text n.0 = list_told 16 0 18446744073709551615 nodes n.0 n.1 in
         let some = list_has_word 16 0 18446744073709551615 nodes n.0 n.1 in
         let rest : joined (slash ∷ nodes) ≡ slash ++ 32 ∷ joined nodes = rw some.2 refl in
@@ -182,7 +182,7 @@ pub last_told : (line ns : List ℕ) → last_listed line ≡ Some ns → line �
 unfolding last_listed
 last_told line ns e =
     let h = and_then_some (λ (text : List ℕ). contacts_of (words_of text)) (after_label (codes "last ") line) ns e in
-    label_told (codes "last ") line h.0 h.1 ∙ ap (λ (t : List ℕ). codes "last " ++ t) (sym (words-joined h.0) ∙ list_told 20000 1 4294967295 (words_of h.0) ns h.2)
+    label_told (codes "last ") line h.0 h.1 ∙ ap (λ (t : List ℕ). codes "last " ++ t) (sym (words-joined h.0) ∙ list_told 20000 1 most_number (words_of h.0) ns h.2)
 
 pub count_told : (line : List ℕ) (n : ℕ) → count_of line ≡ Some n → (line ≡ codes "parts " ++ decimal n) × (n ≤ 18446744073709551615)
 unfolding count_of
@@ -208,10 +208,10 @@ lists_told words t e =
     let q = and_then_some _ (contacts_of (before_slash words)) t e in
     let x = and_then_some _ (contacts_of (before_slash others)) t q.2 in
     let r = map_some (part q.0 x.0) (contacts_of (after_slash others)) t x.2 in
-    let last = list_has_word 20000 1 4294967295 (after_slash others) r.0 r.1 in
-    let third : joined (after_slash others) ≡ list_text r.0 = list_told 20000 1 4294967295 (after_slash others) r.0 r.1 in
+    let last = list_has_word 20000 1 most_number (after_slash others) r.0 r.1 in
+    let third : joined (after_slash others) ≡ list_text r.0 = list_told 20000 1 most_number (after_slash others) r.0 r.1 in
     let two : joined others ≡ list_text x.0 ++ (codes " / " ++ list_text r.0) = slash_joined others x.0 (list_text r.0) x.1 last.0 last.1 last.2 third in
-    let first = list_has_word 20000 1 4294967295 (before_slash others) x.0 x.1 in
+    let first = list_has_word 20000 1 most_number (before_slash others) x.0 x.1 in
     let some = starts others first.0 first.1 first.2 in
     let three : joined words ≡ list_text q.0 ++ (codes " / " ++ (list_text x.0 ++ (codes " / " ++ list_text r.0))) = slash_joined words q.0 _ q.1 some.0 some.1 some.2 two in
     let whole : joined words ≡ lists_text (part q.0 x.0 r.0) = three ∙ ap (λ (c : List ℕ). list_text q.0 ++ (codes " / " ++ (list_text x.0 ++ (codes " / " ++ list_text c)))) (sym (carried_is r.0)) in

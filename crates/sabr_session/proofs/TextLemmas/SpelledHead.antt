@@ -1,8 +1,7 @@
 -- The first six lines of a session text, as they are spelled, say what they were written of.
 use Rattle.std.proofs.Common.{◌≡◌, ℕ, ◌<◌, ◌≤◌, ◌^◌, true, false, ◌&&◌, not, eqb, ltb, leb, List, [], ◌∷◌, ◌++◌, length, rules, refl, sym, ap, ◌∙◌, arith, append-nil, decimal, codes, Ok}
 use Rattle.std.specs.List.{AllByRecursion}
-use Rattle.std.proofs.lemmas.Bool.{and_parts, leb-true}
-use Rattle.std.proofs.lemmas.Bool.Decides.{nat_tests}
+use Rattle.std.proofs.lemmas.Bool.{and_parts, le-ltb, leb-true, ne_eqb}
 use Rattle.std.specs.declared.option.Option.TheVariants.{Some, None}
 use Rattle.hex.specs.Hex.{encode_lower}
 use Rattle.sha2.specs.Sha256.{sha256}
@@ -13,7 +12,7 @@ use Rattle.sabr_plan.specs.Times.{time_text_of}
 use Rattle.sabr_plan.proofs.Seconds.{time_of-text}
 use Rattle.sabr_session.specs.SpacedNumbers.{list_text}
 use Rattle.sabr_session.specs.SessionText.{IsUnlimited}
-use Rattle.sabr_session.specs.SessionWords.{words_of, nodes_of, contacts_of}
+use Rattle.sabr_session.specs.SessionWords.{words_of, nodes_of, contacts_of, most_number}
 use Rattle.sabr_plan.specs.Numbers.{number_within}
 use Rattle.sabr_session.specs.SessionLines.{digest_named, request_of, emitted_of, last_listed, count_of, after_label}
 use Rattle.sabr_session.specs.SessionRead.{asked}
@@ -27,7 +26,7 @@ use Rattle.std.proofs.Math.Seq.{take-append_seam, drop-append_seam}
 
 -- a list of contact numbers that a text can hold
 pub record IsContactList (ns : List ℕ) : Type 0 where
-  pub within : AreWithin 1 4294967295 ns
+  pub within : AreWithin 1 most_number ns
   pub few : length ns ≤ 20000
 
 -- ---- words
@@ -64,10 +63,10 @@ count_read n h = rw (label-there (codes "parts ") (decimal n)) (number_within-sp
 
 -- the words of a list of contact numbers
 pub contacts_words : (ns : List ℕ) → IsContactList ns → words_of (list_text ns) ≡ list_words ns
-contacts_words ns h = words-list 1 4294967295 (omega arith) ns h.within
+contacts_words ns h = words-list 1 most_number (omega arith) ns h.within
 
 pub contacts_read : (ns : List ℕ) → IsContactList ns → contacts_of (list_words ns) ≡ Some ns
-contacts_read ns h = list-read 1 4294967295 (omega arith) 20000 ns h.within h.few
+contacts_read ns h = list-read 1 most_number (omega arith) 20000 ns h.within h.few
 
 pub last_read : (ns : List ℕ) → IsContactList ns → last_listed (codes "last " ++ list_text ns) ≡ Some ns
 unfolding last_listed
@@ -90,14 +89,8 @@ old_request_text r = four_onto r []
 abbrev values : RouteRequest → ℕ → List ℕ → RequestValues
 values r hops avoid = record { from = r.source; to = r.destination; at = r.at; margin_ppm = r.margin; max_hops = hops; avoid = avoid }
 
-differ : (a b : ℕ) → (a ≡ b → ⊥) → eqb a b ≡ false
-differ a b h = grind (arith, nat_tests)
-
 some : (a : ℕ) → 0 < a → a ≡ 0 → ⊥
 some a h e = omega arith
-
-within : (high a : ℕ) → a ≤ high → ltb high a ≡ false
-within high a h = grind (arith, nat_tests)
 
 nodes_within : (ns : List ℕ) → AllByRecursion IsNode ns → AreWithin 0 18446744073709551615 ns
 nodes_within [] h = tt
@@ -157,11 +150,11 @@ module _ (r : RouteRequest) (h : IsRequest r) where
   destination_read : number_within 0 18446744073709551615 (decimal r.destination) ≡ Some r.destination
   destination_read = let b = h.destination.1 in number_within-spelled_within 0 18446744073709551615 (decimal r.destination) r.destination destination_short refl (omega arith) (omega arith)
 
-  margin_read : number_within 0 4294967295 (decimal r.margin) ≡ Some r.margin
-  margin_read = let b = h.margin in number_within-spelled_within 0 4294967295 (decimal r.margin) r.margin margin_short refl (omega arith) (omega arith)
+  margin_read : number_within 0 most_number (decimal r.margin) ≡ Some r.margin
+  margin_read = let b = h.margin in number_within-spelled_within 0 most_number (decimal r.margin) r.margin margin_short refl (omega arith) (omega arith)
 
-  hops_read : number_within 0 4294967295 (decimal r.max_hops) ≡ Some r.max_hops
-  hops_read = let b = h.hops.1 in number_within-spelled_within 0 4294967295 (decimal r.max_hops) r.max_hops hops_short refl (omega arith) (omega arith)
+  hops_read : number_within 0 most_number (decimal r.max_hops) ≡ Some r.max_hops
+  hops_read = let b = h.hops.1 in number_within-spelled_within 0 most_number (decimal r.max_hops) r.max_hops hops_short refl (omega arith) (omega arith)
 
   nodes_read : nodes_of (list_words r.avoided) ≡ Some r.avoided
   nodes_read = list-read 0 18446744073709551615 (omega arith) 16 r.avoided (accepted_nodes r h) (accepted_few r h)
@@ -177,15 +170,15 @@ module _ (r : RouteRequest) (h : IsRequest r) where
   -- an accepted request is not refused
   unrefused : request_refusal r.source r.destination r.at r.margin ≡ None
   unrefused =
-      let apart : eqb r.source r.destination ≡ false = differ r.source r.destination h.apart in
-      let one : eqb r.source 0 ≡ false = differ r.source 0 (some r.source h.source.0) in
-      let other : eqb r.destination 0 ≡ false = differ r.destination 0 (some r.destination h.destination.0) in
-      rw (apart, one, other, within last_time r.at h.time, within most_margin r.margin h.margin) refl
+      let apart : eqb r.source r.destination ≡ false = ne_eqb r.source r.destination h.apart in
+      let one : eqb r.source 0 ≡ false = ne_eqb r.source 0 (some r.source h.source.0) in
+      let other : eqb r.destination 0 ≡ false = ne_eqb r.destination 0 (some r.destination h.destination.0) in
+      rw (apart, one, other, le-ltb last_time r.at h.time, le-ltb most_margin r.margin h.margin) refl
 
   unlimited_unrefused : limit_refusal (unlimited r.source r.destination r.at r.margin) r.max_hops r.avoided ≡ None
   unlimited_unrefused =
-      let hops : eqb r.max_hops 0 ≡ false = differ r.max_hops 0 (some r.max_hops h.hops.0) in
-      rw (hops, within most_hops r.max_hops h.hops.1, h.avoids) refl
+      let hops : eqb r.max_hops 0 ≡ false = ne_eqb r.max_hops 0 (some r.max_hops h.hops.0) in
+      rw (hops, le-ltb most_hops r.max_hops h.hops.1, h.avoids) refl
 
   pub asked_is : asked (values r r.max_hops r.avoided) ≡ Ok r
   asked_is = rw (unrefused, unlimited_unrefused) refl

@@ -14,7 +14,7 @@ use Rattle.sabr_frontier.specs.listing.State.{PartState, pair_of}
 use Rattle.sabr_frontier.specs.tree.Undo.{last_item, front}
 use Rattle.sabr_frontier.proofs.TreeLemmas.NodePlaces.{last_split}
 use Rattle.sabr_session.specs.SpacedNumbers.{list_text}
-use Rattle.sabr_session.specs.SessionWords.{words_of, contacts_of}
+use Rattle.sabr_session.specs.SessionWords.{words_of, contacts_of, most_number}
 use Rattle.sabr_session.specs.SessionLines.{carried_of, part_of}
 use Rattle.sabr_session.specs.SessionRead.{Said, rise_strictly, comes_after, may_carry, line_said, read_lines}
 use Rattle.sabr_session.proofs.WordLemmas.PartWords.{three_lists}
@@ -66,10 +66,10 @@ part_read t h =
     ∙ ap (λ ws. list_words t.prefix ++ codes "/" ∷ ws) (list-apart t.excluded (list_text route) h.excluded)
     ∙ ap (λ ws. list_words t.prefix ++ codes "/" ∷ (list_words t.excluded ++ codes "/" ∷ ws)) (contacts_words route h.route) in
     let lists = three_lists (list_words t.prefix ++ codes "/" ∷ after) after (list_words route) t.prefix t.excluded route
-    (ap contacts_of (before-list 1 4294967295 (omega arith) t.prefix after h.prefix.within) ∙ contacts_read t.prefix h.prefix)
-    (sym (after-list 1 4294967295 (omega arith) t.prefix after h.prefix.within))
-    (ap contacts_of (before-list 1 4294967295 (omega arith) t.excluded (list_words route) h.excluded.within) ∙ contacts_read t.excluded h.excluded)
-    (sym (after-list 1 4294967295 (omega arith) t.excluded (list_words route) h.excluded.within))
+    (ap contacts_of (before-list 1 most_number (omega arith) t.prefix after h.prefix.within) ∙ contacts_read t.prefix h.prefix)
+    (sym (after-list 1 most_number (omega arith) t.prefix after h.prefix.within))
+    (ap contacts_of (before-list 1 most_number (omega arith) t.excluded (list_words route) h.excluded.within) ∙ contacts_read t.excluded h.excluded)
+    (sym (after-list 1 most_number (omega arith) t.excluded (list_words route) h.excluded.within))
     (contacts_read route h.route) in
     rw (spelled_is t, label-there (codes "part ") (lists_text t.prefix t.excluded (list_text route)), words, lists, carried-back t.carried h.some_hop) refl
 
@@ -79,7 +79,7 @@ part_line_is t h =
     (refl, (one t.prefix h.prefix, (refl, (one t.excluded h.excluded, (refl, (one (unwrap_or t.carried []) h.route, tt))))))
   where
     one : (ns : List ℕ) → IsContactList ns → is_one_line (list_text ns) ≡ true
-    one ns k = list_line 1 4294967295 (omega arith) ns k.within
+    one ns k = list_line 1 most_number (omega arith) ns k.within
 
 pub part_length : (t : PartState) → PartIsTellable t → length (spelled_part t) ≤ 660008
 part_length t h =
@@ -90,7 +90,7 @@ part_length t h =
     omega (arith, whole, p, x, r)
   where
     short : (ns : List ℕ) → IsContactList ns → length (list_text ns) ≤ 219999
-    short ns k = list_length 1 4294967295 (omega arith) ns k.within k.few
+    short ns k = list_length 1 most_number (omega arith) ns k.within k.few
 
 -- ---- parts in turn
 

@@ -27,6 +27,7 @@ use Rattle.sabr_session.proofs.TextLemmas.SpelledHead.{accepted_nodes, accepted_
 use Rattle.sabr_session.proofs.TextLemmas.SpelledParts.{part_pieces, spelled_part, part_line_is, ArePartsOf, read_on, parts_read}
 use Rattle.sabr_session.proofs.ReadingLemmas.ShortStates.{StateIsTellable}
 use Rattle.sabr_plan.proofs.Held.{one_line-append}
+use Rattle.sabr_session.specs.SessionWords.{most_number}
 
 -- ---- the lines of a text
 
@@ -155,7 +156,7 @@ module _ (p : ContactPlan) (r : RouteRequest) (s : State) (told : IsRequest r) (
   all_said v = record { version = v; request = r; emitted = s.emitted; last_route = s.last; count = length s.parts; parts = s.parts }
 
   list_short : length (list_text s.last) ≤ 219999
-  list_short = list_length 1 4294967295 (omega arith) s.last state.latest.within state.latest.few
+  list_short = list_length 1 most_number (omega arith) s.last state.latest.within state.latest.few
 
   -- the lines after the request
   state_read : (v : Version) → read_lines p (digest_of p) 4 (asked_so v) (state_words s) ≡ Ok (all_said v)
@@ -179,7 +180,7 @@ module _ (p : ContactPlan) (r : RouteRequest) (s : State) (told : IsRequest r) (
   state_lines_are = (
     one_line-append (codes "emitted ") (decimal s.emitted) refl (number_line s.emitted state.given),
     (
-      one_line-append (codes "last ") (list_text s.last) refl (list_line 1 4294967295 (omega arith) s.last state.latest.within),
+      one_line-append (codes "last ") (list_text s.last) refl (list_line 1 most_number (omega arith) s.last state.latest.within),
       (
         one_line-append (codes "parts ") (decimal (length s.parts)) refl (number_line (length s.parts) (omega (arith, text))),
         parts_lines p r s.parts state.each,

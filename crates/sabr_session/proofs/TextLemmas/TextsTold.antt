@@ -1,9 +1,8 @@
 -- A text that is read without a fault is the spelling of what it says, in one of the versions.
 use Rattle.std.proofs.Common.{◌≡◌, ℕ, ◌+◌, ◌<◌, ◌≤◌, Bool, true, false, cond, ◌&&◌, not, eqb, ltb, ◌⊎◌, inl, inr, List, [], ◌∷◌, ◌++◌, length, flat_map, refl, sym, subst, ap, ◌∙◌, arith, append_assoc, append-nil, decimal, codes, Ok, Err}
-use Rattle.std.proofs.lemmas.Bool.{le-ltb}
+use Rattle.std.proofs.lemmas.Bool.{le-ltb, lt-ltb}
 use Rattle.sabr_session.proofs.WordLemmas.SpelledWords.{other_number}
 use borrow.Author.Tests.{ltb-true, ltb-false, eqb-true}
-use Rattle.std.proofs.lemmas.Bool.Decides.{nat_tests}
 use Rattle.hex.specs.Hex.{encode_lower}
 use Rattle.sabr_model.specs.plan.Plan.{ContactPlan}
 use Rattle.sabr_model.specs.routes.Arrival.{RouteRequest}
@@ -107,13 +106,10 @@ module _ (p : ContactPlan) (h : List ℕ) where
         other_number n 4 (omega arith),
         other_number n 5 (omega arith),
         other_number n 6 (omega arith),
-        before n (7 + s.count) more,
+        lt-ltb n (7 + s.count) more,
       ) at e in
       let k = and_then_ok (placed p n s) (spelled_at n (part_of line)) t said in
       (k.0, part_told line k.0 (spelled_at_ok n (part_of line) k.0 k.1), placed_told n s t k.0 k.2)
-    where
-      before : (a b : ℕ) → a < b → ltb a b ≡ true
-      before a b less = grind (arith, nat_tests)
 
   -- the line after the parts
   end_line_told : (n : ℕ) (s t : Said) (line : List ℕ) → 6 < n → 7 + s.count ≤ n → line_said p h n s line ≡ Ok t

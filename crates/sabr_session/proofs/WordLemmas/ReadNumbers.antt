@@ -1,7 +1,6 @@
 -- Lists of numbers, as far as they are read.
 use Rattle.std.proofs.Common.{◌≡◌, ℕ, ◌<◌, ◌≤◌, leb, ltb, cond, ◌&&◌, true, false, List, [], ◌∷◌, ◌++◌, length, map, option_map, refl, sym, ap, ◌∙◌, arith, append-nil, append_assoc, length-append}
-use Rattle.std.proofs.lemmas.Bool.{le-leb, lt-leb}
-use Rattle.std.proofs.lemmas.Bool.Decides.{nat_tests}
+use Rattle.std.proofs.lemmas.Bool.{le-leb, lt-leb, lt-ltb}
 use Rattle.std.proofs.Math.Bool.{and-false}
 use Rattle.std.specs.declared.option.Option.{Option}
 use Rattle.std.specs.declared.option.Option.TheVariants.{Some, None}
@@ -37,9 +36,6 @@ pub with_front-end : (f : List ℕ → Option ℕ) (so_far : List ℕ) (whole : 
     → whole ≡ with_front so_far (all_of (map f ps)) → ps ≡ [] → whole ≡ Some so_far
 with_front-end f so_far whole ps w e = w ∙ ap (λ xs. with_front so_far (all_of (map f xs))) e ∙ ap Some (append-nil so_far)
 
-some : (a : ℕ) → 0 < a → ltb 0 a ≡ true
-some a h = grind (arith, nat_tests)
-
 full : (most : ℕ) (so_far : List ℕ) (n : ℕ) (rest : Option (List ℕ)) → length so_far ≡ most → counted most (with_front (so_far ++ n ∷ []) rest) ≡ None
 full most so_far n None h = refl
 full most so_far n (Some ns) h =
@@ -56,7 +52,7 @@ with_front-full f most so_far whole ps qs p n w e is h = ap (counted most) (with
 -- one or more, and not too many
 pub counted-some : (most : ℕ) (found : Option (List ℕ)) (ns : List ℕ) → found ≡ Some ns → 0 < length ns → length ns ≤ most → counted most found ≡ Some ns
 counted-some most found ns e a b =
-    ap (counted most) e ∙ ap (λ t. cond (t && leb (length ns) most) (Some ns) None) (some (length ns) a)
+    ap (counted most) e ∙ ap (λ t. cond (t && leb (length ns) most) (Some ns) None) (lt-ltb 0 (length ns) a)
     ∙ ap (λ t. cond t (Some ns) None) (le-leb (length ns) most b)
 
 -- none

@@ -7,7 +7,7 @@ use Rattle.std.proofs.lemmas.Slice.Eq.{bytes_eq-Decides}
 use Rattle.std.specs.declared.option.Option.{Option}
 use Rattle.std.specs.declared.option.Option.TheVariants.{Some, None}
 use Rattle.sabr_plan.proofs.SpelledNumbers.{within_none}
-use Rattle.sabr_session.specs.SessionWords.{all_of, counted, is_dash, list_within, contacts_of, is_slash, before_slash, after_slash}
+use Rattle.sabr_session.specs.SessionWords.{all_of, counted, is_dash, list_within, contacts_of, is_slash, before_slash, after_slash, most_number}
 use Rattle.sabr_plan.specs.Numbers.{number_within}
 
 -- another word comes first
@@ -82,7 +82,7 @@ undashed (w ∷ []) e = by_first (is_slash w) refl
         absurd cc
 
 -- neither are numbers
-pub numbers-undashed : (ws : List (List ℕ)) (ns : List ℕ) → all_of (map (number_within 1 4294967295) ws) ≡ Some ns → is_dash ws ≡ false
+pub numbers-undashed : (ws : List (List ℕ)) (ns : List ℕ) → all_of (map (number_within 1 most_number) ws) ≡ Some ns → is_dash ws ≡ false
 numbers-undashed [] ns e = refl
 numbers-undashed (w ∷ v ∷ ws) ns e = refl
 numbers-undashed (w ∷ []) ns e = by_word (bytes_eq w (codes "-")) refl
@@ -91,14 +91,14 @@ numbers-undashed (w ∷ []) ns e = by_word (bytes_eq w (codes "-")) refl
     by_word false is = refl
     by_word true is =
         let same : w ≡ codes "-" = (bytes_eq-Decides w (codes "-")).0 is in
-        let none : number_within 1 4294967295 w ≡ None = ap (number_within 1 4294967295) same ∙ no_dash 1 4294967295 (omega arith) in
+        let none : number_within 1 most_number w ≡ None = ap (number_within 1 most_number) same ∙ no_dash 1 most_number (omega arith) in
         let no : None ≡ Some ns = sym (ap (λ o. all_of (o ∷ [])) none) ∙ e in
         absurd cc
 
 -- a list with `/` in it is refused
 pub slash_refused : (ws : List (List ℕ)) → list_any is_slash ws ≡ true → contacts_of ws ≡ None
 unfolding list_within
-slash_refused ws e = rw (undashed ws e) (ap (counted 20000) (unnumbered 1 4294967295 ws (omega arith) e))
+slash_refused ws e = rw (undashed ws e) (ap (counted 20000) (unnumbered 1 most_number ws (omega arith) e))
 
 -- numbers or `-` up to the end, and nothing after them
 pub list-ended : (ws : List (List ℕ)) (ns : List ℕ) (stopped : Bool) → contacts_of (before_slash ws) ≡ Some ns → stopped ≡ list_any is_slash ws
@@ -120,6 +120,6 @@ unfolding list_within
 dashed ws e = rw e refl
 
 -- or numbers
-pub numbered : (ws : List (List ℕ)) (r : Option (List ℕ)) → is_dash ws ≡ false → counted 20000 (all_of (map (number_within 1 4294967295) ws)) ≡ r → contacts_of ws ≡ r
+pub numbered : (ws : List (List ℕ)) (r : Option (List ℕ)) → is_dash ws ≡ false → counted 20000 (all_of (map (number_within 1 most_number) ws)) ≡ r → contacts_of ws ≡ r
 unfolding list_within
 numbered ws r e c = rw e c

@@ -7,7 +7,7 @@ use Rattle.std.specs.Str.Parse.{digits_value}
 use Rattle.std.proofs.lemmas.List.Splits.{join_with_byte-slice_split}
 use Rattle.std.proofs.lemmas.Slice.Eq.{bytes_eq-Decides}
 use Rattle.sabr_session.specs.SpacedNumbers.{list_text}
-use Rattle.sabr_session.specs.SessionWords.{words_of, all_of, counted, is_dash, list_within, contacts_of, is_slash, before_slash, after_slash}
+use Rattle.sabr_session.specs.SessionWords.{words_of, all_of, counted, is_dash, list_within, contacts_of, is_slash, before_slash, after_slash, most_number}
 use Rattle.sabr_plan.specs.Numbers.{number_within}
 
 -- words, separated by single spaces
@@ -116,9 +116,9 @@ slash_parted (u ∷ us) v vs e = by_first (is_slash u) refl e (slash_parted us v
 pub slash_joined : (words : List (List ℕ)) (x y : List ℕ) → contacts_of (before_slash words) ≡ Some x → (v : List ℕ) (vs : List (List ℕ)) → after_slash words ≡ v ∷ vs → joined (after_slash words) ≡ y
     → joined words ≡ list_text x ++ (codes " / " ++ y)
 slash_joined words x y first v vs after e =
-    let w = list_has_word 20000 1 4294967295 (before_slash words) x first in
+    let w = list_has_word 20000 1 most_number (before_slash words) x first in
     let whole : words ≡ (w.0 ∷ w.1) ++ codes "/" ∷ v ∷ vs = slash_parted words v vs after ∙ ap (λ (ws : List (List ℕ)). ws ++ codes "/" ∷ v ∷ vs) w.2 in
-    let front : joined (w.0 ∷ w.1) ≡ list_text x = ap joined (sym w.2) ∙ list_told 20000 1 4294967295 (before_slash words) x first in
+    let front : joined (w.0 ∷ w.1) ≡ list_text x = ap joined (sym w.2) ∙ list_told 20000 1 most_number (before_slash words) x first in
     let back : joined (v ∷ vs) ≡ y = ap joined (sym after) ∙ e in
     ap joined whole ∙ joined-append w.0 w.1 (codes "/") (v ∷ vs) ∙ ap (λ (t : List ℕ). t ++ 32 ∷ 47 ∷ 32 ∷ joined (v ∷ vs)) front
     ∙ ap (λ (t : List ℕ). list_text x ++ 32 ∷ 47 ∷ 32 ∷ t) back

@@ -118,10 +118,7 @@ impl<A: Allocator + Copy> Head<A> {
         ensures value { Leaves (last_said self.old line.now) result self.new }
         ensures refused { OnErr result (self.new ≡ self.old) }
     {
-        let Ok(listed) = last_listed(self.alloc, line) else {
-            return Err(SessionFault::NoMemory);
-        };
-        self.last = listed.ok_or(SessionFault::BadLine(5))?;
+        self.last = last_listed(self.alloc, line)?.ok_or(SessionFault::BadLine(5))?;
         Ok(())
     }
 

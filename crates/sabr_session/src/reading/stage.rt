@@ -91,9 +91,7 @@ impl<'p, B: BestOf<A>, A: Allocator + Copy> Stage<'p, B, A> {
         ensures kept { (self.new.plan ≡ self.old.plan) × (self.new.calls ≡ self.old.calls) × (self.new.has_request ≡ true) }
         ensures err { OnErr result (self.new ≡ self.old) }
     {
-        let Ok(found) = self.part.read(line) else {
-            return Err(SessionFault::NoMemory);
-        };
+        let found = self.part.read(line)?;
         let Some(loader) = &mut self.loader else {
             unreachable!()
         };

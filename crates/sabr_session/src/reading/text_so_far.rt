@@ -113,9 +113,7 @@ impl<'p, B: BestOf<A>, A: Allocator + Copy> TextSoFar<'p, B, A> {
         if self.held.len() == 0 {
             return self.lines.read_line(&self.digest, back);
         }
-        let Ok(()) = self.held.append(back) else {
-            return Err(SessionFault::NoMemory);
-        };
+        self.held.append(back)?;
         let answer = self.lines.read_line(&self.digest, self.held.as_slice());
         self.held.clear();
         answer
@@ -138,9 +136,7 @@ impl<'p, B: BestOf<A>, A: Allocator + Copy> TextSoFar<'p, B, A> {
         if self.lines.has_end() || bytes.len() > room {
             return Err(misspelled(number));
         }
-        let Ok(()) = self.held.append(bytes) else {
-            return Err(SessionFault::NoMemory);
-        };
+        self.held.append(bytes)?;
         Ok(())
     }
 

@@ -5,7 +5,7 @@ ghost use Rattle.std.specs.List.{position};
 ghost use Rattle.std.specs.Option.{option_copied};
 ghost use Rattle.std.specs.Str.{bytes_eq};
 ghost use Rattle.sabr_plan.specs.Numbers.{number_within};
-ghost use Rattle.sabr_session.specs.SessionWords.{is_space, words_of, words_after};
+ghost use Rattle.sabr_session.specs.SessionWords.{is_space, words_of, words_after, most_number};
 
 use sabr_plan::{leading_number, number_within};
 
@@ -42,8 +42,8 @@ pub(crate) fn is_word(word: &[u8], text: &[u8]) -> bool
 #[inline(always)]
 fn plain_number(text: &[u8]) -> Option<(&[u8], u64, Option<&[u8]>)>
     ensures words { IfSome result (λ r. words_of text.now ≡ r.0.now ∷ words_after (option_copied r.2)) }
-    ensures number { IfSome result (λ r. number_within 1 4294967295 r.0.now ≡ Some r.1) }
-    ensures limit { IfSome result (λ r. r.1 ≤ 4294967295) }
+    ensures number { IfSome result (λ r. number_within 1 most_number r.0.now ≡ Some r.1) }
+    ensures limit { IfSome result (λ r. r.1 ≤ most_number) }
 {
     let (value, word, after) = leading_number(text, 1, MOST_NUMBER)?;
     if after.is_empty() {
@@ -58,8 +58,8 @@ fn plain_number(text: &[u8]) -> Option<(&[u8], u64, Option<&[u8]>)>
 #[inline(always)]
 pub(crate) fn first_number(text: &[u8]) -> (&[u8], Option<u64>, Option<&[u8]>)
     ensures words { words_of text.now ≡ result.0.now ∷ words_after (option_copied result.2) }
-    ensures number { result.1 ≡ number_within 1 4294967295 result.0.now }
-    ensures limit { IfSome result.1 (λ n. n ≤ 4294967295) }
+    ensures number { result.1 ≡ number_within 1 most_number result.0.now }
+    ensures limit { IfSome result.1 (λ n. n ≤ most_number) }
 {
     if let Some((word, number, rest)) = plain_number(text) {
         return (word, Some(number), rest);

@@ -5,7 +5,7 @@ ghost use Rattle.std.specs.List.{concat};
 ghost use Rattle.sabr_model.specs.Devices.{WritesText};
 ghost use Rattle.sabr_plan.specs.Times.{last_spelled};
 ghost use Rattle.sabr_session.specs.Gathering.{Puts};
-ghost use Rattle.sabr_session.specs.ReportText.{HasSpelledTimes, told_pieces, route_line, report_line, report_lines, last_line, report_text};
+ghost use Rattle.sabr_session.specs.ReportText.{HasSpelledTimes, figure_pieces, route_line, report_line, report_lines, last_line, report_text};
 
 use crate::writing::put_lists::put_pieces;
 use crate::writing::put_numbers::{put_digits, put_numbers};
@@ -117,13 +117,13 @@ pub fn put_route_line<W: Write>(
     requires { (delivery ≤ last_spelled) × (until ≤ last_spelled) }
     ensures { Puts W.output text.old (route_line (record { contacts = contacts.now; delivery = delivery; until = until; entry = entry })) result text.new }
 {
-    put_told(text, contacts, delivery, until, entry)?;
+    put_figures(text, contacts, delivery, until, entry)?;
     put_numbers(text, contacts)?;
     text.put(b"\n")
 }
 
 /// Puts the line of a route up to the numbers of its contacts.
-fn put_told<W: Write>(
+fn put_figures<W: Write>(
     text: &mut TextBuffer<'_, W>,
     contacts: &[u32],
     delivery: u64,
@@ -131,7 +131,7 @@ fn put_told<W: Write>(
     entry: u64,
 ) -> Result<(), WriteFault>
     requires { (delivery ≤ last_spelled) × (until ≤ last_spelled) }
-    ensures { Puts W.output text.old (concat (told_pieces (record { contacts = contacts.now; delivery = delivery; until = until; entry = entry }))) result text.new }
+    ensures { Puts W.output text.old (concat (figure_pieces (record { contacts = contacts.now; delivery = delivery; until = until; entry = entry }))) result text.new }
 {
     let mut hops = Buffer::new();
     let mut node = Buffer::new();

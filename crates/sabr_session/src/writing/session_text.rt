@@ -6,10 +6,10 @@ ghost use Rattle.std.specs.Option.{option_map, option_copied};
 ghost use Rattle.sabr_model.specs.Devices.{WritesText};
 ghost use Rattle.sabr_plan.specs.Canonical.{digest_of};
 ghost use Rattle.sabr_frontier.specs.tree.Shape.{numbers_of};
-ghost use Rattle.sabr_frontier.specs.session.Views.{told_of, told_left};
+ghost use Rattle.sabr_frontier.specs.session.Views.{seen_of, seen_left};
 ghost use Rattle.sabr_session.specs.Gathering.{Puts};
 ghost use Rattle.sabr_session.specs.SessionText.{plan_line, request_line, state_lines, text_of, text_of_session, HasText};
-ghost use Rattle.sabr_session.specs.SessionPieces.{asked_pieces, counts_pieces, told_line};
+ghost use Rattle.sabr_session.specs.SessionPieces.{asked_pieces, counts_pieces, seen_line};
 
 use crate::hex_digest::digest_text;
 use crate::writing::put_lists::{put_list, put_pieces};
@@ -138,7 +138,7 @@ fn put_parts<W: Write, A: Allocator + Copy>(
     text: &mut TextBuffer<'_, W>,
     parts: Parts<'_, A>,
 ) -> Result<(), WriteFault>
-    ensures { Puts W.output text.old (flat_map told_line (told_left parts.entry)) result text.new }
+    ensures { Puts W.output text.old (flat_map seen_line (seen_left parts.entry)) result text.new }
 {
     for part in parts {
         put_part(text, &part)?;
@@ -151,7 +151,7 @@ fn put_part<W: Write, A: Allocator + Copy>(
     text: &mut TextBuffer<'_, W>,
     part: &PartView<'_, A>,
 ) -> Result<(), WriteFault>
-    ensures { Puts W.output text.old (told_line (told_of part.now)) result text.new }
+    ensures { Puts W.output text.old (seen_line (seen_of part.now)) result text.new }
 {
     put_list(text, b"part ", part.prefix)?;
     put_list(text, b" / ", part.excluded)?;

@@ -1,10 +1,11 @@
 use Rattle.std.proofs.Common.{◌≡◌, ap, sym, subst, ◌∙◌, Some, None, Ok, Err}
 use Rattle.std.proofs.lemmas.Bool.{and_parts}
-use Rattle.std.specs.Prelude.{Result}
+use Rattle.std.specs.Prelude.{IsOkUnless, Result}
+use Rattle.std.proofs.lemmas.Result.{err_from_is_err_and}
 use Rattle.std.specs.Option.{option_copied}
 use Rattle.sabr_frontier.specs.declared.loader.load_fault.LoadFault.{LoadFault}
 use Rattle.sabr_frontier.specs.declared.loader.load_fault.LoadFault.TheVariants as load
-use Rattle.sabr_frontier.specs.loading.Loading.{Loaded, comes_after, part_refusal, rise_strictly, with_part}
+use Rattle.sabr_frontier.specs.loading.Loading.{Loaded, comes_after, refusal_by, rise_strictly, with_part}
 use Rattle.sabr_frontier.specs.listing.State.{PartState}
 use Rattle.sabr_frontier.specs.loading.Holding.{IsHeld, holding_of, loaded, parts_in}
 use Rattle.sabr_frontier.proofs.LoadingLemmas.AnsweredParts.{held_more, parts_then}
@@ -17,7 +18,7 @@ returns-then-not-is_next-clause-refused g c =
     let p = s.question.plan.now.plan in
     let parts = parts_in (holding_of s.held) in
     let t : PartState = record { prefix = c.args.prefix.now; excluded = c.args.excluded.now; carried = option_copied c.args.route } in
-    subst (λ (v : Loaded). (f : LoadFault) → part_refusal v.plan.plan v.request v.parts t ≡ Some f → ◌≡◌ {A = Result (Unit {0}) LoadFault} (Err load.BadOrder) (Err f)) c.self.view_is
+    subst (λ (v : Loaded). (f : LoadFault) → refusal_by v t ≡ Some f → ◌≡◌ {A = Result (Unit {0}) LoadFault} (Err load.BadOrder) (Err f)) c.self.view_is
     (λ f h. told p s.question.request parts t load.BadOrder f (order_refused p s.question.request parts t (sym c.is_next.ensures ∙ c.if-not-is_next.true)) h)
 
 pub returns-then-not-is_next-clause-accepted : goal.returns-then-not-is_next-clause-accepted
@@ -26,26 +27,28 @@ returns-then-not-is_next-clause-accepted g c =
     let p = s.question.plan.now.plan in
     let parts = parts_in (holding_of s.held) in
     let t : PartState = record { prefix = c.args.prefix.now; excluded = c.args.excluded.now; carried = option_copied c.args.route } in
-    subst (λ (v : Loaded). part_refusal v.plan.plan v.request v.parts t ≡ None → load.BadOrder ≡ load.NoMemory) c.self.view_is
+    subst (λ (v : Loaded). refusal_by v t ≡ None → load.BadOrder ≡ load.NoMemory) c.self.view_is
     (λ h. accepted p s.question.request parts t load.BadOrder h (order_refused p s.question.request parts t (sym c.is_next.ensures ∙ c.if-not-is_next.true)))
 
-pub returns-in-Err-clause-refused : goal.returns-in-Err-clause-refused
-returns-in-Err-clause-refused g c =
+pub returns-in_err-route-clause-refused : goal.returns-in_err-route-clause-refused
+returns-in_err-route-clause-refused g c =
     let s = c.self.inside in
     let p = s.question.plan.now.plan in
     let parts = parts_in (holding_of s.held) in
     let t : PartState = record { prefix = c.args.prefix.now; excluded = c.args.excluded.now; carried = option_copied c.args.route } in
-    subst (λ (v : Loaded). (f : LoadFault) → part_refusal v.plan.plan v.request v.parts t ≡ Some f → ◌≡◌ {A = Result (Unit {0}) LoadFault} (Err c.in-Err.fault) (Err f)) c.self.view_is
-    (λ f h. carry_told p s.question.request parts t c.in-Err.fault (sym c.is_next.ensures ∙ c.if-not-is_next.false) c.in-Err.ensures.err f h)
+    let (failure, is, same) = err_from_is_err_and c.from_residual.result c.from_residual.ensures.1 in
+    subst (λ (v : Loaded). (f : LoadFault) → refusal_by v t ≡ Some f → c.from_residual.result ≡ Err f) c.self.view_is
+    (λ f h. is ∙ ap Err same ∙ carry_told p s.question.request parts t c.in_err-route.field-0.0 (sym c.is_next.ensures ∙ c.if-not-is_next.false) c.in_err-route.ensures.err f h)
 
-pub returns-in-Err-clause-accepted : goal.returns-in-Err-clause-accepted
-returns-in-Err-clause-accepted g c =
+pub returns-in_err-route-clause-accepted : goal.returns-in_err-route-clause-accepted
+returns-in_err-route-clause-accepted g c =
     let s = c.self.inside in
     let p = s.question.plan.now.plan in
     let parts = parts_in (holding_of s.held) in
     let t : PartState = record { prefix = c.args.prefix.now; excluded = c.args.excluded.now; carried = option_copied c.args.route } in
-    subst (λ (v : Loaded). part_refusal v.plan.plan v.request v.parts t ≡ None → c.in-Err.fault ≡ load.NoMemory) c.self.view_is
-    (λ h. carry_accepted p s.question.request parts t c.in-Err.fault (sym c.is_next.ensures ∙ c.if-not-is_next.false) c.in-Err.ensures.err h)
+    let (failure, is, same) = err_from_is_err_and c.from_residual.result c.from_residual.ensures.1 in
+    subst (λ (v : Loaded). refusal_by v t ≡ None → IsOkUnless c.from_residual.result load.NoMemory) c.self.view_is
+    (λ h. rw (is, same) (carry_accepted p s.question.request parts t c.in_err-route.field-0.0 (sym c.is_next.ensures ∙ c.if-not-is_next.false) c.in_err-route.ensures.err h))
 
 pub invariant_of-self : goal.invariant_of-self
 invariant_of-self g c =
@@ -53,17 +56,17 @@ invariant_of-self g c =
     record {
       rules = c.self.invariant.rules;
       limits = c.self.invariant.limits;
-      held = subst (IsHeld s.question.plan.now.plan s.question.request) (sym c.in_default.ensures.err) c.self.invariant.held;
+      held = subst (IsHeld s.question.plan.now.plan s.question.request) (sym c.in_err-take_in.ensures.err) c.self.invariant.held;
     }
 
-pub returns-in_default-clause-refused : goal.returns-in_default-clause-refused
-returns-in_default-clause-refused g c =
+pub returns-in_err-take_in-clause-refused : goal.returns-in_err-take_in-clause-refused
+returns-in_err-take_in-clause-refused g c =
     let s = c.self.inside in
     let p = s.question.plan.now.plan in
     let parts = parts_in (holding_of s.held) in
     let t : PartState = record { prefix = c.args.prefix.now; excluded = c.args.excluded.now; carried = option_copied c.args.route } in
-    subst (λ (v : Loaded). (f : LoadFault) → part_refusal v.plan.plan v.request v.parts t ≡ Some f → ◌≡◌ {A = Result (Unit {0}) LoadFault} (Err load.NoMemory) (Err f)) c.self.view_is
-    (λ f h. accepted p s.question.request parts t f (not_refused p s.question.request parts t (sym c.is_next.ensures ∙ c.if-not-is_next.false) c.in-Ok.ensures.may) h)
+    subst (λ (v : Loaded). (f : LoadFault) → refusal_by v t ≡ Some f → c.from_residual-in_err-take_in.result ≡ Err f) c.self.view_is
+    (λ f h. accepted p s.question.request parts t f (not_refused p s.question.request parts t (sym c.is_next.ensures ∙ c.if-not-is_next.false) c.in_ok-route.ensures.may) h)
 
 pub invariant_of-self-2 : goal.invariant_of-self-2
 invariant_of-self-2 g c =
@@ -75,11 +78,11 @@ invariant_of-self-2 g c =
     let q = c.args.prefix.now in
     let X = c.args.excluded.now in
     let next = and_parts (rise_strictly X) (comes_after parts q) (sym c.is_next.ensures ∙ c.if-not-is_next.false) in
-    let w = c.in-Ok-taken.ensures.ok in
+    let w = c.in_ok-take_in.ensures.ok in
     record {
       rules = c.self.invariant.rules;
       limits = c.self.invariant.limits;
-      held = subst (IsHeld p r) (sym w.2) (held_more p r h c.self.invariant.held q X c.in-Ok.route (option_copied c.args.route) c.in-Ok.ensures.ok next.0 next.1 c.in-Ok.ensures.may w.0 w.1);
+      held = subst (IsHeld p r) (sym w.2) (held_more p r h c.self.invariant.held q X c.in_ok-route.route (option_copied c.args.route) c.in_ok-route.ensures.ok next.0 next.1 c.in_ok-route.ensures.may w.0 w.1);
     }
 
 pub returns-clause-refused : goal.returns-clause-refused
@@ -88,8 +91,8 @@ returns-clause-refused g c =
     let p = s.question.plan.now.plan in
     let parts = parts_in (holding_of s.held) in
     let t : PartState = record { prefix = c.args.prefix.now; excluded = c.args.excluded.now; carried = option_copied c.args.route } in
-    subst (λ (v : Loaded). (f : LoadFault) → part_refusal v.plan.plan v.request v.parts t ≡ Some f → ◌≡◌ {A = Result (Unit {0}) LoadFault} (Ok tt) (Err f)) c.self.view_is
-    (λ f h. accepted p s.question.request parts t f (not_refused p s.question.request parts t (sym c.is_next.ensures ∙ c.if-not-is_next.false) c.in-Ok.ensures.may) h)
+    subst (λ (v : Loaded). (f : LoadFault) → refusal_by v t ≡ Some f → ◌≡◌ {A = Result (Unit {0}) LoadFault} (Ok tt) (Err f)) c.self.view_is
+    (λ f h. accepted p s.question.request parts t f (not_refused p s.question.request parts t (sym c.is_next.ensures ∙ c.if-not-is_next.false) c.in_ok-route.ensures.may) h)
 
 pub returns-clause-ok : goal.returns-clause-ok
 returns-clause-ok g c =
@@ -100,7 +103,7 @@ returns-clause-ok g c =
     let q = c.args.prefix.now in
     let X = c.args.excluded.now in
     let t : PartState = record { prefix = q; excluded = X; carried = option_copied c.args.route } in
-    let w = c.in-Ok-taken.ensures.ok in
-    let parts = ap parts_in w.2 ∙ parts_then p r h c.self.invariant.held q X c.in-Ok.route (option_copied c.args.route) c.in-Ok.ensures.ok w.0 in
-    subst (λ (v : Loaded). loaded s.question.plan.now r c.take_in-taken.new.self (g.B.BestOf.calls_of s.finder) ≡ with_part v t) c.self.view_is
+    let w = c.in_ok-take_in.ensures.ok in
+    let parts = ap parts_in w.2 ∙ parts_then p r h c.self.invariant.held q X c.in_ok-route.route (option_copied c.args.route) c.in_ok-route.ensures.ok w.0 in
+    subst (λ (v : Loaded). loaded s.question.plan.now r c.take_in.new.self (g.B.BestOf.calls_of s.finder) ≡ with_part v t) c.self.view_is
     (λ i. record { plan = s.question.plan.now; request = r; parts = parts i; calls = g.B.BestOf.calls_of s.finder })

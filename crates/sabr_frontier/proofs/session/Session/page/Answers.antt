@@ -1,64 +1,76 @@
 use Rattle.std.proofs.Common.{◌≡◌, ◌+◌, ◌-◌, ◌<◌, ◌≤◌, ◌⊎◌, inl, inr, ℕ, List, [], ◌∷◌, ◌++◌, map, length, reverse, arith, ap, sym, subst, ◌∙◌, None}
 use Rattle.sabr_model.specs.routes.Record.{record_of}
-use Rattle.sabr_frontier.specs.tree.Asking.{Asked}
+use Rattle.sabr_frontier.specs.declared.tree.Tree.{Tree}
+use Rattle.sabr_frontier.specs.tree.Asking.{Asked, Asking}
 use Rattle.sabr_frontier.specs.listing.State.{State}
-use Rattle.sabr_frontier.specs.listing.Listing.{next_route, searches_in, steps}
+use Rattle.sabr_frontier.specs.listing.Listing.{next_route}
 use Rattle.sabr_frontier.specs.tree.Shape.{Shape, shape_of, shown}
-use Rattle.sabr_frontier.specs.session.Session.{Seen, AreStarts, IsSession, IsSound, former_of, former_then, tree_before}
+use Rattle.sabr_frontier.specs.session.Session.{Seen, AreStarts, IsSession, IsSound, former_of, former_then, next_page, page_searches, seen, tree_before}
 use Rattle.sabr_frontier.proofs.SessionLemmas.Pages.{sound_tree, counts_idle, sound_undos, last_first, idle, busy, carried_or_not}
 use Rattle.sabr_frontier.specs.tree.Undo.{IsIndexBack}
-use Rattle.sabr_frontier.specs.tree.Winners.{CarriesNone}
+use Rattle.sabr_frontier.specs.tree.Winners.{CarriesNone, CarriesSome}
 use Rattle.sabr_frontier.proofs.TreeLemmas.MergedIndex.{back_before, part_before}
 use Rattle.sabr_frontier.specs.listing.Fresh.{GivesNewRoutes}
 use Rattle.sabr_frontier.proofs.ListingLemmas.NewRoutes.{new_routes}
 use Rattle.sabr_frontier.proofs.session.Session.page.Goals as goal
 use Rattle.sabr_frontier.proofs.session.Session.page.Goals.{then-count-eq0-via-then-count-eq0, then-count-eq0-via-else-count-eq0+then-is_empty}
 
+-- what is shown of a session, and a page of k routes
+module _ {A : Type 0} (asker : Asking) (tree : Tree A) (pages : List ℕ) (searches : ℕ) (h : IsSession asker.asked tree pages) (v : Seen) (is : seen asker tree pages searches ≡ v) (k : ℕ) where
+  -- if none is asked for or left, none is given
+  nothing : (k ≡ 0) ⊎ CarriesNone tree.nodes.items → next_page v k ≡ ([], v.state)
+  nothing none = subst (λ (w : Seen). next_page w k ≡ ([], w.state)) is (idle asker.asked.plan.plan asker.asked.request h.rules (shape_of tree) h.sound k none)
+
+  no_search : (k ≡ 0) ⊎ CarriesNone tree.nodes.items → page_searches v k ≡ 0
+  no_search none = subst (λ (w : Seen). page_searches w k ≡ 0) is (counts_idle asker.asked.plan.plan asker.asked.request h.rules (shape_of tree) h.sound k none)
+
+  -- if some are, it isn't so that none is
+  something : 0 < k → CarriesSome tree.nodes.items → (k ≡ 0) ⊎ (next_route v.plan.plan v.request v.state ≡ None) → ⊥
+  something l some none =
+      carried_or_not asker.asked.plan.plan asker.asked.request h.rules (shape_of tree) h.sound k l some
+      (subst (λ (w : Seen). (k ≡ 0) ⊎ (next_route w.plan.plan w.request w.state ≡ None)) (sym is) none)
+
+  no_route_twice : GivesNewRoutes v.plan.plan v.request k v.state
+  no_route_twice =
+      subst (λ (w : Seen). GivesNewRoutes w.plan.plan w.request k w.state) is
+      (new_routes asker.asked.plan.plan asker.asked.request h.rules k (shown (shape_of tree)) (sound_tree asker.asked.plan.plan asker.asked.request (length tree.journal.items) (shape_of tree) h.sound).formed)
+
 pub returns-then-count-eq0-clause-routes : goal.returns-then-count-eq0-clause-routes
 returns-then-count-eq0-clause-routes g c =
     let s = c.self.inside in
-    let t = shape_of s.tree in
     let k = c.args.count in
-    let none : (k ≡ 0) ⊎ CarriesNone t.nodes = elim c.then-count-eq0.branch [
+    let none : (k ≡ 0) ⊎ CarriesNone s.tree.nodes.items = elim c.then-count-eq0.branch [
       | then-count-eq0-via-then-count-eq0 w ↦ inl (omega arith)
       | then-count-eq0-via-else-count-eq0+then-is_empty w ↦ inr (w.is_empty.ensures.none w.if-is_empty.true)
     ] in
-    let still = idle s.asker.asked.plan.plan s.asker.asked.request c.self.invariant.rules t c.self.invariant.sound k none in
-    subst (λ (v : Seen). c.new-given.result.items ≡ map (record_of v.plan.plan v.request) (steps v.plan.plan v.request k v.state).0) c.self.view_is
-    (c.new-given.ensures.items ∙ sym (ap (λ (z : List (List ℕ) × State). map (record_of s.asker.asked.plan.plan s.asker.asked.request) z.0) still))
+    let v = c.args.self.now in
+    c.new-given.ensures.items ∙ sym (ap (λ (z : List (List ℕ) × State). map (record_of v.plan.plan v.request) z.0) (nothing s.asker s.tree s.pages.items s.searches c.self.invariant c.args.self.now c.self.view_is k none))
 
 pub returns-then-count-eq0-clause-state : goal.returns-then-count-eq0-clause-state
 returns-then-count-eq0-clause-state g c =
     let s = c.self.inside in
-    let t = shape_of s.tree in
     let k = c.args.count in
-    let none : (k ≡ 0) ⊎ CarriesNone t.nodes = elim c.then-count-eq0.branch [
+    let none : (k ≡ 0) ⊎ CarriesNone s.tree.nodes.items = elim c.then-count-eq0.branch [
       | then-count-eq0-via-then-count-eq0 w ↦ inl (omega arith)
       | then-count-eq0-via-else-count-eq0+then-is_empty w ↦ inr (w.is_empty.ensures.none w.if-is_empty.true)
     ] in
-    let still = idle s.asker.asked.plan.plan s.asker.asked.request c.self.invariant.rules t c.self.invariant.sound k none in
-    subst (λ (v : Seen). shown t ≡ (steps v.plan.plan v.request k v.state).1) c.self.view_is (sym (ap (λ (z : List (List ℕ) × State). z.1) still))
+    ap (λ (v : Seen). v.state) c.self.view_is ∙ sym (ap (λ (z : List (List ℕ) × State). z.1) (nothing s.asker s.tree s.pages.items s.searches c.self.invariant c.args.self.now c.self.view_is k none))
 
 pub returns-then-count-eq0-clause-former : goal.returns-then-count-eq0-clause-former
 returns-then-count-eq0-clause-former g c =
     let s = c.self.inside in
-    let t = shape_of s.tree in
     let k = c.args.count in
-    let none : (k ≡ 0) ⊎ CarriesNone t.nodes = elim c.then-count-eq0.branch [
+    let none : (k ≡ 0) ⊎ CarriesNone s.tree.nodes.items = elim c.then-count-eq0.branch [
       | then-count-eq0-via-then-count-eq0 w ↦ inl (omega arith)
       | then-count-eq0-via-else-count-eq0+then-is_empty w ↦ inr (w.is_empty.ensures.none w.if-is_empty.true)
     ] in
-    let still = idle s.asker.asked.plan.plan s.asker.asked.request c.self.invariant.rules t c.self.invariant.sound k none in
-    let former = former_of (reverse s.pages.items) t in
-    subst (λ (v : Seen). former ≡ former_then (steps v.plan.plan v.request k v.state).0 v.state v.former) c.self.view_is (sym (ap (λ (z : List (List ℕ) × State). former_then z.0 (shown t) former) still))
+    let v = c.args.self.now in
+    ap (λ (v : Seen). v.former) c.self.view_is ∙ sym (ap (λ (z : List (List ℕ) × State). former_then z.0 v.state v.former) (nothing s.asker s.tree s.pages.items s.searches c.self.invariant c.args.self.now c.self.view_is k none))
 
 pub returns-in_err-reserve-clause-free : goal.returns-in_err-reserve-clause-free
 returns-in_err-reserve-clause-free g c h =
     let s = c.self.inside in
-    let t = shape_of s.tree in
-    let some = c.is_empty.ensures.some c.if-is_empty.false in
-    absurd (carried_or_not s.asker.asked.plan.plan s.asker.asked.request c.self.invariant.rules t c.self.invariant.sound c.args.count (omega arith) some
-    (subst (λ (v : Seen). (c.args.count ≡ 0) ⊎ (next_route v.plan.plan v.request v.state ≡ None)) (sym c.self.view_is) h))
+    absurd (something s.asker s.tree s.pages.items s.searches c.self.invariant c.args.self.now c.self.view_is c.args.count (omega arith) (c.is_empty.ensures.some c.if-is_empty.false) h)
 
 pub settle-requires-clause-all : goal.settle-requires-clause-all
 settle-requires-clause-all g c =
@@ -139,67 +151,55 @@ returns-in-Ok-clause-former g c =
     ap (λ z. former_of z (shape_of c.settle.new.self)) pages
     ∙ ap (λ (z : Shape g.row.A.Denot). shown z ∷ former_of (reverse s.pages.items) z) before
     ∙ sym (ap (λ z. former_then z (shown t) former) given.2)
-    ∙ ap (λ (v : Seen). former_then (steps v.plan.plan v.request c.args.count v.state).0 v.state v.former) c.self.view_is
+    ∙ ap (λ (v : Seen). former_then (next_page v c.args.count).0 v.state v.former) c.self.view_is
 
 pub returns-in-Err-clause-free : goal.returns-in-Err-clause-free
 returns-in-Err-clause-free g c h =
     let s = c.self.inside in
-    let t = shape_of s.tree in
-    let some = c.is_empty.ensures.some c.if-is_empty.false in
-    absurd (carried_or_not s.asker.asked.plan.plan s.asker.asked.request c.self.invariant.rules t c.self.invariant.sound c.args.count (omega arith) some
-    (subst (λ (v : Seen). (c.args.count ≡ 0) ⊎ (next_route v.plan.plan v.request v.state ≡ None)) (sym c.self.view_is) h))
+    absurd (something s.asker s.tree s.pages.items s.searches c.self.invariant c.args.self.now c.self.view_is c.args.count (omega arith) (c.is_empty.ensures.some c.if-is_empty.false) h)
 
 pub returns-then-count-eq0-clause-searches : goal.returns-then-count-eq0-clause-searches
 returns-then-count-eq0-clause-searches g c =
     let s = c.self.inside in
-    let t = shape_of s.tree in
     let k = c.args.count in
-    let none : (k ≡ 0) ⊎ CarriesNone t.nodes = elim c.then-count-eq0.branch [
+    let none : (k ≡ 0) ⊎ CarriesNone s.tree.nodes.items = elim c.then-count-eq0.branch [
       | then-count-eq0-via-then-count-eq0 w ↦ inl (omega arith)
       | then-count-eq0-via-else-count-eq0+then-is_empty w ↦ inr (w.is_empty.ensures.none w.if-is_empty.true)
     ] in
-    subst (λ (v : Seen). 0 ≡ searches_in v.plan.plan v.request k v.state) c.self.view_is (sym (counts_idle s.asker.asked.plan.plan s.asker.asked.request c.self.invariant.rules t c.self.invariant.sound k none))
+    sym (no_search s.asker s.tree s.pages.items s.searches c.self.invariant c.args.self.now c.self.view_is k none)
 
 pub returns-then-count-eq0-clause-calls : goal.returns-then-count-eq0-clause-calls
 returns-then-count-eq0-clause-calls g c =
     let s = c.self.inside in
-    let t = shape_of s.tree in
     let k = c.args.count in
-    let none : (k ≡ 0) ⊎ CarriesNone t.nodes = elim c.then-count-eq0.branch [
+    let none : (k ≡ 0) ⊎ CarriesNone s.tree.nodes.items = elim c.then-count-eq0.branch [
       | then-count-eq0-via-then-count-eq0 w ↦ inl (omega arith)
       | then-count-eq0-via-else-count-eq0+then-is_empty w ↦ inr (w.is_empty.ensures.none w.if-is_empty.true)
     ] in
-    let still = counts_idle s.asker.asked.plan.plan s.asker.asked.request c.self.invariant.rules t c.self.invariant.sound k none in
-    subst (λ (v : Seen). s.asker.calls ≡ v.calls + searches_in v.plan.plan v.request k v.state) c.self.view_is (omega (arith, still))
+    let same = ap (λ (v : Seen). v.calls) c.self.view_is in
+    let still = no_search s.asker s.tree s.pages.items s.searches c.self.invariant c.args.self.now c.self.view_is k none in
+    omega (arith, same, still)
 
 pub returns-then-count-eq0-clause-new_routes : goal.returns-then-count-eq0-clause-new_routes
 returns-then-count-eq0-clause-new_routes g c =
     let s = c.self.inside in
-    let t = shape_of s.tree in
-    subst (λ (v : Seen). GivesNewRoutes v.plan.plan v.request c.args.count v.state) c.self.view_is
-    (new_routes s.asker.asked.plan.plan s.asker.asked.request c.self.invariant.rules c.args.count (shown t) (sound_tree s.asker.asked.plan.plan s.asker.asked.request (length t.journal) t c.self.invariant.sound).formed)
+    no_route_twice s.asker s.tree s.pages.items s.searches c.self.invariant c.args.self.now c.self.view_is c.args.count
 
 pub returns-in_err-reserve-clause-new_routes : goal.returns-in_err-reserve-clause-new_routes
 returns-in_err-reserve-clause-new_routes g c =
     let s = c.self.inside in
-    let t = shape_of s.tree in
-    subst (λ (v : Seen). GivesNewRoutes v.plan.plan v.request c.args.count v.state) c.self.view_is
-    (new_routes s.asker.asked.plan.plan s.asker.asked.request c.self.invariant.rules c.args.count (shown t) (sound_tree s.asker.asked.plan.plan s.asker.asked.request (length t.journal) t c.self.invariant.sound).formed)
+    no_route_twice s.asker s.tree s.pages.items s.searches c.self.invariant c.args.self.now c.self.view_is c.args.count
 
 pub returns-in-Ok-clause-new_routes : goal.returns-in-Ok-clause-new_routes
 returns-in-Ok-clause-new_routes g c =
     let s = c.self.inside in
-    let t = shape_of s.tree in
-    subst (λ (v : Seen). GivesNewRoutes v.plan.plan v.request c.args.count v.state) c.self.view_is
-    (new_routes s.asker.asked.plan.plan s.asker.asked.request c.self.invariant.rules c.args.count (shown t) (sound_tree s.asker.asked.plan.plan s.asker.asked.request (length t.journal) t c.self.invariant.sound).formed)
+    no_route_twice s.asker s.tree s.pages.items s.searches c.self.invariant c.args.self.now c.self.view_is c.args.count
 
 pub returns-in-Err-clause-new_routes : goal.returns-in-Err-clause-new_routes
 returns-in-Err-clause-new_routes g c =
     let s = c.self.inside in
-    let t = shape_of s.tree in
-    subst (λ (v : Seen). GivesNewRoutes v.plan.plan v.request c.args.count v.state) c.self.view_is
-    (new_routes s.asker.asked.plan.plan s.asker.asked.request c.self.invariant.rules c.args.count (shown t) (sound_tree s.asker.asked.plan.plan s.asker.asked.request (length t.journal) t c.self.invariant.sound).formed)
+    no_route_twice s.asker s.tree s.pages.items s.searches c.self.invariant c.args.self.now c.self.view_is c.args.count
 
 pub returns-in-Err-clause-at_most : goal.returns-in-Err-clause-at_most
 returns-in-Err-clause-at_most g c =
-    subst (λ (v : Seen). c.gather.new.asker.calls ≤ v.calls + searches_in v.plan.plan v.request c.args.count v.state) c.self.view_is c.in-Err.ensures.at_most
+    subst (λ (v : Seen). c.gather.new.asker.calls ≤ v.calls + page_searches v c.args.count) c.self.view_is c.in-Err.ensures.at_most

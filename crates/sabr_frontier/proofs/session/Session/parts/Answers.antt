@@ -1,15 +1,15 @@
 use Rattle.std.proofs.Common.{length, map, ap, ◌∙◌}
 use Rattle.sabr_frontier.specs.tree.Shape.{shape_of}
-use Rattle.sabr_frontier.specs.session.Session.{Seen, told_part}
-use Rattle.sabr_frontier.specs.session.Views.{told_at}
+use Rattle.sabr_frontier.specs.session.Session.{Seen, seen_part}
+use Rattle.sabr_frontier.specs.session.Views.{seen_at}
 use Rattle.sabr_frontier.proofs.SessionLemmas.Pages.{sound_tree}
-use Rattle.sabr_frontier.proofs.TreeLemmas.FirstTrees.{told_all}
+use Rattle.sabr_frontier.proofs.TreeLemmas.FirstTrees.{seen_all}
 use Rattle.sabr_frontier.proofs.session.Session.parts.Goals as goal
 
 pub returns : goal.returns
 returns g c =
     let s = c.self.inside in
     let t = shape_of s.tree in
-    (λ i. map (told_at (c.as_slice-3.ensures.value i) (c.as_slice-2.ensures.value i)) ((c.as_slice.ensures.value ∙ c.self.invariant.index) i))
-    ∙ told_all s.asker.asked.plan.plan s.asker.asked.request t (sound_tree s.asker.asked.plan.plan s.asker.asked.request (length t.journal) t c.self.invariant.sound) t.index
-    ∙ ap (λ (v : Seen). map (told_part v.plan.plan v.request) v.state.parts) c.self.view_is
+    (λ i. map (seen_at (c.as_slice-3.ensures.value i) (c.as_slice-2.ensures.value i)) ((c.as_slice.ensures.value ∙ c.self.invariant.index) i))
+    ∙ seen_all s.asker.asked.plan.plan s.asker.asked.request t (sound_tree s.asker.asked.plan.plan s.asker.asked.request (length t.journal) t c.self.invariant.sound) t.index
+    ∙ ap (λ (v : Seen). map (seen_part v.plan.plan v.request) v.state.parts) c.self.view_is

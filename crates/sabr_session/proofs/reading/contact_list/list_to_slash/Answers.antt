@@ -2,14 +2,14 @@
 use Rattle.std.proofs.Common.{◌≡◌, ℕ, true, false, List, Option, Some, None, [], map, length, ◌<◌, sym, ap, ◌∙◌, arith}
 use Rattle.std.proofs.lemmas.Bool.Decides.{nat_tests}
 use Rattle.std.specs.Option.{MatchOption}
-use Rattle.sabr_session.specs.SessionWords.{words_of, all_of, counted, is_dash, contacts_of, before_slash}
+use Rattle.sabr_session.specs.SessionWords.{words_of, all_of, counted, is_dash, contacts_of, before_slash, most_number}
 use Rattle.sabr_plan.specs.Numbers.{number_within}
 use Rattle.sabr_session.proofs.WordLemmas.ReadNumbers.{counted-some, counted-none}
 use Rattle.sabr_session.proofs.WordLemmas.SlashLists.{dashed, numbered, numbers-undashed}
 use Rattle.sabr_session.proofs.reading.contact_list.list_to_slash.Goals as goal
 
 -- without numbers the list is `-` or none
-dash_or_none : {X : Type 0} (ws : List (List ℕ)) (ns : List ℕ) (r : Option X) (P : X → Type 0) → counted 20000 (all_of (map (number_within 1 4294967295) ws)) ≡ None → ns ≡ []
+dash_or_none : {X : Type 0} (ws : List (List ℕ)) (ns : List ℕ) (r : Option X) (P : X → Type 0) → counted 20000 (all_of (map (number_within 1 most_number) ws)) ≡ None → ns ≡ []
     → MatchOption r (is_dash ws ≡ false) (λ e. (is_dash ws ≡ true) × P e)
     → MatchOption r (contacts_of ws ≡ None) (λ e. (contacts_of ws ≡ Some ns) × P e)
 dash_or_none ws ns None P none empty h = numbered ws None h none

@@ -4,7 +4,7 @@ use Rattle.sabr_frontier.specs.listing.State.{State}
 use Rattle.sabr_session.specs.SessionText.{part_line}
 use Rattle.sabr_session.specs.SessionPieces.{counts_pieces}
 use Rattle.sabr_session.proofs.TextLemmas.Gathering.{Puts-stopped, Puts-after}
-use Rattle.sabr_session.proofs.TextLemmas.SessionPieces.{state_in_pieces, lines_of_told}
+use Rattle.sabr_session.proofs.TextLemmas.SessionPieces.{state_in_pieces, lines_of_seen}
 use Rattle.sabr_session.proofs.writing.session_text.put_state.Goals as goal
 
 pub returns-in_err-put_counts : goal.returns-in_err-put_counts
@@ -24,7 +24,7 @@ returns-in_err-put_parts g c =
     let ending : List ℕ = codes "end\n" in
     rw (state_in_pieces s)
     (Puts-after _ counts (lines ++ ending) _ c.in_ok-put_counts.ensures
-    (Puts-stopped _ lines ending c.from_residual-in_err-put_parts.result c.from_residual-in_err-put_parts.ensures.1 (rw (lines_of_told c.args.session.now.plan.plan c.args.session.now.request _ s.parts c.parts.ensures) at c.in_err-put_parts.ensures)))
+    (Puts-stopped _ lines ending c.from_residual-in_err-put_parts.result c.from_residual-in_err-put_parts.ensures.1 (rw (lines_of_seen c.args.session.now.plan.plan c.args.session.now.request _ s.parts c.parts.ensures) at c.in_err-put_parts.ensures)))
 
 pub returns : goal.returns
 returns g c =
@@ -34,5 +34,5 @@ returns g c =
     let ending : List ℕ = codes "end\n" in
     rw (state_in_pieces s)
     (Puts-after _ counts (lines ++ ending) _ c.in_ok-put_counts.ensures
-    (Puts-after _ lines ending _ (rw (lines_of_told c.args.session.now.plan.plan c.args.session.now.request _ s.parts c.parts.ensures) at c.in_ok-put_parts.ensures)
+    (Puts-after _ lines ending _ (rw (lines_of_seen c.args.session.now.plan.plan c.args.session.now.request _ s.parts c.parts.ensures) at c.in_ok-put_parts.ensures)
     c.put.ensures))
