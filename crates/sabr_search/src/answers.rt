@@ -53,7 +53,8 @@ const MOST_PREFIX: usize = 128;
 /// percent more and the relay 13.
 const ASKED: u32 = 64;
 
-/// So many wide questions go by before one is asked again. With 256, the grid took 15 percent more and the relay 4.
+/// So many wide questions go by before one is asked again. With 256, the grid took 15 percent more and the relay 4; with 4096
+/// the grid took 1 percent fewer.
 const REST: u32 = 1024;
 
 /// The place of no answer.
