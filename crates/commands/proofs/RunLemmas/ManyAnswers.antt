@@ -51,26 +51,26 @@ within : (beyond : Bool) (x : Result RouteRequest RequestKind) (r : RouteRequest
 within true x r e = absurd cc
 within false x r e = e
 
-all_told : (told : Result (List RequestLine) RequestsFault) → fault_of told ≡ None → (xs : List RequestLine) × (told ≡ Ok xs)
-all_told (Ok xs) e = (xs, refl)
-all_told (Err f) e = absurd cc
+all_fine : (requested : Result (List RequestLine) RequestsFault) → fault_of requested ≡ None → (xs : List RequestLine) × (requested ≡ Ok xs)
+all_fine (Ok xs) e = (xs, refl)
+all_fine (Err f) e = absurd cc
 
 -- requests were answered, and these lines are left
-pub record HasAnswered (p : ContactPlan) (count : ℕ) (told : Result (List RequestLine) RequestsFault) (lines : List (List ℕ)) (old new : Output) : Type 0 where
+pub record HasAnswered (p : ContactPlan) (count : ℕ) (requested : Result (List RequestLine) RequestsFault) (lines : List (List ℕ)) (old new : Output) : Type 0 where
   pub done : List RequestLine
   pub left : List RequestLine
   pub number : ℕ
-  pub parts : told ≡ Ok (done ++ left)
+  pub parts : requested ≡ Ok (done ++ left)
   pub rest : requests_from number lines ≡ Ok left
   pub written : Written old (answers_text p done count) new
 
 pub none_answered : (p : ContactPlan) (count : ℕ) (lines : List (List ℕ)) (old : Output) → fault_of (requests_from 1 lines) ≡ None → HasAnswered p count (requests_from 1 lines) lines old old
 none_answered p count lines old e =
-    let told = all_told (requests_from 1 lines) e in
-    record { done = []; left = told.0; number = 1; parts = told.1; rest = told.1; written = Written-nil old }
+    let requested = all_fine (requests_from 1 lines) e in
+    record { done = []; left = requested.0; number = 1; parts = requested.1; rest = requested.1; written = Written-nil old }
 
-module _ (p : ContactPlan) (count : ℕ) (told : Result (List RequestLine) RequestsFault) (lines lines₁ : List (List ℕ)) (line : List ℕ) (old mid : Output)
-    (h : HasAnswered p count told lines old mid) (e : lines ≡ line ∷ lines₁) where
+module _ (p : ContactPlan) (count : ℕ) (requested : Result (List RequestLine) RequestsFault) (lines lines₁ : List (List ℕ)) (line : List ℕ) (old mid : Output)
+    (h : HasAnswered p count requested lines old mid) (e : lines ≡ line ∷ lines₁) where
   pub first : HasFirst line (request_at h.number line) (requests_from (h.number + 1) lines₁) h.left
   first = has_first h.number line (request_at h.number line) (requests_from (h.number + 1) lines₁) h.left (ap (requests_from h.number) (sym e) ∙ h.rest)
 
@@ -81,7 +81,7 @@ module _ (p : ContactPlan) (count : ℕ) (told : Result (List RequestLine) Reque
   abbrev next : RequestLine
   next = record { line = line; request = first.request }
 
-  parted : told ≡ Ok (h.done ++ next ∷ first.others)
+  parted : requested ≡ Ok (h.done ++ next ∷ first.others)
   parted = h.parts ∙ ap (λ xs. Ok (h.done ++ xs)) first.parts
 
   is_next : (r : RouteRequest) → Ok r ≡ request_in line → record { line = line; request = r } ≡ next
@@ -90,7 +90,7 @@ module _ (p : ContactPlan) (count : ℕ) (told : Result (List RequestLine) Reque
       cc
 
   -- one more is answered
-  pub one_answered : (new : Output) (r : RouteRequest) → Ok r ≡ request_in line → Written mid (answer_text p count (record { line = line; request = r })) new → HasAnswered p count told lines₁ old new
+  pub one_answered : (new : Output) (r : RouteRequest) → Ok r ≡ request_in line → Written mid (answer_text p count (record { line = line; request = r })) new → HasAnswered p count requested lines₁ old new
   one_answered new r is written = record {
     done = h.done ++ next ∷ [];
     left = first.others;
@@ -103,12 +103,12 @@ module _ (p : ContactPlan) (count : ℕ) (told : Result (List RequestLine) Reque
   }
 
   -- memory is refused at this one
-  stops : (xs : List RequestLine) × (told ≡ Ok xs) × StopsAtRequest p xs count old mid
+  stops : (xs : List RequestLine) × (requested ≡ Ok xs) × StopsAtRequest p xs count old mid
   stops = (h.done ++ next ∷ first.others, parted, record { before = h.done; request = next; after = first.others; parts = refl; written = h.written })
 
   -- the writer fails in this one
   breaks : (new : Output) (r : RouteRequest) → Ok r ≡ request_in line → WrittenInPart mid (answer_text p count (record { line = line; request = r })) new
-      → (xs : List RequestLine) × (told ≡ Ok xs) × WrittenInPart old (answers_text p xs count) new
+      → (xs : List RequestLine) × (requested ≡ Ok xs) × WrittenInPart old (answers_text p xs count) new
   breaks new r is part =
       let these = subst (λ x. WrittenInPart mid (answer_text p count x) new) (is_next r is) part in
       let all = WrittenInPart-after old mid new (answers_text p h.done count) _ h.written (WrittenInPart-more mid new (answer_text p count next) (answers_text p first.others count) these) in
@@ -116,7 +116,7 @@ module _ (p : ContactPlan) (count : ℕ) (told : Result (List RequestLine) Reque
 
   -- either of them
   pub fails : (new : Output) (r : RouteRequest) → Ok r ≡ request_in line → (f : Failure) → LeavesAnswer p count (record { line = line; request = r }) (Err f) mid new
-      → (xs : List RequestLine) × (told ≡ Ok xs) × LeavesAnswers p xs count (Err f) old new
+      → (xs : List RequestLine) × (requested ≡ Ok xs) × LeavesAnswers p xs count (Err f) old new
   fails new r is failure.Write part = breaks new r is part
   fails new r is failure.NoMemory same = rw same stops
   fails new r is (failure.BadValue _) bad = absurd bad
@@ -135,9 +135,9 @@ module _ (p : ContactPlan) (count : ℕ) (told : Result (List RequestLine) Reque
   fails new r is failure.NotUtf8 bad = absurd bad
 
 -- none is left
-pub all_answered : (p : ContactPlan) (count : ℕ) (told : Result (List RequestLine) RequestsFault) (lines : List (List ℕ)) (old new : Output) → HasAnswered p count told lines old new → lines ≡ []
-    → (xs : List RequestLine) × (told ≡ Ok xs) × Written old (answers_text p xs count) new
-all_answered p count told lines old new h e =
+pub all_answered : (p : ContactPlan) (count : ℕ) (requested : Result (List RequestLine) RequestsFault) (lines : List (List ℕ)) (old new : Output) → HasAnswered p count requested lines old new → lines ≡ []
+    → (xs : List RequestLine) × (requested ≡ Ok xs) × Written old (answers_text p xs count) new
+all_answered p count requested lines old new h e =
     let none : Ok [] ≡ Ok h.left = ap (requests_from h.number) (sym e) ∙ h.rest in
     let left : h.left ≡ [] = cc in
     (h.done, h.parts ∙ ap (λ xs. Ok (h.done ++ xs)) left ∙ ap Ok (append-nil h.done), h.written)
@@ -164,13 +164,13 @@ answer_refused p count x (Ok _) a bad = absurd bad
 answer_refused p count x (Err e) a is = rw is refl
 
 -- what a run leaves, where the requests were refused, or were answered and flushed
-pub none_bad : (text : List ℕ) (told : Result (List RequestLine) RequestsFault) → HasRequests text told → fault_of (requests_from 1 (lines_in text)) ≡ None
-none_bad text told h = ap fault_of h.0 ∙ h.1
+pub none_bad : (text : List ℕ) (requested : Result (List RequestLine) RequestsFault) → HasRequests text requested → fault_of (requests_from 1 (lines_in text)) ≡ None
+none_bad text requested h = ap fault_of h.0 ∙ h.1
 
-pub not_told : (p : TabledPlan) (count : ℕ) (told : Result (List RequestLine) RequestsFault) (fault : RequestsFault) (end : Result (Unit {0}) Failure) (a : Output)
-    → told ≡ Err fault → end ≡ Err (failure_of_requests fault) → WritesAnswers (Ok p) told count end a a
-not_told p count told fault end a is e = rw is (e, refl)
+pub not_requested : (p : TabledPlan) (count : ℕ) (requested : Result (List RequestLine) RequestsFault) (fault : RequestsFault) (end : Result (Unit {0}) Failure) (a : Output)
+    → requested ≡ Err fault → end ≡ Err (failure_of_requests fault) → WritesAnswers (Ok p) requested count end a a
+not_requested p count requested fault end a is e = rw is (e, refl)
 
-pub answers_left : (p : TabledPlan) (count : ℕ) (told : Result (List RequestLine) RequestsFault) (text : List ℕ) (end : Result (Unit {0}) Failure) (a c : Output) → HasRequests text told
-    → (xs : List RequestLine) × (requests_from 1 (lines_in text) ≡ Ok xs) × WritesAll p.plan xs count end a c → WritesAnswers (Ok p) told count end a c
-answers_left p count told text end a c h (xs, is, left) = subst (λ t. WritesAnswers (Ok p) t count end a c) (sym is ∙ h.0) left
+pub answers_left : (p : TabledPlan) (count : ℕ) (requested : Result (List RequestLine) RequestsFault) (text : List ℕ) (end : Result (Unit {0}) Failure) (a c : Output) → HasRequests text requested
+    → (xs : List RequestLine) × (requests_from 1 (lines_in text) ≡ Ok xs) × WritesAll p.plan xs count end a c → WritesAnswers (Ok p) requested count end a c
+answers_left p count requested text end a c h (xs, is, left) = subst (λ t. WritesAnswers (Ok p) t count end a c) (sym is ∙ h.0) left

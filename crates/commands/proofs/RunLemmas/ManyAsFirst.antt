@@ -67,9 +67,9 @@ module _ (plan : List ℕ) (p : ContactPlan) (spelled : plan_of plan true ≡ Ok
     all_taken q ys (Err f) done w = absurd (never_done f done)
     all_taken q ys (Ok u) done w = taken many.out (answers_text q ys count) bytes many.out₁ w.0 many.takes
 
-    answers_told : (planned : Result TabledPlan PlanFault) (told : Result (List RequestLine) RequestsFault) → ReadsPlan many.reader planned many.reader₁
-        → ReadsRequestsOver planned many.asked told many.asked₁ → WritesAnswers planned told count many.end many.out many.out₁ → bytes ≡ answers_text p xs count
-    answers_told (Err fault) told reads asked w = absurd (never_done _ (sym (ap status_at w.0) ∙ many.done))
+    answers_told : (planned : Result TabledPlan PlanFault) (requested : Result (List RequestLine) RequestsFault) → ReadsPlan many.reader planned many.reader₁
+        → ReadsRequestsOver planned many.asked requested many.asked₁ → WritesAnswers planned requested count many.end many.out many.out₁ → bytes ≡ answers_text p xs count
+    answers_told (Err fault) requested reads asked w = absurd (never_done _ (sym (ap status_at w.0) ∙ many.done))
     answers_told (Ok t) (Err fault) reads asked w = absurd (never_done _ (sym (ap status_at w.0) ∙ many.done))
     answers_told (Ok t) (Ok ys) reads asked w =
         let same = requests_read text xs ys many.asked many.asked₁ requests many.asks asked in
@@ -78,5 +78,5 @@ module _ (plan : List ℕ) (p : ContactPlan) (spelled : plan_of plan true ≡ Ok
 
 pub many_answers_as_first : ManyAnswersAsFirst
 many_answers_as_first plan text p xs count bytes runs spelled requests many are =
-    answers_told plan p spelled text xs count bytes many requests many.planned many.told many.reads many.reads_asked many.writes
+    answers_told plan p spelled text xs count bytes many requests many.planned many.requested many.reads many.reads_asked many.writes
     ∙ reports_told plan p spelled count xs runs are

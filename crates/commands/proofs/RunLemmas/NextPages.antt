@@ -63,7 +63,7 @@ module _ (p : TabledPlan) (bytes : List ℕ) (good : IsPlan p.plan) (text : IsSe
   all_read : (given : List ℕ) (answer : Result (RouteRequest × State) SessionFault) → given ≡ bytes → ComesTo p.plan (said_over p given true) answer → answer ≡ Ok place
   all_read given answer all is = one_place answer (subst (λ b. IsSessionOf p.plan (digest_of p.plan) b true answer) all is)
 
-  is_read_to : (reader : Input) (told : Result Seen SessionFault) (reader₁ : Input) → reader.remaining ≡ Some bytes → ReadsSession p reader told reader₁ → IsReadTo reader.failures (place_of told) reader₁.failures
+  is_read_to : (reader : Input) (resumed : Result Seen SessionFault) (reader₁ : Input) → reader.remaining ≡ Some bytes → ReadsSession p reader resumed reader₁ → IsReadTo reader.failures (place_of resumed) reader₁.failures
   is_read_to reader (Ok s) reader₁ has h = elim h.told [
     | inl (end, fine, from) ↦ let is = all_read h.given (Ok (s.request, s.state)) (none_more bytes h.given reader₁.remaining (rw has at h.consumed) end) from.1 in cc
     | inr (inl broken) ↦ absurd broken
@@ -121,5 +121,5 @@ module _ (p : TabledPlan) (bytes : List ℕ) (good : IsPlan p.plan) (text : IsSe
 
 -- every next run over such a text goes on from its place
 pub next_goes_on : NextGoesOn
-next_goes_on p bytes good text reader told reader₁ has reads keep count end old new old₁ new₁ =
-    by_answer p bytes good text keep count end old new old₁ new₁ reader.failures reader₁.failures (place_of told) (is_read_to p bytes good text reader told reader₁ has reads)
+next_goes_on p bytes good text reader resumed reader₁ has reads keep count end old new old₁ new₁ =
+    by_answer p bytes good text keep count end old new old₁ new₁ reader.failures reader₁.failures (place_of resumed) (is_read_to p bytes good text reader resumed reader₁ has reads)

@@ -97,15 +97,15 @@ module _ (plan : List ℕ) (p : ContactPlan) (r : RouteRequest) (spelled : plan_
       → IsAt p r i (from_text text) → IsPageFrom p i run
   next_page i text run x (Err fault) is at =
       let d = x.is_done in
-      let w = subst (λ q. WritesNextPage q (place_of x.told) true run.count d.end d.out d.out₁ d.session d.session₁) is x.writes in
+      let w = subst (λ q. WritesNextPage q (place_of x.resumed) true run.count d.end d.out d.out₁ d.session d.session₁) is x.writes in
       absurd (never_done _ (sym (ap status_at w.0) ∙ d.done))
   next_page i text run x (Ok t) is at =
       let d = x.is_done in
       let e = plan_read plan p d.reader t d.reader₁ spelled d.has (subst (λ q. ReadsPlan d.reader q d.reader₁) is d.reads) in
       let goes_on = text_goes_on t i text (subst IsPlan (sym e) good) (subst (λ q. IsAt q r i (from_text text)) (sym e) at) in
-      let left = goes_on x.reader x.told x.reader₁ x.has (subst (λ q. ReadsOldSession q x.reader x.told x.reader₁) is x.reads)
+      let left = goes_on x.reader x.resumed x.reader₁ x.has (subst (λ q. ReadsOldSession q x.reader x.resumed x.reader₁) is x.reads)
       true run.count d.end d.out d.out₁ d.session d.session₁
-      (subst (λ q. WritesNextPage q (place_of x.told) true run.count d.end d.out d.out₁ d.session d.session₁) is x.writes) in
+      (subst (λ q. WritesNextPage q (place_of x.resumed) true run.count d.end d.out d.out₁ d.session d.session₁) is x.writes) in
       let from : IsPageFrom t.plan i run = elim left [
         | inl w ↦ page_from t.plan i run d d.end d.done w
         | inr w ↦ absurd (never_done failure.SessionRead (sym (ap status_at w.1) ∙ d.done))

@@ -1,7 +1,6 @@
 -- Lists of at most 16 numbers.
 use Rattle.std.proofs.Common.{◌≡◌, ℕ, ◌<◌, ◌≤◌, leb, cond, false, List, [], ◌∷◌, ◌++◌, length, map, refl, ap, ◌∙◌, arith, length-append}
-use Rattle.std.proofs.lemmas.Bool.{le-leb}
-use Rattle.std.proofs.lemmas.Bool.Decides.{nat_tests}
+use Rattle.std.proofs.lemmas.Bool.{le-leb, lt-leb}
 use Rattle.std.specs.Prelude.{option_and_then, nat_le, if◌then◌else◌}
 use Rattle.std.specs.declared.option.Option.{Option}
 use Rattle.std.specs.declared.option.Option.TheVariants.{Some, None}
@@ -15,14 +14,11 @@ few found = option_and_then (λ ns. if nat_le (length ns) 16 then Some ns else N
 pub few-kept : (found : Option (List ℕ)) (ns : List ℕ) → found ≡ Some ns → length ns ≤ 16 → few found ≡ Some ns
 few-kept found ns e h = ap few e ∙ ap (λ t. cond t (Some ns) None) (le-leb (length ns) 16 h)
 
-above : (a b : ℕ) → b < a → leb a b ≡ false
-above a b h = grind (arith, nat_tests)
-
 full : (so_far : List ℕ) (n : ℕ) (rest : Option (List ℕ)) → length so_far ≡ 16 → few (with_front (so_far ++ n ∷ []) rest) ≡ None
 full so_far n None h = refl
 full so_far n (Some ns) h =
     let more : 16 < length ((so_far ++ n ∷ []) ++ ns) = omega (arith, length-append (so_far ++ n ∷ []) ns, length-append so_far (n ∷ []), h) in
-    ap (λ t. cond t (Some ((so_far ++ n ∷ []) ++ ns)) None) (above (length ((so_far ++ n ∷ []) ++ ns)) 16 more)
+    ap (λ t. cond t (Some ((so_far ++ n ∷ []) ++ ns)) None) (lt-leb (length ((so_far ++ n ∷ []) ++ ns)) 16 more)
 
 -- one more after 16
 pub few-full : (f : List ℕ → Option ℕ) (so_far : List ℕ) (whole : Option (List ℕ)) (ps qs : List (List ℕ)) (p : List ℕ) (n : ℕ)

@@ -29,6 +29,6 @@ lines_read old new given text consumed is fine (inr long) = record {
 }
 
 -- the answer that has a fault is that fault
-pub fault_told : (told : Result (List RequestLine) RequestsFault) (f : RequestsFault) → fault_of told ≡ Some f → told ≡ Err f
-fault_told (Ok xs) f e = absurd cc
-fault_told (Err g) f e = cc
+pub fault_requested : (requested : Result (List RequestLine) RequestsFault) (f : RequestsFault) → fault_of requested ≡ Some f → requested ≡ Err f
+fault_requested (Ok xs) f e = absurd cc
+fault_requested (Err g) f e = cc

@@ -54,12 +54,12 @@ LeavesAnswer p count x (Err _) old new = ⊥
 
 -- requests are read over what reading the plan gave: if the plan was refused they aren't, and nothing is asked of them
 abbrev pub ReadsRequestsOver : Result TabledPlan PlanFault → Input → Result (List RequestLine) RequestsFault → Input → Type 0
-ReadsRequestsOver (Err fault) old told new = new ≡ old
-ReadsRequestsOver (Ok p) old told new = ReadsRequests old told new
+ReadsRequestsOver (Err fault) old requested new = new ≡ old
+ReadsRequestsOver (Ok p) old requested new = ReadsRequests old requested new
 
 -- what a run leaves over what reading the plan and then the requests gave: the answers, or nothing if either was
 -- refused, the plan first
 abbrev pub WritesAnswers : Result TabledPlan PlanFault → Result (List RequestLine) RequestsFault → ℕ → Result (Unit {0}) Failure → Output → Output → Type 0
-WritesAnswers (Err fault) told count end old new = (end ≡ Err (failure_of_plan fault)) × (new ≡ old)
+WritesAnswers (Err fault) requested count end old new = (end ≡ Err (failure_of_plan fault)) × (new ≡ old)
 WritesAnswers (Ok p) (Err fault) count end old new = (end ≡ Err (failure_of_requests fault)) × (new ≡ old)
 WritesAnswers (Ok p) (Ok xs) count end old new = WritesAll p.plan xs count end old new

@@ -22,16 +22,16 @@ pub record IsMany (plan text : List ℕ) (count : ℕ) (bytes : List ℕ) : Type
   pub has : reader.remaining ≡ Some plan
   pub reads : ReadsPlan reader planned reader₁
   pub asked : Input
-  pub told : Result (List RequestLine) RequestsFault
+  pub requested : Result (List RequestLine) RequestsFault
   pub asked₁ : Input
   pub asks : asked.remaining ≡ Some text
-  pub reads_asked : ReadsRequestsOver planned asked told asked₁
+  pub reads_asked : ReadsRequestsOver planned asked requested asked₁
   pub end : Result (Unit {0}) Failure
   pub done : status_at end ≡ status.Done
   pub out : Output
   pub out₁ : Output
   pub takes : Takes out bytes out₁
-  pub writes : WritesAnswers planned told count end out out₁
+  pub writes : WritesAnswers planned requested count end out out₁
 
 -- first runs over the plan, one for each request, with this count
 abbrev pub AreFirst : List ℕ → ℕ → List RequestLine → List Run → Type 0

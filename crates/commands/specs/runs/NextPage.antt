@@ -38,8 +38,8 @@ WritesPageFrom keep p r i count end old new old₁ new₁ =
 -- reader failed, and nothing is written
 abbrev pub GoesOnFrom : TabledPlan → RouteRequest → ℕ → List ℕ → Type 0
 GoesOnFrom p r i bytes =
-    (reader : Input) (told : Result Seen SessionFault) (reader₁ : Input) → reader.remaining ≡ Some bytes → ReadsOldSession (Ok p) reader told reader₁
-    → (keep : Bool) (count : ℕ) (end : Result (Unit {0}) Failure) (old new old₁ new₁ : Output) → WritesNextPage (Ok p) (place_of told) keep count end old new old₁ new₁
+    (reader : Input) (resumed : Result Seen SessionFault) (reader₁ : Input) → reader.remaining ≡ Some bytes → ReadsOldSession (Ok p) reader resumed reader₁
+    → (keep : Bool) (count : ℕ) (end : Result (Unit {0}) Failure) (old new old₁ new₁ : Output) → WritesNextPage (Ok p) (place_of resumed) keep count end old new old₁ new₁
     → WritesPageFrom keep p.plan r i count end old new old₁ new₁
     ⊎ ((reader₁.failures ≡ reader.failures + 1) × (end ≡ Err failure.SessionRead) × (new ≡ old) × (new₁ ≡ old₁))
 

@@ -52,11 +52,11 @@ IsFirst plan r run = (x : IsDone plan run) × WritesFirstPage x.planned r true r
 pub record IsNext (plan text : List ℕ) (run : Run) : Type 0 where
   pub is_done : IsDone plan run
   pub reader : Input
-  pub told : Result Seen SessionFault
+  pub resumed : Result Seen SessionFault
   pub reader₁ : Input
   pub has : reader.remaining ≡ Some text
-  pub reads : ReadsOldSession is_done.planned reader told reader₁
-  pub writes : WritesNextPage is_done.planned (place_of told) true run.count is_done.end is_done.out is_done.out₁ is_done.session is_done.session₁
+  pub reads : ReadsOldSession is_done.planned reader resumed reader₁
+  pub writes : WritesNextPage is_done.planned (place_of resumed) true run.count is_done.end is_done.out is_done.out₁ is_done.session is_done.session₁
 
 -- next runs, the first over this session text, and each other one over that of the run before
 abbrev pub AreNext : List ℕ → List ℕ → List Run → Type 0

@@ -22,6 +22,7 @@ use Rattle.commands.specs.declared.words.value_fault.ValueFault.TheVariants.{Bad
 use Rattle.sabr_model.specs.declared.request_values.RequestValues.{RequestValues}
 use Rattle.commands.specs.words.Lists.{numbers_within, nodes_listed}
 use Rattle.sabr_plan.specs.Numbers.{number_within}
+use Rattle.sabr_session.specs.SessionWords.{most_number}
 
 -- the word of the command line that gives a value, without its two dashes
 abbrev pub name_text : ValueName → List ℕ
@@ -156,8 +157,8 @@ pub record ValuesRead : Type 0 where
   pub contacts : List ℕ
 
 -- what the values of a command tell, without the memory that holds them
-abbrev pub told_values : {A : Type 0} → Values A → ValuesRead
-told_values v = record { request = v.request; count = v.count; contacts = v.contacts }
+abbrev pub seen_values : {A : Type 0} → Values A → ValuesRead
+seen_values v = record { request = v.request; count = v.count; contacts = v.contacts }
 
 -- something that a command has, or nothing
 abbrev pub where_asked : {A : Type 0} → Bool → Result A ValueFault → Result (Option A) ValueFault
@@ -177,7 +178,7 @@ count_where_asked name found = where_asked (has_count name) (value_of (number_wi
 
 -- the contacts, if the command has them
 abbrev pub contacts_where_asked : CommandName → Found → Result (List ℕ) ValueFault
-contacts_where_asked name found = if has_contacts name then value_of (numbers_within 1 4294967295) Contacts (text_under found Contacts) else Ok []
+contacts_where_asked name found = if has_contacts name then value_of (numbers_within 1 most_number) Contacts (text_under found Contacts) else Ok []
 
 -- the request of words that are there
 abbrev pub request_where_asked : Option RequestValues → Result (Option RouteRequest) ValueFault

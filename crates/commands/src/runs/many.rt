@@ -8,7 +8,7 @@ ghost use Rattle.sabr_frontier.specs.listing.Listing.{most_routes};
 ghost use Rattle.commands.specs.declared.failure.Failure.{Failure};
 ghost use Rattle.commands.specs.declared.words.requests_fault.RequestsFault.{RequestsFault};
 ghost use Rattle.commands.specs.runs.Runs.{TellsEnd, status_at};
-ghost use Rattle.commands.specs.runs.Many.{LeavesAnswers, ReadsRequestsOver, WritesAll, WritesAnswers};
+ghost use Rattle.commands.specs.runs.Many.{ReadsRequestsOver, WritesAll, WritesAnswers};
 ghost use Rattle.commands.specs.words.Requests.{RequestLine, fault_of, lines_in, requests_from};
 ghost use Rattle.commands.specs.words.Values.{IsCount};
 
@@ -21,31 +21,7 @@ use sabr_model::{Plan, Read, Write};
 use sabr_plan::read_plan;
 use std::alloc::Allocator;
 
-/// Writes the answers to the requests of a text without a bad line.
-fn answer_each<O: Write, A: Allocator + Copy>(
-    alloc: A,
-    plan: &Plan<A>,
-    text: &[u8],
-    count: u32,
-    out: &mut O,
-) -> Result<(), Failure>
-    requires count { count ≤ most_routes }
-    requires requests { fault_of (requests_from 1 (lines_in text.now)) ≡ None }
-    ensures { (xs : List RequestLine) × (requests_from 1 (lines_in text.now) ≡ Ok xs) × LeavesAnswers plan.now.plan xs count result (O.output out.old) (O.output out.new) }
-{
-    let mut answering = Answering::new(alloc, plan);
-    let mut rest = text;
-    while let Some((line, after)) = first_line(rest) {
-        let Ok(request) = request_in(line) else {
-            unreachable!();
-        };
-        answering.answer(line, request, count, out)?;
-        rest = after;
-    }
-    Ok(())
-}
-
-/// Writes the answers, and flushes them.
+/// Writes the answers to the requests of a text without a bad line, and flushes them.
 fn send_answers<O: Write, A: Allocator + Copy>(
     alloc: A,
     plan: &Plan<A>,
@@ -57,7 +33,15 @@ fn send_answers<O: Write, A: Allocator + Copy>(
     requires requests { fault_of (requests_from 1 (lines_in text.now)) ≡ None }
     ensures { (xs : List RequestLine) × (requests_from 1 (lines_in text.now) ≡ Ok xs) × WritesAll plan.now.plan xs count result (O.output out.old) (O.output out.new) }
 {
-    answer_each(alloc, plan, text, count, out)?;
+    let mut answering = Answering::new(alloc, plan);
+    let mut rest = text;
+    while let Some((line, after)) = first_line(rest) {
+        let Ok(request) = request_in(line) else {
+            unreachable!();
+        };
+        answering.answer(line, request, count, out)?;
+        rest = after;
+    }
     let Ok(()) = out.flush() else {
         return Err(Failure::Write);
     };
@@ -73,10 +57,10 @@ fn write_answers<P: Read, Q: Read, O: Write, A: Allocator + Copy>(
     out: &mut O,
 ) -> Result<(), Failure>
     requires { count ≤ most_routes }
-    ensures { (planned : Result TabledPlan PlanFault) × ((told : Result (List RequestLine) RequestsFault)
+    ensures { (planned : Result TabledPlan PlanFault) × ((requested : Result (List RequestLine) RequestsFault)
         × ReadsPlan (P.input plan.old) planned (P.input plan.new)
-        × ReadsRequestsOver planned (Q.input requests.old) told (Q.input requests.new)
-        × WritesAnswers planned told count result (O.output out.old) (O.output out.new)) }
+        × ReadsRequestsOver planned (Q.input requests.old) requested (Q.input requests.new)
+        × WritesAnswers planned requested count result (O.output out.old) (O.output out.new)) }
 {
     let plan = read_plan(alloc, plan)?;
     let text = read_requests(alloc, requests)?;
@@ -101,10 +85,10 @@ pub fn run_many<P: Read, Q: Read, O: Write, E: Write, A: Allocator + Copy>(
     err: &mut E,
 ) -> Status
     requires { IsCount count }
-    ensures { (planned : Result TabledPlan PlanFault) × ((told : Result (List RequestLine) RequestsFault) × ((end : Result (Unit {0}) Failure)
+    ensures { (planned : Result TabledPlan PlanFault) × ((requested : Result (List RequestLine) RequestsFault) × ((end : Result (Unit {0}) Failure)
         × ReadsPlan (P.input plan.old) planned (P.input plan.new)
-        × ReadsRequestsOver planned (Q.input requests.old) told (Q.input requests.new)
-        × WritesAnswers planned told count end (O.output out.old) (O.output out.new)
+        × ReadsRequestsOver planned (Q.input requests.old) requested (Q.input requests.new)
+        × WritesAnswers planned requested count end (O.output out.old) (O.output out.new)
         × TellsEnd end (E.output err.old) (E.output err.new)
         × (result ≡ status_at end))) }
 {

@@ -31,10 +31,10 @@ fn write_next<P: Read, I: Read, O: Write, S: Write, A: Allocator + Copy>(
     to: PageWriters<'_, O, S>,
 ) -> Result<(), Failure>
     requires { count ≤ most_routes }
-    ensures { (planned : Result TabledPlan PlanFault) × ((told : Result Seen SessionFault)
+    ensures { (planned : Result TabledPlan PlanFault) × ((resumed : Result Seen SessionFault)
         × ReadsPlan (P.input plan.old) planned (P.input plan.new)
-        × ReadsOldSession planned (I.input old.old) told (I.input old.new)
-        × WritesNextPage planned (place_of told) to.entry.keep count result (O.output to.entry.out.now) (O.output to.exit.0.now) (S.output to.entry.session.now) (S.output to.exit.1.0.now)) }
+        × ReadsOldSession planned (I.input old.old) resumed (I.input old.new)
+        × WritesNextPage planned (place_of resumed) to.entry.keep count result (O.output to.entry.out.now) (O.output to.exit.0.now) (S.output to.entry.session.now) (S.output to.exit.1.0.now)) }
 {
     let PageWriters { out, session, keep } = to;
     let plan = read_plan(alloc, plan)?;
@@ -65,10 +65,10 @@ pub fn run_next<P: Read, I: Read, O: Write, S: Write, E: Write, A: Allocator + C
     err: &mut E,
 ) -> Status
     requires { IsCount count }
-    ensures { (planned : Result TabledPlan PlanFault) × ((told : Result Seen SessionFault) × ((end : Result (Unit {0}) Failure)
+    ensures { (planned : Result TabledPlan PlanFault) × ((resumed : Result Seen SessionFault) × ((end : Result (Unit {0}) Failure)
         × ReadsPlan (P.input plan.old) planned (P.input plan.new)
-        × ReadsOldSession planned (I.input old.old) told (I.input old.new)
-        × WritesNextPage planned (place_of told) keep count end (O.output out.old) (O.output out.new) (S.output session.old) (S.output session.new)
+        × ReadsOldSession planned (I.input old.old) resumed (I.input old.new)
+        × WritesNextPage planned (place_of resumed) keep count end (O.output out.old) (O.output out.new) (S.output session.old) (S.output session.new)
         × TellsEnd end (E.output err.old) (E.output err.new)
         × (result ≡ status_at end))) }
 {

@@ -1,6 +1,7 @@
 //! Lists of numbers on the command line, separated by single commas.
 
 ghost use Rattle.std.specs.Prelude.{◌≡◌, None, Some, MatchOption, IfOk};
+ghost use Rattle.sabr_session.specs.SessionWords.{most_number};
 ghost use Rattle.commands.specs.words.Lists.{nodes_listed, numbers_within};
 
 use crate::words::first_piece::first_piece;
@@ -32,7 +33,7 @@ pub fn contacts_listed<A: Allocator + Copy>(
     alloc: A,
     text: &[u8],
 ) -> Result<Option<Numbers<A>>, NoMemory>
-    ensures { IfOk result (λ found. found ≡ numbers_within 1 4294967295 text.now) }
+    ensures { IfOk result (λ found. found ≡ numbers_within 1 most_number text.now) }
 {
     let mut contacts = Vec::new(alloc);
     let mut rest = Some(text);

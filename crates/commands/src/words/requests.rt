@@ -98,9 +98,9 @@ pub fn read_requests<R: Read, A: Allocator + Copy>(
     alloc: A,
     reader: &mut R,
 ) -> Result<Vec<u8, A>, RequestsFault>
-    ensures { (told : Result (List RequestLine) RequestsFault)
-        × ReadsRequests (R.input reader.old) told (R.input reader.new)
-        × MatchResult result (λ text. HasRequests text.items told) (λ fault. told ≡ Err fault) }
+    ensures { (requested : Result (List RequestLine) RequestsFault)
+        × ReadsRequests (R.input reader.old) requested (R.input reader.new)
+        × MatchResult result (λ text. HasRequests text.items requested) (λ fault. requested ≡ Err fault) }
 {
     let text = read_text(alloc, reader)?;
     match first_fault(text.as_slice()) {

@@ -3,7 +3,7 @@
 ghost use Rattle.std.specs.Prelude.{◌≡◌, [], Ok, Err, IfOk, IfErr, IfSome, IsTrue, IsErrOf, ◌⊎◌, is_some};
 ghost use Rattle.clap.specs.Matches.{found_of};
 ghost use Rattle.commands.specs.words.Lists.{numbers_within};
-ghost use Rattle.commands.specs.words.Values.{command_named, has_request, has_count, has_contacts, told_values, value_of, values_of, words_where_asked, count_where_asked, contacts_where_asked, request_where_asked, IsCount, IsInRange};
+ghost use Rattle.commands.specs.words.Values.{command_named, has_request, has_count, has_contacts, seen_values, value_of, values_of, words_where_asked, count_where_asked, contacts_where_asked, request_where_asked, IsCount, IsInRange};
 
 use crate::command::{CommandName, command_named};
 use crate::words::lists::contacts_listed;
@@ -107,7 +107,7 @@ fn values_of<A: Allocator + Copy>(
     command: CommandName,
     matches: &ArgMatches<'_>,
 ) -> Result<Values<A>, ValueFault>
-    ensures ok { IfOk result (λ v. values_of command (found_of matches.now) ≡ Ok (told_values v)) }
+    ensures ok { IfOk result (λ v. values_of command (found_of matches.now) ≡ Ok (seen_values v)) }
     ensures err { IfErr result (λ e. (e ≡ ValueFault.NoMemory) ⊎ (values_of command (found_of matches.now) ≡ Err e)) }
     ensures memory { IsErrOf result ValueFault.NoMemory → IsTrue (has_contacts command) }
     ensures request { IfOk result (λ v. is_some v.request ≡ has_request command) }
@@ -143,7 +143,7 @@ pub fn read_values<A: Allocator + Copy>(
     matches: &ArgMatches<'_>,
 ) -> Result<Values<A>, ValueFault>
     requires { IsTrue (is_some (command_named command.now)) }
-    ensures ok { IfSome (command_named command.now) (λ name. IfOk result (λ v. values_of name (found_of matches.now) ≡ Ok (told_values v))) }
+    ensures ok { IfSome (command_named command.now) (λ name. IfOk result (λ v. values_of name (found_of matches.now) ≡ Ok (seen_values v))) }
     ensures err { IfSome (command_named command.now) (λ name. IfErr result (λ e. (e ≡ ValueFault.NoMemory) ⊎ (values_of name (found_of matches.now) ≡ Err e))) }
     ensures memory { IfSome (command_named command.now) (λ name. IsErrOf result ValueFault.NoMemory → IsTrue (has_contacts name)) }
     ensures request { IfSome (command_named command.now) (λ name. IfOk result (λ v. is_some v.request ≡ has_request name)) }

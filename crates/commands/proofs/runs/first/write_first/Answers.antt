@@ -7,8 +7,8 @@ use Rattle.commands.proofs.runs.first.write_first.Goals.{then-keep, else-keep}
 
 pub returns-in_err-listing : goal.returns-in_err-listing
 returns-in_err-listing g c =
-    let (failure, is, told) = err_from_is_err_and c.from_residual-in_err-listing.result c.from_residual-in_err-listing.ensures.1 in
-    (Ok c.in_ok-plan.plan, c.in_ok-plan.ensures.read, rw (is, told) (refl, refl))
+    let (failure, is, same) = err_from_is_err_and c.from_residual-in_err-listing.result c.from_residual-in_err-listing.ensures.1 in
+    (Ok c.in_ok-plan.plan, c.in_ok-plan.ensures.read, rw (is, same) (refl, refl))
 
 pub returns : goal.returns
 returns g c =

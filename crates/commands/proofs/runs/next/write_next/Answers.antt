@@ -11,13 +11,13 @@ use Rattle.commands.proofs.runs.next.write_next.Goals.{then-keep, else-keep}
 -- a session that isn't read has no answer, and nothing is asked of one
 pub returns-in_err-plan : goal.returns-in_err-plan
 returns-in_err-plan g c =
-    let (failure, is, told) = err_from_is_err_and c.from_residual.result c.from_residual.ensures.1 in
-    (Err c.in_err-plan.field-0.0, (Err NoMemory, (c.in_err-plan.ensures {u = tt}).read, refl, (is ∙ ap Err told, refl, refl)))
+    let (failure, is, same) = err_from_is_err_and c.from_residual.result c.from_residual.ensures.1 in
+    (Err c.in_err-plan.field-0.0, (Err NoMemory, (c.in_err-plan.ensures {u = tt}).read, refl, (is ∙ ap Err same, refl, refl)))
 
 pub returns-in_err-listing : goal.returns-in_err-listing
 returns-in_err-listing g c =
-    let (failure, is, told) = err_from_is_err_and c.from_residual-in_err-listing.result c.from_residual-in_err-listing.ensures.1 in
-    (Ok c.in_ok-plan.plan, (Err c.in_err-listing.field-0.0, c.in_ok-plan.ensures.read, c.in_err-listing.ensures.read, (is ∙ ap Err told, refl, refl)))
+    let (failure, is, same) = err_from_is_err_and c.from_residual-in_err-listing.result c.from_residual-in_err-listing.ensures.1 in
+    (Ok c.in_ok-plan.plan, (Err c.in_err-listing.field-0.0, c.in_ok-plan.ensures.read, c.in_err-listing.ensures.read, (is ∙ ap Err same, refl, refl)))
 
 pub write_page-requires-clause-digest : goal.write_page-requires-clause-digest
 write_page-requires-clause-digest g c =

@@ -6,5 +6,5 @@ use Rattle.commands.proofs.runs.verify.read_and_verify.Goals as goal
 -- a session that isn't read has no answer, and nothing is asked of one
 pub returns-in_err-plan : goal.returns-in_err-plan
 returns-in_err-plan g c =
-    let (failure, is, told) = err_from_is_err_and c.from_residual.result c.from_residual.ensures.1 in
-    (Err c.in_err-plan.field-0.0, (Err NoMemory, (c.in_err-plan.ensures {u = tt}).read, refl, (is ∙ ap Err told, refl)))
+    let (failure, is, same) = err_from_is_err_and c.from_residual.result c.from_residual.ensures.1 in
+    (Err c.in_err-plan.field-0.0, (Err NoMemory, (c.in_err-plan.ensures {u = tt}).read, refl, (is ∙ ap Err same, refl)))

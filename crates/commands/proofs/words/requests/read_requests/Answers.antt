@@ -1,7 +1,7 @@
 use Rattle.std.proofs.Common.{refl, sym, ap, ◌∙◌, Err}
 use Rattle.std.proofs.lemmas.Result.{err_from_is_err_and}
 use Rattle.commands.specs.words.Requests.{fault_of, lines_in, requests_from}
-use Rattle.commands.proofs.WordLemmas.RequestsRead.{not_read, lines_read, fault_told}
+use Rattle.commands.proofs.WordLemmas.RequestsRead.{not_read, lines_read, fault_requested}
 use Rattle.commands.proofs.words.requests.read_requests.Goals as goal
 
 pub returns-in_err-text : goal.returns-in_err-text
@@ -14,14 +14,14 @@ pub returns-in-Some : goal.returns-in-Some
 returns-in-Some g c =
     let h = c.in_ok-text.ensures {u = tt} in
     let text = c.in_ok-text.text.items in
-    let told = requests_from 1 (lines_in text) in
+    let requested = requests_from 1 (lines_in text) in
     let found = sym (ap (λ t. fault_of (requests_from 1 (lines_in t))) c.as_slice.ensures.value) ∙ sym c.first_fault.ensures ∙ c.in-Some.is in
-    (told, lines_read _ _ h.0 text h.1 h.2.0 h.2.1 h.2.2, fault_told told c.in-Some.fault found)
+    (requested, lines_read _ _ h.0 text h.1 h.2.0 h.2.1 h.2.2, fault_requested requested c.in-Some.fault found)
 
 pub returns-in-None : goal.returns-in-None
 returns-in-None g c =
     let h = c.in_ok-text.ensures {u = tt} in
     let text = c.in_ok-text.text.items in
-    let told = requests_from 1 (lines_in text) in
+    let requested = requests_from 1 (lines_in text) in
     let none = sym (ap (λ t. fault_of (requests_from 1 (lines_in t))) c.as_slice.ensures.value) ∙ sym c.first_fault.ensures ∙ c.in-None.is in
-    (told, lines_read _ _ h.0 text h.1 h.2.0 h.2.1 h.2.2, (refl, none))
+    (requested, lines_read _ _ h.0 text h.1 h.2.0 h.2.1 h.2.2, (refl, none))

@@ -1,7 +1,7 @@
 use Rattle.std.proofs.Common.{◌≡◌, length}
 use Rattle.commands.specs.words.Requests.{lines_in, requests_from}
 use Rattle.commands.proofs.RunLemmas.ManyAnswers.{HasAnswered}
-use Rattle.commands.proofs.runs.many.answer_each.Given as goal
+use Rattle.commands.proofs.runs.many.send_answers.Given as goal
 
 abbrev pub invariant-loop-line : goal.invariant-loop-line
 invariant-loop-line g l = record {
