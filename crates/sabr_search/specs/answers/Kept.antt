@@ -9,4 +9,4 @@ use Rattle.sabr_search.specs.answers.KeptAnswers.{IsAnswer}
 
 -- what is kept is true of the plan and the request
 abbrev pub IsKept : {A : Type 0} → TabledPlan → RouteRequest → Kept A → Type 0
-IsKept p r kept = IsReach p r kept.reach × All (IsAnswer p r) kept.answers.slots.items × IfSome kept.course (IsCourse p r)
+IsKept p r kept = IsReach p r kept.reach × All (IsAnswer p r) kept.answers.slots.items × IfSome kept.course (λ course. IsCourse p r course.value)

@@ -87,6 +87,7 @@ pub record AreSettling (task : SearchTask) (late near : List ℕ) (settled : Lis
   pub queue_is : IsQueue task late near settled arrival queue
   pub found : IsFirst task settled best
   pub sooner : best.delivery ≤ never
+  pub goal_late : best.delivery ≤ slice_index arrival task.goal
 
 -- what doesn't change or only falls when more contacts are taken
 pub record IsFallen (settled : List Bool) (arrival0 : List ℕ) (best0 : Best) (arrival : List ℕ) (best : Best) : Type 0 where
@@ -111,6 +112,7 @@ pub record AreSettled (task : SearchTask) (late near : List ℕ) (settled : List
   pub queue_is : IsQueue task late near settled arrival queue
   pub found : IsFirst task settled best
   pub sooner : best.delivery ≤ never
+  pub goal_late : best.delivery ≤ slice_index arrival task.goal
   pub taken : AreSettledTaken task near settled arrival best.delivery
 
 -- what a search found: no way to the goal comes before the delivery, and some way comes then with that number of hops,
