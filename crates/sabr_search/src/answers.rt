@@ -136,7 +136,7 @@ fn more_shut(near: Option<Near>, place: usize, shut: usize, node: usize) -> Opti
     Some(Near { place, shut, node })
 }
 
-/// Returns whether each of these nodes is shut. It begins with the last, since prefixes that begin alike differ behind.
+/// Returns whether each of these nodes is shut. It begins with the last, since prefixes that begin alike differ at their ends.
 fn are_shut(flags: &[bool], nodes: &[u32]) -> bool
     ensures { IsTrue result → AllShut flags.now nodes.now }
 {

@@ -32,8 +32,8 @@ pub struct Kept<A: Allocator + Copy = Global> {
     pub(crate) answers: Answers<A>,
     /// The nodes that the last wide question shut.
     pub(crate) wide: Shut<A>,
-    /// Where the last prefix led, if one is known.
-    pub(crate) course: Option<Course<A>>,
+    /// Where the last prefix led, if one is known; in a box, since each call takes it out and puts it back.
+    pub(crate) course: Option<Box<Course<A>, A>>,
 }
 
 impl<A: Allocator + Copy> Kept<A> {
@@ -85,17 +85,20 @@ impl<A: Allocator + Copy> Kept<A> {
         alloc: A,
         plan: &Plan<A>,
         request: &Request,
-    ) -> Result<Option<Course<A>>, NoMemory>
+    ) -> Result<Option<Box<Course<A>, A>>, NoMemory>
         requires kept { IsKept plan.now request.now self.old }
         ensures kept { IsKept plan.now request.now self.new }
         ensures plan { IsPlan plan.now.plan }
         ensures none { IfOk result (λ o. IfNone o ((s : List ℕ) → IsTrue (is_route plan.now.plan request.now s) → ⊥)) }
-        ensures some { IfOk result (λ o. IfSome o (IsCourse plan.now request.now)) }
+        ensures some { IfOk result (λ o. IfSome o (λ course. IsCourse plan.now request.now course.value)) }
     {
         plan.tell_rules();
         if let Some(course) = self.course.take() {
             return Ok(Some(course));
         }
-        Course::open(alloc, plan, request)
+        let Some(course) = Course::open(alloc, plan, request)? else {
+            return Ok(None);
+        };
+        Ok(Some(Box::new(alloc, course)?))
     }
 }

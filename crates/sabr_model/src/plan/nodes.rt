@@ -40,6 +40,7 @@ impl<A: Allocator + Copy> Plan<A> {
 
     /// Returns the standing contact with this number, as a search reads it. This is O(1) for a plan that was read and
     /// not changed since.
+    #[inline(always)]
     pub fn hop(&self, number: u32) -> Option<Hop>
         ensures { MatchOption result (contact_named self.now.plan number ≡ None) (IsHopNamed self.now number) }
     {

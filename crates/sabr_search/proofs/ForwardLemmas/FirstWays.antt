@@ -50,6 +50,7 @@ module _ (task : SearchTask) (late near : List ℕ) (settled : List Bool) (u t :
     queue_is = state.queue_is;
     found = state.found;
     sooner = state.sooner;
+    goal_late = state.goal_late;
     taken = taken;
   }
 
@@ -181,6 +182,7 @@ settled_stale task late near settled arrival queue queue' best was rest = record
   queue_is = rest;
   found = was.found;
   sooner = was.sooner;
+  goal_late = was.goal_late;
   taken = was.taken;
 }
 
@@ -234,8 +236,8 @@ module _ (task : SearchTask) (is : IsTask task) (off settled : List Bool) (u : �
       | inr past ↦ omega (arith, past_end arrival k past)
     ]
 
-    pub start_state : (queue : List Event) (best : Best) → queue ≡ [] → best.hops ≡ 0 → best.delivery ≡ never → AreSettling task late near settled u task.at arrival queue best
-    start_state queue best empty hops delivery = rw empty (record {
+    pub start_state : IsBound task late near → (queue : List Event) (best : Best) → queue ≡ [] → best.hops ≡ 0 → best.delivery ≡ never → AreSettling task late near settled u task.at arrival queue best
+    start_state bound queue best empty hops delivery = rw empty (record {
       flags = opened.flags;
       many = ap length settled_is ∙ flag_many off u ∙ ap length off_is ∙ all_many (length task.shut);
       closed = opened.closed;
@@ -254,6 +256,7 @@ module _ (task : SearchTask) (is : IsTask task) (off settled : List Bool) (u : �
       };
       found = inl (hops, delivery);
       sooner = omega (arith, delivery);
+      goal_late = omega (arith, delivery, bound.goal, opened.unreached task.goal (omega (arith, opened.flags, is.as_many, is.goal_in)) is.goal_open);
     })
 
     -- and once all of them are taken
@@ -272,6 +275,7 @@ module _ (task : SearchTask) (is : IsTask task) (off settled : List Bool) (u : �
           queue_is = state.queue_is;
           found = state.found;
           sooner = state.sooner;
+          goal_late = state.goal_late;
           taken = λ v n w b on step.
               (let here : v ≡ task.start = only_start v on in
               let at : Takes task n task.start (slice_index arrival' task.start) w b = rw here at step in
@@ -297,7 +301,7 @@ module _ (task : SearchTask) (is : IsTask task) (late near : List ℕ) (settled 
   pub next_state : IsBound task late near → AreSettling task late near (slice_set settled e.node true) e.node (slice_index arrival0 e.node) arrival0 queue best0
   next_state bound =
       let since : task.at ≤ slice_index arrival0 e.node = Leads-later (Takes task) (takes_timely task is.nodes) next_way.0 task.start task.at e.node (slice_index arrival0 e.node) next_way.2 in
-      settles task late near settled arrival0 queue0 queue e was.queue_is moved first next_within unsettled best0 bound was.flags was.many was.closed since was.lowered was.sooner was.found
+      settles task late near settled arrival0 queue0 queue e was.queue_is moved first next_within unsettled best0 bound was.flags was.many was.closed since was.lowered was.sooner was.goal_late was.found
 
   pub next_counted : (settled' : List Bool) (old new : ℕ) → settled' ≡ slice_set settled e.node true → old ≤ new + sent_by_settled task settled + degree task e.node → old ≤ new + sent_by_settled task settled'
   next_counted settled' old new settled_is le = omega (arith, ap (sent_by_settled task) settled_is, next_sent)

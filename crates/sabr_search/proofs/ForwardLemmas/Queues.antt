@@ -71,6 +71,7 @@ found_better task late near settled u t arrival queue best delivery hops so_far 
   queue_is = so_far.queue_is;
   found = inr (omega arith, omega arith, way);
   sooner = omega (arith, less, so_far.sooner);
+  goal_late = omega (arith, less, so_far.goal_late);
 }
 
 -- what is reached sooner is open
@@ -139,6 +140,7 @@ module _ (task : SearchTask) (late near : List ℕ) (settled : List Bool) (u t n
     queue_is = queue_more;
     found = so_far.found;
     sooner = so_far.sooner;
+    goal_late = omega (arith, set_other arrival w b task.goal (λ same. other (sym same)), so_far.goal_late);
   }
 
   pub pushed_falls : IsFallen settled arrival best (slice_set arrival w b) best
@@ -266,8 +268,8 @@ module _ (task : SearchTask) (bounds near : List ℕ) (settled : List Bool) (arr
 
     -- so its contacts can be taken
     pub settles : (best : Best) → IsBound task bounds near → length arrival ≡ length task.shut → length settled ≡ length task.shut → AreClosed task.shut arrival task.at → task.at ≤ slice_index arrival e.node → AreBy task bounds arrival → best.delivery ≤ never →
-        IsFirst task settled best → AreSettling task bounds near (slice_set settled e.node true) e.node (slice_index arrival e.node) arrival queue' best
-    settles best bound flags many closed since lowered sooner found = record {
+        best.delivery ≤ slice_index arrival task.goal → IsFirst task settled best → AreSettling task bounds near (slice_set settled e.node true) e.node (slice_index arrival e.node) arrival queue' best
+    settles best bound flags many closed since lowered sooner goal_late found = record {
       flags = flags;
       many = flag_many settled e.node ∙ many;
       closed = λ k on. omega (arith, closed k on, since);
@@ -277,6 +279,7 @@ module _ (task : SearchTask) (bounds near : List ℕ) (settled : List Bool) (arr
       lowered = lowered;
       queue_is = queue_settled;
       sooner = sooner;
+      goal_late = goal_late;
       found = elim found [ inl none ↦ inl none | inr way ↦ inr (way.0, omega (arith, way.1, count_more settled e.node within unsettled), way.2) ];
     }
 

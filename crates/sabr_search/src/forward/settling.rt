@@ -1,7 +1,7 @@
 //! Nodes settled in order of their arrival and of what the goal costs from there, up to the first delivery at the goal.
 
 ghost use Rattle.std.specs.Prelude.{◌≡◌, ◌≢◌, ◌⊎◌, IsTrue, ℕ, min, [], ◌+◌, ◌-◌, ◌^◌, ◌≤◌, ◌<◌, length, slice_get, slice_set, slice_index, slice_index_or, replicate, Some, OnOk, IfOk, IfSome, IfNone, true, false};
-ghost use Rattle.sabr_search.specs.questions.Task.{IsTask, Takes};
+ghost use Rattle.sabr_search.specs.questions.Task.{IsTask, Takes, latest_arrival};
 ghost use Rattle.sabr_search.specs.questions.Steps.{degree};
 ghost use Rattle.sabr_search.specs.questions.Linked.{AreLinksAt, IsLinkWithin, HasNumber};
 ghost use Rattle.sabr_search.specs.layers.Lists.{IsKnown};
@@ -12,10 +12,10 @@ ghost use Rattle.sabr_search.specs.layers.Settling.{IsBound, AreReal, AreArrival
 
 use crate::backward::pick::Standing;
 use crate::backward::since::cost_by;
-use crate::forward::layers::{Best, NEVER, news_before, open_nodes};
+use crate::forward::layers::{Best, NEVER, open_nodes};
 use crate::forward::queue::{Event, Queue};
 use crate::links::looks::Looks;
-use crate::links::over_link::{WalkedLink, is_soonest, link_passes, rules_out};
+use crate::links::over_link::{WalkedLink, link_passes};
 use crate::task::Task;
 use sabr_index::{Link, Links};
 use sabr_model::NoMemory;
@@ -53,34 +53,28 @@ impl<'t, 'a, 'b, A: Allocator + Copy> Forward<'t, 'a, 'b, A> {
     }
 
     /// Returns the second before which an arrival at a node is news: from then on, no way over it delivers before `delivery`.
+    /// The goal's own arrival is no sooner than that.
     #[inline(always)]
     fn news(&self, arrival: &[u64], to: usize, delivery: u64) -> u64
-        requires many { length arrival.now ≡ length self.now.task.now.shut }
-        requires task { IsTask self.now.task.now }
-        requires node { to < length self.now.task.now.table }
+        requires node { to < length arrival.now }
+        requires late { delivery ≤ slice_index arrival.now self.now.task.now.goal }
         ensures sooner { result ≤ delivery - cost_to self.now.near.now to }
         ensures goal { to ≡ self.now.task.now.goal → result ≡ delivery - cost_to self.now.near.now to }
         ensures other { to ≢ self.now.task.now.goal → result ≡ min (delivery - cost_to self.now.near.now to) (slice_index arrival.now to) }
     {
-        news_before(
-            arrival,
-            self.task,
-            to,
-            delivery.saturating_sub(self.cost(to)),
-        )
+        delivery.saturating_sub(self.cost(to)).min(arrival[to])
     }
 }
 
-/// Returns true if, by the bounds of a link, nothing that is at its sender at `at` brings news to its receiver.
+/// Returns true if, by the bounds of a link, nothing that is at its sender at `at` comes to its receiver sooner than is known.
 #[inline(always)]
-fn is_told(arrival: &[u64], goal: usize, link: &Link, at: u64, best: u64) -> bool
-    requires { link.now.receiver < length arrival.now }
-    ensures goal { IsTrue result → link.now.receiver ≡ goal → (best ≤ link.now.bounds.soonest) ⊎ (best ≤ at + link.now.bounds.least_light) }
-    ensures other { IsTrue result → link.now.receiver ≢ goal → (slice_index arrival.now link.now.receiver ≤ link.now.bounds.soonest) ⊎ (slice_index arrival.now link.now.receiver ≤ at + link.now.bounds.least_light) }
+fn is_told(arrival: &[u64], link: &Link, at: u64) -> bool
+    requires receiver { link.now.receiver < length arrival.now }
+    requires early { at ≤ latest_arrival }
+    ensures { IsTrue result → (slice_index arrival.now link.now.receiver ≤ link.now.bounds.soonest) ⊎ (slice_index arrival.now link.now.receiver ≤ at + link.now.bounds.least_light) }
 {
-    let to = link.receiver;
-    let known = if to == goal { best } else { arrival[to] };
-    is_soonest(link.bounds, at, known)
+    let known = arrival[link.receiver];
+    known <= link.bounds.soonest || known <= at + link.bounds.least_light as u64
 }
 
 /// For each node, its least arrival so far and whether it is settled; and the waiting arrivals.
@@ -218,14 +212,9 @@ impl<A: Allocator + Copy> Settling<A> {
         ensures pushes { OnOk result (length self.new.queue + looks.new.left ≤ length self.old.queue + looks.old.left) }
     {
         self.settled[event.node] = true;
-        let goal = forward.task.goal();
         let mut least = best;
         for link in links.links {
-            if is_told(&self.arrival, goal, link, event.at, least.delivery) {
-                continue;
-            }
-            let before = forward.news(&self.arrival, link.receiver, least.delivery);
-            if rules_out(link.bounds, event.at, before) {
+            if is_told(&self.arrival, link, event.at) {
                 continue;
             }
             let passes = link_passes(links, link);

@@ -24,7 +24,7 @@ returns-in_default-clause-least g c =
     sym (ap (option_map (record_of p r)) (none_is p r c.args.part.prefix.now c.args.part.excluded.now (rw c.plan-plan.ensures at c.take_course.ensures.plan) (λ m route on. none m route)))
 
 pub go-requires-clause-course : goal.go-requires-clause-course
-go-requires-clause-course g c = rw c.in-Some.is at c.in_ok-taken.ensures.some
+go-requires-clause-course g c = rw c.deref_mut.ensures.value (rw c.in-Some.is at c.in_ok-taken.ensures.some)
 
 pub go-requires-clause-fits : goal.go-requires-clause-fits
 go-requires-clause-fits g c = rw c.plan-plan.ensures c.requires.fits
@@ -49,7 +49,7 @@ pub least_beside-answer-requires-clause-asked : goal.least_beside-answer-require
 least_beside-answer-requires-clause-asked g c =
     let found = rw c.plan-plan.ensures at c.in_ok-standing.ensures.entered in
     let both = found c.args.part.excluded.now in
-    rw c.new-task.ensures (record {
+    rw (c.new-task.ensures, c.deref.ensures) (record {
       task_is = both.0;
       behind = both.1;
       fits = c.requires.fits;
