@@ -56,7 +56,7 @@ fn fresh_node<B: BestOf<A>, A: Allocator + Copy>(
     ensures at_most { OnErr result (asker.new.calls ≤ asker.old.calls + 1) }
     ensures same { asker.new.asked ≡ asker.old.asked }
 {
-    let excluded = ExcludedNumbers::one(asker.alloc(), route[count])?;
+    let excluded = ExcludedNumbers::one(asker.alloc(), route[count]);
     let found = asker.ask(&route[..count], excluded.as_slice())?;
     Ok(Node {
         leaf,

@@ -9,4 +9,4 @@ pub ask-requires-clause-fits : goal.ask-requires-clause-fits
 ask-requires-clause-fits g c = route_fits c.args.asker.now.asked.plan.plan c.args.asker.now.asked.request (take c.args.count c.args.route.now) c.args.route.now _ c.requires.route (number_after-take c.args.route.now c.args.count c.requires.longer)
 
 pub ask-requires-clause-rising : goal.ask-requires-clause-rising
-ask-requires-clause-rising g c = subst IsStrictlyIncreasing (sym (c.as_slice.ensures ∙ c.in_ok-excluded.ensures)) (increasing (slice_index c.args.route.now c.args.count ∷ []) (tt, tt))
+ask-requires-clause-rising g c = subst IsStrictlyIncreasing (sym (c.as_slice.ensures ∙ c.one-excluded.ensures)) (increasing (slice_index c.args.route.now c.args.count ∷ []) (tt, tt))
