@@ -1,6 +1,6 @@
 -- Contacts that are gathered with what no two of them share; and ranges that are gathered in any order, most in their
 -- places, and the latest beside them.
-use Rattle.std.specs.Prelude.{◌≡◌, ℕ, ◌≤◌, Bool, false, true, nat_lt, List, [], ◌∷◌, ◌++◌, ⊤, map}
+use Rattle.std.specs.Prelude.{◌≡◌, ℕ, ◌+◌, ◌*◌, ◌/◌, ◌%◌, ◌^◌, ◌<◌, ◌≤◌, Bool, false, true, nat_lt, List, [], ◌∷◌, ◌++◌, length, map, slice_get, slice_index}
 use Rattle.std.specs.List.{list_any, AllByRecursion}
 use Rattle.std.specs.List.Sorted.{IsStrictlySortedBy}
 use Rattle.std.specs.declared.cmp.Ordering.{Ordering}
@@ -14,6 +14,7 @@ use Rattle.sabr_model.specs.plan.Plan.{ContactPlan, IsPlan, IsWindow, opens, ove
 use Rattle.sabr_model.specs.plan.Adding.{by_range_key}
 use Rattle.sabr_model.specs.plan.RangeOrder.{place_number}
 use Rattle.sabr_model.specs.plan.Openings.{opening_of}
+use Rattle.sabr_gathering.specs.RangeChains.{IsLastOf}
 
 -- contacts alone and the greatest number given, as a plan without ranges
 abbrev pub plan_of_contacts : List Contact → ℕ → ContactPlan
@@ -23,26 +24,37 @@ plan_of_contacts contacts greatest = record { contacts = contacts; ranges = []; 
 abbrev pub opening_number : Opening → ℕ
 opening_number o = place_number o.start o.from o.to
 
--- the openings are those of the first contacts
-abbrev pub KnowsFirst : List Opening → List Contact → Type 0
-KnowsFirst [] cs = ⊤
-KnowsFirst (o ∷ os) [] = ⊥
-KnowsFirst (o ∷ os) (c ∷ cs) = (o ≡ opening_of c) × KnowsFirst os cs
+-- the bucket of an opening, one of 16384
+abbrev pub opening_bucket : Opening → ℕ
+opening_bucket o = ((o.from * 11400714819323198485 % 2 ^ 64 + o.to * 14029467366897019727 % 2 ^ 64) % 2 ^ 64 + o.start * 1609587929392839161 % 2 ^ 64) % 2 ^ 64 / 2 ^ 44 % 16384
+
+abbrev pub bucket_of_contact : Contact → ℕ
+bucket_of_contact c = opening_bucket (opening_of c)
+
+-- each contact with such a number is told the last one of its bucket before it
+abbrev pub AreFollowed : List Contact → List ℕ → Type 0
+AreFollowed contacts befores = (k : ℕ) (c : Contact) (n : ℕ) → slice_get contacts k ≡ Some c → slice_get befores k ≡ Some n → IsLastOf bucket_of_contact contacts (bucket_of_contact c) k n
+
+-- the first contacts have such numbers, and each bucket tells its last one of them
+pub record AreChained (contacts : List Contact) (befores lasts : List ℕ) : Type 0 where
+  pub within : length befores ≤ length contacts
+  pub begins : (bucket : ℕ) → bucket < length lasts → IsLastOf bucket_of_contact contacts bucket (length befores) (slice_index lasts bucket)
+  pub followed : AreFollowed contacts befores
 
 -- no contact opens after this
 abbrev pub OpenBy : Opening → List Contact → Type 0
 OpenBy last contacts = AllByRecursion (λ c. opening_number (opening_of c) ≤ opening_number last) contacts
 
--- the openings are those of the first contacts, and if the contacts rise none opens after the last one
-abbrev pub KnowsSome : List Opening → Bool → Opening → List Contact → Type 0
-KnowsSome known rising last contacts = KnowsFirst known contacts × (rising ≡ true → OpenBy last contacts)
+-- the first contacts are in chains, and if the contacts rise none opens after the last one
+abbrev pub KnowsSome : List ℕ → List ℕ → Bool → Opening → List Contact → Type 0
+KnowsSome befores lasts rising last contacts = AreChained contacts befores lasts × (rising ≡ true → OpenBy last contacts)
 
 -- an opening that no contact has was noted, one that a contact has was found, or neither
-abbrev pub IsNoted : List Contact → Opening → Option Bool → List Opening → Bool → Opening → Type 0
-IsNoted contacts o (Some true) known rising last =
-    (list_any (opens o.from o.to o.start) contacts ≡ false) × ((c : Contact) → opening_of c ≡ o → KnowsSome known rising last (contacts ++ c ∷ []))
-IsNoted contacts o (Some false) known rising last = (list_any (opens o.from o.to o.start) contacts ≡ true) × KnowsSome known rising last contacts
-IsNoted contacts o None known rising last = KnowsSome known rising last contacts
+abbrev pub IsNoted : List Contact → Opening → Option Bool → List ℕ → List ℕ → Bool → Opening → Type 0
+IsNoted contacts o (Some true) befores lasts rising last =
+    (list_any (opens o.from o.to o.start) contacts ≡ false) × ((c : Contact) → opening_of c ≡ o → KnowsSome befores lasts rising last (contacts ++ c ∷ []))
+IsNoted contacts o (Some false) befores lasts rising last = (list_any (opens o.from o.to o.start) contacts ≡ true) × KnowsSome befores lasts rising last contacts
+IsNoted contacts o None befores lasts rising last = KnowsSome befores lasts rising last contacts
 
 -- elements put into a list, one after the other
 abbrev pub put_all : {X : Type 0} → (X → X → Ordering) → List X → List X → List X
