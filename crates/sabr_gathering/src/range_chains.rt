@@ -3,7 +3,7 @@
 ghost use Rattle.std.specs.Prelude.{◌≡◌, ◌<◌, OnOk, length, slice_index};
 ghost use Rattle.std.specs.List.{list_any};
 ghost use Rattle.sabr_model.specs.plan.Plan.{overlap};
-ghost use Rattle.sabr_gathering.specs.RangeChains.{bucket_of_pair, IsLastOf, TellsLast, AreLinked};
+ghost use Rattle.sabr_gathering.specs.RangeChains.{bucket_of_pair, bucket_of_range, IsLastOf, TellsLast, AreLinked};
 
 use sabr_model::Range;
 use std::alloc::{AllocError, Allocator};
@@ -47,7 +47,7 @@ pub fn size_table<A: Allocator + Copy>(lasts: &mut Vec<usize, A>) -> Result<(), 
 pub fn last_of(ranges: &[Range], lasts: &[usize], bucket: usize) -> usize
     requires bucket { bucket < length lasts.now }
     requires tells { TellsLast ranges.now bucket (slice_index lasts.now bucket) }
-    ensures { IsLastOf ranges.now bucket (length ranges.now) result }
+    ensures { IsLastOf bucket_of_range ranges.now bucket (length ranges.now) result }
 {
     let last = lasts[bucket];
     if last == 0 {
@@ -69,7 +69,7 @@ pub fn last_of(ranges: &[Range], lasts: &[usize], bucket: usize) -> usize
 pub fn overlaps_in_chain(ranges: &[Range], links: &[RangeLink], last: usize, range: &Range) -> bool
     requires as_many { length links.now ≡ length ranges.now }
     requires linked { AreLinked ranges.now links.now }
-    requires last { IsLastOf ranges.now (bucket_of_pair range.now.one range.now.other) (length ranges.now) last }
+    requires last { IsLastOf bucket_of_range ranges.now (bucket_of_pair range.now.one range.now.other) (length ranges.now) last }
     ensures { result ≡ list_any (overlap range.now) ranges.now }
 {
     let mut at = last;

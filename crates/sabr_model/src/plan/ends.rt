@@ -40,6 +40,8 @@ impl<A: Allocator + Copy> Plan<A> {
 }
 
 /// Returns the index of a node of the table.
+#[cold]
+#[inline(never)]
 fn index_of<A: Allocator + Copy>(table: &NodeTable<A>, node: u64) -> usize
     requires { IsTrue (has node (keys table.now)) }
     ensures { slice_get (keys table.now) result ≡ Some node }

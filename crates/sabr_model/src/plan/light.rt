@@ -50,6 +50,8 @@ impl<A: Allocator + Copy> Plan<A> {
 }
 
 /// Returns the light time that these ranges state for a contact.
+#[cold]
+#[inline(never)]
 pub fn light_of_contact(ranges: &[Range], contact: &Contact) -> Option<u32>
     requires { IsRangeList ranges.now }
     ensures { result ≡ light_of (record { contacts = []; ranges = ranges.now; greatest = 0 }) contact.now }
