@@ -17,6 +17,10 @@ use sabr_index::Index;
 use sabr_model::{NoMemory, Plan, Request};
 use std::alloc::{Allocator, Global};
 
+/// How many questions are asked before what bounds every search is found. Finding it takes as long as several searches,
+/// and a list's first route, with the question whether another follows, takes two.
+const FIRST_QUESTIONS: u32 = 2;
+
 /// What is kept for the searches of one plan and request.
 ///
 /// An answer doesn't depend on what is kept. If a growth is refused, what it was for is left out.
@@ -26,8 +30,8 @@ pub struct Kept<A: Allocator + Copy = Global> {
     alloc: A,
     /// What bounds every search.
     pub(crate) reach: Reach<A>,
-    /// Whether that is still to be found.
-    is_new: bool,
+    /// How many questions were asked until that was looked for.
+    asked: u32,
     /// Answers to questions so far.
     pub(crate) answers: Answers<A>,
     /// The nodes that the last wide question shut.
@@ -44,34 +48,28 @@ impl<A: Allocator + Copy> Kept<A> {
         Kept {
             alloc,
             reach: Reach::new(alloc),
-            is_new: true,
+            asked: 0,
             answers: Answers::new(alloc),
             wide: Shut::new(alloc),
             course: None,
         }
     }
 
-    /// Makes an empty value for one search alone, for which nothing is found first. It takes no memory.
-    pub fn for_one(alloc: A) -> Kept<A>
-        ensures { (p : TabledPlan) (r : RouteRequest) → IsKept p r result }
-    {
-        let mut kept = Kept::new(alloc);
-        kept.is_new = false;
-        kept
-    }
-
-    /// Finds what bounds every search, before the first one. Nothing is known if two looks at each contact aren't enough,
-    /// or if a growth is refused.
+    /// Begins a question. After the first ones it finds what bounds every search, once. Nothing is known if two looks at
+    /// each contact aren't enough, or if a growth is refused.
     pub fn open(&mut self, looks: &mut Looks, index: &Index<'_, A>, request: &Request)
         requires kept { IsKept index.now request.now self.old }
         requires few { looks_taken looks.old ≤ 2 * length index.now.plan.contacts }
         ensures kept { IsKept index.now request.now self.new }
         ensures looks { looks_taken looks.new ≤ 2 * length index.now.plan.contacts }
     {
-        if !self.is_new {
+        if self.asked > FIRST_QUESTIONS {
             return;
         }
-        self.is_new = false;
+        self.asked += 1;
+        if self.asked <= FIRST_QUESTIONS {
+            return;
+        }
         let aside = looks.set_aside(2 * index.plan().contacts().len() as u64);
         if let Ok(reach) = Reach::of(self.alloc, looks, index, request) {
             self.reach = reach;

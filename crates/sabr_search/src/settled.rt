@@ -225,7 +225,7 @@ impl<A: Allocator + Copy> BestOf<A> for Settled<A> {
         let Ok(index) = Index::new(self.alloc, plan) else {
             return Err(NoMemory);
         };
-        let mut kept = Kept::for_one(self.alloc);
+        let mut kept = Kept::new(self.alloc);
         self.find(&mut kept, &index, request, part, rises(part.excluded))
     }
 
