@@ -24,15 +24,13 @@ pub record AreArrivals (task : SearchTask) (since : List ℕ) : Type 0 where
 abbrev pub InTimeFor : List LayerEntry → ℕ → ℕ → ℕ → ℕ → Type 0
 InTimeFor reached first begin w b = (p : ℕ) × (e : LayerEntry) × (first ≤ p) × (p < begin) × (slice_get reached p ≡ Some e) × (e.node ≡ w) × (b < e.deadline)
 
--- an entry after the goal's: of another open node, from the second on that is given for it, too late no later than the
--- node is
-pub record IsLateEntry (task : SearchTask) (since late : List ℕ) (e : LayerEntry) : Type 0 where
+-- an entry after the goal's: of another open node, from the second on that is given for it
+pub record IsLateEntry (task : SearchTask) (since : List ℕ) (e : LayerEntry) : Type 0 where
   pub inside : e.node < length task.table
   pub unshut : slice_index_or task.shut e.node false ≡ false
   pub other : e.node ≢ task.goal
   pub soon : e.arrival ≡ slice_index since e.node
   pub some : 0 < e.deadline
-  pub by : e.deadline ≤ slice_index late e.node
 
 -- the lists while the layer that begins at `begin` is made from the entries from `first` on
 pub record AreLate (task : SearchTask) (since : List ℕ) (first begin : ℕ) (late place : List ℕ) (reached : List LayerEntry) : Type 0 where
@@ -41,7 +39,8 @@ pub record AreLate (task : SearchTask) (since : List ℕ) (first begin : ℕ) (l
   pub later : 0 < begin
   pub begins : begin ≤ length reached
   pub top : (v : ℕ) → v < length task.table → 0 < slice_index late v → (a : ℕ) × (slice_get reached (slice_index place v) ≡ Some (record { node = v; arrival = a; deadline = slice_index late v }))
-  pub each : (p : ℕ) (e : LayerEntry) → 0 < p → slice_get reached p ≡ Some e → IsLateEntry task since late e
+  pub each : (p : ℕ) (e : LayerEntry) → 0 < p → slice_get reached p ≡ Some e → IsLateEntry task since e
+  pub by : (p : ℕ) (e : LayerEntry) → slice_get reached p ≡ Some e → e.deadline ≤ slice_index late e.node
   pub rising : (p q : ℕ) (e f : LayerEntry) → 0 < p → p < q → slice_get reached p ≡ Some e → slice_get reached q ≡ Some f → e.node ≡ f.node → e.deadline < f.deadline
   pub once : (p : ℕ) (e : LayerEntry) → begin ≤ p → slice_get reached p ≡ Some e → slice_index place e.node ≡ p
   pub sound : (p : ℕ) (e : LayerEntry) (t : ℕ) → begin ≤ p → slice_get reached p ≡ Some e → t < e.deadline → (n : ℕ) × (w : ℕ) × (b : ℕ) × Takes task n e.node t w b × InTimeFor reached first begin w b
@@ -50,20 +49,15 @@ pub record AreLate (task : SearchTask) (since : List ℕ) (first begin : ℕ) (l
 abbrev pub AreLateAfter : SearchTask → List ℕ → List ℕ → ℕ → List ℕ → List ℕ → List LayerEntry → Type 0
 AreLateAfter task since ends left late place reached = AreLate task since (slice_index ends left) (slice_index ends (left + 1)) late place reached
 
--- a step from the start is in time for an entry of layer `left`
-abbrev pub StartsInTime : SearchTask → List ℕ → ℕ → List LayerEntry → Type 0
-StartsInTime task ends left reached = (n : ℕ) × (w : ℕ) × (b : ℕ) × Takes task n task.start task.at w b × InTimeFor reached (slice_index ends left) (slice_index ends (left + 1)) w b
-
 -- node u is too late from x on: its entry in the layer that begins at `begin` says so, or a new one does
 abbrev pub IsNotedLate : List ℕ → List ℕ → List LayerEntry → ℕ → ℕ → ℕ → ℕ → List ℕ → List LayerEntry → Type 0
 IsNotedLate late place reached begin u a x place' reached' =
     ((0 < slice_index late u) × (begin ≤ slice_index place u) × (place' ≡ place) × (reached' ≡ slice_set reached (slice_index place u) (record { node = u; arrival = a; deadline = x })))
     ⊎ ((0 < slice_index late u → slice_index place u < begin) × (place' ≡ slice_set place u (length reached)) × (reached' ≡ reached ++ record { node = u; arrival = a; deadline = x } ∷ []))
 
--- what a step from node u at t leaves, if it leads to where there still is time: it is not from the start in time, and
--- any other u is not too late
+-- what a step from node u at t leaves, if it leads to where there still is time: u is not too late
 abbrev pub IsToldLate : SearchTask → List ℕ → List ℕ → ℕ → ℕ → Type 0
-IsToldLate task since late u t = (u ≡ task.start → task.at ≤ t → ⊥) × (slice_index_or task.shut u false ≡ false → u ≢ task.goal → slice_index since u ≤ t → t < slice_index late u)
+IsToldLate task since late u t = slice_index_or task.shut u false ≡ false → u ≢ task.goal → slice_index since u ≤ t → t < slice_index late u
 
 -- so it is for each step over these passes from node u that arrives before a second
 abbrev pub IsToldOver : SearchTask → List ℕ → List ℕ → ℕ → List Pass → ℕ → Type 0
@@ -84,9 +78,9 @@ IsLayerTold task since ends left reached late = AreTold task since reached (slic
 
 -- the same by the layers up to the one after j
 abbrev pub IsToldBy : SearchTask → List ℕ → Entries → ℕ → ℕ → ℕ → Type 0
-IsToldBy task since E j u t = (u ≡ task.start → task.at ≤ t → ⊥) × (slice_index_or task.shut u false ≡ false → u ≢ task.goal → slice_index since u ≤ t → (i : ℕ) × (a : ℕ) × (x : ℕ) × (i ≤ j + 1) × E i u a x × (t < x))
+IsToldBy task since E j u t = slice_index_or task.shut u false ≡ false → u ≢ task.goal → slice_index since u ≤ t → (i : ℕ) × (a : ℕ) × (x : ℕ) × (i ≤ j + 1) × E i u a x × (t < x)
 
--- the layers up to `left` hops from the goal
+-- the layers up to `left` hops from the goal; the start is in time for no entry of an earlier one
 pub record AreLateLayers (task : SearchTask) (since : List ℕ) (d left : ℕ) (ends late place : List ℕ) (reached : List LayerEntry) : Type 0 where
   pub lists : AreLate task since (slice_index ends left) (slice_index ends (left + 1)) late place reached
   pub many : length ends ≡ left + 2
@@ -98,6 +92,7 @@ pub record AreLateLayers (task : SearchTask) (since : List ℕ) (d left : ℕ) (
   pub apart : (h p q : ℕ) (e f : LayerEntry) → h ≤ left → slice_index ends h ≤ p → slice_index ends h ≤ q → p < slice_index ends (h + 1) → q < slice_index ends (h + 1) → slice_get reached p ≡ Some e → slice_get reached q ≡ Some f → e.node ≡ f.node → p ≡ q
   pub sound : (h v a x t : ℕ) → h < left → Entry ends reached (h + 1) v a x → t < x → (n : ℕ) × (w : ℕ) × (b : ℕ) × (c : ℕ) × (y : ℕ) × Takes task n v t w b × Entry ends reached h w c y × (b < y)
   pub taken : (j w a x n u t b : ℕ) → j < left → Entry ends reached j w a x → b < x → Takes task n u t w b → IsToldBy task since (Entry ends reached) j u t
+  pub unmet : (j w a x n b : ℕ) → j < left → Entry ends reached j w a x → b < x → Takes task n task.start task.at w b → ⊥
 
 -- the start is in time for an entry of the last layer
 pub record IsMet (task : SearchTask) (left : ℕ) (ends : List ℕ) (reached : List LayerEntry) : Type 0 where
