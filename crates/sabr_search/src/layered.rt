@@ -41,9 +41,15 @@ impl<A: Allocator + Copy> Layers<A> {
     {
         let asked = Question { task, prefix };
         let since = Since::of(since);
+        let mut first = Vec::new(self.alloc);
+        let whole = task.first_steps(looks, &mut first)?;
+        if !whole {
+            unreachable!();
+        }
         let aim = Aim {
             task,
             since: &since,
+            first: &first,
             delivery: 0,
         };
         let found = self.least_within(&aim, looks, asked.left())?;

@@ -84,6 +84,7 @@ impl<A: Allocator + Copy> Search<A> {
         let aim = Aim {
             task,
             since: &since,
+            first: &self.first,
             delivery: first.delivery,
         };
         if first.hops > hops {

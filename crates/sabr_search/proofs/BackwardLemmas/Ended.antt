@@ -38,7 +38,7 @@ module _ (task : SearchTask) (is : IsTask task) (since : List ℕ) (d left : ℕ
         elim (cases_eq v task.goal) [
           | inl same ↦ (0, made.goal_first.0, d + 1, omega arith, rw same goal_entry, omega (arith, Leads-later (Takes task) (takes_timely task is.nodes) (n ∷ ns) v t task.goal e way))
           | inr other ↦
-              (let told = (made.taken r.0 way.0 r.1 r.2 n v t way.1 (inside r.0 way.0 r.1 r.2 r.4) r.4 r.5 step).1 unshut other (soon v t on) in
+              (let told = made.taken r.0 way.0 r.1 r.2 n v t way.1 (inside r.0 way.0 r.1 r.2 r.4) r.4 r.5 step unshut other (soon v t on) in
               (told.0, told.1, told.2, omega (arith, told.3, r.3), told.4, told.5))
         ]
 
@@ -60,5 +60,5 @@ module _ (task : SearchTask) (is : IsTask task) (since : List ℕ) (d left : ℕ
         let b : ℕ = way.1 in
         let step : Takes task n task.start task.at w b = way.2 in
         let r = late_way IsOnWay onward_way (λ v t on. arrivals.least on.0 v t on.1 on.2) ns w b e (n ∷ [], omega arith, (w, b, step, (refl, refl))) step.unshut way.3 by in
-        absurd ((made.taken r.0 w r.1 r.2 n task.start task.at b (inside r.0 w r.1 r.2 r.4) r.4 r.5 step).0 refl (omega arith)))
+        absurd (made.unmet r.0 w r.1 r.2 n b (inside r.0 w r.1 r.2 r.4) r.4 r.5 step))
   ]

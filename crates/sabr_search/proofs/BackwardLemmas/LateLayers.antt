@@ -43,7 +43,7 @@ module _ (task : SearchTask) (is : IsTask task) (since : List ℕ) (d left : ℕ
         elim (cases_eq v task.goal) [
           | inl same ↦ (0, made.goal_first.0, d + 1, omega arith, rw same goal_entry, omega (arith, Leads-later (Takes task) timely (n ∷ ys) v t task.goal e on))
           | inr other ↦
-              (let told = (made.taken r.0 on.0 r.1 r.2 n v t on.1 (omega (arith, r.3)) r.4 r.5 on.2).1 (way_open task xs task.start task.at v t there some) other (arrivals.least xs v t some there) in
+              (let told = made.taken r.0 on.0 r.1 r.2 n v t on.1 (omega (arith, r.3)) r.4 r.5 on.2 (way_open task xs task.start task.at v t there some) other (arrivals.least xs v t some there) in
               (told.0, told.1, told.2, omega (arith, told.3, r.3), told.4, told.5))
         ]
 
@@ -54,7 +54,7 @@ module _ (task : SearchTask) (is : IsTask task) (since : List ℕ) (d left : ℕ
       | inl yes' ↦ yes'
       | inr le ↦
           (let r = whole ns (n ∷ []) way.0 way.1 e (omega arith) (way.0, way.1, way.2, (refl, refl)) way.3 le (omega arith) in
-          absurd ((made.taken r.0 way.0 r.1 r.2 n task.start task.at way.1 (omega (arith, r.3)) r.4 r.5 way.2).0 refl (omega arith)))
+          absurd (made.unmet r.0 way.0 r.1 r.2 n way.1 (omega (arith, r.3)) r.4 r.5 way.2))
     ]
 
     -- a node on a way of exactly this number of hops has an entry of exactly that layer

@@ -65,11 +65,15 @@ module _ (task : SearchTask) (since : List ℕ) (first begin : ℕ) (late place 
     | inr differs ↦ omega (arith, set_other late u k x differs)
   ]
 
-  old_entry : (e : LayerEntry) → IsLateEntry task since late e → IsLateEntry task since (slice_set late u x) e
-  old_entry e is = record { inside = is.inside; unshut = is.unshut; other = is.other; soon = is.soon; some = is.some; by = omega (arith, is.by, late_rises e.node) }
+  new_entry : (e : LayerEntry) → e ≡ record { node = u; arrival = a; deadline = x } → IsLateEntry task since e
+  new_entry e is = rw is (record { inside = inside; unshut = unshut; other = other; soon = a_is; some = omega (arith, later) })
 
-  new_entry : (e : LayerEntry) → e ≡ record { node = u; arrival = a; deadline = x } → IsLateEntry task since (slice_set late u x) e
-  new_entry e is = rw is (record { inside = inside; unshut = unshut; other = other; soon = a_is; some = omega (arith, later); by = omega (arith, now_late) })
+  -- an entry of before or the new one is too late no later than its node
+  old_by : (p : ℕ) (e : LayerEntry) → slice_get reached p ≡ Some e → e.deadline ≤ slice_index (slice_set late u x) e.node
+  old_by p e at = omega (arith, was.by p e at, late_rises e.node)
+
+  new_by : (e : LayerEntry) → e ≡ record { node = u; arrival = a; deadline = x } → e.deadline ≤ slice_index (slice_set late u x) e.node
+  new_by e is = rw is (omega (arith, now_late))
 
   module _ (some : 0 < slice_index late u) (above : begin ≤ slice_index place u) where
     -- what stands there
@@ -100,8 +104,12 @@ module _ (task : SearchTask) (since : List ℕ) (first begin : ℕ) (late place 
             rw keeps (old.0, get_set_other reached (slice_index place u) (slice_index place v) f away ∙ old.1))
       ];
       each = λ p e some at. elim (set_cases reached (slice_index place u) f p e at_within at) [
-        | inl old ↦ old_entry e (was.each p e some old.1)
+        | inl old ↦ was.each p e some old.1
         | inr here ↦ new_entry e here.1
+      ];
+      by = λ p e at. elim (set_cases reached (slice_index place u) f p e at_within at) [
+        | inl old ↦ old_by p e old.1
+        | inr here ↦ new_by e here.1
       ];
       rising = λ p q e g some less at_p at_q same. elim (set_cases reached (slice_index place u) f p e at_within at_p) [
         | inl old_p ↦ elim (set_cases reached (slice_index place u) f q g at_within at_q) [
@@ -154,8 +162,12 @@ module _ (task : SearchTask) (since : List ℕ) (first begin : ℕ) (late place 
             rw (keeps, stays) (old.0, get_push_before reached f (slice_index place v) (slice_get_within reached (slice_index place v) (record { node = v; arrival = old.0; deadline = slice_index late v }) old.1) ∙ old.1))
       ];
       each = λ p e some at. elim (push_cases reached f p e at) [
-        | inl old ↦ old_entry e (was.each p e some old.1)
+        | inl old ↦ was.each p e some old.1
         | inr here ↦ new_entry e here.1
+      ];
+      by = λ p e at. elim (push_cases reached f p e at) [
+        | inl old ↦ old_by p e old.1
+        | inr here ↦ new_by e here.1
       ];
       rising = λ p q e g some less at_p at_q same. elim (push_cases reached f q g at_q) [
         | inl old_q ↦ elim (push_cases reached f p e at_p) [
@@ -165,7 +177,7 @@ module _ (task : SearchTask) (since : List ℕ) (first begin : ℕ) (late place 
         | inr here_q ↦ elim (push_cases reached f p e at_p) [
           | inl old_p ↦
               (let e_node : e.node ≡ u = same ∙ ap (λ (y : LayerEntry). y.node) here_q.1 in
-              omega (arith, (was.each p e some old_p.1).by, ap (slice_index late) e_node, later, ap (λ (y : LayerEntry). y.deadline) here_q.1))
+              omega (arith, was.by p e old_p.1, ap (slice_index late) e_node, later, ap (λ (y : LayerEntry). y.deadline) here_q.1))
           | inr here_p ↦ absurd (omega (arith, here_p.0, here_q.0))
         ]
       ];
@@ -173,7 +185,7 @@ module _ (task : SearchTask) (since : List ℕ) (first begin : ℕ) (late place 
         | inl old ↦ elim (cases_eq e.node u) [
           | inl same ↦
               (let entry = was.each p e (omega (arith, from, was.later)) old.1 in
-              absurd (omega (arith, was.once p e from old.1, ap (slice_index place) same, below (omega (arith, entry.some, entry.by, ap (slice_index late) same)))))
+              absurd (omega (arith, was.once p e from old.1, ap (slice_index place) same, below (omega (arith, entry.some, was.by p e old.1, ap (slice_index late) same)))))
           | inr differs ↦ set_other place u e.node (length reached) differs ∙ was.once p e from old.1
         ]
         | inr here ↦ ap (λ (y : LayerEntry). slice_index (slice_set place u (length reached)) y.node) here.1 ∙ place_here ∙ sym here.0
@@ -207,4 +219,4 @@ in_time_kept first begin reached reached0 kept w b t = (t.0, t.1, t.2, t.3, same
 
 -- what the layers say of a step stays true
 pub told_rises : (task : SearchTask) (since late late1 : List ℕ) (u t : ℕ) → ((k : ℕ) → slice_index late k ≤ slice_index late1 k) → IsToldLate task since late u t → IsToldLate task since late1 u t
-told_rises task since late late1 u t rises told = (told.0, λ unshut other soon. omega (arith, told.1 unshut other soon, rises u))
+told_rises task since late late1 u t rises told = λ unshut other soon. omega (arith, told unshut other soon, rises u)

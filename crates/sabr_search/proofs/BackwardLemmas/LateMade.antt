@@ -1,5 +1,5 @@
 -- One layer more, backward from the goal.
-use Rattle.std.proofs.Common.{◌≡◌, inl, inr, ℕ, zero, suc, ◌+◌, ◌<◌, ◌≤◌, List, [], ◌∷◌, ◌++◌, length, take, replicate, false, Some, slice_get, slice_index, slice_index_or, refl, ap, sym, ◌∙◌, arith, length-append, add-one}
+use Rattle.std.proofs.Common.{◌≡◌, ◌≢◌, inl, inr, ℕ, zero, suc, ◌+◌, ◌<◌, ◌≤◌, List, [], ◌∷◌, ◌++◌, length, take, replicate, false, Some, slice_get, slice_index, slice_index_or, refl, ap, sym, ◌∙◌, arith, length-append, add-one}
 use Rattle.std.specs.Prelude.{IfSome}
 use Rattle.std.proofs.lemmas.Bool.{cases_lt, cases_eq}
 use Rattle.std.proofs.lemmas.Option.{slice_get_within}
@@ -10,6 +10,7 @@ use Rattle.sabr_search.specs.layers.Seconds.{AreNamed}
 use Rattle.sabr_search.specs.layers.Late.{InTimeFor, AreLate, AreTold, IsToldBy, AreLateLayers, IsMet}
 use Rattle.sabr_search.proofs.ForwardLemmas.LayerEntries.{same_below}
 use Rattle.sabr_search.proofs.ForwardLemmas.Forward.{last_or_before}
+use Rattle.sabr_search.proofs.WayLemmas.RoutesAndWays.{same_some}
 use Rattle.sabr_search.proofs.ForwardLemmas.MadeLayers.{index_before, index_at, index_past, layer_of}
 
 -- an entry is the goal's, or one of another open node
@@ -29,6 +30,7 @@ nothing_past task since first begin first' begin' late place reached was all = r
   begins = omega arith;
   top = was.top;
   each = was.each;
+  by = was.by;
   rising = was.rising;
   once = λ p e from at. absurd (omega (arith, slice_get_within reached p e at));
   sound = λ p e t from at less. absurd (omega (arith, slice_get_within reached p e at));
@@ -39,6 +41,7 @@ module _ (task : SearchTask) (is : IsTask task) (since : List ℕ) (d left : ℕ
     (after : AreLate task since (slice_index ends left) (slice_index ends (left + 1)) late' place' reached')
     (kept_all : take (slice_index ends (left + 1)) reached' ≡ take (slice_index ends (left + 1)) reached)
     (told : AreTold task since reached (slice_index ends left) (slice_index ends (left + 1)) late')
+    (unmet : (w a x n b : ℕ) → Entry ends reached left w a x → b < x → Takes task n task.start task.at w b → ⊥)
     (ends_is : ends' ≡ ends ++ length reached' ∷ []) where
   end_before : (j : ℕ) → j ≤ left + 1 → slice_index ends' j ≡ slice_index ends j
   end_before j le = ap (λ xs. slice_index xs j) ends_is ∙ index_before ends (length reached') j (omega (arith, made.many))
@@ -132,17 +135,20 @@ module _ (task : SearchTask) (is : IsTask task) (since : List ℕ) (d left : ℕ
 
   taken' : (j w a x n u t b : ℕ) → j < left + 1 → Entry ends' reached' j w a x → b < x → Takes task n u t w b → IsToldBy task since (Entry ends' reached') j u t
   taken' j w a x n u t b less e by step = elim (last_or_before j left less) [
-    | inl before ↦
-        (let old = made.taken j w a x n u t b before (entry_was j w a x (omega arith) e) by step in (
-          old.0,
-          λ unshut other soon. (let r = old.1 unshut other soon in (r.0, r.1, r.2, r.3, entry_kept r.0 u r.1 r.2 r.4, r.5)),
-        ))
-    | inr same ↦
+    | inl before ↦ λ unshut other soon.
+        (let r = made.taken j w a x n u t b before (entry_was j w a x (omega arith) e) by step unshut other soon in
+        (r.0, r.1, r.2, r.3, entry_kept r.0 u r.1 r.2 r.4, r.5))
+    | inr same ↦ λ unshut other soon.
         (let old : Entry ends reached left w a x = entry_was left w a x (omega arith) (rw same at e) in
-        let now = told old.0 (record { node = w; arrival = a; deadline = x }) n u t b old.1 old.2 old.3 step by in (
-          now.0,
-          λ unshut other soon. (let r = newest u t (slice_get_within task.table u step.contact.from step.sender) (now.1 unshut other soon) in (r.0, r.1, r.2, omega (arith, r.3), r.4, r.5)),
-        ))
+        let now = told old.0 (record { node = w; arrival = a; deadline = x }) n u t b old.1 old.2 old.3 step by unshut other soon in
+        let r = newest u t (slice_get_within task.table u step.contact.from step.sender) now in
+        (r.0, r.1, r.2, omega (arith, r.3), r.4, r.5))
+  ]
+
+  unmet' : (j w a x n b : ℕ) → j < left + 1 → Entry ends' reached' j w a x → b < x → Takes task n task.start task.at w b → ⊥
+  unmet' j w a x n b less e by step = elim (last_or_before j left less) [
+    | inl before ↦ made.unmet j w a x n b before (entry_was j w a x (omega arith) e) by step
+    | inr same ↦ unmet w a x n b (entry_was left w a x (omega arith) (rw same at e)) by step
   ]
 
   pub late_next : AreLateLayers task since d (left + 1) ends' late' place' reached'
@@ -157,22 +163,26 @@ module _ (task : SearchTask) (is : IsTask task) (since : List ℕ) (d left : ℕ
     apart = apart';
     sound = sound';
     taken = taken';
+    unmet = unmet';
   }
 
--- if the start is in time for an entry of the last layer
-pub met_at : (task : SearchTask) (left : ℕ) (ends : List ℕ) (reached : List LayerEntry) (n w b : ℕ) → Takes task n task.start task.at w b → InTimeFor reached (slice_index ends left) (slice_index ends (left + 1)) w b → IsMet task left ends reached
-met_at task left ends reached n w b step t =
-    let e : LayerEntry = t.1 in
-    record {
-      n = n;
-      w = w;
-      b = b;
-      a = e.arrival;
-      x = e.deadline;
-      step = step;
-      entry = (t.0, t.2, t.3, t.4 ∙ ap (λ k. Some (record { node = k; arrival = e.arrival; deadline = e.deadline })) t.5);
-      in_time = t.6;
-    }
+-- the layers so far, and a step from the start
+module _ (task : SearchTask) (since : List ℕ) (d left : ℕ) (ends late place : List ℕ) (reached : List LayerEntry) (made : AreLateLayers task since d left ends late place reached) (n w b : ℕ) (step : Takes task n task.start task.at w b) where
+  -- if it is in time for its node, the start is in time for an entry of the last layer
+  pub met_by : b < slice_index late w → IsMet task left ends reached
+  met_by by =
+      let on = made.lists.top w (slice_get_within task.table w step.contact.to step.receiver) (omega arith) in
+      let within : slice_index place w < length reached = slice_get_within reached (slice_index place w) (record { node = w; arrival = on.0; deadline = slice_index late w }) on.1 in
+      let layer = layer_of ends (slice_index place w) (left + 1) made.first_end (omega (arith, made.last_end)) in
+      let entry : Entry ends reached layer.0 w on.0 (slice_index late w) = (slice_index place w, layer.2, layer.3, on.1) in
+      elim (last_or_before layer.0 left (omega (arith, layer.1))) [
+        | inl before ↦ absurd (made.unmet layer.0 w on.0 (slice_index late w) n b before entry by step)
+        | inr same ↦ record { n = n; w = w; b = b; a = on.0; x = slice_index late w; step = step; entry = rw same at entry; in_time = by }
+      ]
+
+  -- if it comes too late for its node, it does so for each entry
+  pub unmet_by : (j a x : ℕ) → Entry ends reached j w a x → slice_index late w ≤ b → b < x → ⊥
+  unmet_by j a x e late_is by = omega (arith, made.lists.by e.0 (record { node = w; arrival = a; deadline = x }) e.3)
 
 -- zeros stand in a list of them
 pub all_zero : (n k : ℕ) → slice_index (replicate n 0) k ≡ 0
@@ -196,16 +206,23 @@ named_none seconds none = record {
 
 -- the goal alone
 pub late_first : (task : SearchTask) → IsTask task → (since : List ℕ) (d : ℕ) (ends late place : List ℕ) (reached : List LayerEntry) → ends ≡ 0 ∷ 1 ∷ [] → reached ≡ record { node = task.goal; arrival = d; deadline = d + 1 } ∷ [] →
-    length place ≡ length task.shut → length late ≡ length task.shut → ((k : ℕ) → slice_index late k ≡ 0) → AreLateLayers task since d 0 ends late place reached
-late_first task is since d ends late place reached ends_is reached_is places many none =
+    length place ≡ length task.shut → slice_index place task.goal ≡ 0 → length late ≡ length task.shut → slice_index late task.goal ≡ d + 1 → ((k : ℕ) → k ≢ task.goal → slice_index late k ≡ 0) → AreLateLayers task since d 0 ends late place reached
+late_first task is since d ends late place reached ends_is reached_is places place_is many late_is none =
     rw (ends_is, reached_is) (record {
       lists = record {
         flags = omega (arith, places, is.as_many);
         many = omega (arith, many, is.as_many);
         later = omega arith;
         begins = omega arith;
-        top = λ v less some. absurd (omega (arith, some, none v));
+        top = λ v less some. elim (cases_eq v task.goal) [
+          | inl same ↦ rw (same, place_is, late_is) (d, refl)
+          | inr other ↦ absurd (omega (arith, some, none v other))
+        ];
         each = λ p e some at. absurd (omega (arith, slice_get_within (record { node = task.goal; arrival = d; deadline = d + 1 } ∷ []) p e at));
+        by = λ p e at.
+            (let zero_is : p ≡ 0 = omega (arith, slice_get_within (record { node = task.goal; arrival = d; deadline = d + 1 } ∷ []) p e at) in
+            let is : record { node = task.goal; arrival = d; deadline = d + 1 } ≡ e = same_some (ap (slice_get (record { node = task.goal; arrival = d; deadline = d + 1 } ∷ [])) (sym zero_is) ∙ at) in
+            rw (← is) (omega (arith, late_is)));
         rising = λ p q e f some less at_p at_q same. absurd (omega (arith, slice_get_within (record { node = task.goal; arrival = d; deadline = d + 1 } ∷ []) p e at_p));
         once = λ p e from at. absurd (omega (arith, slice_get_within (record { node = task.goal; arrival = d; deadline = d + 1 } ∷ []) p e at));
         sound = λ p e t from at less. absurd (omega (arith, slice_get_within (record { node = task.goal; arrival = d; deadline = d + 1 } ∷ []) p e at));
@@ -219,8 +236,5 @@ late_first task is since d ends late place reached ends_is reached_is places man
       apart = λ h p q e f le above_p above_q below_p below_q at_p at_q same. omega (arith, slice_get_within (record { node = task.goal; arrival = d; deadline = d + 1 } ∷ []) p e at_p, slice_get_within (record { node = task.goal; arrival = d; deadline = d + 1 } ∷ []) q f at_q);
       sound = λ h v a x t less e by. absurd (omega arith);
       taken = λ j w a x n u t b less e by step. absurd (omega arith);
+      unmet = λ j w a x n b less e by step. omega arith;
     })
-
-pub take_whole : {X : Type 0} (xs : List X) → take (length xs) xs ≡ xs
-take_whole [] = refl
-take_whole (x ∷ xs) = ap (λ ys. x ∷ ys) (take_whole xs)

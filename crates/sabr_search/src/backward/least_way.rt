@@ -4,7 +4,8 @@ ghost use Rattle.std.specs.Prelude.{◌≡◌, [], ◌+◌, ◌*◌, ◌^◌, �
 ghost use Rattle.sabr_search.specs.questions.Task.{IsTask, never, most_nodes};
 ghost use Rattle.sabr_search.specs.answers.KeptAnswers.{IsFoundWay};
 ghost use Rattle.sabr_search.specs.layers.Late.{AreArrivals, IsNoneSooner, HasWayAt};
-ghost use Rattle.sabr_search.specs.questions.FirstSteps.{IsNoneBefore};
+ghost use Rattle.sabr_search.specs.layers.Settling.{AreReal};
+ghost use Rattle.sabr_search.specs.questions.FirstSteps.{AreFirstSteps, IsNoneBefore};
 
 use crate::backward::from_goal::Aim;
 use crate::forward::layers::Layers;
@@ -44,6 +45,8 @@ impl<A: Allocator + Copy> Layers<A> {
         requires nodes { hops ≤ most_nodes }
         requires early { aim.now.delivery < never }
         requires arrivals { AreArrivals aim.now.task.now aim.now.since.now }
+        requires steps { AreFirstSteps aim.now.task.now aim.now.first.now }
+        requires real { AreReal aim.now.task.now aim.now.first.now }
         requires least { IsNoneSooner aim.now.task.now hops aim.now.delivery }
         requires way { HasWayAt aim.now.task.now hops aim.now.delivery }
         ensures counted { looks.old.left ≤ looks.new.left + 2 * (hops * length aim.now.task.now.plan.contacts) }
@@ -77,6 +80,8 @@ impl<A: Allocator + Copy> Layers<A> {
         requires nodes { hops ≤ most_nodes }
         requires early { aim.now.delivery < never }
         requires arrivals { AreArrivals aim.now.task.now aim.now.since.now }
+        requires steps { AreFirstSteps aim.now.task.now aim.now.first.now }
+        requires real { AreReal aim.now.task.now aim.now.first.now }
         requires lower { IsNoneBefore aim.now.task.now aim.now.delivery }
         ensures counted { looks.old.left ≤ looks.new.left + 3 * (hops * length aim.now.task.now.plan.contacts) }
         ensures none { IfOk result (λ o. IfNone o (looks.old.left < 3 * (hops * length aim.now.task.now.plan.contacts))) }
@@ -93,6 +98,7 @@ impl<A: Allocator + Copy> Layers<A> {
         let least = Aim {
             task,
             since: aim.since,
+            first: aim.first,
             delivery: best.delivery,
         };
         self.least_by(&least, looks, hops)

@@ -98,6 +98,7 @@ impl<A: Allocator + Copy> Queue<A> {
     }
 
     /// Removes and returns the earliest event.
+    #[inline(always)]
     pub fn pop(&mut self) -> Option<Event>
         ensures none { IfNone result (self.old ≡ []) }
         ensures moved { IfSome result (λ x. IsPermutation self.old (x ∷ self.new)) }

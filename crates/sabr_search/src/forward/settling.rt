@@ -110,6 +110,7 @@ impl<A: Allocator + Copy> Settling<A> {
     }
 
     /// Notes an arrival that is news. Returns the first delivery so far.
+    #[inline(always)]
     fn reach(
         &mut self,
         forward: &Forward<'_, '_, '_, A>,
@@ -321,6 +322,8 @@ impl<A: Allocator + Copy> Settling<A> {
         ensures none { IfOk result (λ o. IfNone o (looks.old.left < length forward.now.task.now.plan.contacts)) }
         ensures way { IfOk result (λ o. IfSome o (IsFirstWay forward.now.task.now)) }
         ensures arrivals { IfOk result (λ o. IfSome o (λ best. AreArrivalsBy forward.now.task.now forward.now.near.now self.new.arrival.items best.delivery)) }
+        ensures steps { IfOk result (λ o. IfSome o (λ _. AreFirstSteps forward.now.task.now first.new.items)) }
+        ensures real { IfOk result (λ o. IfSome o (λ _. AreReal forward.now.task.now first.new.items)) }
     {
         let whole = forward.task.first_steps(looks, first)?;
         if !whole {

@@ -42,6 +42,7 @@ impl<'a, A: Allocator + Copy> Task<'a, A> {
     /// Returns the first second from which on nothing leaves over a link and arrives before `before`, if that is later
     /// than `latest`; otherwise `latest`. Nothing is said of what is at the sender before `since`. It takes a binary
     /// search and one look for each pass in question.
+    #[inline(always)]
     pub fn leave_over(
         &self,
         looks: &mut Looks,

@@ -23,6 +23,18 @@ least_by-requires-clause-arrivals g c =
     arrivals_lowered c.args.task.now (length c.shut.result.now) c.deref-4.result.now c.deref-5.result.now c.deref-6.result.now c.in-Some.first.delivery (omega (arith, ap length c.shut.ensures, c.requires.task.as_many)) (rw c.deref-6.ensures.value c.requires.soon)
     (rw (c.deref-4.ensures.value, c.deref-5.ensures.value) (rw c.deref-2.ensures.value at by))
 
+pub least_within-requires-clause-steps : goal.least_within-requires-clause-steps
+least_within-requires-clause-steps g c = rw c.deref-7.ensures.value (rw c.in-Some.is at c.in_ok-reached.ensures.steps)
+
+pub least_within-requires-clause-real : goal.least_within-requires-clause-real
+least_within-requires-clause-real g c = rw c.deref-7.ensures.value (rw c.in-Some.is at c.in_ok-reached.ensures.real)
+
+pub least_by-requires-clause-steps : goal.least_by-requires-clause-steps
+least_by-requires-clause-steps g c = rw c.deref-7.ensures.value (rw c.in-Some.is at c.in_ok-reached.ensures.steps)
+
+pub least_by-requires-clause-real : goal.least_by-requires-clause-real
+least_by-requires-clause-real g c = rw c.deref-7.ensures.value (rw c.in-Some.is at c.in_ok-reached.ensures.real)
+
 pub least_by-requires-clause-way : goal.least_by-requires-clause-way
 least_by-requires-clause-way g c =
     let first = rw c.in-Some.is at c.in_ok-reached.ensures.way in

@@ -1,6 +1,8 @@
-use Rattle.std.proofs.Common.{◌≡◌, inr, ◌+◌, ◌++◌, [], ◌∷◌, Some, length, take, slice_index, ap, sym, ◌∙◌, arith}
+use Rattle.std.proofs.Common.{◌≡◌, inr, ◌+◌, ◌++◌, [], ◌∷◌, length, slice_index, ap, sym, ◌∙◌, arith}
+use Rattle.std.proofs.lemmas.Option.{slice_get_within}
+use Rattle.sabr_search.specs.declared.backward.pick.Standing.{Standing}
 use Rattle.sabr_search.proofs.ForwardLemmas.LayerEntries.{read_at}
-use Rattle.sabr_search.proofs.BackwardLemmas.LateMade.{late_first, late_next, met_at, take_whole}
+use Rattle.sabr_search.proofs.BackwardLemmas.LateMade.{late_first, late_next, met_by, unmet_by}
 use Rattle.sabr_search.proofs.BackwardLemmas.Ended.{none_by}
 use Rattle.sabr_search.proofs.BackwardLemmas.LateLayers.{fewest}
 use Rattle.sabr_search.proofs.forward.layers.Layers.make_back.Goals as goal
@@ -10,33 +12,33 @@ loop-left-init g c =
     let first = c.in_ok-first_back.ensures in
     record {
       counted = omega arith;
-      made = late_first c.args.aim.now.task.now c.requires.task c.args.aim.now.since.now c.args.aim.now.delivery _ _ _ _ first.ends first.reached first.place first.many first.none;
+      made = late_first c.args.aim.now.task.now c.requires.task c.args.aim.now.since.now c.args.aim.now.delivery _ _ _ _ first.ends first.reached first.flags first.place first.many first.late first.none;
     }
+
+pub is_met-requires : goal.is_met-requires
+is_met-requires g c = λ k s at.
+    let step = (c.requires.real k s at).1 in
+    omega (arith, slice_get_within c.args.aim.now.task.now.table s.node step.contact.to step.receiver, c.loop-left.invariant.made.lists.many)
 
 pub next_back-requires-clause-apart : goal.next_back-requires-clause-apart
 next_back-requires-clause-apart g c = λ p q e f. c.loop-left.invariant.made.apart c.loop-left.left p q e f (omega arith)
 
-pub returns-then-starts-clause-met : goal.returns-then-starts-clause-met
-returns-then-starts-clause-met g c =
+pub returns-then-is_met-clause-met : goal.returns-then-is_met-clause-met
+returns-then-is_met-clause-met g c =
     let task = c.args.aim.now.task.now in
-    let left = c.loop-left.left in
-    let old = c.loop-left.self in
-    let next = c.next_back.new.self in
+    let own = c.loop-left.self in
     let made = c.loop-left.invariant.made in
-    let met = c.in_ok-told.ensures.met (c.in-Some.is ∙ ap Some c.if-starts.true) in
-    let same_ends : next.ends.items ≡ old.ends.items = ap (λ v. v.items) c.next_back.ensures.ends in
-    let end : c.index-end.result.now ≡ slice_index next.ends.items (left + 1) = read_at next.ends.items (left + 1) c.index-end.result.now (omega (arith, ap length same_ends, made.many)) c.index-end.ensures in
-    let cut : c.truncate.new.self.items ≡ old.reached.items =
-    c.truncate.ensures.items ∙ ap (λ k. take k next.reached.items) (end ∙ ap (λ xs. slice_index xs (left + 1)) same_ends) ∙ c.in_ok-told.ensures.kept
-    ∙ ap (λ k. take k old.reached.items) made.last_end ∙ take_whole old.reached.items in
-    rw (same_ends, cut) (record {
-      late = old.late;
-      places = old.place.items;
+    let by = c.is_met.ensures.met c.if-is_met.true in
+    let s : Standing = by.1 in
+    let step = c.requires.real by.0 s by.2 in
+    record {
+      late = own.late;
+      places = own.place.items;
       made = made;
       arrivals = c.requires.arrivals;
-      met = met_at task left old.ends.items old.reached.items met.0 met.1 met.2 met.3 met.4;
-      flags = c.in_ok-told.ensures.lists.flags;
-    })
+      met = met_by task _ _ c.loop-left.left own.ends.items own.late own.place.items own.reached.items made step.0 s.node s.at step.1 by.3;
+      flags = made.lists.flags;
+    }
 
 pub loop-left-preserved : goal.loop-left-preserved
 loop-left-preserved g c =
@@ -44,13 +46,18 @@ loop-left-preserved g c =
     let left = c.loop-left.left in
     let old = c.loop-left.self in
     let next = c.next_back.new.self in
-    let one = c.in_ok-told.ensures in
+    let made = c.loop-left.invariant.made in
+    let one = c.in_ok-whole.ensures in
     let same_ends : next.ends.items ≡ old.ends.items = ap (λ v. v.items) c.next_back.ensures.ends in
     let many : c.len-end.result ≡ length next.reached.items = omega (arith, c.len-end.ensures, next.reached.ok.0) in
     record {
       counted = omega (arith, c.next_back.ensures.counted, c.loop-left.invariant.counted);
-      made = late_next task c.requires.task c.args.aim.now.since.now c.args.aim.now.delivery left old.ends.items old.late old.place.items old.reached.items c.loop-left.invariant.made
-          c.push.new.self.items next.late next.place.items next.reached.items one.lists one.kept (one.told (c.in-Some.is ∙ ap Some c.if-starts.false))
+      made = late_next task c.requires.task c.args.aim.now.since.now c.args.aim.now.delivery left old.ends.items old.late old.place.items old.reached.items made
+          c.push.new.self.items next.late next.place.items next.reached.items one.lists one.kept (one.told c.if-not-whole.false)
+          (λ w a x n b entry by step.
+          let s = c.requires.steps n w b step in
+          let node : s.1.node ≡ w = s.3 in
+          unmet_by task _ _ left old.ends.items old.late old.place.items old.reached.items made n w b step left a x entry (omega (arith, c.is_met.ensures.unmet c.if-is_met.false s.0 s.1 s.2, s.4, ap (slice_index old.late) node)) by)
           (c.in_ok-push.ensures.items ∙ ap (λ xs. xs ++ c.len-end.result ∷ []) same_ends ∙ ap (λ k. old.ends.items ++ k ∷ []) many);
     }
 

@@ -55,11 +55,6 @@ take_senders-requires-clause-given g c = λ b less.
     rw c.loop-place.invariant.ends (in_time_kept (slice_index old.ends.items c.args.left) (slice_index old.ends.items (c.args.left + 1)) c.loop-place.self.reached.items old.reached.items c.loop-place.invariant.kept c.index-to.result.now.node b
     (in_time g (goal.at.take_senders-requires-clause-given g c).After-index-to b less))
 
-pub returns-then-met-clause-met : goal.returns-then-met-clause-met
-returns-then-met-clause-met g c = λ same.
-    let met = c.in_ok-told.ensures.met (c.in-Some.is ∙ ap Some c.if-met.true) in
-    (met.0, c.index-to.result.now.node, met.1, met.2, in_time g (goal.at.returns-then-met-clause-met g c).After-index-to met.1 met.3)
-
 pub loop-place-preserved : goal.loop-place-preserved
 loop-place-preserved g c =
     let old = c.args.self.now in
@@ -68,7 +63,7 @@ loop-place-preserved g c =
     let place = c.loop-place.place in
     let to = c.index-to.result.now in
     let read = read g (goal.at.loop-place-preserved g c).After-index-to in
-    let one = c.in_ok-told.ensures in
+    let one = c.in_ok-whole.ensures in
     let received_here = rw (← read.0) at (received_next task old.ends.items old.reached.items c.args.left place to c.requires.apart (omega (arith, read.0)) (omega (arith, read.1, c.loop-place-test.true)) read.2) in
     record {
       ends = c.take_senders.ensures.ends ∙ so_far.ends;
@@ -79,21 +74,18 @@ loop-place-preserved g c =
         | inl before ↦ told_rises task c.args.aim.now.since.now _ _ u t one.rises (so_far.told p e n u t b above before here s less)
         | inr same ↦
             (let entry : e ≡ to = same_some (sym here ∙ ap (slice_get old.reached.items) same ∙ read.2) in
-            one.told (c.in-Some.is ∙ ap Some c.if-met.false) n u t b (rw entry at s) (rw entry at less))
+            one.told c.if-not-whole.false n u t b (rw entry at s) (rw entry at less))
       ];
     }
 
-pub returns-in_err-told-clause-counted : goal.returns-in_err-told-clause-counted
-returns-in_err-told-clause-counted g c = omega (arith, c.take_senders.ensures.counted, c.loop-place.invariant.counted, within g (goal.at.returns-in_err-told-clause-counted g c).After-index-to)
+pub returns-in_err-whole-clause-counted : goal.returns-in_err-whole-clause-counted
+returns-in_err-whole-clause-counted g c = omega (arith, c.take_senders.ensures.counted, c.loop-place.invariant.counted, within g (goal.at.returns-in_err-whole-clause-counted g c).After-index-to)
 
-pub returns-in_default-clause-counted : goal.returns-in_default-clause-counted
-returns-in_default-clause-counted g c = omega (arith, c.take_senders.ensures.counted, c.loop-place.invariant.counted, within g (goal.at.returns-in_default-clause-counted g c).After-index-to)
+pub returns-then-not-whole-clause-counted : goal.returns-then-not-whole-clause-counted
+returns-then-not-whole-clause-counted g c = omega (arith, c.take_senders.ensures.counted, c.loop-place.invariant.counted, within g (goal.at.returns-then-not-whole-clause-counted g c).After-index-to)
 
-pub returns-then-met-clause-counted : goal.returns-then-met-clause-counted
-returns-then-met-clause-counted g c = omega (arith, c.take_senders.ensures.counted, c.loop-place.invariant.counted, within g (goal.at.returns-then-met-clause-counted g c).After-index-to)
-
-pub returns-in_default-clause-none : goal.returns-in_default-clause-none
-returns-in_default-clause-none g c = omega (arith, rw c.in_default.is at c.in_ok-told.ensures.none, c.loop-place.invariant.counted, within g (goal.at.returns-in_default-clause-none g c).After-index-to)
+pub returns-then-not-whole-clause-none : goal.returns-then-not-whole-clause-none
+returns-then-not-whole-clause-none g c = omega (arith, c.in_ok-whole.ensures.none c.if-not-whole.true, c.loop-place.invariant.counted, within g (goal.at.returns-then-not-whole-clause-none g c).After-index-to)
 
 pub returns-clause-counted : goal.returns-clause-counted
 returns-clause-counted g c = omega (arith, c.loop-place.invariant.counted, received_at_most c.args.aim.now.task.now (nodes_between c.args.self.now.reached.items c.index-first.result.now c.loop-place.place))

@@ -1,29 +1,18 @@
-use Rattle.std.proofs.Common.{◌≡◌, ◌<◌, ◌+◌, false, slice_index, slice_index_or, sym, ◌∙◌, arith, subst}
+use Rattle.std.proofs.Common.{◌≡◌, ◌<◌, ◌+◌, slice_index, arith}
 use Rattle.std.proofs.lemmas.Option.{slice_get_within}
-use Rattle.sabr_search.specs.questions.Task.{Takes}
 use Rattle.sabr_search.proofs.ForwardLemmas.LayerEntries.{read_at}
-use Rattle.sabr_search.proofs.BackwardLemmas.Backward.{not_start}
 use Rattle.sabr_search.proofs.BackwardLemmas.LateLists.{late_noted, sound_back}
 use Rattle.sabr_search.proofs.forward.layers.Layers.take_sender.Goals as goal
 use Rattle.sabr_search.proofs.forward.layers.Layers.take_sender.Goals.{then-last-latest-via-then-last-latest, then-last-latest-via-else-last-latest+then-last-since}
 use Rattle.sabr_search.proofs.ForwardLemmas.Queues.{set_here}
 
-pub returns-then-from-start-clause-told : goal.returns-then-from-start-clause-told
-returns-then-from-start-clause-told g c = λ not_met n t w b has s less. (
-  λ same since. omega (arith, less, c.starts_in_time-met.ensures.told not_met n t w b since has (subst (λ u. Takes c.args.aim.now.task.now n u t w b) same s)),
-  λ unshut other soon. absurd (not_start c.args.aim.now.task.now c.requires.task c.args.from.node unshut (c.if-from-start.true ∙ c.start.ensures)),
-)
-
 pub returns-then-last-latest-clause-told : goal.returns-then-last-latest-clause-told
-returns-then-last-latest-clause-told g c = λ not_met n t w b has s less. (
-  λ same since. absurd (c.if-from-start.false (same ∙ sym c.start.ensures)),
-  λ unshut other soon.
-      (let sooner : t < c.leave_over-last.result = c.leave_over-last.ensures.full n t w b has (omega (arith, soon)) s less in
-      elim c.then-last-latest.branch [
-        | then-last-latest-via-then-last-latest z ↦ omega (arith, sooner, c.at-latest.ensures, z.if-last-latest.true)
-        | then-last-latest-via-else-last-latest+then-last-since z ↦ absurd (omega (arith, sooner, soon, z.if-last-since.true))
-      ]),
-)
+returns-then-last-latest-clause-told g c = λ n t w b has s less unshut other soon.
+    let sooner : t < c.leave_over-last.result = c.leave_over-last.ensures.full n t w b has (omega (arith, soon)) s less in
+    elim c.then-last-latest.branch [
+      | then-last-latest-via-then-last-latest z ↦ omega (arith, sooner, c.at-latest.ensures, z.if-last-latest.true)
+      | then-last-latest-via-else-last-latest+then-last-since z ↦ absurd (omega (arith, sooner, soon, z.if-last-since.true))
+    ]
 
 pub note_late-requires-clause-placed : goal.note_late-requires-clause-placed
 note_late-requires-clause-placed g c = λ some.
@@ -37,7 +26,7 @@ returns-clause-lists g c =
     let begin : c.index-begin.result.now ≡ slice_index c.args.self.now.ends.items (c.args.left + 1) = read_at c.args.self.now.ends.items (c.args.left + 1) c.index-begin.result.now c.requires.bounded c.index-begin.ensures in
     rw c.in_ok-note_late.ensures.late
     ((late_noted c.args.aim.now.task.now c.args.aim.now.since.now (slice_index c.args.self.now.ends.items c.args.left) (slice_index c.args.self.now.ends.items (c.args.left + 1)) c.args.self.now.late c.args.self.now.place.items c.args.self.now.reached.items c.requires.lists
-    c.args.from.node c.at-since.result c.leave_over-last.result c.requires.node (subst (λ xs. slice_index_or xs c.args.from.node false ≡ false) c.shut.ensures c.if-shut-from.false) (λ same. c.if-from-goal.false (same ∙ sym c.goal.ensures)) c.at-since.ensures (omega (arith, c.at-latest.ensures, c.if-last-latest.false))
+    c.args.from.node c.at-since.result c.leave_over-last.result c.requires.node c.requires.unshut c.requires.other c.at-since.ensures (omega (arith, c.at-latest.ensures, c.if-last-latest.false))
     (sound_back c.args.aim.now.task.now c.requires.task c.args.from.node c.args.to.node c.at-latest.result c.leave_over-last.result c.args.to.deadline (slice_index c.args.self.now.ends.items c.args.left) (slice_index c.args.self.now.ends.items (c.args.left + 1)) c.args.self.now.reached.items
     (λ t from less. c.leave_over-last.ensures.sound t from less) c.if-last-latest.false c.requires.receiver c.requires.given)
     _ _ (rw begin at c.in_ok-note_late.ensures.noted)).0)
@@ -46,14 +35,11 @@ pub returns-clause-kept : goal.returns-clause-kept
 returns-clause-kept g c =
     let begin : c.index-begin.result.now ≡ slice_index c.args.self.now.ends.items (c.args.left + 1) = read_at c.args.self.now.ends.items (c.args.left + 1) c.index-begin.result.now c.requires.bounded c.index-begin.ensures in
     (late_noted c.args.aim.now.task.now c.args.aim.now.since.now (slice_index c.args.self.now.ends.items c.args.left) (slice_index c.args.self.now.ends.items (c.args.left + 1)) c.args.self.now.late c.args.self.now.place.items c.args.self.now.reached.items c.requires.lists
-    c.args.from.node c.at-since.result c.leave_over-last.result c.requires.node (subst (λ xs. slice_index_or xs c.args.from.node false ≡ false) c.shut.ensures c.if-shut-from.false) (λ same. c.if-from-goal.false (same ∙ sym c.goal.ensures)) c.at-since.ensures (omega (arith, c.at-latest.ensures, c.if-last-latest.false))
+    c.args.from.node c.at-since.result c.leave_over-last.result c.requires.node c.requires.unshut c.requires.other c.at-since.ensures (omega (arith, c.at-latest.ensures, c.if-last-latest.false))
     (sound_back c.args.aim.now.task.now c.requires.task c.args.from.node c.args.to.node c.at-latest.result c.leave_over-last.result c.args.to.deadline (slice_index c.args.self.now.ends.items c.args.left) (slice_index c.args.self.now.ends.items (c.args.left + 1)) c.args.self.now.reached.items
     (λ t from less. c.leave_over-last.ensures.sound t from less) c.if-last-latest.false c.requires.receiver c.requires.given)
     _ _ (rw begin at c.in_ok-note_late.ensures.noted)).1
 
 pub returns-clause-told : goal.returns-clause-told
-returns-clause-told g c = λ not_met n t w b has s less. (
-  λ same since. absurd (c.if-from-start.false (same ∙ sym c.start.ensures)),
-  λ unshut other soon.
-      rw c.in_ok-note_late.ensures.late (omega (arith, set_here c.args.self.now.late c.args.from.node c.leave_over-last.result (omega (arith, c.requires.node, c.requires.lists.many)), c.leave_over-last.ensures.full n t w b has (omega (arith, soon)) s less)),
-)
+returns-clause-told g c = λ n t w b has s less unshut other soon.
+    rw c.in_ok-note_late.ensures.late (omega (arith, set_here c.args.self.now.late c.args.from.node c.leave_over-last.result (omega (arith, c.requires.node, c.requires.lists.many)), c.leave_over-last.ensures.full n t w b has (omega (arith, soon)) s less))

@@ -5,6 +5,8 @@ use Rattle.sabr_search.proofs.ForwardLemmas.Forward.{last_or_before}
 use Rattle.sabr_search.proofs.BackwardLemmas.LateLists.{in_time_kept, told_rises}
 use Rattle.sabr_search.proofs.LinkLemmas.Linking.{passes_within}
 use Rattle.sabr_search.proofs.LinkLemmas.StepLists.{sum_taken_le}
+use Rattle.sabr_search.proofs.forward.layers.Layers.take_senders.Given.{Over}
+use Rattle.sabr_search.proofs.forward.layers.Layers.take_senders.Goals.{After-at-from}
 use Rattle.sabr_search.proofs.forward.layers.Layers.take_senders.Goals as goal
 use Rattle.sabr_search.proofs.WayLemmas.RoutesAndWays.{same_some}
 
@@ -20,6 +22,16 @@ take_sender-requires-clause-lists g c = rw c.loop-place.invariant.ends c.loop-pl
 pub take_sender-requires-clause-given : goal.take_sender-requires-clause-given
 take_sender-requires-clause-given g c = λ b less.
     rw c.loop-place.invariant.ends (in_time_kept (slice_index c.args.self.now.ends.items c.args.left) (slice_index c.args.self.now.ends.items (c.args.left + 1)) c.loop-place.self.reached.items c.args.self.now.reached.items c.loop-place.invariant.kept c.args.to.node b (c.requires.given b less))
+
+-- the sender and the head at one place are of one node
+one_node : (g : Over) (c : After-at-from g) → c.at-from.result.node ≡ c.head-head.result.node
+one_node g c = ap (λ (s : SentLink). s.sender) (same_some (sym c.at-from.ensures.link ∙ c.head-head.ensures.1))
+
+pub take_sender-requires-clause-unshut : goal.take_sender-requires-clause-unshut
+take_sender-requires-clause-unshut g c = rw (one_node g (goal.at.take_sender-requires-clause-unshut g c).After-at-from) (c.is_told.ensures.unshut c.if-is_told.false)
+
+pub take_sender-requires-clause-other : goal.take_sender-requires-clause-other
+take_sender-requires-clause-other g c = rw (one_node g (goal.at.take_sender-requires-clause-other g c).After-at-from) (c.is_told.ensures.other c.if-is_told.false)
 
 pub is_told-requires-clause-node : goal.is_told-requires-clause-node
 is_told-requires-clause-node g c = c.senders-senders.ensures.senders c.loop-place.place (record { sender = c.head-head.result.node; passes = c.head-head.ensures.0 }) c.head-head.ensures.1
@@ -39,7 +51,7 @@ loop-place-preserved-then-is_told g c =
         | inl before ↦ so_far.told j s n t w b before at has step by
         | inr same ↦
             (let is : s ≡ record { sender = c.head-head.result.node; passes = here.0 } = same_some (sym at ∙ ap (slice_get c.senders-senders.result) same ∙ here.1) in
-            rw is (c.is_told.ensures c.if-is_told.true c.args.to.node here.0 n t w b (link, here.2) (rw is at has) (rw is at step) by))
+            rw is (c.is_told.ensures.told c.if-is_told.true c.args.to.node here.0 n t w b (link, here.2) (rw is at has) (rw is at step) by))
       ];
     }
 
@@ -47,7 +59,7 @@ pub loop-place-preserved : goal.loop-place-preserved
 loop-place-preserved g c =
     let task = c.args.aim.now.task.now in
     let so_far = c.loop-place.invariant in
-    let one = c.in_ok-met.ensures in
+    let one = c.in_ok-take_sender.ensures in
     record {
       ends = c.take_sender.ensures.ends ∙ so_far.ends;
       counted = omega (arith, so_far.counted, c.take_sender.ensures.looks, (passes_within task c.args.to.node c.senders-senders.result c.senders-senders.ensures c.loop-place.place _ c.at-from.ensures.link).0);
@@ -58,7 +70,7 @@ loop-place-preserved g c =
         | inl before ↦ told_rises task c.args.aim.now.since.now _ _ s.sender t one.rises (so_far.told j s n t w b before at has step by)
         | inr same ↦
             (let is : s ≡ record { sender = c.at-from.result.node; passes = c.at-from.result.passes.now } = same_some (sym at ∙ ap (slice_get c.senders-senders.result) same ∙ c.at-from.ensures.link) in
-            rw is (one.told c.if-met.false n t w b (rw is at has) (rw is at step) by))
+            rw is (one.told n t w b (rw is at has) (rw is at step) by))
       ];
     }
 
@@ -70,12 +82,8 @@ pub returns-then-from-looks-clause-counted : goal.returns-then-from-looks-clause
 returns-then-from-looks-clause-counted g c =
     omega (arith, c.loop-place.invariant.counted, (passes_within c.args.aim.now.task.now c.args.to.node c.senders-senders.result c.senders-senders.ensures c.loop-place.place _ c.at-from.ensures.link).1)
 
-pub returns-in_err-met-clause-counted : goal.returns-in_err-met-clause-counted
-returns-in_err-met-clause-counted g c =
-    omega (arith, c.take_sender.ensures.looks, c.loop-place.invariant.counted, (passes_within c.args.aim.now.task.now c.args.to.node c.senders-senders.result c.senders-senders.ensures c.loop-place.place _ c.at-from.ensures.link).1)
-
-pub returns-then-met-clause-counted : goal.returns-then-met-clause-counted
-returns-then-met-clause-counted g c =
+pub returns-in_err-take_sender-clause-counted : goal.returns-in_err-take_sender-clause-counted
+returns-in_err-take_sender-clause-counted g c =
     omega (arith, c.take_sender.ensures.looks, c.loop-place.invariant.counted, (passes_within c.args.aim.now.task.now c.args.to.node c.senders-senders.result c.senders-senders.ensures c.loop-place.place _ c.at-from.ensures.link).1)
 
 pub returns-clause-counted : goal.returns-clause-counted

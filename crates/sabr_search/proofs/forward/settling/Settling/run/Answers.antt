@@ -1,4 +1,8 @@
-use Rattle.std.proofs.Common.{arith}
+use Rattle.std.proofs.Common.{Option, Some, None, arith}
+use Rattle.std.specs.Prelude.{IfOk, IfSome}
+use Rattle.std.specs.declared.result.Result.{Result}
+use Rattle.std.specs.declared.result.Result.TheVariants.{Ok, Err}
+use Rattle.sabr_search.specs.questions.FirstSteps.{AreFirstSteps}
 use Rattle.sabr_search.proofs.BackwardLemmas.LeastPicks.{degree_at_most}
 use Rattle.sabr_search.proofs.forward.settling.Settling.run.Goals as goal
 
@@ -13,3 +17,12 @@ returns-then-not-whole-clause-none g c = omega (arith, c.in_ok-whole.ensures.all
 
 pub settle_all-requires-clause-steps : goal.settle_all-requires-clause-steps
 settle_all-requires-clause-steps g c = λ n w b s. rw c.deref.ensures.value (c.in_ok-whole.ensures.whole c.if-not-whole.false n w b s)
+
+-- what holds in any case holds if a value is returned
+in_any_case : {T E : Type 0} (result : Result (Option T) E) (P : Type 0) → P → IfOk result (λ o. IfSome o (λ _. P))
+in_any_case (Ok None) P is = tt
+in_any_case (Ok (Some x)) P is = is
+in_any_case (Err e) P is = tt
+
+pub returns-clause-steps : goal.returns-clause-steps
+returns-clause-steps g c = in_any_case c.settle_all.result (AreFirstSteps c.args.forward.now.task.now c.first_steps.new.first.items) (c.in_ok-whole.ensures.whole c.if-not-whole.false)
