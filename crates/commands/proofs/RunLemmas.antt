@@ -1,6 +1,7 @@
 -- Pages and sessions.
 pub mod SessionPages
 pub mod PageTexts
+pub mod LastPages
 pub mod ManyAnswers
 pub mod ManyAsFirst
 pub mod OldSessions

@@ -6,6 +6,7 @@ mod check;
 mod ending;
 mod explain;
 mod first;
+mod last_page;
 mod many;
 mod next;
 mod pages;

@@ -7,6 +7,7 @@ pub mod Index
 pub mod Best
 pub mod Asking
 pub mod Taking
+pub mod Left
 pub mod Room
 pub mod Sound
 pub mod Prepared

@@ -3,4 +3,5 @@
 pub mod asker;
 mod divide;
 mod gather;
+mod peek;
 mod take;

@@ -143,16 +143,15 @@ all_answered p count requested lines old new h e =
     (h.done, h.parts ∙ ap (λ xs. Ok (h.done ++ xs)) left ∙ ap Ok (append-nil h.done), h.written)
 
 -- the report of a page of a session just started is that of the first page
-pub first_of_page : (before after : Seen) (k : ℕ) (routes : List RouteRecord) (rank : ℕ) (more : Bool) → IsPlan before.plan.plan
-    → before.state ≡ state_at before.plan.plan before.request 0
-    → routes ≡ map (record_of before.plan.plan before.request) (steps before.plan.plan before.request k before.state).0
-    → rank ≡ before.state.emitted → more ≡ is_some (next_route after.plan.plan after.request after.state)
-    → after.plan ≡ before.plan → after.request ≡ before.request → after.state ≡ (steps before.plan.plan before.request k before.state).1
-    → report_text routes (rank + 1) more ≡ first_report before.plan.plan before.request k
-first_of_page before after k routes rank more rules started given count goes_on plan request state =
-    report_of_page before after k routes rank more given count goes_on plan request state
-    ∙ ap (λ (s : State). next_report before.plan.plan before.request s k) started
-    ∙ first_report_is before.plan.plan before.request k rules
+pub first_of_page : (s : Seen) (k : ℕ) (routes : List RouteRecord) (rank : ℕ) (more : Bool) → IsPlan s.plan.plan
+    → s.state ≡ state_at s.plan.plan s.request 0
+    → routes ≡ map (record_of s.plan.plan s.request) (steps s.plan.plan s.request k s.state).0
+    → rank ≡ s.state.emitted → more ≡ is_some (next_route s.plan.plan s.request (steps s.plan.plan s.request k s.state).1)
+    → report_text routes (rank + 1) more ≡ first_report s.plan.plan s.request k
+first_of_page s k routes rank more rules started given count goes_on =
+    report_of_page s k routes rank more given count goes_on
+    ∙ ap (λ (state : State). next_report s.plan.plan s.request state k) started
+    ∙ first_report_is s.plan.plan s.request k rules
 
 -- one answer, where its writer failed, or memory was refused
 pub answer_failed : (p : ContactPlan) (count : ℕ) (x : RequestLine) (end : Result (Unit {0}) Failure) (a c : Output) → IsErrAnd end (λ e. e ≡ failure.Write) → WrittenInPart a (answer_text p count x) c → LeavesAnswer p count x end a c

@@ -22,14 +22,19 @@ use Rattle.commands.specs.runs.SessionRuns.{next_report, text_over, WritesPage}
 pub flush_failed : (a b c : Output) (text : List ℕ) → Written a text b → Keeps b.contents c.contents → c.failures ≡ b.failures + 1 → WrittenInPart a text c
 flush_failed a b c text p q e = ((text, ([], sym (append-nil text)), Appends-kept a.contents b.contents c.contents text p.0 q), e ∙ ap (λ j. j + 1) p.1)
 
--- the report of a page, from the session before it and the session after it
-pub report_of_page : (before after : Seen) (k : ℕ) (routes : List RouteRecord) (rank : ℕ) (more : Bool)
-    → routes ≡ map (record_of before.plan.plan before.request) (steps before.plan.plan before.request k before.state).0
-    → rank ≡ before.state.emitted → more ≡ is_some (next_route after.plan.plan after.request after.state)
-    → after.plan ≡ before.plan → after.request ≡ before.request → after.state ≡ (steps before.plan.plan before.request k before.state).1
-    → report_text routes (rank + 1) more ≡ next_report before.plan.plan before.request before.state k
-report_of_page before after k routes rank more given count goes_on plan request state =
-    rw (given, count, goes_on, plan, request, state) refl
+-- the report of a page, from the session before it
+pub report_of_page : (s : Seen) (k : ℕ) (routes : List RouteRecord) (rank : ℕ) (more : Bool)
+    → routes ≡ map (record_of s.plan.plan s.request) (steps s.plan.plan s.request k s.state).0
+    → rank ≡ s.state.emitted → more ≡ is_some (next_route s.plan.plan s.request (steps s.plan.plan s.request k s.state).1)
+    → report_text routes (rank + 1) more ≡ next_report s.plan.plan s.request s.state k
+report_of_page s k routes rank more given count goes_on = rw (given, count, goes_on) refl
+
+-- whether a route is left after a page
+pub left_after_page : (before after : Seen) (k : ℕ) → after.plan ≡ before.plan → after.request ≡ before.request
+    → after.state ≡ (steps before.plan.plan before.request k before.state).1
+    → is_some (next_route after.plan.plan after.request after.state)
+    ≡ is_some (next_route before.plan.plan before.request (steps before.plan.plan before.request k before.state).1)
+left_after_page before after k plan request state = rw (plan, request, state) refl
 
 -- the text of the session after a page
 pub text_of_page : (before after : Seen) (k : ℕ) → after.plan ≡ before.plan → after.request ≡ before.request

@@ -6,6 +6,7 @@ ghost use Rattle.sabr_frontier.specs.listing.Listing.{most_routes, state_at};
 ghost use Rattle.commands.specs.runs.Many.{LeavesAnswer, heading};
 
 use crate::failure::Failure;
+use crate::runs::last_page::last_page;
 use sabr_frontier::Session;
 use sabr_model::{NoMemory, Plan, Request, Write, WriteFault};
 use sabr_search::{BestOf, Settled};
@@ -107,8 +108,8 @@ fn write_answer<O: Write, B: BestOf<A>, A: Allocator + Copy>(
     listing.plan().tell_rules();
     listing.request().tell_limits();
     let first_rank = listing.emitted() + 1;
-    let routes = listing.page(count)?;
+    let (routes, more) = last_page(listing, count)?;
     write_heading(line, out)?;
-    write_report(routes.as_slice(), first_rank, listing.more(), out)?;
+    write_report(routes.as_slice(), first_rank, more, out)?;
     Ok(())
 }

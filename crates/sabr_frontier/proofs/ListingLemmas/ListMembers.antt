@@ -1,6 +1,8 @@
 -- Lists that rise by a key, by their members.
-use Rattle.std.proofs.Common.{◌≡◌, Bool, true, false, cond, List, [], ◌∷◌, ◌++◌, map, filter, flat_map, sym, ap, subst, refl, ◌∙◌, true≢false, ◌⊎◌, inl, inr}
+use Rattle.std.proofs.Common.{◌≡◌, Bool, true, false, ◌||◌, cond, List, [], ◌∷◌, ◌++◌, map, filter, flat_map, sym, ap, subst, refl, ◌∙◌, true≢false, ◌⊎◌, inl, inr}
 use Rattle.std.specs.Cmp.{IsTotalOrder}
+use Rattle.std.specs.List.{list_any}
+use Rattle.std.proofs.lemmas.Bool.{or_cases}
 use Rattle.std.proofs.lemmas.Cmp.{tied_itself}
 use Rattle.std.specs.Ordering.{is_eq}
 use Rattle.std.specs.declared.cmp.Ordering.{Ordering}
@@ -43,6 +45,16 @@ Member-filter_cases p e (x ∷ xs) h = elim (p x) as (λ b. p x ≡ b → Member
   | true ↦ λ t. elim [ inl e' ↦ (ap p e' ∙ t, inl e') | inr m ↦ let w = Member-filter_cases p e xs m in (w.0, inr w.1) ]
   | false ↦ λ t m. let w = Member-filter_cases p e xs m in (w.0, inr w.1)
 ] refl h
+
+-- a member passes the test, if any does
+pub any_has : {X : Type 0} (test : X → Bool) (xs : List X) → list_any test xs ≡ true → (x : X) × Member x xs × (test x ≡ true)
+any_has test [] e = absurd (true≢false (sym e))
+any_has test (x ∷ xs) e = elim (or_cases (test x) (list_any test xs) e) [ inl h ↦ (x, inl refl, h) | inr h ↦ let w = any_has test xs h in (w.0, inr w.1, w.2) ]
+
+pub none_has : {X : Type 0} (test : X → Bool) (xs : List X) → list_any test xs ≡ false → (x : X) → Member x xs → test x ≡ false
+none_has test [] e x m = absurd m
+none_has test (y ∷ xs) e x (inl h) = elim (test y) as (λ b. test y ≡ b → (b || list_any test xs) ≡ false → test x ≡ false) [ true ↦ λ _ k. absurd (true≢false k) | false ↦ λ k _. ap test h ∙ k ] refl e
+none_has test (y ∷ xs) e x (inr m) = elim (test y) as (λ b. (b || list_any test xs) ≡ false → test x ≡ false) [ true ↦ λ k. absurd (true≢false k) | false ↦ λ k. none_has test xs k x m ] e
 
 pub Member-flat_map : {X Y : Type 0} (f : X → List Y) (e : Y) (x : X) (xs : List X) → Member x xs → Member e (f x) → Member e (flat_map f xs)
 Member-flat_map f e x [] h m = absurd h

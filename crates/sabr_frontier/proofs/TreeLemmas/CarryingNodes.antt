@@ -28,6 +28,7 @@ use Rattle.sabr_frontier.specs.tree.Winners.{IsFirst, IsLeast}
 use Rattle.sabr_frontier.specs.tree.Queue.{InPairs, IsBefore}
 use Rattle.sabr_frontier.specs.tree.Taking.{nodes_then, widened}
 use Rattle.sabr_frontier.specs.tree.Sound.{IsTree, CanExclude}
+use Rattle.sabr_frontier.specs.tree.Asking.{Asked}
 use Rattle.sabr_frontier.proofs.TreeLemmas.FirstFound.{found_is, none_found}
 use Rattle.sabr_frontier.proofs.ListingLemmas.Rising.{is_equal}
 use Rattle.sabr_frontier.proofs.ListingLemmas.NumbersAfter.{lists_exact}
@@ -160,3 +161,19 @@ module _ {A : Type 0} (p : ContactPlan) (r : RouteRequest) (t : Shape A) (is : I
           let same = same_prefix u w.0 (carried_is u w.1) in
           ap (λ q. length x.contacts - length q) same ∙ ap (λ d. length x.contacts - d) (prefix_length t.leaves n (is.lent n (get_Member t.nodes node.0 n stands)))
     ] refl
+
+-- the node that carries the least route, and a copy of that
+pub record IsKnown {A : Type 0} (a : Asked) (t : Shape A) (id : NodeId) (copy : RouteRecord) : Type 0 where
+  pub part : Node A
+  pub route : RouteRecord
+  pub stands : slice_get t.nodes id.0 ≡ Some part
+  pub carries : part.route ≡ Some route
+  pub least : IsLeast t.nodes route
+  pub copied : copy ≡ route
+  pub can : CanExclude part route.contacts
+
+pub known : {A : Type 0} (a : Asked) (t : Shape A) → IsTree a.plan.plan a.request t → (id : NodeId) (copy : RouteRecord) → ((x : RouteRecord) × IsFirst t.nodes id x) → route_at t.nodes id ≡ Some copy → IsKnown a t id copy
+known a t tree id copy first is =
+    let f = standing t.nodes id first in
+    let e = route_there t.nodes id f.0 f.1 f.2 f.3 in
+    record { part = f.0; route = f.1; stands = f.2; carries = f.3; least = f.4; copied = (let same : Some copy ≡ Some f.1 = sym is ∙ e in cc); can = can_exclude a.plan.plan a.request t tree id f.0 f.1 f.2 f.3 }

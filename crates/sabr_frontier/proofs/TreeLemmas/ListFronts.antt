@@ -1,9 +1,11 @@
 -- Fronts of a list and the number after them.
-use Rattle.std.proofs.Common.{◌≡◌, ℕ, zero, suc, ◌+◌, ◌<◌, ◌≤◌, List, [], ◌∷◌, ◌++◌, length, take, drop, get_or, refl, sym, ap, ◌∙◌, arith, Option, Some, append_assoc, append-nil, drop-cons, length-take-le, take-suc}
+use Rattle.std.proofs.Common.{◌≡◌, ℕ, zero, suc, ◌+◌, ◌<◌, ◌≤◌, false, ◌||◌, List, [], ◌∷◌, ◌++◌, length, take, drop, get_or, refl, sym, ap, ◌∙◌, arith, Option, Some, append_assoc, append-nil, drop-cons, length-take-le, take-suc}
 use Rattle.std.proofs.lemmas.List.{drop_all}
+use Rattle.std.specs.Prelude.{is_some}
 use Rattle.sabr_model.specs.routes.Parts.{number_after}
 use Rattle.sabr_model.specs.routes.Record.{RouteRecord}
 use Rattle.sabr_frontier.specs.declared.tree.Node.{Node}
+use Rattle.sabr_frontier.specs.tree.Left.{longer_go_on}
 use Rattle.sabr_frontier.specs.tree.Taking.{fresh_nodes}
 use Rattle.sabr_frontier.proofs.ListingLemmas.NumbersAfter.{number_after-same}
 
@@ -35,3 +37,16 @@ fresh_push {A} best leaf s n items new all node l whole pushed is =
 pub fresh_all : {A : Type 0} (best : List ℕ → List ℕ → Option RouteRecord) (leaf : ℕ) (s : List ℕ) (n : ℕ) (items all : List (Node A)) → length s ≤ n
     → items ++ fresh_nodes best leaf (take n s) (drop n s) ≡ all → items ≡ all
 fresh_all best leaf s n items all l whole = sym (append-nil items) ∙ ap (λ z. items ++ fresh_nodes best leaf (take n s) z) (sym (drop_all n s l)) ∙ whole
+
+-- a beginning of n numbers goes on, or a longer one does
+pub longer_next : (best : List ℕ → List ℕ → Option RouteRecord) (s : List ℕ) (n : ℕ) → n < length s
+    → longer_go_on best (take n s) (drop n s) ≡ (is_some (best (take n s) (get_or s n 0 ∷ [])) || longer_go_on best (take (n + 1) s) (drop (n + 1) s))
+longer_next best s n l =
+    let next : suc n ≡ n + 1 = omega arith in
+    ap (longer_go_on best (take n s)) (drop-cons s n 0 l)
+    ∙ ap (λ z. is_some (best (take n s) (get_or s n 0 ∷ [])) || longer_go_on best z (drop (suc n) s)) (sym (take-suc s n 0 l))
+    ∙ ap (λ m. is_some (best (take n s) (get_or s n 0 ∷ [])) || longer_go_on best (take m s) (drop m s)) next
+
+-- no beginning is longer than all of it
+pub longer_none : (best : List ℕ → List ℕ → Option RouteRecord) (s : List ℕ) (n : ℕ) → length s ≤ n → longer_go_on best (take n s) (drop n s) ≡ false
+longer_none best s n l = ap (longer_go_on best (take n s)) (drop_all n s l)

@@ -22,6 +22,11 @@ module _ {X : Type 0} where
   get_Member (y ∷ xs) zero x e = inl (let same : y ≡ x = cc in sym same)
   get_Member (y ∷ xs) (suc i) x e = inr (get_Member xs i x e)
 
+  pub Member_get : (x : X) (xs : List X) → Member x xs → (i : ℕ) × (slice_get xs i ≡ Some x)
+  Member_get x [] m = absurd m
+  Member_get x (y ∷ xs) (inl e) = (0, ap Some (sym e))
+  Member_get x (y ∷ xs) (inr m) = let w = Member_get x xs m in (suc w.0, w.1)
+
   pub get_front : (xs ys : List X) (i : ℕ) → i < length xs → slice_get (xs ++ ys) i ≡ slice_get xs i
   get_front [] ys i l = absurd (omega arith)
   get_front (x ∷ xs) ys zero l = refl

@@ -1,6 +1,6 @@
 //! Dividing a part by the route that it carries: the number that it then excludes, and all searches.
 
-ghost use Rattle.std.specs.Prelude.{◌≡◌, ◌+◌, ◌≤◌, ◌<◌, ◌++◌, take, drop, length, vec_len, vec_capacity, IfOk, OnOk, OnErr, IsTrue};
+ghost use Rattle.std.specs.Prelude.{◌≡◌, ◌+◌, ◌≤◌, ◌<◌, ◌++◌, ◌∷◌, [], take, drop, length, slice_index, vec_len, vec_capacity, IfOk, OnOk, OnErr, IsTrue};
 ghost use Rattle.std.specs.Ordering.{nat_cmp};
 ghost use Rattle.sabr_model.specs.routes.Route.{is_route};
 ghost use Rattle.sabr_frontier.specs.tree.Asking.{best_for};
@@ -16,6 +16,7 @@ use crate::tree::{Node, NodeId};
 use sabr_model::{NoMemory, Numbers, Route};
 use sabr_search::BestOf;
 use std::alloc::Allocator;
+use std::slice;
 
 /// Copies a route.
 pub fn copied<A: Allocator + Copy>(alloc: A, route: &Route<A>) -> Result<Route<A>, NoMemory>
@@ -37,6 +38,21 @@ pub fn numbers<A: Allocator + Copy>(route: &Route<A>) -> &[u32]
     route.contacts.as_slice()
 }
 
+/// Asks for the least route that begins with the first `count` numbers of a route and takes another number next.
+pub fn ask_after<B: BestOf<A>, A: Allocator + Copy>(
+    asker: &mut Asker<'_, B, A>,
+    route: &[u32],
+    count: usize,
+) -> Result<Option<Route<A>>, NoMemory>
+    requires route { IsTrue (is_route asker.old.asked.plan.plan asker.old.asked.request route.now) }
+    requires longer { count < length route.now }
+    ensures best { IfOk result (λ found. found ≡ best_for asker.old.asked (take count route.now) (slice_index route.now count ∷ [])) }
+    ensures called { asker.new.calls ≡ asker.old.calls + 1 }
+    ensures same { asker.new.asked ≡ asker.old.asked }
+{
+    asker.ask(&route[..count], slice::from_ref(&route[count]))
+}
+
 /// Makes the node of a leaf for the first `count` numbers of a route, with its next number excluded.
 fn fresh_node<B: BestOf<A>, A: Allocator + Copy>(
     asker: &mut Asker<'_, B, A>,
@@ -47,21 +63,16 @@ fn fresh_node<B: BestOf<A>, A: Allocator + Copy>(
     requires route { IsTrue (is_route asker.old.asked.plan.plan asker.old.asked.request route.now) }
     requires longer { count < length route.now }
 
-    // It finds the node by one search.
+    // It finds the node by one search, which may be refused. The question stays.
     ensures node { IfOk result (λ n. n ≡ fresh_node (best_for asker.old.asked) leaf route.now count) }
-    ensures called { OnOk result (asker.new.calls ≡ asker.old.calls + 1) }
-
-    // A refusal may come after the search. The question stays.
-    ensures no_fewer { OnErr result (asker.old.calls ≤ asker.new.calls) }
-    ensures at_most { OnErr result (asker.new.calls ≤ asker.old.calls + 1) }
+    ensures called { asker.new.calls ≡ asker.old.calls + 1 }
     ensures same { asker.new.asked ≡ asker.old.asked }
 {
-    let excluded = ExcludedNumbers::one(asker.alloc(), route[count]);
-    let found = asker.ask(&route[..count], excluded.as_slice())?;
+    let found = ask_after(asker, route, count)?;
     Ok(Node {
         leaf,
         length: count,
-        excluded,
+        excluded: ExcludedNumbers::one(asker.alloc(), route[count]),
         route: found,
     })
 }

@@ -19,7 +19,7 @@ use std::alloc::Allocator;
 
 impl<A: Allocator + Copy> Tree<A> {
     /// Copies the route that a node carries.
-    fn copy_carried(&self, alloc: A, node: NodeId) -> Result<Route<A>, NoMemory>
+    pub fn copy_carried(&self, alloc: A, node: NodeId) -> Result<Route<A>, NoMemory>
         requires { IsSome (route_at self.now.nodes.items node) }
         ensures { IfOk result (λ x. route_at self.now.nodes.items node ≡ Some x) }
     {

@@ -33,9 +33,8 @@ returns-in_err-write_heading-clause-answer g c =
 pub returns-in_err-write_report-clause-answer : goal.returns-in_err-write_report-clause-answer
 returns-in_err-write_report-clause-answer g c =
     let listing = c.args.listing.now in
-    let paged = c.in_ok-routes.ensures {u = tt} in
     let rules = subst (λ (q : TabledPlan). IsPlan q.plan) c.plan.ensures c.tell_rules.ensures in
-    let report = first_of_page listing c.page.new.self c.args.count _ _ _ rules c.requires.started (c.as_slice.ensures.value ∙ paged.routes) c.emitted-first_rank.ensures.count c.more.ensures paged.plan paged.request paged.state in
+    let report = first_of_page listing c.args.count _ _ _ rules c.requires.started (c.as_slice.ensures.value ∙ (c.in_ok-routes.ensures {u = tt}).routes) c.emitted-first_rank.ensures.count (c.in_ok-routes.ensures {u = tt}).more in
     let old = g.O.Write.output c.args.out.now in
     let new = g.O.Write.output c.write_report.new.writer in
     answer_failed _ _ _ c.from_residual-in_err-write_report.result old new c.from_residual-in_err-write_report.ensures.1
@@ -44,7 +43,6 @@ returns-in_err-write_report-clause-answer g c =
 pub returns-clause-answer : goal.returns-clause-answer
 returns-clause-answer g c =
     let listing = c.args.listing.now in
-    let paged = c.in_ok-routes.ensures {u = tt} in
     let rules = subst (λ (q : TabledPlan). IsPlan q.plan) c.plan.ensures c.tell_rules.ensures in
-    let report = first_of_page listing c.page.new.self c.args.count _ _ _ rules c.requires.started (c.as_slice.ensures.value ∙ paged.routes) c.emitted-first_rank.ensures.count c.more.ensures paged.plan paged.request paged.state in
+    let report = first_of_page listing c.args.count _ _ _ rules c.requires.started (c.as_slice.ensures.value ∙ (c.in_ok-routes.ensures {u = tt}).routes) c.emitted-first_rank.ensures.count (c.in_ok-routes.ensures {u = tt}).more in
     Written-append (g.O.Write.output c.args.out.now) (g.O.Write.output c.write_heading.new.out) (g.O.Write.output c.write_report.new.writer) (heading c.args.line.now) _ c.in_ok-write_heading.ensures (rw report at c.in_ok-write_report.ensures)

@@ -1,5 +1,5 @@
-use Rattle.std.proofs.Common.{true, refl, sym, subst, ◌∙◌}
-use Rattle.std.specs.Prelude.{All}
+use Rattle.std.proofs.Common.{◌≡◌, true, refl, ap, sym, subst, ◌∙◌}
+use Rattle.std.specs.Prelude.{All, is_some}
 use Rattle.sabr_model.specs.plan.Plan.{TabledPlan, IsPlan}
 use Rattle.sabr_model.specs.routes.Asking.{IsRequest}
 use Rattle.sabr_session.specs.ReportText.{HasSpelledTimes}
@@ -18,14 +18,15 @@ send_report-requires-clause-times g c =
 pub returns-in_err-send_report : goal.returns-in_err-send_report
 returns-in_err-send_report g c =
     let paged = c.in_ok-routes.ensures {u = tt} in
-    let report = report_of_page c.args.listing c.page.new.self c.args.count _ _ _ (c.as_slice.ensures.value ∙ paged.routes) c.emitted-first_rank.ensures.count c.more.ensures paged.plan paged.request paged.state in
+    let report = report_of_page c.args.listing c.args.count _ _ _ (c.as_slice.ensures.value ∙ paged.routes) c.emitted-first_rank.ensures.count paged.more in
     report_failed _ _ _ _ _ _ _ _ c.from_residual-in_err-send_report.ensures.1 (rw report at (c.in_err-send_report.ensures).text)
 
 pub returns-in_err-send_session : goal.returns-in_err-send_session
 returns-in_err-send_session g c =
     let paged = c.in_ok-routes.ensures {u = tt} in
-    let report = report_of_page c.args.listing c.page.new.self c.args.count _ _ _ (c.as_slice.ensures.value ∙ paged.routes) c.emitted-first_rank.ensures.count c.more.ensures paged.plan paged.request paged.state in
+    let report = report_of_page c.args.listing c.args.count _ _ _ (c.as_slice.ensures.value ∙ paged.routes) c.emitted-first_rank.ensures.count paged.more in
     let sent = c.in_ok-send_report.ensures in
-    let text = text_of_page c.args.listing c.page.new.self c.args.count paged.plan paged.request paged.state in
+    let kept : c.is_some.result ≡ true = c.is_some.ensures ∙ ap is_some c.in-Some.is in
+    let text = text_of_page c.args.listing c.page_routes.new.listing c.args.count paged.plan paged.request (paged.state kept) in
     rw c.in-Some.is
     (session_failed true _ _ _ _ _ _ _ _ c.from_residual-in_err-send_session.ensures.1 refl (rw report at sent.text, sent.flushed) (rw text at (c.in_err-send_session.ensures).text))

@@ -11,15 +11,15 @@ use Rattle.sabr_frontier.specs.declared.tree.NodeId.{NodeId}
 use Rattle.sabr_frontier.specs.tree.Shape.{Shape, order_of, shape_of, route_at, route_of, numbers_of}
 use Rattle.sabr_frontier.specs.tree.Best.{best_of}
 use Rattle.sabr_frontier.specs.tree.Undo.{modify}
-use Rattle.sabr_frontier.specs.tree.Winners.{AreWinners, IsFirst, IsLeast}
+use Rattle.sabr_frontier.specs.tree.Winners.{AreWinners}
 use Rattle.sabr_frontier.specs.tree.Asking.{Asked, best_for}
-use Rattle.sabr_frontier.specs.tree.Sound.{CanExclude, IsTree}
+use Rattle.sabr_frontier.specs.tree.Sound.{CanExclude}
 use Rattle.sabr_frontier.specs.tree.Taking.{changed_by, divided, fresh_after, nodes_then, wide_of}
 use Rattle.sabr_frontier.specs.tree.Prepared.{carrying, excluding, given_by}
 use Rattle.sabr_frontier.proofs.TreeLemmas.ModifiedPlaces.{length-modify, modify_front}
 use Rattle.sabr_frontier.proofs.TreeLemmas.NodePlaces.{get_front, get_same}
 use Rattle.sabr_frontier.proofs.TreeLemmas.Excluding.{carried_then}
-use Rattle.sabr_frontier.proofs.TreeLemmas.CarryingNodes.{standing, inside, can_exclude, route_there}
+use Rattle.sabr_frontier.proofs.TreeLemmas.CarryingNodes.{IsKnown, known, standing, inside, route_there}
 use Rattle.sabr_frontier.proofs.TreeLemmas.SlotWinners.{winners_same}
 use Rattle.sabr_frontier.proofs.TreeLemmas.GivenLeast.{new_nodes}
 use Rattle.sabr_frontier.proofs.SessionLemmas.Pages.{counts_one}
@@ -34,22 +34,6 @@ routes_stay s (n ∷ ns) zero zero = refl
 routes_stay s (n ∷ ns) zero (suc j) = refl
 routes_stay s (n ∷ ns) (suc i) zero = refl
 routes_stay s (n ∷ ns) (suc i) (suc j) = routes_stay s ns i j
-
--- the node that carries the least route, and a copy of that
-record IsKnown {A : Type 0} (a : Asked) (t : Shape A) (id : NodeId) (copy : RouteRecord) : Type 0 where
-  part : Node A
-  route : RouteRecord
-  stands : slice_get t.nodes id.0 ≡ Some part
-  carries : part.route ≡ Some route
-  least : IsLeast t.nodes route
-  copied : copy ≡ route
-  can : CanExclude part route.contacts
-
-known : {A : Type 0} (a : Asked) (t : Shape A) → IsTree a.plan.plan a.request t → (id : NodeId) (copy : RouteRecord) → ((x : RouteRecord) × IsFirst t.nodes id x) → route_at t.nodes id ≡ Some copy → IsKnown a t id copy
-known a t tree id copy first is =
-    let f = standing t.nodes id first in
-    let e = route_there t.nodes id f.0 f.1 f.2 f.3 in
-    record { part = f.0; route = f.1; stands = f.2; carries = f.3; least = f.4; copied = (let same : Some copy ≡ Some f.1 = sym is ∙ e in cc); can = can_exclude a.plan.plan a.request t tree id f.0 f.1 f.2 f.3 }
 
 module _ {A : Type 0} {a : Asked} {t : Shape A} {id : NodeId} {w : RouteRecord} (k : IsKnown a t id w) where
   abbrev s : List ℕ

@@ -1,0 +1,36 @@
+use Rattle.std.proofs.Common.{◌≡◌, false, ◌||◌, Ok, Err, arith, ap, sym, ◌∙◌}
+use Rattle.std.specs.Prelude.{IfOk}
+use Rattle.sabr_frontier.specs.declared.tree.Node.{Node}
+use Rattle.sabr_frontier.specs.tree.Asking.{best_for}
+use Rattle.sabr_frontier.specs.tree.Left.{others_carry, part_goes_on}
+use Rattle.sabr_frontier.specs.tree.Taking.{OfNode}
+use Rattle.sabr_frontier.proofs.TreeLemmas.ModifiedPlaces.{get_there}
+use Rattle.sabr_frontier.proofs.tree.Tree.goes_on_after.Goals as goal
+
+pub returns-then-others_carry-clause-at_most : goal.returns-then-others_carry-clause-at_most
+returns-then-others_carry-clause-at_most g c n stands = omega (arith, (c.requires.next n stands).longer)
+
+pub part_goes_on-requires-clause-next : goal.part_goes_on-requires-clause-next
+part_goes_on-requires-clause-next g c =
+    let m = c.index.result.now in
+    c.requires.next m (get_there c.args.self.now.nodes.items c.args.node.0 m (omega arith) c.index.ensures)
+
+pub returns-clause-ok : goal.returns-clause-ok
+returns-clause-ok g c =
+    let nodes = c.args.self.now.nodes.items in
+    let m = c.index.result.now in
+    let s = c.args.route.now in
+    let best = best_for c.args.asker.now.asked in
+    let here = get_there nodes c.args.node.0 m (omega arith) c.index.ensures in
+    let others : others_carry nodes c.args.node ≡ false = ap (λ z. others_carry z c.args.node) (sym c.as_slice.ensures.value) ∙ sym c.others_carry.ensures ∙ c.if-others_carry.false in
+    elim c.part_goes_on.result as (λ r. IfOk r (λ yes. yes ≡ part_goes_on best m s) → IfOk r (λ yes. OfNode nodes c.args.node (λ n. yes ≡ (others_carry nodes c.args.node || part_goes_on best n s)))) [
+      | Ok b ↦ λ e n stands. (let same : m ≡ n = cc in e ∙ ap (λ (k : Node g.row.A.Denot). part_goes_on best k s) same ∙ ap (λ b. b || part_goes_on best n s) (sym others))
+      | Err _ ↦ λ _. tt
+    ] c.part_goes_on.ensures.ok
+
+pub returns-clause-at_most : goal.returns-clause-at_most
+returns-clause-at_most g c n stands =
+    let m = c.index.result.now in
+    let here = get_there c.args.self.now.nodes.items c.args.node.0 m (omega arith) c.index.ensures in
+    let same : m ≡ n = cc in
+    omega (arith, c.part_goes_on.ensures.at_most, ap (λ (k : Node g.row.A.Denot). k.length) same)

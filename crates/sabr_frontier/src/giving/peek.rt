@@ -1,0 +1,135 @@
+//! Telling the least route that the tree carries, and whether a route would be left after it. Nothing is given.
+
+ghost use Rattle.std.specs.Prelude.{◌≡◌, ◌+◌, ◌≤◌, ◌<◌, ◌∷◌, [], ◌||◌, take, drop, length, is_some, IfOk, IfSome, IfNone, IsTrue, None, Ok};
+ghost use Rattle.sabr_model.specs.plan.Plan.{IsPlan};
+ghost use Rattle.sabr_model.specs.routes.Route.{is_route};
+ghost use Rattle.sabr_frontier.specs.listing.Listing.{next_route, searches_in};
+ghost use Rattle.sabr_frontier.specs.tree.Asking.{best_for, records_for, steps_for};
+ghost use Rattle.sabr_frontier.specs.tree.Left.{longer_go_on, others_carry, part_goes_on, some_carry};
+ghost use Rattle.sabr_frontier.specs.tree.Shape.{shape_of, shown};
+ghost use Rattle.sabr_frontier.specs.tree.Sound.{CanExclude, IsTree};
+ghost use Rattle.sabr_frontier.specs.tree.Taking.{OfNode};
+ghost use Rattle.sabr_frontier.specs.tree.Undo.{IsRoomy};
+
+use crate::giving::asker::Asker;
+use crate::giving::divide::{ask_after, numbers};
+use crate::peeked::Peeked;
+use crate::tree::{Node, NodeId, Tree};
+use sabr_model::NoMemory;
+use sabr_search::BestOf;
+use std::alloc::Allocator;
+
+/// Returns true if some node carries a route.
+fn some_carry<A: Allocator + Copy>(nodes: &[Node<A>]) -> bool
+    ensures { result ≡ some_carry nodes.now }
+{
+    nodes.iter().any(|node| node.route.is_some())
+}
+
+/// Returns true if some node but this one carries a route.
+fn others_carry<A: Allocator + Copy>(nodes: &[Node<A>], node: NodeId) -> bool
+    requires { node.0 < length nodes.now }
+    ensures { result ≡ others_carry nodes.now node }
+{
+    some_carry(&nodes[..node.0]) || some_carry(&nodes[node.0 + 1..])
+}
+
+/// Returns true if some beginning of a route with at least `first` numbers also begins another route, which takes
+/// another number next. It takes a search for each beginning, up to the first that has one.
+fn longer_go_on<B: BestOf<A>, A: Allocator + Copy>(
+    asker: &mut Asker<'_, B, A>,
+    route: &[u32],
+    first: usize,
+) -> Result<bool, NoMemory>
+    requires route { IsTrue (is_route asker.old.asked.plan.plan asker.old.asked.request route.now) }
+    requires within { first ≤ length route.now }
+    ensures ok { IfOk result (λ yes. yes ≡ longer_go_on (best_for asker.old.asked) (take first route.now) (drop first route.now)) }
+    ensures no_fewer { asker.old.calls ≤ asker.new.calls }
+    ensures at_most { asker.new.calls + first ≤ asker.old.calls + length route.now }
+    ensures same { asker.new.asked ≡ asker.old.asked }
+{
+    for count in first..route.len() {
+        let found = ask_after(asker, route, count)?;
+        if found.is_some() {
+            return Ok(true);
+        }
+    }
+    Ok(false)
+}
+
+/// Returns true if a node's part has a route besides the one that it carries. It takes at most the searches that dividing
+/// the part would.
+fn part_goes_on<B: BestOf<A>, A: Allocator + Copy>(
+    asker: &mut Asker<'_, B, A>,
+    part: &Node<A>,
+    route: &[u32],
+) -> Result<bool, NoMemory>
+    requires route { IsTrue (is_route asker.old.asked.plan.plan asker.old.asked.request route.now) }
+    requires next { CanExclude part.now route.now }
+    ensures ok { IfOk result (λ yes. yes ≡ part_goes_on (best_for asker.old.asked) part.now route.now) }
+    ensures no_fewer { asker.old.calls ≤ asker.new.calls }
+    ensures at_most { asker.new.calls + part.now.length ≤ asker.old.calls + length route.now }
+    ensures same { asker.new.asked ≡ asker.old.asked }
+{
+    let count = part.length;
+    let excluded = part.excluded.with(asker.alloc(), route[count])?;
+    let found = asker.ask(&route[..count], excluded.as_slice())?;
+    if found.is_some() {
+        return Ok(true);
+    }
+    longer_go_on(asker, route, count + 1)
+}
+
+impl<A: Allocator + Copy> Tree<A> {
+    /// Returns true if a route would be left once the one that a node carries is given.
+    fn goes_on_after<B: BestOf<A>>(
+        &self,
+        asker: &mut Asker<'_, B, A>,
+        node: NodeId,
+        route: &[u32],
+    ) -> Result<bool, NoMemory>
+        requires in_range { node.0 < length self.now.nodes.items }
+        requires route { IsTrue (is_route asker.old.asked.plan.plan asker.old.asked.request route.now) }
+        requires next { OfNode self.now.nodes.items node (λ n. CanExclude n route.now) }
+        ensures ok { IfOk result (λ yes. OfNode self.now.nodes.items node (λ n. yes ≡ (others_carry self.now.nodes.items node || part_goes_on (best_for asker.old.asked) n route.now))) }
+        ensures no_fewer { asker.old.calls ≤ asker.new.calls }
+        ensures at_most { OfNode self.now.nodes.items node (λ n. asker.new.calls + n.length ≤ asker.old.calls + length route.now) }
+        ensures same { asker.new.asked ≡ asker.old.asked }
+    {
+        if others_carry(self.nodes.as_slice(), node) {
+            return Ok(true);
+        }
+        part_goes_on(asker, &self.nodes[node.0], route)
+    }
+
+    /// Tells the least route that a node carries, and whether a route would be left once it is given. If no other node
+    /// carries one, it asks for the parts that the route would make, up to the first that has a route.
+    pub fn peek<B: BestOf<A>>(
+        &self,
+        asker: &mut Asker<'_, B, A>,
+    ) -> Result<Option<Peeked<A>>, NoMemory>
+        requires plan { IsPlan asker.old.asked.plan.plan }
+        requires tree { IsTree asker.old.asked.plan.plan asker.old.asked.request (shape_of self.now) }
+        requires room { IsRoomy self.now }
+
+        // It is the route that one step gives, and whether one is left after it.
+        ensures route { IfOk result (λ peeked. IfSome peeked (λ x. records_for asker.old.asked (steps_for asker.old.asked 1 (shown (shape_of self.now))).0 ≡ x.route ∷ [])) }
+        ensures more { IfOk result (λ peeked. IfSome peeked (λ x. x.more ≡ is_some (next_route asker.old.asked.plan.plan asker.old.asked.request (steps_for asker.old.asked 1 (shown (shape_of self.now))).1))) }
+
+        // It is none just if none is left, and then it is never refused.
+        ensures none { IfOk result (λ peeked. IfNone peeked (next_route asker.old.asked.plan.plan asker.old.asked.request (shown (shape_of self.now)) ≡ None)) }
+        ensures free { next_route asker.old.asked.plan.plan asker.old.asked.request (shown (shape_of self.now)) ≡ None → result ≡ Ok None }
+
+        // It takes no more searches than the step would. The question stays.
+        ensures no_fewer { asker.old.calls ≤ asker.new.calls }
+        ensures at_most { asker.new.calls ≤ asker.old.calls + searches_in asker.old.asked.plan.plan asker.old.asked.request 1 (shown (shape_of self.now)) }
+        ensures same { asker.new.asked ≡ asker.old.asked }
+    {
+        let Some(node) = self.least() else {
+            return Ok(None);
+        };
+        let route = self.copy_carried(asker.alloc(), node)?;
+        let more = self.goes_on_after(asker, node, numbers(&route))?;
+        Ok(Some(Peeked { route, more }))
+    }
+}
