@@ -15,6 +15,5 @@ pub mod Feeds
 pub mod Consumed
 pub mod ReadSoFar
 pub mod CanonicalLines
-pub mod NeverRead
 pub mod Leaving
 pub mod SpelledPlans
