@@ -18,10 +18,7 @@ use Rattle.sabr_plan.specs.Digits as own
 use Rattle.sabr_plan.specs.Numbers.{number_within}
 use Rattle.sabr_plan.proofs.Digits.{small_value, small_value_some}
 
--- numbers below 2^64 have few digits
-pub short64 : (n : ℕ) → n < 18446744073709551616 → n < 10 ^ 64
-short64 n h = let top : 18446744073709551616 < 10 ^ 64 = lit< tt in omega arith
-
+-- a number below 2^128 has few digits
 pub short128 : (n : ℕ) → n < 340282366920938463463374607431768211456 → n < 10 ^ 64
 short128 n h = let top : 340282366920938463463374607431768211456 < 10 ^ 64 = lit< tt in omega arith
 
@@ -32,73 +29,36 @@ worth text n h e = ap (digits_value 10) e ∙ (decimal_is_IsNumeral_wide n h).1
 pub same_text : (xs ys : List ℕ) → xs ≡ ys → bytes_eq xs ys ≡ true
 same_text xs ys e = (bytes_eq-Decides xs ys).1 e
 
-chosen : (low high n : ℕ) (b : Bool) → b ≡ true → cond (b && leb low n && leb n high) (Some n) None ≡ cond (leb low n && leb n high) (Some n) None
-chosen low high n true e = refl
-chosen low high n false e = absurd cc
-
-pub number_within-spelled : (low high : ℕ) (text : List ℕ) (n : ℕ) → n < 10 ^ 64 → text ≡ decimal n
-    → number_within low high text ≡ cond (leb low n && leb n high) (Some n) None
-unfolding number_within
-number_within-spelled low high text n h e =
-    let w = worth text n h e in
-    let same : text ≡ decimal (digits_value 10 text) = e ∙ ap decimal (sym w) in
-    chosen low high (digits_value 10 text) (bytes_eq text (decimal (digits_value 10 text))) (same_text _ _ same)
-    ∙ ap (λ m. cond (leb low m && leb m high) (Some m) None) w
-
-refused : (low high n : ℕ) (b : Bool) → (b ≡ true → n ≤ high → ⊥) → cond (b && leb low n && leb n high) (Some n) None ≡ None
-refused low high n false none = refl
-refused low high n true none = elim (leb low n) as (λ c. cond (c && leb n high) (Some n) None ≡ None) [
-  | false ↦ refl
-  | true ↦ within (leb n high) refl
-]
-  where
-    within : (c : Bool) → leb n high ≡ c → cond c (Some n) None ≡ None
-    within false e = refl
-    within true e = absurd (none refl (leb-true n high e))
-
 pub number_within-unspelled : (top low high : ℕ) (text : List ℕ) → high < top → ((n : ℕ) → n < top → text ≡ decimal n → ⊥)
     → number_within low high text ≡ None
 unfolding number_within
 number_within-unspelled top low high text h none =
-    refused low high (digits_value 10 text) (bytes_eq text (decimal (digits_value 10 text)))
-    (λ same le. none (digits_value 10 text) (omega arith) (is_text text (decimal (digits_value 10 text)) same))
+    refused (bytes_eq text (decimal (digits_value 10 text))) (digits_value 10 text)
+    (λ same le. none (digits_value 10 text) (omega arith) ((bytes_eq-Decides text (decimal (digits_value 10 text))).0 same))
   where
-    is_text : (xs ys : List ℕ) → bytes_eq xs ys ≡ true → xs ≡ ys
-    is_text xs ys e = (bytes_eq-Decides xs ys).0 e
+    refused : (b : Bool) (n : ℕ) → (b ≡ true → n ≤ high → ⊥) → cond (b && leb low n && leb n high) (Some n) None ≡ None
+    refused b n none = grind (arith, nat_tests)
 
 pub number_within-spelled_within : (low high : ℕ) (text : List ℕ) (n : ℕ) → n < 10 ^ 64 → text ≡ decimal n → low ≤ n → n ≤ high
     → number_within low high text ≡ Some n
-number_within-spelled_within low high text n h e a b =
-    number_within-spelled low high text n h e ∙ ap (λ (t : Bool). cond (t && leb n high) (Some n) None) (le-leb low n a)
-    ∙ ap (λ (t : Bool). cond t (Some n) None) (le-leb n high b)
+unfolding number_within
+number_within-spelled_within low high text n h e a b = rw (worth text n h e, same_text text (decimal n) e, le-leb low n a, le-leb n high b) refl
 
-below : (a b : ℕ) → b < a → leb a b ≡ false
-below a b h = grind (arith, nat_tests)
-
-cut : (n : ℕ) (b c : Bool) → (b ≡ false) ⊎ (c ≡ false) → cond (b && c) (Some n) None ≡ None
-cut n false c h = refl
-cut n true false h = refl
-cut n true true h = absurd (elim h [ inl e ↦ cc | inr e ↦ cc ])
-
-pub number_within-spelled_without : (low high : ℕ) (text : List ℕ) (n : ℕ) → n < 10 ^ 64 → text ≡ decimal n → (n < low) ⊎ (high < n)
+number_within-spelled_without : (low high : ℕ) (text : List ℕ) (n : ℕ) → n < 10 ^ 64 → text ≡ decimal n → (n < low) ⊎ (high < n)
     → number_within low high text ≡ None
-number_within-spelled_without low high text n h e out =
-    number_within-spelled low high text n h e
-    ∙ cut n (leb low n) (leb n high) (elim out [ inl a ↦ inl (below low n a) | inr b ↦ inr (below n high b) ])
+unfolding number_within
+number_within-spelled_without low high text n h e out = rw (worth text n h e, same_text text (decimal n) e) (without out)
+  where
+    without : (n < low) ⊎ (high < n) → cond (leb low n && leb n high) (Some n) None ≡ None
+    without out = grind (arith, nat_tests)
 
 -- a number that was found is within the bounds
 pub number_within-range : (low high : ℕ) (text : List ℕ) (n : ℕ) → number_within low high text ≡ Some n → (low ≤ n) × (n ≤ high)
 unfolding number_within
-number_within-range low high text n e = ranged (bytes_eq text (decimal m)) (leb low m) refl (leb m high) refl e
+number_within-range low high text n e = ranged (bytes_eq text (decimal (digits_value 10 text))) (digits_value 10 text) e
   where
-    m : ℕ
-    m = digits_value 10 text
-
-    ranged : (a b : Bool) → leb low m ≡ b → (d : Bool) → leb m high ≡ d → cond (a && b && d) (Some m) None ≡ Some n → (low ≤ n) × (n ≤ high)
-    ranged false b eb d ed e = absurd cc
-    ranged true false eb d ed e = absurd cc
-    ranged true true eb false ed e = absurd cc
-    ranged true true eb true ed e = let is : m ≡ n = cc in (rw is at (leb-true low m eb), rw is at (leb-true m high ed))
+    ranged : (b : Bool) (m : ℕ) → cond (b && leb low m && leb m high) (Some m) None ≡ Some n → (low ≤ n) × (n ≤ high)
+    ranged b m e = grind (arith, nat_tests)
 
 -- digits as this crate tests and folds them are those of std
 tells_digits : IsDigitsTest (λ ds. list_all is_digit ds ≡ true)
@@ -130,16 +90,7 @@ decimal_leads (suc n) h =
 
 -- digits that stand for less than 2^64
 small_parts : (text : List ℕ) (v : ℕ) → small_value text ≡ Some v → (0 < length text) × (list_all is_digit text ≡ true) × (own.digits_value text ≡ v) × (v < 18446744073709551616)
-small_parts text v e = parts (are_digits text) refl (nat_lt (own.digits_value text) 18446744073709551616) refl e
-  where
-    parts : (a : Bool) → are_digits text ≡ a → (b : Bool) → nat_lt (own.digits_value text) 18446744073709551616 ≡ b → cond (a && b) (Some (own.digits_value text)) None ≡ Some v
-        → (0 < length text) × (list_all is_digit text ≡ true) × (own.digits_value text ≡ v) × (v < 18446744073709551616)
-    parts false ea b eb found = absurd cc
-    parts true ea false eb found = absurd cc
-    parts true ea true eb found =
-        let same : own.digits_value text ≡ v = cc in
-        let k = and_parts (nat_lt 0 (length text)) (list_all is_digit text) ea in
-        (ltb-true 0 (length text) k.0, k.1, same, rw same at (ltb-true (own.digits_value text) 18446744073709551616 eb))
+small_parts text v e = grind (arith, nat_tests)
 
 -- without a leading zero they are the spelling of what they stand for
 digits_spell : (text : List ℕ) (v : ℕ) → small_value text ≡ Some v → leads_with_zero text ≡ false → text ≡ decimal v
@@ -162,7 +113,7 @@ module _ (low high : ℕ) (text : List ℕ) (h : high < 18446744073709551616) wh
 
   module _ (v : ℕ) (e : small_value text ≡ Some v) (plain : leads_with_zero text ≡ false) where
     short : v < 10 ^ 64
-    short = short64 v (small_parts text v e).3
+    short = let p = small_parts text v e in short128 v (omega arith)
 
     pub within_yes : low ≤ v → v ≤ high → number_within low high text ≡ Some v
     within_yes a b = number_within-spelled_within low high text v short (digits_spell text v e plain) a b

@@ -14,6 +14,7 @@ const ZEROS: u64 = 0x3030_3030_3030_3030;
 
 /// Returns the first eight bytes as one number, the first of them lowest.
 #[inline(always)]
+#[tactic(auto, using(core::proofs::dec2flt::Eight::word_at))]
 pub fn first_eight(text: &[u8]) -> u64
     requires { 8 ≤ length text.now }
     ensures { result ≡ number_l 256 (take 8 text.now) }
@@ -25,6 +26,7 @@ pub fn first_eight(text: &[u8]) -> u64
 
 /// Returns the high bits of those bytes that are at least 10. No sum carries into the next byte.
 #[inline(always)]
+#[tactic(auto, using(core::proofs::slice::Flagged::flags_from_ten))]
 fn flags_from_ten(word: u64) -> u64
     ensures { (byte : ℕ → ℕ) → ((k : ℕ) → byte k < 256) → word ≡ digits_from byte 0 8 → result ≡ flag_word (λ k. nat_le 10 (byte k)) }
 {
@@ -33,6 +35,7 @@ fn flags_from_ten(word: u64) -> u64
 
 /// Moves the first bytes up to the end, with zeros before them. It shifts twice, since no shift takes 64 bits.
 #[inline(always)]
+#[tactic(auto, using(core::proofs::dec2flt::Eight::bytes_up))]
 fn keep_first(word: u64, count: u32) -> u64
     requires { count < 8 }
     ensures { result ≡ word * 256 ^ (8 - count) % 2 ^ 64 }
@@ -42,6 +45,7 @@ fn keep_first(word: u64, count: u32) -> u64
 
 /// Returns the number that eight digits stand for, each a byte from 0 to 9, the first of them lowest.
 #[inline(always)]
+#[tactic(auto, using(core::proofs::dec2flt::Eight::eight_is))]
 fn value_of_eight(word: u64) -> u64
     ensures { (ds : List ℕ) → IsEightDigits ds → word ≡ number_l 256 ds → result ≡ number_from_digits 10 ds }
 {

@@ -96,6 +96,7 @@ fn after_blank(text: &[u8]) -> Option<&[u8]>
 
 /// Returns what comes after the blanks at the front of a text, if there is one.
 #[inline(always)]
+#[tactic(auto, using(crate::proofs::PlainWords::more_blanks))]
 fn after_gap(text: &[u8]) -> Option<&[u8]>
     requires { IsFalse (is_one_line text.now) }
     ensures gap { IfSome result (λ r. IsAfterGap text.now r.now) }
