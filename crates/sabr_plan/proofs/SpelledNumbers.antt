@@ -12,11 +12,10 @@ use Rattle.std.specs.Prelude.{nat_lt, nat_le}
 use Rattle.std.proofs.Common.{zero, suc, length, fold, ◌*◌, ◌+◌, ◌-◌, get_or}
 use Rattle.std.proofs.lemmas.Bool.{and_parts}
 use Rattle.std.proofs.lemmas.Fmt.{decimal_is_IsNumeral, decimal-digits_value, digits_decimal, digits_value-decimal, decimal_digit, first_decimal}
-use Rattle.std.proofs.lemmas.Str.Parse.{IsDigitsTest, FoldsDigits, IsNumeralModel, numerals_by_fold}
 use Rattle.sabr_plan.specs.Digits.{is_digit, are_digits, leads_with_zero}
 use Rattle.sabr_plan.specs.Digits as own
 use Rattle.sabr_plan.specs.Numbers.{number_within}
-use Rattle.sabr_plan.proofs.Digits.{small_value, small_value_some}
+use Rattle.sabr_plan.proofs.Digits.{numerals, small_value, small_value_some}
 
 -- a number below 2^128 has few digits
 pub short128 : (n : ℕ) → n < 340282366920938463463374607431768211456 → n < 10 ^ 64
@@ -33,11 +32,9 @@ pub number_within-unspelled : (top low high : ℕ) (text : List ℕ) → high < 
     → number_within low high text ≡ None
 unfolding number_within
 number_within-unspelled top low high text h none =
-    refused (bytes_eq text (decimal (digits_value 10 text))) (digits_value 10 text)
-    (λ same le. none (digits_value 10 text) (omega arith) ((bytes_eq-Decides text (decimal (digits_value 10 text))).0 same))
-  where
-    refused : (b : Bool) (n : ℕ) → (b ≡ true → n ≤ high → ⊥) → cond (b && leb low n && leb n high) (Some n) None ≡ None
-    refused b n none = grind (arith, nat_tests)
+    let n = digits_value 10 text in
+    let spells : bytes_eq text (decimal n) ≡ true → n < top → ⊥ = λ same small. none n small ((bytes_eq-Decides text (decimal n)).0 same) in
+    grind (arith, nat_tests)
 
 pub number_within-spelled_within : (low high : ℕ) (text : List ℕ) (n : ℕ) → n < 10 ^ 64 → text ≡ decimal n → low ≤ n → n ≤ high
     → number_within low high text ≡ Some n
@@ -47,33 +44,12 @@ number_within-spelled_within low high text n h e a b = rw (worth text n h e, sam
 number_within-spelled_without : (low high : ℕ) (text : List ℕ) (n : ℕ) → n < 10 ^ 64 → text ≡ decimal n → (n < low) ⊎ (high < n)
     → number_within low high text ≡ None
 unfolding number_within
-number_within-spelled_without low high text n h e out = rw (worth text n h e, same_text text (decimal n) e) (without out)
-  where
-    without : (n < low) ⊎ (high < n) → cond (leb low n && leb n high) (Some n) None ≡ None
-    without out = grind (arith, nat_tests)
+number_within-spelled_without low high text n h e out = rw (worth text n h e, same_text text (decimal n) e) (grind (arith, nat_tests))
 
 -- a number that was found is within the bounds
 pub number_within-range : (low high : ℕ) (text : List ℕ) (n : ℕ) → number_within low high text ≡ Some n → (low ≤ n) × (n ≤ high)
 unfolding number_within
-number_within-range low high text n e = ranged (bytes_eq text (decimal (digits_value 10 text))) (digits_value 10 text) e
-  where
-    ranged : (b : Bool) (m : ℕ) → cond (b && leb low m && leb m high) (Some m) None ≡ Some n → (low ≤ n) × (n ≤ high)
-    ranged b m e = grind (arith, nat_tests)
-
--- digits as this crate tests and folds them are those of std
-tells_digits : IsDigitsTest (λ ds. list_all is_digit ds ≡ true)
-tells_digits = record {
-  empty = refl;
-  parts = λ c cs e. let k = and_parts (is_digit c) (list_all is_digit cs) e in let m = and_parts (nat_le 48 c) (nat_le c 57) k.0 in ((leb-true 48 c m.0, leb-true c 57 m.1), k.1);
-  more = λ c cs k e. rw (le-leb 48 c k.0, le-leb c 57 k.1, e) refl;
-}
-
-folds_digits : FoldsDigits (λ n ds. fold (λ n b. n * 10 + (b - 48)) n ds)
-folds_digits = record { empty = λ n. refl; more = λ n c cs k. refl }
-
-pub numerals : IsNumeralModel (λ ds. list_all is_digit ds ≡ true) own.digits_value
-unfolding own.digits_value
-numerals = numerals_by_fold (λ ds. list_all is_digit ds ≡ true) tells_digits (λ n ds. fold (λ n b. n * 10 + (b - 48)) n ds) folds_digits
+number_within-range low high text n e = grind (arith, nat_tests)
 
 -- the spelling of a number is digits that stand for it
 small_decimal : (n : ℕ) → n < 18446744073709551616 → small_value (decimal n) ≡ Some n

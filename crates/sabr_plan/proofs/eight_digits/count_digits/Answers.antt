@@ -5,7 +5,7 @@ use Rattle.core.proofs.dec2flt.Eight.{eight_at, lanes_are, first_other, shifted_
 use lib.Count.{count_trailing_zeros}
 use Rattle.core.proofs.dec2flt.Rows.{AllDigits-digits_len}
 use Rattle.sabr_plan.specs.Digits.{is_digit, digits_value}
-use Rattle.sabr_plan.proofs.SpelledNumbers.{numerals}
+use Rattle.sabr_plan.proofs.Digits.{numerals}
 use Rattle.sabr_plan.proofs.eight_digits.count_digits.Goals as goal
 
 pub returns : goal.returns
