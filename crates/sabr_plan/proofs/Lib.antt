@@ -2,7 +2,6 @@ pub mod Digits
 pub mod SpelledNumbers
 pub mod FirstWords
 pub mod PlainWords
-pub mod Names
 pub mod Days
 pub mod Dates
 pub mod Spelling

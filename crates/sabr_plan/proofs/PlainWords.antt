@@ -40,9 +40,6 @@ graphic_behind b w one all = rw (lt-ltb 0 (length (b ∷ w)) (omega arith), one,
 pub plain_one : (w : List ℕ) → list_all is_plain w ≡ true → is_one_line w ≡ true
 plain_one w h = all_weaker is_plain (λ b. not (eqb b 10)) w (λ b h. grind (arith, nat_tests)) h
 
-pub graphic_one : (w : List ℕ) → list_all is_graphic w ≡ true → is_one_line w ≡ true
-graphic_one w h = plain_one w (plain_word w h)
-
 -- blanks are plain
 pub plain_blanks : (bs : List ℕ) → list_all is_blank bs ≡ true → list_all is_plain bs ≡ true
 plain_blanks bs h = all_weaker is_blank is_plain bs (λ b h. grind (arith, nat_tests)) h

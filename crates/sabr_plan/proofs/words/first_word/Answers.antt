@@ -2,22 +2,18 @@
 use Rattle.std.proofs.Common.{◌≡◌, ℕ, ◌<◌, ◌≤◌, true, false, cond, List, [], ◌∷◌, length, take, drop, get_or, inl, inr, refl, sym, ap, ◌∙◌, arith, length-take, length-drop, get_or-drop, add-zero}
 use Rattle.std.specs.List.{All}
 use Rattle.std.proofs.lemmas.Bool.{cases_lt, false≢true}
-use Rattle.std.proofs.lemmas.List.{take-append-drop}
+use Rattle.std.proofs.lemmas.List.{take-append-drop, nil_from_length}
 use borrow.Author.Tests.{lt-ltb, ltb-false}
 use Rattle.sabr_plan.specs.Words.{is_blank, has_bytes, words_of}
 use Rattle.sabr_plan.proofs.FirstWords.{first_is, words_of-nil}
 use Rattle.sabr_plan.proofs.words.first_word.Goals as goal
 use Rattle.sabr_plan.proofs.words.first_word.Goals.{then-loop-end-test+else-not-is_blank, else-loop-end-test}
 
-nil_is : (xs : List ℕ) → length xs ≡ 0 → xs ≡ []
-nil_is [] e = refl
-nil_is (x ∷ xs) e = absurd (omega arith)
-
 module _ (text : List ℕ) (end : ℕ) (range : end ≤ length text) (word : All (λ b. is_blank b ≡ false) (take end text)) (ends : end < length text → is_blank (get_or text end 0) ≡ true) (starts : 0 < length text → is_blank (get_or text 0 0) ≡ false) where
   -- if there is no word, the text is empty
   empty : end ≡ 0 → text ≡ []
   empty e =
-      nil_is text (elim (cases_lt 0 (length text)) [
+      nil_from_length text (elim (cases_lt 0 (length text)) [
         | inl some ↦ absurd (false≢true (sym (starts some) ∙ rw e at (ends (omega arith))))
         | inr none ↦ omega arith
       ])
