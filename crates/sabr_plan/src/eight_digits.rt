@@ -59,9 +59,10 @@ fn value_of_eight(word: u64) -> u64
 /// It is kept apart, since most numbers are shorter than eight digits, and the text goes on.
 #[cold]
 #[inline(never)]
+#[tactic(auto, unfolding(crate::specs::Digits::digits_value))]
 fn count_any_digits(text: &[u8]) -> (usize, u64)
     ensures range { result.0 ≤ length text.now }
-    ensures digits { 0 < result.0 → SpellsNumber (take result.0 text.now) result.1 }
+    ensures digits { SpellsNumber (take result.0 text.now) result.1 }
 {
     let (count, value) = read_digits(text, 0, 0);
     if count > 19 {
@@ -74,7 +75,7 @@ fn count_any_digits(text: &[u8]) -> (usize, u64)
 #[inline(always)]
 pub fn count_digits(text: &[u8]) -> (usize, u64)
     ensures range { result.0 ≤ length text.now }
-    ensures digits { 0 < result.0 → SpellsNumber (take result.0 text.now) result.1 }
+    ensures digits { SpellsNumber (take result.0 text.now) result.1 }
 {
     if text.len() < 8 {
         return count_any_digits(text);

@@ -21,5 +21,5 @@ returns c =
     let small = few_digits front all (omega (arith, long, c.if-count-gt19.false)) in
     record {
       range = r.within;
-      digits = λ some. record { some = omega (arith, long, some, r.within); few = omega (arith, long, c.if-count-gt19.false); digits = all; stands = omega (arith, r.value, same, small, numerals.same front told) };
+      digits = record { few = omega (arith, long, c.if-count-gt19.false); digits = all; stands = omega (arith, r.value, same, small, numerals.same front told) };
     }

@@ -22,8 +22,7 @@ returns c =
     let long = length-take (count_trailing_zeros 64 c.flags_from_ten-others.result / 8) text in
     record {
       range = omega (arith, first.1, c.if-text-lt8.false);
-      digits = λ some. record {
-        some = omega (arith, long, first.1, c.if-text-lt8.false, some);
+      digits = record {
         few = omega (arith, long, first.1);
         digits = sym (ap (list_all is_digit) same) ∙ numerals.from _ told;
         stands = value ∙ sym (numerals.same _ told) ∙ ap digits_value same;

@@ -5,4 +5,4 @@ use Rattle.sabr_plan.proofs.number.leading_digits.Goals as goal
 pub returns : goal.returns
 returns c =
     let h = c.split_at.ensures in
-    record { parts = h.by_index.0; digits = rw h.front (c.count_digits-count.ensures.digits (omega (arith, c.if-count-eq0.false))) }
+    record { parts = h.by_index.0; digits = rw h.front c.count_digits-count.ensures.digits }
