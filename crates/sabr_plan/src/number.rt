@@ -65,15 +65,15 @@ pub fn leading_digits(text: &[u8]) -> (u64, &[u8], &[u8])
     (value, digits, rest)
 }
 
-/// Returns false only if there are digits, without a leading zero. It is true for `0` if that is too low.
-fn starts_amiss(word: &[u8], low: u64) -> bool
-    requires { 0 < low → 0 < length word.now }
+/// Returns false only if there are digits, without a leading zero, in a word of digits that stand for this value.
+fn starts_amiss(word: &[u8], value: u64) -> bool
+    requires { 0 < value → 0 < length word.now }
     ensures { IsFalse result → (0 < length word.now) × (leads_with_zero word.now ≡ false) }
 {
-    if low > 0 {
+    if value > 0 {
         word[0] == b'0'
     } else {
-        word.is_empty() || (word[0] == b'0' && word.len() > 1)
+        word.len() != 1
     }
 }
 
@@ -87,7 +87,7 @@ pub fn leading_number(text: &[u8], low: u64, high: u64) -> Option<(u64, &[u8], &
     ensures range { IfSome result (λ r. (low ≤ r.0) × (r.0 ≤ high)) }
 {
     let (value, word, rest) = leading_digits(text);
-    if value < low || value > high || starts_amiss(word, low) {
+    if value < low || value > high || starts_amiss(word, value) {
         return None;
     }
     Some((value, word, rest))
