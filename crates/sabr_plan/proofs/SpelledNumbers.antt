@@ -1,5 +1,5 @@
 -- Texts that spell numbers.
-use Rattle.std.proofs.Common.{◌≡◌, ℕ, ◌^◌, ◌<◌, ◌≤◌, Bool, true, false, cond, ◌&&◌, leb, List, refl, sym, ◌∙◌, ap, decimal, arith, lit<, ◌⊎◌, inl, inr}
+use Rattle.std.proofs.Common.{◌≡◌, ℕ, ◌^◌, ◌<◌, ◌≤◌, Bool, true, false, cond, not, ◌&&◌, leb, List, refl, sym, ◌∙◌, ap, decimal, arith, lit<, ◌⊎◌, inl, inr}
 use Rattle.std.specs.Str.{bytes_eq}
 use Rattle.std.specs.Str.Parse.{digits_value}
 use Rattle.std.proofs.lemmas.Fmt.{decimal_is_IsNumeral_wide}
@@ -41,11 +41,6 @@ pub number_within-spelled_within : (low high : ℕ) (text : List ℕ) (n : ℕ) 
 unfolding number_within
 number_within-spelled_within low high text n h e a b = rw (worth text n h e, same_text text (decimal n) e, le-leb low n a, le-leb n high b) refl
 
-number_within-spelled_without : (low high : ℕ) (text : List ℕ) (n : ℕ) → n < 10 ^ 64 → text ≡ decimal n → (n < low) ⊎ (high < n)
-    → number_within low high text ≡ None
-unfolding number_within
-number_within-spelled_without low high text n h e out = rw (worth text n h e, same_text text (decimal n) e) (grind (arith, nat_tests))
-
 -- a number that was found is within the bounds
 pub number_within-range : (low high : ℕ) (text : List ℕ) (n : ℕ) → number_within low high text ≡ Some n → (low ≤ n) × (n ≤ high)
 unfolding number_within
@@ -82,17 +77,18 @@ module _ (low high : ℕ) (text : List ℕ) (h : high < 18446744073709551616) wh
       number_within-unspelled 18446744073709551616 low high text h
       (λ n small is. let found : small_value text ≡ Some n = ap small_value is ∙ small_decimal n small in absurd cc)
 
-  pub within_zero : leads_with_zero text ≡ true → number_within low high text ≡ None
-  within_zero e =
-      number_within-unspelled 18446744073709551616 low high text h
-      (λ n small is. let none : leads_with_zero text ≡ false = ap leads_with_zero is ∙ decimal_leads n small in absurd cc)
+  module _ (v : ℕ) (e : small_value text ≡ Some v) where
+    pub within : number_within low high text ≡ cond (not (leads_with_zero text) && leb low v && leb v high) (Some v) None
+    unfolding number_within
+    within =
+        (elim (leads_with_zero text) as (λ b. leads_with_zero text ≡ b → number_within low high text ≡ cond (not b && leb low v && leb v high) (Some v) None) [
+          | true ↦ λ zero. number_within-unspelled 18446744073709551616 low high text h
+              (λ n small is. let none : leads_with_zero text ≡ false = ap leads_with_zero is ∙ decimal_leads n small in absurd cc)
+          | false ↦ λ plain.
+              let spells = digits_spell text v e plain in
+              let short = let p = small_parts text v e in short128 v (omega arith) in
+              rw (worth text v short spells, same_text text (decimal v) spells) refl
+        ]) refl
 
-  module _ (v : ℕ) (e : small_value text ≡ Some v) (plain : leads_with_zero text ≡ false) where
-    short : v < 10 ^ 64
-    short = let p = small_parts text v e in short128 v (omega arith)
-
-    pub within_yes : low ≤ v → v ≤ high → number_within low high text ≡ Some v
-    within_yes a b = number_within-spelled_within low high text v short (digits_spell text v e plain) a b
-
-    pub within_out : (v < low) ⊎ (high < v) → number_within low high text ≡ None
-    within_out out = number_within-spelled_without low high text v short (digits_spell text v e plain) out
+    pub within_yes : leads_with_zero text ≡ false → low ≤ v → v ≤ high → number_within low high text ≡ Some v
+    within_yes plain a b = within ∙ rw (plain, le-leb low v a, le-leb v high b) refl

@@ -46,11 +46,10 @@ pub fn number_within(text: &[u8], low: u64, high: u64) -> Option<u64>
     ensures range { IfSome result (λ n. (low ≤ n) × (n ≤ high)) }
 {
     let value = digits_value(text)?;
-    if !leads_with_zero(text) && low <= value && value <= high {
-        Some(value)
-    } else {
-        None
+    if leads_with_zero(text) || value < low || value > high {
+        return None;
     }
+    Some(value)
 }
 
 /// Returns the number that the digits at the front of a text stand for, those digits, and the text after them. It takes
