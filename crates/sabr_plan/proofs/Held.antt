@@ -31,13 +31,7 @@ one_line_before xs end h none =
 
 -- what is held is within the limits, so the reader's failure after it is what is reported
 pub broken_held : (lines : ℕ) (held : List ℕ) → lines ≤ most_lines → length held ≤ most_line_bytes * (most_lines - lines) → length held ≤ most_line_bytes → broken_line (lines + 1) held ≡ record { line = lines + 1; kind = kind.Read }
-broken_held lines held within room limit =
-    let at_n : PlanKind → PlanFault = λ k. record { line = lines + 1; kind = k } in
-    let few : ltb most_line_bytes (length held) ≡ false = le-ltb most_line_bytes (length held) (omega arith) in
-    elim (cases_lt lines most_lines) [
-      | inl more ↦ rw (le-ltb most_lines (lines + 1) (omega arith), few) refl
-      | inr full ↦ rw (le-ltb 0 (length held) (omega arith), and-false (ltb most_lines (lines + 1)), few) refl
-    ]
+broken_held lines held within room limit = grind (arith, nat_tests)
 
 -- a line within the limits is read
 pub limited-judged : (n : ℕ) (r : Reading) (line : List ℕ) → n ≤ most_lines → length line ≤ most_line_bytes → limited n r line ≡ judged r line
