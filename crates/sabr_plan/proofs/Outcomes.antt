@@ -1,17 +1,13 @@
 -- The outcome of a text, one piece after another.
-use Rattle.std.proofs.Common.{◌≡◌, ◌≢◌, ℕ, suc, ◌+◌, Bool, true, false, ◌&&◌, not, eqb, ltb, List, [], ◌∷◌, ◌++◌, length, refl, sym, ap, ◌∙◌, arith, append_assoc, append-nil, length-append, Result, Ok, Err}
-use borrow.Author.Tests.{lt-ltb, le-ltb, ltb-true, ltb-false}
+use Rattle.std.proofs.Common.{◌≡◌, ◌≢◌, ℕ, suc, ◌+◌, Bool, true, false, not, eqb, List, [], ◌∷◌, ◌++◌, length, refl, sym, ap, ◌∙◌, arith, append_assoc, append-nil, length-append, Result, Ok, Err}
 use Rattle.std.proofs.lemmas.Bool.Decides.{nat_tests}
 use Rattle.std.proofs.lemmas.List.Folds.{list_all-append}
-use Rattle.std.proofs.Math.Bool.{and-false}
-use Rattle.std.specs.Prelude.{if◌then◌else◌}
 use Rattle.sabr_model.specs.plan.Plan.{ContactPlan}
 use Rattle.sabr_plan.specs.declared.fault.PlanFault.{PlanFault}
-use Rattle.sabr_plan.specs.declared.fault.PlanKind.{PlanKind}
 use Rattle.sabr_plan.specs.declared.fault.PlanKind.TheVariants as kind
 use Rattle.sabr_plan.specs.Steps.{and_then}
 use Rattle.sabr_plan.specs.Words.{TextLines, is_one_line, has_bytes, lines_of}
-use Rattle.sabr_plan.specs.Reading.{Reading, most_line_bytes, most_lines, nothing_read, judged, limited, read_line, read_lines, broken_line, last_line, plan_of}
+use Rattle.sabr_plan.specs.Reading.{Reading, nothing_read, limited, read_line, read_lines, broken_line, last_line, plan_of}
 use Rattle.sabr_plan.specs.Feeding.{Fed, nothing_fed, outcome}
 use Rattle.sabr_plan.proofs.Lines.{in_front, lines_of-front, lines_of-one, lines_of-line}
 

@@ -1,9 +1,9 @@
 -- The spelling of calendar and clock in 19 bytes, and the fields of a text of that shape.
-use Rattle.std.proofs.Common.{◌≡◌, ℕ, ◌+◌, ◌-◌, ◌*◌, ◌/◌, ◌%◌, ◌<◌, ◌≤◌, true, ◌&&◌, leb, List, length, get_or, refl, arith}
+use Rattle.std.proofs.Common.{◌≡◌, ℕ, ◌+◌, ◌-◌, ◌*◌, ◌/◌, ◌%◌, ◌<◌, true, ◌&&◌, List, length, get_or, refl, arith}
 use Rattle.std.proofs.lemmas.Bool.{and_parts}
 use Rattle.std.proofs.lemmas.Bool.Decides.{nat_tests}
 use Rattle.std.proofs.lemmas.Slice.Eq.{text_from_reads}
-use borrow.Author.Tests.{eqb-true, leb-true, le-leb}
+use borrow.Author.Tests.{eqb-true}
 use Rattle.sabr_plan.specs.declared.time.TimeFields.{TimeFields}
 use Rattle.sabr_plan.specs.Digits.{is_digit}
 use Rattle.sabr_plan.specs.Times.{pair_at, spelled}

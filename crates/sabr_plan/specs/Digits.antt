@@ -1,5 +1,5 @@
 -- Numbers as decimal digits.
-use Rattle.std.specs.Prelude.{◌≡◌, ℕ, ◌+◌, ◌-◌, ◌*◌, ◌<◌, ◌≤◌, ◌==◌, nat_lt, nat_le, ◌&&◌, Bool, IsTrue, List, length, slice_index, fold}
+use Rattle.std.specs.Prelude.{◌≡◌, ℕ, ◌+◌, ◌-◌, ◌*◌, ◌≤◌, ◌==◌, nat_lt, nat_le, ◌&&◌, Bool, IsTrue, List, length, slice_index, fold}
 use Rattle.std.specs.List.{list_all}
 
 -- whether a byte is a digit

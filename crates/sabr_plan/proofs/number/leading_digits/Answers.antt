@@ -1,5 +1,4 @@
 -- The digits are those that were counted.
-use Rattle.std.proofs.Common.{arith}
 use Rattle.sabr_plan.proofs.number.leading_digits.Goals as goal
 
 pub returns : goal.returns

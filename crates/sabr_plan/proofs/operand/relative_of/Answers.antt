@@ -1,12 +1,9 @@
 -- At most twelve digits come after `+`.
-use Rattle.std.proofs.Common.{◌≡◌, ℕ, ◌-◌, ◌<◌, ◌≤◌, List, [], ◌∷◌, length, get_or, take, drop, true, false, refl, sym, ap, ◌∙◌, arith, ◌&&◌, Some, None, cond, ltb}
+use Rattle.std.proofs.Common.{◌≡◌, ℕ, ◌-◌, ◌<◌, ◌≤◌, List, [], ◌∷◌, length, get_or, take, drop, true, ◌∙◌, arith}
 use Rattle.std.specs.List.{list_all}
 use Rattle.std.proofs.lemmas.List.{take_all}
-use Rattle.std.proofs.lemmas.Bool.{and_parts}
-use Rattle.std.proofs.Math.Bool.{and-true}
 use Rattle.std.proofs.lemmas.Bool.Decides.{nat_tests}
-use borrow.Author.Tests.{le-leb, lt-ltb, eq-eqb}
-use Rattle.sabr_plan.specs.Digits.{is_digit, are_digits, digits_value}
+use Rattle.sabr_plan.specs.Digits.{is_digit, digits_value}
 use Rattle.sabr_plan.specs.Operands.{relative_of}
 use Rattle.sabr_plan.proofs.Digits.{small_value, few_digits}
 use Rattle.sabr_plan.proofs.operand.relative_of.Goals as goal

@@ -1,9 +1,9 @@
 -- The bytes before a blank, or before the end of the text, are its first word.
-use Rattle.std.proofs.Common.{◌≡◌, ℕ, ◌<◌, ◌≤◌, true, false, cond, List, [], ◌∷◌, length, take, drop, get_or, inl, inr, refl, sym, ap, ◌∙◌, arith, length-take, length-drop, get_or-drop, add-zero}
+use Rattle.std.proofs.Common.{◌≡◌, ℕ, ◌<◌, ◌≤◌, true, false, cond, List, [], ◌∷◌, length, take, drop, get_or, inl, inr, sym, ap, ◌∙◌, arith, length-take, length-drop, get_or-drop, add-zero}
 use Rattle.std.specs.List.{All}
 use Rattle.std.proofs.lemmas.Bool.{cases_lt, false≢true}
 use Rattle.std.proofs.lemmas.List.{take-append-drop, nil_from_length}
-use borrow.Author.Tests.{lt-ltb, ltb-false}
+use borrow.Author.Tests.{lt-ltb}
 use Rattle.sabr_plan.specs.Words.{is_blank, has_bytes, words_of}
 use Rattle.sabr_plan.proofs.FirstWords.{first_is, words_of-nil}
 use Rattle.sabr_plan.proofs.words.first_word.Goals as goal
