@@ -1,4 +1,4 @@
--- The plan that a text spells obeys the rules of a plan, and no text whose reader ended is refused as one whose reader failed.
+-- The plan that a text spells obeys the rules of a plan. No text whose reader ended is refused as if it had failed.
 use Rattle.std.proofs.Common.{◌≡◌, ◌≢◌, ℕ, ◌+◌, ◌≤◌, Bool, true, false, List, [], ◌∷◌, length, refl, arith, Option, Some, None, Result, Ok, Err, ok_or}
 use Rattle.std.specs.Prelude.{nat_lt, nat_le, not, codes, MatchResult, if◌then◌else◌}
 use Rattle.std.specs.List.{list_all}

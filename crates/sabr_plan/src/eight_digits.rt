@@ -25,8 +25,8 @@ pub fn first_eight(text: &[u8]) -> u64
     ])
 }
 
-/// Returns a word whose lowest bit is the high bit of the first byte that is at least 10, or 0 if there is none. No sum
-/// carries into that byte.
+/// Returns a word whose lowest set bit is the highest of the first byte that is at least 10, or 0 if there is no such
+/// byte. Only that byte and those after it carry into the next one.
 #[inline(always)]
 fn mark_from_ten(word: u64) -> u64
     ensures { (text : List ℕ) → IsEightBytes text → word ≡ number_l 256 (map less_zero text) → 0 < result → (digits_len text < 8) × (trailing_zeros w64 result ≡ 8 * digits_len text + 7) }
@@ -77,6 +77,7 @@ pub fn count_digits(text: &[u8]) -> (usize, u64)
         return count_any_digits(text);
     }
     let before = others.trailing_zeros();
+    // The digits move up to the end, in two shifts, since no shift takes 64 bits.
     let digits = lanes << (63 - before) << 8;
     ((before / 8) as usize, value_of_eight(digits))
 }

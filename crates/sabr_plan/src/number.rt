@@ -64,7 +64,7 @@ pub fn leading_digits(text: &[u8]) -> (u64, &[u8], &[u8])
     (value, digits, rest)
 }
 
-/// Returns false only if there are digits, without a leading zero, in a word of digits that stand for this value.
+/// Returns false only if a word, whose digits stand for this value, has a digit and no leading zero.
 fn starts_amiss(word: &[u8], value: u64) -> bool
     requires { 0 < value → 0 < length word.now }
     ensures { IsFalse result → (0 < length word.now) × (leads_with_zero word.now ≡ false) }
