@@ -41,6 +41,7 @@ fn clock_of(text: &[u8]) -> Option<u64>
 
 impl KnownDay {
     /// Knows the first day that a time may have.
+    #[tactic(auto, unfolding(crate::specs::Times::day_after_epoch))]
     pub fn new() -> KnownDay {
         KnownDay {
             date: *b"1970/01/01",
