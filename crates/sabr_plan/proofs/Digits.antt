@@ -1,46 +1,40 @@
 -- Digits and the number that they stand for.
-use Rattle.std.proofs.Common.{◌≡◌, ℕ, suc, ◌+◌, ◌-◌, ◌*◌, ◌^◌, ◌<◌, ◌≤◌, true, ◌&&◌, List, [], ◌∷◌, ◌++◌, length, take, drop, get_or, refl, subst, arith, fold}
+use Rattle.std.proofs.Common.{◌≡◌, ℕ, ◌+◌, ◌-◌, ◌*◌, ◌<◌, ◌≤◌, true, ◌&&◌, List, [], ◌∷◌, length, take, drop, get_or, refl, ap, arith, rules, fold}
+use Rattle.std.specs.Prelude.{nat_lt, Option, Some, None, if◌then◌else◌}
 use Rattle.std.specs.List.{list_all}
 use Rattle.std.proofs.lemmas.List.{take_more, take-append-drop}
-use Rattle.std.proofs.lemmas.List.Folds.{list_all-append}
+use Rattle.std.proofs.lemmas.List.Folds.{list_all_more}
+use Rattle.std.proofs.lemmas.List.Sums.{fold-append}
+use Rattle.std.proofs.lemmas.Str.Parse.{IsNumeralModel, numerals_by_fold, digits_value_short}
 use Rattle.std.proofs.Math.Bool.{and-false}
-use Rattle.std.proofs.Math.Nat.{mul-le-mul_right, pow-suc, pow-le-pow_right}
 use borrow.Author.Tests.{lt-ltb, le-ltb}
-use Rattle.std.specs.Prelude.{nat_lt, nat_le, Option, Some, None, if◌then◌else◌}
-use Rattle.std.proofs.lemmas.Bool.{and_parts}
-use borrow.Author.Tests.{leb-true}
 use Rattle.sabr_plan.specs.Digits.{is_digit, are_digits, digits_value}
 
-fold_from : (ys : List ℕ) (n : ℕ) → n ≤ fold (λ n b. n * 10 + (b - 48)) n ys
-fold_from [] n = omega arith
-fold_from (y ∷ ys) n = omega (arith, fold_from ys (n * 10 + (y - 48)))
-
-fold-append : (xs ys : List ℕ) (n : ℕ) → fold (λ n b. n * 10 + (b - 48)) n (xs ++ ys) ≡ fold (λ n b. n * 10 + (b - 48)) (fold (λ n b. n * 10 + (b - 48)) n xs) ys
-fold-append [] ys n = refl
-fold-append (x ∷ xs) ys n = fold-append xs ys (n * 10 + (x - 48))
-
--- one more digit
-pub digits_value-push : (xs : List ℕ) (b : ℕ) → digits_value (xs ++ b ∷ []) ≡ digits_value xs * 10 + (b - 48)
+-- digits as this crate tests and folds them are those of std
+pub numerals : IsNumeralModel (λ ds. list_all is_digit ds ≡ true) digits_value
 unfolding digits_value
-digits_value-push xs b = fold-append xs (b ∷ []) 0
-
--- more digits never stand for a lesser number
-pub digits_value_grows : (xs ys : List ℕ) → digits_value xs ≤ digits_value (xs ++ ys)
-unfolding digits_value
-digits_value_grows xs ys = rw (fold-append xs ys 0) (fold_from ys _)
+numerals = numerals_by_fold (λ ds. list_all is_digit ds ≡ true) (search rules) (λ n ds. fold (λ n b. n * 10 + (b - 48)) n ds) (search rules)
 
 -- the digits up to a place, and the next
 pub take_digit : (xs : List ℕ) (i : ℕ) → i < length xs → digits_value (take (i + 1) xs) ≡ digits_value (take i xs) * 10 + (get_or xs i 0 - 48)
-take_digit xs i h = rw (take_more xs i 0 h) (digits_value-push (take i xs) (get_or xs i 0))
+unfolding digits_value
+take_digit xs i h = rw (take_more xs i 0 h) (fold-append (λ n b. n * 10 + (b - 48)) 0 (take i xs) (get_or xs i 0 ∷ []))
 
 -- the digits up to a place stand for no more than all digits
-pub take_grows : (xs : List ℕ) (i : ℕ) → digits_value (take i xs) ≤ digits_value xs
-take_grows xs i = subst (λ (ys : List ℕ). digits_value (take i xs) ≤ digits_value ys) (take-append-drop i xs) (digits_value_grows (take i xs) (drop i xs))
+take_grows : (xs : List ℕ) (i : ℕ) → digits_value (take i xs) ≤ digits_value xs
+unfolding digits_value
+take_grows xs i =
+    let f : ℕ → ℕ → ℕ = λ n b. n * 10 + (b - 48) in
+    let whole = ap (fold f 0) (take-append-drop i xs) in
+    omega (arith, whole, fold-append f 0 (take i xs) (drop i xs), fold_from (drop i xs) (fold f 0 (take i xs)))
+  where
+    fold_from : (ys : List ℕ) (n : ℕ) → n ≤ fold (λ n b. n * 10 + (b - 48)) n ys
+    fold_from [] n = omega arith
+    fold_from (y ∷ ys) n = omega (arith, fold_from ys (n * 10 + (y - 48)))
 
 -- if the bytes up to a place and the next are digits, those up to the next place are
 pub take_digits : (xs : List ℕ) (i : ℕ) → i < length xs → list_all is_digit (take i xs) ≡ true → is_digit (get_or xs i 0) ≡ true → list_all is_digit (take (i + 1) xs) ≡ true
-take_digits xs i h all one =
-    rw (take_more xs i 0 h, list_all-append is_digit (take i xs) (get_or xs i 0 ∷ []), all, one) refl
+take_digits xs i h all one = rw (list_all_more is_digit xs i 0 h, all, one) refl
 
 -- the number that digits stand for, if it is below 2^64
 abbrev pub small_value : List ℕ → Option ℕ
@@ -58,24 +52,9 @@ small_value_over xs i h over =
 pub small_value_some : (xs : List ℕ) → 0 < length xs → list_all is_digit xs ≡ true → digits_value xs < 18446744073709551616 → small_value xs ≡ Some (digits_value xs)
 small_value_some xs some all h = rw (lt-ltb _ _ some, all, lt-ltb _ _ h) refl
 
-value_below : (xs : List ℕ) (n : ℕ) → list_all is_digit xs ≡ true → fold (λ n b. n * 10 + (b - 48)) n xs + 1 ≤ (n + 1) * 10 ^ length xs
-value_below [] n all = omega arith
-value_below (x ∷ xs) n all =
-    let both = and_parts (is_digit x) (list_all is_digit xs) all in
-    let digit = and_parts (nat_le 48 x) (nat_le x 57) both.0 in
-    let small : x ≤ 57 = leb-true x 57 digit.1 in
-    let rest = value_below xs (n * 10 + (x - 48)) both.1 in
-    let step : (n * 10 + (x - 48) + 1) * 10 ^ length xs ≤ ((n + 1) * 10) * 10 ^ length xs = mul-le-mul_right (10 ^ length xs) (omega arith) in
-    let power : (n + 1) * 10 ^ suc (length xs) ≡ ((n + 1) * 10) * 10 ^ length xs = rw (pow-suc 10 (length xs)) (omega arith) in
-    rw power (omega arith)
-
 -- nineteen digits stand for less than 2^64
 pub few_digits : (xs : List ℕ) → list_all is_digit xs ≡ true → length xs ≤ 19 → digits_value xs < 18446744073709551616
-unfolding digits_value
-few_digits xs all short =
-    let below = value_below xs 0 all in
-    let power : 10 ^ length xs ≤ 10 ^ 19 = pow-le-pow_right (omega arith) short in
-    omega arith
+few_digits xs all short = omega (arith, digits_value_short numerals xs 19 all short)
 
 -- so at most nineteen digits have a number
 pub small_digits : (xs : List ℕ) → 0 < length xs → list_all is_digit xs ≡ true → length xs ≤ 19 → small_value xs ≡ Some (digits_value xs)

@@ -1,10 +1,10 @@
 -- The bytes of a line that are held, and where a line ends.
-use Rattle.std.proofs.Common.{◌≡◌, ℕ, suc, ◌+◌, ◌*◌, ◌-◌, ◌<◌, ◌≤◌, true, false, Result, Ok, Err, ◌⊎◌, ◌&&◌, not, eqb, ltb, List, [], ◌∷◌, ◌++◌, length, take, get_or, refl, sym, ap, ◌∙◌, arith, inl, inr, length-take, get_or-take}
-use Rattle.std.proofs.lemmas.Bool.{cases_lt}
+use Rattle.std.proofs.Common.{◌≡◌, ℕ, ◌+◌, ◌*◌, ◌-◌, ◌<◌, ◌≤◌, true, Result, Ok, Err, ◌⊎◌, not, eqb, List, [], ◌++◌, length, take, get_or, refl, sym, ap, ◌∙◌, arith, length-take, get_or-take}
+use Rattle.std.proofs.lemmas.Bool.Decides.{nat_tests}
+use Rattle.std.proofs.lemmas.Grind.{get_or_default_zero}
+use Rattle.std.proofs.lemmas.List.Sums.{list_all-from_AllPass}
 use Rattle.std.proofs.lemmas.List.Folds.{list_all-append}
-use Rattle.std.proofs.Math.Bool.{and-false}
 use borrow.Author.Tests.{le-ltb}
-use Rattle.sabr_plan.specs.declared.fault.PlanFault.{PlanFault}
 use Rattle.sabr_plan.specs.declared.fault.PlanKind.{PlanKind}
 use Rattle.sabr_plan.specs.declared.fault.PlanKind.TheVariants as kind
 use Rattle.sabr_plan.specs.Words.{is_one_line}
@@ -17,12 +17,7 @@ one_line-append a b h k = rw (list_all-append (λ x. not (eqb x 10)) a b, h, k) 
 
 -- no byte is LF
 pub one_line_from : (xs : List ℕ) → ((k : ℕ) → k < length xs → eqb (get_or xs k 0) 10 ≡ true → ⊥) → is_one_line xs ≡ true
-one_line_from [] none = refl
-one_line_from (x ∷ xs) none =
-    (elim (eqb x 10) as (λ b. eqb x 10 ≡ b → (not b && is_one_line xs) ≡ true) [
-      | true ↦ λ e. absurd (none 0 (omega arith) e)
-      | false ↦ λ e. one_line_from xs (λ k h. none (suc k) (omega arith))
-    ]) refl
+one_line_from xs none = list_all-from_AllPass (λ b. not (eqb b 10)) xs (λ k d h. rw (get_or_default_zero xs k d h) (let other = none k h in grind (arith, nat_tests)))
 
 -- nor before the first LF
 pub one_line_before : (xs : List ℕ) (end : ℕ) → end < length xs → ((k : ℕ) → k < end → eqb (get_or xs k 0) 10 ≡ true → ⊥) → is_one_line (take end xs) ≡ true
@@ -33,13 +28,7 @@ one_line_before xs end h none =
 
 -- what is held is within the limits, so the reader's failure after it is what is reported
 pub broken_held : (lines : ℕ) (held : List ℕ) → lines ≤ most_lines → length held ≤ most_line_bytes * (most_lines - lines) → length held ≤ most_line_bytes → broken_line (lines + 1) held ≡ record { line = lines + 1; kind = kind.Read }
-broken_held lines held within room limit =
-    let at_n : PlanKind → PlanFault = λ k. record { line = lines + 1; kind = k } in
-    let few : ltb most_line_bytes (length held) ≡ false = le-ltb most_line_bytes (length held) (omega arith) in
-    elim (cases_lt lines most_lines) [
-      | inl more ↦ rw (le-ltb most_lines (lines + 1) (omega arith), few) refl
-      | inr full ↦ rw (le-ltb 0 (length held) (omega arith), and-false (ltb most_lines (lines + 1)), few) refl
-    ]
+broken_held lines held within room limit = grind (arith, nat_tests)
 
 -- a line within the limits is read
 pub limited-judged : (n : ℕ) (r : Reading) (line : List ℕ) → n ≤ most_lines → length line ≤ most_line_bytes → limited n r line ≡ judged r line

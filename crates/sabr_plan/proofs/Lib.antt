@@ -2,7 +2,6 @@ pub mod Digits
 pub mod SpelledNumbers
 pub mod FirstWords
 pub mod PlainWords
-pub mod Names
 pub mod Days
 pub mod Dates
 pub mod Spelling
@@ -15,6 +14,5 @@ pub mod Feeds
 pub mod Consumed
 pub mod ReadSoFar
 pub mod CanonicalLines
-pub mod NeverRead
 pub mod Leaving
 pub mod SpelledPlans

@@ -1,16 +1,13 @@
 -- The outcome of a text, one piece after another.
-use Rattle.std.proofs.Common.{◌≡◌, ◌≢◌, ℕ, suc, ◌+◌, Bool, true, false, ◌&&◌, not, eqb, ltb, List, [], ◌∷◌, ◌++◌, length, refl, sym, ap, ◌∙◌, arith, append_assoc, append-nil, length-append, Result, Ok, Err}
-use borrow.Author.Tests.{lt-ltb, le-ltb, ltb-true, ltb-false}
+use Rattle.std.proofs.Common.{◌≡◌, ◌≢◌, ℕ, suc, ◌+◌, Bool, true, false, not, eqb, List, [], ◌∷◌, ◌++◌, length, refl, sym, ap, ◌∙◌, arith, append_assoc, append-nil, length-append, Result, Ok, Err}
+use Rattle.std.proofs.lemmas.Bool.Decides.{nat_tests}
 use Rattle.std.proofs.lemmas.List.Folds.{list_all-append}
-use Rattle.std.proofs.Math.Bool.{and-false}
-use Rattle.std.specs.Prelude.{if◌then◌else◌}
 use Rattle.sabr_model.specs.plan.Plan.{ContactPlan}
 use Rattle.sabr_plan.specs.declared.fault.PlanFault.{PlanFault}
-use Rattle.sabr_plan.specs.declared.fault.PlanKind.{PlanKind}
 use Rattle.sabr_plan.specs.declared.fault.PlanKind.TheVariants as kind
 use Rattle.sabr_plan.specs.Steps.{and_then}
 use Rattle.sabr_plan.specs.Words.{TextLines, is_one_line, has_bytes, lines_of}
-use Rattle.sabr_plan.specs.Reading.{Reading, most_line_bytes, most_lines, nothing_read, judged, limited, read_line, read_lines, broken_line, last_line, plan_of}
+use Rattle.sabr_plan.specs.Reading.{Reading, nothing_read, limited, read_line, read_lines, broken_line, last_line, plan_of}
 use Rattle.sabr_plan.specs.Feeding.{Fed, nothing_fed, outcome}
 use Rattle.sabr_plan.proofs.Lines.{in_front, lines_of-front, lines_of-one, lines_of-line}
 
@@ -74,52 +71,21 @@ outcome-end s ended one =
     outcome-lines s [] ended ∙ ap (λ t. lines_outcome (s.lines + 1) s.reading t ended) (ap lines_of (append-nil s.held) ∙ lines_of-one s.held one) ∙ lines_outcome-last (s.lines + 1) s.reading s.held ended
 
 -- a line with too high a number, or too long, is refused for its beginning
-choose : (far some long longer : Bool) (judgement : Result Reading PlanKind) → (some ≡ false → long ≡ false) → (long ≡ true → longer ≡ true) → (if far && some then kind.TooMany else if long then kind.LineTooLong else kind.Read) ≢ kind.Read → (if far then Err kind.TooMany else if longer then Err kind.LineTooLong else judgement) ≡ Err (if far && some then kind.TooMany else if long then kind.LineTooLong else kind.Read)
-choose true true long longer judgement p q other = refl
-choose true false long longer judgement p q other = absurd (other (rw (p refl) refl))
-choose false some true longer judgement p q other = rw (q refl) refl
-choose false some false longer judgement p q other = absurd (other refl)
-
--- the empty line is not long
-short : (front : List ℕ) → has_bytes front ≡ false → ltb most_line_bytes (length front) ≡ false
-short front none = let h = ltb-false 0 (length front) none in le-ltb most_line_bytes (length front) (omega arith)
-
--- a line that is too long stays too long
-longer : (front back : List ℕ) → ltb most_line_bytes (length front) ≡ true → ltb most_line_bytes (length (front ++ back)) ≡ true
-longer front back long = let h = ltb-true most_line_bytes (length front) long in lt-ltb most_line_bytes (length (front ++ back)) (omega (arith, length-append front back))
-
 refused_line : (n : ℕ) (r : Reading) (front back : List ℕ) → (broken_line n front).kind ≢ kind.Read → limited n r (front ++ back) ≡ Err (broken_line n front).kind
 unfolding limited
-refused_line n r front back other = choose (ltb most_lines n) (has_bytes front) (ltb most_line_bytes (length front)) (ltb most_line_bytes (length (front ++ back))) (judged r (front ++ back)) (short front) (longer front back) other
-
--- bytes that are refused are not empty
-some_front : (n : ℕ) (front : List ℕ) → (broken_line n front).kind ≢ kind.Read → has_bytes front ≡ true
-some_front n front other =
-    (elim (has_bytes front) as (λ b. has_bytes front ≡ b → b ≡ true) [
-      | true ↦ λ e. refl
-      | false ↦ λ e. absurd (other (rw (e, short front e, and-false (ltb most_lines n)) refl))
-    ]) refl
-
-some_more : (front back : List ℕ) → has_bytes front ≡ true → has_bytes (front ++ back) ≡ true
-some_more front back some = let h = ltb-true 0 (length front) some in lt-ltb 0 (length (front ++ back)) (omega (arith, length-append front back))
-
-still : (far long longer : Bool) → (long ≡ true → longer ≡ true) → (if far && true then kind.TooMany else if long then kind.LineTooLong else kind.Read) ≢ kind.Read → ◌≡◌ {A = PlanKind} (if far && true then kind.TooMany else if longer then kind.LineTooLong else kind.Read) (if far && true then kind.TooMany else if long then kind.LineTooLong else kind.Read)
-still true long longer q other = refl
-still false true longer q other = rw (q refl) refl
-still false false longer q other = absurd (other refl)
+refused_line n r front back other = let long = length-append front back in grind (arith, nat_tests)
 
 still_broken : (n : ℕ) (front back : List ℕ) → (broken_line n front).kind ≢ kind.Read → broken_line n (front ++ back) ≡ broken_line n front
-still_broken n front back other =
-    let some = some_front n front other in
-    let more = some_more front back some in
-    let same = still (ltb most_lines n) (ltb most_line_bytes (length front)) (ltb most_line_bytes (length (front ++ back))) (longer front back) (rw some at other) in
-    let at_n : PlanKind → PlanFault = λ k. record { line = n; kind = k } in
-    rw (some, more) (ap at_n same)
+still_broken n front back other = let long = length-append front back in grind (arith, nat_tests)
+
+-- bytes that are refused are not empty
+some_bytes : (n : ℕ) (front back : List ℕ) → (broken_line n front).kind ≢ kind.Read → has_bytes (front ++ back) ≡ true
+some_bytes n front back other = let long = length-append front back in grind (arith, nat_tests)
 
 -- a last line is refused for its beginning, too
 last_refused : (n : ℕ) (r : Reading) (front back : List ℕ) (ended : Bool) → (broken_line n front).kind ≢ kind.Read → last_line ended n (front ++ back) r ≡ Err (broken_line n front)
 last_refused n r front back true other =
-    rw (some_more front back (some_front n front other), refused_line n r front back other) refl
+    rw (some_bytes n front back other, refused_line n r front back other) refl
 last_refused n r front back false other = ap Err (still_broken n front back other)
 
 -- the lines are refused for the beginning of the first, whatever comes after it

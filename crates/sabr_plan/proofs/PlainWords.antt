@@ -1,49 +1,34 @@
 -- A text of graphic words, each after blanks, has those words.
-use Rattle.std.proofs.Common.{◌≡◌, ◌≢◌, ℕ, ◌<◌, true, false, eqb, leb, List, [], ◌∷◌, ◌++◌, length, get_or, refl, sym, ap, ◌∙◌, arith, append_assoc, append-nil, length-append, not, ◌||◌, ◌&&◌}
+use Rattle.std.proofs.Common.{◌≡◌, ◌≢◌, ℕ, ◌<◌, Bool, true, false, eqb, List, [], ◌∷◌, ◌++◌, length, get_or, refl, sym, ap, ◌∙◌, arith, append_assoc, append-nil, length-append, not}
 use Rattle.std.specs.List.{All, list_all}
 use Rattle.std.proofs.lemmas.Bool.{and_parts, ne_eqb, false≢true}
-use Rattle.std.proofs.Math.Bool.{or-true}
+use Rattle.std.proofs.lemmas.Bool.Decides.{nat_tests}
 use Rattle.std.proofs.lemmas.List.Folds.{list_all-append}
-use Rattle.std.proofs.lemmas.List.Sums.{AllPass-from_list_all}
-use borrow.Author.Tests.{leb-true, le-leb, ltb-true, lt-ltb, eqb-true}
+use Rattle.std.proofs.lemmas.List.Sums.{AllPass-from_list_all, list_all-from_AllPass}
+use borrow.Author.Tests.{ltb-true, lt-ltb}
 use Rattle.sabr_plan.specs.Digits.{is_digit}
 use Rattle.sabr_plan.specs.Words.{is_blank, is_plain, is_comment, has_bytes, is_one_line, words_of}
 use Rattle.sabr_plan.specs.PlainWords.{is_graphic, is_graphic_word, IsAfterBlanks, IsAfterGap, IsFront, IsAhead}
 use Rattle.sabr_plan.proofs.FirstWords.{first_is, words_of-blank, words_of-nil}
 
--- a graphic byte is no blank
-no_blank : (b : ℕ) → is_graphic b ≡ true → is_blank b ≡ false
-no_blank b h =
-    let low = leb-true 33 b (and_parts (leb 33 b) (leb b 126) h).0 in
-    let tab : b ≢ 9 = omega arith in
-    let space : b ≢ 32 = omega arith in
-    rw (ne_eqb b 9 tab, ne_eqb b 32 space) refl
+-- if each byte that passes one test passes another
+all_weaker : (p q : ℕ → Bool) (w : List ℕ) → ((b : ℕ) → p b ≡ true → q b ≡ true) → list_all p w ≡ true → list_all q w ≡ true
+all_weaker p q w weaker h = list_all-from_AllPass q w (λ k d within. weaker (get_or w k d) (AllPass-from_list_all p w h k d within))
 
+-- a graphic byte is no blank
 no_blanks : (w : List ℕ) → list_all is_graphic w ≡ true → All (λ b. is_blank b ≡ false) w
 no_blanks w all k d h = no_blank (get_or w k d) (AllPass-from_list_all is_graphic w all k d h)
+  where
+    no_blank : (b : ℕ) → is_graphic b ≡ true → is_blank b ≡ false
+    no_blank b h = grind (arith, nat_tests)
 
 -- a graphic byte is plain
-plain_byte : (b : ℕ) → is_graphic b ≡ true → is_plain b ≡ true
-plain_byte b h =
-    let p = and_parts (leb 33 b) (leb b 126) h in
-    let low = leb-true 33 b p.0 in
-    rw (le-leb 32 b (omega arith), p.1) (or-true (eqb b 9))
-
 plain_word : (w : List ℕ) → list_all is_graphic w ≡ true → list_all is_plain w ≡ true
-plain_word [] h = refl
-plain_word (b ∷ w) h = let p = and_parts (is_graphic b) (list_all is_graphic w) h in rw (plain_byte b p.0, plain_word w p.1) refl
+plain_word w h = all_weaker is_graphic is_plain w (λ b h. grind (arith, nat_tests)) h
 
 -- digits are graphic
-graphic_digit : (b : ℕ) → is_digit b ≡ true → is_graphic b ≡ true
-graphic_digit b h =
-    let p = and_parts (leb 48 b) (leb b 57) h in
-    let low = leb-true 48 b p.0 in
-    let high = leb-true b 57 p.1 in
-    rw (le-leb 33 b (omega arith), le-leb b 126 (omega arith)) refl
-
 pub graphic_digits : (w : List ℕ) → list_all is_digit w ≡ true → list_all is_graphic w ≡ true
-graphic_digits [] h = refl
-graphic_digits (b ∷ w) h = let p = and_parts (is_digit b) (list_all is_digit w) h in rw (graphic_digit b p.0, graphic_digits w p.1) refl
+graphic_digits w h = all_weaker is_digit is_graphic w (λ b h. grind (arith, nat_tests)) h
 
 pub graphic_number : (w : List ℕ) → (0 < length w) × (list_all is_digit w ≡ true) → is_graphic_word w ≡ true
 graphic_number w is = rw (lt-ltb 0 (length w) is.0, graphic_digits w is.1) refl
@@ -53,26 +38,11 @@ graphic_behind b w one all = rw (lt-ltb 0 (length (b ∷ w)) (omega arith), one,
 
 -- plain bytes are one line
 pub plain_one : (w : List ℕ) → list_all is_plain w ≡ true → is_one_line w ≡ true
-plain_one [] h = refl
-plain_one (b ∷ w) h =
-    let p = and_parts (is_plain b) (list_all is_plain w) h in
-    let other : b ≢ 10 = λ e. false≢true (rw e at p.0) in
-    rw (ne_eqb b 10 other, plain_one w p.1) refl
-
-pub graphic_one : (w : List ℕ) → list_all is_graphic w ≡ true → is_one_line w ≡ true
-graphic_one w h = plain_one w (plain_word w h)
+plain_one w h = all_weaker is_plain (λ b. not (eqb b 10)) w (λ b h. grind (arith, nat_tests)) h
 
 -- blanks are plain
-blank_plain : (b : ℕ) → is_blank b ≡ true → is_plain b ≡ true
-blank_plain b h =
-    (elim (eqb b 9) as (λ t. (t || eqb b 32) ≡ true → (t || (leb 32 b && leb b 126)) ≡ true) [
-      | true ↦ λ _. refl
-      | false ↦ λ space. rw (eqb-true b 32 space) refl
-    ]) h
-
 pub plain_blanks : (bs : List ℕ) → list_all is_blank bs ≡ true → list_all is_plain bs ≡ true
-plain_blanks [] h = refl
-plain_blanks (b ∷ bs) h = let p = and_parts (is_blank b) (list_all is_blank bs) h in rw (blank_plain b p.0, plain_blanks bs p.1) refl
+plain_blanks bs h = all_weaker is_blank is_plain bs (λ b h. grind (arith, nat_tests)) h
 
 -- blanks before a text change no word
 words_of-blanks : (bs text : List ℕ) → list_all is_blank bs ≡ true → words_of (bs ++ text) ≡ words_of text

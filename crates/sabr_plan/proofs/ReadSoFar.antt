@@ -1,5 +1,5 @@
 -- What reading leaves, call by call.
-use Rattle.std.proofs.Common.{◌≡◌, ℕ, Bool, true, List, [], ◌++◌, ◌⊎◌, inl, inr, sym, ap, ◌∙◌, append_assoc, Result, Err}
+use Rattle.std.proofs.Common.{◌≡◌, ℕ, ◌+◌, Bool, true, List, [], ◌++◌, ◌⊎◌, inl, inr, sym, ap, ◌∙◌, append_assoc, Result, Ok, Err, IfErr}
 use Rattle.std.specs.Io.KnownBytes.{Consumes, IsAtEnd}
 use Rattle.sabr_model.specs.Devices.{Input}
 use Rattle.sabr_model.specs.plan.Plan.{TabledPlan}
@@ -10,6 +10,7 @@ use Rattle.sabr_plan.specs.Feeding.{Fed, nothing_fed, outcome, Answers}
 use Rattle.sabr_plan.specs.PlanRead.{ReadsPlan}
 use Rattle.sabr_plan.proofs.Consumed.{Consumes-append, Consumes-nil}
 use Rattle.sabr_plan.proofs.Outcomes.{plan_of-outcome}
+use Rattle.sabr_plan.proofs.SpelledPlans.{ended_not_read}
 
 -- these bytes were read, and whatever follows them, the text comes to the same
 pub record HasRead (old new : Input) (feed : Fed) : Type 0 where
@@ -52,3 +53,15 @@ piece_refused old mid new feed piece f was consumed fine refused = record {
   consumed = Consumes-append old.remaining mid.remaining new.remaining was.given piece was.consumed consumed;
   told = inr (inr (fine, refused_so old mid feed piece f was refused));
 }
+
+-- `Read` comes only if the reader failed
+pub read_failed : (old : Input) (answer : Result TabledPlan PlanFault) (new : Input) → ReadsPlan old answer new → IfErr answer (λ f. f.kind ≡ kind.Read → new.failures ≡ old.failures + 1)
+read_failed old (Ok p) new reads = tt
+read_failed old (Err f) new reads = λ e.
+    elim reads.told [
+      | inl (end, fine, inl memory) ↦ absurd cc
+      | inl (end, fine, inr refused) ↦ absurd (ended_not_read reads.given f refused e)
+      | inr (inl (failed, so, broken)) ↦ failed
+      | inr (inr (fine, inl memory)) ↦ absurd cc
+      | inr (inr (fine, inr refused)) ↦ absurd (ended_not_read (reads.given ++ []) f (refused [] true) e)
+    ]

@@ -1,9 +1,9 @@
 -- Seconds, their calendar and clock fields, and their text.
-use Rattle.std.proofs.Common.{◌≡◌, ℕ, ◌+◌, ◌*◌, ◌/◌, ◌%◌, ◌≤◌, Bool, true, false, ◌&&◌, leb, List, refl, sym, ap, ◌∙◌, subst, arith, pos, unsigned_abs, Option, Some, None, IfSome, cond}
-use Rattle.std.proofs.lemmas.Bool.{and_parts}
+use Rattle.std.proofs.Common.{◌≡◌, ℕ, ◌+◌, ◌*◌, ◌/◌, ◌%◌, ◌≤◌, true, List, refl, sym, ap, ◌∙◌, subst, arith, pos, unsigned_abs, Option, Some, None, IfSome}
+use Rattle.std.proofs.lemmas.Bool.Decides.{nat_tests}
 use Rattle.std.proofs.lemmas.Slice.Eq.{bytes_eq-Decides}
 use Rattle.std.specs.Str.{bytes_eq}
-use borrow.Author.Tests.{leb-true, le-leb}
+use borrow.Author.Tests.{le-leb}
 use Rattle.jiff_core.specs.Calendar.{days_from_civil}
 use Rattle.jiff_core.proofs.SignedLemmas.{signed_arith}
 use Rattle.jiff_core.proofs.CalendarLemmas.{days_in_month_bounds}
@@ -121,14 +121,8 @@ pub time_of_tells : (word : List ℕ) (t : ℕ) → time_of word ≡ Some t → 
 unfolding time_of
 time_of_tells word t e =
     let u = second_named word in
-    let both : Bool = leb u last_time && bytes_eq word (time_text_of u) in
-    (elim both as (λ b. both ≡ b → cond b (Some u) None ≡ Some t → (word ≡ time_text_of t) × (t ≤ last_time)) [
-      | true ↦ λ is found.
-          let same : u ≡ t = cc in
-          let parts = and_parts (leb u last_time) (bytes_eq word (time_text_of u)) is in
-          (rw same at ((bytes_eq-Decides word (time_text_of u)).0 parts.1), rw same at (leb-true u last_time parts.0))
-      | false ↦ λ is found. cc
-    ]) refl e
+    let found : (bytes_eq word (time_text_of u) ≡ true) × (u ≡ t) × (u ≤ last_time) = grind (arith, nat_tests) in
+    (rw found.1 at ((bytes_eq-Decides word (time_text_of u)).0 found.0), rw found.1 at found.2)
 
 -- a result that is exactly the time of a text is the time of the word
 pub time_of_is : (word : List ℕ) (r : Option ℕ) → IfSome r (λ t. (word ≡ time_text_of t) × (t ≤ last_time)) → ((t : ℕ) → t ≤ last_time → word ≡ time_text_of t → r ≡ Some t) → r ≡ time_of word

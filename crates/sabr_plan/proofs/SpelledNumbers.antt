@@ -1,27 +1,21 @@
 -- Texts that spell numbers.
-use Rattle.std.proofs.Common.{◌≡◌, ℕ, ◌^◌, ◌<◌, ◌≤◌, Bool, true, false, cond, ◌&&◌, leb, List, refl, sym, ◌∙◌, ap, decimal, arith, lit<, ◌⊎◌, inl, inr}
+use Rattle.std.proofs.Common.{◌≡◌, ℕ, ◌^◌, ◌<◌, ◌≤◌, true, false, cond, not, ◌&&◌, leb, List, refl, sym, ◌∙◌, ap, decimal, arith, lit<}
 use Rattle.std.specs.Str.{bytes_eq}
 use Rattle.std.specs.Str.Parse.{digits_value}
 use Rattle.std.proofs.lemmas.Fmt.{decimal_is_IsNumeral_wide}
 use Rattle.std.proofs.lemmas.Slice.Eq.{bytes_eq-Decides}
-use Rattle.std.proofs.lemmas.Bool.{leb-true, le-leb, ltb-true}
+use Rattle.std.proofs.lemmas.Bool.{le-leb}
 use Rattle.std.proofs.lemmas.Bool.Decides.{nat_tests}
 use Rattle.std.specs.declared.option.Option.TheVariants.{Some, None}
 use Rattle.std.specs.List.{list_all}
-use Rattle.std.specs.Prelude.{nat_lt, nat_le}
-use Rattle.std.proofs.Common.{zero, suc, length, fold, ◌*◌, ◌+◌, ◌-◌, get_or}
-use Rattle.std.proofs.lemmas.Bool.{and_parts}
+use Rattle.std.proofs.Common.{zero, suc, length, get_or}
 use Rattle.std.proofs.lemmas.Fmt.{decimal_is_IsNumeral, decimal-digits_value, digits_decimal, digits_value-decimal, decimal_digit, first_decimal}
-use Rattle.std.proofs.lemmas.Str.Parse.{IsDigitsTest, FoldsDigits, IsNumeralModel, numerals_by_fold}
 use Rattle.sabr_plan.specs.Digits.{is_digit, are_digits, leads_with_zero}
 use Rattle.sabr_plan.specs.Digits as own
 use Rattle.sabr_plan.specs.Numbers.{number_within}
-use Rattle.sabr_plan.proofs.Digits.{small_value, small_value_some}
+use Rattle.sabr_plan.proofs.Digits.{numerals, small_value, small_value_some}
 
--- numbers below 2^64 have few digits
-pub short64 : (n : ℕ) → n < 18446744073709551616 → n < 10 ^ 64
-short64 n h = let top : 18446744073709551616 < 10 ^ 64 = lit< tt in omega arith
-
+-- a number below 2^128 has few digits
 pub short128 : (n : ℕ) → n < 340282366920938463463374607431768211456 → n < 10 ^ 64
 short128 n h = let top : 340282366920938463463374607431768211456 < 10 ^ 64 = lit< tt in omega arith
 
@@ -32,88 +26,23 @@ worth text n h e = ap (digits_value 10) e ∙ (decimal_is_IsNumeral_wide n h).1
 pub same_text : (xs ys : List ℕ) → xs ≡ ys → bytes_eq xs ys ≡ true
 same_text xs ys e = (bytes_eq-Decides xs ys).1 e
 
-chosen : (low high n : ℕ) (b : Bool) → b ≡ true → cond (b && leb low n && leb n high) (Some n) None ≡ cond (leb low n && leb n high) (Some n) None
-chosen low high n true e = refl
-chosen low high n false e = absurd cc
-
-pub number_within-spelled : (low high : ℕ) (text : List ℕ) (n : ℕ) → n < 10 ^ 64 → text ≡ decimal n
-    → number_within low high text ≡ cond (leb low n && leb n high) (Some n) None
-unfolding number_within
-number_within-spelled low high text n h e =
-    let w = worth text n h e in
-    let same : text ≡ decimal (digits_value 10 text) = e ∙ ap decimal (sym w) in
-    chosen low high (digits_value 10 text) (bytes_eq text (decimal (digits_value 10 text))) (same_text _ _ same)
-    ∙ ap (λ m. cond (leb low m && leb m high) (Some m) None) w
-
-refused : (low high n : ℕ) (b : Bool) → (b ≡ true → n ≤ high → ⊥) → cond (b && leb low n && leb n high) (Some n) None ≡ None
-refused low high n false none = refl
-refused low high n true none = elim (leb low n) as (λ c. cond (c && leb n high) (Some n) None ≡ None) [
-  | false ↦ refl
-  | true ↦ within (leb n high) refl
-]
-  where
-    within : (c : Bool) → leb n high ≡ c → cond c (Some n) None ≡ None
-    within false e = refl
-    within true e = absurd (none refl (leb-true n high e))
-
 pub number_within-unspelled : (top low high : ℕ) (text : List ℕ) → high < top → ((n : ℕ) → n < top → text ≡ decimal n → ⊥)
     → number_within low high text ≡ None
 unfolding number_within
 number_within-unspelled top low high text h none =
-    refused low high (digits_value 10 text) (bytes_eq text (decimal (digits_value 10 text)))
-    (λ same le. none (digits_value 10 text) (omega arith) (is_text text (decimal (digits_value 10 text)) same))
-  where
-    is_text : (xs ys : List ℕ) → bytes_eq xs ys ≡ true → xs ≡ ys
-    is_text xs ys e = (bytes_eq-Decides xs ys).0 e
+    let n = digits_value 10 text in
+    let spells : bytes_eq text (decimal n) ≡ true → n < top → ⊥ = λ same small. none n small ((bytes_eq-Decides text (decimal n)).0 same) in
+    grind (arith, nat_tests)
 
 pub number_within-spelled_within : (low high : ℕ) (text : List ℕ) (n : ℕ) → n < 10 ^ 64 → text ≡ decimal n → low ≤ n → n ≤ high
     → number_within low high text ≡ Some n
-number_within-spelled_within low high text n h e a b =
-    number_within-spelled low high text n h e ∙ ap (λ (t : Bool). cond (t && leb n high) (Some n) None) (le-leb low n a)
-    ∙ ap (λ (t : Bool). cond t (Some n) None) (le-leb n high b)
-
-below : (a b : ℕ) → b < a → leb a b ≡ false
-below a b h = grind (arith, nat_tests)
-
-cut : (n : ℕ) (b c : Bool) → (b ≡ false) ⊎ (c ≡ false) → cond (b && c) (Some n) None ≡ None
-cut n false c h = refl
-cut n true false h = refl
-cut n true true h = absurd (elim h [ inl e ↦ cc | inr e ↦ cc ])
-
-pub number_within-spelled_without : (low high : ℕ) (text : List ℕ) (n : ℕ) → n < 10 ^ 64 → text ≡ decimal n → (n < low) ⊎ (high < n)
-    → number_within low high text ≡ None
-number_within-spelled_without low high text n h e out =
-    number_within-spelled low high text n h e
-    ∙ cut n (leb low n) (leb n high) (elim out [ inl a ↦ inl (below low n a) | inr b ↦ inr (below n high b) ])
+unfolding number_within
+number_within-spelled_within low high text n h e a b = rw (worth text n h e, same_text text (decimal n) e, le-leb low n a, le-leb n high b) refl
 
 -- a number that was found is within the bounds
 pub number_within-range : (low high : ℕ) (text : List ℕ) (n : ℕ) → number_within low high text ≡ Some n → (low ≤ n) × (n ≤ high)
 unfolding number_within
-number_within-range low high text n e = ranged (bytes_eq text (decimal m)) (leb low m) refl (leb m high) refl e
-  where
-    m : ℕ
-    m = digits_value 10 text
-
-    ranged : (a b : Bool) → leb low m ≡ b → (d : Bool) → leb m high ≡ d → cond (a && b && d) (Some m) None ≡ Some n → (low ≤ n) × (n ≤ high)
-    ranged false b eb d ed e = absurd cc
-    ranged true false eb d ed e = absurd cc
-    ranged true true eb false ed e = absurd cc
-    ranged true true eb true ed e = let is : m ≡ n = cc in (rw is at (leb-true low m eb), rw is at (leb-true m high ed))
-
--- digits as this crate tests and folds them are those of std
-tells_digits : IsDigitsTest (λ ds. list_all is_digit ds ≡ true)
-tells_digits = record {
-  empty = refl;
-  parts = λ c cs e. let k = and_parts (is_digit c) (list_all is_digit cs) e in let m = and_parts (nat_le 48 c) (nat_le c 57) k.0 in ((leb-true 48 c m.0, leb-true c 57 m.1), k.1);
-  more = λ c cs k e. rw (le-leb 48 c k.0, le-leb c 57 k.1, e) refl;
-}
-
-folds_digits : FoldsDigits (λ n ds. fold (λ n b. n * 10 + (b - 48)) n ds)
-folds_digits = record { empty = λ n. refl; more = λ n c cs k. refl }
-
-pub numerals : IsNumeralModel (λ ds. list_all is_digit ds ≡ true) own.digits_value
-unfolding own.digits_value
-numerals = numerals_by_fold (λ ds. list_all is_digit ds ≡ true) tells_digits (λ n ds. fold (λ n b. n * 10 + (b - 48)) n ds) folds_digits
+number_within-range low high text n e = grind (arith, nat_tests)
 
 -- the spelling of a number is digits that stand for it
 small_decimal : (n : ℕ) → n < 18446744073709551616 → small_value (decimal n) ≡ Some n
@@ -130,16 +59,7 @@ decimal_leads (suc n) h =
 
 -- digits that stand for less than 2^64
 small_parts : (text : List ℕ) (v : ℕ) → small_value text ≡ Some v → (0 < length text) × (list_all is_digit text ≡ true) × (own.digits_value text ≡ v) × (v < 18446744073709551616)
-small_parts text v e = parts (are_digits text) refl (nat_lt (own.digits_value text) 18446744073709551616) refl e
-  where
-    parts : (a : Bool) → are_digits text ≡ a → (b : Bool) → nat_lt (own.digits_value text) 18446744073709551616 ≡ b → cond (a && b) (Some (own.digits_value text)) None ≡ Some v
-        → (0 < length text) × (list_all is_digit text ≡ true) × (own.digits_value text ≡ v) × (v < 18446744073709551616)
-    parts false ea b eb found = absurd cc
-    parts true ea false eb found = absurd cc
-    parts true ea true eb found =
-        let same : own.digits_value text ≡ v = cc in
-        let k = and_parts (nat_lt 0 (length text)) (list_all is_digit text) ea in
-        (ltb-true 0 (length text) k.0, k.1, same, rw same at (ltb-true (own.digits_value text) 18446744073709551616 eb))
+small_parts text v e = grind (arith, nat_tests)
 
 -- without a leading zero they are the spelling of what they stand for
 digits_spell : (text : List ℕ) (v : ℕ) → small_value text ≡ Some v → leads_with_zero text ≡ false → text ≡ decimal v
@@ -155,17 +75,18 @@ module _ (low high : ℕ) (text : List ℕ) (h : high < 18446744073709551616) wh
       number_within-unspelled 18446744073709551616 low high text h
       (λ n small is. let found : small_value text ≡ Some n = ap small_value is ∙ small_decimal n small in absurd cc)
 
-  pub within_zero : leads_with_zero text ≡ true → number_within low high text ≡ None
-  within_zero e =
-      number_within-unspelled 18446744073709551616 low high text h
-      (λ n small is. let none : leads_with_zero text ≡ false = ap leads_with_zero is ∙ decimal_leads n small in absurd cc)
+  module _ (v : ℕ) (e : small_value text ≡ Some v) where
+    pub within : number_within low high text ≡ cond (not (leads_with_zero text) && leb low v && leb v high) (Some v) None
+    unfolding number_within
+    within =
+        (elim (leads_with_zero text) as (λ b. leads_with_zero text ≡ b → number_within low high text ≡ cond (not b && leb low v && leb v high) (Some v) None) [
+          | true ↦ λ zero. number_within-unspelled 18446744073709551616 low high text h
+              (λ n small is. let none : leads_with_zero text ≡ false = ap leads_with_zero is ∙ decimal_leads n small in absurd cc)
+          | false ↦ λ plain.
+              let spells = digits_spell text v e plain in
+              let short = let p = small_parts text v e in short128 v (omega arith) in
+              rw (worth text v short spells, same_text text (decimal v) spells) refl
+        ]) refl
 
-  module _ (v : ℕ) (e : small_value text ≡ Some v) (plain : leads_with_zero text ≡ false) where
-    short : v < 10 ^ 64
-    short = short64 v (small_parts text v e).3
-
-    pub within_yes : low ≤ v → v ≤ high → number_within low high text ≡ Some v
-    within_yes a b = number_within-spelled_within low high text v short (digits_spell text v e plain) a b
-
-    pub within_out : (v < low) ⊎ (high < v) → number_within low high text ≡ None
-    within_out out = number_within-spelled_without low high text v short (digits_spell text v e plain) out
+    pub within_yes : leads_with_zero text ≡ false → low ≤ v → v ≤ high → number_within low high text ≡ Some v
+    within_yes plain a b = within ∙ rw (plain, le-leb low v a, le-leb v high b) refl

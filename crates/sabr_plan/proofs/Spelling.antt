@@ -1,8 +1,9 @@
 -- The spelling of calendar and clock in 19 bytes, and the fields of a text of that shape.
-use Rattle.std.proofs.Common.{◌≡◌, ℕ, ◌+◌, ◌-◌, ◌*◌, ◌/◌, ◌%◌, ◌<◌, ◌≤◌, true, ◌&&◌, leb, List, length, get_or, refl, arith}
+use Rattle.std.proofs.Common.{◌≡◌, ℕ, ◌+◌, ◌-◌, ◌*◌, ◌/◌, ◌%◌, ◌<◌, true, ◌&&◌, List, length, get_or, refl, arith}
 use Rattle.std.proofs.lemmas.Bool.{and_parts}
+use Rattle.std.proofs.lemmas.Bool.Decides.{nat_tests}
 use Rattle.std.proofs.lemmas.Slice.Eq.{text_from_reads}
-use borrow.Author.Tests.{eqb-true, leb-true, le-leb}
+use borrow.Author.Tests.{eqb-true}
 use Rattle.sabr_plan.specs.declared.time.TimeFields.{TimeFields}
 use Rattle.sabr_plan.specs.Digits.{is_digit}
 use Rattle.sabr_plan.specs.Times.{pair_at, spelled}
@@ -10,15 +11,7 @@ use Rattle.sabr_plan.specs.TimeShape.{is_pair, has_shape, fields_at, HasWidth}
 
 -- the bytes of two digits, by the number that they stand for
 pub pair_bytes : (word : List ℕ) (i : ℕ) → is_pair word i ≡ true → (get_or word i 0 ≡ 48 + pair_at word i / 10) × (get_or word (i + 1) 0 ≡ 48 + pair_at word i % 10) × (pair_at word i < 100)
-pair_bytes word i h =
-    let both = and_parts (is_digit (get_or word i 0)) (is_digit (get_or word (i + 1) 0)) h in
-    let first = and_parts (leb 48 (get_or word i 0)) (leb (get_or word i 0) 57) both.0 in
-    let second = and_parts (leb 48 (get_or word (i + 1) 0)) (leb (get_or word (i + 1) 0) 57) both.1 in
-    let a = leb-true _ _ first.0 in
-    let b = leb-true _ _ first.1 in
-    let c = leb-true _ _ second.0 in
-    let d = leb-true _ _ second.1 in
-    (omega arith, omega arith, omega arith)
+pair_bytes word i h = grind (arith, nat_tests)
 
 -- the parts of the shape
 pub record HasParts (word : List ℕ) : Type 0 where
@@ -83,12 +76,7 @@ fields_at_spelled word h =
     (rw high c.0, (rw high c.1, (rw low y.0, (rw low y.1, (p.first, (m.0, (m.1, (p.second, (d.0, (d.1, (p.third, (hour.0, (hour.1, (p.fourth, (minute.0, (minute.1, (p.fifth, (s.0, (s.1, tt)))))))))))))))))))
 
 two_is_pair : (n : ℕ) → n < 100 → (is_digit (48 + n / 10) && is_digit (48 + n % 10)) ≡ true
-two_is_pair n h =
-    let a : 48 + n / 10 ≤ 57 = omega arith in
-    let b : 48 + n % 10 ≤ 57 = omega arith in
-    let c : 48 ≤ 48 + n / 10 = omega arith in
-    let d : 48 ≤ 48 + n % 10 = omega arith in
-    rw (le-leb _ _ a, le-leb _ _ b, le-leb _ _ c, le-leb _ _ d) refl
+two_is_pair n h = grind (arith, nat_tests)
 
 -- a spelling has the shape
 pub spelled_has_shape : (f : TimeFields) → HasWidth f → has_shape (spelled f) ≡ true

@@ -1,5 +1,5 @@
 -- Numbers as decimal digits.
-use Rattle.std.specs.Prelude.{◌≡◌, ℕ, ◌+◌, ◌-◌, ◌*◌, ◌<◌, ◌≤◌, ◌==◌, nat_lt, nat_le, ◌&&◌, Bool, IsTrue, List, length, slice_index, fold}
+use Rattle.std.specs.Prelude.{◌≡◌, ℕ, ◌+◌, ◌-◌, ◌*◌, ◌≤◌, ◌==◌, nat_lt, nat_le, ◌&&◌, Bool, IsTrue, List, length, slice_index, fold}
 use Rattle.std.specs.List.{list_all}
 
 -- whether a byte is a digit
@@ -14,9 +14,8 @@ are_digits word = nat_lt 0 (length word) && list_all is_digit word
 unfoldable pub digits_value : List ℕ → ℕ
 digits_value word = fold (λ n b. n * 10 + (b - 48)) 0 word
 
--- from one to nineteen digits, which stand for this number
+-- at most nineteen digits, which stand for this number
 pub record SpellsNumber (word : List ℕ) (value : ℕ) : Type 0 where
-  pub some : 0 < length word
   pub few : length word ≤ 19
   pub digits : IsTrue (list_all is_digit word)
   pub stands : value ≡ digits_value word

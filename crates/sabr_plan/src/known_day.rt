@@ -41,6 +41,7 @@ fn clock_of(text: &[u8]) -> Option<u64>
 
 impl KnownDay {
     /// Knows the first day that a time may have.
+    #[tactic(auto, unfolding(crate::specs::Times::day_after_epoch))]
     pub fn new() -> KnownDay {
         KnownDay {
             date: *b"1970/01/01",
@@ -55,24 +56,17 @@ impl KnownDay {
         ensures { IfSome result (λ t. (text.now ≡ time_text_of t) × (t ≤ last_time)) }
     {
         let (date, clock) = text.split_at(10);
-        if !self.has_date(date) {
+        if date != self.date.as_slice() {
             return self.meet(text);
         }
         let second = clock_of(clock)?;
         Some(self.begin + second)
     }
 
-    /// Returns true only if the day has this date.
-    #[inline(always)]
-    fn has_date(&self, date: &[u8]) -> bool
-        ensures { IsTrue result → date.now ≡ self.now.date }
-    {
-        date == self.date.as_slice()
-    }
-
     /// Returns the second of a text with another date, and knows that date from then on.
     #[cold]
     #[inline(never)]
+    #[tactic(auto, using(crate::proofs::KnownDays::date_of))]
     fn meet(&mut self, text: &[u8]) -> Option<u64>
         requires { length text.now ≡ 19 }
         ensures { IfSome result (λ t. (text.now ≡ time_text_of t) × (t ≤ last_time)) }

@@ -46,34 +46,34 @@ pub fn number_within(text: &[u8], low: u64, high: u64) -> Option<u64>
     ensures range { IfSome result (λ n. (low ≤ n) × (n ≤ high)) }
 {
     let value = digits_value(text)?;
-    if !leads_with_zero(text) && low <= value && value <= high {
-        Some(value)
-    } else {
-        None
-    }
-}
-
-/// Returns the number that the digits at the front of a text stand for, those digits, from 1 to 19, and the text after
-/// them. None says nothing.
-#[inline(always)]
-pub fn leading_digits(text: &[u8]) -> Option<(u64, &[u8], &[u8])>
-    ensures parts { IfSome result (λ r. text.now ≡ r.1.now ++ r.2.now) }
-    ensures digits { IfSome result (λ r. SpellsNumber r.1.now r.0) }
-{
-    let (count, value) = count_digits(text);
-    if count == 0 {
+    if leads_with_zero(text) || value < low || value > high {
         return None;
     }
-    let (digits, rest) = text.split_at(count);
-    Some((value, digits, rest))
+    Some(value)
 }
 
-/// Returns false only if digits for a number from `low` on have no leading zero. It is true for `0` if that is too low.
-fn starts_with_zero(word: &[u8], low: u64) -> bool
-    requires { 0 < length word.now }
-    ensures { IsFalse result → leads_with_zero word.now ≡ false }
+/// Returns the number that the digits at the front of a text stand for, those digits, and the text after them. It takes
+/// no digits if there are more than 19.
+#[inline(always)]
+pub fn leading_digits(text: &[u8]) -> (u64, &[u8], &[u8])
+    ensures parts { text.now ≡ result.1.now ++ result.2.now }
+    ensures digits { SpellsNumber result.1.now result.0 }
 {
-    word[0] == b'0' && (low > 0 || word.len() > 1)
+    let (count, value) = count_digits(text);
+    let (digits, rest) = text.split_at(count);
+    (value, digits, rest)
+}
+
+/// Returns false only if a word, whose digits stand for this value, has a digit and no leading zero.
+fn starts_amiss(word: &[u8], value: u64) -> bool
+    requires { 0 < value → 0 < length word.now }
+    ensures { IsFalse result → (0 < length word.now) × (leads_with_zero word.now ≡ false) }
+{
+    if value > 0 {
+        word[0] == b'0'
+    } else {
+        word.len() != 1
+    }
 }
 
 /// Returns the number from `low` to `high` that the digits at the front of a text spell, those digits, and the text
@@ -85,8 +85,8 @@ pub fn leading_number(text: &[u8], low: u64, high: u64) -> Option<(u64, &[u8], &
     ensures value { IfSome result (λ r. number_within low high r.1.now ≡ Some r.0) }
     ensures range { IfSome result (λ r. (low ≤ r.0) × (r.0 ≤ high)) }
 {
-    let (value, word, rest) = leading_digits(text)?;
-    if starts_with_zero(word, low) || value < low || value > high {
+    let (value, word, rest) = leading_digits(text);
+    if value < low || value > high || starts_amiss(word, value) {
         return None;
     }
     Some((value, word, rest))

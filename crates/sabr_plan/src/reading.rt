@@ -1,6 +1,6 @@
 //! The plan that the lines of a text make, one after another.
 
-ghost use Rattle.std.specs.Prelude.{◌≡◌, None, [], Ok, IfOk, IfSome, IsFalse};
+ghost use Rattle.std.specs.Prelude.{◌≡◌, None, [], Ok, Err, IsOk, IfOk, MatchResult, IfSome, IsFalse};
 ghost use Rattle.sabr_plan.specs.Commands.{line_command, HasBounds};
 ghost use Rattle.sabr_plan.specs.Leaving.{Leaves};
 ghost use Rattle.sabr_plan.specs.PlainWords.{BeginsWithLine};
@@ -41,6 +41,17 @@ impl<A: Allocator + Copy> Model for PlanReading<A> {
     ghost Value = { Reading };
 
     ghost view = { λ r. record { plan = record { contacts = r.contacts.contacts; ranges = r.ranges; greatest = r.contacts.greatest }; reference = r.reference } };
+}
+
+/// Returns the answer to a change of the plan as that to a line.
+#[inline(always)]
+fn answered<X: Copy>(answer: Result<X, AddFault>) -> Result<(), PlanKind>
+    ensures { MatchResult answer (λ _. IsOk result) (λ f. result ≡ Err (kind_of f)) }
+{
+    match answer {
+        Ok(_) => Ok(()),
+        Err(fault) => Err(kind_of(fault)),
+    }
 }
 
 /// Returns a refusal of the plan as the fault of a line.
@@ -104,7 +115,7 @@ impl<A: Allocator + Copy> PlanReading<A> {
     /// Reads a line without its LF, and does what it says.
     #[cold]
     #[inline(never)]
-    #[tactic(auto, unfolding(crate::specs::Reading::judged))]
+    #[tactic(auto, using(crate::proofs::SpelledPlans::line_bounds), unfolding(crate::specs::Reading::judged))]
     pub fn judge(&mut self, line: &[u8]) -> Result<(), PlanKind>
         ensures { Leaves (judged self.old line.now) result self.new }
     {
@@ -114,7 +125,7 @@ impl<A: Allocator + Copy> PlanReading<A> {
 
     /// Does what a line says, whose command is known.
     #[inline(always)]
-    #[tactic(auto, unfolding(crate::specs::Reading::judged))]
+    #[tactic(auto, using(crate::proofs::SpelledPlans::line_bounds), unfolding(crate::specs::Reading::judged))]
     pub fn judge_known(&mut self, line: &[u8], command: Command) -> Result<(), PlanKind>
         requires { line_command self.old.reference line.now ≡ Ok command }
         ensures { Leaves (judged self.old line.now) result self.new }
@@ -147,13 +158,10 @@ impl<A: Allocator + Copy> PlanReading<A> {
         requires { HasBounds (Add target.Contact a) }
         ensures { Leaves (obeyed self.old (Add target.Contact a)) result self.new }
     {
-        match self
-            .contacts
-            .add(a.first, a.second, a.start, a.end, a.value)
-        {
-            Ok(_) => Ok(()),
-            Err(fault) => Err(kind_of(fault)),
-        }
+        answered(
+            self.contacts
+                .add(a.first, a.second, a.start, a.end, a.value),
+        )
     }
 
     #[inline(never)]
@@ -162,27 +170,18 @@ impl<A: Allocator + Copy> PlanReading<A> {
         ensures { Leaves (obeyed self.old (Add target.Range a)) result self.new }
     {
         let light = a.value as u32;
-        match self.ranges.add(a.first, a.second, a.start, a.end, light) {
-            Ok(()) => Ok(()),
-            Err(fault) => Err(kind_of(fault)),
-        }
+        answered(self.ranges.add(a.first, a.second, a.start, a.end, light))
     }
 
     fn delete_contact(&mut self, d: Deletion) -> Result<(), PlanKind>
         ensures { Leaves (obeyed self.old (Delete target.Contact d)) result self.new }
     {
-        match self.contacts.delete(d.first, d.second, d.start) {
-            Ok(_) => Ok(()),
-            Err(fault) => Err(kind_of(fault)),
-        }
+        answered(self.contacts.delete(d.first, d.second, d.start))
     }
 
     fn delete_range(&mut self, d: Deletion) -> Result<(), PlanKind>
         ensures { Leaves (obeyed self.old (Delete target.Range d)) result self.new }
     {
-        match self.ranges.delete(d.first, d.second, d.start) {
-            Ok(()) => Ok(()),
-            Err(fault) => Err(kind_of(fault)),
-        }
+        answered(self.ranges.delete(d.first, d.second, d.start))
     }
 }

@@ -96,6 +96,7 @@ fn after_blank(text: &[u8]) -> Option<&[u8]>
 
 /// Returns what comes after the blanks at the front of a text, if there is one.
 #[inline(always)]
+#[tactic(auto, using(crate::proofs::PlainWords::more_blanks))]
 fn after_gap(text: &[u8]) -> Option<&[u8]>
     requires { IsFalse (is_one_line text.now) }
     ensures gap { IfSome result (λ r. IsAfterGap text.now r.now) }
@@ -121,8 +122,8 @@ fn relative_front(reference: Option<u64>, text: &[u8]) -> Option<(u64, &[u8])>
     requires { IsFalse (is_one_line text.now) }
     ensures { IfSome result (λ r. IsFront (λ w. time_at reference w ≡ Ok r.0) text.now r.1.now) }
 {
-    let (seconds, digits, rest) = leading_digits(behind(text, b'+')?)?;
-    if digits.len() > 12 {
+    let (seconds, digits, rest) = leading_digits(behind(text, b'+')?);
+    if digits.is_empty() || digits.len() > 12 {
         return None;
     }
     let Ok(time) = after_reference(reference, seconds) else {

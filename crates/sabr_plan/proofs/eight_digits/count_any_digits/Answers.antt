@@ -5,8 +5,7 @@ use Rattle.std.specs.Str.Parse as std
 use Rattle.std.specs.List.{list_all}
 use Rattle.core.proofs.dec2flt.Rows.{AllDigits-digits_len}
 use Rattle.sabr_plan.specs.Digits.{is_digit}
-use Rattle.sabr_plan.proofs.Digits.{few_digits}
-use Rattle.sabr_plan.proofs.SpelledNumbers.{numerals}
+use Rattle.sabr_plan.proofs.Digits.{few_digits, numerals}
 use Rattle.sabr_plan.proofs.eight_digits.count_any_digits.Goals as goal
 
 pub returns : goal.returns
@@ -22,5 +21,5 @@ returns c =
     let small = few_digits front all (omega (arith, long, c.if-count-gt19.false)) in
     record {
       range = r.within;
-      digits = λ some. record { some = omega (arith, long, some, r.within); few = omega (arith, long, c.if-count-gt19.false); digits = all; stands = omega (arith, r.value, same, small, numerals.same front told) };
+      digits = record { few = omega (arith, long, c.if-count-gt19.false); digits = all; stands = omega (arith, r.value, same, small, numerals.same front told) };
     }

@@ -1,11 +1,21 @@
 -- Digits at the front, few enough to be small, spell what they stand for.
-use Rattle.std.proofs.Common.{Some, sym, ap, ◌∙◌}
+use Rattle.std.proofs.Common.{◌≡◌, ℕ, ◌<◌, List, [], ◌∷◌, length, Some, sym, ap, ◌∙◌, arith}
+use Rattle.sabr_plan.specs.Digits.{digits_value}
 use Rattle.sabr_plan.proofs.Digits.{small_digits}
 use Rattle.sabr_plan.proofs.SpelledNumbers.{within_yes}
 use Rattle.sabr_plan.proofs.number.leading_number.Goals as goal
 
+some : (word : List ℕ) (value : ℕ) → value ≡ digits_value word → 0 < value → 0 < length word
+unfolding digits_value
+some [] value e h = absurd (omega arith)
+some (b ∷ word) value e h = omega arith
+
+pub starts_amiss-requires : goal.starts_amiss-requires
+starts_amiss-requires c = some _ _ c.leading_digits-value.ensures.digits.stands
+
 pub returns-clause-value : goal.returns-clause-value
 returns-clause-value c =
-    let h = c.in_ok-value.ensures.digits in
-    let word = c.in_ok-value.word.now in
-    within_yes c.args.low c.args.high word c.ranges.high.fits c.in_ok-value.value (small_digits word h.some h.digits h.few ∙ ap Some (sym h.stands)) (c.starts_with_zero.ensures c.if-starts_with_zero.false) c.if-value-low.false c.if-value-high.false
+    let h = c.leading_digits-value.ensures.digits in
+    let word = c.leading_digits-value.result.1.now in
+    let start = c.starts_amiss.ensures c.if-starts_amiss.false in
+    within_yes c.args.low c.args.high word c.ranges.high.fits c.leading_digits-value.result.0 (small_digits word start.0 h.digits h.few ∙ ap Some (sym h.stands)) start.1 c.if-value-low.false c.if-value-high.false

@@ -1,6 +1,7 @@
 -- Digits come after `+`.
-use Rattle.std.proofs.Common.{Option, Some, None, true, ℕ, List, ◌≡◌, ◌<◌, ◌≤◌, length, ◌∷◌, refl, sym, ap, ◌∙◌}
+use Rattle.std.proofs.Common.{Option, Some, None, true, ℕ, List, ◌≡◌, ◌<◌, ◌≤◌, length, ◌∷◌, refl, sym, ap, ◌∙◌, arith}
 use Rattle.std.specs.List.{list_all}
+use Rattle.std.proofs.lemmas.Bool.Decides.{nat_tests}
 use borrow.Author.Tests.{le-leb, lt-ltb}
 use Rattle.sabr_plan.specs.Digits.{is_digit, digits_value}
 use Rattle.sabr_plan.specs.Operands.{after_reference, absolute_time, relative_of, time_at}
@@ -16,11 +17,12 @@ module _ (digits : List ℕ) (some : 0 < length digits) (all : list_all is_digit
 
 pub returns : goal.returns
 returns c =
-    let d = c.in_ok-seconds.ensures in
-    let digits = c.in_ok-seconds.digits.now in
+    let d = c.leading_digits-seconds.ensures in
+    let digits = c.leading_digits-seconds.result.1.now in
+    let some : 0 < length digits = grind (arith, nat_tests) in
     record {
       word = 43 ∷ digits;
       parts = c.in_ok-behind.ensures.parts ∙ ap (λ s. 43 ∷ s) d.parts;
       graphic = graphic_behind 43 digits refl (graphic_digits digits d.digits.digits);
-      holds = relative digits d.digits.some d.digits.digits c.args.reference c.if-digits-gt12.false ∙ ap (after_reference c.args.reference) (sym d.digits.stands) ∙ sym c.after_reference.ensures ∙ c.in-Ok.is;
+      holds = relative digits some d.digits.digits c.args.reference c.if-digits-gt12.false ∙ ap (after_reference c.args.reference) (sym d.digits.stands) ∙ sym c.after_reference.ensures ∙ c.in-Ok.is;
     }

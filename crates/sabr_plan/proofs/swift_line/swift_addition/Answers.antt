@@ -10,8 +10,7 @@ use Rattle.sabr_plan.specs.declared.command.Command.TheVariants.{Add}
 use Rattle.sabr_plan.specs.declared.command.Target.{Target}
 use Rattle.sabr_plan.specs.declared.command.Target.TheVariants.{Contact, Range}
 use Rattle.sabr_plan.specs.declared.fault.PlanKind.TheVariants.{BadNode, BadNumber}
-use Rattle.sabr_plan.proofs.PlainWords.{plain_one, no_words, more_words, first_a, no_comment}
-use Rattle.sabr_plan.proofs.Names.{ended_name}
+use Rattle.sabr_plan.proofs.PlainWords.{plain_one, still_ended, ended_blanks, ended_ahead, no_words, more_words, first_a, no_comment}
 use Rattle.sabr_plan.proofs.swift_line.swift_addition.Goals as goal
 
 -- five words that are operands are an addition
@@ -24,7 +23,7 @@ said reference Contact line name operands a comment plain words named value = rw
 said reference Range line name operands a comment plain words named value = rw (comment, plain, words, named) value
 
 pub time_ahead-requires : goal.time_ahead-requires
-time_ahead-requires c = ended_name c.in_ok-target.ensures c.requires
+time_ahead-requires c = let adds = c.in_ok-target.ensures in ended_ahead adds.name (still_ended (97 ∷ []) adds.behind refl (ended_blanks adds.first c.requires))
 
 pub returns : goal.returns
 returns c =

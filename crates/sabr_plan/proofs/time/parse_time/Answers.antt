@@ -29,25 +29,14 @@ module _ (word : List ℕ) (r : Option ℕ) (some : IfSome r (λ t. (fields_of t
         | Some u ↦ λ s n. ap Some (fields_of_injective u t (omega (arith, s.1)) (omega arith) (s.0 ∙ fields))
       ] some none
 
-pub returns-then-not-has_shape-clause-all : goal.returns-then-not-has_shape-clause-all
-returns-then-not-has_shape-clause-all c t k e =
-    absurd (no_time c.args.text.now (sym c.has_shape.ensures ∙ c.if-not-has_shape.true) t k e)
+pub returns-then-not-has_shape : goal.returns-then-not-has_shape
+returns-then-not-has_shape c =
+    let none = no_time c.args.text.now (sym c.has_shape.ensures ∙ c.if-not-has_shape.true) in
+    record { some = tt; all = λ t k e. absurd (none t k e); value = time_of_is c.args.text.now None tt (λ t k e. absurd (none t k e)) }
 
-pub returns-then-not-has_shape-clause-value : goal.returns-then-not-has_shape-clause-value
-returns-then-not-has_shape-clause-value c =
-    time_of_is c.args.text.now None tt (λ t k e. absurd (no_time c.args.text.now (sym c.has_shape.ensures ∙ c.if-not-has_shape.true) t k e))
-
-shaped : (c : goal.After-second_of) → has_shape c.args.text.now ≡ true
-shaped c = sym c.has_shape.ensures ∙ c.if-not-has_shape.false
-
-pub returns-clause-some : goal.returns-clause-some
-returns-clause-some c = tells c.args.text.now c.second_of.result (rw c.fields_at.ensures.value at c.second_of.ensures.some) (shaped c)
-
-pub returns-clause-all : goal.returns-clause-all
-returns-clause-all c = finds c.args.text.now c.second_of.result (rw c.fields_at.ensures.value at c.second_of.ensures.some) (rw c.fields_at.ensures.value at c.second_of.ensures.none)
-
-pub returns-clause-value : goal.returns-clause-value
-returns-clause-value c =
-    time_of_is c.args.text.now c.second_of.result
-    (tells c.args.text.now c.second_of.result (rw c.fields_at.ensures.value at c.second_of.ensures.some) (shaped c))
-    (finds c.args.text.now c.second_of.result (rw c.fields_at.ensures.value at c.second_of.ensures.some) (rw c.fields_at.ensures.value at c.second_of.ensures.none))
+pub returns : goal.returns
+returns c =
+    let h = rw c.fields_at.ensures.value at c.second_of.ensures in
+    let some = tells c.args.text.now c.second_of.result h.some (sym c.has_shape.ensures ∙ c.if-not-has_shape.false) in
+    let all = finds c.args.text.now c.second_of.result h.some h.none in
+    record { some = some; all = all; value = time_of_is c.args.text.now c.second_of.result some all }

@@ -4,9 +4,8 @@ use Rattle.std.proofs.lemmas.Result.{on_ok_weaker}
 use Rattle.sabr_model.specs.plan.Plan.{ContactPlan}
 use Rattle.sabr_model.specs.plan.Adding.{number_of_opening, without_contact}
 use Rattle.sabr_plan.specs.Reading.{obeyed}
-use Rattle.sabr_plan.proofs.Leaving.{changed_ok, changed_err, contact_deleted}
+use Rattle.sabr_plan.proofs.Leaving.{changed_leaves, contact_deleted}
 use Rattle.sabr_plan.proofs.reading.PlanReading.delete_contact.Goals as goal
-use Rattle.sabr_plan.proofs.reading.PlanReading.delete_contact.Goals.{in-Ok, in-Err}
 
 pub returns : goal.returns
 unfolding obeyed
@@ -16,7 +15,4 @@ returns g c =
     let p = of q in
     let d = c.args.d in
     let is = contact_deleted (number_of_opening p d.first d.second d.start) c.delete.result (without_contact p d.first d.second d.start) (of c.delete.new.self) c.delete.ensures.value (on_ok_weaker c.delete.result (λ e. ap of e) c.delete.ensures.ok) in
-    elim c.match-delete.branch [
-      | in-Ok w ↦ rw (← c.self.view_is, w.result-is) (changed_ok _ c.self.inside.reference c.delete.result _ _ _ is w.in-Ok.is)
-      | in-Err w ↦ rw (← c.self.view_is, w.result-is, w.kind_of.ensures) (changed_err _ c.self.inside.reference c.delete.result _ _ _ is w.in-Err.is)
-    ]
+    rw (← c.self.view_is) (changed_leaves _ c.self.inside.reference c.delete.result _ _ c.answered.result is c.answered.ensures)

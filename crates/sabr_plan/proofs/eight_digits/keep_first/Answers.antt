@@ -1,6 +1,0 @@
--- std's lemma of these shifts.
-use Rattle.core.proofs.dec2flt.Eight.{bytes_up}
-use Rattle.sabr_plan.proofs.eight_digits.keep_first.Goals as goal
-
-pub returns : goal.returns
-returns c = bytes_up c.args.word c.args.count c.requires
