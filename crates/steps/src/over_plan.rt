@@ -49,7 +49,7 @@ fn step<A: Allocator + Copy, B: Fresh<A>>(
         "verify" => held.verify(desk),
         "plain" => held.plain(desk, words),
         "fits" | "best" | "looks" | "follow" => part_step(held.plan(), finder, desk, name, words),
-        "page" | "back" | "certify" | "place" | "parts" | "write" | "keep" => {
+        "page" | "peek" | "back" | "certify" | "place" | "parts" | "write" | "keep" => {
             held.step(desk, name, words)
         }
         _ => desk.step(name, words),
