@@ -30,7 +30,7 @@ impl<A: Allocator + Copy> Model for GatheredContacts<A> {
 
     ghost view = { λ g. plan_of_contacts g.contacts.items g.greatest };
 
-    ghost invariant = { λ g. IsPlan (plan_of_contacts g.contacts.items g.greatest) × KnowsSome g.openings.befores.items g.openings.lasts.items g.openings.rising g.openings.last g.contacts.items };
+    ghost invariant = { λ g. IsPlan (plan_of_contacts g.contacts.items g.greatest) × KnowsSome g.openings.chains.befores.items g.openings.chains.lasts.items g.openings.rising g.openings.last g.contacts.items };
 }
 
 impl<A: Allocator + Copy> GatheredContacts<A> {
@@ -147,7 +147,7 @@ impl<A: Allocator + Copy> GatheredContacts<A> {
             return Err(AddFault::NothingToDelete);
         };
         let number = contact.number;
-        self.openings.forget_chains();
+        self.openings.chains.clear();
         self.contacts.retain(|c| !c.opens(from, to, start));
         Ok(number)
     }
