@@ -6,14 +6,16 @@ use Rattle.std.specs.Cmp.{IsTotalOrder, on_total, alike_right}
 use Rattle.std.specs.Ordering.{is_lt, ordering_reverse}
 use Rattle.std.proofs.lemmas.Cmp.{nat_list_cmp_total}
 use Rattle.std.proofs.lemmas.Bool.{and_parts, or_parts, or_from, not-true, both_ways, leb-false, lt-leb}
+use Rattle.std.specs.declared.option.Option.{Option}
 use Rattle.std.specs.declared.option.Option.TheVariants.{Some, None}
 use Rattle.std.specs.declared.cmp.Ordering.{Ordering}
 use Rattle.std.specs.declared.cmp.Ordering.TheVariants.{Less, Equal, Greater}
 use Rattle.sabr_model.specs.declared.contact.Range.{Range}
 use Rattle.sabr_model.specs.Order.{put_in, by_numbers}
+use Rattle.sabr_model.specs.declared.fault.AddFault.{AddFault}
 use Rattle.sabr_model.specs.declared.fault.AddFault.TheVariants.{EmptyWindow, SelfPair, RangeOverlap, TooMany}
 use Rattle.sabr_model.specs.plan.Plan.{IsPlan, IsWindow, IsNode, overlap, none_twice, range_key, last_time}
-use Rattle.sabr_model.specs.plan.Adding.{range_refusal, by_range_key}
+use Rattle.sabr_model.specs.plan.Adding.{range_refusal, first_refusal, by_range_key}
 use Rattle.sabr_gathering.specs.Gathering.{put_all, plan_of_ranges, gathered, AreTwoLists, AreGathered}
 use Rattle.sabr_model.proofs.PlanLemmas.RangeLemmas.{same_key_overlaps, accepted_range, choice, IsPlan-range}
 use Rattle.sabr_model.proofs.PlanLemmas.ContactLemmas.{IsPlan-empty}
@@ -207,6 +209,12 @@ all_placed_or_not (Err f) placed late latest placed_then late_then latest_then h
 -- what is not refused
 pub chosen : (a b c d : Bool) → a ≡ false → b ≡ false → c ≡ false → d ≡ false → cond a (Some EmptyWindow) (cond b (Some SelfPair) (cond c (Some RangeOverlap) (cond d (Some TooMany) None))) ≡ None
 chosen a b c d p q r s = rw (p, q, r, s) refl
+
+-- a range is accepted that doesn't clash and for which there is room
+pub accepted_by : (r : Range) (rs : List Range) (some clash : Bool) (count : ℕ) (o : Option AddFault) → some ≡ not (list_any (overlap r) rs) → some ≡ not clash → count ≡ length rs → o ≡ first_refusal r.one r.other r.start r.end clash RangeOverlap count → o ≡ None → range_refusal (plan_of_ranges rs) r ≡ None
+accepted_by r rs some clash count o looked same many is none =
+    let e : list_any (overlap r) rs ≡ clash = grind (arith, looked, same) in
+    rw (e, sym many) (sym is ∙ none)
 
 module _ (placed late : List Range) (h : AreGathered placed late) (r : Range) (accept : range_refusal (plan_of_ranges (gathered placed late)) r ≡ None) where
   -- it overlaps neither

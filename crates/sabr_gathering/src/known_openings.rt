@@ -54,15 +54,17 @@ impl<A: Allocator + Copy> KnownOpenings<A> {
             self.last = opening;
             return Some(true);
         }
-        self.note_in_chain(contacts, opening)
+        // A copy, so that an opening that comes last needs no place in memory.
+        let late = opening;
+        self.note_in_chain(contacts, &late)
     }
 
     /// The same, if it may not be the last.
     #[cold]
     #[inline(never)]
-    fn note_in_chain(&mut self, contacts: &[Contact], opening: Opening) -> Option<bool>
+    fn note_in_chain(&mut self, contacts: &[Contact], opening: &Opening) -> Option<bool>
         requires { AreChained (contact_buckets contacts.now) self.old.chains.befores.items self.old.chains.lasts.items }
-        ensures { IsNoted contacts.now opening result self.new.chains.befores.items self.new.chains.lasts.items self.new.rising self.new.last }
+        ensures { IsNoted contacts.now opening.now result self.new.chains.befores.items self.new.chains.lasts.items self.new.rising self.new.last }
     {
         self.rising = false;
         let Ok(()) = self.chains.size(BUCKETS) else {
@@ -72,10 +74,10 @@ impl<A: Allocator + Copy> KnownOpenings<A> {
             return None;
         };
         let Chains { lasts, befores } = &self.chains;
-        if opens_in_chain(contacts, befores, lasts, &opening) {
+        if opens_in_chain(contacts, befores, lasts, opening) {
             return Some(false);
         }
-        let Ok(()) = self.chains.push(bucket_of(&opening)) else {
+        let Ok(()) = self.chains.push(bucket_of(opening)) else {
             return None;
         };
         Some(true)
