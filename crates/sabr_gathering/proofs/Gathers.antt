@@ -242,22 +242,18 @@ module _ (placed late : List Range) (h : AreGathered placed late) (r : Range) (a
     are_apart = all_put by_range_key (λ s. list_any (overlap s) placed ≡ false) r late news.1 h.are_apart;
   }
 
--- a range that goes among the latest, or doesn't because memory is refused
-pub put_or_not : {U E : Type 0} (result : Result U E) (r : Range) (placed late late_then : List Range) → AreGathered placed late → range_refusal (plan_of_ranges (gathered placed late)) r ≡ None → IsNode r.one → IsNode r.other → r.end ≤ last_time → r.light ≤ 1000000
-    → OnOk result (late_then ≡ put_in by_range_key r late) → OnErr result (late_then ≡ late)
-    → AreGathered placed late_then × OnOk result (gathered placed late_then ≡ put_in by_range_key r (gathered placed late)) × OnErr result (gathered placed late_then ≡ gathered placed late)
-put_or_not (Ok u) r placed late late_then h accept one other ends light a b = rw a (gathered_more placed late h r accept one other ends light, put_among_all placed late h r accept, tt)
-put_or_not (Err e) r placed late late_then h accept one other ends light a b = rw b (h, tt, refl)
-
--- one that goes among the latest of three lists, or doesn't
-pub put_among_three : {U E : Type 0} (result : Result U E) (r : Range) (placed late latest all latest_then : List Range) → AreGathered placed (gathered late latest) × AreGathered late latest → gathered placed (gathered late latest) ≡ all → range_refusal (plan_of_ranges all) r ≡ None → IsNode r.one → IsNode r.other → r.end ≤ last_time → r.light ≤ 1000000
-    → OnOk result (latest_then ≡ put_in by_range_key r latest) → OnErr result (latest_then ≡ latest)
-    → (AreGathered placed (gathered late latest_then) × AreGathered late latest_then) × OnOk result (gathered placed (gathered late latest_then) ≡ put_in by_range_key r all)
-put_among_three result r placed late latest all latest_then h same news one other ends light a b =
+-- a range that goes among the latest of three lists
+pub put_among_three : (r : Range) (placed late latest all latest_then : List Range) → AreGathered placed (gathered late latest) × AreGathered late latest → gathered placed (gathered late latest) ≡ all → range_refusal (plan_of_ranges all) r ≡ None → IsNode r.one → IsNode r.other → r.end ≤ last_time → r.light ≤ 1000000
+    → latest_then ≡ put_in by_range_key r latest → (AreGathered placed (gathered late latest_then) × AreGathered late latest_then) × (gathered placed (gathered late latest_then) ≡ put_in by_range_key r all)
+put_among_three r placed late latest all latest_then h same news one other ends light put =
+    let both = gathered late latest in
     let accept = ap (λ rs. range_refusal (plan_of_ranges rs) r) same ∙ news in
-    let inner = put_or_not result r late latest latest_then h.1 (accept_late placed (gathered late latest) h.0 r accept) one other ends light a b in
-    let outer = put_or_not result r placed (gathered late latest) (gathered late latest_then) h.0 accept one other ends light inner.1 inner.2 in
-    ((outer.0, inner.0), rw (sym same) outer.1)
+    let accept_both = accept_late placed both h.0 r accept in
+    let among = put_among_all late latest h.1 r accept_both in
+    rw put (
+      (subst (AreGathered placed) (sym among) (gathered_more placed both h.0 r accept one other ends light), gathered_more late latest h.1 r accept_both one other ends light),
+      ap (gathered placed) among ∙ put_among_all placed both h.0 r accept ∙ ap (put_in by_range_key r) same,
+    )
 
 -- ---- merging
 
