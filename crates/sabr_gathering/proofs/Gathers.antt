@@ -26,14 +26,11 @@ use Rattle.sabr_model.proofs.ListLemmas.Ordered.{all_put}
 
 -- or, with the first two changed about
 or_swap : (a b c : Bool) → (a || (b || c)) ≡ (b || (a || c))
-or_swap true true c = refl
-or_swap true false c = refl
-or_swap false b c = refl
+or_swap a b c = grind arith
 
 -- or, grouped the other way
 or_assoc : (a b c : Bool) → (a || (b || c)) ≡ ((a || b) || c)
-or_assoc true b c = refl
-or_assoc false b c = refl
+or_assoc a b c = grind arith
 
 module _ {X : Type 0} (cmp : X → X → Ordering) where
   -- where a put goes, by how it compares with the first
