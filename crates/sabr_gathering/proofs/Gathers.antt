@@ -6,14 +6,16 @@ use Rattle.std.specs.Cmp.{IsTotalOrder, on_total, alike_right}
 use Rattle.std.specs.Ordering.{is_lt, ordering_reverse}
 use Rattle.std.proofs.lemmas.Cmp.{nat_list_cmp_total}
 use Rattle.std.proofs.lemmas.Bool.{and_parts, or_parts, or_from, not-true, both_ways, leb-false, lt-leb}
+use Rattle.std.specs.declared.option.Option.{Option}
 use Rattle.std.specs.declared.option.Option.TheVariants.{Some, None}
 use Rattle.std.specs.declared.cmp.Ordering.{Ordering}
 use Rattle.std.specs.declared.cmp.Ordering.TheVariants.{Less, Equal, Greater}
 use Rattle.sabr_model.specs.declared.contact.Range.{Range}
 use Rattle.sabr_model.specs.Order.{put_in, by_numbers}
+use Rattle.sabr_model.specs.declared.fault.AddFault.{AddFault}
 use Rattle.sabr_model.specs.declared.fault.AddFault.TheVariants.{EmptyWindow, SelfPair, RangeOverlap, TooMany}
 use Rattle.sabr_model.specs.plan.Plan.{IsPlan, IsWindow, IsNode, overlap, none_twice, range_key, last_time}
-use Rattle.sabr_model.specs.plan.Adding.{range_refusal, by_range_key}
+use Rattle.sabr_model.specs.plan.Adding.{range_refusal, first_refusal, by_range_key}
 use Rattle.sabr_gathering.specs.Gathering.{put_all, plan_of_ranges, gathered, AreTwoLists, AreGathered}
 use Rattle.sabr_model.proofs.PlanLemmas.RangeLemmas.{same_key_overlaps, accepted_range, choice, IsPlan-range}
 use Rattle.sabr_model.proofs.PlanLemmas.ContactLemmas.{IsPlan-empty}
@@ -24,14 +26,11 @@ use Rattle.sabr_model.proofs.ListLemmas.Ordered.{all_put}
 
 -- or, with the first two changed about
 or_swap : (a b c : Bool) → (a || (b || c)) ≡ (b || (a || c))
-or_swap true true c = refl
-or_swap true false c = refl
-or_swap false b c = refl
+or_swap a b c = grind arith
 
 -- or, grouped the other way
 or_assoc : (a b c : Bool) → (a || (b || c)) ≡ ((a || b) || c)
-or_assoc true b c = refl
-or_assoc false b c = refl
+or_assoc a b c = grind arith
 
 module _ {X : Type 0} (cmp : X → X → Ordering) where
   -- where a put goes, by how it compares with the first
@@ -208,6 +207,12 @@ all_placed_or_not (Err f) placed late latest placed_then late_then latest_then h
 pub chosen : (a b c d : Bool) → a ≡ false → b ≡ false → c ≡ false → d ≡ false → cond a (Some EmptyWindow) (cond b (Some SelfPair) (cond c (Some RangeOverlap) (cond d (Some TooMany) None))) ≡ None
 chosen a b c d p q r s = rw (p, q, r, s) refl
 
+-- a range is accepted that doesn't clash and for which there is room
+pub accepted_by : (r : Range) (rs : List Range) (some clash : Bool) (count : ℕ) (o : Option AddFault) → some ≡ not (list_any (overlap r) rs) → some ≡ not clash → count ≡ length rs → o ≡ first_refusal r.one r.other r.start r.end clash RangeOverlap count → o ≡ None → range_refusal (plan_of_ranges rs) r ≡ None
+accepted_by r rs some clash count o looked same many is none =
+    let e : list_any (overlap r) rs ≡ clash = grind (arith, looked, same) in
+    rw (e, sym many) (sym is ∙ none)
+
 module _ (placed late : List Range) (h : AreGathered placed late) (r : Range) (accept : range_refusal (plan_of_ranges (gathered placed late)) r ≡ None) where
   -- it overlaps neither
   news : (list_any (overlap r) late ≡ false) × (list_any (overlap r) placed ≡ false)
@@ -234,22 +239,18 @@ module _ (placed late : List Range) (h : AreGathered placed late) (r : Range) (a
     are_apart = all_put by_range_key (λ s. list_any (overlap s) placed ≡ false) r late news.1 h.are_apart;
   }
 
--- a range that goes among the latest, or doesn't because memory is refused
-pub put_or_not : {U E : Type 0} (result : Result U E) (r : Range) (placed late late_then : List Range) → AreGathered placed late → range_refusal (plan_of_ranges (gathered placed late)) r ≡ None → IsNode r.one → IsNode r.other → r.end ≤ last_time → r.light ≤ 1000000
-    → OnOk result (late_then ≡ put_in by_range_key r late) → OnErr result (late_then ≡ late)
-    → AreGathered placed late_then × OnOk result (gathered placed late_then ≡ put_in by_range_key r (gathered placed late)) × OnErr result (gathered placed late_then ≡ gathered placed late)
-put_or_not (Ok u) r placed late late_then h accept one other ends light a b = rw a (gathered_more placed late h r accept one other ends light, put_among_all placed late h r accept, tt)
-put_or_not (Err e) r placed late late_then h accept one other ends light a b = rw b (h, tt, refl)
-
--- one that goes among the latest of three lists, or doesn't
-pub put_among_three : {U E : Type 0} (result : Result U E) (r : Range) (placed late latest all latest_then : List Range) → AreGathered placed (gathered late latest) × AreGathered late latest → gathered placed (gathered late latest) ≡ all → range_refusal (plan_of_ranges all) r ≡ None → IsNode r.one → IsNode r.other → r.end ≤ last_time → r.light ≤ 1000000
-    → OnOk result (latest_then ≡ put_in by_range_key r latest) → OnErr result (latest_then ≡ latest)
-    → (AreGathered placed (gathered late latest_then) × AreGathered late latest_then) × OnOk result (gathered placed (gathered late latest_then) ≡ put_in by_range_key r all)
-put_among_three result r placed late latest all latest_then h same news one other ends light a b =
+-- a range that goes among the latest of three lists
+pub put_among_three : (r : Range) (placed late latest all latest_then : List Range) → AreGathered placed (gathered late latest) × AreGathered late latest → gathered placed (gathered late latest) ≡ all → range_refusal (plan_of_ranges all) r ≡ None → IsNode r.one → IsNode r.other → r.end ≤ last_time → r.light ≤ 1000000
+    → latest_then ≡ put_in by_range_key r latest → (AreGathered placed (gathered late latest_then) × AreGathered late latest_then) × (gathered placed (gathered late latest_then) ≡ put_in by_range_key r all)
+put_among_three r placed late latest all latest_then h same news one other ends light put =
+    let both = gathered late latest in
     let accept = ap (λ rs. range_refusal (plan_of_ranges rs) r) same ∙ news in
-    let inner = put_or_not result r late latest latest_then h.1 (accept_late placed (gathered late latest) h.0 r accept) one other ends light a b in
-    let outer = put_or_not result r placed (gathered late latest) (gathered late latest_then) h.0 accept one other ends light inner.1 inner.2 in
-    ((outer.0, inner.0), rw (sym same) outer.1)
+    let accept_both = accept_late placed both h.0 r accept in
+    let among = put_among_all late latest h.1 r accept_both in
+    rw put (
+      (subst (AreGathered placed) (sym among) (gathered_more placed both h.0 r accept one other ends light), gathered_more late latest h.1 r accept_both one other ends light),
+      ap (gathered placed) among ∙ put_among_all placed both h.0 r accept ∙ ap (put_in by_range_key r) same,
+    )
 
 -- ---- merging
 

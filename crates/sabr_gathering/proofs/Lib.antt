@@ -1,4 +1,5 @@
+pub mod ChainedPlaces
 pub mod Gathers
 pub mod LastRanges
-pub mod ChainedRanges
+pub mod SortedRanges
 pub mod GatheredOpenings

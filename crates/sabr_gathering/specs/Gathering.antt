@@ -1,6 +1,6 @@
 -- Contacts that are gathered with what no two of them share; and ranges that are gathered in any order, most in their
 -- places, and the latest beside them.
-use Rattle.std.specs.Prelude.{◌≡◌, ℕ, ◌+◌, ◌*◌, ◌/◌, ◌%◌, ◌^◌, ◌<◌, ◌≤◌, Bool, false, true, nat_lt, List, [], ◌∷◌, ◌++◌, length, map, slice_get, slice_index}
+use Rattle.std.specs.Prelude.{◌≡◌, ℕ, ◌+◌, ◌*◌, ◌/◌, ◌%◌, ◌^◌, ◌≤◌, Bool, false, true, nat_lt, List, [], ◌∷◌, ◌++◌, map}
 use Rattle.std.specs.List.{list_any, AllByRecursion}
 use Rattle.std.specs.List.Sorted.{IsStrictlySortedBy}
 use Rattle.std.specs.declared.cmp.Ordering.{Ordering}
@@ -14,7 +14,7 @@ use Rattle.sabr_model.specs.plan.Plan.{ContactPlan, IsPlan, IsWindow, opens, ove
 use Rattle.sabr_model.specs.plan.Adding.{by_range_key}
 use Rattle.sabr_model.specs.plan.RangeOrder.{place_number}
 use Rattle.sabr_model.specs.plan.Openings.{opening_of}
-use Rattle.sabr_gathering.specs.RangeChains.{IsLastOf}
+use Rattle.sabr_gathering.specs.ChainedPlaces.{AreChained}
 
 -- contacts alone and the greatest number given, as a plan without ranges
 abbrev pub plan_of_contacts : List Contact → ℕ → ContactPlan
@@ -28,18 +28,9 @@ opening_number o = place_number o.start o.from o.to
 abbrev pub opening_bucket : Opening → ℕ
 opening_bucket o = ((o.from * 11400714819323198485 % 2 ^ 64 + o.to * 14029467366897019727 % 2 ^ 64) % 2 ^ 64 + o.start * 1609587929392839161 % 2 ^ 64) % 2 ^ 64 / 2 ^ 44 % 16384
 
-abbrev pub bucket_of_contact : Contact → ℕ
-bucket_of_contact c = opening_bucket (opening_of c)
-
--- each contact with such a number is told the last one of its bucket before it
-abbrev pub AreFollowed : List Contact → List ℕ → Type 0
-AreFollowed contacts befores = (k : ℕ) (c : Contact) (n : ℕ) → slice_get contacts k ≡ Some c → slice_get befores k ≡ Some n → IsLastOf bucket_of_contact contacts (bucket_of_contact c) k n
-
--- the first contacts have such numbers, and each bucket tells its last one of them
-pub record AreChained (contacts : List Contact) (befores lasts : List ℕ) : Type 0 where
-  pub within : length befores ≤ length contacts
-  pub begins : (bucket : ℕ) → bucket < length lasts → IsLastOf bucket_of_contact contacts bucket (length befores) (slice_index lasts bucket)
-  pub followed : AreFollowed contacts befores
+-- the buckets of contacts
+abbrev pub contact_buckets : List Contact → List ℕ
+contact_buckets contacts = map (λ c. opening_bucket (opening_of c)) contacts
 
 -- no contact opens after this
 abbrev pub OpenBy : Opening → List Contact → Type 0
@@ -47,7 +38,7 @@ OpenBy last contacts = AllByRecursion (λ c. opening_number (opening_of c) ≤ o
 
 -- the first contacts are in chains, and if the contacts rise none opens after the last one
 abbrev pub KnowsSome : List ℕ → List ℕ → Bool → Opening → List Contact → Type 0
-KnowsSome befores lasts rising last contacts = AreChained contacts befores lasts × (rising ≡ true → OpenBy last contacts)
+KnowsSome befores lasts rising last contacts = AreChained (contact_buckets contacts) befores lasts × (rising ≡ true → OpenBy last contacts)
 
 -- an opening that no contact has was noted, one that a contact has was found, or neither
 abbrev pub IsNoted : List Contact → Opening → Option Bool → List ℕ → List ℕ → Bool → Opening → Type 0
@@ -68,6 +59,18 @@ plan_of_ranges ranges = record { contacts = []; ranges = ranges; greatest = 0 }
 -- the ranges in their places, and the latest put among them
 abbrev pub gathered : List Range → List Range → List Range
 gathered placed late = put_all by_range_key late placed
+
+-- ranges put into a list, the first before the others
+abbrev pub put_in_turn : List Range → List Range → List Range
+put_in_turn [] ys = ys
+put_in_turn (x ∷ xs) ys = put_in_turn xs (put_in by_range_key x ys)
+
+-- the buckets of ranges by their ordered pairs, of 2048
+abbrev pub pair_bucket : ℕ → ℕ → ℕ
+pair_bucket one other = (one % 2048 * 509 + other % 2048) % 2048
+
+abbrev pub range_buckets : List Range → List ℕ
+range_buckets ranges = map (λ r. pair_bucket r.one r.other) ranges
 
 -- the range ends after a pair and second, given as a number, in the order of ranges
 abbrev pub ends_after : ℕ → Range → Bool

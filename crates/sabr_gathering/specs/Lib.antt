@@ -1,2 +1,2 @@
+pub mod ChainedPlaces
 pub mod Gathering
-pub mod RangeChains

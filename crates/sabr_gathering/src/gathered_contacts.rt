@@ -30,7 +30,7 @@ impl<A: Allocator + Copy> Model for GatheredContacts<A> {
 
     ghost view = { λ g. plan_of_contacts g.contacts.items g.greatest };
 
-    ghost invariant = { λ g. IsPlan (plan_of_contacts g.contacts.items g.greatest) × KnowsSome g.openings.befores.items g.openings.lasts.items g.openings.rising g.openings.last g.contacts.items };
+    ghost invariant = { λ g. IsPlan (plan_of_contacts g.contacts.items g.greatest) × KnowsSome g.openings.chains.befores.items g.openings.chains.lasts.items g.openings.rising g.openings.last g.contacts.items };
 }
 
 impl<A: Allocator + Copy> GatheredContacts<A> {
@@ -72,46 +72,6 @@ impl<A: Allocator + Copy> GatheredContacts<A> {
         if start >= end || from == to || self.greatest as usize >= MOST_RECORDS {
             return Err(self.fault(from, to, start, end));
         }
-        self.put(from, to, start, end, rate)
-    }
-
-    /// Returns why a contact is refused, or none if it isn't.
-    #[cold]
-    #[inline(never)]
-    fn fault(&self, from: u64, to: u64, start: u64, end: u64) -> AddFault
-        ensures { result ≡ unwrap_or (contact_refusal self.now from to start end) NoMemory }
-    {
-        let clashes = self.has_opening(from, to, start);
-        let refusal = Opening { from, to, start }.refusal(end, clashes, self.greatest);
-        refusal.unwrap_or(AddFault::NoMemory)
-    }
-
-    /// Returns true if one of the contacts has this sender, receiver and start.
-    fn has_opening(&self, from: u64, to: u64, start: u64) -> bool
-        ensures { result ≡ list_any (opens from to start) self.now.contacts }
-    {
-        self.contacts.iter().any(|c| c.opens(from, to, start))
-    }
-
-    /// Adds a contact that is refused only if it is a duplicate.
-    #[inline(always)]
-    fn put(&mut self, from: u64, to: u64, start: u64, end: u64, rate: u64) -> Result<u32, AddFault>
-        requires from { 0 < from }
-        requires to { 0 < to }
-        requires window { start < end }
-        requires end { end ≤ last_time }
-        requires apart { from ≢ to }
-        requires count { self.old.greatest < most_records }
-
-        // The first reason to refuse it is the answer. Without one, only memory can be refused.
-        ensures refused { (f : AddFault) → contact_refusal self.old from to start end ≡ Some f → result ≡ Err f }
-        ensures accepted { contact_refusal self.old from to start end ≡ None → IsOkUnless result NoMemory }
-
-        // It has the next number. A refusal changes nothing.
-        ensures number { IfOk result (λ n. n ≡ self.old.greatest + 1) }
-        ensures ok { OnOk result (self.new ≡ with_contact self.old (next_contact self.old from to start end rate)) }
-        ensures err { OnErr result (self.new ≡ self.old) }
-    {
         let number = self.greatest + 1;
         if self.contacts.reserve(1).is_err() {
             return Err(self.fault(from, to, start, end));
@@ -135,6 +95,24 @@ impl<A: Allocator + Copy> GatheredContacts<A> {
         Ok(number)
     }
 
+    /// Returns why a contact is refused, or none if it isn't.
+    #[cold]
+    #[inline(never)]
+    fn fault(&self, from: u64, to: u64, start: u64, end: u64) -> AddFault
+        ensures { result ≡ unwrap_or (contact_refusal self.now from to start end) NoMemory }
+    {
+        let clashes = self.has_opening(from, to, start);
+        let refusal = Opening { from, to, start }.refusal(end, clashes, self.greatest);
+        refusal.unwrap_or(AddFault::NoMemory)
+    }
+
+    /// Returns true if one of the contacts has this sender, receiver and start.
+    fn has_opening(&self, from: u64, to: u64, start: u64) -> bool
+        ensures { result ≡ list_any (opens from to start) self.now.contacts }
+    {
+        self.contacts.iter().any(|c| c.opens(from, to, start))
+    }
+
     /// Deletes the contact with this sender, receiver and start, and returns its number, which is not given again.
     ///
     /// `NothingToDelete` if there is no such contact; then the contacts stay as they were. It takes no memory.
@@ -147,7 +125,7 @@ impl<A: Allocator + Copy> GatheredContacts<A> {
             return Err(AddFault::NothingToDelete);
         };
         let number = contact.number;
-        self.openings.forget_chains();
+        self.openings.chains.clear();
         self.contacts.retain(|c| !c.opens(from, to, start));
         Ok(number)
     }

@@ -1,13 +1,14 @@
 //! The openings of contacts that come one by one. A contact that opens after all others needs no search for a duplicate.
 
-ghost use Rattle.std.specs.Prelude.{◌≡◌, ◌+◌, ◌<◌, ◌↔◌, [], ◌∷◌, ◌++◌, IsTrue, IsFalse, length, set, slice_index};
+ghost use Rattle.std.specs.Prelude.{◌≡◌, ◌<◌, ◌≤◌, ◌↔◌, [], IsTrue, OnOk, length};
 ghost use Rattle.std.specs.List.{list_any};
 ghost use Rattle.sabr_model.specs.plan.Plan.{opens};
-ghost use Rattle.sabr_gathering.specs.RangeChains.{IsLastOf};
-ghost use Rattle.sabr_gathering.specs.Gathering.{opening_number, opening_bucket, bucket_of_contact, AreChained, AreFollowed, KnowsSome, IsNoted};
+ghost use Rattle.sabr_gathering.specs.ChainedPlaces.{AreChained};
+ghost use Rattle.sabr_gathering.specs.Gathering.{opening_number, opening_bucket, contact_buckets, KnowsSome, IsNoted};
 
+use crate::chains::Chains;
 use sabr_model::{Contact, Opening, comes_by};
-use std::alloc::Allocator;
+use std::alloc::{AllocError, Allocator};
 
 /// The number of buckets. A chain of the largest plan has one or two contacts.
 const BUCKETS: usize = 16384;
@@ -17,10 +18,8 @@ const BUCKETS: usize = 16384;
 /// While each contact opens after those before it, no chain is made. From the first that doesn't, all are in chains.
 #[derive(Drop)]
 pub struct KnownOpenings<A: Allocator + Copy> {
-    /// For each bucket, one more than the place of its last contact, 0 if it has none. Empty at first.
-    pub lasts: Vec<usize, A>,
-    /// For each of the first contacts, the same for the last one before it in its bucket.
-    pub befores: Vec<usize, A>,
+    /// The first contacts in chains by their openings.
+    pub chains: Chains<A>,
     /// Whether each contact so far opens after those before it.
     pub rising: bool,
     /// If so, no contact opens after it.
@@ -30,12 +29,11 @@ pub struct KnownOpenings<A: Allocator + Copy> {
 impl<A: Allocator + Copy> KnownOpenings<A> {
     /// The openings of no contact. It takes no memory.
     pub fn new(alloc: A) -> KnownOpenings<A>
-        ensures lasts { result.lasts.items ≡ [] }
-        ensures befores { result.befores.items ≡ [] }
+        ensures lasts { result.chains.lasts.items ≡ [] }
+        ensures befores { result.chains.befores.items ≡ [] }
     {
         KnownOpenings {
-            lasts: Vec::new(alloc),
-            befores: Vec::new(alloc),
+            chains: Chains::new(alloc),
             rising: true,
             last: Opening {
                 from: 0,
@@ -49,48 +47,40 @@ impl<A: Allocator + Copy> KnownOpenings<A> {
     /// out of memory.
     #[inline(always)]
     pub fn note(&mut self, contacts: &[Contact], opening: Opening) -> Option<bool>
-        requires { KnowsSome self.old.befores.items self.old.lasts.items self.old.rising self.old.last contacts.now }
-        ensures { IsNoted contacts.now opening result self.new.befores.items self.new.lasts.items self.new.rising self.new.last }
+        requires { KnowsSome self.old.chains.befores.items self.old.chains.lasts.items self.old.rising self.old.last contacts.now }
+        ensures { IsNoted contacts.now opening result self.new.chains.befores.items self.new.chains.lasts.items self.new.rising self.new.last }
     {
         if self.rising && comes_after(&opening, &self.last) {
             self.last = opening;
             return Some(true);
         }
-        self.note_in_chain(contacts, opening)
+        // A copy, so that an opening that comes last needs no place in memory.
+        let late = opening;
+        self.note_in_chain(contacts, &late)
     }
 
     /// The same, if it may not be the last.
     #[cold]
     #[inline(never)]
-    fn note_in_chain(&mut self, contacts: &[Contact], opening: Opening) -> Option<bool>
-        requires { AreChained contacts.now self.old.befores.items self.old.lasts.items }
-        ensures { IsNoted contacts.now opening result self.new.befores.items self.new.lasts.items self.new.rising self.new.last }
+    fn note_in_chain(&mut self, contacts: &[Contact], opening: &Opening) -> Option<bool>
+        requires { AreChained (contact_buckets contacts.now) self.old.chains.befores.items self.old.chains.lasts.items }
+        ensures { IsNoted contacts.now opening.now result self.new.chains.befores.items self.new.chains.lasts.items self.new.rising self.new.last }
     {
         self.rising = false;
-        if !make_table(&mut self.lasts, &mut self.befores, contacts)
-            || !chain_all(&mut self.lasts, &mut self.befores, contacts)
-        {
+        let Ok(()) = self.chains.size(BUCKETS) else {
             return None;
-        }
-        let bucket = bucket_of_opening(&opening);
-        if opens_in_chain(contacts, &self.befores, self.lasts[bucket], &opening) {
+        };
+        let Ok(()) = chain_all(&mut self.chains, contacts) else {
+            return None;
+        };
+        let Chains { lasts, befores } = &self.chains;
+        if opens_in_chain(contacts, befores, lasts, opening) {
             return Some(false);
         }
-        if !chain_next(&mut self.lasts, &mut self.befores, bucket) {
+        let Ok(()) = self.chains.push(bucket_of(opening)) else {
             return None;
-        }
+        };
         Some(true)
-    }
-
-    /// Takes all contacts out of their chains. It takes no memory.
-    pub fn forget_chains(&mut self)
-        ensures lasts { self.new.lasts.items ≡ [] }
-        ensures befores { self.new.befores.items ≡ [] }
-        ensures rising { self.new.rising ≡ self.old.rising }
-        ensures last { self.new.last ≡ self.old.last }
-    {
-        self.lasts.clear();
-        self.befores.clear();
     }
 }
 
@@ -105,7 +95,7 @@ fn comes_after(opening: &Opening, other: &Opening) -> bool
 }
 
 /// The bucket of an opening.
-fn bucket_of_opening(opening: &Opening) -> usize
+fn bucket_of(opening: &Opening) -> usize
     ensures value { result ≡ opening_bucket opening.now }
     ensures limit { result < 16384 }
 {
@@ -116,78 +106,42 @@ fn bucket_of_opening(opening: &Opening) -> usize
     ((mixed >> 44) % 16384) as usize
 }
 
-/// Makes the table of buckets, if there is none. Returns false if out of memory.
-fn make_table<A: Allocator + Copy>(
-    lasts: &mut Vec<usize, A>,
-    befores: &mut Vec<usize, A>,
-    contacts: &[Contact],
-) -> bool
-    requires { AreChained contacts.now befores.old.items lasts.old.items }
-    ensures sized { IsTrue result → length lasts.new.items ≡ 16384 }
-    ensures chained { AreChained contacts.now befores.new.items lasts.new.items }
-{
-    if lasts.len() == BUCKETS {
-        return true;
-    }
-    befores.clear();
-    lasts.clear();
-    lasts.resize(BUCKETS, 0).is_ok()
-}
-
-/// Puts the contacts that are in no chain into theirs. Returns false if out of memory.
+/// Puts the contacts that are in no chain into theirs.
 fn chain_all<A: Allocator + Copy>(
-    lasts: &mut Vec<usize, A>,
-    befores: &mut Vec<usize, A>,
+    chains: &mut Chains<A>,
     contacts: &[Contact],
-) -> bool
-    requires sized { length lasts.old.items ≡ 16384 }
-    requires chained { AreChained contacts.now befores.old.items lasts.old.items }
-    ensures sized { length lasts.new.items ≡ 16384 }
-    ensures chained { AreChained contacts.now befores.new.items lasts.new.items }
-    ensures all { IsTrue result → length befores.new.items ≡ length contacts.now }
+) -> Result<(), AllocError>
+    requires sized { 16384 ≤ length chains.old.lasts.items }
+    requires chained { AreChained (contact_buckets contacts.now) chains.old.befores.items chains.old.lasts.items }
+    ensures sized { 16384 ≤ length chains.new.lasts.items }
+    ensures chained { AreChained (contact_buckets contacts.now) chains.new.befores.items chains.new.lasts.items }
+    ensures all { OnOk result (length chains.new.befores.items ≡ length contacts.now) }
 {
-    while befores.len() < contacts.len() {
+    while chains.befores.len() < contacts.len() {
         let Contact {
             from,
             to,
             start,
             ..
-        } = contacts[befores.len()];
-        let bucket = bucket_of_opening(&Opening { from, to, start });
-        if !chain_next(lasts, befores, bucket) {
-            return false;
-        }
+        } = contacts[chains.befores.len()];
+        chains.push(bucket_of(&Opening { from, to, start }))?;
     }
-    true
+    Ok(())
 }
 
-/// Puts the next contact at the end of its bucket's chain. Returns false if out of memory.
-fn chain_next<A: Allocator + Copy>(
-    lasts: &mut Vec<usize, A>,
-    befores: &mut Vec<usize, A>,
-    bucket: usize,
+/// Returns true if one of the contacts, all in chains, has this opening.
+fn opens_in_chain(
+    contacts: &[Contact],
+    befores: &[usize],
+    lasts: &[usize],
+    opening: &Opening,
 ) -> bool
-    requires { bucket < length lasts.old.items }
-    ensures befores { IsTrue result → befores.new.items ≡ befores.old.items ++ slice_index lasts.old.items bucket ∷ [] }
-    ensures lasts { IsTrue result → lasts.new.items ≡ set lasts.old.items bucket (length befores.old.items + 1) }
-    ensures same { IsFalse result → (befores.new.items ≡ befores.old.items) × (lasts.new.items ≡ lasts.old.items) }
-{
-    let before = lasts[bucket];
-    if befores.push(before).is_err() {
-        return false;
-    }
-    lasts[bucket] = befores.len();
-    true
-}
-
-/// Returns true if one of the contacts, all in chains, has this opening. The last of its bucket is the one before `last`.
-fn opens_in_chain(contacts: &[Contact], befores: &[usize], last: usize, opening: &Opening) -> bool
-    requires as_many { length befores.now ≡ length contacts.now }
-    requires followed { AreFollowed contacts.now befores.now }
-    requires last { IsLastOf bucket_of_contact contacts.now (opening_bucket opening.now) (length contacts.now) last }
+    requires sized { 16384 ≤ length lasts.now }
+    requires chained { AreChained (contact_buckets contacts.now) befores.now lasts.now }
+    requires all { length befores.now ≡ length contacts.now }
     ensures { result ≡ list_any (opens opening.now.from opening.now.to opening.now.start) contacts.now }
 {
-    let mut at = last;
+    let mut at = lasts[bucket_of(opening)];
     while at > 0 {
         if contacts[at - 1].opens(opening.from, opening.to, opening.start) {
             return true;

@@ -1,6 +1,7 @@
 //! The contacts and ranges of a plan, gathered line by line.
 #![tactic(auto)]
 
+mod chains;
 mod gathered_contacts;
 mod gathered_ranges;
 mod known_openings;
@@ -8,7 +9,6 @@ mod latest_ranges;
 mod merging;
 mod ordered_ranges;
 mod plan;
-mod range_chains;
 
 pub use gathered_contacts::GatheredContacts;
 pub use gathered_ranges::GatheredRanges;

@@ -1,9 +1,10 @@
-use Rattle.std.proofs.Common.{◌≡◌, ◌-◌, length}
-use Rattle.sabr_gathering.specs.Gathering.{AreChained}
+use Rattle.std.proofs.Common.{◌≤◌, ◌-◌, length}
+use Rattle.sabr_gathering.specs.ChainedPlaces.{AreChained}
+use Rattle.sabr_gathering.specs.Gathering.{contact_buckets}
 use Rattle.sabr_gathering.proofs.known_openings.chain_all.Given as goal
 
-abbrev pub invariant-loop-befores : goal.invariant-loop-befores
-invariant-loop-befores g l = (length l.lasts.items ≡ 16384) × AreChained l.contacts l.befores.items l.lasts.items
+abbrev pub invariant-loop-chains : goal.invariant-loop-chains
+invariant-loop-chains g l = (16384 ≤ length l.chains.lasts.items) × AreChained (contact_buckets l.contacts) l.chains.befores.items l.chains.lasts.items
 
-abbrev pub decreases-loop-befores : goal.decreases-loop-befores
-decreases-loop-befores g l = length l.contacts - length l.befores.items
+abbrev pub decreases-loop-chains : goal.decreases-loop-chains
+decreases-loop-chains g l = length l.contacts - length l.chains.befores.items

@@ -1,5 +1,5 @@
 -- The contact goes, and its opening.
-use Rattle.std.proofs.Common.{◌∙◌, ◌≤◌, ap, not, rules, arith, List, []}
+use Rattle.std.proofs.Common.{◌∙◌, ◌≤◌, ap, not, rules, List}
 use Rattle.std.proofs.lemmas.Fn.{filter_same}
 use Rattle.sabr_model.specs.declared.contact.Contact.{Contact}
 use Rattle.sabr_model.specs.plan.Plan.{ContactPlan, opens}
@@ -7,7 +7,7 @@ use Rattle.sabr_model.specs.plan.Adding.{without_contact}
 use Rattle.sabr_model.specs.plan.Openings.{opening_of}
 use Rattle.sabr_gathering.specs.Gathering.{plan_of_contacts, opening_number}
 use Rattle.sabr_model.proofs.PlanLemmas.Deletions.{IsPlan-fewer_contacts, all_filter}
-use Rattle.sabr_gathering.proofs.GatheredOpenings.{chained_none}
+use Rattle.sabr_gathering.proofs.ChainedPlaces.{chained_none}
 use Rattle.sabr_gathering.proofs.gathered_contacts.GatheredContacts.delete.Goals as goal
 
 pub invariant_of-self : goal.invariant_of-self
@@ -17,12 +17,12 @@ invariant_of-self g c =
     let start = c.args.start in
     let cs = c.self.inside.contacts.items in
     let kept = filter_same _ (λ (d : Contact). not (opens from to start d)) _ (λ d b f' k. search rules) _ _ c.retain.ensures.filtered in
-    let forgot = c.forget_chains.ensures in
+    let forgot = c.clear.ensures in
     let last = c.self.inside.openings.last in
-    rw (kept, forgot.befores, forgot.lasts, forgot.rising, forgot.last) (
+    rw (kept, forgot.befores, forgot.lasts) (
       IsPlan-fewer_contacts (plan_of_contacts cs c.self.inside.greatest) (λ d. not (opens from to start d)) c.self.invariant.0,
       (
-        chained_none _ [] (λ b lt. absurd (omega (arith, lt))),
+        chained_none _,
         λ up. all_filter (λ d. opening_number (opening_of d) ≤ opening_number last) (λ d. not (opens from to start d)) cs (c.self.invariant.1.1 up),
       ),
     )

@@ -8,4 +8,4 @@ returns-then-comes_after g c =
     let o = c.args.opening in
     let by = c.requires.1 c.if-self.true in
     let lt = c.comes_after.ensures.0 c.if-comes_after.true in
-    (after_all o s.last c.args.contacts.now by lt, some_push_last s.befores.items s.lasts.items s.last o c.args.contacts.now c.requires.0 by lt _)
+    (after_all o s.last c.args.contacts.now by lt, some_push_last s.chains.befores.items s.chains.lasts.items s.last o c.args.contacts.now c.requires.0 by lt _)

@@ -1,12 +1,20 @@
 -- A contact that opens like none goes into its chain.
-use Rattle.std.proofs.Common.{refl, sym, arith}
-use Rattle.sabr_gathering.proofs.GatheredOpenings.{chained_new}
+use Rattle.std.proofs.Common.{◌∷◌, ◌++◌, [], length, sym}
+use Rattle.sabr_model.specs.declared.contact.Contact.{Contact}
+use Rattle.sabr_model.specs.plan.Openings.{opening_of}
+use Rattle.sabr_gathering.specs.Gathering.{opening_bucket, contact_buckets}
+use Rattle.sabr_gathering.proofs.ChainedPlaces.{chained_push, next_bucket}
 use Rattle.sabr_gathering.proofs.known_openings.KnownOpenings.note_in_chain.Goals as goal
 
 pub returns : goal.returns
 returns g c =
-    let all = c.if-not-chain_all.ensures in
-    let next = c.if-not-chain_next.ensures in
-    let b = c.bucket_of_opening-bucket.ensures in
-    let is = chained_new c.args.contacts.now c.chain_all.new.befores.items c.chain_all.new.lasts.items _ _ c.args.opening c.bucket_of_opening-bucket.result all.chained (all.all refl) b.value (omega (arith, b.limit, all.sized)) (next.befores refl) (next.lasts refl) in
-    (sym (c.if-opens_in_chain.ensures {u = tt}), λ d same. (is d same, λ up. absurd cc))
+    let f = λ (d : Contact). opening_bucket (opening_of d) in
+    let cs = c.args.contacts.now in
+    let at = c.chain_all.new.chains in
+    let many = (c.in-Ok-chain_all.ensures {u = tt}).all in (
+      sym c.if-opens_in_chain.ensures,
+      λ d same. (
+        (c.in-Ok-push.ensures {u = tt}).ok (contact_buckets (cs ++ d ∷ [])) (chained_push f cs d at.befores.items at.lasts.items c.chain_all.ensures.chained) (rw (c.bucket_of.ensures.value, sym same) (next_bucket f cs d (length at.befores.items) many)),
+        λ up. absurd cc,
+      ),
+    )
