@@ -18,14 +18,6 @@ go_on text count all lf = elim (cases_lt count (length text)) [
 pub bounds-text-count : goal.bounds-text-count
 bounds-text-count c = go_on c.args.text.now c.loop-count.count c.loop-count.invariant.blank c.requires
 
-pub loop-count-preserved : goal.loop-count-preserved
-loop-count-preserved c =
-    let range = go_on c.args.text.now c.loop-count.count c.loop-count.invariant.blank c.requires in
-    record {
-      range = omega arith;
-      blank = rw (list_all_more is_blank c.args.text.now c.loop-count.count 0 range, c.loop-count.invariant.blank, sym c.is_blank.ensures ∙ c.loop-count-test.true) refl;
-    }
-
 pub returns : goal.returns
 returns c =
     let text = c.args.text.now in
