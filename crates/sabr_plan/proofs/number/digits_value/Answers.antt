@@ -1,9 +1,7 @@
 -- Digits are read one after another.
-use Rattle.std.proofs.Common.{◌≡◌, ◌≤◌, ◌+◌, ◌*◌, ◌-◌, refl, sym, ap, ◌∙◌, take, get_or, arith, rules, Some}
-use Rattle.std.proofs.lemmas.List.{take_all}
-use Rattle.std.proofs.lemmas.Bool.Decides.{nat_tests}
+use Rattle.std.proofs.Common.{◌≤◌, ◌+◌, ◌*◌, ◌-◌, refl, sym, ap, ◌∙◌, take, get_or, arith, rules}
 use Rattle.sabr_plan.specs.Digits.{digits_value}
-use Rattle.sabr_plan.proofs.Digits.{take_digit, take_digits, small_value_over, small_value_some}
+use Rattle.sabr_plan.proofs.Digits.{take_digit, take_digits, small_value_over}
 use Rattle.sabr_plan.proofs.number.digits_value.Goals as goal
 
 pub loop-byte-init : goal.loop-byte-init
