@@ -1,9 +1,7 @@
 -- Digits are read one after another.
-use Rattle.std.proofs.Common.{◌≡◌, ◌≤◌, ◌+◌, ◌*◌, ◌-◌, refl, sym, ap, ◌∙◌, take, get_or, arith, rules, Some}
-use Rattle.std.proofs.lemmas.List.{take_all}
-use Rattle.std.proofs.lemmas.Bool.Decides.{nat_tests}
+use Rattle.std.proofs.Common.{◌≤◌, ◌+◌, ◌*◌, ◌-◌, refl, sym, ap, ◌∙◌, take, get_or, arith, rules}
 use Rattle.sabr_plan.specs.Digits.{digits_value}
-use Rattle.sabr_plan.proofs.Digits.{take_digit, take_digits, small_value_over, small_value_some}
+use Rattle.sabr_plan.proofs.Digits.{take_digit, take_digits, small_value_over}
 use Rattle.sabr_plan.proofs.number.digits_value.Goals as goal
 
 pub loop-byte-init : goal.loop-byte-init
@@ -24,9 +22,3 @@ returns-in_err-value c =
     let h = c.in_err-value.ensures in
     let over : 18446744073709551616 ≤ digits_value (take c.loop-byte.byte-index c.args.word.now) * 10 + (get_or c.args.word.now c.loop-byte.byte-index 0 - 48) = rw (← c.loop-byte.invariant.value) (omega (arith, h)) in
     c.from_residual.ensures ∙ sym (small_value_over c.args.word.now c.loop-byte.byte-index c.loop-byte-test.true over)
-
-pub returns : goal.returns
-returns c =
-    let whole = take_all c.loop-byte.byte-index c.args.word.now c.loop-byte-test.false in
-    let value : c.loop-byte.value ≡ digits_value c.args.word.now = c.loop-byte.invariant.value ∙ ap digits_value whole in
-    ap Some value ∙ sym (small_value_some c.args.word.now (grind (arith, nat_tests)) (rw whole at c.loop-byte.invariant.digits) (omega (arith, value, c.loop-byte.invariant.small)))

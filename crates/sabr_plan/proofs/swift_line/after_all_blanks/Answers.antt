@@ -1,9 +1,8 @@
 -- Blanks don't end a text that has an LF.
-use Rattle.std.proofs.Common.{◌≡◌, ℕ, ◌-◌, ◌<◌, List, length, take, drop, true, false, refl, sym, ◌∙◌, arith, inl, inr, length-drop}
+use Rattle.std.proofs.Common.{◌≡◌, ℕ, ◌-◌, ◌<◌, List, length, take, drop, true, false, sym, arith, inl, inr, length-drop}
 use Rattle.std.specs.List.{list_all}
 use Rattle.std.proofs.lemmas.Bool.{cases_lt}
 use Rattle.std.proofs.lemmas.List.{take_all, take-append-drop}
-use Rattle.std.proofs.lemmas.List.Folds.{list_all_more}
 use Rattle.sabr_plan.specs.Words.{is_blank, is_one_line}
 use Rattle.sabr_plan.specs.PlainWords.{IsAfterBlanks}
 use Rattle.sabr_plan.proofs.PlainWords.{plain_blanks, plain_one, ended_blanks}
@@ -17,14 +16,6 @@ go_on text count all lf = elim (cases_lt count (length text)) [
 
 pub bounds-text-count : goal.bounds-text-count
 bounds-text-count c = go_on c.args.text.now c.loop-count.count c.loop-count.invariant.blank c.requires
-
-pub loop-count-preserved : goal.loop-count-preserved
-loop-count-preserved c =
-    let range = go_on c.args.text.now c.loop-count.count c.loop-count.invariant.blank c.requires in
-    record {
-      range = omega arith;
-      blank = rw (list_all_more is_blank c.args.text.now c.loop-count.count 0 range, c.loop-count.invariant.blank, sym c.is_blank.ensures ∙ c.loop-count-test.true) refl;
-    }
 
 pub returns : goal.returns
 returns c =
