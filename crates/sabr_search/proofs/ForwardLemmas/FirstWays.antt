@@ -160,13 +160,10 @@ module _ (task : SearchTask) (is : IsTask task) (bounds near : List ℕ) (bound 
   ]
 
   pub arrivals_found : ((f : Event) → Contains queue f → best.delivery ≤ f.at) → AreArrivalsBy task near arrival best.delivery
-  arrivals_found stop = record {
-    flags = omega (arith, was.flags, is.as_many);
-    least = λ ns v t some way. elim (reached_by stop ns task.start task.at task.at v t (inl (was.start_settled, was.start_reached)) (omega arith) bound.since way) [
-      | inl late ↦ omega (arith, late)
-      | inr by ↦ omega (arith, by.1, known_arrival v by.0 by.2)
-    ];
-  }
+  arrivals_found stop ns v t some way = elim (reached_by stop ns task.start task.at task.at v t (inl (was.start_settled, was.start_reached)) (omega arith) bound.since way) [
+    | inl late ↦ omega (arith, late)
+    | inr by ↦ omega (arith, by.1, known_arrival v by.0 by.2)
+  ]
 
 -- an event of a settled node goes
 pub settled_stale : (task : SearchTask) (late near : List ℕ) (settled : List Bool) (arrival : List ℕ) (queue queue' : List Event) (best : Best) → AreSettled task late near settled arrival queue best → IsQueue task late near settled arrival queue' →

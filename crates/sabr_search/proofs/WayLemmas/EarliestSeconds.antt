@@ -50,7 +50,7 @@ since_most nodes arrival near soon d k = elim (cases_lt k nodes) [
 pub arrivals_lowered : (task : SearchTask) (nodes : ℕ) (arrival near soon : List ℕ) (d : ℕ) → nodes ≡ length task.table → AreSince task soon → AreArrivalsBy task near arrival d → AreArrivals task (since_of nodes arrival near soon d)
 arrivals_lowered task nodes arrival near soon d all since by = record {
   flags = since_many nodes arrival near soon d ∙ all;
-  least = λ ns v t some way. omega (arith, since_most nodes arrival near soon d v, since ns v t some way, by.least ns v t some way);
+  least = λ ns v t some way. omega (arith, since_most nodes arrival near soon d v, since ns v t some way, by ns v t some way);
 }
 
 -- an empty list that is made longer has the new value alone

@@ -11,10 +11,10 @@ use Rattle.sabr_search.specs.questions.Steps.{senders}
 use Rattle.sabr_search.specs.layers.Lists.{AreClosed, IsKnown}
 use Rattle.sabr_search.specs.layers.Reach.{cost_to}
 
--- by node a second before which no way comes there, or from which on none delivers before d, if that is sooner
-pub record AreArrivalsBy (task : SearchTask) (near arrival : List ℕ) (d : ℕ) : Type 0 where
-  pub flags : length arrival ≡ length task.table
-  pub least : (ns : List ℕ) (v t : ℕ) → 0 < length ns → Leads (Takes task) task.start task.at ns v t → min (slice_index arrival v) (d - cost_to near v) ≤ t
+-- by node a second before which no way comes there, or from which on none delivers before d, if that is sooner; nothing is
+-- said of a node after the list's end
+abbrev pub AreArrivalsBy : SearchTask → List ℕ → List ℕ → ℕ → Type 0
+AreArrivalsBy task near arrival d = (ns : List ℕ) (v t : ℕ) → 0 < length ns → Leads (Takes task) task.start task.at ns v t → min (slice_index arrival v) (d - cost_to near v) ≤ t
 
 -- by node a second from which on no way leads to the goal, as far as the list goes; and what a way from there to the goal
 -- costs at the least, which no step lowers by more than its seconds

@@ -16,4 +16,4 @@ returns-in_default g c = record { soon = none_soon (tabled_of c.args.task.now) c
 pub returns : goal.returns
 returns g c =
     let by = rw c.in-Some.is at c.in_ok-found.ensures.arrivals in
-    record { soon = soon_for c.args.task.now c.requires.source c.requires.whole.free _ (λ ns v t some way. omega (arith, c.lower.ensures v, by.least ns v t some way)) }
+    record { soon = soon_for c.args.task.now c.requires.source c.requires.whole.free _ (λ ns v t some way. omega (arith, c.lower.ensures v, by ns v t some way)) }
