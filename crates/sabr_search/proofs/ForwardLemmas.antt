@@ -6,3 +6,4 @@ pub mod LayerEntries
 pub mod MadeLayers
 pub mod Queues
 pub mod FirstWays
+pub mod Enclosed

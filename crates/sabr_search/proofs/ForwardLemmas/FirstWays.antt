@@ -11,6 +11,7 @@ use Rattle.sabr_search.specs.declared.forward.queue.Event.{Event}
 use Rattle.sabr_search.specs.declared.forward.layers.Best.{Best}
 use Rattle.sabr_search.specs.questions.Ways.{Leads}
 use Rattle.sabr_search.specs.questions.Task.{SearchTask, Takes, IsTask, never}
+use Rattle.sabr_search.specs.questions.FirstSteps.{IsNoneBefore}
 use Rattle.sabr_search.specs.layers.Lists.{IsKnown, AreClosed}
 use Rattle.sabr_search.specs.layers.Reach.{cost_to}
 use Rattle.sabr_search.specs.questions.Steps.{senders, degree}
@@ -126,8 +127,9 @@ module _ (task : SearchTask) (is : IsTask task) (bounds near : List ℕ) (bound 
         ]
       ]
 
-  pub first_found : ((f : Event) → Contains queue f → best.delivery ≤ f.at) → IsFirstWay task best
-  first_found stop = record {
+  -- the first delivery is the least if no way delivers before it
+  pub way_found : IsNoneBefore task best.delivery → IsFirstWay task best
+  way_found least = record {
     least = least;
     none = λ zero_hops ns e way. elim was.found [
       | inl none ↦ omega (arith, none.1, least ns e way, way_early task is ns task.start task.at task.goal e is.time way)
@@ -146,12 +148,13 @@ module _ (task : SearchTask) (is : IsTask task) (bounds near : List ℕ) (bound 
       | inr found ↦ omega (arith, found.1, count_short settled task.goal (omega (arith, was.many, is.as_many, is.goal_in)) was.goal_unsettled, was.many, is.as_many)
     ];
   }
-    where
-      least : (ns : List ℕ) (e : ℕ) → Leads (Takes task) task.start task.at ns task.goal e → best.delivery ≤ e
-      least ns e way = elim (reached_by stop ns task.start task.at task.at task.goal e (inl (was.start_settled, was.start_reached)) (omega arith) bound.since way) [
+
+  pub first_found : ((f : Event) → Contains queue f → best.delivery ≤ f.at) → IsFirstWay task best
+  first_found stop = way_found (λ ns e way.
+      elim (reached_by stop ns task.start task.at task.at task.goal e (inl (was.start_settled, was.start_reached)) (omega arith) bound.since way) [
         | inl late ↦ omega (arith, late, bound.there)
         | inr by ↦ omega (arith, by.1, goal_known by.0 by.2)
-      ]
+      ])
 
   known_arrival : (v c : ℕ) → IsKnownAt v c → slice_index arrival v ≤ c
   known_arrival v c known = elim known [

@@ -8,10 +8,12 @@ ghost use Rattle.sabr_search.specs.layers.Lists.{IsKnown};
 ghost use Rattle.sabr_search.specs.layers.Made.{AreOpened};
 ghost use Rattle.sabr_search.specs.layers.Reach.{cost_to};
 ghost use Rattle.sabr_search.specs.questions.FirstSteps.{AreFirstSteps};
+ghost use Rattle.sabr_search.specs.layers.Enclosed.{IsEnclosed};
 ghost use Rattle.sabr_search.specs.layers.Settling.{IsBound, AreReal, AreArrivalsBy, settled_count, IsWayTo, IsFirstWay, AreSettling, AreSettled, IsFallen, AreSettledTaken};
 
 use crate::backward::pick::Standing;
 use crate::backward::since::cost_by;
+use crate::forward::enclosed::Enclosure;
 use crate::forward::layers::{Best, NEVER, open_nodes};
 use crate::forward::queue::{Event, Queue};
 use crate::links::looks::Looks;
@@ -64,6 +66,25 @@ impl<'t, 'a, 'b, A: Allocator + Copy> Forward<'t, 'a, 'b, A> {
     {
         delivery.saturating_sub(self.cost(to)).min(arrival[to])
     }
+
+    /// Returns true if no way but a first step straight to the goal delivers before `best`, where there is such a step. It
+    /// isn't asked without the costs to the goal: then the arrivals at all nodes are wanted, too.
+    fn is_enclosed(
+        &self,
+        enclosure: &mut Enclosure<A>,
+        first: &[Standing],
+        best: Best,
+    ) -> Result<bool, NoMemory>
+        requires task { IsTask self.now.task.now }
+        requires inside { (k : ℕ) (s : Standing) → slice_get first.now k ≡ Some s → s.node < length self.now.task.now.table }
+        requires steps { AreFirstSteps self.now.task.now first.now }
+        ensures { IfOk result (λ enclosed. IsTrue enclosed → IsEnclosed self.now.task.now best.delivery) }
+    {
+        if best.hops == 0 || self.near.is_empty() {
+            return Ok(false);
+        }
+        enclosure.is_enclosed(self.task, first, best.delivery)
+    }
 }
 
 /// Returns true if, by the bounds of a link, nothing that is at its sender at `at` comes to its receiver sooner than is known.
@@ -83,6 +104,7 @@ pub struct Settling<A: Allocator + Copy> {
     pub arrival: Vec<u64, A>,
     settled: Vec<bool, A>,
     queue: Queue<A>,
+    enclosure: Enclosure<A>,
 }
 
 impl<A: Allocator + Copy> Settling<A> {
@@ -92,6 +114,7 @@ impl<A: Allocator + Copy> Settling<A> {
             arrival: Vec::new(alloc),
             settled: Vec::new(alloc),
             queue: Queue::new(alloc),
+            enclosure: Enclosure::new(alloc),
         }
     }
 
@@ -287,6 +310,11 @@ impl<A: Allocator + Copy> Settling<A> {
     {
         self.first_events(forward)?;
         let mut best = self.settle_start(forward, first)?;
+        let enclosed = forward.is_enclosed(&mut self.enclosure, first, best)?;
+        if enclosed {
+            self.arrival.clear();
+            return Ok(Some(best));
+        }
         while let Some(event) = self.queue.pop() {
             if event.at >= best.delivery {
                 return Ok(Some(best));

@@ -1,13 +1,41 @@
-use Rattle.std.proofs.Common.{◌≡◌, inl, inr, [], refl, Some, slice_get, slice_index_or, ap, sym, ◌∙◌, arith}
+use Rattle.std.proofs.Common.{◌≡◌, inl, inr, [], refl, Some, length, slice_get, slice_index_or, ap, sym, ◌∙◌, arith}
 use Rattle.std.proofs.lemmas.Option.{slice_get-get_or, slice_get_within}
 use Rattle.sabr_search.specs.declared.backward.pick.Standing.{Standing}
 use Rattle.sabr_search.specs.questions.Task.{never}
-use Rattle.sabr_search.proofs.WayLemmas.RoutesAndWays.{same_some}
+use Rattle.sabr_search.proofs.WayLemmas.RoutesAndWays.{same_some, takes_timely}
 use Rattle.sabr_search.proofs.ForwardLemmas.Forward.{known_lower, known_old, known_later, last_or_before}
-use Rattle.sabr_search.proofs.ForwardLemmas.FirstWays.{start_settled}
+use Rattle.sabr_search.proofs.ForwardLemmas.FirstWays.{start_settled, start_state}
 use Rattle.sabr_search.proofs.ForwardLemmas.Queues.{fallen_more}
 use Rattle.sabr_search.proofs.forward.settling.Settling.settle_start.Goals as goal
 use Rattle.sabr_search.proofs.forward.settling.Settling.settle_start.Goals.{then-step-news+in_ok-best, else-step-news}
+
+pub loop-place-init : goal.loop-place-init
+loop-place-init g c =
+    let task = c.args.forward.now.task.now in
+    record {
+      settled = refl;
+      state = rw c.at.ensures (start_state task c.requires.task c.args.self.now.settled.items _ c.start.result c.requires.settled c.start.ensures refl _ _ _ c.requires.arrivals c.requires.bound _ _ c.requires.queue refl refl);
+      fallen = record { lower = omega arith; lowered = λ k. omega arith; kept = λ k on. refl };
+      known = λ k s less. absurd (omega (arith, less));
+    }
+
+pub news-requires-clause-node : goal.news-requires-clause-node
+news-requires-clause-node g c =
+    let none : Standing = record { node = 0; at = 0 } in
+    let at = slice_get-get_or c.args.first.now c.loop-place.place none c.loop-place-test.true in
+    omega (arith, c.requires.inside c.loop-place.place _ at, c.loop-place.invariant.state.flags, c.requires.task.as_many, ap length c.deref.ensures.value)
+
+pub reach-requires-clause-receiver : goal.reach-requires-clause-receiver
+reach-requires-clause-receiver g c =
+    let none : Standing = record { node = 0; at = 0 } in
+    c.requires.inside c.loop-place.place _ (slice_get-get_or c.args.first.now c.loop-place.place none c.loop-place-test.true)
+
+pub reach-requires-clause-later : goal.reach-requires-clause-later
+reach-requires-clause-later g c =
+    let task = c.args.forward.now.task.now in
+    let none : Standing = record { node = 0; at = 0 } in
+    let step = c.requires.real c.loop-place.place _ (slice_get-get_or c.args.first.now c.loop-place.place none c.loop-place-test.true) in
+    omega (arith, c.at.ensures, (takes_timely task c.requires.task.nodes).later step.0 task.start task.at _ _ step.1)
 
 pub reach-requires-clause-step : goal.reach-requires-clause-step
 reach-requires-clause-step g c = λ open'.
