@@ -68,11 +68,12 @@ impl<'t, 'a, 'b, A: Allocator + Copy> Forward<'t, 'a, 'b, A> {
     }
 
     /// Returns true if no way but a first step straight to the goal delivers before `best`, where there is such a step. It
-    /// isn't asked without the costs to the goal: then the arrivals at all nodes are wanted, too.
+    /// isn't asked if no event comes before that, nor without the costs to the goal: then all arrivals are wanted, too.
     fn is_enclosed(
         &self,
         enclosure: &mut Enclosure<A>,
         first: &[Standing],
+        event: u64,
         best: Best,
     ) -> Result<bool, NoMemory>
         requires task { IsTask self.now.task.now }
@@ -80,7 +81,7 @@ impl<'t, 'a, 'b, A: Allocator + Copy> Forward<'t, 'a, 'b, A> {
         requires steps { AreFirstSteps self.now.task.now first.now }
         ensures { IfOk result (λ enclosed. IsTrue enclosed → IsEnclosed self.now.task.now best.delivery) }
     {
-        if best.hops == 0 || self.near.is_empty() {
+        if best.hops == 0 || event >= best.delivery || self.near.is_empty() {
             return Ok(false);
         }
         enclosure.is_enclosed(self.task, first, best.delivery)
@@ -310,7 +311,8 @@ impl<A: Allocator + Copy> Settling<A> {
     {
         self.first_events(forward)?;
         let mut best = self.settle_start(forward, first)?;
-        let enclosed = forward.is_enclosed(&mut self.enclosure, first, best)?;
+        let event = self.queue.first_at();
+        let enclosed = forward.is_enclosed(&mut self.enclosure, first, event, best)?;
         if enclosed {
             self.arrival.clear();
             return Ok(Some(best));
