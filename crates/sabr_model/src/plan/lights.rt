@@ -15,8 +15,9 @@ const FEW_SLOTS: usize = 1024;
 
 const MANY_SLOTS: usize = 65536;
 
-/// Returns the light time of each contact. It takes a few steps for a contact whose pair's last one had the same range, or
-/// the range before, and a binary search of the ranges or two for others.
+/// Returns the light time of each contact. A pair's first range is guessed first, and then the range of the pair's last
+/// contact. It takes a few steps for a contact with the range that is guessed, or with the one before, and a binary search
+/// of the ranges or two for others.
 pub fn lights_of<A: Allocator + Copy>(
     alloc: A,
     contacts: &[Contact],
