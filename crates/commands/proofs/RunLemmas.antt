@@ -1,7 +1,6 @@
 -- Pages and sessions.
 pub mod SessionPages
 pub mod PageTexts
-pub mod LastPages
 pub mod ManyAnswers
 pub mod ManyAsFirst
 pub mod OldSessions

@@ -6,7 +6,6 @@ mod check;
 mod ending;
 mod explain;
 mod first;
-mod last_page;
 mod many;
 mod next;
 mod pages;

@@ -1,4 +1,5 @@
 -- Pages, and the place of a session.
+pub mod LastPages
 pub mod Pages
 pub mod RoutesLeft
 pub mod StandingPages

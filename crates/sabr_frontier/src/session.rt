@@ -1,6 +1,6 @@
 //! A session over a listing of routes: the next routes a page at a time, and back.
 
-ghost use Rattle.std.specs.Prelude.{◌≡◌, ◌≢◌, ℕ, ◌+◌, ◌^◌, ◌<◌, ◌≤◌, ◌⊎◌, ◌↔◌, ◌∷◌, [], map, length, is_some, None, Ok, IfOk, IfSome, IfNone, OnOk, OnErr, IsOk, IsTrue, IsFalse};
+ghost use Rattle.std.specs.Prelude.{◌≡◌, ◌≢◌, ℕ, ◌+◌, ◌^◌, ◌<◌, ◌≤◌, ◌⊎◌, ◌↔◌, ◌∷◌, [], map, length, is_some, None, Ok, IfOk, OnOk, OnErr, IsOk, IsTrue, IsFalse};
 ghost use Rattle.sabr_model.specs.plan.Plan.{IsPlan};
 ghost use Rattle.sabr_model.specs.routes.Asking.{IsRequest};
 ghost use Rattle.sabr_model.specs.routes.Record.{record_of};
@@ -12,8 +12,9 @@ ghost use Rattle.sabr_frontier.specs.tree.Sound.{IsTree};
 ghost use Rattle.sabr_frontier.specs.tree.Undo.{IsRoomy};
 ghost use Rattle.sabr_frontier.specs.session.Views.{seen_left};
 
+pub mod last_page;
+
 use crate::giving::asker::Asker;
-use crate::peeked::Peeked;
 use crate::plan_request::PlanRequest;
 use crate::tree::Tree;
 use crate::views::Parts;
@@ -71,26 +72,6 @@ impl<'p, B: BestOf<A>, A: Allocator + Copy> Session<'p, B, A> {
             request,
         };
         Session::begin(Asker::new(question, finder)?)
-    }
-
-    /// Starts a session over the same plan for another request, as [`start`](Session::start) does, with this one's index
-    /// and finder.
-    ///
-    /// # Errors
-    ///
-    /// [`NoMemory`] if a growth was refused. The finder is dropped.
-    pub fn start_again(self, request: Request) -> Result<Session<'p, B, A>, NoMemory>
-        ensures { IfOk result (λ s. s ≡ started self.entry.plan request (self.entry.calls + 1)) }
-    {
-        self.plan().tell_rules();
-        request.tell_limits();
-        let Session {
-            asker,
-            tree: _,
-            pages: _,
-            searches: _,
-        } = self;
-        Session::begin(asker.with_request(request))
     }
 
     /// Starts a session of what the asker asks for.
@@ -184,31 +165,6 @@ impl<'p, B: BestOf<A>, A: Allocator + Copy> Session<'p, B, A> {
                 Err(refused)
             }
         }
-    }
-
-    /// Tells the route that a page of one would give, and whether a route would be left after it; `None` if none is left.
-    /// Nothing is given. It takes no search if another part carries a route too, and else those of the page up to the
-    /// first that finds one.
-    ///
-    /// # Errors
-    ///
-    /// [`NoMemory`] if a growth was refused.
-    pub fn peek(&mut self) -> Result<Option<Peeked<A>>, NoMemory>
-
-        // It is the page's route, and whether one is left in the state after it.
-        ensures route { IfOk result (λ peeked. IfSome peeked (λ x. map (record_of self.old.plan.plan self.old.request) (next_page self.old 1).0 ≡ x.route ∷ [])) }
-        ensures more { IfOk result (λ peeked. IfSome peeked (λ x. x.more ≡ is_some (next_route self.old.plan.plan self.old.request (next_page self.old 1).1))) }
-
-        // It is none just if none is left, and then it is never refused.
-        ensures none { IfOk result (λ peeked. IfNone peeked (next_route self.old.plan.plan self.old.request self.old.state ≡ None)) }
-        ensures free { next_route self.old.plan.plan self.old.request self.old.state ≡ None → result ≡ Ok None }
-
-        // All but the calls is as before, also after a refusal.
-        ensures stays { self.new ≡ record self.old { calls = self.new.calls } }
-        ensures no_fewer { self.old.calls ≤ self.new.calls }
-        ensures at_most { self.new.calls ≤ self.old.calls + page_searches self.old 1 }
-    {
-        self.tree.peek(&mut self.asker)
     }
 
     /// Takes back the last page that gave routes and wasn't taken back yet: the state is the one before it. Returns

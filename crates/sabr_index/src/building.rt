@@ -1,6 +1,6 @@
 //! How the links of each node are built.
 
-ghost use Rattle.std.specs.Prelude.{◌≡◌, ◌<◌, ℕ, IfOk, MatchOption, length, map, slice_index};
+ghost use Rattle.std.specs.Prelude.{◌≡◌, ◌<◌, ◌^◌, ℕ, IfOk, MatchOption, length, map, slice_index};
 ghost use Rattle.sabr_index.specs.Grouping.{AreByNode, AreStanding, numbers_of_places};
 ghost use Rattle.sabr_index.specs.Links.{AreLinksOf};
 ghost use Rattle.sabr_index.specs.Linking.{AreSent, HasNoLight, IsContactPass, IsBounded, AreBounded, ArePassesOf, AreLinked};
@@ -10,7 +10,7 @@ use crate::link::{Link, Pass};
 use crate::order::ContactOrder;
 use crate::rows::write_links;
 use crate::table::{KeptLinks, LinkTable};
-use sabr_model::Plan;
+use sabr_model::{Plan, as_u16};
 use std::alloc::{AllocError, Allocator};
 
 /// Makes the links of each node of the table.
@@ -42,7 +42,7 @@ fn links_at<A: Allocator + Copy>(
     alloc: A,
     plan: &Plan<A>,
     order: &ContactOrder<A>,
-    places: &[u32],
+    places: &[u16],
     written: &mut Vec<Link, A>,
 ) -> Result<KeptLinks<A>, AllocError>
     requires { AreStanding plan.now.plan.contacts order.now.places.items places.now }
@@ -61,12 +61,13 @@ fn passes_at<A: Allocator + Copy>(
     alloc: A,
     plan: &Plan<A>,
     order: &ContactOrder<A>,
-    places: &[u32],
+    places: &[u16],
 ) -> Result<Vec<Pass, A>, AllocError>
     requires { AreStanding plan.now.plan.contacts order.now.places.items places.now }
     ensures are { IfOk result (λ v. ArePassesOf plan.now (numbers_of_places plan.now.plan.contacts order.now.places.items places.now) v.items) }
     ensures bounded { IfOk result (λ v. AreBounded v.items) }
 {
+    as_u16(plan.nodes())?;
     let mut passes = Vec::with_capacity(alloc, places.len())?;
     for place in places {
         if let Some(pass) = pass_of(plan, order.places[*place as usize] as usize) {
@@ -78,21 +79,23 @@ fn passes_at<A: Allocator + Copy>(
 
 /// Makes the pass of the contact at a place, bounded by itself alone, or none if it has no light time.
 fn pass_of<A: Allocator + Copy>(plan: &Plan<A>, place: usize) -> Option<Pass>
-    requires { place < length plan.now.plan.contacts }
+    requires place { place < length plan.now.plan.contacts }
+    requires few { length plan.now.table < 2 ^ 16 }
     ensures { MatchOption result (HasNoLight plan.now (slice_index (map (λ c. c.number) plan.now.plan.contacts) place)) (λ x. (x.number ≡ slice_index (map (λ c. c.number) plan.now.plan.contacts) place) × IsContactPass plan.now x × IsBounded x) }
 {
     let (number, hop) = plan.hop_at(place);
     let light = hop.light?;
+    let receiver = hop.receiver as u16;
     Some(Pass {
         number,
         light,
-        receiver: hop.receiver,
         start: hop.start,
         end: hop.end,
         latest_end: hop.end,
         least_light_before: light,
         least_light_behind: light,
         least_number_behind: number,
+        receiver,
         in_row_behind: 0,
     })
 }

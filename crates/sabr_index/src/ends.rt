@@ -5,7 +5,7 @@ ghost use Rattle.sabr_model.specs.plan.Plan.{has};
 ghost use Rattle.sabr_model.specs.plan.ContactEnds.{AreEnds, AreEndsOf};
 ghost use Rattle.sabr_model.specs.plan.Tabled.{IsTabled};
 
-use sabr_model::{Contact, Ends, Plan};
+use sabr_model::{Contact, Ends, Plan, as_u16};
 use std::alloc::{AllocError, Allocator};
 
 /// Looks up the ends of each contact.
@@ -20,21 +20,24 @@ pub fn ends_of_contacts<A: Allocator + Copy>(
     let contacts = plan.contacts();
     ends.reserve(contacts.len())?;
     for contact in contacts {
-        ends.push(ends_of_contact(plan, contact))?;
+        let both = ends_of_contact(plan, contact)?;
+        ends.push(both)?;
     }
     Ok(ends)
 }
 
 /// Looks up the ends of a contact whose nodes are in the table.
-fn ends_of_contact<A: Allocator + Copy>(plan: &Plan<A>, contact: &Contact) -> Ends
+fn ends_of_contact<A: Allocator + Copy>(
+    plan: &Plan<A>,
+    contact: &Contact,
+) -> Result<Ends, AllocError>
     requires from { IsTrue (has contact.now.from plan.now.table) }
     requires to { IsTrue (has contact.now.to plan.now.table) }
-    ensures { AreEndsOf plan.now.table contact.now result }
+    ensures { IfOk result (λ e. AreEndsOf plan.now.table contact.now e) }
 {
-    Ends {
-        from: index_of(plan, contact.from),
-        to: index_of(plan, contact.to),
-    }
+    let from = as_u16(index_of(plan, contact.from))?;
+    let to = as_u16(index_of(plan, contact.to))?;
+    Ok(Ends { from, to })
 }
 
 /// Returns the index of a node of the table.

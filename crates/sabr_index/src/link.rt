@@ -8,8 +8,6 @@ pub struct Pass {
     pub number: u32,
     /// The one-way light time in seconds that is in force at its start.
     pub light: u32,
-    /// The index of its receiver in the table of nodes.
-    pub receiver: usize,
     /// The first second at which the contact can be used.
     pub start: u64,
     /// The first second at which the contact can no longer be used.
@@ -22,8 +20,10 @@ pub struct Pass {
     pub least_light_behind: u32,
     /// The least number of this contact and those after it on the link.
     pub least_number_behind: u32,
+    /// The index of its receiver in the table of nodes.
+    pub receiver: u16,
     /// A number of contacts after this one whose numbers surely follow its own one by one, if the link has that many.
-    pub in_row_behind: u32,
+    pub in_row_behind: u16,
 }
 
 /// Bounds that hold for each pass of a link, so that a search can skip the whole link.
@@ -41,11 +41,11 @@ pub struct LinkBounds {
 #[derive(Clone, Copy)]
 pub struct Link {
     /// The index of the receiver in the table of nodes.
-    pub receiver: usize,
+    pub receiver: u16,
     /// The place of the link's first pass.
-    pub first: usize,
+    pub first: u16,
     /// The place after the link's last pass.
-    pub end: usize,
+    pub end: u16,
     /// The bounds that hold for each of its passes.
     pub bounds: LinkBounds,
 }

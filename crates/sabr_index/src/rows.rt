@@ -5,6 +5,7 @@ ghost use Rattle.sabr_index.specs.declared.link.Pass.{Pass};
 ghost use Rattle.sabr_index.specs.Linking.{AreRows};
 
 use crate::link::{Link, LinkBounds, Pass};
+use sabr_model::as_u16;
 use std::alloc::{AllocError, Allocator};
 
 /// Writes the links over passes: one over each row of passes to one receiver.
@@ -15,13 +16,14 @@ pub fn write_links<A: Allocator + Copy>(
     ensures { OnOk result (AreRows passes.now links.new.items (length passes.now)) }
 {
     links.clear();
+    as_u16(passes.len())?;
     let mut first = 0;
     while first < passes.len() {
         let end = end_of_row(passes, first);
         links.push(Link {
             receiver: passes[first].receiver,
-            first,
-            end,
+            first: first as u16,
+            end: end as u16,
             bounds: bounds_of_row(passes, first, end),
         })?;
         first = end;

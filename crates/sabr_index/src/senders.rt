@@ -9,12 +9,15 @@ use crate::table::LinkTable;
 use std::alloc::{Allocator, Global};
 use std::marker::Model;
 
-/// A link by the index of its sender in the table of nodes and its place among the sender's links, with its bounds.
+/// A link by the index of its sender in the table of nodes and its place among the sender's links, with its bounds. All
+/// stand side by side, without a gap.
 #[derive(Clone, Copy)]
 pub struct Incoming {
-    pub sender: u32,
-    pub place: u32,
-    pub bounds: LinkBounds,
+    pub latest_end: u64,
+    pub soonest: u64,
+    pub least_light: u32,
+    pub sender: u16,
+    pub place: u16,
 }
 
 /// The links to one node, each with its sender.
@@ -62,7 +65,11 @@ impl<'a, A: Allocator + Copy> Senders<'a, A> {
         let top = incoming[place];
         SenderHead {
             node: top.sender as usize,
-            bounds: top.bounds,
+            bounds: LinkBounds {
+                latest_end: top.latest_end,
+                least_light: top.least_light,
+                soonest: top.soonest,
+            },
         }
     }
 
@@ -79,8 +86,8 @@ impl<'a, A: Allocator + Copy> Senders<'a, A> {
         let passes = sent.passes;
         Sender {
             node: named.sender as usize,
-            passes: &passes[link.first..link.end],
-            bounds: named.bounds,
+            passes: &passes[link.first as usize..link.end as usize],
+            bounds: link.bounds,
         }
     }
 }

@@ -9,7 +9,7 @@ ghost use Rattle.sabr_model.specs.plan.Table.{without_number, list_at, with_numb
 ghost use Rattle.sabr_model.specs.plan.ContactEnds.{AreEndsOf, AreEnds};
 
 use crate::contact::Contact;
-use crate::plan::ends::Ends;
+use crate::plan::ends::{Ends, as_u16};
 use indexmap::IndexMap;
 use std::alloc::{AllocError, Allocator};
 use std::hash::{BuildHasherDefault, FoldHasher};
@@ -124,13 +124,13 @@ pub fn note_contact<A: Allocator + Copy>(
     alloc: A,
     table: &mut NodeTable<A>,
     contact: &Contact,
-    guess: Ends,
-) -> Result<Ends, AllocError>
+    guess: (usize, usize),
+) -> Result<(usize, usize), AllocError>
     requires { IsUnique nat_eq table.old }
 
     // Both nodes are there, and the sender has the number.
     ensures ok { OnOk result ((q : ℕ) → list_at table.new q ≡ with_ends (list_at table.old q) (q == contact.now.from) (q == contact.now.to) contact.now.number) }
-    ensures ends { IfOk result (λ e. AreEndsOf (keys table.new) contact.now e) }
+    ensures ends { IfOk result (λ e. AreEndsOf (keys table.new) contact.now (record { from = e.0; to = e.1 })) }
     ensures places { OnOk result (KeepsPlaces (keys table.old) (keys table.new)) }
 
     // A refusal changes no list and no node.
@@ -138,14 +138,14 @@ pub fn note_contact<A: Allocator + Copy>(
     ensures err_nodes { OnErr result (keys table.new ≡ keys table.old) }
     ensures unique { IsUnique nat_eq table.new }
 {
-    if stands_at(table, contact.from, guess.from) && stands_at(table, contact.to, guess.to) {
-        push_number(table, guess.from, contact.number)?;
+    if stands_at(table, contact.from, guess.0) && stands_at(table, contact.to, guess.1) {
+        push_number(table, guess.0, contact.number)?;
         return Ok(guess);
     }
     table.reserve(2)?;
     let from = add_number(alloc, table, contact.from, contact.number)?;
     let to = add_node(alloc, table, contact.to)?;
-    Ok(Ends { from, to })
+    Ok((from, to))
 }
 
 /// Makes the table of the nodes of contacts in order of number, and the ends of each contact.
@@ -162,14 +162,16 @@ pub fn table_of<A: Allocator + Copy>(
     let mut guesses = Vec::new(alloc);
     guesses.resize(GUESSES, 0)?;
     for contact in contacts {
-        let guess = Ends {
-            from: guess_of(&guesses, contact.from),
-            to: guess_of(&guesses, contact.to),
-        };
-        let both = note_contact(alloc, &mut table, contact, guess)?;
-        note_guess(&mut guesses, contact.from, guess.from, both.from);
-        note_guess(&mut guesses, contact.to, guess.to, both.to);
-        ends.push(both)?;
+        let guess = (
+            guess_of(&guesses, contact.from),
+            guess_of(&guesses, contact.to),
+        );
+        let found = note_contact(alloc, &mut table, contact, guess)?;
+        note_guess(&mut guesses, contact.from, guess.0, found.0);
+        note_guess(&mut guesses, contact.to, guess.1, found.1);
+        let from = as_u16(found.0)?;
+        let to = as_u16(found.1)?;
+        ends.push(Ends { from, to })?;
     }
     Ok((table, ends))
 }

@@ -20,7 +20,7 @@ use crate::contact::{Contact, Range};
 use crate::node_table::NodeTable;
 use crate::openings::Openings;
 pub use arriving::arrive;
-pub use ends::Ends;
+pub use ends::{Ends, as_u16};
 use indexmap::IndexMap;
 pub use ranges::comes_by;
 use std::alloc::{Allocator, Global};

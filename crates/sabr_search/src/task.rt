@@ -239,7 +239,7 @@ impl<'a, A: Allocator + Copy> Task<'a, A> {
             self.excluded,
             self.in_order,
             pass.number,
-            pass.in_row_behind,
+            pass.in_row_behind as u32,
         )
     }
 

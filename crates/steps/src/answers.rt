@@ -61,3 +61,14 @@ pub fn routes<A: Allocator + Copy>(alloc: Global, routes: &[Route<A>]) -> Option
     }
     Some(text)
 }
+
+/// The answer of a call that returned routes, and whether there are more.
+pub fn routes_and_more<A: Allocator + Copy>(
+    alloc: Global,
+    given: &[Route<A>],
+    more: bool,
+) -> Option<String> {
+    let mut text = routes(alloc, given)?;
+    text.push_str(if more { " more" } else { " end" }).ok()?;
+    Some(text)
+}

@@ -1,6 +1,6 @@
 //! The session that was made last over a plan, and the steps that make one.
 
-use crate::answers::{done, no_memory, refused, routes, yes_or_no};
+use crate::answers::{done, no_memory, refused, routes_and_more, yes_or_no};
 use crate::desk::Desk;
 use crate::fresh::Fresh;
 use crate::loading::{fed, loaded};
@@ -44,6 +44,15 @@ impl<'p, B: Fresh<A>, A: Allocator + Copy> HeldSession<'p, B, A> {
         words: &mut Words<'_>,
     ) -> Option<String> {
         session_step(self.session.as_mut()?, desk, name, words)
+    }
+
+    /// The last page of the session, at most 10000 routes, and whether there are more. The session is gone then.
+    pub fn last(&mut self, desk: &Desk<'_>, words: &mut Words<'_>) -> Option<String> {
+        let count = small_number(words)?.min(10000);
+        match self.session.take()?.last_page(count) {
+            Ok(last) => routes_and_more(desk.alloc, last.routes(), last.more()),
+            Err(_) => no_memory(desk.alloc),
+        }
     }
 
     /// Starts a session.
@@ -115,12 +124,7 @@ impl<'p, B: Fresh<A>, A: Allocator + Copy> HeldSession<'p, B, A> {
         let request = desk.asked.request().ok()?;
         let count = small_number(words)?.min(10000);
         match first_routes(self.alloc, self.plan, &request, count) {
-            Ok(page) => {
-                let mut text = routes(desk.alloc, page.routes.as_slice())?;
-                text.push_str(if page.more { " more" } else { " end" })
-                    .ok()?;
-                Some(text)
-            }
+            Ok(page) => routes_and_more(desk.alloc, page.routes.as_slice(), page.more),
             Err(_) => no_memory(desk.alloc),
         }
     }

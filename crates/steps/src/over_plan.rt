@@ -49,7 +49,8 @@ fn step<A: Allocator + Copy, B: Fresh<A>>(
         "verify" => held.verify(desk),
         "plain" => held.plain(desk, words),
         "fits" | "best" | "looks" | "follow" => part_step(held.plan(), finder, desk, name, words),
-        "page" | "peek" | "back" | "certify" | "place" | "parts" | "write" | "keep" => {
+        "last" => held.last(desk, words),
+        "page" | "back" | "certify" | "place" | "parts" | "write" | "keep" => {
             held.step(desk, name, words)
         }
         _ => desk.step(name, words),

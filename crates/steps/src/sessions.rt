@@ -19,7 +19,6 @@ pub fn session_step<A: Allocator + Copy, B: BestOf<A>>(
 ) -> Option<String> {
     match name {
         "page" => page(session, desk.alloc, small_number(words)),
-        "peek" => peeked(session, desk.alloc),
         "back" => yes_or_no(desk.alloc, session.back()),
         "certify" => certified(session, desk.alloc),
         "place" => place(session, desk.alloc),
@@ -40,23 +39,6 @@ fn page<A: Allocator + Copy, B: BestOf<A>>(
         Ok(given) => routes(alloc, given.as_slice()),
         Err(_) => no_memory(alloc),
     }
-}
-
-/// The next route, after whether one is left then.
-fn peeked<A: Allocator + Copy, B: BestOf<A>>(
-    session: &mut Session<'_, B, A>,
-    alloc: Global,
-) -> Option<String> {
-    let Ok(peeked) = session.peek() else {
-        return no_memory(alloc);
-    };
-    let Some(next) = peeked else {
-        return String::from_str(alloc, "none").ok();
-    };
-    let more = if next.more { "more" } else { "end" };
-    let mut text = String::from_str(alloc, more).ok()?;
-    put_route(&mut text, &next.route, alloc)?;
-    Some(text)
 }
 
 /// Whether the session is that of its place.

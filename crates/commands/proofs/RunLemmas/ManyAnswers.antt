@@ -4,7 +4,6 @@ use Rattle.sabr_model.specs.Devices.{Output, Written, WrittenInPart}
 use Rattle.sabr_model.specs.plan.Plan.{ContactPlan, IsPlan, TabledPlan}
 use Rattle.sabr_model.specs.routes.Arrival.{RouteRequest}
 use Rattle.sabr_model.specs.routes.Record.{RouteRecord, record_of}
-use Rattle.sabr_frontier.specs.listing.State.{State}
 use Rattle.sabr_frontier.specs.listing.Listing.{state_at, steps, next_route}
 use Rattle.sabr_frontier.specs.session.Session.{Seen}
 use Rattle.sabr_session.specs.ReportText.{report_text}
@@ -143,15 +142,15 @@ all_answered p count requested lines old new h e =
     (h.done, h.parts ∙ ap (λ xs. Ok (h.done ++ xs)) left ∙ ap Ok (append-nil h.done), h.written)
 
 -- the report of a page of a session just started is that of the first page
-pub first_of_page : (s : Seen) (k : ℕ) (routes : List RouteRecord) (rank : ℕ) (more : Bool) → IsPlan s.plan.plan
-    → s.state ≡ state_at s.plan.plan s.request 0
+pub first_of_page : (p : TabledPlan) (r : RouteRequest) (s : Seen) (k : ℕ) (routes : List RouteRecord) (rank : ℕ) (more : Bool) → IsPlan p.plan
+    → (s.plan ≡ p) × (s.request ≡ r) × (s.state ≡ state_at p.plan r 0)
     → routes ≡ map (record_of s.plan.plan s.request) (steps s.plan.plan s.request k s.state).0
     → rank ≡ s.state.emitted → more ≡ is_some (next_route s.plan.plan s.request (steps s.plan.plan s.request k s.state).1)
-    → report_text routes (rank + 1) more ≡ first_report s.plan.plan s.request k
-first_of_page s k routes rank more rules started given count goes_on =
+    → report_text routes (rank + 1) more ≡ first_report p.plan r k
+first_of_page p r s k routes rank more rules (plan, request, state) given count goes_on =
     report_of_page s k routes rank more given count goes_on
-    ∙ ap (λ (state : State). next_report s.plan.plan s.request state k) started
-    ∙ first_report_is s.plan.plan s.request k rules
+    ∙ (λ i. next_report (plan i).plan (request i) (state i) k)
+    ∙ first_report_is p.plan r k rules
 
 -- one answer, where its writer failed, or memory was refused
 pub answer_failed : (p : ContactPlan) (count : ℕ) (x : RequestLine) (end : Result (Unit {0}) Failure) (a c : Output) → IsErrAnd end (λ e. e ≡ failure.Write) → WrittenInPart a (answer_text p count x) c → LeavesAnswer p count x end a c

@@ -43,6 +43,12 @@ pub text_of_page : (before after : Seen) (k : ℕ) → after.plan ≡ before.pla
     ≡ text_of (digest_of before.plan.plan) before.request (steps before.plan.plan before.request k before.state).1
 text_of_page before after k plan request state = rw (plan, request, state) refl
 
+-- memory was refused
+pub page_refused : (keep : Bool) (p : ContactPlan) (report : List ℕ) (x : RouteRequest × State) (end : Result (Unit {0}) Failure) (a b : Output)
+    → IsErrAnd end (λ e. e ≡ failure.NoMemory) → WritesPage keep p report x end a a b b
+page_refused keep p report x (Ok _) a b bad = absurd bad
+page_refused keep p report x (Err e) a b is = rw is (refl, refl)
+
 -- the report's writer failed: nothing is left on the session's
 pub report_failed : (keep : Bool) (p : ContactPlan) (report : List ℕ) (x : RouteRequest × State) (end : Result (Unit {0}) Failure) (a c b : Output)
     → IsErrAnd end (λ e. e ≡ failure.Write) → WrittenInPart a report c → WritesPage keep p report x end a c b b

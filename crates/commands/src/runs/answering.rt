@@ -6,8 +6,7 @@ ghost use Rattle.sabr_frontier.specs.listing.Listing.{most_routes, state_at};
 ghost use Rattle.commands.specs.runs.Many.{LeavesAnswer, heading};
 
 use crate::failure::Failure;
-use crate::runs::last_page::last_page;
-use sabr_frontier::Session;
+use sabr_frontier::{LastPage, Session};
 use sabr_model::{NoMemory, Plan, Request, Write, WriteFault};
 use sabr_search::{BestOf, Settled};
 use sabr_session::{TextBuffer, put_pieces, write_report};
@@ -21,8 +20,8 @@ pub struct Answering<'p, A: Allocator + Copy = Global> {
     alloc: A,
     /// The plan.
     plan: &'p Plan<A>,
-    /// The session of the request before. `None` before the first, and after one that failed.
-    before: Option<Session<'p, Settled<A>, A>>,
+    /// The page of the request before. `None` before the first, and after one that failed.
+    before: Option<LastPage<'p, Settled<A>, A>>,
 }
 
 impl<'p, A: Allocator + Copy> Model for Answering<'p, A> {
@@ -33,7 +32,7 @@ impl<'p, A: Allocator + Copy> Model for Answering<'p, A> {
 
     ghost view = { λ a. a.plan.now };
 
-    ghost invariant = { λ a. IfSome a.before (λ s. s.plan ≡ a.plan.now) };
+    ghost invariant = { λ a. IfSome a.before (λ last. last.plan ≡ a.plan.now) };
 }
 
 impl<'p, A: Allocator + Copy> Answering<'p, A> {
@@ -76,9 +75,14 @@ impl<'p, A: Allocator + Copy> Answering<'p, A> {
         ensures answer { LeavesAnswer self.old.plan count (record { line = line.now; request = request }) result (O.output out.old) (O.output out.new) }
         ensures plan { self.new ≡ self.old }
     {
-        let mut listing = self.start(request)?;
-        write_answer(&mut listing, line, count, out)?;
-        self.before = Some(listing);
+        let listing = self.start(request)?;
+        listing.plan().tell_rules();
+        listing.request().tell_limits();
+        let first_rank = listing.emitted() + 1;
+        let last = listing.last_page(count)?;
+        write_heading(line, out)?;
+        write_report(last.routes(), first_rank, last.more(), out)?;
+        self.before = Some(last);
         Ok(())
     }
 }
@@ -91,25 +95,4 @@ fn write_heading<O: Write>(line: &[u8], out: &mut O) -> Result<(), WriteFault>
     let pieces: [&[u8]; 3] = [b"request ", line, b"\n"];
     put_pieces(&mut text, &pieces)?;
     text.send()
-}
-
-/// Writes the answer to a request with this line, from a session just started.
-fn write_answer<O: Write, B: BestOf<A>, A: Allocator + Copy>(
-    listing: &mut Session<'_, B, A>,
-    line: &[u8],
-    count: u32,
-    out: &mut O,
-) -> Result<(), Failure>
-    requires count { count ≤ most_routes }
-    requires started { listing.old.state ≡ state_at listing.old.plan.plan listing.old.request 0 }
-    ensures answer { LeavesAnswer listing.old.plan.plan count (record { line = line.now; request = listing.old.request }) result (O.output out.old) (O.output out.new) }
-    ensures plan { listing.new.plan ≡ listing.old.plan }
-{
-    listing.plan().tell_rules();
-    listing.request().tell_limits();
-    let first_rank = listing.emitted() + 1;
-    let (routes, more) = last_page(listing, count)?;
-    write_heading(line, out)?;
-    write_report(routes.as_slice(), first_rank, more, out)?;
-    Ok(())
 }

@@ -1,19 +1,16 @@
 //! Writing a page: its report, and then the session after it, if that is kept.
 
-ghost use Rattle.std.specs.Prelude.{◌≡◌, ℕ, ◌+◌, ◌^◌, ◌<◌, ◌≤◌, All, IfOk, IfSome, IsTrue, OnOk, is_some, length, map};
+ghost use Rattle.std.specs.Prelude.{◌≡◌, ℕ, ◌+◌, ◌^◌, ◌<◌, ◌≤◌, All, IfOk, IfSome, IsTrue, is_some, length};
 ghost use Rattle.sabr_model.specs.Devices.{WritesText};
-ghost use Rattle.sabr_model.specs.routes.Record.{record_of};
 ghost use Rattle.sabr_plan.specs.Canonical.{digest_of};
-ghost use Rattle.sabr_frontier.specs.listing.Listing.{most_routes, next_route};
-ghost use Rattle.sabr_frontier.specs.session.Session.{next_page};
+ghost use Rattle.sabr_frontier.specs.listing.Listing.{most_routes};
 ghost use Rattle.sabr_session.specs.ReportText.{HasSpelledTimes, report_text};
 ghost use Rattle.sabr_session.specs.SessionText.{text_of_session, HasText};
 ghost use Rattle.commands.specs.runs.SessionRuns.{WritesPageOf};
 
 use crate::failure::Failure;
-use crate::runs::last_page::last_page;
 use sabr_frontier::Session;
-use sabr_model::{NoMemory, Route, Write, WriteFault};
+use sabr_model::{Route, Write, WriteFault};
 use sabr_search::BestOf;
 use sabr_session::{write_report, write_session};
 use std::alloc::Allocator;
@@ -28,27 +25,6 @@ pub struct PageWriters<'w, O, S> {
     pub session: &'w mut S,
     /// Whether that is kept.
     pub keep: bool,
-}
-
-/// The next `count` routes of a listing, and whether one is left after them. If `keep`, the listing then is at the place
-/// after them.
-fn page_routes<B: BestOf<A>, A: Allocator + Copy>(
-    listing: &mut Session<'_, B, A>,
-    count: u32,
-    keep: bool,
-) -> Result<(Vec<Route<A>, A>, bool), NoMemory>
-    requires { count ≤ most_routes }
-    ensures routes { IfOk result (λ page. page.0.items ≡ map (record_of listing.old.plan.plan listing.old.request) (next_page listing.old count).0) }
-    ensures more { IfOk result (λ page. page.1 ≡ is_some (next_route listing.old.plan.plan listing.old.request (next_page listing.old count).1)) }
-    ensures state { IsTrue keep → OnOk result (listing.new.state ≡ (next_page listing.old count).1) }
-    ensures plan { listing.new.plan ≡ listing.old.plan }
-    ensures request { listing.new.request ≡ listing.old.request }
-{
-    if keep {
-        let routes = listing.page(count)?;
-        return Ok((routes, listing.more()));
-    }
-    last_page(listing, count)
 }
 
 /// Writes and flushes the report of a page.
@@ -111,11 +87,13 @@ pub fn write_page<O: Write, S: Write, B: BestOf<A>, A: Allocator + Copy>(
     listing.plan().tell_rules();
     listing.request().tell_limits();
     let first_rank = listing.emitted() + 1;
-    let (routes, more) = page_routes(&mut listing, count, keep.is_some())?;
-    send_report(routes.as_slice(), first_rank, more, out)?;
     let Some(digest) = keep else {
+        let last = listing.last_page(count)?;
+        send_report(last.routes(), first_rank, last.more(), out)?;
         return Ok(());
     };
+    let routes = listing.page(count)?;
+    send_report(routes.as_slice(), first_rank, listing.more(), out)?;
     send_session(&listing, &digest, session)?;
     Ok(())
 }

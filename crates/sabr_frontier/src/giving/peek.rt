@@ -1,6 +1,6 @@
 //! Telling the least route that the tree carries, and whether a route would be left after it. Nothing is given.
 
-ghost use Rattle.std.specs.Prelude.{◌≡◌, ◌+◌, ◌≤◌, ◌<◌, ◌∷◌, [], ◌||◌, take, drop, length, is_some, IfOk, IfSome, IfNone, IsTrue, None, Ok};
+ghost use Rattle.std.specs.Prelude.{◌≡◌, ◌+◌, ◌≤◌, ◌<◌, ◌++◌, ◌||◌, take, drop, length, is_some, IfOk, OnOk, IsTrue};
 ghost use Rattle.sabr_model.specs.plan.Plan.{IsPlan};
 ghost use Rattle.sabr_model.specs.routes.Route.{is_route};
 ghost use Rattle.sabr_frontier.specs.listing.Listing.{next_route, searches_in};
@@ -13,9 +13,8 @@ ghost use Rattle.sabr_frontier.specs.tree.Undo.{IsRoomy};
 
 use crate::giving::asker::Asker;
 use crate::giving::divide::{ask_after, numbers};
-use crate::peeked::Peeked;
 use crate::tree::{Node, NodeId, Tree};
-use sabr_model::NoMemory;
+use sabr_model::{NoMemory, Route};
 use sabr_search::BestOf;
 use std::alloc::Allocator;
 
@@ -102,23 +101,20 @@ impl<A: Allocator + Copy> Tree<A> {
         part_goes_on(asker, &self.nodes[node.0], route)
     }
 
-    /// Tells the least route that a node carries, and whether a route would be left once it is given. If no other node
-    /// carries one, it asks for the parts that the route would make, up to the first that has a route.
+    /// Puts the least route that a node carries after others, and tells whether a route would be left once it is given.
+    /// If no other node carries one, it asks for the parts that the route would make, up to the first that has a route.
     pub fn peek<B: BestOf<A>>(
         &self,
         asker: &mut Asker<'_, B, A>,
-    ) -> Result<Option<Peeked<A>>, NoMemory>
+        routes: &mut Vec<Route<A>, A>,
+    ) -> Result<bool, NoMemory>
         requires plan { IsPlan asker.old.asked.plan.plan }
         requires tree { IsTree asker.old.asked.plan.plan asker.old.asked.request (shape_of self.now) }
         requires room { IsRoomy self.now }
 
-        // It is the route that one step gives, and whether one is left after it.
-        ensures route { IfOk result (λ peeked. IfSome peeked (λ x. records_for asker.old.asked (steps_for asker.old.asked 1 (shown (shape_of self.now))).0 ≡ x.route ∷ [])) }
-        ensures more { IfOk result (λ peeked. IfSome peeked (λ x. x.more ≡ is_some (next_route asker.old.asked.plan.plan asker.old.asked.request (steps_for asker.old.asked 1 (shown (shape_of self.now))).1))) }
-
-        // It is none just if none is left, and then it is never refused.
-        ensures none { IfOk result (λ peeked. IfNone peeked (next_route asker.old.asked.plan.plan asker.old.asked.request (shown (shape_of self.now)) ≡ None)) }
-        ensures free { next_route asker.old.asked.plan.plan asker.old.asked.request (shown (shape_of self.now)) ≡ None → result ≡ Ok None }
+        // The route is the one that a step gives, or none if none is left. It tells whether one is left after the step.
+        ensures routes { OnOk result (routes.new.items ≡ routes.old.items ++ records_for asker.old.asked (steps_for asker.old.asked 1 (shown (shape_of self.now))).0) }
+        ensures more { IfOk result (λ more. more ≡ is_some (next_route asker.old.asked.plan.plan asker.old.asked.request (steps_for asker.old.asked 1 (shown (shape_of self.now))).1)) }
 
         // It takes no more searches than the step would. The question stays.
         ensures no_fewer { asker.old.calls ≤ asker.new.calls }
@@ -126,10 +122,11 @@ impl<A: Allocator + Copy> Tree<A> {
         ensures same { asker.new.asked ≡ asker.old.asked }
     {
         let Some(node) = self.least() else {
-            return Ok(None);
+            return Ok(false);
         };
         let route = self.copy_carried(asker.alloc(), node)?;
         let more = self.goes_on_after(asker, node, numbers(&route))?;
-        Ok(Some(Peeked { route, more }))
+        routes.push(route)?;
+        Ok(more)
     }
 }

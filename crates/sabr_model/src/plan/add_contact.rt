@@ -12,7 +12,6 @@ use crate::contact::Contact;
 use crate::fault::AddFault;
 use crate::node_table::note_contact;
 use crate::opening::Opening;
-use crate::plan::ends::Ends;
 use std::alloc::{AllocError, Allocator};
 
 impl<A: Allocator + Copy> Plan<A> {
@@ -48,12 +47,7 @@ impl<A: Allocator + Copy> Plan<A> {
         };
         self.contacts.reserve(1)?;
         self.openings.reserve()?;
-        note_contact(
-            self.alloc,
-            &mut self.table,
-            &contact,
-            Ends { from: 0, to: 0 },
-        )?;
+        note_contact(self.alloc, &mut self.table, &contact, (0, 0))?;
         self.openings.note(&contact);
         self.contacts.push_reserved(contact);
         self.greatest = number;

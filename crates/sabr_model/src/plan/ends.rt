@@ -1,6 +1,6 @@
 //! The ends of contacts, as indexes in the table of nodes.
 
-ghost use Rattle.std.specs.Prelude.{◌≡◌, ◌<◌, Some, IsTrue, length, slice_get, slice_index_or};
+ghost use Rattle.std.specs.Prelude.{◌≡◌, ◌<◌, Some, IfOk, IsTrue, length, slice_get, slice_index_or};
 ghost use Rattle.indexmap.specs.IndexMap.{keys};
 ghost use Rattle.sabr_model.specs.plan.Plan.{has};
 ghost use Rattle.sabr_model.specs.plan.Known.{BeginEnds};
@@ -8,13 +8,13 @@ ghost use Rattle.sabr_model.specs.plan.Known.{BeginEnds};
 use super::Plan;
 use crate::contact::Contact;
 use crate::node_table::NodeTable;
-use std::alloc::Allocator;
+use std::alloc::{AllocError, Allocator};
 
 /// The indexes of a contact's sender and receiver in the table of nodes.
 #[derive(Clone, Copy)]
 pub struct Ends {
-    pub from: usize,
-    pub to: usize,
+    pub from: u16,
+    pub to: u16,
 }
 
 impl<A: Allocator + Copy> Plan<A> {
@@ -33,7 +33,7 @@ impl<A: Allocator + Copy> Plan<A> {
         ensures { slice_get self.now.table result ≡ Some contact.now.to }
     {
         match self.ends.get(place) {
-            Some(ends) => ends.to,
+            Some(ends) => ends.to as usize,
             None => index_of(&self.table, contact.to),
         }
     }
@@ -47,4 +47,15 @@ fn index_of<A: Allocator + Copy>(table: &NodeTable<A>, node: u64) -> usize
     ensures { slice_get (keys table.now) result ≡ Some node }
 {
     table.get_index_of(&node).unwrap_or(0)
+}
+
+/// A number that takes no more than 16 bits, as each of a plan's nodes and contacts has. A greater one is refused as
+/// memory is.
+pub fn as_u16(number: usize) -> Result<u16, AllocError>
+    ensures { IfOk result (λ n. n ≡ number) }
+{
+    if number > u16::MAX as usize {
+        return Err(AllocError);
+    }
+    Ok(number as u16)
 }

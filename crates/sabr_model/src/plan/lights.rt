@@ -10,10 +10,11 @@ use super::ranges::{light_of_range, light_until, ranges_until};
 use crate::contact::{Contact, Range};
 use std::alloc::{AllocError, Allocator};
 
-/// So many slots have guesses for a plan of few ranges, and so many for others.
-const FEW_SLOTS: usize = 1024;
+/// So many slots have guesses for each range. With 4, walker-24 has 195 wrong guesses, each of which costs a binary search.
+const SLOTS_OF_RANGE: usize = 8;
 
-const MANY_SLOTS: usize = 65536;
+/// The guesses of more ranges than this share the slots of so many. With half as many slots, cube has 990 more wrong guesses.
+const MOST_RANGES: usize = 8192;
 
 /// Returns the light time of each contact. A pair's first range is guessed first, and then the range of the pair's last
 /// contact. It takes a few steps for a contact with the range that is guessed, or with the one before, and a binary search
@@ -40,11 +41,7 @@ pub fn lights_of<A: Allocator + Copy>(
 /// Returns for each pair of nodes the place of its first range, as a guess. Pairs may share a slot.
 fn guesses_of<A: Allocator + Copy>(alloc: A, ranges: &[Range]) -> Result<Vec<u32, A>, AllocError> {
     let mut guesses = Vec::new(alloc);
-    let slots = if ranges.len() < FEW_SLOTS {
-        FEW_SLOTS
-    } else {
-        MANY_SLOTS
-    };
+    let slots = (ranges.len().min(MOST_RANGES) * SLOTS_OF_RANGE).next_power_of_two();
     guesses.resize(slots, 0)?;
     for after in 0..ranges.len() {
         let place = ranges.len() - 1 - after;

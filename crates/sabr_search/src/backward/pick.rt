@@ -68,10 +68,10 @@ impl<A: Allocator + Copy> Layers<A> {
         let mut least: Option<Step> = None;
         for link in links.links {
             let passes = link_passes(links, link);
-            let before = self.deadline(hops, link.receiver);
+            let before = self.deadline(hops, link.receiver as usize);
             let walked = WalkedLink {
                 from: from.node,
-                to: link.receiver,
+                to: link.receiver as usize,
                 passes,
                 bounds: link.bounds,
             };

@@ -54,18 +54,18 @@ impl<'a, A: Allocator + Copy> Task<'a, A> {
             if passes.len() as u64 > looks.left {
                 return Ok(false);
             }
-            if self.shut()[link.receiver] {
+            if self.shut()[link.receiver as usize] {
                 continue;
             }
             let walked = WalkedLink {
                 from: from.node,
-                to: link.receiver,
+                to: link.receiver as usize,
                 passes,
                 bounds: link.bounds,
             };
             let at = self.arrive_over(looks, walked, from.at, NEVER);
             let step = Standing {
-                node: link.receiver,
+                node: link.receiver as usize,
                 at,
             };
             put_step(first, step)?;

@@ -233,7 +233,7 @@ impl<A: Allocator + Copy> Layers<A> {
             let passes = link_passes(links, link);
             let walked = WalkedLink {
                 from: from.node,
-                to: link.receiver,
+                to: link.receiver as usize,
                 passes,
                 bounds: link.bounds,
             };

@@ -95,7 +95,7 @@ fn is_told(arrival: &[u64], link: &Link, at: u64) -> bool
     requires early { at ≤ latest_arrival }
     ensures { IsTrue result → (slice_index arrival.now link.now.receiver ≤ link.now.bounds.soonest) ⊎ (slice_index arrival.now link.now.receiver ≤ at + link.now.bounds.least_light) }
 {
-    let known = arrival[link.receiver];
+    let known = arrival[link.receiver as usize];
     known <= link.bounds.soonest || known <= at + link.bounds.least_light as u64
 }
 
@@ -245,7 +245,7 @@ impl<A: Allocator + Copy> Settling<A> {
             let passes = link_passes(links, link);
             let walked = WalkedLink {
                 from: event.node,
-                to: link.receiver,
+                to: link.receiver as usize,
                 passes,
                 bounds: link.bounds,
             };

@@ -32,7 +32,7 @@ pub fn link_passes<'a>(links: Links<'a>, link: &Link) -> &'a [Pass]
     requires within { link.now.end ≤ length links.passes.now }
     ensures { result.now ≡ passes_of links.entry.passes.now link.now }
 {
-    &links.passes[link.first..link.end]
+    &links.passes[link.first as usize..link.end as usize]
 }
 
 /// Returns true if, by what bounds the arrivals over the whole link, nothing that is at its sender at `at` or later

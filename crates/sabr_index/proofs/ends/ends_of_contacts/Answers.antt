@@ -33,8 +33,8 @@ pub loop-contact-preserved : goal.loop-contact-preserved
 loop-contact-preserved g c =
     let many = c.loop-contact.invariant.as_many in
     let none : Contact = record { number = 0; from = 0; to = 0; start = 0; end = 0; rate = 0 } in
-    let here : AreEndsOf c.args.plan.now.table (get_or c.contacts-contacts.result.now (length c.loop-contact.ends.items) none) c.ends_of_contact.result = rw many c.ends_of_contact.ensures in
+    let here : AreEndsOf c.args.plan.now.table (get_or c.contacts-contacts.result.now (length c.loop-contact.ends.items) none) c.in_ok-both.both = rw many c.in_ok-both.ensures in
     record {
       as_many = grind (arith, common_steps);
-      each = rw (c.in_ok-push.ensures.items, ← many) (beside_more (AreEndsOf c.args.plan.now.table) c.contacts-contacts.result.now c.loop-contact.ends.items none c.ends_of_contact.result (omega (arith, many)) (λ k d e lt. c.loop-contact.invariant.each k d e (omega (arith, lt, many))) here);
+      each = rw (c.in_ok-push.ensures.items, ← many) (beside_more (AreEndsOf c.args.plan.now.table) c.contacts-contacts.result.now c.loop-contact.ends.items none c.in_ok-both.both (omega (arith, many)) (λ k d e lt. c.loop-contact.invariant.each k d e (omega (arith, lt, many))) here);
     }

@@ -1,26 +1,22 @@
-use Rattle.std.proofs.Common.{◌≡◌, ◌∷◌, [], ◌||◌, None, arith, length, ap, sym, subst, refl, ◌∙◌, ℕ}
+use Rattle.std.proofs.Common.{◌≡◌, ℕ, List, [], ◌∷◌, ◌++◌, ◌||◌, append-nil, arith, length, ap, sym, subst, refl, ◌∙◌}
 use Rattle.std.proofs.lemmas.Option.{slice_get_within}
-use Rattle.std.specs.Prelude.{IsSome}
+use Rattle.std.specs.Prelude.{IsSome, is_some}
 use Rattle.sabr_model.specs.plan.Plan.{IsPlan}
 use Rattle.sabr_model.specs.routes.Record.{RouteRecord}
 use Rattle.sabr_model.specs.routes.Route.{is_route}
 use Rattle.sabr_frontier.specs.declared.tree.Node.{Node}
-use Rattle.sabr_frontier.specs.declared.tree.NodeId.{NodeId}
 use Rattle.sabr_frontier.specs.listing.Listing.{next_route}
-use Rattle.sabr_frontier.specs.tree.Asking.{Asked, best_for}
+use Rattle.sabr_frontier.specs.listing.State.{State}
+use Rattle.sabr_frontier.specs.tree.Asking.{Asked, best_for, records_for, steps_for}
 use Rattle.sabr_frontier.specs.tree.Left.{others_carry, part_goes_on}
 use Rattle.sabr_frontier.specs.tree.Shape.{Shape, numbers_of, shape_of, shown}
 use Rattle.sabr_frontier.specs.tree.Sound.{CanExclude, IsTree}
-use Rattle.sabr_frontier.specs.tree.Winners.{IsFirst}
-use Rattle.sabr_frontier.proofs.SessionLemmas.Pages.{counts_one}
+use Rattle.sabr_frontier.specs.tree.Winners.{CarriesNone}
+use Rattle.sabr_frontier.proofs.SessionLemmas.Pages.{counts_one, steps_stop}
 use Rattle.sabr_frontier.proofs.SessionLemmas.RoutesLeft.{left_after, one_route}
 use Rattle.sabr_frontier.proofs.TreeLemmas.CarryingNodes.{known, standing, inside, route_there}
-use Rattle.sabr_frontier.proofs.TreeLemmas.GivenLeast.{next_carried, nothing_carried}
+use Rattle.sabr_frontier.proofs.TreeLemmas.GivenLeast.{nothing_carried, nothing_given}
 use Rattle.sabr_frontier.proofs.tree.Tree.peek.Goals as goal
-
--- a node carries the least route, so one is left
-is_left : {A : Type 0} (a : Asked) → IsPlan a.plan.plan → (t : Shape A) → IsTree a.plan.plan a.request t → (id : NodeId) → ((x : RouteRecord) × IsFirst t.nodes id x) → next_route a.plan.plan a.request (shown t) ≡ None → ⊥
-is_left a good t is id first none = let some = (next_carried a.plan.plan a.request good t is first.0 (id, first.1)).0 in cc
 
 pub copy_carried-requires : goal.copy_carried-requires
 copy_carried-requires g c = let t = shape_of c.args.self.now in let w = standing t.nodes c.in-Some.node c.in-Some.ensures.some in subst IsSome (sym (route_there t.nodes c.in-Some.node w.0 w.1 w.2 w.3)) refl
@@ -45,13 +41,14 @@ goes_on_after-requires-clause-next g c n stands =
     let same : k.part ≡ n = let there = k.stands in cc in
     subst (CanExclude n) (sym (c.numbers.ensures ∙ ap numbers_of k.copied)) (subst (λ (m : Node _). CanExclude m k.route.contacts) same k.can)
 
-pub returns-clause-route : goal.returns-clause-route
-returns-clause-route g c =
+pub returns-clause-routes : goal.returns-clause-routes
+returns-clause-routes g c =
     let a = c.args.asker.now.asked in
     let t = shape_of c.args.self.now in
     let k = known a t c.requires.tree c.in-Some.node c.in_ok-route.route c.in-Some.ensures.some c.in_ok-route.ensures in
-    one_route a.plan.plan a.request c.requires.plan t c.requires.tree c.in-Some.node k.part k.route k.stands k.carries k.least
-    ∙ ap (λ (x : RouteRecord). x ∷ []) (sym k.copied)
+    (c.in_ok-push.ensures {u = tt}).items
+    ∙ ap (λ z. c.args.routes.now.items ++ z)
+    (ap (λ (x : RouteRecord). x ∷ []) k.copied ∙ sym (one_route a.plan.plan a.request c.requires.plan t c.requires.tree c.in-Some.node k.part k.route k.stands k.carries k.least))
 
 pub returns-clause-more : goal.returns-clause-more
 returns-clause-more g c =
@@ -62,25 +59,33 @@ returns-clause-more g c =
     ∙ ap (λ s. others_carry t.nodes c.in-Some.node || part_goes_on (best_for a) k.part s) (c.numbers.ensures ∙ ap numbers_of k.copied)
     ∙ sym (left_after a.plan.plan a.request c.requires.plan t c.requires.tree c.in-Some.node k.part k.route k.stands k.carries k.least)
 
-pub returns-in_default-clause-none : goal.returns-in_default-clause-none
-returns-in_default-clause-none g c =
+-- no step is left to take
+no_step : {A : Type 0} (a : Asked) → IsPlan a.plan.plan → (t : Shape A) → IsTree a.plan.plan a.request t → CarriesNone t.nodes → steps_for a 1 (shown t) ≡ ([], shown t)
+no_step a good t is none = steps_stop a.plan.plan a.request (shown t) 1 (nothing_given a.plan.plan a.request good t is none)
+
+pub returns-in_default-clause-routes : goal.returns-in_default-clause-routes
+returns-in_default-clause-routes g c =
     let a = c.args.asker.now.asked in
-    nothing_carried a.plan.plan a.request c.requires.plan (shape_of c.args.self.now) c.requires.tree c.in_default.ensures.none
+    let routes = c.args.routes.now.items in
+    sym (ap (λ (z : List (List ℕ) × State). routes ++ records_for a z.0) (no_step a c.requires.plan (shape_of c.args.self.now) c.requires.tree c.in_default.ensures.none) ∙ append-nil routes)
 
-pub returns-in_err-route-clause-free : goal.returns-in_err-route-clause-free
-returns-in_err-route-clause-free g c none =
-    absurd (is_left c.args.asker.now.asked c.requires.plan (shape_of c.args.self.now) c.requires.tree c.in-Some.node c.in-Some.ensures.some none)
-
-pub returns-in_err-more-clause-free : goal.returns-in_err-more-clause-free
-returns-in_err-more-clause-free g c none =
-    absurd (is_left c.args.asker.now.asked c.requires.plan (shape_of c.args.self.now) c.requires.tree c.in-Some.node c.in-Some.ensures.some none)
-
-pub returns-clause-free : goal.returns-clause-free
-returns-clause-free g c none =
-    absurd (is_left c.args.asker.now.asked c.requires.plan (shape_of c.args.self.now) c.requires.tree c.in-Some.node c.in-Some.ensures.some none)
+pub returns-in_default-clause-more : goal.returns-in_default-clause-more
+returns-in_default-clause-more g c =
+    let a = c.args.asker.now.asked in
+    let t = shape_of c.args.self.now in
+    sym (ap (λ (z : List (List ℕ) × State). is_some (next_route a.plan.plan a.request z.1)) (no_step a c.requires.plan t c.requires.tree c.in_default.ensures.none)
+    ∙ ap is_some (nothing_carried a.plan.plan a.request c.requires.plan t c.requires.tree c.in_default.ensures.none))
 
 pub returns-in_err-more-clause-at_most : goal.returns-in_err-more-clause-at_most
 returns-in_err-more-clause-at_most g c =
+    let a = c.args.asker.now.asked in
+    let t = shape_of c.args.self.now in
+    let k = known a t c.requires.tree c.in-Some.node c.in_ok-route.route c.in-Some.ensures.some c.in_ok-route.ensures in
+    let one = counts_one a.plan.plan a.request c.requires.plan t c.requires.tree c.in-Some.node k.part k.route k.stands k.carries k.least in
+    omega (arith, c.goes_on_after.ensures.at_most k.part k.stands, one, k.can.longer, ap (length {A = ℕ}) (c.numbers.ensures ∙ ap numbers_of k.copied))
+
+pub returns-in_err-push-clause-at_most : goal.returns-in_err-push-clause-at_most
+returns-in_err-push-clause-at_most g c =
     let a = c.args.asker.now.asked in
     let t = shape_of c.args.self.now in
     let k = known a t c.requires.tree c.in-Some.node c.in_ok-route.route c.in-Some.ensures.some c.in_ok-route.ensures in

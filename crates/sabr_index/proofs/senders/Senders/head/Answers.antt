@@ -6,7 +6,7 @@ use Rattle.std.proofs.lemmas.Option.{slice_get-map, slice_get-get_or}
 use Rattle.sabr_index.specs.declared.link.Link.{Link}
 use Rattle.sabr_index.specs.declared.senders.Incoming.{Incoming}
 use Rattle.sabr_index.specs.Links.{NodeLinks, SentLink}
-use Rattle.sabr_index.specs.Incoming.{passes_over, passes_at, passes_named, LiesOver, no_link}
+use Rattle.sabr_index.specs.Incoming.{passes_over, passes_at, passes_named, LiesOver}
 use Rattle.sabr_index.proofs.senders.Senders.head.Goals as goal
 
 pub returns : goal.returns
@@ -16,7 +16,7 @@ returns g c =
     let place = c.args.place in
     let sent : Incoming → SentLink = λ e. record { sender = e.sender; passes = passes_named linked e } in
     let lt : place < length incoming = omega (arith, c.requires, ap (λ (ss : List SentLink). length ss) c.self.view_is, length-map incoming sent) in
-    let none : Incoming = record { sender = 0; place = 0; bounds = no_link.bounds } in
+    let none : Incoming = record { sender = 0; place = 0; latest_end = 0; least_light = 0; soonest = 0 } in
     let e = get_or incoming place none in
     let at : slice_get incoming place ≡ Some e = slice_get-get_or incoming place none lt in
     let w = c.self.invariant place e at in
