@@ -7,8 +7,9 @@ use Rattle.sabr_model.specs.plan.Tabled.{IsTabled}
 use Rattle.sabr_model.specs.routes.Arrival.{RouteRequest, arrival_after}
 use Rattle.sabr_model.specs.routes.Asking.{IsRequest}
 use Rattle.sabr_model.specs.routes.Route.{chain_end, is_prefix}
+use Rattle.sabr_model.specs.routes.Telling.{told_of}
 use Rattle.sabr_search.specs.declared.course.Course.{Course}
-use Rattle.sabr_search.specs.declared.backward.pick.Standing.{Standing}
+use Rattle.sabr_search.specs.declared.course.Stop.{Stop}
 use Rattle.sabr_search.specs.questions.Task.{IsTask, IsBehind, task_of, is_closed}
 
 -- the nodes that pass the test are shut, and no other
@@ -16,16 +17,17 @@ pub record AreShut (table : List ℕ) (shut : List Bool) (test : ℕ → Bool) :
   pub many : length shut ≡ length table
   pub flag : (k x : ℕ) → slice_get table k ≡ Some x → slice_index_or shut k false ≡ test x
 
--- the numbers lead to this node, and arrive there at this second
-pub record IsStop (p : TabledPlan) (r : RouteRequest) (numbers : List ℕ) (stop : Standing) : Type 0 where
+-- the numbers lead to this node, arrive there at this second, and tell this
+pub record IsStop (p : TabledPlan) (r : RouteRequest) (numbers : List ℕ) (stop : Stop) : Type 0 where
   pub last_node : ℕ
   pub chained : chain_end p.plan r.source numbers ≡ Some last_node
   pub stands : slice_get p.table stop.node ≡ Some last_node
   pub arrives : arrival_after p.plan r r.at numbers ≡ Some stop.at
+  pub tells : stop.told ≡ told_of p.plan numbers
 
 -- each stop is where as many of the numbers lead as there are stops before it
-abbrev pub AreStops : TabledPlan → RouteRequest → List ℕ → List Standing → Type 0
-AreStops p r numbers stops = (i : ℕ) (stop : Standing) → slice_get stops i ≡ Some stop → IsStop p r (take i numbers) stop
+abbrev pub AreStops : TabledPlan → RouteRequest → List ℕ → List Stop → Type 0
+AreStops p r numbers stops = (i : ℕ) (stop : Stop) → slice_get stops i ≡ Some stop → IsStop p r (take i numbers) stop
 
 -- the course is of this plan and request, which keep their rules: its numbers fit, it has their stops and no other, and
 -- shuts the nodes that no route goes on to after them
