@@ -6,14 +6,22 @@ pub mod shut;
 ghost use Rattle.std.specs.Prelude.{◌≡◌, ℕ, List, ◌+◌, ◌^◌, ◌≤◌, IfOk, IfSome, IfNone, OnOk, IsTrue, length, take};
 ghost use Rattle.sabr_model.specs.plan.Plan.{IsPlan};
 ghost use Rattle.sabr_model.specs.routes.Route.{is_route, is_prefix};
+ghost use Rattle.sabr_model.specs.routes.Telling.{told_of};
 ghost use Rattle.sabr_search.specs.questions.Course.{IsCourse, IsEntered};
 
-use crate::backward::pick::Standing;
 use crate::course::closed::shut_closed;
 use crate::course::shut::Shut;
 use crate::links::looks::Looks;
-use sabr_model::{NoMemory, Plan, Request};
+use sabr_model::{NoMemory, Plan, Request, Told};
 use std::alloc::{Allocator, Global};
+
+/// Where some numbers lead, and when, and what the record of a route that begins with them holds of them.
+#[derive(Clone, Copy)]
+pub struct Stop {
+    pub node: usize,
+    pub at: u64,
+    pub told: Told,
+}
 
 /// Where the last prefix of a request over a plan led.
 #[derive(Drop)]
@@ -21,7 +29,7 @@ pub struct Course<A: Allocator + Copy = Global> {
     /// The numbers of the prefix.
     numbers: Vec<u32, A>,
     /// Where its first numbers lead, for each count of them from 0 on.
-    stops: Vec<Standing, A>,
+    stops: Vec<Stop, A>,
     /// The nodes that no route goes on to: those of the stops, and those to avoid.
     pub shut: Shut<A>,
     /// The index of the destination.
@@ -62,9 +70,10 @@ impl<A: Allocator + Copy> Course<A> {
         shut.open_all(nodes)?;
         shut_closed(&mut shut, plan, request)?;
         let mut stops = Vec::new(alloc);
-        stops.push(Standing {
+        stops.push(Stop {
             node: source,
             at: request.at(),
+            told: Told::of(plan, &[]),
         })?;
         Ok(Some(Course {
             numbers: Vec::new(alloc),
@@ -84,13 +93,14 @@ impl<A: Allocator + Copy> Course<A> {
         plan: &Plan<A>,
         request: &Request,
         prefix: &[u32],
-    ) -> Result<Standing, NoMemory>
+    ) -> Result<Stop, NoMemory>
         requires course { IsCourse plan.now request.now self.old }
         requires fits { IsTrue (is_prefix plan.now.plan request.now prefix.now) }
         requires few { length prefix.now ≤ looks.old.left }
         ensures looks { looks.old.left ≤ looks.new.left + length prefix.now }
         ensures course { OnOk result (IsCourse plan.now request.now self.new) }
-        ensures entered { IfOk result (λ standing. IsEntered plan.now request.now prefix.now self.new.shut standing.node standing.at self.new.goal) }
+        ensures entered { IfOk result (λ stop. IsEntered plan.now request.now prefix.now self.new.shut stop.node stop.at self.new.goal) }
+        ensures told { IfOk result (λ stop. stop.told ≡ told_of plan.now.plan prefix.now) }
     {
         let front = common_front(&self.numbers, prefix);
         while self.stops.len() > front + 1 {
@@ -99,23 +109,26 @@ impl<A: Allocator + Copy> Course<A> {
             };
             self.shut.open(stop.node);
         }
-        let mut standing = self.stops[front];
+        let mut last = self.stops[front];
         for place in front..prefix.len() {
-            let Some(hop) = looks.hop(plan, prefix[place]) else {
+            let number = prefix[place];
+            let Some(hop) = looks.hop(plan, number) else {
                 unreachable!();
             };
-            let Some(at) = hop.arrive(request, standing.at) else {
+            let Some(at) = hop.arrive(request, last.at) else {
                 unreachable!();
             };
-            standing = Standing {
+            let told = last.told.extended(plan, &prefix[..place], number);
+            last = Stop {
                 node: hop.receiver,
                 at,
+                told,
             };
-            self.shut.put(standing.node)?;
-            self.stops.push(standing)?;
+            self.shut.put(last.node)?;
+            self.stops.push(last)?;
         }
         self.numbers.clear();
         self.numbers.extend_from_slice(prefix)?;
-        Ok(standing)
+        Ok(last)
     }
 }

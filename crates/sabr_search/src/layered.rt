@@ -2,6 +2,7 @@
 
 ghost use Rattle.std.specs.Prelude.{◌≡◌, ◌+◌, ◌*◌, ◌≤◌, IfOk, IsTrue, length};
 ghost use Rattle.sabr_model.specs.routes.Route.{is_prefix};
+ghost use Rattle.sabr_model.specs.routes.Telling.{told_of};
 ghost use Rattle.sabr_model.specs.plan.Table.{node_count};
 ghost use Rattle.sabr_search.specs.questions.Part.{IsLeast};
 ghost use Rattle.sabr_search.specs.questions.Task.{IsAsked};
@@ -20,7 +21,7 @@ use crate::part::Part;
 use crate::question::Question;
 use crate::task::Task;
 use sabr_index::Index;
-use sabr_model::{GhostCount, NoMemory, Plan, Request, Route};
+use sabr_model::{GhostCount, NoMemory, Plan, Request, Route, Told};
 use std::alloc::{Allocator, Global};
 
 impl<A: Allocator + Copy> Layers<A> {
@@ -31,15 +32,17 @@ impl<A: Allocator + Copy> Layers<A> {
         task: &Task<'_, A>,
         looks: &mut Looks,
         prefix: &[u32],
+        told: Told,
     ) -> Result<Option<Route<A>>, NoMemory>
         requires asked { IsAsked task.now prefix.now }
+        requires told { told ≡ told_of task.now.plan prefix.now }
         requires few { looks_taken looks.old ≤ 2 * length task.now.plan.contacts }
         requires arrivals { AreArrivals task.now since.now }
         ensures least { IfOk result (IsLeast task.now.plan task.now.request prefix.now task.now.excluded) }
         ensures bound { looks_taken looks.new ≤ (3 * length task.now.table + 1) * length task.now.plan.contacts }
         ensures counted { IfOk result (λ answer. hops_told answer ≤ looks_taken looks.new) }
     {
-        let asked = Question { task, prefix };
+        let asked = Question { task, prefix, told };
         let since = Since::of(since);
         let mut first = Vec::new(self.alloc);
         let whole = task.first_steps(looks, &mut first)?;
@@ -121,17 +124,16 @@ impl<A: Allocator + Copy> Layered<A> {
         let Some(mut course) = opened else {
             return Ok(None);
         };
-        let standing = course.go(&mut self.looks, plan, request, part.prefix)?;
+        let stop = course.go(&mut self.looks, plan, request, part.prefix)?;
         let in_order = rises(part.excluded);
         let excluded = Excluded {
             numbers: part.excluded,
             rising: in_order,
         };
-        let task = Task::new(index, request, &course, excluded, standing);
+        let task = Task::new(index, request, &course, excluded, stop);
         self.since.clear();
         self.since.resize(plan.nodes(), task.at())?;
-        self.layers
-            .least_after(&self.since, &task, &mut self.looks, part.prefix)
+        self.layers.least_after(&self.since, &task, &mut self.looks, part.prefix, stop.told)
     }
 }
 

@@ -1,6 +1,7 @@
 //! A question after a prefix.
 
-ghost use Rattle.std.specs.Prelude.{◌≡◌, ◌++◌, ◌+◌, ◌-◌, ◌^◌, ◌≤◌, IfOk, OnErr, length};
+ghost use Rattle.std.specs.Prelude.{◌≡◌, ◌++◌, ◌+◌, ◌-◌, ◌^◌, ◌≤◌, IfOk, OnErr, length, take};
+ghost use Rattle.sabr_model.specs.routes.Telling.{told_of};
 ghost use Rattle.sabr_search.specs.questions.Task.{IsAsked, left_of};
 ghost use Rattle.sabr_search.specs.answers.KeptAnswers.{IsFoundWay};
 ghost use Rattle.sabr_search.specs.answers.Answers.{IsAnswered};
@@ -8,7 +9,7 @@ ghost use Rattle.sabr_search.specs.questions.Told.{hops_told, looks_taken};
 
 use crate::links::looks::Looks;
 use crate::task::Task;
-use sabr_model::{MOST_HOPS, NoMemory, Route};
+use sabr_model::{MOST_HOPS, NoMemory, Plan, Route, Told};
 use std::alloc::Allocator;
 
 /// What is asked of a search: the least route that begins with a prefix.
@@ -18,6 +19,8 @@ pub struct Question<'t, 'a, 'p, A: Allocator + Copy> {
     pub task: &'t Task<'a, A>,
     /// The contact numbers that the route begins with.
     pub prefix: &'p [u32],
+    /// What these tell.
+    pub told: Told,
 }
 
 /// The numbers of a way after those of a prefix.
@@ -32,6 +35,24 @@ fn joined<A: Allocator + Copy>(
     contacts.extend_from_slice(prefix)?;
     contacts.extend_from_slice(way)?;
     Ok(contacts)
+}
+
+/// Finds what these numbers tell, from what the first of them tell. It reads no contact of those.
+fn told_from<A: Allocator + Copy>(
+    plan: &Plan<A>,
+    known: Told,
+    first: usize,
+    numbers: &[u32],
+) -> Told
+    requires within { first ≤ length numbers.now }
+    requires known { known ≡ told_of plan.now.plan (take first numbers.now) }
+    ensures { result ≡ told_of plan.now.plan numbers.now }
+{
+    let mut told = known;
+    for place in first..numbers.len() {
+        told = told.extended(plan, &numbers[..place], numbers[place]);
+    }
+    told
 }
 
 impl<'t, 'a, 'p, A: Allocator + Copy> Question<'t, 'a, 'p, A> {
@@ -49,7 +70,9 @@ impl<'t, 'a, 'p, A: Allocator + Copy> Question<'t, 'a, 'p, A> {
         others.min(left)
     }
 
-    /// Returns the route that goes on by a way: one look for each of its contacts. None if there is no way.
+    /// Returns the route that goes on by a way. None if there is no way.
+    ///
+    /// It takes one look for each contact of the route: those of the prefix count, too, though what they tell is known.
     pub fn route(
         &self,
         alloc: A,
@@ -58,6 +81,7 @@ impl<'t, 'a, 'p, A: Allocator + Copy> Question<'t, 'a, 'p, A> {
         delivery: u64,
     ) -> Result<Option<Route<A>>, NoMemory>
         requires few { length self.now.prefix.now + length way.now ≤ looks.old.left }
+        requires told { self.now.told ≡ told_of self.now.task.now.plan self.now.prefix.now }
         requires found { IsFoundWay self.now.task.now (left_of self.now.task.now self.now.prefix.now) way.now delivery }
         ensures refused { OnErr result (looks_taken looks.new ≡ looks_taken looks.old) }
         ensures looks { IfOk result (λ o. looks_taken looks.new ≡ looks_taken looks.old + hops_told o) }
@@ -68,6 +92,8 @@ impl<'t, 'a, 'p, A: Allocator + Copy> Question<'t, 'a, 'p, A> {
             return Ok(None);
         }
         let contacts = joined(alloc, self.prefix, way)?;
-        Ok(Some(self.task.record(looks, contacts, delivery)))
+        let numbers = looks.look_all(&contacts);
+        let told = told_from(self.task.plan(), self.told, self.prefix.len(), numbers);
+        Ok(Some(told.route(contacts, delivery)))
     }
 }

@@ -4,6 +4,7 @@ ghost use Rattle.std.specs.Prelude.{◌≡◌, ◌≤◌, ◌+◌, ◌*◌, IfOk
 ghost use Rattle.std.specs.List.Sorted.{IsStrictlyIncreasing};
 ghost use Rattle.sabr_model.specs.routes.Asking.{most_hops};
 ghost use Rattle.sabr_model.specs.routes.Route.{is_prefix};
+ghost use Rattle.sabr_model.specs.routes.Telling.{told_of};
 ghost use Rattle.sabr_model.specs.plan.Table.{node_count};
 ghost use Rattle.sabr_search.specs.questions.Part.{IsLeast};
 ghost use Rattle.sabr_search.specs.questions.Task.{IsAsked, left_of};
@@ -27,7 +28,7 @@ use crate::reach::Reach;
 use crate::search::Search;
 use crate::task::Task;
 use sabr_index::Index;
-use sabr_model::{GhostCount, NoMemory, Plan, Request, Route};
+use sabr_model::{GhostCount, NoMemory, Plan, Request, Route, Told};
 use std::alloc::{Allocator, Global};
 
 impl<A: Allocator + Copy> Search<A> {
@@ -97,8 +98,10 @@ impl<A: Allocator + Copy> Search<A> {
         task: &Task<'_, A>,
         looks: &mut Looks,
         prefix: &[u32],
+        told: Told,
     ) -> Result<Option<Route<A>>, NoMemory>
         requires asked { IsAsked task.now prefix.now }
+        requires told { told ≡ told_of task.now.plan prefix.now }
         requires few { looks_taken looks.old ≤ 2 * length task.now.plan.contacts }
         requires kept { IsKept (tabled_of task.now) task.now.request kept.old }
         ensures kept { IsKept (tabled_of task.now) task.now.request kept.new }
@@ -107,7 +110,7 @@ impl<A: Allocator + Copy> Search<A> {
         ensures counted { IfOk result (λ answer. hops_told answer ≤ looks_taken looks.new) }
         ensures cut { IfOk result (IsCut task.now.plan task.now.request.max_hops prefix.now (looks_taken looks.new)) }
     {
-        let asked = Question { task, prefix };
+        let asked = Question { task, prefix, told };
         let aside = looks.set_aside(task.two_passes());
         let found = self.find_kept(kept, &asked, looks);
         looks.put_back(aside);
@@ -188,16 +191,16 @@ impl<A: Allocator + Copy> Settled<A> {
         let Some(mut course) = taken else {
             return Ok(None);
         };
-        let standing = course.go(&mut self.looks, plan, request, part.prefix)?;
+        let stop = course.go(&mut self.looks, plan, request, part.prefix)?;
         kept.open(&mut self.looks, index, request);
         let excluded = Excluded {
             numbers: part.excluded,
             rising: in_order,
         };
-        let task = Task::new(index, request, &course, excluded, standing);
+        let task = Task::new(index, request, &course, excluded, stop);
         let answer = self
             .search
-            .least_beside(kept, &task, &mut self.looks, part.prefix);
+            .least_beside(kept, &task, &mut self.looks, part.prefix, stop.told);
         kept.course = Some(course);
         answer
     }

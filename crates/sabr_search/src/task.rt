@@ -4,22 +4,20 @@ ghost use Rattle.std.specs.Prelude.{◌≡◌, ℕ, ◌≤◌, ◌<◌, ◌+◌,
 ghost use Rattle.std.specs.List.Sorted.{IsStrictlyIncreasing};
 ghost use Rattle.sabr_model.specs.routes.Arrival.{cost};
 ghost use Rattle.sabr_model.specs.plan.Plan.{has, most_light};
-ghost use Rattle.sabr_model.specs.routes.Route.{until_of, entry_of};
 ghost use Rattle.sabr_model.specs.routes.Hops.{hop_arrival, IsSmall};
 ghost use Rattle.sabr_search.specs.questions.Task.{IsTask, task_of};
 ghost use Rattle.sabr_search.specs.answers.Answers.{narrowed};
 ghost use Rattle.sabr_search.specs.questions.FirstSteps.{tabled_of};
-ghost use Rattle.sabr_search.specs.questions.Told.{looks_taken};
 ghost use Rattle.sabr_search.specs.answers.KeptAnswers.{AreListed, Arrives};
 ghost use Rattle.sabr_search.specs.questions.Linked.{AreLinksAt, AreSendersAt};
 
 use crate::backward::pick::Standing;
-use crate::course::Course;
 use crate::course::shut::Shut;
+use crate::course::{Course, Stop};
 use crate::links::finger::{Excluded, Finger};
 use crate::links::looks::Looks;
 use sabr_index::{Index, Links, Pass, Senders};
-use sabr_model::{Hop, Plan, Request, Route, Told};
+use sabr_model::{Hop, Plan, Request};
 use std::alloc::Allocator;
 use std::marker::Model;
 
@@ -58,16 +56,16 @@ impl<'a, A: Allocator + Copy> Model for Task<'a, A> {
 }
 
 impl<'a, A: Allocator + Copy> Task<'a, A> {
-    /// Makes a task from where the search stands after a course.
+    /// Makes a task from the last stop of a course.
     pub fn new(
         index: &'a Index<'a, A>,
         request: &'a Request,
         course: &'a Course<A>,
         excluded: Excluded<'a>,
-        standing: Standing,
+        stop: Stop,
     ) -> Task<'a, A>
         requires { IsTrue excluded.rising → IsStrictlyIncreasing excluded.numbers.now }
-        ensures { result ≡ task_of index.now request.now course.now.shut excluded.entry.numbers.now standing.node standing.at course.now.goal }
+        ensures { result ≡ task_of index.now request.now course.now.shut excluded.entry.numbers.now stop.node stop.at course.now.goal }
     {
         Task {
             index,
@@ -75,9 +73,9 @@ impl<'a, A: Allocator + Copy> Task<'a, A> {
             shut: &course.shut,
             excluded: excluded.numbers,
             in_order: excluded.rising,
-            start: standing.node,
+            start: stop.node,
             goal: course.goal,
-            at: standing.at,
+            at: stop.at,
         }
     }
 
@@ -115,15 +113,6 @@ impl<'a, A: Allocator + Copy> Task<'a, A> {
         ensures { AreSendersAt self.now node result }
     {
         self.index.senders(node)
-    }
-
-    /// Returns the record of a route with this delivery: one look for each of its contacts.
-    pub fn record(&self, looks: &mut Looks, contacts: Vec<u32, A>, delivery: u64) -> Route<A>
-        requires few { length contacts.items ≤ looks.old.left }
-        ensures looks { looks_taken looks.new ≡ looks_taken looks.old + length contacts.items }
-        ensures value { result ≡ record { contacts = contacts.items; delivery = delivery; until = until_of self.now.plan contacts.items; entry = entry_of self.now.plan contacts.items } }
-    {
-        Told::of(self.index.plan(), looks.look_all(&contacts)).route(contacts, delivery)
     }
 
     /// The plan that is searched.

@@ -12,11 +12,12 @@ use Rattle.sabr_model.specs.plan.Plan.{ContactPlan, TabledPlan, IsPlan, contact_
 use Rattle.sabr_model.specs.plan.Tabled.{IsHopNamed}
 use Rattle.sabr_model.specs.routes.Arrival.{RouteRequest, arrival, arrival_after}
 use Rattle.sabr_model.specs.routes.Asking.{IsRequest}
+use Rattle.sabr_model.specs.routes.Telling.{told_of}
 use Rattle.sabr_model.specs.routes.Route.{chain_end, receivers, is_path, is_prefix, is_route}
 use Rattle.sabr_model.proofs.RouteLemmas.Routes.{route_facts}
 use Rattle.sabr_model.proofs.ListLemmas.Begins.{first_hop, end_is_received}
 use Rattle.sabr_model.specs.routes.Hops.{hop_arrival}
-use Rattle.sabr_search.specs.declared.backward.pick.Standing.{Standing}
+use Rattle.sabr_search.specs.declared.course.Stop.{Stop}
 use Rattle.sabr_search.specs.questions.Task.{SearchTask, HasNodes, IsTask, IsBehind, is_closed, task_of, most_nodes, latest_arrival}
 use Rattle.sabr_search.specs.questions.Course.{AreShut, IsStop, AreStops}
 use Rattle.sabr_search.proofs.LinkLemmas.Arrivals.{arrival_parts, arrives_later}
@@ -130,17 +131,18 @@ pub open_before : (p : ContactPlan) (r : RouteRequest) (q : List ℕ) (n : ℕ) 
 open_before p r q n hop = or_from (has hop.contact.to (r.source ∷ receivers p q)) (has hop.contact.to r.avoided) hop.fresh hop.allowed
 
 -- the stop after it
-pub stop_after : (p : TabledPlan) (r : RouteRequest) (prefix : List ℕ) (i n : ℕ) → slice_get prefix i ≡ Some n → (hop : IsHop p.plan r (take i prefix) n) → (stop next : Standing) → IsStop p r (take i prefix) stop
-    → slice_get p.table next.node ≡ Some hop.contact.to → arrival p.plan r stop.at hop.contact ≡ Some next.at → IsStop p r (take (i + 1) prefix) next
-stop_after p r prefix i n at hop stop next here to arrives = record {
+pub stop_after : (p : TabledPlan) (r : RouteRequest) (prefix : List ℕ) (i n : ℕ) → slice_get prefix i ≡ Some n → (hop : IsHop p.plan r (take i prefix) n) → (stop next : Stop) → IsStop p r (take i prefix) stop
+    → slice_get p.table next.node ≡ Some hop.contact.to → arrival p.plan r stop.at hop.contact ≡ Some next.at → next.told ≡ told_of p.plan (take i prefix ++ n ∷ []) → IsStop p r (take (i + 1) prefix) next
+stop_after p r prefix i n at hop stop next here to arrives told = record {
   last_node = hop.contact.to;
   chained = ap (chain_end p.plan r.source) (one_more prefix i n at) ∙ chain_end_push p.plan r.source (take i prefix) n hop.contact hop.named hop.sent;
   stands = to;
   arrives = ap (arrival_after p.plan r r.at) (one_more prefix i n at) ∙ arrival_after_push p.plan r r.at (take i prefix) n hop.contact stop.at next.at hop.named here.arrives arrives;
+  tells = told ∙ sym (ap (told_of p.plan) (one_more prefix i n at));
 }
 
 -- the arrival over the number is that over its hop
-pub arrival_at : (p : TabledPlan) (r : RouteRequest) (q : List ℕ) (n : ℕ) → (step : IsHop p.plan r q n) → (stop : Standing) → IsStop p r q stop → (h : Hop) → (hop : IsHopNamed p n h)
+pub arrival_at : (p : TabledPlan) (r : RouteRequest) (q : List ℕ) (n : ℕ) → (step : IsHop p.plan r q n) → (stop : Stop) → IsStop p r q stop → (h : Hop) → (hop : IsHopNamed p n h)
     → (hop.contact ≡ step.contact) × (arrival p.plan r stop.at step.contact ≡ Some step.arrived) × (hop_arrival r.margin stop.at h ≡ Some step.arrived)
 arrival_at p r q n step stop here h hop =
     let same : hop.contact ≡ step.contact = (let q : Some hop.contact ≡ Some step.contact = sym hop.named ∙ step.named in cc (q)) in
@@ -149,13 +151,13 @@ arrival_at p r q n step stop here h hop =
     (same, arrives, sym (hop_arrival_is p r stop.at hop.contact h hop.is) ∙ ap (arrival p.plan r stop.at) same ∙ arrives)
 
 -- the node of the stop after a number is its receiver
-pub stop_node : (p : TabledPlan) (r : RouteRequest) (prefix : List ℕ) (i n : ℕ) → slice_get prefix i ≡ Some n → (hop : IsHop p.plan r (take i prefix) n) → (stop : Standing) → IsStop p r (take (i + 1) prefix) stop → slice_get p.table stop.node ≡ Some hop.contact.to
+pub stop_node : (p : TabledPlan) (r : RouteRequest) (prefix : List ℕ) (i n : ℕ) → slice_get prefix i ≡ Some n → (hop : IsHop p.plan r (take i prefix) n) → (stop : Stop) → IsStop p r (take (i + 1) prefix) stop → slice_get p.table stop.node ≡ Some hop.contact.to
 stop_node p r prefix i n at hop stop here =
     let ends : chain_end p.plan r.source (take (i + 1) prefix) ≡ Some hop.contact.to = ap (chain_end p.plan r.source) (one_more prefix i n at) ∙ chain_end_push p.plan r.source (take i prefix) n hop.contact hop.named hop.sent in
     here.stands ∙ sym here.chained ∙ ends
 
 -- the last of some numbers is taken back, and its node is opened
-pub taken_back : (p : TabledPlan) (r : RouteRequest) → HasNodes p.plan p.table → (numbers : List ℕ) → IsTrue (is_prefix p.plan r numbers) → (shut : List Bool) (i : ℕ) (stop : Standing) → i < length numbers
+pub taken_back : (p : TabledPlan) (r : RouteRequest) → HasNodes p.plan p.table → (numbers : List ℕ) → IsTrue (is_prefix p.plan r numbers) → (shut : List Bool) (i : ℕ) (stop : Stop) → i < length numbers
     → IsStop p r (take (i + 1) numbers) stop → AreShut p.table shut (is_closed p.plan r (take (i + 1) numbers)) → AreShut p.table (slice_set shut stop.node false) (is_closed p.plan r (take i numbers))
 taken_back p r nodes numbers fits shut i stop within here are =
     let at = slice_get-get_or numbers i 0 within in
@@ -164,12 +166,12 @@ taken_back p r nodes numbers fits shut i stop within here are =
     shut_less p.plan p.table nodes shut (is_closed p.plan r (take i numbers)) (is_closed p.plan r (take (i + 1) numbers)) stop.node hop.contact.to are (stop_node p r numbers i n at hop stop here) (closed_more p.plan r numbers i n hop.contact at hop.named) (open_before p.plan r (take i numbers) n hop)
 
 -- a course that is opened has one stop, the source
-pub first_stop : (p : TabledPlan) (r : RouteRequest) (stop : Standing) → slice_get p.table stop.node ≡ Some r.source → stop.at ≡ r.at → AreStops p r [] (stop ∷ [])
-first_stop p r stop at time zero one here = let same : stop ≡ one = cc (here) in subst (IsStop p r []) same (record { last_node = r.source; chained = refl; stands = at; arrives = ap Some (sym time) })
-first_stop p r stop at time (suc i) one here = absurd (omega (arith, slice_get_within (stop ∷ []) (suc i) one here))
+pub first_stop : (p : TabledPlan) (r : RouteRequest) (stop : Stop) → slice_get p.table stop.node ≡ Some r.source → stop.at ≡ r.at → stop.told ≡ told_of p.plan [] → AreStops p r [] (stop ∷ [])
+first_stop p r stop at time told zero one here = let same : stop ≡ one = cc (here) in subst (IsStop p r []) same (record { last_node = r.source; chained = refl; stands = at; arrives = ap Some (sym time); tells = told })
+first_stop p r stop at time told (suc i) one here = absurd (omega (arith, slice_get_within (stop ∷ []) (suc i) one here))
 
 -- one stop more
-pub stops_more : (p : TabledPlan) (r : RouteRequest) (prefix : List ℕ) (i : ℕ) (stops : List Standing) (next : Standing) → length stops ≡ i + 1 → AreStops p r prefix stops → IsStop p r (take (i + 1) prefix) next → (length (stops ++ next ∷ []) ≡ i + 1 + 1) × AreStops p r prefix (stops ++ next ∷ [])
+pub stops_more : (p : TabledPlan) (r : RouteRequest) (prefix : List ℕ) (i : ℕ) (stops : List Stop) (next : Stop) → length stops ≡ i + 1 → AreStops p r prefix stops → IsStop p r (take (i + 1) prefix) next → (length (stops ++ next ∷ []) ≡ i + 1 + 1) × AreStops p r prefix (stops ++ next ∷ [])
 stops_more p r prefix i stops next many are here = (
   omega (arith, length-append stops (next ∷ []), many),
   λ j stop at. elim (push_cases stops next j stop at) [
@@ -179,7 +181,7 @@ stops_more p r prefix i stops next many are here = (
 )
 
 -- stops of one list of numbers are those of another that begins with as many
-pub same_stops : (p : TabledPlan) (r : RouteRequest) (numbers prefix : List ℕ) (front : ℕ) (stops : List Standing) → take front numbers ≡ take front prefix → length stops ≡ front + 1 → AreStops p r numbers stops → AreStops p r prefix stops
+pub same_stops : (p : TabledPlan) (r : RouteRequest) (numbers prefix : List ℕ) (front : ℕ) (stops : List Stop) → take front numbers ≡ take front prefix → length stops ≡ front + 1 → AreStops p r numbers stops → AreStops p r prefix stops
 same_stops p r numbers prefix front stops same many are i stop at =
     let le : i ≤ front = omega (arith, many, slice_get_within stops i stop at) in
     let both : take i numbers ≡ take i prefix = sym (take-take i front numbers le) ∙ ap (take i) same ∙ take-take i front prefix le in
@@ -224,7 +226,7 @@ after_later p r (n ∷ s) t e after =
           omega (arith, arrives_later p r t c next.0 next.1, after_later p r s next.0 e next.2)
     ]) refl
 
-pub behind_passed : (p : TabledPlan) (r : RouteRequest) (prefix : List ℕ) (shut : List Bool) (stop : Standing) → IsStop p r prefix stop → AreShut p.table shut (is_closed p.plan r prefix) → HasNodes p.plan p.table → (goal : ℕ) → slice_get p.table goal ≡ Some r.destination → (excluded : List ℕ) →
+pub behind_passed : (p : TabledPlan) (r : RouteRequest) (prefix : List ℕ) (shut : List Bool) (stop : Stop) → IsStop p r prefix stop → AreShut p.table shut (is_closed p.plan r prefix) → HasNodes p.plan p.table → (goal : ℕ) → slice_get p.table goal ≡ Some r.destination → (excluded : List ℕ) →
     IsBehind (task_of p r shut excluded stop.node stop.at goal) prefix
 behind_passed p r prefix shut stop here shuts nodes goal goal_is excluded = record {
   nodes = nodes;
@@ -236,7 +238,7 @@ behind_passed p r prefix shut stop here shuts nodes goal goal_is excluded = reco
   shuts = shuts.flag;
 }
 
-pub task_passed : (p : TabledPlan) (r : RouteRequest) (prefix : List ℕ) (shut : List Bool) (stop : Standing) → IsStop p r prefix stop → AreShut p.table shut (is_closed p.plan r prefix) → HasNodes p.plan p.table → (goal : ℕ) → slice_get p.table goal ≡ Some r.destination → (excluded : List ℕ) →
+pub task_passed : (p : TabledPlan) (r : RouteRequest) (prefix : List ℕ) (shut : List Bool) (stop : Stop) → IsStop p r prefix stop → AreShut p.table shut (is_closed p.plan r prefix) → HasNodes p.plan p.table → (goal : ℕ) → slice_get p.table goal ≡ Some r.destination → (excluded : List ℕ) →
     IsPlan p.plan → length p.table ≤ most_nodes → IsRequest r → IsPrefix p.plan r prefix → IsTask (task_of p r shut excluded stop.node stop.at goal)
 task_passed p r prefix shut stop here shuts nodes goal goal_is excluded good few asked facts =
     let task : SearchTask = task_of p r shut excluded stop.node stop.at goal in

@@ -17,8 +17,8 @@ go-requires-clause-course g c = rw c.in-Some.is at c.in_ok-opened.ensures.some
 pub go-requires-clause-fits : goal.go-requires-clause-fits
 go-requires-clause-fits g c = rw c.plan-plan.ensures c.requires.fits
 
-pub returns-in_err-standing-clause-bound : goal.returns-in_err-standing-clause-bound
-returns-in_err-standing-clause-bound g c =
+pub returns-in_err-stop-clause-bound : goal.returns-in_err-stop-clause-bound
+returns-in_err-stop-clause-bound g c =
     let course = rw (c.in-Some.is, c.plan-plan.ensures) at c.in_ok-opened.ensures.some in
     entered_looks c.args.index.now c.args.request.now c.args.part.prefix.now course.tabled (prefix_facts c.args.index.now.plan c.args.request.now c.args.part.prefix.now c.requires.fits) (node_count c.args.index.now.plan.contacts) (looks_taken c.go.new.looks) course.nodes (omega (arith, c.go.ensures.looks, c.requires.few))
 
@@ -36,7 +36,7 @@ returns-in_default-clause-least g c =
 
 pub least_after-requires-clause-asked : goal.least_after-requires-clause-asked
 least_after-requires-clause-asked g c =
-    let found = rw c.plan-plan.ensures at c.in_ok-standing.ensures.entered in
+    let found = rw c.plan-plan.ensures at c.in_ok-stop.ensures.entered in
     let both = found c.args.part.excluded.now in
     rw c.new-task.ensures (record {
       task_is = both.0;
@@ -53,8 +53,8 @@ pub least_after-requires-clause-arrivals : goal.least_after-requires-clause-arri
 least_after-requires-clause-arrivals g c =
     let p = c.args.index.now in
     let r = c.args.request.now in
-    let task : SearchTask = task_of p r c.go.new.self.shut c.args.part.excluded.now c.in_ok-standing.standing.node c.in_ok-standing.standing.at c.go.new.self.goal in
-    let found = rw c.plan-plan.ensures at c.in_ok-standing.ensures.entered in
+    let task : SearchTask = task_of p r c.go.new.self.shut c.args.part.excluded.now c.in_ok-stop.stop.node c.in_ok-stop.stop.at c.go.new.self.goal in
+    let found = rw c.plan-plan.ensures at c.in_ok-stop.ensures.entered in
     let both : IsTask task × IsBehind task c.args.part.prefix.now = found c.args.part.excluded.now in
     let cleared = c.clear.ensures.items in
     let at : c.at.result ≡ task.at = c.at.ensures ∙ ap (λ (t : SearchTask). t.at) c.new-task.ensures in

@@ -29,8 +29,8 @@ go-requires-clause-course g c = rw c.deref_mut.ensures.value (rw c.in-Some.is at
 pub go-requires-clause-fits : goal.go-requires-clause-fits
 go-requires-clause-fits g c = rw c.plan-plan.ensures c.requires.fits
 
-pub returns-in_err-standing-clause-bound : goal.returns-in_err-standing-clause-bound
-returns-in_err-standing-clause-bound g c =
+pub returns-in_err-stop-clause-bound : goal.returns-in_err-stop-clause-bound
+returns-in_err-stop-clause-bound g c =
     let course = rw (c.in-Some.is, c.plan-plan.ensures) at c.in_ok-taken.ensures.some in
     entered_looks c.args.index.now c.args.request.now c.args.part.prefix.now course.tabled (prefix_facts c.args.index.now.plan c.args.request.now c.args.part.prefix.now c.requires.fits) (node_count c.args.index.now.plan.contacts) (looks_taken c.go.new.looks) course.nodes (omega (arith, c.go.ensures.looks, c.requires.few))
 
@@ -42,12 +42,12 @@ open-requires-clause-few g c =
     let facts = prefix_facts c.args.index.now.plan c.args.request.now c.args.part.prefix.now c.requires.fits in
     omega (arith, c.go.ensures.looks, c.requires.few, prefix_few c.args.index.now.plan c.args.request.now c.args.part.prefix.now facts)
 
-pub returns-in_err-standing-clause-kept : goal.returns-in_err-standing-clause-kept
-returns-in_err-standing-clause-kept g c = rw c.plan-plan.ensures at c.take_course.ensures.kept
+pub returns-in_err-stop-clause-kept : goal.returns-in_err-stop-clause-kept
+returns-in_err-stop-clause-kept g c = rw c.plan-plan.ensures at c.take_course.ensures.kept
 
 pub least_beside-answer-requires-clause-asked : goal.least_beside-answer-requires-clause-asked
 least_beside-answer-requires-clause-asked g c =
-    let found = rw c.plan-plan.ensures at c.in_ok-standing.ensures.entered in
+    let found = rw c.plan-plan.ensures at c.in_ok-stop.ensures.entered in
     let both = found c.args.part.excluded.now in
     rw (c.new-task.ensures, c.deref.ensures) (record {
       task_is = both.0;
@@ -61,11 +61,11 @@ least_beside-answer-requires-clause-kept g c = rw c.new-task.ensures c.open.ensu
 pub returns-clause-kept : goal.returns-clause-kept
 returns-clause-kept g c =
     let kept = rw c.new-task.ensures at c.least_beside-answer.ensures.kept in
-    (kept.0, kept.1, rw c.plan-plan.ensures at c.in_ok-standing.ensures.course)
+    (kept.0, kept.1, rw c.plan-plan.ensures at c.in_ok-stop.ensures.course)
 
 pub returns-clause-bound : goal.returns-clause-bound
 returns-clause-bound g c =
-    let course : IsCourse c.args.index.now c.args.request.now c.go.new.self = rw c.plan-plan.ensures at c.in_ok-standing.ensures.course in
+    let course : IsCourse c.args.index.now c.args.request.now c.go.new.self = rw c.plan-plan.ensures at c.in_ok-stop.ensures.course in
     subst (λ n. looks_taken c.least_beside-answer.new.looks ≤ (3 * n + 1) * length c.args.index.now.plan.contacts) course.nodes (rw c.new-task.ensures at c.least_beside-answer.ensures.bound)
 
 pub go-requires-clause-few : goal.go-requires-clause-few
