@@ -30,12 +30,6 @@ left_cases task prefix =
       | false ↦ λ e. inr ((λ same. both_ways (eqb m most_hops) e (eq-eqb m most_hops same)), refl)
     ] refl
 
-pub left_without : (task : SearchTask) (prefix : List ℕ) → task.request.max_hops ≡ most_hops → left_of task prefix ≡ length task.table - 1
-left_without task prefix most = elim (left_cases task prefix) [ inl free ↦ free.1 | inr limited ↦ absurd (limited.0 most) ]
-
-pub left_within : (task : SearchTask) (prefix : List ℕ) → task.request.max_hops ≢ most_hops → left_of task prefix ≡ min (length task.table - 1) (task.request.max_hops - length prefix)
-left_within task prefix other = elim (left_cases task prefix) [ inl free ↦ absurd (other free.0) | inr limited ↦ limited.1 ]
-
 -- the way that is found has no more hops than are left
 found_short : (task : SearchTask) (left : ℕ) (numbers : List ℕ) (d : ℕ) → IsFoundWay task left numbers d → length numbers ≤ left
 found_short task left [] d found = omega arith

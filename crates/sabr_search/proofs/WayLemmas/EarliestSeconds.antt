@@ -26,13 +26,6 @@ arrivals_since task is n n_is = record {
   least = λ ns v t some way. omega (arith, same_everywhere n task.at v, Leads-later (Takes task) (takes_timely task is.nodes) ns task.start task.at v t way);
 }
 
--- nor before sooner seconds
-pub arrivals_sooner : (task : SearchTask) (since since' : List ℕ) → AreArrivals task since → length since' ≡ length since → ((k : ℕ) → slice_index since' k ≤ slice_index since k) → AreArrivals task since'
-arrivals_sooner task since since' are many sooner = record {
-  flags = many ∙ are.flags;
-  least = λ ns v t some way. omega (arith, sooner v, are.least ns v t some way);
-}
-
 pub since_many : (nodes : ℕ) (arrival near soon : List ℕ) (d : ℕ) → length (since_of nodes arrival near soon d) ≡ nodes
 since_many nodes arrival near soon d = length-map-range_with_len (since_at arrival near soon d) 0 nodes
 
