@@ -2,4 +2,3 @@ pub mod ListingLemmas
 pub mod TreeLemmas
 pub mod LoadingLemmas
 pub mod SessionLemmas
-pub mod RowProofs

@@ -29,6 +29,7 @@ fn is_below<A: Allocator + Copy>(route: &Route<A>, other: &Route<A>) -> bool
 }
 
 /// Returns true if both are there and have the same numbers and delivery, or if neither is there.
+#[tactic(auto, using(crate::proofs::SessionLemmas::Verdicts::tie_is, crate::proofs::SessionLemmas::Verdicts::tie_index))]
 fn is_same<A: Allocator + Copy>(one: &Option<Route<A>>, other: &Option<Route<A>>) -> bool
     ensures { IsTrue result ↔ (one.now ≡ other.now) }
 {

@@ -1,4 +1,5 @@
 //! Worked states and steps of plans A and C, as equations of the definitions.
+#![tactic(auto, unfolding(crate::specs::listing::Listing::state_at, crate::specs::listing::Listing::steps, sabr_model::specs::routes::Listing::routes, sabr_model::specs::routes::Listing::candidates, sabr_model::specs::routes::Listing::lists_of_length, sabr_model::specs::routes::Route::is_route, sabr_model::specs::routes::Route::is_path, sabr_model::specs::routes::Parts::least_in))]
 
 ghost use Rattle.std.specs.Prelude.{◌≡◌, [], ◌∷◌, ◌+◌};
 ghost use Rattle.sabr_model.specs.Rows.{plan_a, plan_c, from_1_to_3};

@@ -1,13 +1,12 @@
 -- The list of all routes and the least of a part, as the frontier uses them.
-use Rattle.std.proofs.Common.{◌≡◌, ℕ, true, false, ◌||◌, not, eqb, List, [], ◌∷◌, refl, sym, ap, ◌∙◌, inl, inr, Some, None, true≢false}
+use Rattle.std.proofs.Common.{◌≡◌, ℕ, true, false, ◌||◌, not, eqb, List, [], ◌∷◌, refl, sym, ap, ◌∙◌, inl, inr, Some, None}
 use Rattle.std.specs.Prelude.{Contains}
-use Rattle.std.proofs.lemmas.Bool.{not-true, not_from_false}
+use Rattle.std.proofs.lemmas.Bool.{not_from_false}
 use Rattle.std.proofs.lemmas.Bool.Decides.{nat_tests}
 use Rattle.std.proofs.Common.{arith}
 use Rattle.std.specs.Ordering.{nat_cmp, is_eq, is_lt}
 use Rattle.std.specs.declared.cmp.Ordering.{Ordering}
 use Rattle.std.specs.declared.cmp.Ordering.TheVariants.{Less}
-use Rattle.std.specs.List.{AllByRecursion}
 use Rattle.std.specs.List.Sorted.{IsStrictlySortedBy}
 use Rattle.std.specs.Option.{option_map_or}
 use Rattle.sabr_model.specs.plan.Plan.{ContactPlan, IsPlan}
@@ -16,13 +15,16 @@ use Rattle.sabr_model.specs.routes.Arrival.{RouteRequest}
 use Rattle.sabr_model.specs.routes.Route.{is_route, by_key}
 use Rattle.sabr_model.specs.routes.Listing.{routes}
 use Rattle.sabr_model.specs.routes.Parts.{number_after, goes_on, least_in}
-use Rattle.sabr_model.proofs.ListLemmas.Members.{IsIn, in_from_Contains, Contains-from_in}
+use Rattle.sabr_model.proofs.ListLemmas.Members.{IsIn, in_from_Contains, Contains-from_in, all_in}
 use Rattle.sabr_model.proofs.RouteLemmas.Least as model
 use Rattle.sabr_model.proofs.RouteLemmas.Listed.{key_tells}
 use Rattle.sabr_model.proofs.RouteLemmas.RoutesListed.{routes_are_listed}
-use Rattle.sabr_frontier.specs.listing.Rising.{has, Below, Rises, IsExact}
+use Rattle.sabr_frontier.specs.listing.Rising.{has, Rises, IsExact}
 use Rattle.sabr_frontier.specs.listing.State.{Member}
 use Rattle.sabr_frontier.specs.listing.Formed.{Within}
+use Rattle.sabr_frontier.proofs.ListingLemmas.Division.{Below-from}
+use Rattle.sabr_search.proofs.WayLemmas.Prefixes.{goes_on_parts, number_after-append}
+use Rattle.sabr_model.proofs.RouteLemmas.Least.{member_is_route, route_is_member}
 
 -- ---- words for membership and order
 
@@ -42,21 +44,17 @@ member_of e xs c = Member_from_in e xs (in_from_Contains xs e c)
 pub contains_of : {X : Type 0} (e : X) (xs : List X) → Member e xs → Contains xs e
 contains_of e xs m = Contains-from_in xs e (in_from_Member e xs m)
 
-Below_from_all : {K : Type 0} (R : K → K → Ordering) (x : K) (xs : List K) → AllByRecursion (λ z. R x z ≡ Less) xs → Below R x xs
-Below_from_all R x [] h = tt
-Below_from_all R x (y ∷ xs) h = (h.0, Below_from_all R x xs h.1)
-
-pub Rises_from_sorted : {K : Type 0} (R : K → K → Ordering) (xs : List K) → IsStrictlySortedBy R xs → Rises R xs
+Rises_from_sorted : {K : Type 0} (R : K → K → Ordering) (xs : List K) → IsStrictlySortedBy R xs → Rises R xs
 unfolding IsStrictlySortedBy
 Rises_from_sorted R [] h = tt
-Rises_from_sorted R (x ∷ xs) h = (Below_from_all R x xs h.0, Rises_from_sorted R xs h.1)
+Rises_from_sorted R (x ∷ xs) h = (Below-from R x xs (λ y m. all_in (λ z. R x z ≡ Less) xs h.0 y (in_from_Member y xs m)), Rises_from_sorted R xs h.1)
 
 -- ---- within a part
 
 same_number_test : (x y : ℕ) → eqb x y ≡ is_eq (nat_cmp x y)
 same_number_test x y = grind (arith, nat_tests)
 
-pub has_number : (x : ℕ) (xs : List ℕ) → plans.has x xs ≡ has nat_cmp x xs
+has_number : (x : ℕ) (xs : List ℕ) → plans.has x xs ≡ has nat_cmp x xs
 has_number x [] = refl
 has_number x (y ∷ xs) = λ i. same_number_test x y i || has_number x xs i
 
@@ -64,10 +62,7 @@ pub within_goes_on : (q X s : List ℕ) → Within q X s → goes_on q X s ≡ t
 within_goes_on q X s w = ap (λ o. option_map_or (λ n. not (plans.has n X)) o false) w.1 ∙ not_from_false (plans.has w.0 X) (has_number w.0 X ∙ w.2)
 
 pub goes_on_within : (q X s : List ℕ) → goes_on q X s ≡ true → Within q X s
-goes_on_within q X s h = elim (number_after q s) as (λ o. number_after q s ≡ o → option_map_or (λ n. not (plans.has n X)) o false ≡ true → Within q X s) [
-  | None ↦ λ _ k. absurd (true≢false (sym k))
-  | Some x ↦ λ e k. (x, e, sym (has_number x X) ∙ not-true (plans.has x X) k)
-] refl h
+goes_on_within q X s h = let w = goes_on_parts q X s h in (w.0, ap (number_after q) w.2 ∙ number_after-append q w.0 w.1, sym (has_number w.0 X) ∙ w.3)
 
 -- ---- what the frontier asks of the list and of the least of a part
 
@@ -79,10 +74,10 @@ module _ (p : ContactPlan) (r : RouteRequest) (good : IsPlan p) where
   routes_rise = Rises_from_sorted (by_key p r) (routes p r) (routes_are_listed p r good).rising
 
   pub routes_sound : (s : List ℕ) → Member s (routes p r) → is_route p r s ≡ true
-  routes_sound s m = ((routes_are_listed p r good).members s).0 (Contains-from_in (routes p r) s (in_from_Member s (routes p r) m))
+  routes_sound s m = member_is_route p r s good (in_from_Member s (routes p r) m)
 
   pub routes_complete : (s : List ℕ) → is_route p r s ≡ true → Member s (routes p r)
-  routes_complete s h = Member_from_in s (routes p r) (in_from_Contains (routes p r) s (((routes_are_listed p r good).members s).1 h))
+  routes_complete s h = Member_from_in s (routes p r) (route_is_member p r s good h)
 
   pub least_some : (q X s : List ℕ) → least_in p r q X ≡ Some s → (is_route p r s ≡ true) × Within q X s × ((t : List ℕ) → is_route p r t ≡ true → Within q X t → is_lt (by_key p r t s) ≡ false)
   least_some q X s e =

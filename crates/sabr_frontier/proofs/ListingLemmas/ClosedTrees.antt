@@ -1,45 +1,40 @@
 -- The tree of a set of routes is closed and has these as its leaves, and each closed list is the tree of its leaves.
-use Rattle.std.proofs.Common.{◌≡◌, ℕ, Bool, true, List, [], ◌∷◌, ◌++◌, map, flat_map, sym, ap, subst, refl, ◌∙◌, true≢false, ◌⊎◌, inl, inr, Some}
-use Rattle.std.proofs.lemmas.Bool.{or_right}
+use Rattle.std.proofs.Common.{◌≡◌, ℕ, Bool, true, List, [], ◌∷◌, ◌++◌, map, flat_map, sym, ap, subst, refl, ◌∙◌, ◌⊎◌, inl, inr, Some}
 use Rattle.std.proofs.lemmas.Cmp.{nat_list_cmp_total, nat_cmp_total}
-use Rattle.std.specs.Ordering.{is_eq, nat_cmp}
+use Rattle.std.specs.Ordering.{nat_cmp}
 use Rattle.sabr_model.specs.Order.{by_numbers}
 use Rattle.sabr_model.specs.routes.Parts.{number_after}
 use Rattle.sabr_frontier.specs.listing.Rising.{has, Rises}
 use Rattle.sabr_frontier.specs.listing.Tree.{numbers_after, prefixes, set_of, tree}
 use Rattle.sabr_frontier.specs.listing.State.{Member, leaves_of, leaves}
 use Rattle.sabr_frontier.specs.listing.Formed.{IsClosed}
-use Rattle.sabr_frontier.proofs.ListingLemmas.Rising.{both_ways, same_members, has_itself, has_exact, Rises-put_in}
+use Rattle.sabr_frontier.proofs.ListingLemmas.Rising.{same_members, Rises-put_in, member_has, has_member}
 use Rattle.sabr_frontier.proofs.ListingLemmas.NumbersAfter.{lists_exact, numbers_exact, number_after-snoc, number_after-longer, number_after-of_longer}
-use Rattle.sabr_frontier.proofs.ListingLemmas.TreeSets.{In, Listed, In-first, In-later, In-cases, In-put_in, put_in-In, numbers_after_has, has_numbers_after, prefixes_has, has_prefixes}
+use Rattle.sabr_frontier.proofs.ListingLemmas.TreeSets.{In, Listed, In-cases, In-put_in, put_in-In, numbers_after_has, has_numbers_after, prefixes_has, has_prefixes}
 use Rattle.sabr_frontier.proofs.ListingLemmas.ListMembers.{Member-map, Member-map_cases, Member-filter, Member-filter_cases, Member-flat_map, Member-flat_map_cases}
+use Rattle.std.specs.Cmp.{both_ways}
+use Rattle.std.proofs.lemmas.List.{same_from_push}
 
 -- between the two words for a member
 pub In_Member : (s : List ℕ) (S : List (List ℕ)) → Member s S → In s S
-In_Member s [] h = absurd h
-In_Member s (t ∷ S) (inl e) = subst (λ z. In z (t ∷ S)) (sym e) (In-first t S)
-In_Member s (t ∷ S) (inr h) = In-later s t S (In_Member s S h)
+In_Member s S m = member_has nat_list_cmp_total s S m
 
 pub Member_In : (s : List ℕ) (S : List (List ℕ)) → In s S → Member s S
-Member_In s [] h = absurd (true≢false (sym h))
-Member_In s (t ∷ S) h = elim (In-cases s t S h) [ inl e ↦ inl e | inr m ↦ inr (Member_In s S m) ]
+Member_In s S h = has_member nat_list_cmp_total lists_exact s S h
 
 pub Number_has : (x : ℕ) (X : List ℕ) → Member x X → has nat_cmp x X ≡ true
-Number_has x [] h = absurd h
-Number_has x (y ∷ X) (inl e) = subst (λ z. has nat_cmp z (y ∷ X) ≡ true) (sym e) (has_itself nat_cmp_total y X)
-Number_has x (y ∷ X) (inr h) = or_right (is_eq (nat_cmp x y)) (has nat_cmp x X) (Number_has x X h)
+Number_has x X m = member_has nat_cmp_total x X m
 
 pub has_Number : (x : ℕ) (X : List ℕ) → has nat_cmp x X ≡ true → Member x X
-has_Number x [] h = absurd (true≢false (sym h))
-has_Number x (y ∷ X) h = elim (has_exact nat_cmp_total numbers_exact x y X h) [ inl e ↦ inl e | inr m ↦ inr (has_Number x X m) ]
+has_Number x X h = has_member nat_cmp_total numbers_exact x X h
 
 pub set_of_has : (s : List ℕ) (S : List (List ℕ)) → In s (set_of S) → In s S
 set_of_has s [] h = h
-set_of_has s (t ∷ S) h = elim (In-put_in s t (set_of S) h) [ inl e ↦ subst (λ z. In z (t ∷ S)) (sym e) (In-first t S) | inr m ↦ In-later s t S (set_of_has s S m) ]
+set_of_has s (t ∷ S) h = In_Member s (t ∷ S) (elim (In-put_in s t (set_of S) h) [ inl e ↦ inl e | inr m ↦ inr (Member_In s S (set_of_has s S m)) ])
 
 pub has_set_of : (s : List ℕ) (S : List (List ℕ)) → In s S → In s (set_of S)
 has_set_of s [] h = h
-has_set_of s (t ∷ S) h = elim (In-cases s t S h) [ inl e ↦ put_in-In s t (set_of S) (inl e) | inr m ↦ put_in-In s t (set_of S) (inr (has_set_of s S m)) ]
+has_set_of s (t ∷ S) h = put_in-In s t (set_of S) (elim (In-cases s t S h) [ inl e ↦ inl e | inr m ↦ inr (has_set_of s S m) ])
 
 pub Rises-set_of : (S : List (List ℕ)) → Rises by_numbers (set_of S)
 Rises-set_of [] = tt
@@ -80,16 +75,7 @@ last_split x [] = ([], x, refl)
 last_split x (z ∷ s) = let w = last_split z s in (x ∷ w.0, w.1, ap (λ t. x ∷ t) w.2)
 
 pub last_same : (p q : List ℕ) (x y : ℕ) → p ++ x ∷ [] ≡ q ++ y ∷ [] → (p ≡ q) × (x ≡ y)
-last_same [] [] x y e = (refl, cc)
-last_same [] (b ∷ []) x y e = cc
-last_same [] (b ∷ c ∷ q) x y e = cc
-last_same (a ∷ []) [] x y e = cc
-last_same (a ∷ c ∷ p) [] x y e = cc
-last_same (a ∷ p) (b ∷ q) x y e =
-    let h : a ≡ b = cc in
-    let t : p ++ x ∷ [] ≡ q ++ y ∷ [] = cc in
-    let w = last_same p q x y t in
-    (λ i. h i ∷ w.0 i, w.1)
+last_same p q x y e = same_from_push p q x y e
 
 module _ (route chain fits : List ℕ → Bool)
     (apart : (s t : List ℕ) (x : ℕ) → route s ≡ true → route t ≡ true → number_after s t ≡ Some x → ⊥)
@@ -123,7 +109,7 @@ module _ (route chain fits : List ℕ → Bool)
       busy = λ p X m. elim (tree_has p X S m).0 [ inl e ↦ inl e | inr w ↦ inr (w.1, ap (has nat_cmp w.1) (tree_has p X S m).1 ∙ has_numbers_after w.1 p w.0 S w.2 w.3) ];
     }
 
-    pub tree_leaf : (s : List ℕ) → In s (leaves route (tree S)) → In s S
+    tree_leaf : (s : List ℕ) → In s (leaves route (tree S)) → In s S
     tree_leaf s h =
         let w = leaves_has route s (tree S) h in
         let v = numbers_after_has w.2 w.0 S (ap (has nat_cmp w.2) (sym (tree_has w.0 w.1 S w.3).1) ∙ w.4) in
@@ -132,14 +118,12 @@ module _ (route chain fits : List ℕ → Bool)
           | inr n ↦ absurd (apart s v.0 n.0 w.6 (routes v.0 v.1) (ap (λ z. number_after z v.0) w.5 ∙ n.1))
         ]
 
-    pub leaf_tree : (s : List ℕ) → In s S → In s (leaves route (tree S))
-    leaf_tree s h = elim s as (λ s. In s S → In s (leaves route (tree S))) [
-      | [] ↦ λ h. absurd (filled (routes [] h))
-      | x ∷ s ↦ λ h.
-          let w = last_split x s in
-          let n = ap (number_after w.0) w.2 ∙ number_after-snoc w.0 [] w.1 in
-          has_leaves route (x ∷ s) w.0 (numbers_after w.0 S) w.1 (tree S) (has_tree w.0 S (inr (x ∷ s, w.1, h, n))) (has_numbers_after w.1 w.0 (x ∷ s) S h n) w.2 (routes (x ∷ s) h)
-    ] h
+    leaf_tree : (s : List ℕ) → In s S → In s (leaves route (tree S))
+    leaf_tree [] h = absurd (filled (routes [] h))
+    leaf_tree (x ∷ s) h =
+        let w = last_split x s in
+        let n = ap (number_after w.0) w.2 ∙ number_after-snoc w.0 [] w.1 in
+        has_leaves route (x ∷ s) w.0 (numbers_after w.0 S) w.1 (tree S) (has_tree w.0 S (inr (x ∷ s, w.1, h, n))) (has_numbers_after w.1 w.0 (x ∷ s) S h n) w.2 (routes (x ∷ s) h)
 
     -- the leaves of the tree of a set are the set
     pub leaves-tree : leaves route (tree S) ≡ set_of S

@@ -1,6 +1,6 @@
 -- A step from a well-formed state gives a route that is no leaf, and leaves a well-formed state with that leaf added.
-use Rattle.std.proofs.Common.{◌≡◌, ℕ, ◌+◌, Bool, true, false, cond, List, [], ◌∷◌, ◌++◌, map, length, sym, ap, subst, refl, ◌∙◌, true≢false, ◌⊎◌, inl, inr, Option, Some}
-use Rattle.std.proofs.lemmas.Bool.{cases_Bool}
+use Rattle.std.proofs.Common.{◌≡◌, ℕ, ◌+◌, Bool, true, false, List, [], ◌∷◌, ◌++◌, map, length, sym, ap, subst, refl, ◌∙◌, true≢false, ◌⊎◌, inl, inr, Option, Some}
+use Rattle.std.proofs.lemmas.Bool.{false_from_ne_true}
 use Rattle.std.proofs.lemmas.Cmp.{nat_list_cmp_total}
 use Rattle.std.specs.Ordering.{nat_cmp}
 use Rattle.sabr_model.specs.Order.{put_in, by_numbers}
@@ -9,32 +9,22 @@ use Rattle.sabr_frontier.specs.listing.Rising.{has, Rises}
 use Rattle.sabr_frontier.specs.listing.Tree.{prefixes, set_of, tree}
 use Rattle.sabr_frontier.specs.listing.State.{PartState, State, pair_of, Member, leaves}
 use Rattle.sabr_frontier.specs.listing.Formed.{IsClosed, Within, InOrder, IsWellFormed}
-use Rattle.sabr_frontier.specs.listing.Step.{same_pair, carried_in, carry, parts_after, given, full, state_of}
-use Rattle.sabr_frontier.proofs.ListingLemmas.Rising.{both_ways, same_members, length-put_in, Rises-put_in}
+use Rattle.sabr_frontier.specs.listing.Step.{carried_in, carry, parts_after, given, full, state_of}
+use Rattle.sabr_frontier.proofs.ListingLemmas.Rising.{same_members, length-put_in, Rises-put_in}
 use Rattle.sabr_frontier.proofs.ListingLemmas.NumbersAfter.{lists_exact}
 use Rattle.sabr_frontier.proofs.ListingLemmas.TreeSets.{In, In-put_in, put_in-In, Rises-numbers_after, Rises-prefixes}
-use Rattle.sabr_frontier.proofs.ListingLemmas.ListMembers.{Member-map_cases}
+use Rattle.sabr_frontier.proofs.ListingLemmas.ListMembers.{Member-map_cases, Member-map, map_back}
 use Rattle.sabr_frontier.proofs.ListingLemmas.ClosedTrees.{tree_has, leaves_has, Rises-leaves, Rises-set_of, set_of_has, has_set_of, tree_closed, leaves-tree}
 use Rattle.sabr_frontier.proofs.ListingLemmas.Parting.{taken_in_none}
 use Rattle.sabr_frontier.proofs.ListingLemmas.Leaves.{closed_tree, prefixes_of_tree}
-use Rattle.sabr_frontier.proofs.ListingLemmas.Division.{same_pair_is}
+use Rattle.sabr_frontier.proofs.ListingLemmas.Division.{carried_cases}
+use Rattle.std.specs.Cmp.{both_ways}
 
 tree_in_order : (S : List (List ℕ)) → InOrder (tree S)
 tree_in_order S = record {
   by_prefix = subst (Rises by_numbers) (sym (prefixes_of_tree S (prefixes S))) (Rises-prefixes S);
   numbers = λ p X m. subst (Rises nat_cmp) (sym (tree_has p X S m).1) (Rises-numbers_after p S);
 }
-
--- what carry returns is what was carried before, or the least
-carried_cases : (parts : List PartState) (e : List ℕ × List ℕ) (d : Option (List ℕ)) → (carried_in parts e d ≡ d) ⊎ ((t : PartState) × Member t parts × (pair_of t ≡ e) × (carried_in parts e d ≡ t.carried))
-carried_cases [] e d = inl refl
-carried_cases (t ∷ ts) e d = elim (cases_Bool (same_pair (pair_of t) e)) [
-  | inl h ↦ inr (t, inl refl, same_pair_is (pair_of t) e h, ap (λ b. cond b t.carried (carried_in ts e d)) h)
-  | inr h ↦ elim (carried_cases ts e d) [
-    | inl k ↦ inl (ap (λ b. cond b t.carried (carried_in ts e d)) h ∙ k)
-    | inr w ↦ inr (w.0, inr w.1, w.2, ap (λ b. cond b t.carried (carried_in ts e d)) h ∙ w.3)
-  ]
-]
 
 module _ (route chain fits : List ℕ → Bool)
     (apart : (s t : List ℕ) (x : ℕ) → route s ≡ true → route t ≡ true → number_after s t ≡ Some x → ⊥)
@@ -78,17 +68,9 @@ module _ (route chain fits : List ℕ → Bool)
 
     -- what is given is no leaf
     pub given_new : has by_numbers r S ≡ false
-    given_new = elim (cases_Bool (has by_numbers r S)) [
-      | inl h ↦
-          let w = tree_has t.prefix t.excluded S (subst (Member (pair_of t)) pairs_are (into s.parts stands)) in
-          absurd (taken_in_none route apart S leaf_route r r_in.0 h t.prefix (subst (λ Z. Within t.prefix Z r) w.1 r_in.1))
-      | inr h ↦ h
-    ]
-      where
-        into : (parts : List PartState) → Member t parts → Member (pair_of t) (map pair_of parts)
-        into [] m = m
-        into (u ∷ parts) (inl e) = inl (ap pair_of e)
-        into (u ∷ parts) (inr m) = inr (into parts m)
+    given_new = false_from_ne_true (has by_numbers r S) (λ h.
+        let w = tree_has t.prefix t.excluded S (subst (Member (pair_of t)) pairs_are (Member-map pair_of t s.parts stands)) in
+        taken_in_none route apart S leaf_route r r_in.0 h t.prefix (subst (λ Z. Within t.prefix Z r) w.1 r_in.1))
 
     set_of_set : (A : List (List ℕ)) → Rises by_numbers A → set_of A ≡ A
     set_of_set A h = same_members nat_list_cmp_total lists_exact (set_of A) A (Rises-set_of A) h (λ q. both_ways _ _ (set_of_has q A) (has_set_of q A))
@@ -97,11 +79,7 @@ module _ (route chain fits : List ℕ → Bool)
     rises_after = Rises-put_in nat_list_cmp_total r S (Rises-leaves route (map pair_of s.parts))
 
     pairs_after : map pair_of (parts_after route least s.parts r) ≡ tree (put_in by_numbers r S)
-    pairs_after = pairs (tree (put_in by_numbers r S))
-      where
-        pairs : (T : List (List ℕ × List ℕ)) → map pair_of (map (carry route least s.parts) T) ≡ T
-        pairs [] = refl
-        pairs (e ∷ T) = ap (λ z. e ∷ z) (pairs T)
+    pairs_after = map_back (carry route least s.parts) pair_of (tree (put_in by_numbers r S)) (λ e m. refl)
 
     routes_after : (q : List ℕ) → In q (put_in by_numbers r S) → route q ≡ true
     routes_after q h = elim (In-put_in q r S h) [ inl e ↦ ap route e ∙ r_in.0 | inr m ↦ leaf_route q m ]

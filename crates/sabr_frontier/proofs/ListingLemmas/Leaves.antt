@@ -8,18 +8,18 @@ use Rattle.sabr_frontier.specs.listing.Rising.{has, Rises}
 use Rattle.sabr_frontier.specs.listing.Tree.{numbers_after, prefixes, tree}
 use Rattle.sabr_frontier.specs.listing.State.{Member, leaves}
 use Rattle.sabr_frontier.specs.listing.Formed.{IsClosed, InOrder}
-use Rattle.sabr_frontier.proofs.ListingLemmas.Rising.{both_ways, same_members}
-use Rattle.sabr_frontier.proofs.ListingLemmas.NumbersAfter.{numbers_exact, number_after-snoc, number_after-of_longer, number_after-of_snoc, number_after-nil}
-use Rattle.sabr_frontier.proofs.ListingLemmas.TreeSets.{In, Listed, numbers_after_has, has_numbers_after, Rises-numbers_after, Rises-prefixes}
-use Rattle.sabr_frontier.proofs.ListingLemmas.ListMembers.{Member-map, Below-member, Less-apart, same_by_members}
-use Rattle.sabr_frontier.proofs.ListingLemmas.ClosedTrees.{tree_has, has_tree, leaves_has, has_leaves}
+use Rattle.sabr_frontier.proofs.ListingLemmas.Rising.{same_members}
+use Rattle.sabr_frontier.proofs.ListingLemmas.NumbersAfter.{numbers_exact, number_after-snoc, number_after-of_longer, number_after-of_snoc, number_after-nil, lists_exact}
+use Rattle.sabr_frontier.proofs.ListingLemmas.TreeSets.{In, Listed, numbers_after_has, has_numbers_after, Rises-numbers_after, Rises-prefixes, prefixes_has, has_prefixes}
+use Rattle.sabr_frontier.proofs.ListingLemmas.ListMembers.{Member-map, Below-member, Less-apart, map_back, Member-map_cases}
+use Rattle.sabr_frontier.proofs.ListingLemmas.ClosedTrees.{leaves_has, has_leaves, In_Member, Member_In}
+use Rattle.std.specs.Cmp.{both_ways}
 
 abbrev pub Pairs : Type 0
 Pairs = List (List ℕ × List ℕ)
 
 pub prefixes_of_tree : (S ps : List (List ℕ)) → map (λ (e : List ℕ × List ℕ). e.0) (map (λ p. (p, numbers_after p S)) ps) ≡ ps
-prefixes_of_tree S [] = refl
-prefixes_of_tree S (p ∷ ps) = ap (λ t. p ∷ t) (prefixes_of_tree S ps)
+prefixes_of_tree S ps = map_back (λ p. (p, numbers_after p S)) (λ e. e.0) ps (λ p m. refl)
 
 -- no prefix is longer
 abbrev deepest : Pairs → ℕ
@@ -57,25 +57,19 @@ module _ (route chain fits : List ℕ → Bool) (T : Pairs) (order : InOrder T) 
     ]
   ]
 
-  -- each beginning of a listed prefix is listed, and excludes the number that follows
-  down : (n : ℕ) (q Y p : List ℕ) (x : ℕ) → length q ≤ n → Member (q, Y) T → number_after p q ≡ Some x → (X : List ℕ) × Member (p, X) T × (has nat_cmp x X ≡ true)
-  down zero [] Y p x l m e = absurd (number_after-nil p x e)
-  down zero (y ∷ q) Y p x l m e = absurd (omega arith)
-  down (suc n) q Y p x l m e = elim (closed.above q Y m) [
-    | inl h ↦ absurd (number_after-nil p x (ap (number_after p) (sym h) ∙ e))
-    | inr w ↦ elim (number_after-of_snoc p w.0 x w.2 (ap (number_after p) (sym w.3) ∙ e)) [
-      | inl t ↦ (w.1, subst (λ z. Member (z, w.1) T) (sym t.0) w.4, ap (λ z. has nat_cmp z w.1) t.1 ∙ w.5)
-      | inr t ↦ down n w.0 w.1 p x (omega (arith, ap length w.3, length-append w.0 (w.2 ∷ []))) w.4 t
+  -- each beginning of a listed prefix and an excluded number is listed, and excludes the number that follows
+  down : (n : ℕ) (q Y p : List ℕ) (y x : ℕ) → length q < n → Member (q, Y) T → has nat_cmp y Y ≡ true → number_after p (q ++ y ∷ []) ≡ Some x → (X : List ℕ) × Member (p, X) T × (has nat_cmp x X ≡ true)
+  down zero q Y p y x l m h e = absurd (omega arith)
+  down (suc n) q Y p y x l m h e = elim (number_after-of_snoc p q x y e) [
+    | inl t ↦ (Y, subst (λ z. Member (z, Y) T) (sym t.0) m, ap (λ z. has nat_cmp z Y) t.1 ∙ h)
+    | inr t ↦ elim (closed.above q Y m) [
+      | inl k ↦ absurd (number_after-nil p x (ap (number_after p) (sym k) ∙ t))
+      | inr w ↦ down n w.0 w.1 p w.2 x (omega (arith, ap length w.3, length-append w.0 (w.2 ∷ []))) w.4 w.5 (ap (number_after p) (sym w.3) ∙ t)
     ]
   ]
 
   below_leaf : (s p : List ℕ) (x : ℕ) → In s (leaves route T) → number_after p s ≡ Some x → (X : List ℕ) × Member (p, X) T × (has nat_cmp x X ≡ true)
-  below_leaf s p x h e =
-      let w = leaves_has route s T h in
-      elim (number_after-of_snoc p w.0 x w.2 (ap (number_after p) (sym w.5) ∙ e)) [
-        | inl t ↦ (w.1, subst (λ z. Member (z, w.1) T) (sym t.0) w.3, ap (λ z. has nat_cmp z w.1) t.1 ∙ w.4)
-        | inr t ↦ down (length w.0) w.0 w.1 p x (omega arith) w.3 t
-      ]
+  below_leaf s p x h e = let w = leaves_has route s T h in down (length w.0 + 1) w.0 w.1 p w.2 x (omega arith) w.3 w.4 (ap (number_after p) (sym w.5) ∙ e)
 
   excluded_are : (p X : List ℕ) → Member (p, X) T → X ≡ numbers_after p (leaves route T)
   excluded_are p X m = same_members nat_cmp_total numbers_exact X (numbers_after p (leaves route T)) (order.numbers p X m) (Rises-numbers_after p (leaves route T)) (λ x. both_ways _ _
@@ -92,13 +86,13 @@ module _ (route chain fits : List ℕ → Bool) (T : Pairs) (order : InOrder T) 
   ]
 
   pub closed_tree : T ≡ tree (leaves route T)
-  closed_tree = same_by_members nat_list_cmp_total (λ e. e.0) T (tree (leaves route T)) order.by_prefix
-      (subst (Rises by_numbers) (sym (prefixes_of_tree (leaves route T) (prefixes (leaves route T)))) (Rises-prefixes (leaves route T)))
-      (λ e m. subst (λ Z. Member (e.0, Z) (tree (leaves route T))) (sym (excluded_are e.0 e.1 m)) (has_tree e.0 (leaves route T) (listed_are e.0 e.1 m)))
-      (λ e m.
-      let t = tree_has e.0 e.1 (leaves route T) m in
-      let found : (X : List ℕ) × Member (e.0, X) T = elim t.0 [
-        | inl h ↦ (closed.root.0, subst (λ z. Member (z, closed.root.0) T) (sym h) closed.root.1)
-        | inr w ↦ let v = below_leaf w.0 e.0 w.1 w.2 w.3 in (v.0, v.1)
-      ] in
-      subst (λ Z. Member (e.0, Z) T) (excluded_are e.0 found.0 found.1 ∙ sym t.1) found.1)
+  closed_tree =
+      let S : List (List ℕ) = leaves route T in
+      let keys : List (List ℕ) = map (λ e. e.0) T in
+      let same : keys ≡ prefixes S = same_members nat_list_cmp_total lists_exact keys (prefixes S) order.by_prefix (Rises-prefixes S) (λ q. both_ways _ _
+      (λ h. let v = Member-map_cases (λ e. e.0) q T (Member_In q keys h) in has_prefixes q S (subst (Listed S) (sym v.1) (listed_are v.0.0 v.0.1 v.2)))
+      (λ h. In_Member q keys (elim (prefixes_has q S h) [
+        | inl e ↦ subst (λ z. Member z keys) (sym e) (Member-map (λ e. e.0) ([], closed.root.0) T closed.root.1)
+        | inr w ↦ let v = below_leaf w.0 q w.1 w.2 w.3 in Member-map (λ e. e.0) (q, v.0) T v.1
+      ]))) in
+      sym (map_back (λ e. e.0) (λ p. (p, numbers_after p S)) T (λ e m i. (e.0, sym (excluded_are e.0 e.1 m) i))) ∙ ap (map (λ p. (p, numbers_after p S))) same

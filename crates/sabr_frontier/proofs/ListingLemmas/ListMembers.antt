@@ -9,6 +9,7 @@ use Rattle.std.specs.declared.cmp.Ordering.{Ordering}
 use Rattle.std.specs.declared.cmp.Ordering.TheVariants.{Less}
 use Rattle.sabr_frontier.specs.listing.Rising.{Below, Rises}
 use Rattle.sabr_frontier.specs.listing.State.{Member}
+use Rattle.sabr_frontier.specs.tree.Queue.{InPairs}
 
 pub Member-append_left : {X : Type 0} (e : X) (xs ys : List X) → Member e xs → Member e (xs ++ ys)
 Member-append_left e [] ys h = absurd h
@@ -98,3 +99,18 @@ module _ {K : Type 0} {R : K → K → Ordering} (o : IsTotalOrder R) where
         λ i. same i ∷ same_by_members xs ys a.1 b.1
         (λ e m. elim (f e (inr m)) [ inl h ↦ absurd (Less-apart (key x) (ap (λ z. R (key x) (key z)) (same ∙ sym h) ∙ after x e xs a.0 m)) | inr h ↦ h ])
         (λ e m. elim (g e (inr m)) [ inl h ↦ absurd (Less-apart (key x) (ap (λ z. R (key x) (key z)) (sym h) ∙ after x e ys below m)) | inr h ↦ h ]) i
+
+-- ---- maps, and lists in pairs
+
+pub map_map : {X Y Z : Type 0} (f : X → Y) (g : Y → Z) (xs : List X) → map g (map f xs) ≡ map (λ x. g (f x)) xs
+map_map f g [] = refl
+map_map f g (x ∷ xs) = ap (λ t. g (f x) ∷ t) (map_map f g xs)
+
+-- what is mapped there and back
+pub map_back : {X Y : Type 0} (f : X → Y) (g : Y → X) (xs : List X) → ((x : X) → Member x xs → g (f x) ≡ x) → map g (map f xs) ≡ xs
+map_back f g [] h = refl
+map_back f g (x ∷ xs) h = λ i. h x (inl refl) i ∷ map_back f g xs (λ y m. h y (inr m)) i
+
+pub pairs_two : {X : Type 0} (Q : X → X → Type 0) (xs ys : List X) → InPairs Q xs → InPairs Q ys → ((a b : X) → Member a xs → Member b ys → Q a b) → InPairs Q (xs ++ ys)
+pairs_two Q [] ys h k f = k
+pairs_two Q (x ∷ xs) ys h k f = ((λ y m. elim (Member-append_cases y xs ys m) [ inl a ↦ h.0 y a | inr a ↦ f x y (inl refl) a ]), pairs_two Q xs ys h.1 k (λ a b m. f a b (inr m)))

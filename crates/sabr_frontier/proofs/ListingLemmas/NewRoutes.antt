@@ -1,39 +1,24 @@
 -- Steps from any well-formed state give new routes.
-use Rattle.std.proofs.Common.{◌≡◌, ℕ, zero, suc, true, false, cond, List, [], ◌∷◌, length, refl, sym, ap, subst, ◌∙◌, ◌⊎◌, inl, inr, arith, true≢false, Some, None}
-use Rattle.std.specs.Ordering.{is_lt}
+use Rattle.std.proofs.Common.{◌≡◌, ℕ, zero, suc, true, List, [], ◌∷◌, length, refl, sym, ap, subst, ◌∙◌, ◌⊎◌, inl, inr, arith, true≢false, Some, None}
 use Rattle.sabr_model.specs.Order.{put_in, by_numbers}
 use Rattle.sabr_model.specs.plan.Plan.{ContactPlan, IsPlan}
 use Rattle.sabr_model.specs.routes.Arrival.{RouteRequest}
 use Rattle.sabr_model.specs.routes.Route.{is_route, is_path, is_prefix, by_key}
 use Rattle.sabr_model.specs.routes.Parts.{least_in}
 use Rattle.sabr_model.proofs.RouteLemmas.Prefixes.{empty_is_prefix}
-use Rattle.sabr_frontier.specs.listing.State.{PartState, State, Member}
-use Rattle.sabr_frontier.specs.listing.Step.{better, least_carried, given, step_of}
+use Rattle.sabr_frontier.specs.listing.State.{State, Member}
+use Rattle.sabr_frontier.specs.listing.Step.{given, step_of}
 use Rattle.sabr_frontier.specs.listing.Listing.{IsState, leaves_in, next_route, one_step, steps}
-use Rattle.std.specs.declared.cmp.Ordering.{Ordering}
 use Rattle.sabr_frontier.specs.listing.Formed.{Within}
 use Rattle.sabr_frontier.specs.tree.Queue.{InPairs}
 use Rattle.sabr_frontier.specs.listing.Fresh.{GivesNewRoutes}
-use Rattle.sabr_frontier.proofs.ListingLemmas.TreeSets.{In-put_in, put_in-In}
+use Rattle.sabr_frontier.proofs.ListingLemmas.TreeSets.{put_in-In}
 use Rattle.sabr_frontier.proofs.ListingLemmas.ClosedTrees.{In_Member, Member_In}
 use Rattle.sabr_frontier.proofs.ListingLemmas.FormedSteps.{given_new, leaves_after, formed_after}
 use Rattle.sabr_frontier.proofs.ListingLemmas.Paths.{route_filled, routes_apart, route_chains, route_fits}
 use Rattle.sabr_frontier.proofs.ListingLemmas.AllRoutes.{least_some}
 use Rattle.sabr_frontier.proofs.SessionLemmas.Pages.{steps_stop, steps_go, steps_none}
-
--- what is least is carried by some part
-pub carrier : (cmp : List ℕ → List ℕ → Ordering) (parts : List PartState) (x : List ℕ) → least_carried cmp parts ≡ Some x → (u : PartState) × Member u parts × (u.carried ≡ Some x)
-carrier cmp [] x e = absurd cc
-carrier cmp (u ∷ parts) x e = elim u.carried as (λ o. u.carried ≡ o → better cmp o (least_carried cmp parts) ≡ Some x → (v : PartState) × Member v (u ∷ parts) × (v.carried ≡ Some x)) [
-  | None ↦ λ _ h. let w = carrier cmp parts x h in (w.0, inr w.1, w.2)
-  | Some a ↦ λ c h. elim (least_carried cmp parts) as (λ o. least_carried cmp parts ≡ o → better cmp (Some a) o ≡ Some x → (v : PartState) × Member v (u ∷ parts) × (v.carried ≡ Some x)) [
-    | None ↦ λ _ k. (u, inl refl, c ∙ k)
-    | Some b ↦ λ f k. elim (is_lt (cmp b a)) as (λ q. cond q (Some b) (Some a) ≡ Some x → (v : PartState) × Member v (u ∷ parts) × (v.carried ≡ Some x)) [
-      | true ↦ λ k. let w = carrier cmp parts x (f ∙ k) in (w.0, inr w.1, w.2)
-      | false ↦ λ k. (u, inl refl, c ∙ k)
-    ] k
-  ] refl h
-] refl e
+use Rattle.sabr_frontier.proofs.ListingLemmas.NextPlace.{carrier}
 
 module _ (p : ContactPlan) (r : RouteRequest) (good : IsPlan p) where
   -- one step from a well-formed state whose least route is x
@@ -43,7 +28,6 @@ module _ (p : ContactPlan) (r : RouteRequest) (good : IsPlan p) where
     route : is_route p r x ≡ true
     new : Member x (leaves_in p r s) → ⊥
     then_has : (y : List ℕ) → (y ≡ x) ⊎ Member y (leaves_in p r s) → Member y (leaves_in p r (given (is_route p r) (least_in p r) s x).1)
-    then_from : (y : List ℕ) → Member y (leaves_in p r (given (is_route p r) (least_in p r) s x).1) → (y ≡ x) ⊎ Member y (leaves_in p r s)
 
   new_step : (s : State) (x : List ℕ) → IsState p r s → next_route p r s ≡ Some x → IsNewStep s x
   new_step s x h e =
@@ -57,7 +41,6 @@ module _ (p : ContactPlan) (r : RouteRequest) (good : IsPlan p) where
         route = (h.carried c.0 x c.1 c.2).0;
         new = λ m. true≢false (sym (In_Member x (leaves_in p r s) m) ∙ unseen);
         then_has = λ y m. subst (Member y) (sym after) (Member_In y (put_in by_numbers x (leaves_in p r s)) (put_in-In y x (leaves_in p r s) (elim m [ inl k ↦ inl k | inr k ↦ inr (In_Member y (leaves_in p r s) k) ])));
-        then_from = λ y m. elim (In-put_in y x (leaves_in p r s) (In_Member y (put_in by_numbers x (leaves_in p r s)) (subst (Member y) after m))) [ inl k ↦ inl k | inr k ↦ inr (Member_In y (leaves_in p r s) k) ];
       }
 
   stop : (k : ℕ) (s : State) → IsState p r s → steps p r k s ≡ ([], s) → (k ≡ 0) ⊎ (next_route p r s ≡ None) → GivesNewRoutes p r k s

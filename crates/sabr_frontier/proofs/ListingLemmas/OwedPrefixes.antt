@@ -1,22 +1,20 @@
 -- Pairs that come in order are closed if and only if each answers the least prefix that is owed, and none is owed at
 -- the end.
-use Rattle.std.proofs.Common.{◌≡◌, ℕ, Bool, true, false, cond, not, List, [], ◌∷◌, ◌++◌, map, filter, sym, ap, subst, refl, ◌∙◌, true≢false, ◌⊎◌, inl, inr, Some, append_assoc, append-nil}
+use Rattle.std.proofs.Common.{◌≡◌, ℕ, Bool, true, false, cond, not, List, [], ◌∷◌, ◌++◌, map, sym, ap, subst, refl, ◌∙◌, true≢false, ◌⊎◌, inl, inr, append_assoc, append-nil}
 use Rattle.std.proofs.lemmas.Bool.{cases_Bool}
 use Rattle.std.proofs.lemmas.Cmp.{nat_list_cmp_total, nat_cmp_total, tied_itself}
 use Rattle.std.specs.Ordering.{nat_cmp, ordering_then}
-use Rattle.std.specs.declared.cmp.Ordering.TheVariants.{Less, Equal}
+use Rattle.std.specs.declared.cmp.Ordering.TheVariants.{Less}
 use Rattle.sabr_model.specs.Order.{by_numbers}
-use Rattle.sabr_model.specs.routes.Parts.{number_after}
-use Rattle.sabr_frontier.specs.listing.Rising.{has, Below, Rises}
+use Rattle.sabr_frontier.specs.listing.Rising.{has, Rises}
 use Rattle.sabr_frontier.specs.listing.State.{Member}
 use Rattle.sabr_frontier.specs.listing.Formed.{IsClosed, InOrder}
 use Rattle.sabr_frontier.specs.listing.Owing.{Owing, onward, IsGood, Owes}
-use Rattle.sabr_frontier.proofs.ListingLemmas.NumbersAfter.{number_after-of_snoc, number_after-nil}
-use Rattle.sabr_frontier.proofs.ListingLemmas.ListMembers.{Member-map, Member-map_cases, Member-filter, Member-filter_cases, Member-append_left, Member-append_right, Member-append_cases, Below-member, Less-apart}
+use Rattle.sabr_frontier.proofs.ListingLemmas.ListMembers.{Member-map, Member-map_cases, Member-filter, Member-filter_cases, Member-append_left, Member-append_right, Member-append_cases, Below-member, Less-apart, pairs_two}
 use Rattle.sabr_frontier.proofs.ListingLemmas.ClosedTrees.{Number_has, has_Number}
 use Rattle.sabr_frontier.proofs.ListingLemmas.Leaves.{Pairs}
-use Rattle.sabr_frontier.proofs.ListingLemmas.Division.{begins_less, above_longer}
-use Rattle.sabr_search.proofs.WayLemmas.Prefixes.{number_after_some}
+use Rattle.sabr_frontier.proofs.ListingLemmas.Division.{begins_less}
+use Rattle.sabr_frontier.specs.tree.Queue.{InPairs}
 
 module _ (route chain : List ℕ → Bool) where
   -- one pair more
@@ -44,275 +42,164 @@ module _ (route chain : List ℕ → Bool) where
   onward_has : (o : List ℕ) (x : ℕ) (e : List ℕ × List ℕ) → o ≡ e.0 ++ x ∷ [] → has nat_cmp x e.1 ≡ true → route o ≡ false → Member o (onward route chain e)
   onward_has o x e is h out = Member-filter (λ q. not (route q)) o (map (λ x. e.0 ++ x ∷ []) e.1) (ap not out) (subst (λ z. Member z (map (λ x. e.0 ++ x ∷ []) e.1)) (sym is) (Member-map (λ x. e.0 ++ x ∷ []) x e.1 (has_Number x e.1 h)))
 
+-- one list comes before another, and so does all that begins with it
+abbrev Precedes : List ℕ → List ℕ → Type 0
+Precedes a b = (z : List ℕ) → by_numbers (a ++ z) b ≡ Less
+
+lesser_precedes : (p : List ℕ) (x y : ℕ) → nat_cmp x y ≡ Less → Precedes (p ++ x ∷ []) (p ++ y ∷ [])
+lesser_precedes [] x y h z = ap (λ r. ordering_then r (by_numbers z [])) h
+lesser_precedes (w ∷ p) x y h z = ap (λ r. ordering_then r (by_numbers ((p ++ x ∷ []) ++ z) (p ++ y ∷ []))) (tied_itself nat_cmp_total w) ∙ lesser_precedes p x y h z
+
 module _ (route chain fits : List ℕ → Bool) (fits_nil : fits [] ≡ true)
     (fits_on : (p : List ℕ) (x : ℕ) → fits p ≡ true → chain (p ++ x ∷ []) ≡ true → route (p ++ x ∷ []) ≡ false → fits (p ++ x ∷ []) ≡ true)
     (fits_no_route : (p : List ℕ) → fits p ≡ true → route p ≡ false) where
-  -- closed but for what is owed
-  record IsPartly (D : Pairs) (os : Owing) : Type 0 where
-    root : Member [] os ⊎ ((X : List ℕ) × Member ([], X) D)
-    fit : (p X : List ℕ) → Member (p, X) D → fits p ≡ true
-    fit_owed : (o : List ℕ) → Member o os → fits o ≡ true
-    below : (p X : List ℕ) (x : ℕ) → Member (p, X) D → has nat_cmp x X ≡ true → (chain (p ++ x ∷ []) ≡ true) × ((route (p ++ x ∷ []) ≡ true) ⊎ (((Y : List ℕ) × Member (p ++ x ∷ [], Y) D) ⊎ Member (p ++ x ∷ []) os))
-    above : (p X : List ℕ) → Member (p, X) D → (p ≡ []) ⊎ ((q : List ℕ) × (Y : List ℕ) × (x : ℕ) × (p ≡ q ++ x ∷ []) × Member (q, Y) D × (has nat_cmp x Y ≡ true))
-    above_owed : (o : List ℕ) → Member o os → (o ≡ []) ⊎ ((q : List ℕ) × (Y : List ℕ) × (x : ℕ) × (o ≡ q ++ x ∷ []) × Member (q, Y) D × (has nat_cmp x Y ≡ true))
-    busy : (p X : List ℕ) → Member (p, X) D → (p ≡ []) ⊎ ((x : ℕ) × (has nat_cmp x X ≡ true))
+  -- the number goes on from the pair's prefix to a route or to a listed prefix
+  abbrev GoesOn : Pairs → List ℕ × List ℕ → ℕ → Type 0
+  GoesOn E e x = (chain (e.0 ++ x ∷ []) ≡ true) × ((route (e.0 ++ x ∷ []) ≡ true) ⊎ ((Y : List ℕ) × Member (e.0 ++ x ∷ [], Y) E))
 
-  at_first : IsPartly [] ([] ∷ [])
-  at_first = record {
-    root = inl (inl refl);
-    fit = λ p X m. absurd m;
-    fit_owed = λ o m. elim m [ inl e ↦ subst (λ z. fits z ≡ true) (sym e) fits_nil | inr n ↦ absurd n ];
-    below = λ p X x m. absurd m;
-    above = λ p X m. absurd m;
-    above_owed = λ o m. elim m [ inl e ↦ inl e | inr n ↦ absurd n ];
-    busy = λ p X m. absurd m;
-  }
+  -- the prefix is a listed one with an excluded number of it
+  abbrev IsAsked : Pairs → List ℕ → Type 0
+  IsAsked E p = (d : List ℕ × List ℕ) × (x : ℕ) × (p ≡ d.0 ++ x ∷ []) × Member d E × (has nat_cmp x d.1 ≡ true)
 
-  one_more : (D : Pairs) (e : List ℕ × List ℕ) (rest : Owing) → IsPartly D (e.0 ∷ rest) → IsGood route chain e → IsPartly (D ++ e ∷ []) (onward route chain e ++ rest)
-  one_more D e rest h g =
-      let fit_e : fits e.0 ≡ true = h.fit_owed e.0 (inl refl) in
-      let old : (f : List ℕ × List ℕ) → Member f D → Member f (D ++ e ∷ []) = λ f m. Member-append_left f D (e ∷ []) m in
-      let new : Member e (D ++ e ∷ []) = Member-append_right e D (e ∷ []) (inl refl) in
-      let up : (o : List ℕ) → (o ≡ []) ⊎ ((q : List ℕ) × (Y : List ℕ) × (x : ℕ) × (o ≡ q ++ x ∷ []) × Member (q, Y) D × (has nat_cmp x Y ≡ true)) → (o ≡ []) ⊎ ((q : List ℕ) × (Y : List ℕ) × (x : ℕ) × (o ≡ q ++ x ∷ []) × Member (q, Y) (D ++ e ∷ []) × (has nat_cmp x Y ≡ true)) = λ o w. elim w [ inl k ↦ inl k | inr v ↦ inr (v.0, v.1, v.2, v.3, old (v.0, v.1) v.4, v.5) ] in
+  -- closed, but for the owed prefixes, which are asked for elsewhere
+  record IsAnswer (os : Owing) (E : Pairs) : Type 0 where
+    listed : (o : List ℕ) → Member o os → (X : List ℕ) × Member (o, X) E
+    fit : (e : List ℕ × List ℕ) → Member e E → fits e.0 ≡ true
+    below : (e : List ℕ × List ℕ) (x : ℕ) → Member e E → has nat_cmp x e.1 ≡ true → GoesOn E e x
+    above : (e : List ℕ × List ℕ) → Member e E → Member e.0 os ⊎ IsAsked E e.0
+    busy : (e : List ℕ × List ℕ) → Member e E → (e.0 ≡ []) ⊎ ((x : ℕ) × (has nat_cmp x e.1 ≡ true))
+
+  -- what answers the owed prefixes in order
+  answers : (E : Pairs) (os : Owing) → Owes route chain os E [] → ((o : List ℕ) → Member o os → fits o ≡ true) → IsAnswer os E
+  answers [] os w f = record { listed = λ o m. absurd (subst (Member o) w m); fit = λ e m. absurd m; below = λ e x m. absurd m; above = λ e m. absurd m; busy = λ e m. absurd m }
+  answers (e ∷ E) os w f =
+      let on : Owing = onward route chain e in
+      let fit_e : fits e.0 ≡ true = f e.0 (subst (Member e.0) (sym w.1) (inl refl)) in
+      let rest_in : (o : List ℕ) → Member o w.0 → Member o os = λ o m. subst (Member o) (sym w.1) (inr m) in
+      let h : IsAnswer (on ++ w.0) E = answers E (on ++ w.0) w.3 (λ o m. elim (Member-append_cases o on w.0 m) [
+        | inl n ↦ let v = onward_cases route chain o e n in ap fits v.1 ∙ fits_on e.0 v.0 fit_e (w.2.chains v.0 v.2) (ap route (sym v.1) ∙ v.3)
+        | inr n ↦ f o (rest_in o n)
+      ]) in
       record {
-        root = elim h.root [
-          | inl m ↦ elim m [ inl k ↦ inr (e.1, subst (λ z. Member (z, e.1) (D ++ e ∷ [])) (sym k) new) | inr n ↦ inl (Member-append_right [] (onward route chain e) rest n) ]
-          | inr w ↦ inr (w.0, old ([], w.0) w.1)
+        listed = λ o m. elim (subst (Member o) w.1 m) [
+          | inl k ↦ (e.1, inl (λ i. (k i, e.1)))
+          | inr n ↦ let v = h.listed o (Member-append_right o on w.0 n) in (v.0, inr v.1)
         ];
-        fit = λ p X m. elim (Member-append_cases (p, X) D (e ∷ []) m) [ inl n ↦ h.fit p X n | inr n ↦ elim n [ inl k ↦ subst (λ z. fits z ≡ true) (ap (λ (z : List ℕ × List ℕ). z.0) (sym k)) fit_e | inr z ↦ absurd z ] ];
-        fit_owed = λ o m. elim (Member-append_cases o (onward route chain e) rest m) [
-          | inl n ↦ let w = onward_cases route chain o e n in subst (λ z. fits z ≡ true) (sym w.1) (fits_on e.0 w.0 fit_e (g.chains w.0 w.2) (ap route (sym w.1) ∙ w.3))
-          | inr n ↦ h.fit_owed o (inr n)
+        fit = λ d m. elim m [ inl k ↦ ap (λ (z : List ℕ × List ℕ). fits z.0) k ∙ fit_e | inr n ↦ h.fit d n ];
+        below = λ d x m t. elim m [
+          | inl k ↦
+              let in_e : has nat_cmp x e.1 ≡ true = ap (λ (z : List ℕ × List ℕ). has nat_cmp x z.1) (sym k) ∙ t in
+              let on_e : GoesOn (e ∷ E) e x = (
+                w.2.chains x in_e,
+                elim (cases_Bool (route (e.0 ++ x ∷ []))) [
+                  | inl r ↦ inl r
+                  | inr r ↦ let v = h.listed (e.0 ++ x ∷ []) (Member-append_left _ on w.0 (onward_has route chain (e.0 ++ x ∷ []) x e refl in_e r)) in inr (v.0, inr v.1)
+                ],
+              ) in
+              subst (λ (z : List ℕ × List ℕ). GoesOn (e ∷ E) z x) (sym k) on_e
+          | inr n ↦ let v = h.below d x n t in (v.0, elim v.1 [ inl r ↦ inl r | inr u ↦ inr (u.0, inr u.1) ])
         ];
-        below = λ p X x m k. elim (Member-append_cases (p, X) D (e ∷ []) m) [
-          | inl n ↦ let w = h.below p X x n k in (
-            w.0,
-            elim w.1 [
-              | inl r ↦ inl r
-              | inr v ↦ inr (elim v [
-                | inl u ↦ inl (u.0, old (p ++ x ∷ [], u.0) u.1)
-                | inr u ↦ elim u [ inl same ↦ inl (e.1, subst (λ z. Member (z, e.1) (D ++ e ∷ [])) (sym same) new) | inr z ↦ inr (Member-append_right (p ++ x ∷ []) (onward route chain e) rest z) ]
-              ])
-            ],
-          )
-          | inr n ↦ elim n [
-            | inl same ↦
-                let sp : p ≡ e.0 = ap (λ (z : List ℕ × List ℕ). z.0) same in
-                let k' : has nat_cmp x e.1 ≡ true = ap (has nat_cmp x) (ap (λ (z : List ℕ × List ℕ). z.1) (sym same)) ∙ k in (
-                  subst (λ z. chain (z ++ x ∷ []) ≡ true) (sym sp) (g.chains x k'),
-                  elim (cases_Bool (route (p ++ x ∷ []))) [
-                    | inl r ↦ inl r
-                    | inr r ↦ inr (inr (Member-append_left (p ++ x ∷ []) (onward route chain e) rest (onward_has route chain (p ++ x ∷ []) x e (ap (λ z. z ++ x ∷ []) sp) k' r)))
-                  ],
-                )
-            | inr z ↦ absurd z
+        above = λ d m. elim m [
+          | inl k ↦ inl (subst (Member d.0) (sym w.1) (inl (ap (λ (z : List ℕ × List ℕ). z.0) k)))
+          | inr n ↦ elim (h.above d n) [
+            | inl a ↦ elim (Member-append_cases d.0 on w.0 a) [
+              | inl b ↦ let v = onward_cases route chain d.0 e b in inr (e, v.0, v.1, inl refl, v.2)
+              | inr b ↦ inl (rest_in d.0 b)
+            ]
+            | inr v ↦ inr (v.0, v.1, v.2, inr v.3, v.4)
           ]
         ];
-        above = λ p X m. elim (Member-append_cases (p, X) D (e ∷ []) m) [
-          | inl n ↦ up p (h.above p X n)
-          | inr n ↦ elim n [ inl same ↦ up p (subst (λ z. (z ≡ []) ⊎ ((q : List ℕ) × (Y : List ℕ) × (x : ℕ) × (z ≡ q ++ x ∷ []) × Member (q, Y) D × (has nat_cmp x Y ≡ true))) (ap (λ (z : List ℕ × List ℕ). z.0) (sym same)) (h.above_owed e.0 (inl refl))) | inr z ↦ absurd z ]
-        ];
-        above_owed = λ o m. elim (Member-append_cases o (onward route chain e) rest m) [
-          | inl n ↦ let w = onward_cases route chain o e n in inr (e.0, e.1, w.0, w.1, new, w.2)
-          | inr n ↦ up o (h.above_owed o (inr n))
-        ];
-        busy = λ p X m. elim (Member-append_cases (p, X) D (e ∷ []) m) [
-          | inl n ↦ h.busy p X n
-          | inr n ↦ elim n [ inl same ↦ subst (λ (z : List ℕ × List ℕ). (z.0 ≡ []) ⊎ ((x : ℕ) × (has nat_cmp x z.1 ≡ true))) (sym same) g.busy | inr z ↦ absurd z ]
-        ];
+        busy = λ d m. elim m [ inl k ↦ subst (λ (z : List ℕ × List ℕ). (z.0 ≡ []) ⊎ ((x : ℕ) × (has nat_cmp x z.1 ≡ true))) (sym k) w.2.busy | inr n ↦ h.busy d n ];
       }
-
-  goes_on : (D T : Pairs) (os : Owing) → IsPartly D os → Owes route chain os T [] → IsPartly (D ++ T) []
-  goes_on D [] os h w = subst (λ z. IsPartly z []) (sym (append-nil D)) (subst (IsPartly D) w h)
-  goes_on D (e ∷ T) os h w = subst (λ z. IsPartly z []) (append_assoc D (e ∷ []) T) (goes_on (D ++ e ∷ []) T (onward route chain e ++ w.0) (one_more D e w.0 (subst (IsPartly D) w.1 h) w.2) w.3)
 
   -- accepted lists are closed
   pub owes_closed : (T : Pairs) → Owes route chain ([] ∷ []) T [] → IsClosed route chain fits T
   owes_closed T w =
-      let h = goes_on [] T ([] ∷ []) at_first w in
+      let h = answers T ([] ∷ []) w (λ o m. elim m [ inl e ↦ ap fits e ∙ fits_nil | inr z ↦ absurd z ]) in
       record {
-        root = elim h.root [ inl m ↦ absurd m | inr w ↦ w ];
-        fit = h.fit;
-        below = λ p X x m k. let w = h.below p X x m k in (w.0, elim w.1 [ inl r ↦ inl r | inr v ↦ elim v [ inl u ↦ inr u | inr z ↦ absurd z ] ]);
-        above = h.above;
-        busy = h.busy;
+        root = h.listed [] (inl refl);
+        fit = λ p X. h.fit (p, X);
+        below = λ p X. h.below (p, X);
+        above = λ p X m. elim (h.above (p, X) m) [ inl k ↦ inl (elim k [ inl e ↦ e | inr z ↦ absurd z ]) | inr v ↦ inr (v.0.0, v.0.1, v.1, v.2, v.3, v.4) ];
+        busy = λ p X. h.busy (p, X);
       }
 
   -- ---- and closed lists are accepted
-
-  -- o is asked for by D, is no route, and isn't listed yet
-  record IsOwed (D : Pairs) (o : List ℕ) : Type 0 where
-    asked : (o ≡ []) ⊎ ((q : List ℕ) × (Y : List ℕ) × (y : ℕ) × (o ≡ q ++ y ∷ []) × Member (q, Y) D × (has nat_cmp y Y ≡ true))
-    no_route : route o ≡ false
-    unlisted : (X : List ℕ) → Member (o, X) D → ⊥
-
-  module _ (T : Pairs) (order : InOrder T) (closed : IsClosed route chain fits T) where
-    abbrev key : List ℕ × List ℕ → List ℕ
-    key e = e.0
-
-    below_all : (e : List ℕ × List ℕ) (E : Pairs) → Rises by_numbers (map key (e ∷ E)) → (p X : List ℕ) → Member (p, X) E → by_numbers e.0 p ≡ Less
-    below_all e E r p X m = Below-member nat_list_cmp_total e.0 p (map key E) r.0 (Member-map key (p, X) E m)
-
-    rises_tail : (D E : Pairs) → Rises by_numbers (map key (D ++ E)) → Rises by_numbers (map key E)
-    rises_tail [] E r = r
-    rises_tail (d ∷ D) E r = rises_tail D E r.1
-
-    before : (D : Pairs) (e : List ℕ × List ℕ) (E : Pairs) → Rises by_numbers (map key (D ++ (e ∷ E))) → (p X : List ℕ) → Member (p, X) D → by_numbers p e.0 ≡ Less
-    before [] e E r p X m = absurd m
-    before (d ∷ D) e E r p X (inl k) = subst (λ (z : List ℕ × List ℕ). by_numbers z.0 e.0 ≡ Less) (sym k) (below_all d (D ++ (e ∷ E)) r e.0 e.1 (Member-append_right e D (e ∷ E) (inl refl)))
-    before (d ∷ D) e E r p X (inr m) = before D e E r.1 p X m
-
-    onward_rises : (e : List ℕ × List ℕ) → Rises nat_cmp e.1 → Rises by_numbers (onward route chain e)
-    onward_rises e = by e.1
-      where
-        snoc_less : (p : List ℕ) (x y : ℕ) → nat_cmp x y ≡ Less → by_numbers (p ++ x ∷ []) (p ++ y ∷ []) ≡ Less
-        snoc_less [] x y h = ap (λ r. ordering_then r Equal) h
-        snoc_less (z ∷ p) x y h = ap (λ r. ordering_then r (by_numbers (p ++ x ∷ []) (p ++ y ∷ []))) (tied_itself nat_cmp_total z) ∙ snoc_less p x y h
-
-        below : (x : ℕ) (X : List ℕ) → Below nat_cmp x X → Below by_numbers (e.0 ++ x ∷ []) (filter (λ q. not (route q)) (map (λ x. e.0 ++ x ∷ []) X))
-        below x [] b = tt
-        below x (y ∷ X) b = elim (not (route (e.0 ++ y ∷ []))) as (λ c. Below by_numbers (e.0 ++ x ∷ []) (cond c ((e.0 ++ y ∷ []) ∷ filter (λ q. not (route q)) (map (λ x. e.0 ++ x ∷ []) X)) (filter (λ q. not (route q)) (map (λ x. e.0 ++ x ∷ []) X)))) [ true ↦ (snoc_less e.0 x y b.0, below x X b.1) | false ↦ below x X b.1 ]
-
-        by : (X : List ℕ) → Rises nat_cmp X → Rises by_numbers (filter (λ q. not (route q)) (map (λ x. e.0 ++ x ∷ []) X))
-        by [] r = tt
-        by (x ∷ X) r = elim (not (route (e.0 ++ x ∷ []))) as (λ c. Rises by_numbers (cond c ((e.0 ++ x ∷ []) ∷ filter (λ q. not (route q)) (map (λ x. e.0 ++ x ∷ []) X)) (filter (λ q. not (route q)) (map (λ x. e.0 ++ x ∷ []) X)))) [ true ↦ (below x X r.0, by X r.1) | false ↦ by X r.1 ]
-
-    Rises-two : (A B : Owing) → Rises by_numbers A → Rises by_numbers B → ((a b : List ℕ) → Member a A → Member b B → by_numbers a b ≡ Less) → Rises by_numbers (A ++ B)
-    Rises-two [] B a b f = b
-    Rises-two (x ∷ A) B a b f = (both A a.0, Rises-two A B a.1 b (λ y z m n. f y z (inr m) n))
-      where
-        all : (B : Owing) → ((b : List ℕ) → Member b B → by_numbers x b ≡ Less) → Below by_numbers x B
-        all [] g = tt
-        all (b ∷ B) g = (g b (inl refl), all B (λ c m. g c (inr m)))
-
-        both : (A : Owing) → Below by_numbers x A → Below by_numbers x (A ++ B)
-        both [] h = all B (λ b m. f x b (inl refl) m)
-        both (y ∷ A) h = (h.0, both A h.1)
-
-    -- an owed prefix is listed later on
-    owed_later : (D E : Pairs) → D ++ E ≡ T → (o : List ℕ) → IsOwed D o → (X : List ℕ) × Member (o, X) E
-    owed_later D E split o h =
-        let in_T : (X : List ℕ) × Member (o, X) T = elim h.asked [
-          | inl e ↦ (closed.root.0, subst (λ z. Member (z, closed.root.0) T) (sym e) closed.root.1)
-          | inr w ↦ elim (closed.below w.0 w.1 w.2 (subst (Member (w.0, w.1)) split (Member-append_left (w.0, w.1) D E w.4)) w.5).1 [
-            | inl r ↦ absurd (true≢false (sym r ∙ ap route (sym w.3) ∙ h.no_route))
-            | inr v ↦ (v.0, subst (λ z. Member (z, v.0) T) (sym w.3) v.1)
-          ]
-        ] in
-        elim (Member-append_cases (o, in_T.0) D E (subst (Member (o, in_T.0)) (sym split) in_T.1)) [
-          | inl m ↦ absurd (h.unlisted in_T.0 m)
-          | inr m ↦ (in_T.0, m)
-        ]
-
-    accepts : (E D : Pairs) (os : Owing) → D ++ E ≡ T → Rises by_numbers os → ((o : List ℕ) → Member o os → IsOwed D o) → ((o : List ℕ) → IsOwed D o → Member o os) → Owes route chain os E []
-    accepts [] D [] split r f g = refl
-    accepts [] D (o ∷ os) split r f g = absurd (owed_later D [] split o (f o (inl refl))).1
-    accepts (e ∷ E) D os split r f g =
-        let rises : Rises by_numbers (map key (D ++ (e ∷ E))) = subst (λ z. Rises by_numbers (map key z)) (sym split) order.by_prefix in
-        let rises_e : Rises by_numbers (map key (e ∷ E)) = rises_tail D (e ∷ E) rises in
-        let e_in : Member e T = subst (Member e) split (Member-append_right e D (e ∷ E) (inl refl)) in
-        let not_before : (X : List ℕ) → Member (e.0, X) D → ⊥ = λ X m. Less-apart nat_list_cmp_total e.0 (before D e E rises e.0 X m) in
-        let e_owed : IsOwed D e.0 = record {
-          asked = elim (closed.above e.0 e.1 e_in) [
-            | inl k ↦ inl k
-            | inr w ↦ inr (
-              w.0,
-              w.1,
-              w.2,
-              w.3,
-              elim (Member-append_cases (w.0, w.1) D (e ∷ E) (subst (Member (w.0, w.1)) (sym split) w.4)) [
-                | inl m ↦ m
-                | inr m ↦
-                    let q_less : by_numbers w.0 e.0 ≡ Less = subst (λ z. by_numbers w.0 z ≡ Less) (sym w.3) (begins_less w.0 w.2 []) in
-                    absurd (elim m [
-                      | inl k ↦ Less-apart nat_list_cmp_total e.0 (ap (λ (z : List ℕ × List ℕ). by_numbers z.0 e.0) (sym k) ∙ q_less)
-                      | inr n ↦ Less-apart nat_list_cmp_total e.0 (nat_list_cmp_total.trans e.0 w.0 e.0 (below_all e E rises_e w.0 w.1 n) q_less)
-                    ])
-              ],
-              w.5,
-            )
-          ];
-          no_route = fits_no_route e.0 (closed.fit e.0 e.1 e_in);
-          unlisted = not_before;
-        } in
-        let first : (rest : Owing) × (os ≡ e.0 ∷ rest) = elim os as (λ os. Rises by_numbers os → Member e.0 os → ((o : List ℕ) → Member o os → IsOwed D o) → (rest : Owing) × (os ≡ e.0 ∷ rest)) [
-          | [] ↦ λ _ m _. absurd m
-          | o ∷ os ↦ λ r m f. elim m [
-            | inl k ↦ (os, ap (λ z. z ∷ os) (sym k))
-            | inr n ↦
-                let o_less : by_numbers o e.0 ≡ Less = Below-member nat_list_cmp_total o e.0 os r.0 n in
-                let l = owed_later D (e ∷ E) split o (f o (inl refl)) in
-                absurd (elim l.1 [
-                  | inl k ↦ Less-apart nat_list_cmp_total e.0 (ap (λ (z : List ℕ × List ℕ). by_numbers z.0 e.0) (sym k) ∙ o_less)
-                  | inr n ↦ Less-apart nat_list_cmp_total e.0 (nat_list_cmp_total.trans e.0 o e.0 (below_all e E rises_e o l.0 n) o_less)
-                ])
-          ]
-        ] r (g e.0 e_owed) f in
-        let rest : Owing = first.0 in
-        let r' : Rises by_numbers (e.0 ∷ rest) = subst (Rises by_numbers) first.1 r in
-        let in_os : (o : List ℕ) → Member o rest → Member o os = λ o m. subst (Member o) (sym first.1) (inr m) in
-        let above_e : (o : List ℕ) → Member o rest → by_numbers e.0 o ≡ Less = λ o m. Below-member nat_list_cmp_total e.0 o rest r'.0 m in
-        let never : (o : List ℕ) (n : ℕ) → Member o rest → number_after e.0 o ≡ Some n → ⊥ = λ o n m k.
-        elim (f o (in_os o m)).asked [
-          | inl z ↦ number_after-nil e.0 n (ap (number_after e.0) (sym z) ∙ k)
-          | inr w ↦ elim (number_after-of_snoc e.0 w.0 n w.2 (ap (number_after e.0) (sym w.3) ∙ k)) [
-            | inl t ↦ not_before w.1 (subst (λ z. Member (z, w.1) D) (sym t.0) w.4)
-            | inr t ↦
-                let s = number_after_some e.0 w.0 n t in
-                Less-apart nat_list_cmp_total e.0 (nat_list_cmp_total.trans e.0 w.0 e.0 (subst (λ z. by_numbers e.0 z ≡ Less) (sym s.1) (begins_less e.0 n s.0)) (before D e E rises w.0 w.1 w.4))
-          ]
-        ] in
-        let next : (D ++ e ∷ []) ++ E ≡ T = append_assoc D (e ∷ []) E ∙ split in
-        let good : IsGood route chain e = record { busy = closed.busy e.0 e.1 e_in; chains = λ x h. (closed.below e.0 e.1 x e_in h).0 } in (
-          rest,
-          first.1,
-          good,
-          accepts E (D ++ e ∷ []) (onward route chain e ++ rest) next
-              (Rises-two (onward route chain e) rest (onward_rises e (order.numbers e.0 e.1 e_in)) r'.1 (λ a b m n.
-              let w = onward_cases route chain a e m in
-              subst (λ z. by_numbers z b ≡ Less) (sym w.1) (above_longer e.0 b (w.0 ∷ []) (above_e b n) (λ k t. never b k n t))))
-              (λ o m. elim (Member-append_cases o (onward route chain e) rest m) [
-                | inl n ↦
-                    let w = onward_cases route chain o e n in
-                    let o_above : by_numbers e.0 o ≡ Less = subst (λ z. by_numbers e.0 z ≡ Less) (sym w.1) (begins_less e.0 w.0 []) in
-                    record {
-                      asked = inr (e.0, e.1, w.0, w.1, Member-append_right e D (e ∷ []) (inl refl), w.2);
-                      no_route = w.3;
-                      unlisted = λ X k. elim (Member-append_cases (o, X) D (e ∷ []) k) [
-                        | inl u ↦ Less-apart nat_list_cmp_total e.0 (nat_list_cmp_total.trans e.0 o e.0 o_above (before D e E rises o X u))
-                        | inr u ↦ elim u [ inl v ↦ Less-apart nat_list_cmp_total e.0 (ap (λ (z : List ℕ × List ℕ). by_numbers e.0 z.0) (sym v) ∙ o_above) | inr z ↦ z ]
-                      ];
-                    }
-                | inr n ↦
-                    let h = f o (in_os o n) in
-                    record {
-                      asked = elim h.asked [ inl k ↦ inl k | inr w ↦ inr (w.0, w.1, w.2, w.3, Member-append_left (w.0, w.1) D (e ∷ []) w.4, w.5) ];
-                      no_route = h.no_route;
-                      unlisted = λ X k. elim (Member-append_cases (o, X) D (e ∷ []) k) [
-                        | inl u ↦ h.unlisted X u
-                        | inr u ↦ elim u [ inl v ↦ Less-apart nat_list_cmp_total e.0 (ap (λ (z : List ℕ × List ℕ). by_numbers e.0 z.0) (sym v) ∙ above_e o n) | inr z ↦ z ]
-                      ];
-                    }
-              ])
-              (λ o h.
-              let still : IsOwed D o → Member o (onward route chain e ++ rest) = λ k. elim (subst (Member o) first.1 (g o k)) [
-                | inl same ↦ absurd (h.unlisted e.1 (subst (λ z. Member (z, e.1) (D ++ e ∷ [])) (sym same) (Member-append_right e D (e ∷ []) (inl refl))))
-                | inr n ↦ Member-append_right o (onward route chain e) rest n
-              ] in
-              let old : (X : List ℕ) → Member (o, X) D → ⊥ = λ X m. h.unlisted X (Member-append_left (o, X) D (e ∷ []) m) in
-              elim h.asked [
-                | inl k ↦ still (record { asked = inl k; no_route = h.no_route; unlisted = old })
-                | inr w ↦ elim (Member-append_cases (w.0, w.1) D (e ∷ []) w.4) [
-                  | inl m ↦ still (record { asked = inr (w.0, w.1, w.2, w.3, m, w.5); no_route = h.no_route; unlisted = old })
-                  | inr m ↦ elim m [
-                    | inl k ↦ Member-append_left o (onward route chain e) rest (onward_has route chain o w.2 e (w.3 ∙ ap (λ (z : List ℕ × List ℕ). z.0 ++ w.2 ∷ []) k) (ap (λ (z : List ℕ × List ℕ). has nat_cmp w.2 z.1) (sym k) ∙ w.5) h.no_route)
-                    | inr z ↦ absurd z
-                  ]
-                ]
-              ]),
+  onward_apart : (p X : List ℕ) → Rises nat_cmp X → InPairs Precedes (onward route chain (p, X))
+  onward_apart p [] r = tt
+  onward_apart p (x ∷ X) r =
+      let on : Owing = onward route chain (p, X) in
+      elim (not (route (p ++ x ∷ []))) as (λ c. InPairs Precedes (cond c ((p ++ x ∷ []) ∷ on) on)) [
+        | true ↦ (
+          (λ b m. let v = onward_cases route chain b (p, X) m in subst (Precedes (p ++ x ∷ [])) (sym v.1) (lesser_precedes p x v.0 (Below-member nat_cmp_total x v.0 X r.0 (has_Number v.0 X v.2)))),
+          onward_apart p X r.1,
         )
+        | false ↦ onward_apart p X r.1
+      ]
 
-    pub closed_owes : Owes route chain ([] ∷ []) T []
-    closed_owes = accepts T [] ([] ∷ []) refl (tt, tt)
-        (λ o m. elim m [ inl e ↦ record { asked = inl e; no_route = ap route e ∙ fits_no_route [] fits_nil; unlisted = λ X k. k } | inr z ↦ absurd z ])
-        (λ o h. elim h.asked [ inl e ↦ inl e | inr w ↦ absurd w.4 ])
+  accepts : (E : Pairs) (os : Owing) → InOrder E → InPairs Precedes os → IsAnswer os E → Owes route chain os E []
+  accepts [] [] order s h = refl
+  accepts [] (o ∷ os) order s h = absurd (h.listed o (inl refl)).1
+  accepts (e ∷ E) os order s h =
+      let on : Owing = onward route chain e in
+      let above_e : (d : List ℕ × List ℕ) → Member d E → by_numbers e.0 d.0 ≡ Less = λ d m. Below-member nat_list_cmp_total e.0 d.0 (map (λ z. z.0) E) order.by_prefix.0 (Member-map (λ z. z.0) d E m) in
+      let not_below : (d : List ℕ × List ℕ) → Member d (e ∷ E) → by_numbers d.0 e.0 ≡ Less → ⊥ = λ d m l. elim m [
+        | inl k ↦ Less-apart nat_list_cmp_total e.0 (ap (λ (z : List ℕ × List ℕ). by_numbers z.0 e.0) (sym k) ∙ l)
+        | inr n ↦ Less-apart nat_list_cmp_total e.0 (nat_list_cmp_total.trans e.0 d.0 e.0 (above_e d n) l)
+      ] in
+      let later : (q : List ℕ) → by_numbers e.0 q ≡ Less → (X : List ℕ) × Member (q, X) (e ∷ E) → (X : List ℕ) × Member (q, X) E = λ q l w. (
+        w.0,
+        elim w.1 [ inl k ↦ absurd (Less-apart nat_list_cmp_total e.0 (ap (λ (z : List ℕ × List ℕ). by_numbers e.0 z.0) (sym k) ∙ l)) | inr m ↦ m ],
+      ) in
+      let owed : Member e.0 os = elim (h.above e (inl refl)) [
+        | inl m ↦ m
+        | inr w ↦ absurd (not_below w.0 w.3 (subst (λ z. by_numbers w.0.0 z ≡ Less) (sym w.2) (begins_less w.0.0 w.1 [])))
+      ] in
+      let first : (rest : Owing) × (os ≡ e.0 ∷ rest) = elim os as (λ os. Member e.0 os → InPairs Precedes os → IsAnswer os (e ∷ E) → (rest : Owing) × (os ≡ e.0 ∷ rest)) [
+        | [] ↦ λ m _ _. absurd m
+        | o ∷ os ↦ λ m s h. elim m [
+          | inl k ↦ (os, ap (λ z. z ∷ os) (sym k))
+          | inr n ↦ absurd (not_below (o, (h.listed o (inl refl)).0) (h.listed o (inl refl)).1 (subst (λ z. by_numbers z e.0 ≡ Less) (append-nil o) (s.0 e.0 n [])))
+        ]
+      ] owed s h in
+      let rest : Owing = first.0 in
+      let s' : InPairs Precedes (e.0 ∷ rest) = subst (InPairs Precedes) first.1 s in
+      let good : IsGood route chain e = record { busy = h.busy e (inl refl); chains = λ x t. (h.below e x (inl refl) t).0 } in
+      let left : IsAnswer (on ++ rest) E = record {
+        listed = λ q m. elim (Member-append_cases q on rest m) [
+          | inl n ↦ let v = onward_cases route chain q e n in elim (h.below e v.0 (inl refl) v.2).1 [
+            | inl r ↦ absurd (true≢false (sym r ∙ ap route (sym v.1) ∙ v.3))
+            | inr u ↦ subst (λ z. (X : List ℕ) × Member (z, X) E) (sym v.1) (later (e.0 ++ v.0 ∷ []) (begins_less e.0 v.0 []) u)
+          ]
+          | inr n ↦ later q (subst (λ z. by_numbers z q ≡ Less) (append-nil e.0) (s'.0 q n [])) (h.listed q (subst (Member q) (sym first.1) (inr n)))
+        ];
+        fit = λ d m. h.fit d (inr m);
+        below = λ d x m t. let w = h.below d x (inr m) t in (
+          w.0,
+          elim w.1 [ inl r ↦ inl r | inr u ↦ inr (later (d.0 ++ x ∷ []) (nat_list_cmp_total.trans e.0 d.0 (d.0 ++ x ∷ []) (above_e d m) (begins_less d.0 x [])) u) ],
+        );
+        above = λ d m. elim (h.above d (inr m)) [
+          | inl n ↦ elim (subst (Member d.0) first.1 n) [
+            | inl k ↦ absurd (Less-apart nat_list_cmp_total e.0 (subst (λ z. by_numbers e.0 z ≡ Less) k (above_e d m)))
+            | inr u ↦ inl (Member-append_right d.0 on rest u)
+          ]
+          | inr w ↦ elim w.3 [
+            | inl k ↦ inl (Member-append_left d.0 on rest (onward_has route chain d.0 w.1 e (w.2 ∙ ap (λ (z : List ℕ × List ℕ). z.0 ++ w.1 ∷ []) k) (ap (λ (z : List ℕ × List ℕ). has nat_cmp w.1 z.1) (sym k) ∙ w.4) (fits_no_route d.0 (h.fit d (inr m)))))
+            | inr u ↦ inr (w.0, w.1, w.2, u, w.4)
+          ]
+        ];
+        busy = λ d m. h.busy d (inr m);
+      } in
+      let apart : InPairs Precedes (on ++ rest) = pairs_two Precedes on rest (onward_apart e.0 e.1 (order.numbers e.0 e.1 (inl refl))) s'.1 (λ a b m n z.
+      let v = onward_cases route chain a e m in
+      subst (λ w. by_numbers w b ≡ Less) (sym (ap (λ w. w ++ z) v.1 ∙ append_assoc e.0 (v.0 ∷ []) z)) (s'.0 b n (v.0 ∷ z))) in
+      (rest, first.1, good, accepts E (on ++ rest) (record { by_prefix = order.by_prefix.1; numbers = λ p X m. order.numbers p X (inr m) }) apart left)
+
+  pub closed_owes : (T : Pairs) → InOrder T → IsClosed route chain fits T → Owes route chain ([] ∷ []) T []
+  closed_owes T order closed = accepts T ([] ∷ []) order ((λ b m. absurd m), tt) (record {
+    listed = λ o m. elim m [ inl e ↦ subst (λ z. (X : List ℕ) × Member (z, X) T) (sym e) closed.root | inr z ↦ absurd z ];
+    fit = λ e. closed.fit e.0 e.1;
+    below = λ e. closed.below e.0 e.1;
+    above = λ e m. elim (closed.above e.0 e.1 m) [ inl k ↦ inl (inl k) | inr w ↦ inr ((w.0, w.1), w.2, w.3, w.4, w.5) ];
+    busy = λ e. closed.busy e.0 e.1;
+  })

@@ -7,25 +7,22 @@ use Rattle.sabr_model.specs.routes.Parts.{number_after}
 use Rattle.sabr_frontier.specs.listing.Rising.{has}
 use Rattle.sabr_frontier.specs.listing.Tree.{numbers_after}
 use Rattle.sabr_frontier.specs.listing.Formed.{Within}
-use Rattle.sabr_frontier.proofs.ListingLemmas.NumbersAfter.{number_after-snoc, number_after-trans, number_after-compare, number_after-longer}
+use Rattle.sabr_frontier.proofs.ListingLemmas.NumbersAfter.{number_after-snoc, number_after-compare, number_after-longer}
 use Rattle.sabr_frontier.proofs.ListingLemmas.TreeSets.{In, Listed, numbers_after_has, has_numbers_after}
+use Rattle.sabr_frontier.proofs.ListingLemmas.Division.{earlier_excludes}
 
 module _ (route : List ℕ → Bool) (apart : (s t : List ℕ) (x : ℕ) → route s ≡ true → route t ≡ true → number_after s t ≡ Some x → ⊥) (S : List (List ℕ)) (routes : (s : List ℕ) → In s S → route s ≡ true) (r : List ℕ) (is : route r ≡ true) where
   -- a route that is taken is in no part
   pub taken_in_none : In r S → (p : List ℕ) → Within p (numbers_after p S) r → ⊥
   taken_in_none h p w = true≢false (sym (has_numbers_after w.0 p r S h w.1) ∙ w.2)
 
-  earlier_part : (p q : List ℕ) (x : ℕ) → Listed S q → number_after p q ≡ Some x → has nat_cmp x (numbers_after p S) ≡ true
-  earlier_part p q x (inl e) n = absurd (elim p as (λ p. number_after p [] ≡ Some x → ⊥) [ [] ↦ λ e. cc | _ ∷ _ ↦ λ e. cc ] (ap (number_after p) (sym e) ∙ n))
-  earlier_part p q x (inr w) n = has_numbers_after x p w.0 S w.2 (number_after-trans p q w.0 x w.1 n w.3)
-
   -- it is in no two parts
   pub in_one_part : (p q : List ℕ) → Listed S p → Listed S q → Within p (numbers_after p S) r → Within q (numbers_after q S) r → p ≡ q
   in_one_part p q lp lq wp wq = elim (number_after-compare p q r wp.0 wq.0 wp.1 wq.1) [
     | inl e ↦ e
     | inr t ↦ elim t [
-      | inl u ↦ absurd (true≢false (sym (earlier_part p q wp.0 lq u) ∙ wp.2))
-      | inr u ↦ absurd (true≢false (sym (earlier_part q p wq.0 lp u) ∙ wq.2))
+      | inl u ↦ absurd (true≢false (sym (earlier_excludes S p q wp.0 lq u) ∙ wp.2))
+      | inr u ↦ absurd (true≢false (sym (earlier_excludes S q p wq.0 lp u) ∙ wq.2))
     ]
   ]
 

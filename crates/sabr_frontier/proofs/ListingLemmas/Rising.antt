@@ -1,13 +1,16 @@
 -- What holds of lists that rise strictly, as finite sets.
 use Rattle.std.proofs.Common.{◌≡◌, ◌+◌, Bool, true, false, ◌||◌, List, [], ◌∷◌, ◌++◌, length, sym, ap, subst, refl, ◌∙◌, true≢false, ◌⊎◌, inl, inr, arith}
-use Rattle.std.proofs.lemmas.Bool.{or_cases, cases_Bool}
-use Rattle.std.specs.Cmp.{IsTotalOrder}
+use Rattle.std.proofs.lemmas.Bool.{or_cases, or_left, or_right}
+use Rattle.std.specs.Cmp.{IsTotalOrder, both_ways}
 use Rattle.std.proofs.lemmas.Cmp.{tied_itself, alike_right}
 use Rattle.std.specs.Ordering.{is_eq, ordering_reverse}
 use Rattle.std.specs.declared.cmp.Ordering.{Ordering}
 use Rattle.std.specs.declared.cmp.Ordering.TheVariants.{Less, Equal, Greater}
 use Rattle.sabr_model.specs.Order.{put_in}
 use Rattle.sabr_frontier.specs.listing.Rising.{has, Below, Rises, IsExact}
+use Rattle.std.proofs.lemmas.List.{map-id}
+use Rattle.sabr_frontier.specs.listing.State.{Member}
+use Rattle.sabr_frontier.proofs.ListingLemmas.ListMembers.{same_by_members}
 
 pub or_same : (a b : Bool) → (a || (a || b)) ≡ (a || b)
 or_same true b = refl
@@ -22,12 +25,6 @@ pub is_equal : (r : Ordering) → is_eq r ≡ true → r ≡ Equal
 is_equal Less e = absurd (true≢false (sym e))
 is_equal Equal e = refl
 is_equal Greater e = absurd (true≢false (sym e))
-
--- two tests that imply each other
-pub both_ways : (a b : Bool) → (a ≡ true → b ≡ true) → (b ≡ true → a ≡ true) → a ≡ b
-both_ways true b f g = sym (f refl)
-both_ways false true f g = g refl
-both_ways false false f g = refl
 
 module _ {K : Type 0} {R : K → K → Ordering} (o : IsTotalOrder R) where
   pub turned : (x y : K) (r : Ordering) → R x y ≡ r → R y x ≡ ordering_reverse r
@@ -61,43 +58,33 @@ module _ {K : Type 0} {R : K → K → Ordering} (o : IsTotalOrder R) where
     | Greater ↦ λ e. ap (λ b. is_eq (R q y) || b) (has-put_in q x ys) ∙ or_swap (is_eq (R q y)) (is_eq (R q x)) (has R q ys)
   ] refl
 
-  -- what is below all isn't one of them
-  pub has-below : (x : K) (ys : List K) → Below R x ys → has R x ys ≡ false
-  has-below x [] h = refl
-  has-below x (y ∷ ys) h = ap (λ r. is_eq r || has R x ys) h.0 ∙ has-below x ys h.1
+  pub put_in_has : (q x : K) (xs : List K) → (q ≡ x) ⊎ (has R q xs ≡ true) → has R q (put_in R x xs) ≡ true
+  put_in_has q x xs (inl e) = has-put_in q x xs ∙ or_left (is_eq (R q x)) (has R q xs) (ap is_eq (ap (R q) (sym e) ∙ tied_itself o q))
+  put_in_has q x xs (inr h) = has-put_in q x xs ∙ or_right (is_eq (R q x)) (has R q xs) h
 
-  -- a key that ties with another
-  pub has-tied : (q x : K) (xs : List K) → R q x ≡ Equal → has R q xs ≡ has R x xs
-  has-tied q x [] e = refl
-  has-tied q x (y ∷ ys) e = λ i. is_eq (o.congr q x y e i) || has-tied q x ys e i
+  pub put_in_cases : IsExact R → (q x : K) (xs : List K) → has R q (put_in R x xs) ≡ true → (q ≡ x) ⊎ (has R q xs ≡ true)
+  put_in_cases exact q x xs h = elim (or_cases (is_eq (R q x)) (has R q xs) (sym (has-put_in q x xs) ∙ h)) [ inl t ↦ inl (exact q x (is_equal _ t)) | inr t ↦ inr t ]
 
   pub has_itself : (x : K) (ys : List K) → has R x (x ∷ ys) ≡ true
   has_itself x ys = ap (λ r. is_eq r || has R x ys) (tied_itself o x)
 
-  -- of two lists that rise and have the same members, the tails too
-  same_tail : (x : K) (xs ys : List K) → Below R x xs → Below R x ys → ((q : K) → has R q (x ∷ xs) ≡ has R q (x ∷ ys)) → (q : K) → has R q xs ≡ has R q ys
-  same_tail x xs ys a b h q = elim (R q x) as (λ r. R q x ≡ r → has R q xs ≡ has R q ys) [
-    | Less ↦ λ e. sym (ap (λ r. is_eq r || has R q xs) e) ∙ h q ∙ ap (λ r. is_eq r || has R q ys) e
-    | Equal ↦ λ e. has-tied q x xs e ∙ has-below x xs a ∙ sym (has-tied q x ys e ∙ has-below x ys b)
-    | Greater ↦ λ e. sym (ap (λ r. is_eq r || has R q xs) e) ∙ h q ∙ ap (λ r. is_eq r || has R q ys) e
-  ] refl
+  pub has_exact : IsExact R → (q x : K) (xs : List K) → has R q (x ∷ xs) ≡ true → (q ≡ x) ⊎ (has R q xs ≡ true)
+  has_exact exact q x xs e = elim (or_cases (is_eq (R q x)) (has R q xs) e) [ inl t ↦ inl (exact q x (is_equal _ t)) | inr t ↦ inr t ]
 
-  not_first : (x y : K) (xs ys : List K) → R x y ≡ Less → Below R y ys → has R x (x ∷ xs) ≡ has R x (y ∷ ys) → ⊥
-  not_first x y xs ys e b h = true≢false (sym (has_itself x xs) ∙ h ∙ (ap (λ r. is_eq r || has R x ys) e ∙ has-below x ys (Below-lower x y ys e b)))
+  -- between the two words for a member
+  pub member_has : (x : K) (xs : List K) → Member x xs → has R x xs ≡ true
+  member_has x [] m = absurd m
+  member_has x (y ∷ ys) (inl e) = or_left _ _ (ap is_eq (ap (R x) (sym e) ∙ tied_itself o x))
+  member_has x (y ∷ ys) (inr m) = or_right _ _ (member_has x ys m)
 
+  pub has_member : IsExact R → (x : K) (xs : List K) → has R x xs ≡ true → Member x xs
+  has_member exact x [] h = absurd (true≢false (sym h))
+  has_member exact x (y ∷ ys) h = elim (has_exact exact x y ys h) [ inl e ↦ inl e | inr t ↦ inr (has_member exact x ys t) ]
+
+  -- lists that rise and have the same members are equal
   pub same_members : IsExact R → (xs ys : List K) → Rises R xs → Rises R ys → ((q : K) → has R q xs ≡ has R q ys) → xs ≡ ys
-  same_members exact [] [] a b h = refl
-  same_members exact [] (y ∷ ys) a b h = absurd (true≢false (sym (has_itself y ys) ∙ sym (h y)))
-  same_members exact (x ∷ xs) [] a b h = absurd (true≢false (sym (has_itself x xs) ∙ h x))
-  same_members exact (x ∷ xs) (y ∷ ys) a b h = elim (R x y) as (λ r. R x y ≡ r → x ∷ xs ≡ y ∷ ys) [
-    | Less ↦ λ e. absurd (not_first x y xs ys e b.0 (h x))
-    | Equal ↦ λ e.
-        let same : x ≡ y = exact x y e in
-        let below : Below R x ys = subst (λ z. Below R z ys) (sym same) b.0 in
-        let h' : (q : K) → has R q (x ∷ xs) ≡ has R q (x ∷ ys) = λ q. h q ∙ ap (λ z. has R q (z ∷ ys)) (sym same) in
-        λ i. same i ∷ same_members exact xs ys a.1 b.1 (same_tail x xs ys a.0 below h') i
-    | Greater ↦ λ e. absurd (not_first y x ys xs (turned x y Greater e) a.0 (sym (h y)))
-  ] refl
+  same_members exact xs ys a b h = same_by_members o (λ x. x) xs ys (subst (Rises R) (sym (map-id xs)) a) (subst (Rises R) (sym (map-id ys)) b)
+      (λ x m. has_member exact x ys (sym (h x) ∙ member_has x xs m)) (λ x m. has_member exact x xs (h x ∙ member_has x ys m))
 
   -- a new member makes it one longer
   pub length-put_in : (x : K) (xs : List K) → has R x xs ≡ false → length (put_in R x xs) ≡ length xs + 1
@@ -110,13 +97,8 @@ module _ {K : Type 0} {R : K → K → Ordering} (o : IsTotalOrder R) where
 
   -- a member that is there already changes nothing
   pub put_again : IsExact R → (x : K) (xs : List K) → Rises R xs → has R x xs ≡ true → put_in R x xs ≡ xs
-  put_again exact x xs h e = same_members exact _ _ (Rises-put_in x xs h) h (λ q. has-put_in q x xs ∙ elim (cases_Bool (is_eq (R q x))) as (λ _. (is_eq (R q x) || has R q xs) ≡ has R q xs) [
-    | inl t ↦ ap (λ b. b || has R q xs) t ∙ sym (has-tied q x xs (is_equal _ t) ∙ e)
-    | inr f ↦ ap (λ b. b || has R q xs) f
-  ])
-
-  pub has_exact : IsExact R → (q x : K) (xs : List K) → has R q (x ∷ xs) ≡ true → (q ≡ x) ⊎ (has R q xs ≡ true)
-  has_exact exact q x xs e = elim (or_cases (is_eq (R q x)) (has R q xs) e) [ inl t ↦ inl (exact q x (is_equal _ t)) | inr t ↦ inr t ]
+  put_again exact x xs h e = same_members exact _ _ (Rises-put_in x xs h) h (λ q. both_ways _ _
+      (λ k. elim (put_in_cases exact q x xs k) [ inl s ↦ ap (λ z. has R z xs) s ∙ e | inr m ↦ m ]) (λ k. put_in_has q x xs (inr k)))
 
   pub has-append : (q : K) (xs ys : List K) → has R q (xs ++ ys) ≡ (has R q xs || has R q ys)
   has-append q [] ys = refl

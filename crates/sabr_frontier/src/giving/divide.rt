@@ -39,6 +39,7 @@ pub fn numbers<A: Allocator + Copy>(route: &Route<A>) -> &[u32]
 }
 
 /// Asks for the least route that begins with the first `count` numbers of a route and takes another number next.
+#[tactic(auto, using(crate::proofs::ListingLemmas::Paths::beginning_fits))]
 pub fn ask_after<B: BestOf<A>, A: Allocator + Copy>(
     asker: &mut Asker<'_, B, A>,
     route: &[u32],
@@ -79,6 +80,7 @@ fn fresh_node<B: BestOf<A>, A: Allocator + Copy>(
 
 /// Adds the nodes of a leaf for the beginnings of a route from `first` numbers on, each with its next number excluded.
 /// There is room for them. After a refusal some may have been added.
+#[tactic(auto, using(crate::proofs::TreeLemmas::ListFronts::fresh_push, crate::proofs::TreeLemmas::ListFronts::fresh_all))]
 fn fresh_nodes<B: BestOf<A>, A: Allocator + Copy>(
     asker: &mut Asker<'_, B, A>,
     nodes: &mut Vec<Node<A>, A>,
@@ -112,6 +114,7 @@ fn fresh_nodes<B: BestOf<A>, A: Allocator + Copy>(
 
 /// Finds what a node carries next, for the numbers that it excludes, and adds the new nodes of its route, which is then
 /// the leaf `leaf`. It takes one search for the node itself, and one for each new node.
+#[tactic(auto, using(crate::proofs::ListingLemmas::Paths::beginning_fits, crate::proofs::TreeLemmas::ModifiedPlaces::get_there, crate::proofs::TreeLemmas::TestBoundaries::increasing))]
 fn search<B: BestOf<A>, A: Allocator + Copy>(
     asker: &mut Asker<'_, B, A>,
     nodes: &mut Vec<Node<A>, A>,
@@ -147,6 +150,7 @@ fn search<B: BestOf<A>, A: Allocator + Copy>(
 }
 
 /// Excludes the number that a route takes after the node's prefix, or changes nothing if memory was refused.
+#[tactic(auto, using(crate::proofs::TreeLemmas::ModifiedPlaces::get_there))]
 fn exclude_next<A: Allocator + Copy>(
     nodes: &mut Vec<Node<A>, A>,
     node: NodeId,
@@ -179,6 +183,7 @@ fn include_next<A: Allocator + Copy>(nodes: &mut Vec<Node<A>, A>, node: NodeId, 
 /// Divides the part of a node by a route of it, which is then the leaf `leaf`: the node excludes one number more, and
 /// the new parts come after the others. There is room for them. It returns what the node carries then. After a refusal
 /// the nodes are as they were.
+#[tactic(auto, using(crate::proofs::TreeLemmas::NodePlaces::get_same))]
 pub fn divide<B: BestOf<A>, A: Allocator + Copy>(
     asker: &mut Asker<'_, B, A>,
     nodes: &mut Vec<Node<A>, A>,

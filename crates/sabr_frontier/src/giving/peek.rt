@@ -35,6 +35,7 @@ fn others_carry<A: Allocator + Copy>(nodes: &[Node<A>], node: NodeId) -> bool
 
 /// Returns true if some beginning of a route with at least `first` numbers also begins another route, which takes
 /// another number next. It takes a search for each beginning, up to the first that has one.
+#[tactic(auto, using(crate::proofs::TreeLemmas::ListFronts::longer_next))]
 fn longer_go_on<B: BestOf<A>, A: Allocator + Copy>(
     asker: &mut Asker<'_, B, A>,
     route: &[u32],
@@ -58,6 +59,7 @@ fn longer_go_on<B: BestOf<A>, A: Allocator + Copy>(
 
 /// Returns true if a node's part has a route besides the one that it carries. It takes at most the searches that dividing
 /// the part would.
+#[tactic(auto, using(crate::proofs::ListingLemmas::Paths::beginning_fits))]
 fn part_goes_on<B: BestOf<A>, A: Allocator + Copy>(
     asker: &mut Asker<'_, B, A>,
     part: &Node<A>,

@@ -1,19 +1,10 @@
-use Rattle.std.proofs.Common.{slice_index, take, subst, sym, ◌∙◌}
+use Rattle.std.proofs.Common.{slice_index, subst, sym, ◌∙◌}
 use Rattle.std.specs.Cmp.{nat_cmp_total}
 use Rattle.std.specs.List.Sorted.{IsStrictlyIncreasing}
 use Rattle.sabr_frontier.specs.tree.Taking.{wide_of}
-use Rattle.sabr_frontier.proofs.ListingLemmas.Paths.{route_fits}
 use Rattle.sabr_frontier.proofs.ListingLemmas.Rising.{Rises-put_in}
-use Rattle.sabr_frontier.proofs.TreeLemmas.ListFronts.{number_after-take}
 use Rattle.sabr_frontier.proofs.TreeLemmas.TestBoundaries.{increasing}
 use Rattle.sabr_frontier.proofs.giving.peek.part_goes_on.Goals as goal
-
-pub ask-requires-clause-fits : goal.ask-requires-clause-fits
-ask-requires-clause-fits g c =
-    let a = c.args.asker.now.asked in
-    let s = c.args.route.now in
-    let n = c.args.part.now.length in
-    route_fits a.plan.plan a.request (take n s) s _ c.requires.route (number_after-take s n c.requires.next.longer)
 
 pub ask-requires-clause-rising : goal.ask-requires-clause-rising
 ask-requires-clause-rising g c =
