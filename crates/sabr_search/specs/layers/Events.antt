@@ -4,4 +4,4 @@ use Rattle.sabr_search.specs.declared.forward.queue.Event.{Event}
 
 -- the event of a key
 abbrev pub event_of : ℕ → Event
-event_of key = record { at = key / 2 ^ 64; hops = key / 2 ^ 24 % 2 ^ 24; node = key % 2 ^ 24 }
+event_of key = record { at = key / 2 ^ 24; node = key % 2 ^ 16 }

@@ -33,7 +33,7 @@ IsNearBy task near w = (n u t b : ℕ) → Takes task n u t w b → IsNear task 
 pub record IsBegun (task : SearchTask) (late : List ℕ) (taken : List Bool) (queue : List Event) : Type 0 where
   pub late_is : late ≡ slice_set (replicate (length task.shut) 0) task.goal never
   pub taken_is : taken ≡ replicate (length task.shut) false
-  pub waits : IsPermutation (record { at = 0; hops = 0; node = task.goal } ∷ []) queue
+  pub waits : IsPermutation (record { at = 0; node = task.goal } ∷ []) queue
 
 -- the seconds so far, while the links to node `now` are taken: P holds for each other node whose links are, or it waits
 pub record AreRising (P : List ℕ → ℕ → Type 0) (task : SearchTask) (late : List ℕ) (taken : List Bool) (queue : List Event) (now : ℕ) : Type 0 where

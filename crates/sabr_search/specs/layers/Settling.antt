@@ -63,30 +63,37 @@ pub record IsQueue (task : SearchTask) (bounds near : List ℕ) (settled : List 
   pub inside : All (λ (e : Event). e.node < length arrival) queue
   pub unshut : All (λ (e : Event). slice_index_or task.shut e.node false ≡ false) queue
   pub other : All (λ (e : Event). e.node ≢ task.goal) queue
-  -- an event has a way, of no more hops than there are settled nodes
-  pub real : All (λ (e : Event). (t : ℕ) × (t + cost_to near e.node ≡ e.at) × IsWayTo task e.node e.hops t) queue
-  pub few : All (λ (e : Event). e.hops ≤ settled_count settled) queue
+
+-- by node the hops of a way with its arrival, no more than there are settled nodes, if it is an open node that is reached
+-- before it is too late there
+pub record AreHops (task : SearchTask) (late : List ℕ) (settled : List Bool) (arrival hops : List ℕ) : Type 0 where
+  pub many : length hops ≡ length task.shut
+  pub ways : (k : ℕ) → k < length arrival → slice_index_or task.shut k false ≡ false → slice_index arrival k < slice_index_or late k never → (slice_index hops k ≤ settled_count settled) × IsWayTo task k (slice_index hops k) (slice_index arrival k)
 
 -- no delivery is found, or one by a way of no more hops than there are settled nodes
 abbrev pub IsFirst : SearchTask → List Bool → Best → Type 0
 IsFirst task settled best =
-    ((best.hops ≡ 0) × (best.delivery ≡ never))
+    ((best.hops ≡ 0) × (best.delivery ≡ latest_arrival + 1))
     ⊎ ((0 < best.hops) × (best.hops ≤ settled_count settled) × IsWayTo task task.goal best.hops best.delivery)
 
 -- no open node's arrival is later than what is too late there
 abbrev pub AreBy : SearchTask → List ℕ → List ℕ → Type 0
 AreBy task late arrival = (k : ℕ) → slice_index_or task.shut k false ≡ false → slice_index arrival k ≤ slice_index_or late k never
 
--- what holds while the contacts of node u are taken, which is reached at t
-pub record AreSettling (task : SearchTask) (late near : List ℕ) (settled : List Bool) (u t : ℕ) (arrival : List ℕ) (queue : List Event) (best : Best) : Type 0 where
+-- what holds while the contacts of node u are taken, which is settled and reached at t
+pub record AreSettling (task : SearchTask) (late near : List ℕ) (settled : List Bool) (u t : ℕ) (arrival hops : List ℕ) (queue : List Event) (best : Best) : Type 0 where
+  pub on : slice_index_or settled u false ≡ true
+  pub real : IsWayTo task u (slice_index hops u) t
+  pub few : slice_index hops u < settled_count settled
   pub flags : length arrival ≡ length task.shut
   pub many : length settled ≡ length task.shut
   pub closed : AreClosed task.shut arrival t
   pub early : (n w b : ℕ) → Takes task n u t w b → AreSettledBy task near settled arrival (b + cost_to near w)
   pub lowered : AreBy task late arrival
   pub queue_is : IsQueue task late near settled arrival queue
+  pub hops_are : AreHops task late settled arrival hops
   pub found : IsFirst task settled best
-  pub sooner : best.delivery ≤ never
+  pub sooner : best.delivery ≤ latest_arrival + 1
   pub goal_late : best.delivery ≤ slice_index arrival task.goal
 
 -- what doesn't change or only falls when more contacts are taken
@@ -101,7 +108,7 @@ AreSettledTaken task near settled arrival best =
     (v n w b : ℕ) → slice_index_or settled v false ≡ true → Takes task n v (slice_index arrival v) w b → IsKnown task.goal arrival (best - cost_to near w) w b
 
 -- what holds between two events
-pub record AreSettled (task : SearchTask) (late near : List ℕ) (settled : List Bool) (arrival : List ℕ) (queue : List Event) (best : Best) : Type 0 where
+pub record AreSettled (task : SearchTask) (late near : List ℕ) (settled : List Bool) (arrival hops : List ℕ) (queue : List Event) (best : Best) : Type 0 where
   pub flags : length arrival ≡ length task.shut
   pub many : length settled ≡ length task.shut
   pub start_settled : slice_index_or settled task.start false ≡ true
@@ -110,8 +117,9 @@ pub record AreSettled (task : SearchTask) (late near : List ℕ) (settled : List
   pub closed : AreClosed task.shut arrival task.at
   pub lowered : AreBy task late arrival
   pub queue_is : IsQueue task late near settled arrival queue
+  pub hops_are : AreHops task late settled arrival hops
   pub found : IsFirst task settled best
-  pub sooner : best.delivery ≤ never
+  pub sooner : best.delivery ≤ latest_arrival + 1
   pub goal_late : best.delivery ≤ slice_index arrival task.goal
   pub taken : AreSettledTaken task near settled arrival best.delivery
 
