@@ -1,10 +1,11 @@
 -- The seconds from which on no way leads to the goal: what holds while the links to nodes are taken, and what they come to.
-use Rattle.std.proofs.Common.{◌≡◌, ◌≢◌, inl, inr, ℕ, ◌+◌, ◌<◌, ◌≤◌, min, Bool, true, false, List, [], ◌∷◌, length, replicate, Contains, All, slice_get, slice_index, slice_index_or, slice_set, zero, suc, refl, ap, sym, ◌∙◌, arith}
+use Rattle.std.proofs.Common.{◌≡◌, ◌≢◌, inl, inr, ℕ, ◌+◌, ◌<◌, ◌≤◌, min, Bool, true, false, List, [], ◌∷◌, length, replicate, Contains, All, slice_get, slice_index, slice_index_or, slice_set, refl, ap, sym, ◌∙◌, arith}
 use Rattle.std.specs.List.Sorted.{IsPermutation}
 use Rattle.std.proofs.lemmas.Bool.{cases_lt, cases_eq, both_ways, cases_Bool}
 use Rattle.std.proofs.lemmas.Grind.{common_steps}
 use Rattle.std.proofs.lemmas.List.Elements.{All-cons, All-head, All-tail, Contains-append_right, Contains-append_cases}
 use Rattle.std.proofs.lemmas.List.Sorted.{All-permutation, Contains-permutation}
+use Rattle.std.proofs.lemmas.List.{length-replicate}
 use Rattle.std.proofs.lemmas.Option.{slice_get_within}
 use Rattle.sabr_model.specs.plan.Plan.{TabledPlan, has}
 use Rattle.sabr_model.specs.routes.Arrival.{RouteRequest}
@@ -21,7 +22,7 @@ use Rattle.sabr_search.specs.questions.Linked.{IsLinkWithin, HasNumber}
 use Rattle.sabr_search.proofs.LinkLemmas.Linking.{cost_rises}
 use Rattle.sabr_search.proofs.LinkLemmas.OverLinks.{over_pass, step_over}
 use Rattle.sabr_search.proofs.WayLemmas.RoutesAndWays.{same_some}
-use Rattle.sabr_search.proofs.ForwardLemmas.Queues.{set_here, set_other, set_many}
+use Rattle.sabr_search.proofs.ForwardLemmas.Queues.{set_here, set_other, set_many, all_off, only_one}
 use Rattle.sabr_search.proofs.WayLemmas.EarliestSeconds.{same_everywhere, replicate_many}
 
 flag_off : (xs : List Bool) (k : ℕ) → slice_index_or (slice_set xs k false) k false ≡ false
@@ -33,23 +34,15 @@ flag_apart xs k j b other = grind (arith, common_steps)
 flags_many : (xs : List Bool) (k : ℕ) (b : Bool) → length (slice_set xs k b) ≡ length xs
 flags_many xs k b = grind (arith, common_steps)
 
-all_off : (n k : ℕ) → slice_index_or (replicate n false) k false ≡ false
-all_off zero k = refl
-all_off (suc n) zero = refl
-all_off (suc n) (suc k) = all_off n k
-
-flags_all : (n : ℕ) → length (replicate n false) ≡ n
-flags_all n = grind (arith, common_steps)
-
 -- at first the goal alone waits
 pub first_rising : (P : List ℕ → ℕ → Type 0) (task : SearchTask) → IsTask task → (late : List ℕ) (taken : List Bool) (queue : List Event) → IsBegun task late taken queue → AreRising P task late taken queue (length task.table)
 first_rising P task is late taken queue begun =
     let zeros : List ℕ = replicate (length task.shut) 0 in
-    let event : Event = record { at = 0; hops = 0; node = task.goal } in
+    let event : Event = record { at = 0; node = task.goal } in
     let within : task.goal < length zeros = omega (arith, replicate_many (length task.shut) 0, is.as_many, is.goal_in) in
     record {
       many = ap length begun.late_is ∙ set_many zeros task.goal never ∙ replicate_many (length task.shut) 0 ∙ is.as_many;
-      flags = ap length begun.taken_is ∙ flags_all (length task.shut) ∙ is.as_many;
+      flags = ap length begun.taken_is ∙ length-replicate (length task.shut) false ∙ is.as_many;
       goal = ap (λ xs. slice_index xs task.goal) begun.late_is ∙ set_here zeros task.goal never within;
       inside = All-permutation (λ (e : Event). e.node < length task.table) (event ∷ []) queue begun.waits (All-cons (λ (e : Event). e.node < length task.table) event [] is.goal_in (λ i d lt. absurd (omega (arith, lt))));
       waits = λ w w_in off some. elim (cases_eq w task.goal) [
@@ -118,10 +111,6 @@ over_bounds task is u to passes bounds link n t b has s =
 -- who is in time stays so
 pub left_later : (task : SearchTask) (late late' : List ℕ) → ((k : ℕ) → slice_index late k ≤ slice_index late' k) → (u t : ℕ) → IsLeftBy task late u t → IsLeftBy task late' u t
 left_later task late late' rises u t left open' other = omega (arith, rises u, left open' other)
-
-only_one : (e x : Event) → Contains (e ∷ []) x → x.node ≡ e.node
-only_one e x (zero, lt, same) = ap (λ (f : Event). f.node) (sym same)
-only_one e x (suc i, lt, same) = absurd (omega arith)
 
 -- a node that waits is taken out
 module _ (P : List ℕ → ℕ → Type 0) (task : SearchTask) (late : List ℕ) (taken : List Bool) (queue queue' : List Event) (e : Event) (was : AreRising P task late taken queue (length task.table)) (moved : IsPermutation queue (e ∷ queue')) where

@@ -1,5 +1,5 @@
 -- A walk backward from the goal: one node more is seen, and what it shows at its end.
-use Rattle.std.proofs.Common.{◌≡◌, inl, inr, ℕ, zero, suc, ◌<◌, ◌≤◌, List, [], ◌∷◌, ◌++◌, length, replicate, Bool, true, false, Some, slice_get, slice_index_or, slice_set, refl, sym, ap, ◌∙◌, arith}
+use Rattle.std.proofs.Common.{◌≡◌, inl, inr, ℕ, ◌<◌, ◌≤◌, List, [], ◌∷◌, ◌++◌, length, replicate, Bool, true, false, Some, slice_get, slice_index_or, slice_set, sym, ap, ◌∙◌, arith}
 use Rattle.std.proofs.lemmas.Bool.{cases_lt, cases_eq, both_ways}
 use Rattle.std.proofs.lemmas.List.{length-replicate}
 use Rattle.std.proofs.lemmas.Option.{slice_get-get_or, slice_get_within}
@@ -15,13 +15,8 @@ use Rattle.sabr_search.specs.layers.Settling.{IsBound, AreSettled, AreArrivalsBy
 use Rattle.sabr_search.specs.layers.Enclosed.{IsEnclosed, AreSeenBefore, AreSeen, IsMoreSeen}
 use Rattle.sabr_search.proofs.WayLemmas.Ways.{Leads-later}
 use Rattle.sabr_search.proofs.WayLemmas.RoutesAndWays.{takes_timely}
-use Rattle.sabr_search.proofs.ForwardLemmas.Queues.{flag_here, flag_other, flag_many}
+use Rattle.sabr_search.proofs.ForwardLemmas.Queues.{flag_here, flag_other, flag_many, all_off}
 use Rattle.sabr_search.proofs.ForwardLemmas.FirstWays.{flag_stays, goal_other, way_found}
-
-no_flags : (n k : ℕ) → slice_index_or (replicate n false) k false ≡ false
-no_flags zero k = refl
-no_flags (suc n) zero = refl
-no_flags (suc n) (suc k) = no_flags n k
 
 -- the goal alone is seen
 pub first_seen : (task : SearchTask) → IsTask task → (met seen : List Bool) (nodes : List ℕ) → length met ≡ length task.shut → seen ≡ replicate (length task.shut) false → nodes ≡ task.goal ∷ [] → AreSeen task met (slice_set seen task.goal true) nodes
@@ -43,7 +38,7 @@ first_seen task is met seen nodes marks off one = rw (off, one) (record {
     only : (k : ℕ) → slice_index_or (slice_set none task.goal true) k false ≡ true → k ≡ task.goal
     only k on = elim (cases_eq k task.goal) [
       | inl same ↦ same
-      | inr other ↦ absurd (both_ways (slice_index_or none k false) (no_flags (length task.shut) k) (sym (flag_other none task.goal k other) ∙ on))
+      | inr other ↦ absurd (both_ways (slice_index_or none k false) (all_off (length task.shut) k) (sym (flag_other none task.goal k other) ∙ on))
     ]
 
 -- what is seen at a place that there was before was seen there
@@ -102,9 +97,9 @@ module _ (task : SearchTask) (is : IsTask task) (d : ℕ) (met seen : List Bool)
   ]
 
 -- then the first delivery among the first steps is the least
-pub enclosed_first : (task : SearchTask) → IsTask task → (late near : List ℕ) → IsBound task late near → (settled : List Bool) (arrival : List ℕ) (queue : List Event) (best : Best) → AreSettled task late near settled arrival queue best →
+pub enclosed_first : (task : SearchTask) → IsTask task → (late near : List ℕ) → IsBound task late near → (settled : List Bool) (arrival hops : List ℕ) (queue : List Event) (best : Best) → AreSettled task late near settled arrival hops queue best →
     IsEnclosed task best.delivery → IsFirstWay task best
-enclosed_first task is late near bound settled arrival queue best was enclosed = way_found task is late near bound settled arrival queue best was least
+enclosed_first task is late near bound settled arrival hops queue best was enclosed = way_found task is late near bound settled arrival hops queue best was least
   where
     least : (ns : List ℕ) (e : ℕ) → Leads (Takes task) task.start task.at ns task.goal e → best.delivery ≤ e
     least [] e way = absurd (goal_other task is (sym way.0))

@@ -3,14 +3,14 @@ use Rattle.std.proofs.Common.{◌≡◌, ◌≢◌, ◌⊎◌, inl, inr, ℕ, ze
 use Rattle.std.specs.List.{count_by}
 use Rattle.std.specs.List.Sorted.{IsPermutation}
 use Rattle.std.proofs.lemmas.Bool.{cases_lt, cases_eq, both_ways, cases_Bool, false_from_ne_true}
-use Rattle.std.proofs.lemmas.Grind.{common_steps}
 use Rattle.std.proofs.lemmas.List.Sums.{count_by-le-length}
 use Rattle.std.proofs.lemmas.List.Elements.{at_read}
+use Rattle.std.proofs.lemmas.List.{length-replicate}
 use Rattle.std.proofs.lemmas.Option.{slice_get_within}
 use Rattle.sabr_search.specs.declared.forward.queue.Event.{Event}
 use Rattle.sabr_search.specs.declared.forward.layers.Best.{Best}
 use Rattle.sabr_search.specs.questions.Ways.{Leads}
-use Rattle.sabr_search.specs.questions.Task.{SearchTask, Takes, IsTask, never}
+use Rattle.sabr_search.specs.questions.Task.{SearchTask, Takes, IsTask, never, latest_arrival}
 use Rattle.sabr_search.specs.questions.FirstSteps.{IsNoneBefore}
 use Rattle.sabr_search.specs.layers.Lists.{IsKnown, AreClosed}
 use Rattle.sabr_search.specs.layers.Reach.{cost_to}
@@ -22,24 +22,19 @@ use Rattle.sabr_search.proofs.LinkLemmas.Counts.{settled_more}
 use Rattle.sabr_search.proofs.WayLemmas.RoutesAndWays.{takes_timely}
 use Rattle.sabr_search.proofs.AnswerLemmas.Law.{way_early}
 use Rattle.sabr_search.proofs.LinkLemmas.StepLists.{senders_length}
-use Rattle.sabr_search.proofs.ForwardLemmas.Queues.{flag_here, flag_other, flag_many, count_more, count_short, head_inside, head_other, head_way, settles}
-
--- no flag of a list of flags that are off is on
-all_off : (n k : ℕ) → slice_index_or (replicate n false) k false ≡ false
-all_off zero k = refl
-all_off (suc n) zero = refl
-all_off (suc n) (suc k) = all_off n k
+use Rattle.sabr_search.proofs.ForwardLemmas.MadeLayers.{index_past}
+use Rattle.sabr_search.proofs.ForwardLemmas.Queues.{flag_here, flag_other, flag_many, all_off, set_here, set_many, count_more, count_short, head_inside, head_open, head_other, head_soon, settles}
 
 -- the start is no goal
 pub goal_other : (task : SearchTask) → IsTask task → task.goal ≢ task.start
 goal_other task is same = both_ways (slice_index_or task.shut task.start false) (sym (ap (λ k. slice_index_or task.shut k false) same) ∙ is.goal_open) is.start_shut
 
 -- a node is settled and its contacts are taken
-module _ (task : SearchTask) (late near : List ℕ) (settled : List Bool) (u t : ℕ) (arrival0 : List ℕ) (best0 : Best) (arrival : List ℕ) (queue : List Event) (best : Best)
-    (state : AreSettling task late near (slice_set settled u true) u t arrival queue best) (fallen : IsFallen (slice_set settled u true) arrival0 best0 arrival best) (taken : AreSettledTaken task near (slice_set settled u true) arrival best.delivery)
+module _ (task : SearchTask) (late near : List ℕ) (settled : List Bool) (u t : ℕ) (arrival0 : List ℕ) (best0 : Best) (arrival hops : List ℕ) (queue : List Event) (best : Best)
+    (state : AreSettling task late near (slice_set settled u true) u t arrival hops queue best) (fallen : IsFallen (slice_set settled u true) arrival0 best0 arrival best) (taken : AreSettledTaken task near (slice_set settled u true) arrival best.delivery)
     (other : task.goal ≢ u) where
   pub settled_next : slice_index_or (slice_set settled u true) task.start false ≡ true → slice_index arrival0 task.start ≡ task.at → slice_index_or settled task.goal false ≡ false →
-      AreClosed task.shut arrival0 task.at → AreSettled task late near (slice_set settled u true) arrival queue best
+      AreClosed task.shut arrival0 task.at → AreSettled task late near (slice_set settled u true) arrival hops queue best
   settled_next start reached goal closed = record {
     flags = state.flags;
     many = state.many;
@@ -49,6 +44,7 @@ module _ (task : SearchTask) (late near : List ℕ) (settled : List Bool) (u t :
     closed = λ k on. omega (arith, fallen.lowered k, closed k on);
     lowered = state.lowered;
     queue_is = state.queue_is;
+    hops_are = state.hops_are;
     found = state.found;
     sooner = state.sooner;
     goal_late = state.goal_late;
@@ -77,7 +73,7 @@ costs_fall task is late near bound (n ∷ ns) w b v t open' since way =
     omega (arith, bound.costs n w b way.0 way.1 way.2 open' since, costs_fall task is late near bound ns way.0 way.1 v t way.2.unshut (omega (arith, later, since)) way.3)
 
 -- the search stops when no event comes before the delivery
-module _ (task : SearchTask) (is : IsTask task) (bounds near : List ℕ) (bound : IsBound task bounds near) (settled : List Bool) (arrival : List ℕ) (queue : List Event) (best : Best) (was : AreSettled task bounds near settled arrival queue best) where
+module _ (task : SearchTask) (is : IsTask task) (bounds near : List ℕ) (bound : IsBound task bounds near) (settled : List Bool) (arrival hops : List ℕ) (queue : List Event) (best : Best) (was : AreSettled task bounds near settled arrival hops queue best) where
   -- a node is settled with that arrival, or it is too late there
   abbrev IsKnownAt : ℕ → ℕ → Type 0
   IsKnownAt v a = ((slice_index_or settled v false ≡ true) × (slice_index arrival v ≡ a)) ⊎ ((slice_index_or task.shut v false ≡ false) × (slice_index_or bounds v never ≤ a))
@@ -169,9 +165,9 @@ module _ (task : SearchTask) (is : IsTask task) (bounds near : List ℕ) (bound 
   ]
 
 -- an event of a settled node goes
-pub settled_stale : (task : SearchTask) (late near : List ℕ) (settled : List Bool) (arrival : List ℕ) (queue queue' : List Event) (best : Best) → AreSettled task late near settled arrival queue best → IsQueue task late near settled arrival queue' →
-    AreSettled task late near settled arrival queue' best
-settled_stale task late near settled arrival queue queue' best was rest = record {
+pub settled_stale : (task : SearchTask) (late near : List ℕ) (settled : List Bool) (arrival hops : List ℕ) (queue queue' : List Event) (best : Best) → AreSettled task late near settled arrival hops queue best → IsQueue task late near settled arrival queue' →
+    AreSettled task late near settled arrival hops queue' best
+settled_stale task late near settled arrival hops queue queue' best was rest = record {
   flags = was.flags;
   many = was.many;
   start_settled = was.start_settled;
@@ -180,20 +176,12 @@ settled_stale task late near settled arrival queue queue' best was rest = record
   closed = was.closed;
   lowered = was.lowered;
   queue_is = rest;
+  hops_are = was.hops_are;
   found = was.found;
   sooner = was.sooner;
   goal_late = was.goal_late;
   taken = was.taken;
 }
-
-all_many : (n : ℕ) → length (replicate n false) ≡ n
-all_many n = grind (arith, common_steps)
-
--- what is past the end of a list of numbers is 0
-past_end : (xs : List ℕ) (k : ℕ) → length xs ≤ k → slice_index xs k ≡ 0
-past_end [] k le = refl
-past_end (x ∷ xs) zero le = absurd (omega (arith, le))
-past_end (x ∷ xs) (suc k) le = past_end xs k (omega (arith, le))
 
 none_on : (n : ℕ) → settled_count (replicate n false) ≡ 0
 none_on zero = refl
@@ -202,7 +190,7 @@ none_on (suc n) = none_on n
 -- what holds once the start is settled, and while the first steps are taken
 module _ (task : SearchTask) (is : IsTask task) (off settled : List Bool) (u : ℕ) (off_is : off ≡ replicate (length task.shut) false) (u_is : u ≡ task.start) (settled_is : settled ≡ slice_set off u true) where
   off_within : u < length off
-  off_within = omega (arith, u_is, is.start_in, is.as_many, ap length off_is, all_many (length task.shut))
+  off_within = omega (arith, u_is, is.start_in, is.as_many, ap length off_is, length-replicate (length task.shut) false)
 
   off_at : (k : ℕ) → slice_index_or off k false ≡ false
   off_at k = ap (λ flags. slice_index_or flags k false) off_is ∙ all_off (length task.shut) k
@@ -233,13 +221,16 @@ module _ (task : SearchTask) (is : IsTask task) (off settled : List Bool) (u : �
     opened_by : AreBy task late arrival
     opened_by k open' = elim (cases_lt k (length arrival)) [
       | inl within ↦ omega (arith, opened.unreached k within open')
-      | inr past ↦ omega (arith, past_end arrival k past)
+      | inr past ↦ omega (arith, index_past arrival k past)
     ]
 
-    pub start_state : IsBound task late near → (queue : List Event) (best : Best) → queue ≡ [] → best.hops ≡ 0 → best.delivery ≡ never → AreSettling task late near settled u task.at arrival queue best
-    start_state bound queue best empty hops delivery = rw empty (record {
+    pub start_state : IsBound task late near → (hops : List ℕ) (queue : List Event) (best : Best) → length hops ≡ length task.shut → queue ≡ [] → best.hops ≡ 0 → best.delivery ≡ latest_arrival + 1 → AreSettling task late near settled u task.at arrival (slice_set hops u 0) queue best
+    start_state bound hops queue best hops_many empty none delivery = rw empty (record {
+      on = ap (λ k. slice_index_or settled k false) u_is ∙ start_on;
+      real = ([], sym no_hops, (sym u_is, refl));
+      few = omega (arith, no_hops, one_settled);
       flags = opened.flags;
-      many = ap length settled_is ∙ flag_many off u ∙ ap length off_is ∙ all_many (length task.shut);
+      many = ap length settled_is ∙ flag_many off u ∙ ap length off_is ∙ length-replicate (length task.shut) false;
       closed = opened.closed;
       early = λ n w b step k on open'. absurd (both_ways (slice_index_or task.shut k false) open' (ap (λ j. slice_index_or task.shut j false) (only_start k on) ∙ is.start_shut));
       lowered = opened_by;
@@ -251,18 +242,20 @@ module _ (task : SearchTask) (is : IsTask task) (off settled : List Bool) (u : �
         inside = λ i d lt. absurd (omega (arith, lt));
         unshut = λ i d lt. absurd (omega (arith, lt));
         other = λ i d lt. absurd (omega (arith, lt));
-        real = λ i d lt. absurd (omega (arith, lt));
-        few = λ i d lt. absurd (omega (arith, lt));
       };
-      found = inl (hops, delivery);
+      hops_are = record { many = set_many hops u 0 ∙ hops_many; ways = λ k within open' less. absurd (omega (arith, opened.unreached k within open', less)) };
+      found = inl (none, delivery);
       sooner = omega (arith, delivery);
       goal_late = omega (arith, delivery, bound.goal, opened.unreached task.goal (omega (arith, opened.flags, is.as_many, is.goal_in)) is.goal_open);
     })
+      where
+        no_hops : slice_index (slice_set hops u 0) u ≡ 0
+        no_hops = set_here hops u 0 (omega (arith, hops_many, u_is, is.start_in, is.as_many))
 
     -- and once all of them are taken
-    pub start_settled : (t : ℕ) (arrival' : List ℕ) (queue : List Event) (best0 best : Best) → AreSettling task late near settled u t arrival' queue best → IsFallen settled arrival best0 arrival' best →
-        ((n w x : ℕ) → Takes task n task.start task.at w x → IsKnown task.goal arrival' (best.delivery - cost_to near w) w x) → AreSettled task late near settled arrival' queue best
-    start_settled t arrival' queue best0 best state fallen known =
+    pub start_settled : (t : ℕ) (arrival' hops : List ℕ) (queue : List Event) (best0 best : Best) → AreSettling task late near settled u t arrival' hops queue best → IsFallen settled arrival best0 arrival' best →
+        ((n w x : ℕ) → Takes task n task.start task.at w x → IsKnown task.goal arrival' (best.delivery - cost_to near w) w x) → AreSettled task late near settled arrival' hops queue best
+    start_settled t arrival' hops queue best0 best state fallen known =
         let start_at : slice_index arrival' task.start ≡ task.at = fallen.kept task.start start_on ∙ opened.start in
         record {
           flags = state.flags;
@@ -273,6 +266,7 @@ module _ (task : SearchTask) (is : IsTask task) (off settled : List Bool) (u : �
           goal_unsettled = false_from_ne_true (slice_index_or settled task.goal false) (λ on. goal_other task is (only_start task.goal on));
           lowered = state.lowered;
           queue_is = state.queue_is;
+          hops_are = state.hops_are;
           found = state.found;
           sooner = state.sooner;
           goal_late = state.goal_late;
@@ -284,7 +278,7 @@ module _ (task : SearchTask) (is : IsTask task) (off settled : List Bool) (u : �
         }
 
 -- what holds after the node of the earliest event is settled
-module _ (task : SearchTask) (is : IsTask task) (late near : List ℕ) (settled : List Bool) (arrival0 : List ℕ) (queue0 queue : List Event) (best0 : Best) (e : Event) (was : AreSettled task late near settled arrival0 queue0 best0)
+module _ (task : SearchTask) (is : IsTask task) (late near : List ℕ) (settled : List Bool) (arrival0 hops0 : List ℕ) (queue0 queue : List Event) (best0 : Best) (e : Event) (was : AreSettled task late near settled arrival0 hops0 queue0 best0)
     (moved : IsPermutation queue0 (e ∷ queue)) (first : All (λ (f : Event). e.at ≤ f.at) queue) (unsettled : slice_index_or settled e.node false ≡ false) where
   pub next_within : e.node < length settled
   next_within = omega (arith, was.many, was.flags, head_inside task late near settled arrival0 queue0 queue e was.queue_is moved first)
@@ -295,23 +289,25 @@ module _ (task : SearchTask) (is : IsTask task) (late near : List ℕ) (settled 
   pub next_most : sent_by_settled task settled + degree task e.node ≤ length task.plan.contacts
   next_most = omega (arith, next_sent, sent_most task (slice_set settled e.node true))
 
-  pub next_way : IsWayTo task e.node e.hops (slice_index arrival0 e.node)
-  next_way = head_way task late near settled arrival0 queue0 queue e was.queue_is moved first unsettled
+  next_way : IsWayTo task e.node (slice_index hops0 e.node) (slice_index arrival0 e.node)
+  next_way =
+      (was.hops_are.ways e.node (head_inside task late near settled arrival0 queue0 queue e was.queue_is moved first) (head_open task late near settled arrival0 queue0 queue e was.queue_is moved first)
+      (head_soon task late near settled arrival0 queue0 queue e was.queue_is moved first)).1
 
-  pub next_state : IsBound task late near → AreSettling task late near (slice_set settled e.node true) e.node (slice_index arrival0 e.node) arrival0 queue best0
+  pub next_state : IsBound task late near → AreSettling task late near (slice_set settled e.node true) e.node (slice_index arrival0 e.node) arrival0 hops0 queue best0
   next_state bound =
       let since : task.at ≤ slice_index arrival0 e.node = Leads-later (Takes task) (takes_timely task is.nodes) next_way.0 task.start task.at e.node (slice_index arrival0 e.node) next_way.2 in
-      settles task late near settled arrival0 queue0 queue e was.queue_is moved first next_within unsettled best0 bound was.flags was.many was.closed since was.lowered was.sooner was.goal_late was.found
+      settles task late near settled arrival0 queue0 queue e was.queue_is moved first next_within unsettled hops0 best0 bound was.flags was.many was.closed since was.lowered was.sooner was.goal_late was.found was.hops_are
 
   pub next_counted : (settled' : List Bool) (old new : ℕ) → settled' ≡ slice_set settled e.node true → old ≤ new + sent_by_settled task settled + degree task e.node → old ≤ new + sent_by_settled task settled'
   next_counted settled' old new settled_is le = omega (arith, ap (sent_by_settled task) settled_is, next_sent)
 
-  pub next_settled : (settled' : List Bool) (arrival : List ℕ) (queue' : List Event) (best : Best) → settled' ≡ slice_set settled e.node true →
-      AreSettling task late near (slice_set settled e.node true) e.node (slice_index arrival0 e.node) arrival queue' best → IsFallen (slice_set settled e.node true) arrival0 best0 arrival best → AreSettledTaken task near (slice_set settled e.node true) arrival best.delivery →
-      AreSettled task late near settled' arrival queue' best
-  next_settled settled' arrival queue' best settled_is state fallen taken =
+  pub next_settled : (settled' : List Bool) (arrival hops : List ℕ) (queue' : List Event) (best : Best) → settled' ≡ slice_set settled e.node true →
+      AreSettling task late near (slice_set settled e.node true) e.node (slice_index arrival0 e.node) arrival hops queue' best → IsFallen (slice_set settled e.node true) arrival0 best0 arrival best → AreSettledTaken task near (slice_set settled e.node true) arrival best.delivery →
+      AreSettled task late near settled' arrival hops queue' best
+  next_settled settled' arrival hops queue' best settled_is state fallen taken =
       let other : task.goal ≢ e.node = λ same. head_other task late near settled arrival0 queue0 queue e was.queue_is moved first (sym same) in
-      rw settled_is (settled_next task late near settled e.node (slice_index arrival0 e.node) arrival0 best0 arrival queue' best state fallen taken other
+      rw settled_is (settled_next task late near settled e.node (slice_index arrival0 e.node) arrival0 best0 arrival hops queue' best state fallen taken other
       (flag_stays settled e.node task.start next_within was.start_settled) was.start_reached was.goal_unsettled was.closed)
 
 -- what a `Vec` of flags has at an index, at the usual default

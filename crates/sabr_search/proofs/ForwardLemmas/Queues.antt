@@ -1,5 +1,5 @@
 -- The events that wait while nodes are settled: one more, and the earliest taken out.
-use Rattle.std.proofs.Common.{◌≡◌, ◌≢◌, inl, inr, ℕ, zero, suc, ◌+◌, ◌-◌, ◌<◌, ◌≤◌, List, [], ◌∷◌, ◌++◌, length, Bool, true, false, cond, slice_index, slice_index_or, slice_set, All, Contains, refl, ap, sym, subst, ◌∙◌, arith, length-append}
+use Rattle.std.proofs.Common.{◌≡◌, ◌≢◌, inl, inr, ℕ, zero, suc, ◌+◌, ◌-◌, ◌<◌, ◌≤◌, List, [], ◌∷◌, ◌++◌, length, replicate, Bool, true, false, cond, slice_index, slice_index_or, slice_set, All, Contains, refl, ap, sym, ◌∙◌, arith, length-append}
 use Rattle.std.specs.List.Sorted.{IsPermutation}
 use Rattle.std.proofs.lemmas.Bool.{cases_eq, both_ways, false_from_ne_true}
 use Rattle.std.proofs.lemmas.Grind.{common_steps}
@@ -8,10 +8,10 @@ use Rattle.std.proofs.lemmas.List.Sorted.{All-permutation, Contains-permutation}
 use Rattle.std.proofs.lemmas.List.Sums.{sum_by-set, count_by-le-length}
 use Rattle.sabr_search.specs.declared.forward.queue.Event.{Event}
 use Rattle.sabr_search.specs.declared.forward.layers.Best.{Best}
-use Rattle.sabr_search.specs.questions.Task.{SearchTask, Takes, IsTask, never}
+use Rattle.sabr_search.specs.questions.Task.{SearchTask, Takes, IsTask, never, latest_arrival}
 use Rattle.sabr_search.specs.layers.Lists.{AreClosed, IsKnown}
 use Rattle.sabr_search.specs.layers.Reach.{cost_to}
-use Rattle.sabr_search.specs.layers.Settling.{IsBound, IsWaiting, AreSettledBy, AreBy, settled_count, IsWayTo, IsQueue, IsFirst, AreSettling, IsFallen, AreSettledTaken}
+use Rattle.sabr_search.specs.layers.Settling.{IsBound, IsWaiting, AreSettledBy, AreBy, settled_count, IsWayTo, IsQueue, AreHops, IsFirst, AreSettling, IsFallen, AreSettledTaken}
 use Rattle.sabr_search.proofs.WayLemmas.Ways.{Leads-append}
 use Rattle.sabr_search.proofs.WayLemmas.RoutesAndWays.{takes_timely}
 use Rattle.sabr_search.proofs.ForwardLemmas.Forward.{known_lower}
@@ -39,6 +39,18 @@ flag_other xs k j other = grind (arith, common_steps)
 pub flag_many : (xs : List Bool) (k : ℕ) → length (slice_set xs k true) ≡ length xs
 flag_many xs k = grind (arith, common_steps)
 
+-- a flag that is on is in the list
+pub flag_within : (settled : List Bool) (k : ℕ) → slice_index_or settled k false ≡ true → k < length settled
+flag_within [] k on = absurd (both_ways false refl on)
+flag_within (x ∷ settled) zero on = omega arith
+flag_within (x ∷ settled) (suc k) on = omega (arith, flag_within settled k on)
+
+-- no flag of a list of flags that are off is on
+pub all_off : (n k : ℕ) → slice_index_or (replicate n false) k false ≡ false
+all_off zero k = refl
+all_off (suc n) zero = refl
+all_off (suc n) (suc k) = all_off n k
+
 -- one node more is settled
 pub count_more : (settled : List Bool) (k : ℕ) → k < length settled → slice_index_or settled k false ≡ false → settled_count (slice_set settled k true) ≡ settled_count settled + 1
 count_more settled k within off =
@@ -59,29 +71,37 @@ way_more task is n u h t w x way step = (
   Leads-append (Takes task) (takes_timely task is.nodes) way.0 (n ∷ []) task.start task.at u t w x way.2 (w, x, step, (refl, refl)),
 )
 
--- the delivery is better, by a way of no more hops than there are settled nodes
-pub found_better : (task : SearchTask) (late near : List ℕ) (settled : List Bool) (u t : ℕ) (arrival : List ℕ) (queue : List Event) (best : Best) (delivery hops : ℕ) → AreSettling task late near settled u t arrival queue best →
-    hops < settled_count settled → delivery < best.delivery → IsWayTo task task.goal (hops + 1) delivery → AreSettling task late near settled u t arrival queue (record { delivery = delivery; hops = hops + 1 })
-found_better task late near settled u t arrival queue best delivery hops so_far few less way = record {
+-- the same way, said in other numbers
+way_same : (task : SearchTask) (v h i t x : ℕ) → i ≡ h → x ≡ t → IsWayTo task v h t → IsWayTo task v i x
+way_same task v h i t x hops at way = rw (hops, at) way
+
+-- the delivery is better, by one step more
+pub found_better : (task : SearchTask) → IsTask task → (late near : List ℕ) (settled : List Bool) (u t n w h : ℕ) (arrival hops : List ℕ) (queue : List Event) (best : Best) (delivery : ℕ) → AreSettling task late near settled u t arrival hops queue best →
+    h ≡ slice_index hops u → delivery < best.delivery → w ≡ task.goal → Takes task n u t w delivery → AreSettling task late near settled u t arrival hops queue (record { delivery = delivery; hops = h + 1 })
+found_better task is late near settled u t n w h arrival hops queue best delivery so_far h_is less at step = record {
+  on = so_far.on;
+  real = so_far.real;
+  few = so_far.few;
   flags = so_far.flags;
   many = so_far.many;
   closed = so_far.closed;
   early = so_far.early;
   lowered = so_far.lowered;
   queue_is = so_far.queue_is;
-  found = inr (omega arith, omega arith, way);
+  hops_are = so_far.hops_are;
+  found = inr (omega arith, omega (arith, h_is, so_far.few), rw at at (way_more task is n u h t w delivery (rw h_is so_far.real) step));
   sooner = omega (arith, less, so_far.sooner);
   goal_late = omega (arith, less, so_far.goal_late);
 }
 
 -- what is reached sooner is open
-pub open_sooner : (task : SearchTask) (late near : List ℕ) (settled : List Bool) (u t w b : ℕ) (arrival : List ℕ) (queue : List Event) (best : Best) → AreSettling task late near settled u t arrival queue best →
+pub open_sooner : (task : SearchTask) (late near : List ℕ) (settled : List Bool) (u t w b : ℕ) (arrival hops : List ℕ) (queue : List Event) (best : Best) → AreSettling task late near settled u t arrival hops queue best →
     t ≤ b → b < slice_index arrival w → slice_index_or task.shut w false ≡ false
-open_sooner task late near settled u t w b arrival queue best so_far later less = false_from_ne_true (slice_index_or task.shut w false) (λ on. omega (arith, so_far.closed w on))
+open_sooner task late near settled u t w b arrival hops queue best so_far later less = false_from_ne_true (slice_index_or task.shut w false) (λ on. omega (arith, so_far.closed w on))
 
 -- an open node is reached sooner, and an event waits for it
-module _ (task : SearchTask) (late near : List ℕ) (settled : List Bool) (u t n b : ℕ) (event : Event) (arrival : List ℕ) (queue queue' : List Event) (best : Best) (so_far : AreSettling task late near settled u t arrival queue best)
-    (later : t ≤ b) (within : event.node < length arrival) (less : b < slice_index arrival event.node) (other : event.node ≢ task.goal) (step : Takes task n u t event.node b) (way : IsWayTo task event.node event.hops b) (few : event.hops ≤ settled_count settled)
+module _ (task : SearchTask) (is : IsTask task) (late near : List ℕ) (settled : List Bool) (u t n b h : ℕ) (event : Event) (arrival hops : List ℕ) (queue queue' : List Event) (best : Best) (so_far : AreSettling task late near settled u t arrival hops queue best)
+    (later : t ≤ b) (within : event.node < length arrival) (less : b < slice_index arrival event.node) (other : event.node ≢ task.goal) (step : Takes task n u t event.node b) (h_is : h ≡ slice_index hops u)
     (at_is : event.at ≡ b + cost_to near event.node) (moved : IsPermutation (event ∷ queue) queue') where
   abbrev w : ℕ
   w = event.node
@@ -92,11 +112,17 @@ module _ (task : SearchTask) (late near : List ℕ) (settled : List Bool) (u t n
   unsettled : slice_index_or settled w false ≡ false
   unsettled = false_from_ne_true (slice_index_or settled w false) (λ on. omega (arith, less, early w on step.unshut))
 
+  apart : u ≢ w
+  apart same = both_ways (slice_index_or settled w false) unsettled (ap (λ k. slice_index_or settled k false) (sym same) ∙ so_far.on)
+
   falls : (k : ℕ) → slice_index (slice_set arrival w b) k ≤ slice_index arrival k
   falls = set_falls arrival w b within less
 
   kept : (k : ℕ) → slice_index_or settled k false ≡ true → slice_index (slice_set arrival w b) k ≡ slice_index arrival k
   kept k on = set_other arrival w b k (λ same. both_ways (slice_index_or settled w false) unsettled (rw same at on))
+
+  all_more : (P : Event → Type 0) → P event → All P queue → All P queue'
+  all_more P here rest = All-permutation P (event ∷ queue) queue' moved (All-cons P event queue here rest)
 
   queue_more : IsQueue task late near settled (slice_set arrival w b) queue'
   queue_more =
@@ -112,32 +138,44 @@ module _ (task : SearchTask) (late near : List ℕ) (settled : List Bool) (u t n
               let waits = was.waits k (omega (arith, many)) open' off (omega (arith, same)) in
               (waits.0, Contains-permutation (event ∷ queue) queue' waits.0 moved (Contains-append_right (event ∷ []) queue waits.0 waits.1), waits.2, omega (arith, waits.3, same))
         ];
-        late = All-permutation (λ (e : Event). slice_index arrival' e.node + cost_to near e.node ≤ e.at) (event ∷ queue) queue' moved
-            (All-cons (λ (e : Event). slice_index arrival' e.node + cost_to near e.node ≤ e.at) event queue (omega (arith, here, at_is)) (All-weaker (λ (e : Event). slice_index arrival e.node + cost_to near e.node ≤ e.at) (λ (e : Event). slice_index arrival' e.node + cost_to near e.node ≤ e.at) (λ e le. omega (arith, falls e.node)) queue was.late));
-        before = All-permutation (λ (e : Event). e.at < slice_index_or late e.node never + cost_to near e.node) (event ∷ queue) queue' moved
-            (All-cons (λ (e : Event). e.at < slice_index_or late e.node never + cost_to near e.node) event queue (omega (arith, less, at_is, so_far.lowered w step.unshut)) was.before);
-        order = All-permutation (λ (e : Event). AreSettledBy task near settled arrival' e.at) (event ∷ queue) queue' moved
-            (All-cons (λ (e : Event). AreSettledBy task near settled arrival' e.at) event queue (λ k on open'. omega (arith, kept k on, at_is, early k on open')) (All-weaker (λ (e : Event). AreSettledBy task near settled arrival e.at) (λ (e : Event). AreSettledBy task near settled arrival' e.at) (λ e by k on open'. omega (arith, kept k on, by k on open')) queue was.order));
-        inside = All-permutation (λ (e : Event). e.node < length arrival') (event ∷ queue) queue' moved
-            (All-cons (λ (e : Event). e.node < length arrival') event queue (omega (arith, many)) (All-weaker (λ (e : Event). e.node < length arrival) (λ (e : Event). e.node < length arrival') (λ e lt. omega (arith, many)) queue was.inside));
-        unshut = All-permutation (λ (e : Event). slice_index_or task.shut e.node false ≡ false) (event ∷ queue) queue' moved
-            (All-cons (λ (e : Event). slice_index_or task.shut e.node false ≡ false) event queue step.unshut was.unshut);
-        other = All-permutation (λ (e : Event). e.node ≢ task.goal) (event ∷ queue) queue' moved
-            (All-cons (λ (e : Event). e.node ≢ task.goal) event queue other was.other);
-        real = All-permutation (λ (e : Event). (a : ℕ) × (a + cost_to near e.node ≡ e.at) × IsWayTo task e.node e.hops a) (event ∷ queue) queue' moved
-            (All-cons (λ (e : Event). (a : ℕ) × (a + cost_to near e.node ≡ e.at) × IsWayTo task e.node e.hops a) event queue (b, sym at_is, way) was.real);
-        few = All-permutation (λ (e : Event). e.hops ≤ settled_count settled) (event ∷ queue) queue' moved
-            (All-cons (λ (e : Event). e.hops ≤ settled_count settled) event queue few was.few);
+        late = all_more (λ (e : Event). slice_index arrival' e.node + cost_to near e.node ≤ e.at) (omega (arith, here, at_is)) (All-weaker (λ (e : Event). slice_index arrival e.node + cost_to near e.node ≤ e.at) (λ (e : Event). slice_index arrival' e.node + cost_to near e.node ≤ e.at) (λ e le. omega (arith, falls e.node)) queue was.late);
+        before = all_more (λ (e : Event). e.at < slice_index_or late e.node never + cost_to near e.node) (omega (arith, less, at_is, so_far.lowered w step.unshut)) was.before;
+        order = all_more (λ (e : Event). AreSettledBy task near settled arrival' e.at) (λ k on open'. omega (arith, kept k on, at_is, early k on open')) (All-weaker (λ (e : Event). AreSettledBy task near settled arrival e.at) (λ (e : Event). AreSettledBy task near settled arrival' e.at) (λ e by k on open'. omega (arith, kept k on, by k on open')) queue was.order);
+        inside = all_more (λ (e : Event). e.node < length arrival') (omega (arith, many)) (All-weaker (λ (e : Event). e.node < length arrival) (λ (e : Event). e.node < length arrival') (λ e lt. omega (arith, many)) queue was.inside);
+        unshut = all_more (λ (e : Event). slice_index_or task.shut e.node false ≡ false) step.unshut was.unshut;
+        other = all_more (λ (e : Event). e.node ≢ task.goal) other was.other;
       }
 
-  pub pushed : AreSettling task late near settled u t (slice_set arrival w b) queue' best
+  hops_more : AreHops task late settled (slice_set arrival w b) (slice_set hops w (h + 1))
+  hops_more =
+      let was = so_far.hops_are in
+      let arrives : slice_index (slice_set arrival w b) w ≡ b = set_here arrival w b within in
+      let counts : slice_index (slice_set hops w (h + 1)) w ≡ h + 1 = set_here hops w (h + 1) (omega (arith, was.many, so_far.flags, within)) in
+      let here : IsWayTo task w (slice_index (slice_set hops w (h + 1)) w) (slice_index (slice_set arrival w b) w) = way_same task w (h + 1) _ b _ counts arrives (way_more task is n u h t w b (rw h_is so_far.real) step) in
+      record {
+        many = set_many hops w (h + 1) ∙ was.many;
+        ways = λ k inside open' reached. elim (cases_eq k w) [
+          | inl same ↦ rw same (omega (arith, counts, h_is, so_far.few), here)
+          | inr differ ↦
+              (let at = set_other arrival w b k differ in
+              let by = set_other hops w (h + 1) k differ in
+              let way = was.ways k (omega (arith, inside, set_many arrival w b)) open' (omega (arith, at, reached)) in
+              (omega (arith, by, way.0), way_same task k (slice_index hops k) _ (slice_index arrival k) _ by at way.1))
+        ];
+      }
+
+  pub pushed : AreSettling task late near settled u t (slice_set arrival w b) (slice_set hops w (h + 1)) queue' best
   pushed = record {
+    on = so_far.on;
+    real = way_same task u _ _ t t (set_other hops w (h + 1) u apart) refl so_far.real;
+    few = omega (arith, set_other hops w (h + 1) u apart, so_far.few);
     flags = set_many arrival w b ∙ so_far.flags;
     many = so_far.many;
     closed = λ k e. omega (arith, falls k, so_far.closed k e);
     early = λ m v x s k on open'. omega (arith, kept k on, so_far.early m v x s k on open');
     lowered = λ k open'. omega (arith, falls k, so_far.lowered k open');
     queue_is = queue_more;
+    hops_are = hops_more;
     found = so_far.found;
     sooner = so_far.sooner;
     goal_late = omega (arith, set_other arrival w b task.goal (λ same. other (sym same)), so_far.goal_late);
@@ -172,7 +210,7 @@ taken_settled task near settled u t arrival0 best0 arrival best reached taken fa
     ]
 
 -- the one element of a list of one
-only_one : (e x : Event) → Contains (e ∷ []) x → x.node ≡ e.node
+pub only_one : (e x : Event) → Contains (e ∷ []) x → x.node ≡ e.node
 only_one e x (zero, lt, same) = ap (λ (f : Event). f.node) (sym same)
 only_one e x (suc i, lt, same) = absurd (omega arith)
 
@@ -200,11 +238,9 @@ module _ (task : SearchTask) (bounds near : List ℕ) (settled : List Bool) (arr
   pub head_other : e.node ≢ task.goal
   head_other = head (λ (f : Event). f.node ≢ task.goal) was.other
 
-  head_real : (t : ℕ) × (t + cost_to near e.node ≡ e.at) × IsWayTo task e.node e.hops t
-  head_real = head (λ (f : Event). (t : ℕ) × (t + cost_to near f.node ≡ f.at) × IsWayTo task f.node f.hops t) was.real
-
-  pub head_few : e.hops ≤ settled_count settled
-  head_few = head (λ (f : Event). f.hops ≤ settled_count settled) was.few
+  -- it isn't too late there
+  pub head_soon : slice_index arrival e.node < slice_index_or bounds e.node never
+  head_soon = omega (arith, head_late, head (λ (f : Event). f.at < slice_index_or bounds f.node never + cost_to near f.node) was.before)
 
   -- what waits is no earlier
   pub waits_later : (f : Event) → Contains queue f → e.at ≤ f.at
@@ -220,15 +256,8 @@ module _ (task : SearchTask) (bounds near : List ℕ) (settled : List Bool) (arr
   -- the event of a node that is not settled comes with its arrival
   head_arrives : slice_index_or settled e.node false ≡ false → slice_index arrival e.node + cost_to near e.node ≡ e.at
   head_arrives off =
-      let waits = was.waits e.node head_inside head_open off (omega (arith, head_late, head (λ (f : Event). f.at < slice_index_or bounds f.node never + cost_to near f.node) was.before)) in
+      let waits = was.waits e.node head_inside head_open off head_soon in
       omega (arith, head_late, waits_later waits.0 waits.1, waits.3)
-
-  -- and with a way
-  pub head_way : slice_index_or settled e.node false ≡ false → IsWayTo task e.node e.hops (slice_index arrival e.node)
-  head_way off =
-      let real = head_real in
-      let same : real.0 ≡ slice_index arrival e.node = omega (arith, real.1, head_arrives off) in
-      subst (λ t. IsWayTo task e.node e.hops t) same real.2
 
   -- the event for another node still waits
   rest_waits : (k t : ℕ) → k ≢ e.node → IsWaiting queue k t → IsWaiting queue' k t
@@ -262,14 +291,15 @@ module _ (task : SearchTask) (bounds near : List ℕ) (settled : List Bool) (arr
       inside = tail (λ (f : Event). f.node < length arrival) was.inside;
       unshut = tail (λ (f : Event). slice_index_or task.shut f.node false ≡ false) was.unshut;
       other = tail (λ (f : Event). f.node ≢ task.goal) was.other;
-      real = tail (λ (f : Event). (t : ℕ) × (t + cost_to near f.node ≡ f.at) × IsWayTo task f.node f.hops t) was.real;
-      few = All-weaker (λ (f : Event). f.hops ≤ settled_count settled) (λ (f : Event). f.hops ≤ settled_count (slice_set settled e.node true)) (λ f le. omega (arith, count_more settled e.node within unsettled)) queue' (tail (λ (f : Event). f.hops ≤ settled_count settled) was.few);
     }
 
     -- so its contacts can be taken
-    pub settles : (best : Best) → IsBound task bounds near → length arrival ≡ length task.shut → length settled ≡ length task.shut → AreClosed task.shut arrival task.at → task.at ≤ slice_index arrival e.node → AreBy task bounds arrival → best.delivery ≤ never →
-        best.delivery ≤ slice_index arrival task.goal → IsFirst task settled best → AreSettling task bounds near (slice_set settled e.node true) e.node (slice_index arrival e.node) arrival queue' best
-    settles best bound flags many closed since lowered sooner goal_late found = record {
+    pub settles : (hops : List ℕ) (best : Best) → IsBound task bounds near → length arrival ≡ length task.shut → length settled ≡ length task.shut → AreClosed task.shut arrival task.at → task.at ≤ slice_index arrival e.node → AreBy task bounds arrival → best.delivery ≤ latest_arrival + 1 →
+        best.delivery ≤ slice_index arrival task.goal → IsFirst task settled best → AreHops task bounds settled arrival hops → AreSettling task bounds near (slice_set settled e.node true) e.node (slice_index arrival e.node) arrival hops queue' best
+    settles hops best bound flags many closed since lowered sooner goal_late found hops_are = record {
+      on = flag_here settled e.node within;
+      real = (hops_are.ways e.node head_inside head_open head_soon).1;
+      few = omega (arith, (hops_are.ways e.node head_inside head_open head_soon).0, count_more settled e.node within unsettled);
       flags = flags;
       many = flag_many settled e.node ∙ many;
       closed = λ k on. omega (arith, closed k on, since);
@@ -278,6 +308,10 @@ module _ (task : SearchTask) (bounds near : List ℕ) (settled : List Bool) (arr
           early_after (b + cost_to near w) later (λ k on open'. omega (arith, later, head_order k on open'));
       lowered = lowered;
       queue_is = queue_settled;
+      hops_are = record {
+        many = hops_are.many;
+        ways = λ k inside open' reached. (let way = hops_are.ways k inside open' reached in (omega (arith, way.0, count_more settled e.node within unsettled), way.1));
+      };
       sooner = sooner;
       goal_late = goal_late;
       found = elim found [ inl none ↦ inl none | inr way ↦ inr (way.0, omega (arith, way.1, count_more settled e.node within unsettled), way.2) ];
@@ -293,6 +327,4 @@ module _ (task : SearchTask) (bounds near : List ℕ) (settled : List Bool) (arr
     inside = tail (λ (f : Event). f.node < length arrival) was.inside;
     unshut = tail (λ (f : Event). slice_index_or task.shut f.node false ≡ false) was.unshut;
     other = tail (λ (f : Event). f.node ≢ task.goal) was.other;
-    real = tail (λ (f : Event). (t : ℕ) × (t + cost_to near f.node ≡ f.at) × IsWayTo task f.node f.hops t) was.real;
-    few = tail (λ (f : Event). f.hops ≤ settled_count settled) was.few;
   }

@@ -8,7 +8,7 @@ ghost use Rattle.sabr_search.specs.layers.Reach.{AreLateFor};
 ghost use Rattle.sabr_search.specs.layers.Latest.{IsWhole, IsBegun, AreRising, AreTaken, IsTakenBy, IsLeftBy};
 
 use crate::forward::layers::NEVER;
-use crate::forward::queue::{Event, Queue};
+use crate::forward::queue::{Event, LAST_AT, Queue};
 use crate::links::looks::Looks;
 use crate::links::over_link::{WalkedLink, rules_out};
 use crate::task::Task;
@@ -42,7 +42,6 @@ impl<A: Allocator + Copy> Latest<A> {
         let mut queue = Queue::new(alloc);
         let first = Event {
             at: 0,
-            hops: 0,
             node: task.goal(),
         };
         queue.push(first, 0)?;
@@ -92,8 +91,7 @@ impl<A: Allocator + Copy> Latest<A> {
             return Ok(());
         }
         let event = Event {
-            at: NEVER - last,
-            hops: 0,
+            at: LAST_AT.saturating_sub(last),
             node,
         };
         self.queue.push(event, 0)?;

@@ -10,7 +10,7 @@ ghost use Rattle.sabr_search.specs.layers.Latest.{IsWhole, AreRising, AreTaken, 
 
 use crate::backward::latest::Latest;
 use crate::forward::layers::NEVER;
-use crate::forward::queue::Event;
+use crate::forward::queue::{Event, LAST_AT};
 use crate::task::Task;
 use sabr_index::SenderHead;
 use sabr_model::{MOST_LIGHT, NoMemory};
@@ -66,8 +66,7 @@ impl<A: Allocator + Copy> Latest<A> {
         }
         let rank = note_hops(hops, node, to);
         let event = Event {
-            at: NEVER - last,
-            hops: 0,
+            at: (NEVER - last).min(LAST_AT),
             node,
         };
         self.queue.push(event, rank)?;

@@ -40,6 +40,9 @@ struct Layer {
 /// Later than every arrival.
 pub const NEVER: u64 = u64::MAX;
 
+/// The first second after every arrival.
+pub const UNDELIVERED: u64 = 253372764800;
+
 /// Makes a list with the first second that is too late at each node, as far as the list `late` goes.
 fn too_late<A: Allocator + Copy>(
     arrival: &mut Vec<u64, A>,

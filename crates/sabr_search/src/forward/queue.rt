@@ -10,41 +10,41 @@ use std::cmp::Reverse;
 use std::collections::BinaryHeap;
 use std::marker::Model;
 
-/// The ranks that are told apart.
-const RANKS: u64 = 65536;
+/// The last second that an event may have.
+pub const LAST_AT: u64 = 1099511627775;
 
-/// The hops, and the nodes, that an event may have.
-const PLACES: u128 = 16777216;
+/// The ranks that are told apart.
+const RANKS: u64 = 256;
+
+/// The nodes that an event may have.
+const NODES: u64 = 65536;
 
 /// The keys of one second.
-const KEYS: u128 = 18446744073709551616;
+const KEYS: u64 = RANKS * NODES;
 
 /// A node and a second for it.
 #[derive(Clone, Copy)]
 pub struct Event {
     pub at: u64,
-    pub hops: usize,
     pub node: usize,
 }
 
 /// Returns the key of an event: the lesser, the earlier it is; of two at the same second, the lesser its rank is.
-fn key_of(event: Event, rank: u64) -> u128
-    requires hops { event.hops < 2 ^ 24 }
-    requires node { event.node < 2 ^ 24 }
+fn key_of(event: Event, rank: u64) -> u64
+    requires at { event.at < 2 ^ 40 }
+    requires node { event.node < 2 ^ 16 }
     ensures { event_of result ≡ event }
 {
-    let first = event.at as u128 * RANKS as u128 + rank.min(RANKS - 1) as u128;
-    (first * PLACES + event.hops as u128) * PLACES + event.node as u128
+    event.at * KEYS + rank.min(RANKS - 1) * NODES + event.node as u64
 }
 
 /// Returns the event that has a key.
-fn event_of_key(key: u128) -> Event
+fn event_of_key(key: u64) -> Event
     ensures { result ≡ event_of key }
 {
     Event {
-        at: (key / KEYS) as u64,
-        hops: (key / PLACES % PLACES) as usize,
-        node: (key % PLACES) as usize,
+        at: key / KEYS,
+        node: (key % NODES) as usize,
     }
 }
 
@@ -52,7 +52,7 @@ fn event_of_key(key: u128) -> Event
 #[derive(Drop)]
 pub struct Queue<A: Allocator + Copy> {
     /// Their keys.
-    keys: BinaryHeap<Reverse<u128>, A>,
+    keys: BinaryHeap<Reverse<u64>, A>,
 }
 
 impl<A: Allocator + Copy> Model for Queue<A> {
@@ -65,7 +65,7 @@ impl<A: Allocator + Copy> Model for Queue<A> {
 
     ghost view = { λ q. map (λ k. event_of k.0) (heap_items q.keys) };
 
-    ghost invariant = { λ q. IsHeap ⟦<Reverse<u128> as Ord>⟧.cmp (heap_items q.keys) };
+    ghost invariant = { λ q. IsHeap ⟦<Reverse<u64> as Ord>⟧.cmp (heap_items q.keys) };
 }
 
 impl<A: Allocator + Copy> Queue<A> {
@@ -88,8 +88,8 @@ impl<A: Allocator + Copy> Queue<A> {
     /// Adds an event; refused if the queue has to grow and memory is refused. Of events at one second, those of lesser
     /// rank come first.
     pub fn push(&mut self, event: Event, rank: u64) -> Result<(), NoMemory>
-        requires hops { event.hops < 2 ^ 24 }
-        requires node { event.node < 2 ^ 24 }
+        requires at { event.at < 2 ^ 40 }
+        requires node { event.node < 2 ^ 16 }
         ensures ok { OnOk result (IsPermutation (event ∷ self.old) self.new) }
         ensures err { OnErr result (self.new ≡ self.old) }
     {

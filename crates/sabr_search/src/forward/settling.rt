@@ -9,12 +9,12 @@ ghost use Rattle.sabr_search.specs.layers.Made.{AreOpened};
 ghost use Rattle.sabr_search.specs.layers.Reach.{cost_to};
 ghost use Rattle.sabr_search.specs.questions.FirstSteps.{AreFirstSteps};
 ghost use Rattle.sabr_search.specs.layers.Enclosed.{IsEnclosed};
-ghost use Rattle.sabr_search.specs.layers.Settling.{IsBound, AreReal, AreArrivalsBy, settled_count, IsWayTo, IsFirstWay, AreSettling, AreSettled, IsFallen, AreSettledTaken};
+ghost use Rattle.sabr_search.specs.layers.Settling.{IsBound, AreReal, AreArrivalsBy, IsFirstWay, AreSettling, AreSettled, IsFallen, AreSettledTaken};
 
 use crate::backward::pick::Standing;
 use crate::backward::since::cost_by;
 use crate::forward::enclosed::Enclosure;
-use crate::forward::layers::{Best, NEVER, open_nodes};
+use crate::forward::layers::{Best, UNDELIVERED, open_nodes};
 use crate::forward::queue::{Event, Queue};
 use crate::links::looks::Looks;
 use crate::links::over_link::{WalkedLink, link_passes};
@@ -99,10 +99,11 @@ fn is_told(arrival: &[u64], link: &Link, at: u64) -> bool
     known <= link.bounds.soonest || known <= at + link.bounds.least_light as u64
 }
 
-/// For each node, its least arrival so far and whether it is settled; and the waiting arrivals.
+/// For each node, its least arrival so far, the hops of a way with it, and whether it is settled; and the waiting arrivals.
 #[derive(Drop)]
 pub struct Settling<A: Allocator + Copy> {
     pub arrival: Vec<u64, A>,
+    hops: Vec<u32, A>,
     settled: Vec<bool, A>,
     queue: Queue<A>,
     enclosure: Enclosure<A>,
@@ -113,6 +114,7 @@ impl<A: Allocator + Copy> Settling<A> {
     pub fn new(alloc: A) -> Settling<A> {
         Settling {
             arrival: Vec::new(alloc),
+            hops: Vec::new(alloc),
             settled: Vec::new(alloc),
             queue: Queue::new(alloc),
             enclosure: Enclosure::new(alloc),
@@ -123,12 +125,15 @@ impl<A: Allocator + Copy> Settling<A> {
     fn first_events(&mut self, forward: &Forward<'_, '_, '_, A>) -> Result<(), NoMemory>
         requires { IsTask forward.now.task.now }
         ensures arrivals { OnOk result (AreOpened forward.now.task.now forward.now.late.now self.new.arrival.items) }
+        ensures hops { OnOk result (length self.new.hops.items ≡ length forward.now.task.now.shut) }
         ensures settled { OnOk result (self.new.settled.items ≡ replicate (length forward.now.task.now.shut) false) }
         ensures queue { OnOk result (self.new.queue ≡ []) }
     {
+        let nodes = forward.task.shut().len();
         open_nodes(&mut self.arrival, forward.task, forward.late)?;
+        self.hops.resize(nodes, 0)?;
         self.settled.clear();
-        self.settled.resize(forward.task.shut().len(), false)?;
+        self.settled.resize(nodes, false)?;
         self.queue.clear();
         Ok(())
     }
@@ -148,29 +153,30 @@ impl<A: Allocator + Copy> Settling<A> {
         requires sooner { step.at + cost_to forward.now.near.now step.node < best.delivery }
         requires news { step.node ≢ forward.now.task.now.goal → step.at < slice_index self.old.arrival.items step.node }
         requires step { slice_index_or forward.now.task.now.shut step.node false ≡ false → (n : ℕ) × Takes forward.now.task.now n event.node event.at step.node step.at }
-        requires real { IsWayTo forward.now.task.now event.node event.hops event.at }
-        requires few { event.hops < settled_count self.old.settled.items }
-        requires state { AreSettling forward.now.task.now forward.now.late.now forward.now.near.now self.old.settled.items event.node event.at self.old.arrival.items self.old.queue best }
+        requires state { AreSettling forward.now.task.now forward.now.late.now forward.now.near.now self.old.settled.items event.node event.at self.old.arrival.items self.old.hops.items self.old.queue best }
         ensures settled { self.new.settled ≡ self.old.settled }
-        ensures state { IfOk result (λ b. AreSettling forward.now.task.now forward.now.late.now forward.now.near.now self.old.settled.items event.node event.at self.new.arrival.items self.new.queue b) }
+        ensures state { IfOk result (λ b. AreSettling forward.now.task.now forward.now.late.now forward.now.near.now self.old.settled.items event.node event.at self.new.arrival.items self.new.hops.items self.new.queue b) }
         ensures fallen { IfOk result (λ b. IsFallen self.old.settled.items self.old.arrival.items best self.new.arrival.items b) }
         ensures known { IfOk result (λ b. IsKnown forward.now.task.now.goal self.new.arrival.items (b.delivery - cost_to forward.now.near.now step.node) step.node step.at) }
         ensures pushes { OnOk result (length self.new.queue ≤ length self.old.queue + 1) }
     {
         let Standing { node, at } = step;
-        let hops = event.hops + 1;
+        let hops = self.hops[event.node] + 1;
         if node == forward.task.goal() {
-            return Ok(Best { delivery: at, hops });
+            return Ok(Best {
+                delivery: at,
+                hops: hops as usize,
+            });
         }
         let cost = forward.cost(node);
         let rank = forward.rank(node);
         let waiting = Event {
             at: at + cost,
-            hops,
             node,
         };
         self.queue.push(waiting, rank)?;
         self.arrival[node] = at;
+        self.hops[node] = hops;
         Ok(best)
     }
 
@@ -187,13 +193,11 @@ impl<A: Allocator + Copy> Settling<A> {
         requires from { link.from ≡ event.node }
         requires link { IsLinkWithin forward.now.task.now link.from link.to link.passes.now link.bounds }
         requires receiver { link.to < length forward.now.task.now.table }
-        requires real { IsWayTo forward.now.task.now event.node event.hops event.at }
-        requires few_hops { event.hops < settled_count self.old.settled.items }
         requires few { length link.passes.now ≤ looks.old.left }
-        requires state { AreSettling forward.now.task.now forward.now.late.now forward.now.near.now self.old.settled.items event.node event.at self.old.arrival.items self.old.queue best }
+        requires state { AreSettling forward.now.task.now forward.now.late.now forward.now.near.now self.old.settled.items event.node event.at self.old.arrival.items self.old.hops.items self.old.queue best }
         ensures settled { self.new.settled ≡ self.old.settled }
         ensures looks { looks.old.left ≤ looks.new.left + length link.entry.passes.now }
-        ensures state { IfOk result (λ b. AreSettling forward.now.task.now forward.now.late.now forward.now.near.now self.old.settled.items event.node event.at self.new.arrival.items self.new.queue b) }
+        ensures state { IfOk result (λ b. AreSettling forward.now.task.now forward.now.late.now forward.now.near.now self.old.settled.items event.node event.at self.new.arrival.items self.new.hops.items self.new.queue b) }
         ensures fallen { IfOk result (λ b. IsFallen self.old.settled.items self.old.arrival.items best self.new.arrival.items b) }
         ensures known { IfOk result (λ b. (n w x : ℕ) → HasNumber link.entry.passes.now n → Takes forward.now.task.now n link.entry.from event.at w x → IsKnown forward.now.task.now.goal self.new.arrival.items (b.delivery - cost_to forward.now.near.now w) w x) }
         ensures pushes { OnOk result (length self.new.queue + looks.new.left ≤ length self.old.queue + looks.old.left) }
@@ -223,15 +227,13 @@ impl<A: Allocator + Copy> Settling<A> {
         requires many { length self.old.settled.items ≡ length forward.now.task.now.table }
         requires unsettled { slice_index_or self.old.settled.items event.node false ≡ false }
         requires reached { slice_index self.old.arrival.items event.node ≡ event.at }
-        requires real { IsWayTo forward.now.task.now event.node event.hops event.at }
-        requires few_hops { event.hops ≤ settled_count self.old.settled.items }
         requires links { AreLinksAt forward.now.task.now event.node links.links.now links.passes.now }
         requires few { length links.passes.now ≤ looks.old.left }
-        requires state { AreSettling forward.now.task.now forward.now.late.now forward.now.near.now (slice_set self.old.settled.items event.node true) event.node event.at self.old.arrival.items self.old.queue best }
+        requires state { AreSettling forward.now.task.now forward.now.late.now forward.now.near.now (slice_set self.old.settled.items event.node true) event.node event.at self.old.arrival.items self.old.hops.items self.old.queue best }
         requires taken { AreSettledTaken forward.now.task.now forward.now.near.now self.old.settled.items self.old.arrival.items best.delivery }
         ensures settled { self.new.settled.items ≡ slice_set self.old.settled.items event.node true }
         ensures looks { looks.old.left ≤ looks.new.left + length links.entry.passes.now }
-        ensures state { IfOk result (λ b. AreSettling forward.now.task.now forward.now.late.now forward.now.near.now (slice_set self.old.settled.items event.node true) event.node event.at self.new.arrival.items self.new.queue b) }
+        ensures state { IfOk result (λ b. AreSettling forward.now.task.now forward.now.late.now forward.now.near.now (slice_set self.old.settled.items event.node true) event.node event.at self.new.arrival.items self.new.hops.items self.new.queue b) }
         ensures fallen { IfOk result (λ b. IsFallen (slice_set self.old.settled.items event.node true) self.old.arrival.items best self.new.arrival.items b) }
         ensures taken { IfOk result (λ b. AreSettledTaken forward.now.task.now forward.now.near.now (slice_set self.old.settled.items event.node true) self.new.arrival.items b.delivery) }
         ensures pushes { OnOk result (length self.new.queue + looks.new.left ≤ length self.old.queue + looks.old.left) }
@@ -266,19 +268,20 @@ impl<A: Allocator + Copy> Settling<A> {
         requires steps { AreFirstSteps forward.now.task.now first.now }
         requires real { AreReal forward.now.task.now first.now }
         requires arrivals { AreOpened forward.now.task.now forward.now.late.now self.old.arrival.items }
+        requires hops { length self.old.hops.items ≡ length forward.now.task.now.shut }
         requires settled { self.old.settled.items ≡ replicate (length forward.now.task.now.shut) false }
         requires queue { self.old.queue ≡ [] }
         ensures settled { self.new.settled.items ≡ slice_set self.old.settled.items forward.now.task.now.start true }
-        ensures state { IfOk result (λ b. AreSettled forward.now.task.now forward.now.late.now forward.now.near.now self.new.settled.items self.new.arrival.items self.new.queue b) }
+        ensures state { IfOk result (λ b. AreSettled forward.now.task.now forward.now.late.now forward.now.near.now self.new.settled.items self.new.arrival.items self.new.hops.items self.new.queue b) }
     {
         let event = Event {
             at: forward.task.at(),
-            hops: 0,
             node: forward.task.start(),
         };
+        self.hops[event.node] = 0;
         self.settled[event.node] = true;
         let mut best = Best {
-            delivery: NEVER,
+            delivery: UNDELIVERED,
             hops: 0,
         };
         for place in 0..first.len() {
@@ -328,7 +331,6 @@ impl<A: Allocator + Copy> Settling<A> {
                 }
                 let reached = Event {
                     at: self.arrival[event.node],
-                    hops: event.hops,
                     node: event.node,
                 };
                 best = self.settle(forward, looks, reached, links, best)?;

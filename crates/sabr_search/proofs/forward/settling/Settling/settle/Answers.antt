@@ -78,7 +78,8 @@ is_told-requires-clause-receiver g c =
 pub is_told-requires-clause-early : goal.is_told-requires-clause-early
 is_told-requires-clause-early g c =
     let task = c.args.forward.now.task.now in
-    way_early task c.requires.task c.requires.real.0 task.start task.at c.args.event.node c.args.event.at c.requires.task.time c.requires.real.2
+    let way = c.requires.state.real in
+    way_early task c.requires.task way.0 task.start task.at c.args.event.node c.args.event.at c.requires.task.time way.2
 
 pub loop-link-preserved-then-is_told : goal.loop-link-preserved-then-is_told
 loop-link-preserved-then-is_told g c =
