@@ -1,6 +1,6 @@
 //! The digits at the front of a text, read eight bytes at a time.
 
-ghost use Rattle.std.specs.Prelude.{◌≡◌, ℕ, List, ◌+◌, ◌*◌, ◌<◌, ◌≤◌, length, map, take};
+ghost use Rattle.std.specs.Prelude.{◌≡◌, ℕ, List, ◌+◌, ◌*◌, ◌%◌, ◌^◌, ◌<◌, ◌≤◌, length, map, take};
 ghost use Rattle.core.specs.Dec2flt.Digits.{less_zero, IsEightBytes, IsEightDigits};
 ghost use Rattle.core.specs.Float.Numeral.{digits_len};
 ghost use Rattle.core.specs.Int.{w64, trailing_zeros};
@@ -34,16 +34,15 @@ fn mark_from_ten(word: u64) -> u64
     (word.wrapping_add(0x7676_7676_7676_7676) | word) & 0x8080_8080_8080_8080
 }
 
-/// Returns the number that eight digits stand for, each a byte from 0 to 9, the first of them lowest.
+/// Returns the number that seven digits stand for, each a byte from 0 to 9, the first of them lowest. The eighth byte may
+/// be any.
 #[inline(always)]
-#[tactic(auto, using(core::proofs::dec2flt::Eight::eight_is))]
-fn value_of_eight(word: u64) -> u64
-    ensures { (ds : List ℕ) → IsEightDigits ds → word ≡ number_l 256 ds → result ≡ number_from_digits 10 ds }
+fn value_of_seven(word: u64) -> u64
+    ensures { (ds : List ℕ) → IsEightDigits ds → word * 256 % 2 ^ 64 ≡ number_l 256 ds → result ≡ number_from_digits 10 ds }
 {
-    let pairs = word.wrapping_mul(10).wrapping_add(word >> 8);
-    let first = (pairs & 0x0000_00ff_0000_00ff).wrapping_mul(100 + (1_000_000 << 32));
-    let second = ((pairs >> 16) & 0x0000_00ff_0000_00ff).wrapping_mul(1 + (10_000 << 32));
-    first.wrapping_add(second) >> 32
+    let pairs = word.wrapping_mul(1 + (10 << 8)) & 0x00ff_00ff_00ff_00ff;
+    let fours = pairs.wrapping_mul(1 + (100 << 16));
+    (fours >> 16) % 65536 * 10_000 + (fours >> 48)
 }
 
 /// Returns how many digits a text begins with, and the number that they stand for. No digits if there are more than 19.
@@ -77,7 +76,7 @@ pub fn count_digits(text: &[u8]) -> (usize, u64)
         return count_any_digits(text);
     }
     let before = others.trailing_zeros();
-    // The digits move up to the end, in two shifts, since no shift takes 64 bits.
-    let digits = lanes << (63 - before) << 8;
-    ((before / 8) as usize, value_of_eight(digits))
+    // The digits move up, so that the byte after them is the last.
+    let digits = lanes << (63 - before);
+    ((before / 8) as usize, value_of_seven(digits))
 }
