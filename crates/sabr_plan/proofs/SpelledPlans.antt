@@ -123,7 +123,7 @@ targeted_gives command (word ∷ operands) each =
     ]
 
 reference_gives : (words : List (List ℕ)) → Gives HasBounds (reference_of words)
-reference_gives (time ∷ []) = given_gives NotRead (λ t. t ≤ last_time) HasBounds SetReference (absolute_time time) (absolute_gives time) (λ t _. tt)
+reference_gives (time ∷ []) = given_gives NotRead (λ t. t ≤ last_time) HasBounds SetReference (absolute_time time) (absolute_gives time) (λ t within. within)
 reference_gives _ = tt
 
 command_gives : (reference : Option ℕ) (words : List (List ℕ)) → Gives HasBounds (command_of reference words)

@@ -64,7 +64,8 @@ line_command reference line =
     else if not (list_all is_plain line) then Err BadByte
     else command_of reference (words_of line)
 
--- what an addition names are nodes, its end and its value are within their limits
+-- what an addition names are nodes, its end and its value are within their limits; so is a reference
 abbrev pub HasBounds : Command → Type 0
 HasBounds (Add target a) = IsNode a.first × IsNode a.second × (a.end ≤ last_time) × (a.value ≤ greatest_value target)
+HasBounds (SetReference t) = t ≤ last_time
 HasBounds _ = Unit {0}
