@@ -72,16 +72,15 @@ ended_blanks {text} {rest} after lf = still_ended after.blanks rest (plain_blank
 pub ended_gap : {text rest : List ℕ} → IsAfterGap text rest → is_one_line text ≡ false → is_one_line rest ≡ false
 ended_gap {text} {rest} gap lf = still_ended gap.blanks rest (plain_blanks gap.blanks gap.blank) (rw gap.parts at lf)
 
--- more blanks after one
-pub more_blanks : {text start rest : List ℕ} → IsAfterGap text start → IsAfterBlanks start rest → IsAfterGap text rest
-more_blanks {text} {start} {rest} gap more =
-    let blanks = gap.blanks ++ more.blanks in
-    record {
-      blanks = blanks;
-      parts = gap.parts ∙ ap (λ r. gap.blanks ++ r) more.parts ∙ rw append_assoc refl;
-      some = lt-ltb 0 (length blanks) (omega (arith, length-append gap.blanks more.blanks, ltb-true 0 (length gap.blanks) gap.some));
-      blank = rw (list_all-append is_blank gap.blanks more.blanks, gap.blank) more.blank;
-    }
+-- one space
+pub one_space : {text rest : List ℕ} → text ≡ 32 ∷ rest → IsAfterGap text rest
+one_space {text} {rest} parts = record { blanks = 32 ∷ []; parts = parts; some = refl; blank = refl }
+
+-- blanks, at least one if the rest is shorter
+pub some_blanks : {text rest : List ℕ} → IsAfterBlanks text rest → length rest ≢ length text → IsAfterGap text rest
+some_blanks {text} {rest} after shorter =
+    let long = ap length after.parts ∙ length-append after.blanks rest in
+    record { blanks = after.blanks; parts = after.parts; some = lt-ltb 0 (length after.blanks) (omega arith); blank = after.blank }
 
 pub ended_front : {Holds : List ℕ → Type 0} {text rest : List ℕ} → IsFront Holds text rest → is_one_line text ≡ false → is_one_line rest ≡ false
 ended_front {Holds} {text} {rest} front lf =

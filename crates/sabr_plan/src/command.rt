@@ -5,7 +5,7 @@ ghost use Rattle.sabr_plan.specs.Words.{words_of};
 ghost use Rattle.sabr_plan.specs.Commands.{line_command, command_of, reference_of, target_of, targeted, addition_of, deletion_of};
 
 use crate::fault::PlanKind;
-use crate::operand::{absolute_time, both_of, node_of, time_at, value_of};
+use crate::operand::{Reference, absolute_time, both_of, node_of, time_at, value_of};
 use crate::words::{five_words, is_comment, is_plain, is_word, next_word, one_word, three_words};
 
 /// What a command adds or deletes.
@@ -51,8 +51,8 @@ pub enum Command {
 #[tactic(auto, unfolding(crate::specs::Commands::line_command))]
 #[cold]
 #[inline(never)]
-pub fn line_command(reference: Option<u64>, line: &[u8]) -> Result<Command, PlanKind>
-    ensures { result ≡ line_command reference line.now }
+pub fn line_command(reference: &Reference, line: &[u8]) -> Result<Command, PlanKind>
+    ensures { result ≡ line_command reference.now line.now }
 {
     if is_comment(line) {
         return Ok(Command::Nothing);
@@ -64,8 +64,8 @@ pub fn line_command(reference: Option<u64>, line: &[u8]) -> Result<Command, Plan
 }
 
 /// Returns the command in the words of a line.
-fn command_of(reference: Option<u64>, line: &[u8]) -> Result<Command, PlanKind>
-    ensures { result ≡ command_of reference (words_of line.now) }
+fn command_of(reference: &Reference, line: &[u8]) -> Result<Command, PlanKind>
+    ensures { result ≡ command_of reference.now (words_of line.now) }
 {
     let Some((word, rest)) = next_word(line) else {
         return Ok(Command::Nothing);
@@ -108,8 +108,8 @@ fn target_of(word: &[u8]) -> Option<Target>
 }
 
 /// Reads the rest of a line after `a`.
-fn add_command(reference: Option<u64>, text: &[u8]) -> Result<Command, PlanKind>
-    ensures { result ≡ targeted (addition_of reference) (words_of text.now) }
+fn add_command(reference: &Reference, text: &[u8]) -> Result<Command, PlanKind>
+    ensures { result ≡ targeted (addition_of reference.now) (words_of text.now) }
 {
     let Some((word, operands)) = next_word(text) else {
         return Err(PlanKind::UnknownCommand);
@@ -121,8 +121,8 @@ fn add_command(reference: Option<u64>, text: &[u8]) -> Result<Command, PlanKind>
 }
 
 /// Reads the rest of a line after `d`.
-fn delete_command(reference: Option<u64>, text: &[u8]) -> Result<Command, PlanKind>
-    ensures { result ≡ targeted (deletion_of reference) (words_of text.now) }
+fn delete_command(reference: &Reference, text: &[u8]) -> Result<Command, PlanKind>
+    ensures { result ≡ targeted (deletion_of reference.now) (words_of text.now) }
 {
     let Some((word, operands)) = next_word(text) else {
         return Err(PlanKind::UnknownCommand);
@@ -134,8 +134,8 @@ fn delete_command(reference: Option<u64>, text: &[u8]) -> Result<Command, PlanKi
 }
 
 /// Reads start, stop, two nodes, and a rate or a light time.
-fn addition_of(reference: Option<u64>, target: Target, text: &[u8]) -> Result<Command, PlanKind>
-    ensures { result ≡ addition_of reference target (words_of text.now) }
+fn addition_of(reference: &Reference, target: Target, text: &[u8]) -> Result<Command, PlanKind>
+    ensures { result ≡ addition_of reference.now target (words_of text.now) }
 {
     let Some((start, end, first, second, value)) = five_words(text) else {
         return Err(PlanKind::WrongOperands);
@@ -156,8 +156,8 @@ fn addition_of(reference: Option<u64>, target: Target, text: &[u8]) -> Result<Co
 }
 
 /// Reads start and two nodes.
-fn deletion_of(reference: Option<u64>, target: Target, text: &[u8]) -> Result<Command, PlanKind>
-    ensures { result ≡ deletion_of reference target (words_of text.now) }
+fn deletion_of(reference: &Reference, target: Target, text: &[u8]) -> Result<Command, PlanKind>
+    ensures { result ≡ deletion_of reference.now target (words_of text.now) }
 {
     let Some((start, first, second)) = three_words(text) else {
         return Err(PlanKind::WrongOperands);

@@ -1,6 +1,7 @@
 //! The operands of a plan line.
 
-ghost use Rattle.std.specs.Prelude.{◌≡◌, Some, None, Ok, Err};
+ghost use Rattle.std.specs.Prelude.{◌≡◌, ◌≤◌, Some, None, Ok, Err};
+ghost use Rattle.sabr_model.specs.plan.Plan.{last_time};
 ghost use Rattle.sabr_plan.specs.Operands.{relative_of, after_reference, absolute_time, time_at, node_of, greatest_value, value_of, both_of};
 
 use crate::command::Target;
@@ -8,6 +9,61 @@ use crate::fault::PlanKind;
 use crate::number::{digits_value, number_within};
 use crate::time::parse_time;
 use sabr_model::{LAST_TIME, MOST_LIGHT};
+use std::marker::Model;
+
+/// The second from which relative times count, if a line has set it.
+#[derive(Drop)]
+pub struct Reference {
+    second: u64,
+    /// How many times there are from it on, up to the last. None if no line has set it.
+    room: u64,
+}
+
+impl Model for Reference {
+    ghost use Rattle.std.specs.Prelude.{ℕ, ◌≡◌, ◌+◌, ◌<◌, ◌==◌, Some, None, if◌then◌else◌};
+    ghost use Rattle.std.specs.declared.option.Option.{Option};
+    ghost use Rattle.sabr_model.specs.plan.Plan.{last_time};
+
+    ghost Value = { Option ℕ };
+
+    ghost view = { λ r. if r.room == 0 then None else Some r.second };
+
+    ghost invariant = { λ r. 0 < r.room → r.second + r.room ≡ last_time + 1 };
+}
+
+impl Reference {
+    /// No line has set it.
+    pub fn new() -> Reference
+        ensures { result ≡ None }
+    {
+        Reference { second: 0, room: 0 }
+    }
+
+    /// A line has set it to this second.
+    pub fn at(second: u64) -> Reference
+        requires { second ≤ last_time }
+        ensures { result ≡ Some second }
+    {
+        Reference {
+            second,
+            room: LAST_TIME + 1 - second,
+        }
+    }
+
+    /// Returns the time that is this many seconds later.
+    #[inline(always)]
+    pub fn after(&self, seconds: u64) -> Result<u64, PlanKind>
+        ensures { result ≡ after_reference self.now seconds }
+    {
+        if seconds < self.room {
+            Ok(self.second + seconds)
+        } else if self.room > 0 {
+            Err(PlanKind::BadTime)
+        } else {
+            Err(PlanKind::NoReference)
+        }
+    }
+}
 
 /// Returns the seconds of a relative time: `+` and one to twelve digits.
 fn relative_of(word: &[u8]) -> Option<u64>
@@ -19,19 +75,6 @@ fn relative_of(word: &[u8]) -> Option<u64>
     digits_value(&word[1..])
 }
 
-/// Returns the time that is this many seconds after the reference.
-pub fn after_reference(reference: Option<u64>, seconds: u64) -> Result<u64, PlanKind>
-    ensures { result ≡ after_reference reference seconds }
-{
-    let Some(reference) = reference else {
-        return Err(PlanKind::NoReference);
-    };
-    if reference > LAST_TIME || seconds > LAST_TIME - reference {
-        return Err(PlanKind::BadTime);
-    }
-    Ok(reference + seconds)
-}
-
 /// Reads an absolute time.
 pub fn absolute_time(word: &[u8]) -> Result<u64, PlanKind>
     ensures { result ≡ absolute_time word.now }
@@ -41,11 +84,11 @@ pub fn absolute_time(word: &[u8]) -> Result<u64, PlanKind>
 
 /// Reads a time, absolute or relative to the reference.
 #[tactic(auto, unfolding(crate::specs::Operands::time_at))]
-pub fn time_at(reference: Option<u64>, word: &[u8]) -> Result<u64, PlanKind>
-    ensures { result ≡ time_at reference word.now }
+pub fn time_at(reference: &Reference, word: &[u8]) -> Result<u64, PlanKind>
+    ensures { result ≡ time_at reference.now word.now }
 {
     match relative_of(word) {
-        Some(seconds) => after_reference(reference, seconds),
+        Some(seconds) => reference.after(seconds),
         None => absolute_time(word),
     }
 }

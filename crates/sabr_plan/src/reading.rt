@@ -12,6 +12,7 @@ ghost use Rattle.sabr_plan.specs.declared.command.Target.TheVariants as target;
 use crate::command::{Addition, Command, Deletion, Target, line_command};
 use crate::fault::PlanKind;
 use crate::known_day::KnownDay;
+use crate::operand::Reference;
 use crate::swift_line::swift_addition;
 use sabr_gathering::{GatheredContacts, GatheredRanges, gathered_plan};
 use sabr_model::{AddFault, NoMemory, Plan};
@@ -27,8 +28,8 @@ pub struct PlanReading<A: Allocator + Copy> {
     contacts: GatheredContacts<A>,
     /// The ranges so far.
     ranges: GatheredRanges<A>,
-    /// The second from which relative times count, if a line has set it.
-    reference: Option<u64>,
+    /// The second from which relative times count.
+    reference: Reference,
     /// The day of the last absolute start.
     start_day: KnownDay,
     /// The day of the last absolute end.
@@ -80,7 +81,7 @@ impl<A: Allocator + Copy> PlanReading<A> {
             alloc,
             contacts: GatheredContacts::new(alloc),
             ranges: GatheredRanges::new(alloc),
-            reference: None,
+            reference: Reference::new(),
             start_day: KnownDay::new(),
             end_day: KnownDay::new(),
         }
@@ -109,7 +110,12 @@ impl<A: Allocator + Copy> PlanReading<A> {
         ensures same { self.new ≡ self.old }
         ensures value { IfSome result (λ r. BeginsWithLine (λ line. line_command self.old.reference line ≡ Ok r.0) text.now r.1.now) }
     {
-        swift_addition(self.reference, &mut self.start_day, &mut self.end_day, text)
+        swift_addition(
+            &self.reference,
+            &mut self.start_day,
+            &mut self.end_day,
+            text,
+        )
     }
 
     /// Reads a line without its LF, and does what it says.
@@ -119,7 +125,7 @@ impl<A: Allocator + Copy> PlanReading<A> {
     pub fn judge(&mut self, line: &[u8]) -> Result<(), PlanKind>
         ensures { Leaves (judged self.old line.now) result self.new }
     {
-        let command = line_command(self.reference, line)?;
+        let command = line_command(&self.reference, line)?;
         self.obey(command)
     }
 
@@ -143,7 +149,7 @@ impl<A: Allocator + Copy> PlanReading<A> {
         match command {
             Command::Nothing => Ok(()),
             Command::SetReference(time) => {
-                self.reference = Some(time);
+                self.reference = Reference::at(time);
                 Ok(())
             }
             Command::Add(Target::Contact, a) => self.add_contact(a),

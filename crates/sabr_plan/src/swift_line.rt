@@ -11,7 +11,7 @@ use crate::command::{Addition, Command, Target};
 use crate::eight_digits::first_eight;
 use crate::known_day::KnownDay;
 use crate::number::{leading_digits, leading_number};
-use crate::operand::{after_reference, greatest_value};
+use crate::operand::{Reference, greatest_value};
 use crate::words::is_blank;
 
 /// The bytes of an absolute time.
@@ -37,23 +37,11 @@ fn behind(text: &[u8], byte: u8) -> Option<&[u8]>
     Some(&text[1..])
 }
 
-/// Returns a text from its first byte on that is no blank.
-#[inline(always)]
-fn after_blanks(text: &[u8]) -> &[u8]
-    requires { IsFalse (is_one_line text.now) }
-    ensures blanks { IsAfterBlanks text.now result.now }
-    ensures ended { IsFalse (is_one_line result.now) }
-{
-    if text[0] > b' ' {
-        return text;
-    }
-    after_all_blanks(text)
-}
-
-/// The same. It is kept apart, since most lines have no blanks but one space before each word.
+/// Returns a text from its first byte on that is no blank. It is kept apart, since most lines have no blanks but one space
+/// before each word.
 #[cold]
 #[inline(never)]
-fn after_all_blanks(text: &[u8]) -> &[u8]
+fn after_blanks(text: &[u8]) -> &[u8]
     requires { IsFalse (is_one_line text.now) }
     ensures blanks { IsAfterBlanks text.now result.now }
     ensures ended { IsFalse (is_one_line result.now) }
@@ -74,35 +62,30 @@ fn after_end(text: &[u8]) -> Option<&[u8]>
     if text[0] == b'\n' {
         return Some(&text[1..]);
     }
-    let end = after_all_blanks(text);
+    let end = after_blanks(text);
     if end[0] != b'\n' {
         return None;
     }
     Some(&end[1..])
 }
 
-/// Returns what comes after the blank at the front of a text, if there is one.
-#[inline(always)]
-fn after_blank(text: &[u8]) -> Option<&[u8]>
-    requires { IsFalse (is_one_line text.now) }
-    ensures gap { IfSome result (λ r. IsAfterGap text.now r.now) }
-    ensures ended { IfSome result (λ r. IsFalse (is_one_line r.now)) }
-{
-    if !is_blank(text[0]) {
-        return None;
-    }
-    Some(&text[1..])
-}
-
 /// Returns what comes after the blanks at the front of a text, if there is one.
 #[inline(always)]
-#[tactic(auto, using(crate::proofs::PlainWords::more_blanks))]
 fn after_gap(text: &[u8]) -> Option<&[u8]>
     requires { IsFalse (is_one_line text.now) }
     ensures gap { IfSome result (λ r. IsAfterGap text.now r.now) }
     ensures ended { IfSome result (λ r. IsFalse (is_one_line r.now)) }
 {
-    Some(after_blanks(after_blank(text)?))
+    if let Some(start) = behind(text, b' ') {
+        if start[0] > b' ' {
+            return Some(start);
+        }
+    }
+    let start = after_blanks(text);
+    if start.len() == text.len() {
+        return None;
+    }
+    Some(start)
 }
 
 /// Reads a number at the front of a text, after blanks. Returns the number and the text after it.
@@ -118,15 +101,15 @@ fn number_ahead(low: u64, high: u64, text: &[u8]) -> Option<(u64, &[u8])>
 
 /// Reads a relative time at the front of a text. Returns the time and the text after it.
 #[inline(always)]
-fn relative_front(reference: Option<u64>, text: &[u8]) -> Option<(u64, &[u8])>
+fn relative_front<'a>(reference: &Reference, text: &'a [u8]) -> Option<(u64, &'a [u8])>
     requires { IsFalse (is_one_line text.now) }
-    ensures { IfSome result (λ r. IsFront (λ w. time_at reference w ≡ Ok r.0) text.now r.1.now) }
+    ensures { IfSome result (λ r. IsFront (λ w. time_at reference.now w ≡ Ok r.0) text.now r.1.now) }
 {
     let (seconds, digits, rest) = leading_digits(behind(text, b'+')?);
     if digits.is_empty() || digits.len() > 12 {
         return None;
     }
-    let Ok(time) = after_reference(reference, seconds) else {
+    let Ok(time) = reference.after(seconds) else {
         return None;
     };
     Some((time, rest))
@@ -135,12 +118,12 @@ fn relative_front(reference: Option<u64>, text: &[u8]) -> Option<(u64, &[u8])>
 /// Reads a time at the front of a text. Returns the time and the text after it.
 #[inline(always)]
 fn time_front<'a>(
-    reference: Option<u64>,
+    reference: &Reference,
     day: &mut KnownDay,
     text: &'a [u8],
 ) -> Option<(u64, &'a [u8])>
     requires { IsFalse (is_one_line text.now) }
-    ensures { IfSome result (λ r. IsFront (λ w. time_at reference w ≡ Ok r.0) text.now r.1.now) }
+    ensures { IfSome result (λ r. IsFront (λ w. time_at reference.now w ≡ Ok r.0) text.now r.1.now) }
 {
     if text[0] == b'+' {
         return relative_front(reference, text);
@@ -156,20 +139,15 @@ fn time_front<'a>(
 /// Reads a time at the front of a text, after blanks. Returns the time and the text after it.
 #[inline(always)]
 fn time_ahead<'a>(
-    reference: Option<u64>,
+    reference: &Reference,
     day: &mut KnownDay,
     text: &'a [u8],
 ) -> Option<(u64, &'a [u8])>
     requires { IsFalse (is_one_line text.now) }
-    ensures word { IfSome result (λ r. IsAhead (λ w. time_at reference w ≡ Ok r.0) text.now r.1.now) }
+    ensures word { IfSome result (λ r. IsAhead (λ w. time_at reference.now w ≡ Ok r.0) text.now r.1.now) }
     ensures ended { IfSome result (λ r. IsFalse (is_one_line r.1.now)) }
 {
-    let start = after_blank(text)?;
-    if start[0] == b'+' {
-        let (time, rest) = relative_front(reference, start)?;
-        return Some((time, rest));
-    }
-    let (time, rest) = time_front(reference, day, after_blanks(start))?;
+    let (time, rest) = time_front(reference, day, after_gap(text)?)?;
     Some((time, rest))
 }
 
@@ -209,13 +187,13 @@ fn target_ahead(line: &[u8]) -> Option<(Target, &[u8])>
 /// LF. None says nothing.
 #[inline(always)]
 pub fn swift_addition<'a>(
-    reference: Option<u64>,
+    reference: &Reference,
     start_day: &mut KnownDay,
     end_day: &mut KnownDay,
     text: &'a [u8],
 ) -> Option<(Command, &'a [u8])>
     requires { IsFalse (is_one_line text.now) }
-    ensures { IfSome result (λ r. BeginsWithLine (λ line. line_command reference line ≡ Ok r.0) text.now r.1.now) }
+    ensures { IfSome result (λ r. BeginsWithLine (λ line. line_command reference.now line ≡ Ok r.0) text.now r.1.now) }
 {
     let (target, rest) = target_ahead(text)?;
     let (start, rest) = time_ahead(reference, start_day, rest)?;

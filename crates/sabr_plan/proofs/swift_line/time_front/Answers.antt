@@ -6,7 +6,7 @@ use Rattle.sabr_plan.proofs.swift_line.time_front.Goals as goal
 
 pub returns : goal.returns
 returns c =
-    let reference = c.args.reference in
+    let reference = c.args.reference.now in
     let h = c.in_ok-time.ensures in
     record {
       word = _;
