@@ -1,21 +1,13 @@
 -- The tree that stands for a state.
 pub mod ModifiedPlaces
-pub mod SingleUndos
 pub mod TestBoundaries
 pub mod ListFronts
 pub mod IndexOrder
-pub mod NumberBlocks
-pub mod UndoneTakes
-pub mod NodePlaces
 pub mod SlotWinners
 pub mod Excluding
-pub mod CutRoutes
-pub mod FirstFound
 pub mod CarryingNodes
 pub mod IndexedNodes
 pub mod DividedStates
 pub mod SoundSteps
-pub mod MovedFronts
-pub mod GivenLeast
 pub mod FirstTrees
 pub mod MergedIndex

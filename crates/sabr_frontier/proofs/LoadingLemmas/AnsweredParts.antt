@@ -1,6 +1,6 @@
 -- What is held stays in order and answered when a part is added after the others. It is paid if and only if the parts
--- are closed.
-use Rattle.std.proofs.Common.{◌≡◌, ℕ, zero, suc, ◌+◌, ◌-◌, ◌<◌, Bool, true, false, not, ◌&&◌, nat_lt, List, [], ◌∷◌, ◌++◌, map, flat_map, reverse, if◌then◌else◌, ◌≤◌, length, take, drop, refl, sym, ap, subst, ◌∙◌, ◌⊎◌, inl, inr, arith, true≢false, Option, Some, None, length-append, length-take-le, take-append-drop}
+-- are closed. When a part is refused, and how.
+use Rattle.std.proofs.Common.{◌≡◌, ℕ, zero, suc, ◌+◌, ◌-◌, ◌<◌, Bool, true, false, not, ◌&&◌, nat_lt, List, [], ◌∷◌, ◌++◌, map, flat_map, reverse, if◌then◌else◌, ◌≤◌, length, take, refl, sym, ap, subst, ◌∙◌, ◌⊎◌, inl, inr, arith, true≢false, Option, Some, None, length-append, length-take-le, append-nil, cond}
 use Rattle.std.specs.Prelude.{◌==◌, slice_get}
 use Rattle.std.specs.Option.{option_map, option_map_or}
 use Rattle.std.specs.Ordering.{nat_cmp, is_lt, is_eq}
@@ -12,7 +12,7 @@ use Rattle.std.proofs.lemmas.List.{reverse-append, reverse-reverse, length-rever
 use Rattle.std.proofs.lemmas.Option.{slice_get-map}
 use Rattle.std.proofs.lemmas.Grind.{flat_map-append}
 use Rattle.sabr_model.specs.Order.{by_numbers, same_numbers, numbers_before}
-use Rattle.sabr_model.specs.plan.Plan.{ContactPlan, rises_above}
+use Rattle.sabr_model.specs.plan.Plan.{ContactPlan, rises_above, TabledPlan}
 use Rattle.sabr_model.specs.routes.Arrival.{RouteRequest}
 use Rattle.sabr_model.specs.routes.Route.{is_path, is_prefix, is_route}
 use Rattle.sabr_model.specs.routes.Parts.{goes_on}
@@ -26,20 +26,23 @@ use Rattle.sabr_frontier.specs.listing.State.{PartState, pair_of, Member, leaves
 use Rattle.sabr_frontier.specs.listing.Formed.{IsClosed, InOrder, Within}
 use Rattle.sabr_frontier.specs.listing.Owing.{Owing, onward, IsGood, Owes}
 use Rattle.sabr_frontier.specs.loading.Leading.{AreOwed, AreSteps, IsLead, prefix_owed, step_of}
-use Rattle.sabr_frontier.specs.loading.Loading.{comes_after, may_carry, rise_strictly}
+use Rattle.sabr_frontier.specs.loading.Loading.{comes_after, may_carry, rise_strictly, IsCarryFault, Loaded, refusal_by}
 use Rattle.sabr_frontier.specs.tree.Shape.{numbers_of}
 use Rattle.sabr_frontier.specs.tree.Undo.{last_item, front}
-use Rattle.sabr_frontier.specs.loading.Holding.{Holding, AreLent, IsAnswered, IsHeld, IsJudged, IsVerdict, held_then, is_due, is_least, is_paid, node_for, nothing_held, owed_in, owing, pairs_in, part_for, parts_in, parts_of}
+use Rattle.sabr_frontier.specs.loading.Holding.{Holding, AreLent, IsAnswered, IsHeld, IsJudged, IsVerdict, held_then, is_due, is_least, is_paid, node_for, nothing_held, owed_in, owing, pairs_in, part_for, parts_in, parts_of, holding_of, loaded}
 use Rattle.sabr_frontier.proofs.ListingLemmas.Rising.{Below-lower}
 use Rattle.sabr_frontier.specs.tree.Queue.{InPairs}
-use Rattle.sabr_frontier.proofs.ListingLemmas.ListMembers.{Member-append_left, Member-append_right, Member-append_cases, Below-member}
+use Rattle.sabr_frontier.proofs.ListingLemmas.ListMembers.{Member-append_right, Member-append_cases, Below-member}
 use Rattle.sabr_frontier.proofs.ListingLemmas.OwedPrefixes.{Owes-push, Owes-front, Owes-one, owes_closed, closed_owes}
 use Rattle.sabr_frontier.proofs.ListingLemmas.AllRoutes.{goes_on_within}
-use Rattle.sabr_frontier.proofs.TreeLemmas.NodePlaces.{last_split}
+use Rattle.sabr_frontier.proofs.TreeLemmas.ModifiedPlaces.{get_Member, last_split, member_taken, no_last, pair_across, pairs_front}
 use Rattle.sabr_frontier.proofs.TreeLemmas.IndexOrder.{less_from_test}
 use Rattle.sabr_frontier.proofs.ListingLemmas.Paths.{prefix_no_route}
-use Rattle.sabr_frontier.proofs.TreeLemmas.NodePlaces.{no_last}
+use Rattle.sabr_frontier.proofs.TreeLemmas.DividedStates.{numbers_back, told_back}
 use Rattle.sabr_model.proofs.ListLemmas.Apart.{same_numbers_tell}
+use Rattle.sabr_frontier.specs.declared.loader.load_fault.LoadFault.{LoadFault}
+use Rattle.sabr_frontier.specs.declared.loader.load_fault.LoadFault.TheVariants.{BadOrder, BadRoute, NotClosed, BadCount, NoMemory}
+use Rattle.sabr_frontier.specs.declared.loader.held.Held.{Held}
 
 -- ---- order
 
@@ -85,8 +88,7 @@ order_more parts t h strictly after = record {
     keys parts = map (λ (e : List ℕ × List ℕ). e.0) (map pair_of parts)
 
     keys_more : (F : List PartState) (z : PartState) → keys (F ++ z ∷ []) ≡ keys F ++ z.prefix ∷ []
-    keys_more [] z = refl
-    keys_more (y ∷ F) z = ap (λ k. y.prefix ∷ k) (keys_more F z)
+    keys_more F z = simp map-append
 
     rising : Rises by_numbers (keys parts ++ t.prefix ∷ [])
     rising = elim (last_item parts) as (λ o. last_item parts ≡ o → option_map_or (λ (z : PartState). numbers_before z.prefix t.prefix) o true ≡ true → Rises by_numbers (keys parts ++ t.prefix ∷ [])) [
@@ -117,21 +119,21 @@ lent_push route c (p ∷ qs) (m ∷ ns) q n h leaf len = (
       (omega (arith, leaf, length-append (leaves_of route (p, m.excluded)) (flat_map (leaves_of route) (map pair_of (parts_of qs ns))))) len,
 )
 
+pub parts_length : {A : Type 0} (qs : List (List ℕ)) (ns : List (Node A)) → length qs ≡ length ns → length (parts_of qs ns) ≡ length ns
+parts_length [] [] e = refl
+parts_length [] (n ∷ ns) e = absurd (omega (arith, e))
+parts_length (x ∷ qs) [] e = absurd (omega (arith, e))
+parts_length (x ∷ qs) (n ∷ ns) e = ap suc (parts_length qs ns (omega (arith, e)))
+
 no_parts : {A : Type 0} (h : Holding A) → length h.prefixes ≡ length h.nodes → length h.nodes ≡ 0 → parts_in h ≡ []
-no_parts h e none = at h.prefixes (omega (arith, e, none))
-  where
-    at : (qs : List (List ℕ)) → length qs ≡ 0 → parts_of qs h.nodes ≡ []
-    at [] l = refl
-    at (q ∷ qs) l = absurd (omega (arith, l))
+no_parts h e none = nil_from_length (parts_in h) (parts_length h.prefixes h.nodes e ∙ none)
+
+some_first : {X : Type 0} (xs : List X) → 0 < length xs → (x : X) × (ys : List X) × (xs ≡ x ∷ ys)
+some_first [] l = absurd (omega arith)
+some_first (x ∷ xs) l = (x, xs, refl)
 
 some_part : {A : Type 0} (h : Holding A) → length h.prefixes ≡ length h.nodes → 0 < length h.nodes → (t : PartState) × (ts : List PartState) × (parts_in h ≡ t ∷ ts)
-some_part h e some = at h.prefixes h.nodes e some
-  where
-    at : {A : Type 0} (qs : List (List ℕ)) (ns : List (Node A)) → length qs ≡ length ns → 0 < length ns → (t : PartState) × (ts : List PartState) × (parts_of qs ns ≡ t ∷ ts)
-    at [] [] l s = absurd (omega arith)
-    at [] (n ∷ ns) l s = absurd (omega (arith, l))
-    at (q ∷ qs) [] l s = absurd (omega (arith, l))
-    at (q ∷ qs) (n ∷ ns) l s = (part_for q n, parts_of qs ns, refl)
+some_part h e some = some_first (parts_in h) (omega (arith, parts_length h.prefixes h.nodes e, some))
 
 zero_or_more : (n : ℕ) → (n ≡ 0) ⊎ (0 < n)
 zero_or_more zero = inl refl
@@ -144,10 +146,10 @@ more_test : (n : ℕ) → 0 < n → (n == 0) ≡ false
 more_test n l = grind (arith, nat_tests)
 
 test_zero : (n : ℕ) → (n == 0) ≡ true → n ≡ 0
-test_zero n h = elim (zero_or_more n) [ inl e ↦ e | inr l ↦ absurd (true≢false (sym h ∙ more_test n l)) ]
+test_zero n h = grind (arith, nat_tests)
 
 test_more : (n : ℕ) → (n == 0) ≡ false → 0 < n
-test_more n h = elim (zero_or_more n) [ inl e ↦ absurd (true≢false (sym (zero_test n e) ∙ h)) | inr l ↦ l ]
+test_more n h = grind (arith, nat_tests)
 
 same_itself : (q : List ℕ) → same_numbers q q ≡ true
 same_itself q = ap is_eq (Rattle.std.proofs.lemmas.Cmp.tied_itself nat_list_cmp_total q)
@@ -190,9 +192,6 @@ first_due h q rest paired first o = elim (zero_or_more (length h.nodes)) [
 
 -- ---- the prefixes of those that are kept
 
-pub is_member_last : {X : Type 0} (os : List X) (o : X) → last_item os ≡ Some o → Member o os
-is_member_last os o e = subst (Member o) (sym (last_split os o e)) (Member-append_right o (front os) (o ∷ []) (inl refl))
-
 last_of_map : {X Y : Type 0} (f : X → Y) (os : List X) → last_item (map f os) ≡ option_map f (last_item os)
 last_of_map f os = ap (λ n. slice_get (map f os) (n - 1)) (length-map os f) ∙ slice_get-map f os (length os - 1)
 
@@ -224,12 +223,7 @@ pairs_two Q (x ∷ xs) ys h k f = (
 )
 
 pairs_of_last : {X : Type 0} (Q : X → X → Type 0) (xs : List X) (y : X) → InPairs Q (xs ++ y ∷ []) → ((x : X) → Member x xs → Q x y) × InPairs Q xs
-pairs_of_last Q [] y h = (λ x m. absurd m, tt)
-pairs_of_last Q (x ∷ xs) y h =
-    let w = pairs_of_last Q xs y h.1 in (
-      (λ z m. elim m [ inl e ↦ subst (λ z. Q z y) (sym e) (h.0 y (Member-append_right y xs (y ∷ []) (inl refl))) | inr k ↦ w.0 z k ]),
-      ((λ z m. h.0 z (Member-append_left z xs (y ∷ []) m)), w.1),
-    )
+pairs_of_last Q xs y h = ((λ x m. pair_across Q xs (y ∷ []) x y h m (inl refl)), pairs_front Q xs (y ∷ []) h)
 
 pairs_of_all : {X : Type 0} (Q : X → X → Type 0) (xs : List X) → ((x y : X) → Member x xs → Member y xs → Q x y) → InPairs Q xs
 pairs_of_all Q [] h = tt
@@ -260,7 +254,7 @@ module _ {A : Type 0} (p : ContactPlan) (r : RouteRequest) (h : Holding A) (q : 
         let is : q ≡ take o.length h.last ++ o.number ∷ [] = same_numbers_tell q (prefix_owed h.last o) (sym (least_is h q o e) ∙ due) in
         let all : h.owed ≡ front h.owed ++ o ∷ [] = last_split h.owed o e in
         let w = pairs_of_last (λ (a b : Owed). a.length ≤ b.length) (front h.owed) o (subst (InPairs (λ (a b : Owed). a.length ≤ b.length)) all owed.nested) in
-        let most : o.length ≤ length h.last = owed.within o (is_member_last h.owed o e) in
+        let most : o.length ≤ length h.last = owed.within o (get_Member h.owed (length h.owed - 1) o e) in
         let front_long : length (take o.length h.last) ≡ o.length = length-take-le o.length h.last most in
         record {
           same = λ x m.
@@ -278,7 +272,7 @@ module _ {A : Type 0} (p : ContactPlan) (r : RouteRequest) (h : Holding A) (q : 
   owed_more : (steps : List Owed) → AreSteps p r q steps → AreOwed p r q (front h.owed ++ reverse steps)
   owed_more steps new = record {
     leads = λ o m. elim (Member-append_cases o (front h.owed) (reverse steps) m) [
-      | inl k ↦ subst (λ z. IsLead p r z o.lead) (sym (stay.same o k)) (owed.leads o (front_member o k))
+      | inl k ↦ subst (λ z. IsLead p r z o.lead) (sym (stay.same o k)) (owed.leads o (member_taken (length h.owed - 1) o h.owed k))
       | inr k ↦ let w = new o (Member-reverse o steps k) in subst (λ z. IsLead p r z o.lead) (sym (step_is o w.0)) w.1
     ];
     within = λ o m. elim (Member-append_cases o (front h.owed) (reverse steps) m) [
@@ -289,9 +283,6 @@ module _ {A : Type 0} (p : ContactPlan) (r : RouteRequest) (h : Holding A) (q : 
         (pairs_of_all (λ (a b : Owed). a.length ≤ b.length) (reverse steps) (λ a b m k. omega (arith, (new a (Member-reverse a steps m)).0, (new b (Member-reverse b steps k)).0)))
         (λ a b m k. omega (arith, stay.within a m, (new b (Member-reverse b steps k)).0));
   }
-    where
-      front_member : (o : Owed) → Member o (front h.owed) → Member o h.owed
-      front_member o m = subst (Member o) (take-append-drop (length h.owed - 1) h.owed) (Member-append_left o (front h.owed) (drop (length h.owed - 1) h.owed) m)
 
   prefixes_more : (steps : List Owed) → AreSteps p r q steps → map (prefix_owed q) (front h.owed ++ reverse steps) ≡ front (owed_in h) ++ reverse (map (step_of q) steps)
   prefixes_more steps new = map-append (prefix_owed q) (front h.owed) (reverse steps)
@@ -321,10 +312,6 @@ module _ (p : ContactPlan) (r : RouteRequest) where
       pairs_more : map pair_of (parts_of (h.prefixes ++ q ∷ []) (h.nodes ++ n ∷ [])) ≡ pairs_in h ++ e ∷ []
       pairs_more = ap (map pair_of) more ∙ map-append pair_of (parts_in h) (part_for q n ∷ [])
 
-      not_empty : (parts : List PartState) (t : PartState) → parts ++ t ∷ [] ≡ [] → ⊥
-      not_empty [] t k = cc
-      not_empty (u ∷ parts) t k = cc
-
       owing_more : (parts : List PartState) (t : PartState) (owed : List (List ℕ)) → owing (parts ++ t ∷ []) owed ≡ reverse owed
       owing_more [] t owed = refl
       owing_more (u ∷ parts) t owed = refl
@@ -335,10 +322,10 @@ module _ (p : ContactPlan) (r : RouteRequest) where
             (Owes-push route path (pairs_in h) ([] ∷ []) (owing (parts_in h) (owed_in h)) (owing parts (map (prefix_owed q) owed)) e a.owes
             (reverse (front (owed_in h)), due_first h q held.paired a.first due, good, sym owed_now));
         leaves = (λ i. a.leaves i ++ judged.leaves_are i) ∙ sym (map-append (record_of p r) (flat_map (leaves_of route) (pairs_in h)) (leaves_of route e))
-            ∙ ap (map (record_of p r)) (ap (λ z. flat_map (leaves_of route) (pairs_in h) ++ z) (sym (append_none (leaves_of route e))) ∙ sym (flat_map-append (leaves_of route) (pairs_in h) (e ∷ [])) ∙ ap (flat_map (leaves_of route)) (sym pairs_more));
+            ∙ ap (map (record_of p r)) (ap (λ z. flat_map (leaves_of route) (pairs_in h) ++ z) (sym (append-nil (leaves_of route e))) ∙ sym (flat_map-append (leaves_of route) (pairs_in h) (e ∷ [])) ∙ ap (flat_map (leaves_of route)) (sym pairs_more));
         lent = lent_push route 0 h.prefixes h.nodes q n a.lent (let k = ap (length {A = RouteRecord}) a.leaves ∙ length-map (flat_map (leaves_of route) (pairs_in h)) (record_of p r) in omega (arith, k)) refl;
         owed = owed_more p r h q due a.owed j.onward.items judged.steps;
-        first = λ k. absurd (not_empty (parts_in h) (part_for q n) (sym more ∙ k));
+        first = λ k. absurd (omega (arith, ap (length {A = PartState}) (sym more ∙ k), length-append (parts_in h) (part_for q n ∷ [])));
       }
         where
           parts : List PartState
@@ -346,10 +333,6 @@ module _ (p : ContactPlan) (r : RouteRequest) where
 
           owed : List Owed
           owed = front h.owed ++ reverse j.onward.items
-
-          append_none : (xs : List (List ℕ)) → xs ++ [] ≡ xs
-          append_none [] = refl
-          append_none (x ∷ xs) = ap (λ z. x ∷ z) (append_none xs)
 
           owed_now : owing parts (map (prefix_owed q) owed) ≡ onward route path e ++ reverse (front (owed_in h))
           owed_now = ap (λ z. owing z (map (prefix_owed q) owed)) more ∙ owing_more (parts_in h) (part_for q n) (map (prefix_owed q) owed) ∙ ap reverse (prefixes_more p r h q due a.owed j.onward.items judged.steps)
@@ -366,14 +349,10 @@ module _ (p : ContactPlan) (r : RouteRequest) where
             | inr k ↦ held.broken k w.0 w.1
           ]
 
-      numbers_back : (o : Option (List ℕ)) → option_map numbers_of (option_map (record_of p r) o) ≡ o
-      numbers_back None = refl
-      numbers_back (Some s) = refl
-
       -- the parts then
       pub parts_then : (j : Option (Judged A)) → parts_in (held_then h q X kept j) ≡ parts_in h ++ record { prefix = q; excluded = X; carried = carried } ∷ []
-      parts_then None = more ∙ ap (λ (o : Option (List ℕ)). parts_in h ++ record { prefix = q; excluded = X; carried = o } ∷ []) (ap (option_map numbers_of) is ∙ numbers_back carried)
-      parts_then (Some j) = more ∙ ap (λ (o : Option (List ℕ)). parts_in h ++ record { prefix = q; excluded = X; carried = o } ∷ []) (ap (option_map numbers_of) is ∙ numbers_back carried)
+      parts_then None = more ∙ ap (λ (o : Option (List ℕ)). parts_in h ++ record { prefix = q; excluded = X; carried = o } ∷ []) (ap (option_map numbers_of) is ∙ numbers_back p r carried)
+      parts_then (Some j) = more ∙ ap (λ (o : Option (List ℕ)). parts_in h ++ record { prefix = q; excluded = X; carried = o } ∷ []) (ap (option_map numbers_of) is ∙ numbers_back p r carried)
 
       carried_in : may_carry p r (record { prefix = q; excluded = X; carried = carried }) ≡ true → (s : List ℕ) → carried ≡ Some s → (route s ≡ true) × Within q X s
       carried_in may s k =
@@ -392,7 +371,7 @@ module _ (p : ContactPlan) (r : RouteRequest) where
           | inl a ↦ held.carried t s a k
           | inr a ↦ elim a [
             | inl same ↦
-                let c : carried ≡ Some s = sym (numbers_back carried) ∙ ap (option_map numbers_of) (sym is) ∙ sym (ap (λ (z : PartState). z.carried) same) ∙ k in
+                let c : carried ≡ Some s = sym (numbers_back p r carried) ∙ ap (option_map numbers_of) (sym is) ∙ sym (ap (λ (z : PartState). z.carried) same) ∙ k in
                 subst (λ (z : PartState). (route s ≡ true) × Within z.prefix z.excluded s) (sym same) (carried_in may s c)
             | inr z ↦ absurd z
           ]
@@ -402,14 +381,10 @@ module _ (p : ContactPlan) (r : RouteRequest) where
         last_then = Rattle.sabr_frontier.proofs.TreeLemmas.ModifiedPlaces.last_item_push (h.prefixes ++ q ∷ []) h.prefixes q refl
             ∙ sym (ap (λ b. if b then None else Some q) (more_test (length (h.nodes ++ n ∷ [])) (omega (arith, length-append h.nodes (n ∷ [])))))
 
-        told : (o : Option (List ℕ)) (x : RouteRecord) → option_map (record_of p r) o ≡ Some x → x ≡ record_of p r x.contacts
-        told None x k = absurd cc
-        told (Some s) x k = let same : record_of p r s ≡ x = cc in sym same ∙ ap (λ (z : RouteRecord). record_of p r z.contacts) same
-
         records_then : (m : Node A) (x : RouteRecord) → Member m (h.nodes ++ n ∷ []) → m.route ≡ Some x → x ≡ record_of p r x.contacts
         records_then m x k a = elim (Member-append_cases m h.nodes (n ∷ []) k) [
           | inl b ↦ held.records m x b a
-          | inr b ↦ elim b [ inl same ↦ told carried x (sym is ∙ sym (ap (λ (z : Node A). z.route) same) ∙ a) | inr z ↦ absurd z ]
+          | inr b ↦ elim b [ inl same ↦ told_back p r carried x (sym is ∙ sym (ap (λ (z : Node A). z.route) same) ∙ a) | inr z ↦ absurd z ]
         ]
 
         pub held_more : (j : Option (Judged A)) → IsVerdict p r h e j → IsHeld p r (held_then h q X kept j)
@@ -451,16 +426,12 @@ module _ (p : ContactPlan) (r : RouteRequest) where
     -- ---- the end
 
     module _ (h : Holding A) (held : IsHeld p r h) where
-      no_owed : (os : List Owed) → length os ≡ 0 → os ≡ []
-      no_owed [] l = refl
-      no_owed (o ∷ os) l = absurd (omega (arith, l))
-
       pub paid_owes : is_paid h ≡ true → Owes route path ([] ∷ []) (pairs_in h) []
       paid_owes paid =
           let w = and_parts h.sound (not (length h.nodes == 0) && (length h.owed == 0)) paid in
           let v = and_parts (not (length h.nodes == 0)) (length h.owed == 0) w.1 in
           let some = some_part h held.paired (test_more (length h.nodes) (Rattle.std.proofs.lemmas.Bool.not-true (length h.nodes == 0) v.0)) in
-          subst (Owes route path ([] ∷ []) (pairs_in h)) (ap (λ z. owing z (owed_in h)) some.2 ∙ ap (λ os. reverse (map (prefix_owed h.last) os)) (no_owed h.owed (test_zero (length h.owed) v.1))) (held.answered w.0).owes
+          subst (Owes route path ([] ∷ []) (pairs_in h)) (ap (λ z. owing z (owed_in h)) some.2 ∙ ap (λ os. reverse (map (prefix_owed h.last) os)) (nil_from_length h.owed (test_zero (length h.owed) v.1))) (held.answered w.0).owes
 
       pub paid_closed : is_paid h ≡ true → IsClosed route path (is_prefix p r) (pairs_in h)
       paid_closed paid = owes_closed route path (is_prefix p r) (empty_is_prefix p r) (prefix_goes_on p r) (prefix_no_route p r) (pairs_in h) (paid_owes paid)
@@ -481,3 +452,45 @@ module _ (p : ContactPlan) (r : RouteRequest) where
                   true≢false (sym ((λ i. k i && (not (more_test (length h.nodes) l i) && zero_test (length h.owed) empty i))) ∙ unpaid)
             ]
           ]
+
+-- ---- the last prefix
+
+module _ {A : Type 0} (q : List ℕ) where
+  part_there : (qs : List (List ℕ)) (ns : List (Node A)) (i : ℕ) → length qs ≡ length ns → option_map_or (λ z. numbers_before z q) (slice_get qs i) true ≡ option_map_or (λ (t : PartState). numbers_before t.prefix q) (slice_get (parts_of qs ns) i) true
+  part_there [] ns i e = refl
+  part_there (x ∷ qs) [] i e = absurd (omega (arith, e))
+  part_there (x ∷ qs) (n ∷ ns) zero e = refl
+  part_there (x ∷ qs) (n ∷ ns) (suc i) e = part_there qs ns i (omega (arith, e))
+
+  pub after_last : (qs : List (List ℕ)) (ns : List (Node A)) → length qs ≡ length ns → option_map_or (λ z. numbers_before z q) (last_item qs) true ≡ comes_after (parts_of qs ns) q
+  after_last qs ns e = part_there qs ns (length qs - 1) e ∙ ap (λ n. option_map_or (λ (t : PartState). numbers_before t.prefix q) (slice_get (parts_of qs ns) (n - 1)) true) (e ∙ sym (parts_length qs ns e))
+
+-- ---- how a part is refused
+
+abbrev is_next : {A : Type 0} → Held A → PartState → Bool
+is_next held t = rise_strictly t.excluded && comes_after (parts_in (holding_of held)) t.prefix
+
+module _ {A : Type 0} {plan : TabledPlan} {r : RouteRequest} (held : Held A) {calls : ℕ} {v : Loaded} (is : loaded plan r held calls ≡ v) (t : PartState) where
+  refusal_is : {first may : Bool} → is_next held t ≡ first → may_carry plan.plan r t ≡ may → refusal_by v t ≡ cond (not first) (Some BadOrder) (cond (not may) (Some BadRoute) None)
+  refusal_is h k = ap (λ w. refusal_by w t) (sym is) ∙ (λ i. cond (not (h i)) (Some BadOrder) (cond (not (k i)) (Some BadRoute) None))
+
+  pub order_refused : is_next held t ≡ false → refusal_by v t ≡ Some BadOrder
+  order_refused h = refusal_is h refl
+
+  pub not_refused : is_next held t ≡ true → may_carry plan.plan r t ≡ true → refusal_by v t ≡ None
+  not_refused h k = refusal_is h k
+
+  -- what is reported is the refusal
+  pub carry_told : is_next held t ≡ true → (a f : LoadFault) → IsCarryFault (may_carry plan.plan r t) a → refusal_by v t ≡ Some f → a ≡ f
+  carry_told h BadOrder f k e = absurd k
+  carry_told h BadRoute f k e = let both : Some BadRoute ≡ Some f = sym (refusal_is h k) ∙ e in cc
+  carry_told h NotClosed f k e = absurd k
+  carry_told h BadCount f k e = absurd k
+  carry_told h NoMemory f k e = let both : None ≡ Some f = sym (refusal_is h k) ∙ e in cc
+
+  pub carry_accepted : is_next held t ≡ true → (a : LoadFault) → IsCarryFault (may_carry plan.plan r t) a → refusal_by v t ≡ None → a ≡ NoMemory
+  carry_accepted h BadOrder k e = absurd k
+  carry_accepted h BadRoute k e = let both : Some BadRoute ≡ None = sym (refusal_is h k) ∙ e in cc
+  carry_accepted h NotClosed k e = absurd k
+  carry_accepted h BadCount k e = absurd k
+  carry_accepted h NoMemory k e = refl

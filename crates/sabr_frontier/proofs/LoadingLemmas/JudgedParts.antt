@@ -1,11 +1,11 @@
 -- What a prefix leads to with its excluded numbers, one number after another.
-use Rattle.std.proofs.Common.{◌≡◌, ℕ, zero, suc, ◌+◌, ◌<◌, true, false, cond, not, List, [], ◌∷◌, ◌++◌, map, filter, take, get_or, length, refl, sym, ap, subst, ◌∙◌, ◌⊎◌, inl, inr, arith, true≢false, Some, None}
+use Rattle.std.proofs.Common.{◌≡◌, ℕ, ◌+◌, ◌<◌, true, false, cond, not, List, [], ◌∷◌, ◌++◌, map, filter, take, get_or, length, refl, sym, ap, subst, ◌∙◌, ◌⊎◌, inl, inr, arith, true≢false, Some, None}
 use Rattle.std.proofs.lemmas.Bool.{or_cases}
 use Rattle.std.specs.Prelude.{IfOk, IfErr, IfSome, IfNone, Ok, Err, Result, Option, unwrap_or, ◌==◌}
-use Rattle.std.proofs.Math.Dec.{eqb-suc-zero}
+use Rattle.std.proofs.lemmas.Bool.Decides.{nat_tests}
 use Rattle.std.specs.Ordering.{nat_cmp}
 use Rattle.std.proofs.lemmas.Cmp.{nat_cmp_total}
-use Rattle.std.proofs.lemmas.List.{take_more, map-append}
+use Rattle.std.proofs.lemmas.List.{take_more, map-append, nil_from_length}
 use Rattle.std.proofs.lemmas.List.Elements.{filter-append}
 use Rattle.sabr_model.specs.declared.fault.HopFault.{HopFault}
 use Rattle.sabr_model.specs.declared.fault.HopFault.TheVariants.{WrongEnd}
@@ -27,6 +27,7 @@ use Rattle.sabr_frontier.specs.listing.Owing.{onward}
 use Rattle.sabr_frontier.specs.loading.Holding.{AllGoOn, Holding, IsJudged, IsVerdict, is_due, onward_of, routes_of}
 use Rattle.sabr_frontier.proofs.ListingLemmas.Rising.{has-append, has_itself}
 use Rattle.sabr_frontier.proofs.ListingLemmas.ClosedTrees.{Number_has, has_Number}
+use Rattle.sabr_frontier.proofs.TreeLemmas.ModifiedPlaces.{member_at}
 
 module _ (p : ContactPlan) (r : RouteRequest) where
   -- ---- one list of numbers
@@ -95,12 +96,7 @@ module _ (p : ContactPlan) (r : RouteRequest) where
 
   -- the number at a place is one of them
   pub number_in : (X : List ℕ) (i : ℕ) → i < length X → has nat_cmp (get_or X i 0) X ≡ true
-  number_in X i lt = Number_has (get_or X i 0) X (at X i lt)
-    where
-      at : (X : List ℕ) (i : ℕ) → i < length X → Rattle.sabr_frontier.specs.listing.State.Member (get_or X i 0) X
-      at [] i l = absurd (omega arith)
-      at (y ∷ X) zero l = inl refl
-      at (y ∷ X) (suc i) l = inr (at X i (omega (arith, l)))
+  number_in X i lt = Number_has (get_or X i 0) X (member_at X i 0 lt)
 
 -- ---- the verdict
 
@@ -109,8 +105,7 @@ some_number [] h = absurd (true≢false h)
 some_number (x ∷ X) h = (x, has_itself nat_cmp_total x X)
 
 pub empty_list : (q : List ℕ) → (length q == 0) ≡ true → q ≡ []
-empty_list [] h = refl
-empty_list (x ∷ q) h = absurd (true≢false (sym h ∙ eqb-suc-zero (length q)))
+empty_list q h = nil_from_length q (grind (arith, nat_tests))
 
 module _ {A : Type 0} (p : ContactPlan) (r : RouteRequest) (h : Holding A) (e : List ℕ × List ℕ) (due : is_due h e.0 ≡ true) (busy : (e.0 ≡ []) ⊎ ((x : ℕ) × (has nat_cmp x e.1 ≡ true))) where
   verdict_of : (o : Option (Judged A)) → IfSome o (λ j. AllGoOn p r e × IsJudged p r e j) → IfNone o (AllGoOn p r e → ⊥) → IsVerdict p r h e o

@@ -1,23 +1,113 @@
 -- Steps of a tree, one after another, and the trees before them.
-use Rattle.std.proofs.Common.{◌≡◌, ℕ, zero, suc, ◌+◌, ◌-◌, ◌<◌, ◌≤◌, Bool, true, false, not, reverse, ◌⊎◌, inl, inr, List, [], ◌∷◌, ◌++◌, map, length, refl, sym, ap, subst, ◌∙◌, arith, Some, None, append_assoc, append-nil}
+use Rattle.std.proofs.Common.{◌≡◌, ℕ, zero, suc, ◌+◌, ◌-◌, ◌<◌, ◌≤◌, Bool, true, false, not, reverse, ◌⊎◌, inl, inr, List, [], ◌∷◌, ◌++◌, map, length, refl, sym, ap, subst, ◌∙◌, arith, Some, None, append_assoc, append-nil, length-take, take, drop, Option, length-drop}
 use Rattle.sabr_model.specs.plan.Plan.{ContactPlan, IsPlan}
 use Rattle.sabr_model.specs.routes.Arrival.{RouteRequest}
 use Rattle.sabr_model.specs.routes.Record.{RouteRecord, record_of}
 use Rattle.sabr_frontier.specs.declared.tree.NodeId.{NodeId}
 use Rattle.sabr_frontier.specs.declared.tree.Node.{Node}
-use Rattle.sabr_frontier.specs.listing.State.{State}
+use Rattle.sabr_frontier.specs.listing.State.{State, PartState, Member}
 use Rattle.std.specs.Prelude.{is_some, IsTrue, IsFalse, slice_get}
-use Rattle.std.proofs.lemmas.List.{reverse-append}
+use Rattle.std.proofs.lemmas.List.{reverse-append, length_push}
 use Rattle.sabr_frontier.specs.listing.Listing.{one_step, next_route, given_first, steps, searches_for, searches_in}
-use Rattle.sabr_frontier.specs.tree.Shape.{Shape, shown}
-use Rattle.sabr_frontier.specs.tree.Undo.{CanUndoTimes, undone, undone_times}
-use Rattle.sabr_frontier.specs.tree.Taking.{divided}
-use Rattle.sabr_frontier.specs.tree.Winners.{CarriesNone, CarriesSome, IsLeast}
+use Rattle.sabr_frontier.specs.tree.Shape.{Shape, numbers_of, shown, part_at}
+use Rattle.sabr_frontier.specs.tree.Undo.{CanUndoTimes, undone, undone_times, CanUndo, undone_by}
+use Rattle.sabr_frontier.specs.tree.Asking.{Asked}
+use Rattle.sabr_frontier.specs.tree.Taking.{divided, IsTaken, fresh_nodes}
+use Rattle.sabr_frontier.specs.tree.Winners.{CarriesNone, CarriesSome, IsLeast, IsNext}
 use Rattle.sabr_frontier.specs.tree.Sound.{IsTree}
 use Rattle.sabr_frontier.specs.session.Session.{IsSoundFor, IsSound, tree_before, former_of}
-use Rattle.sabr_frontier.proofs.TreeLemmas.GivenLeast.{IsGiven, given_by, next_carried, nothing_carried, nothing_given, some_given}
-use Rattle.sabr_frontier.proofs.TreeLemmas.CarryingNodes.{searches_are}
-use Rattle.sabr_frontier.proofs.TreeLemmas.SingleUndos.{entries_undone}
+use Rattle.sabr_frontier.proofs.TreeLemmas.CarryingNodes.{IsKnown, searches_are, carried_at, inside, next_is, record_is}
+use Rattle.std.specs.Option.{option_map}
+use Rattle.sabr_model.specs.routes.Route.{is_route}
+use Rattle.sabr_model.specs.routes.Parts.{least_in}
+use Rattle.sabr_model.proofs.RouteLemmas.Listed.{key_total}
+use Rattle.sabr_model.proofs.RouteLemmas.Routes.{route_facts}
+use Rattle.sabr_frontier.specs.listing.Step.{step_of}
+use Rattle.sabr_frontier.proofs.ListingLemmas.ListMembers.{Member-map_cases}
+use Rattle.sabr_frontier.proofs.ListingLemmas.NextPlace.{least_carried_none}
+use Rattle.sabr_frontier.proofs.ListingLemmas.AllRoutes.{by_key_exact}
+use Rattle.sabr_frontier.proofs.TreeLemmas.SlotWinners.{standing_at}
+use Rattle.sabr_frontier.proofs.TreeLemmas.DividedStates.{shown_divided}
+use Rattle.sabr_frontier.proofs.TreeLemmas.SoundSteps.{tree_divided, undone_divided, can_undo}
+
+-- ---- what giving the least route that a node of a sound tree carries is
+
+length_fresh : (A : Type 0) (best : List ℕ → List ℕ → Option RouteRecord) (leaf : ℕ) (q rest : List ℕ) → length (fresh_nodes {A = A} best leaf q rest) ≡ length rest
+length_fresh A best leaf q [] = refl
+length_fresh A best leaf q (y ∷ rest) = ap suc (length_fresh A best leaf (q ++ y ∷ []) rest)
+
+pub new_nodes : (A : Type 0) (best : List ℕ → List ℕ → Option RouteRecord) (leaf : ℕ) (s : List ℕ) (d : ℕ) → d < length s → length (fresh_nodes {A = A} best leaf (take (d + 1) s) (drop (d + 1) s)) + 1 ≡ length s - d
+new_nodes A best leaf s d l = omega (arith, length_fresh A best leaf (take (d + 1) s) (drop (d + 1) s), length-drop (d + 1) s)
+
+-- a step from one tree to another is the step of the state, and can be undone
+pub record IsGiven {A : Type 0} (p : ContactPlan) (r : RouteRequest) (t u : Shape A) : Type 0 where
+  pub route : RouteRecord
+  pub next : next_route p r (shown t) ≡ Some route.contacts
+  pub told : route ≡ record_of p r route.contacts
+  pub stepped : one_step p r (shown t) ≡ Some (route.contacts, shown u)
+  pub sound : IsTree p r u
+  pub entries : length u.journal ≡ length t.journal + 1
+  pub few : searches_for (shown t) route.contacts ≤ r.max_hops
+  pub back : undone u ≡ t
+  pub can : CanUndo u
+
+module _ {A : Type 0} (p : ContactPlan) (r : RouteRequest) (good : IsPlan p) (t : Shape A) (is : IsTree p r t) where
+  module _ (node : NodeId) (n : Node A) (x : RouteRecord) (stands : slice_get t.nodes node.0 ≡ Some n) (carries : n.route ≡ Some x) (least : IsLeast t.nodes x) where
+    abbrev pub given_by : IsGiven p r t (divided p r t node n x)
+    given_by = record {
+      route = x;
+      next = next_is p r t is node n x stands carries least;
+      told = record_is p r t is node n x stands carries;
+      stepped = ap (step_of (is_route p r) (least_in p r) (shown t)) (next_is p r t is node n x stands carries least)
+          ∙ (λ i. Some (x.contacts, sym (shown_divided p r t is node n x stands carries) i));
+      sound = tree_divided p r good t is node n x stands carries;
+      entries = length_push t.journal _;
+      few = omega (arith, searches_are p r t is node n x stands carries, (route_facts p r x.contacts (inside p r t is node n x stands carries).0).within);
+      back = undone_divided p r good t is node n x stands carries;
+      can = can_undo p r good t is node n x stands carries;
+    }
+
+  pub is_given : (u : Shape A) (before after : List RouteRecord) (count : ℕ) → IsTaken p r t u before after count → (g : IsGiven p r t u) × (after ≡ before ++ g.route ∷ []) × (count ≡ searches_for (shown t) g.route.contacts)
+  is_given u before after count w =
+      let Q = λ (z : Shape A). (g : IsGiven p r t z) × (after ≡ before ++ g.route ∷ []) × (count ≡ searches_for (shown t) g.route.contacts) in
+      subst Q (sym w.shape) (given_by w.node w.part w.route w.stands w.carries w.least, w.given, w.counted ∙ sym (searches_are p r t is w.node w.part w.route w.stands w.carries))
+
+  -- where some node carries a route, a step can be made
+  pub some_given : CarriesSome t.nodes → (u : Shape A) × IsGiven p r t u
+  some_given (x, h) = let id = h.0 in let w = standing_at t.nodes id x h.1.carries in (divided p r t id w.0 x, given_by id w.0 x w.1 w.2 h.1.least)
+
+  pub next_carried : (x : RouteRecord) → IsNext t.nodes x → (next_route p r (shown t) ≡ Some x.contacts) × (x ≡ record_of p r x.contacts)
+  next_carried x h = let id = h.0 in let w = standing_at t.nodes id x h.1.carries in (next_is p r t is id w.0 x w.1 w.2 h.1.least, record_is p r t is id w.0 x w.1 w.2)
+
+  none_carried : CarriesNone t.nodes → (u : PartState) → Member u (shown t).parts → u.carried ≡ None
+  none_carried none u m =
+      let w = Member-map_cases (part_at t.leaves t.nodes) u t.index m in
+      ap (λ (z : PartState). z.carried) w.1 ∙ carried_at t.leaves (slice_get t.nodes w.0.0) ∙ ap (option_map numbers_of) (none w.0)
+
+  -- if no node carries a route, no part does
+  pub nothing_carried : CarriesNone t.nodes → next_route p r (shown t) ≡ None
+  nothing_carried none = least_carried_none (key_total p r) (by_key_exact p r) (shown t).parts (none_carried none)
+
+  pub nothing_given : CarriesNone t.nodes → one_step p r (shown t) ≡ None
+  nothing_given none = ap (step_of (is_route p r) (least_in p r) (shown t)) (nothing_carried none)
+
+-- ---- one undo of several
+
+abbrev pub entries : {A : Type 0} → Shape A → ℕ
+entries t = length t.journal
+
+pub entries_undone : {A : Type 0} (t : Shape A) → CanUndo t → 0 < entries t → entries (undone t) + 1 ≡ entries t
+entries_undone t c l =
+    let same : undone t ≡ undone_by t (Some c.entry) (Some c.route) = λ i. undone_by t (c.entry_is i) (c.route_is i) in
+    omega (arith, ap entries same, length-take (length t.journal - 1) t.journal)
+
+pub can_undo_first : {A : Type 0} (n : ℕ) (t : Shape A) → 0 < n → CanUndoTimes n t → CanUndo t × CanUndoTimes (n - 1) (undone t)
+can_undo_first zero t l h = absurd (omega arith)
+can_undo_first (suc n) t l h = let e : n ≡ suc n - 1 = omega arith in (h.0, subst (λ m. CanUndoTimes m (undone t)) e h.1)
+
+pub undone_first : {A : Type 0} (n : ℕ) (t : Shape A) → 0 < n → undone_times n t ≡ undone_times (n - 1) (undone t)
+undone_first zero t l = absurd (omega arith)
+undone_first (suc n) t l = let e : n ≡ suc n - 1 = omega arith in ap (λ m. undone_times m (undone t)) e
 
 pub steps_stop : (p : ContactPlan) (r : RouteRequest) (s : State) (k : ℕ) → one_step p r s ≡ None → steps p r k s ≡ ([], s)
 unfolding steps
@@ -98,28 +188,6 @@ one_on p r s all first before k t u given new g e h =
       entries = (let a = h.entries in let b = ap (λ (z : List (List ℕ) × State). length z.0) go in omega (arith, g.entries, a, b));
     }
 
--- what all steps gave
-pub record IsAllGiven {A : Type 0} (p : ContactPlan) (r : RouteRequest) (s : State) (all : ℕ) (first : Shape A) (before : List RouteRecord) (t : Shape A) (given : List RouteRecord) : Type 0 where
-  pub routes : given ≡ before ++ map (record_of p r) (steps p r all s).0
-  pub state : shown t ≡ (steps p r all s).1
-  pub entries : length t.journal ≡ length first.journal + length (steps p r all s).0
-
-pub at_last : {A : Type 0} (p : ContactPlan) (r : RouteRequest) (s : State) (all : ℕ) (first : Shape A) (before : List RouteRecord) (k : ℕ) (t : Shape A) (given : List RouteRecord)
-    → steps p r k (shown t) ≡ ([], shown t) → IsOnTheWay p r s all first before k t given → IsAllGiven p r s all first before t given
-at_last p r s all first before k t given e h = record {
-  routes = sym (append-nil given) ∙ ap (λ (z : List (List ℕ) × State). given ++ map (record_of p r) z.0) (sym e) ∙ h.routes;
-  state = ap (λ (z : List (List ℕ) × State). z.1) (sym e) ∙ h.state;
-  entries = (let a = h.entries in let b = ap (λ (z : List (List ℕ) × State). length z.0) e in omega (arith, a, b));
-}
-
--- if no part carries a route, the steps end
-pub at_end : {A : Type 0} (p : ContactPlan) (r : RouteRequest) (good : IsPlan p) (s : State) (all : ℕ) (first : Shape A) (before : List RouteRecord) (k : ℕ) (t : Shape A) (given : List RouteRecord)
-    → CarriesNone t.nodes → IsOnTheWay p r s all first before k t given → IsAllGiven p r s all first before t given
-at_end p r good s all first before k t given e h = at_last p r s all first before k t given (steps_stop p r (shown t) k (nothing_given p r good t (sound_tree p r (length t.journal) t h.sound) e)) h
-
-pub last_steps : (p : ContactPlan) (r : RouteRequest) (s : State) (k : ℕ) → k ≡ 0 → steps p r k s ≡ ([], s)
-last_steps p r s k e = ap (λ n. steps p r n s) e ∙ steps_none p r s
-
 -- ---- pages of a session
 
 module _ {A : Type 0} (p : ContactPlan) (r : RouteRequest) (good : IsPlan p) (t : Shape A) (sound : IsSound p r t) where
@@ -128,7 +196,7 @@ module _ {A : Type 0} (p : ContactPlan) (r : RouteRequest) (good : IsPlan p) (t 
 
   -- no step, or nothing carried: nothing is given
   pub idle : (k : ℕ) → (k ≡ 0) ⊎ CarriesNone t.nodes → steps p r k (shown t) ≡ ([], shown t)
-  idle k (inl e) = last_steps p r (shown t) k e
+  idle k (inl e) = ap (λ n. steps p r n (shown t)) e ∙ steps_none p r (shown t)
   idle k (inr e) = steps_stop p r (shown t) k (nothing_given p r good t tree_is e)
 
   -- a step, and something carried: a route is given
@@ -145,6 +213,23 @@ module _ {A : Type 0} (p : ContactPlan) (r : RouteRequest) (good : IsPlan p) (t 
   pub more_is : (b : Bool) → (IsTrue b → CarriesNone t.nodes) → (IsFalse b → CarriesSome t.nodes) → not b ≡ is_some (next_route p r (shown t))
   more_is true none some = sym (ap is_some (nothing_carried p r good t tree_is (none refl)))
   more_is false none some = let w = some refl in sym (ap is_some (next_carried p r good t tree_is w.0 w.1).0)
+
+-- what all steps gave
+pub record IsAllGiven {A : Type 0} (p : ContactPlan) (r : RouteRequest) (s : State) (all : ℕ) (first : Shape A) (before : List RouteRecord) (t : Shape A) (given : List RouteRecord) : Type 0 where
+  pub routes : given ≡ before ++ map (record_of p r) (steps p r all s).0
+  pub state : shown t ≡ (steps p r all s).1
+  pub entries : length t.journal ≡ length first.journal + length (steps p r all s).0
+
+-- the loop ends after all steps, or if no part carries a route
+pub at_end : {A : Type 0} {p : ContactPlan} {r : RouteRequest} {s : State} {all : ℕ} {first : Shape A} {before : List RouteRecord} {k : ℕ} {t : Shape A} {given : List RouteRecord} → IsPlan p
+    → IsOnTheWay p r s all first before k t given → (k ≡ 0) ⊎ CarriesNone t.nodes → IsAllGiven p r s all first before t given
+at_end {p = p} {r = r} {k = k} {t = t} {given = given} good h none =
+    let e = idle p r good t h.sound k none in
+    record {
+      routes = sym (append-nil given) ∙ ap (λ (z : List (List ℕ) × State). given ++ map (record_of p r) z.0) (sym e) ∙ h.routes;
+      state = ap (λ (z : List (List ℕ) × State). z.1) (sym e) ∙ h.state;
+      entries = (let a = h.entries in let b = ap (λ (z : List (List ℕ) × State). length z.0) e in omega (arith, a, b));
+    }
 
 pub length-former : {A : Type 0} (ss : List ℕ) (t : Shape A) → length (former_of ss t) ≡ length ss
 length-former [] t = refl
@@ -213,3 +298,9 @@ counts_one p r good t is id n x stands carries least =
     let u = divided p r t id n x in
     let go = counts_go p r (shown t) (shown u) x.contacts 0 (given_by p r good t is id n x stands carries least).stepped in
     omega (arith, go, counts_none p r (shown u) 0 refl, searches_are p r t is id n x stands carries)
+
+-- that many are enough for a known route
+pub counts_known : {A : Type 0} {a : Asked} {t : Shape A} {id : NodeId} {copy : RouteRecord} → IsPlan a.plan.plan → IsTree a.plan.plan a.request t → (k : IsKnown a t id copy) → (calls now : ℕ) {s : List ℕ} → s ≡ copy.contacts → now + k.part.length ≤ calls + length s
+    → now ≤ calls + searches_in a.plan.plan a.request 1 (shown t)
+counts_known {a = a} {t = t} {id = id} good tree k calls now e l =
+    omega (arith, l, counts_one a.plan.plan a.request good t tree id k.part k.route k.stands k.carries k.least, k.can.longer, ap (length {A = ℕ}) (e ∙ ap numbers_of k.copied))

@@ -1,13 +1,11 @@
 -- What holds of a node of a sound tree that carries a route, before that is given.
-use Rattle.std.proofs.Common.{◌≡◌, ℕ, ◌-◌, ◌<◌, true, false, List, [], ◌∷◌, ◌++◌, map, length, refl, sym, ap, subst, ◌∙◌, arith, true≢false, Option, Some, None}
+use Rattle.std.proofs.Common.{◌≡◌, ℕ, ◌-◌, ◌<◌, true, false, List, [], ◌∷◌, ◌++◌, map, length, refl, sym, ap, subst, ◌∙◌, arith, true≢false, Option, Some, None, suc, ◌+◌, take, drop, get_or, inl, inr, length-append, length-take-le}
 use Rattle.std.proofs.lemmas.Option.{slice_get_within}
 use Rattle.std.specs.Prelude.{slice_get}
-use Rattle.std.specs.Option.{option_map, option_and_then}
+use Rattle.std.specs.Option.{option_map, option_and_then, option_map_or}
 use Rattle.std.specs.List.{find}
-use Rattle.std.specs.Option.{option_map_or}
-use Rattle.std.proofs.lemmas.Cmp.{tied_itself}
+use Rattle.std.proofs.lemmas.Cmp.{tied_itself, nat_list_cmp_total}
 use Rattle.std.specs.Ordering.{nat_cmp, is_lt, is_eq}
-use Rattle.std.proofs.lemmas.Cmp.{nat_list_cmp_total}
 use Rattle.sabr_model.specs.Order.{by_numbers, same_numbers}
 use Rattle.sabr_model.specs.plan.Plan.{ContactPlan}
 use Rattle.sabr_model.specs.routes.Arrival.{RouteRequest}
@@ -22,14 +20,14 @@ use Rattle.sabr_frontier.specs.listing.Tree.{numbers_after}
 use Rattle.sabr_frontier.specs.listing.State.{PartState, pair_of, Member, leaves}
 use Rattle.sabr_frontier.specs.listing.Formed.{Within}
 use Rattle.sabr_frontier.specs.listing.Listing.{next_route, carries_it, hops_past, searches_for}
-use Rattle.sabr_frontier.specs.tree.Shape.{Shape, shown, part_at, part_of, prefix_of, numbers_of, route_at, route_of}
+use Rattle.sabr_frontier.specs.tree.Shape.{Shape, shown, part_at, part_of, prefix_of, numbers_of, route_at, route_of, front_of}
 use Rattle.sabr_frontier.specs.tree.Undo.{modify}
 use Rattle.sabr_frontier.specs.tree.Winners.{IsFirst, IsLeast}
 use Rattle.sabr_frontier.specs.tree.Queue.{InPairs, IsBefore}
 use Rattle.sabr_frontier.specs.tree.Taking.{nodes_then, widened}
-use Rattle.sabr_frontier.specs.tree.Sound.{IsTree, CanExclude}
+use Rattle.sabr_frontier.specs.tree.Sound.{IsTree, CanExclude, IsLent}
 use Rattle.sabr_frontier.specs.tree.Asking.{Asked}
-use Rattle.sabr_frontier.proofs.TreeLemmas.FirstFound.{found_is, none_found}
+use Rattle.sabr_frontier.proofs.TreeLemmas.TestBoundaries.{found_is, none_found, pairs_from_rises}
 use Rattle.sabr_frontier.proofs.ListingLemmas.Rising.{is_equal}
 use Rattle.sabr_frontier.proofs.ListingLemmas.NumbersAfter.{lists_exact}
 use Rattle.sabr_frontier.proofs.ListingLemmas.ListMembers.{Member-map, Member-map_cases}
@@ -40,19 +38,64 @@ use Rattle.sabr_frontier.proofs.ListingLemmas.Paths.{routes_apart}
 use Rattle.sabr_frontier.proofs.ListingLemmas.Leaves.{closed_tree}
 use Rattle.sabr_frontier.proofs.ListingLemmas.NextPlace.{least_carried_is}
 use Rattle.sabr_frontier.proofs.ListingLemmas.AllRoutes.{by_key_exact}
-use Rattle.sabr_frontier.proofs.TreeLemmas.ModifiedPlaces.{length-modify}
-use Rattle.sabr_frontier.proofs.TreeLemmas.TestBoundaries.{pairs_from_rises}
-use Rattle.sabr_frontier.proofs.TreeLemmas.NodePlaces.{get_Member, get_front, get_other}
+use Rattle.sabr_frontier.proofs.TreeLemmas.ModifiedPlaces.{length-modify, get_Member, get_front, get_other}
 use Rattle.sabr_frontier.proofs.TreeLemmas.SlotWinners.{standing_at}
-use Rattle.sabr_frontier.proofs.TreeLemmas.CutRoutes.{IsCut, cut_at, prefix_length}
 use Rattle.sabr_search.proofs.WayLemmas.Prefixes.{number_after_some}
 
--- the node that carries the least route
-pub standing : {A : Type 0} (nodes : List (Node A)) (id : NodeId) → ((x : RouteRecord) × IsFirst nodes id x) → (n : Node A) × (x : RouteRecord) × (slice_get nodes id.0 ≡ Some n) × (n.route ≡ Some x) × IsLeast nodes x
-standing nodes id (x, is) = let w = standing_at nodes id x is.carries in (w.0, x, w.1, w.2, is.least)
+-- ---- a route cut after a prefix
+
+-- what a list is around the number after its front
+pub record IsCut (s q : List ℕ) (y : ℕ) (rest : List ℕ) (d : ℕ) : Type 0 where
+  pub front : take d s ≡ q
+  pub number : get_or s d 0 ≡ y
+  pub more : take (d + 1) s ≡ q ++ y ∷ []
+  pub after : drop (d + 1) s ≡ rest
+  pub inside : d < length s
+
+cut_whole : (q : List ℕ) (y : ℕ) (rest : List ℕ) → (take (length q) (q ++ y ∷ rest) ≡ q) × (get_or (q ++ y ∷ rest) (length q) 0 ≡ y) × (take (suc (length q)) (q ++ y ∷ rest) ≡ q ++ y ∷ []) × (drop (suc (length q)) (q ++ y ∷ rest) ≡ rest)
+cut_whole [] y rest = (refl, refl, refl, refl)
+cut_whole (x ∷ q) y rest = let w = cut_whole q y rest in (ap (λ z. x ∷ z) w.0, w.1, ap (λ z. x ∷ z) w.2, w.3)
+
+pub cut_at : (s q : List ℕ) (y : ℕ) (rest : List ℕ) (d : ℕ) → s ≡ q ++ y ∷ rest → length q ≡ d → IsCut s q y rest d
+cut_at s q y rest d e l =
+    let w = cut_whole q y rest in
+    let next : suc (length q) ≡ d + 1 = omega arith in
+    record {
+      front = (λ i. take (sym l i) (e i)) ∙ w.0;
+      number = (λ i. get_or (e i) (sym l i) 0) ∙ w.1;
+      more = (λ i. take (sym next i) (e i)) ∙ w.2;
+      after = (λ i. drop (sym next i) (e i)) ∙ w.3;
+      inside = omega (arith, ap length e, length-append q (y ∷ rest));
+    }
+
+-- ---- prefixes that are lent
+
+pub front_none : (o : Option RouteRecord) (n : ℕ) → n ≡ 0 → front_of o n ≡ []
+front_none None n e = refl
+front_none (Some x) n e = ap (λ m. take m x.contacts) e
+
+pub prefix_length : {A : Type 0} (leaves : List RouteRecord) (n : Node A) → IsLent leaves n → length (prefix_of leaves n) ≡ n.length
+prefix_length leaves n (inl e) = ap (length {A = ℕ}) (front_none (slice_get leaves n.leaf) n.length e) ∙ sym e
+prefix_length leaves n (inr w) = ap (λ o. length (front_of o n.length)) w.1 ∙ length-take-le n.length w.0.contacts w.2
+
+pub prefix_stable : {A : Type 0} (leaves more : List RouteRecord) (n : Node A) → IsLent leaves n → prefix_of (leaves ++ more) n ≡ prefix_of leaves n
+prefix_stable leaves more n (inl e) = front_none (slice_get (leaves ++ more) n.leaf) n.length e ∙ sym (front_none (slice_get leaves n.leaf) n.length e)
+prefix_stable leaves more n (inr w) = ap (λ o. front_of o n.length) (get_front leaves more n.leaf (slice_get_within leaves n.leaf w.0 w.1))
+
+pub lent_stable : {A : Type 0} (leaves more : List RouteRecord) (n : Node A) → IsLent leaves n → IsLent (leaves ++ more) n
+lent_stable leaves more n (inl e) = inl e
+lent_stable leaves more n (inr w) = inr (w.0, get_front leaves more n.leaf (slice_get_within leaves n.leaf w.0 w.1) ∙ w.1, w.2)
 
 pub route_there : {A : Type 0} (nodes : List (Node A)) (id : NodeId) (n : Node A) (x : RouteRecord) → slice_get nodes id.0 ≡ Some n → n.route ≡ Some x → route_at nodes id ≡ Some x
 route_there nodes id n x e f = ap (option_and_then route_of) e ∙ f
+
+pub carried_at : {A : Type 0} (leaves : List RouteRecord) (o : Option (Node A)) → (part_of leaves o).carried ≡ option_map numbers_of (option_and_then route_of o)
+carried_at leaves None = refl
+carried_at leaves (Some n) = refl
+
+mapped : (o : Option RouteRecord) (s : List ℕ) → option_map numbers_of o ≡ Some s → (y : RouteRecord) × (o ≡ Some y) × (y.contacts ≡ s)
+mapped None s e = absurd cc
+mapped (Some y) s e = (y, refl, (let same : y.contacts ≡ s = cc in same))
 
 keys_map : {A : Type 0} (leaves : List RouteRecord) (nodes : List (Node A)) (ids : List NodeId) → map (λ (e : List ℕ × List ℕ). e.0) (map pair_of (map (part_at leaves nodes) ids)) ≡ map (λ (id : NodeId). (part_at leaves nodes id).prefix) ids
 keys_map leaves nodes [] = refl
@@ -62,7 +105,7 @@ keys_map leaves nodes (id ∷ ids) = ap (λ z. (part_at leaves nodes id).prefix 
 
 module _ {A : Type 0} (p : ContactPlan) (r : RouteRequest) (t : Shape A) (is : IsTree p r t) where
   pub index_order : InPairs (IsBefore t.leaves t.nodes) t.index
-  index_order = pairs_from_rises by_numbers (λ (id : NodeId). (part_at t.leaves t.nodes id).prefix) t.index (subst (Rises by_numbers) (keys_map t.leaves t.nodes t.index) is.formed.order.by_prefix)
+  index_order = pairs_from_rises nat_list_cmp_total (λ (id : NodeId). (part_at t.leaves t.nodes id).prefix) t.index (subst (Rises by_numbers) (keys_map t.leaves t.nodes t.index) is.formed.order.by_prefix)
 
   -- ---- other nodes stay as they are
 
@@ -114,17 +157,10 @@ module _ {A : Type 0} (p : ContactPlan) (r : RouteRequest) (t : Shape A) (is : I
     least_here least u s m e =
         let w = Member-map_cases (part_at t.leaves t.nodes) u t.index m in
         let id = w.0 in
-        let c : (part_at t.leaves t.nodes id).carried ≡ Some s = ap (λ (z : PartState). z.carried) (sym w.1) ∙ e in
-        let v : (y : RouteRecord) × (k : Node A) × (slice_get t.nodes id.0 ≡ Some k) × (k.route ≡ Some y) × (y.contacts ≡ s) = elim (slice_get t.nodes id.0) as (λ o. slice_get t.nodes id.0 ≡ o → (part_of t.leaves o).carried ≡ Some s → (y : RouteRecord) × (k : Node A) × (slice_get t.nodes id.0 ≡ Some k) × (k.route ≡ Some y) × (y.contacts ≡ s)) [
-          | None ↦ λ _ h. absurd cc
-          | Some k ↦ λ g h. elim k.route as (λ z. k.route ≡ z → option_map numbers_of z ≡ Some s → (y : RouteRecord) × (l : Node A) × (slice_get t.nodes id.0 ≡ Some l) × (l.route ≡ Some y) × (y.contacts ≡ s)) [
-            | None ↦ λ _ q. absurd cc
-            | Some y ↦ λ f q. (y, k, g, f, (let same : y.contacts ≡ s = cc in same))
-          ] refl h
-        ] refl c in
-        let there : route_at t.nodes id ≡ Some v.0 = route_there t.nodes id v.1 v.0 v.2 v.3 in
-        let told : v.0 ≡ record_of p r s = is.records v.1 v.0 (get_Member t.nodes id.0 v.1 v.2) v.3 ∙ ap (record_of p r) v.4 in
-        sym (ap is_lt (record_order p r s x.contacts)) ∙ sym (λ i. is_lt (by_record (told i) (record_is i))) ∙ least id v.0 there
+        let v = mapped (route_at t.nodes id) s (sym (carried_at t.leaves (slice_get t.nodes id.0)) ∙ ap (λ (z : PartState). z.carried) (sym w.1) ∙ e) in
+        let k = standing_at t.nodes id v.0 v.1 in
+        let told : v.0 ≡ record_of p r s = is.records k.0 v.0 (get_Member t.nodes id.0 k.0 k.1) k.2 ∙ ap (record_of p r) v.2 in
+        sym (ap is_lt (record_order p r s x.contacts)) ∙ sym (λ i. is_lt (by_record (told i) (record_is i))) ∙ least id v.0 v.1
 
     -- the tree's least route is the least that a part carries
     pub next_is : IsLeast t.nodes x → next_route p r (shown t) ≡ Some x.contacts
@@ -172,8 +208,7 @@ pub record IsKnown {A : Type 0} (a : Asked) (t : Shape A) (id : NodeId) (copy : 
   pub copied : copy ≡ route
   pub can : CanExclude part route.contacts
 
-pub known : {A : Type 0} (a : Asked) (t : Shape A) → IsTree a.plan.plan a.request t → (id : NodeId) (copy : RouteRecord) → ((x : RouteRecord) × IsFirst t.nodes id x) → route_at t.nodes id ≡ Some copy → IsKnown a t id copy
-known a t tree id copy first is =
-    let f = standing t.nodes id first in
-    let e = route_there t.nodes id f.0 f.1 f.2 f.3 in
-    record { part = f.0; route = f.1; stands = f.2; carries = f.3; least = f.4; copied = (let same : Some copy ≡ Some f.1 = sym is ∙ e in cc); can = can_exclude a.plan.plan a.request t tree id f.0 f.1 f.2 f.3 }
+pub known : {A : Type 0} (a : Asked) {t : Shape A} → IsTree a.plan.plan a.request t → {id : NodeId} {copy : RouteRecord} → ((x : RouteRecord) × IsFirst t.nodes id x) → route_at t.nodes id ≡ Some copy → IsKnown a t id copy
+known a {t} tree {id} first is =
+    let w = standing_at t.nodes id first.0 first.1.carries in
+    record { part = w.0; route = first.0; stands = w.1; carries = w.2; least = first.1.least; copied = (let same : Some _ ≡ Some first.0 = sym is ∙ first.1.carries in cc); can = can_exclude a.plan.plan a.request t tree id w.0 first.0 w.1 w.2 }

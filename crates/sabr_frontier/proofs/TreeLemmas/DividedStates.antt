@@ -1,5 +1,5 @@
 -- The state of the tree after its least route is given is the one that the step names.
-use Rattle.std.proofs.Common.{◌≡◌, ℕ, suc, ◌+◌, ◌<◌, Bool, true, false, List, [], ◌∷◌, ◌++◌, map, length, take, drop, refl, sym, ap, subst, ◌∙◌, inl, inr, arith, true≢false, Option, Some, None, append_assoc, length-append}
+use Rattle.std.proofs.Common.{◌≡◌, ℕ, suc, ◌+◌, ◌<◌, Bool, true, false, List, [], ◌∷◌, ◌++◌, map, length, take, drop, refl, sym, ap, subst, ◌∙◌, inl, inr, arith, true≢false, Option, Some, None, append_assoc, length-append, ◌⊎◌}
 use Rattle.std.specs.Prelude.{slice_get}
 use Rattle.std.specs.Option.{option_map}
 use Rattle.std.specs.Ordering.{nat_cmp, is_lt}
@@ -30,18 +30,24 @@ use Rattle.sabr_frontier.proofs.ListingLemmas.ListMembers.{Member-map, Member-ma
 use Rattle.sabr_frontier.proofs.ListingLemmas.ClosedTrees.{tree_has}
 use Rattle.sabr_frontier.proofs.ListingLemmas.Leaves.{closed_tree}
 use Rattle.sabr_frontier.proofs.ListingLemmas.Division.{begins_less, earlier_excludes, divided_set}
-use Rattle.sabr_frontier.proofs.TreeLemmas.ModifiedPlaces.{length-modify}
+use Rattle.sabr_frontier.proofs.TreeLemmas.ModifiedPlaces.{length-modify, get_Member, get_front, get_at_end, get_same, Member_split, member_cut, member_dropped, pair_across, pairs_back, same_node}
 use Rattle.sabr_frontier.proofs.TreeLemmas.TestBoundaries.{front_passes, back_fails}
 use Rattle.sabr_frontier.proofs.TreeLemmas.IndexOrder.{earlier_prefix, less_from_test}
-use Rattle.sabr_frontier.proofs.TreeLemmas.NodePlaces.{get_Member, get_front, get_at_end, get_same, Member_split, member_cut, member_taken, member_dropped, pair_across, pairs_front, pairs_back, same_node}
-use Rattle.sabr_frontier.proofs.TreeLemmas.CutRoutes.{prefix_stable}
-use Rattle.sabr_frontier.proofs.TreeLemmas.CarryingNodes.{index_order, node_within, kept, here, part_is, here_in, inside, cut}
+use Rattle.sabr_frontier.proofs.TreeLemmas.CarryingNodes.{prefix_stable, index_order, node_within, kept, here, part_is, here_in, inside, cut}
 use Rattle.std.proofs.Math.Seq.{take-append_seam}
 
 -- what the searches' records say of the routes
+pub numbers_back : (p : ContactPlan) (r : RouteRequest) (o : Option (List ℕ)) → option_map numbers_of (option_map (record_of p r) o) ≡ o
+numbers_back p r None = refl
+numbers_back p r (Some s) = refl
+
+pub told_back : (p : ContactPlan) (r : RouteRequest) (o : Option (List ℕ)) (x : RouteRecord) → option_map (record_of p r) o ≡ Some x → x ≡ record_of p r x.contacts
+told_back p r None x e = absurd cc
+told_back p r (Some s) x e = let same : record_of p r s ≡ x = cc in sym same ∙ ap (λ (z : RouteRecord). record_of p r z.contacts) same
+
 pub best_numbers : (p : ContactPlan) (r : RouteRequest) (q X : List ℕ) → option_map numbers_of (best_of p r q X) ≡ least_in p r q X
 unfolding best_of
-best_numbers p r q X = elim (least_in p r q X) as (λ o. option_map numbers_of (option_map (record_of p r) o) ≡ o) [ None ↦ refl | Some s ↦ refl ]
+best_numbers p r q X = numbers_back p r (least_in p r q X)
 
 -- the parts of the new nodes
 fresh_parts : {A : Type 0} (p : ContactPlan) (r : RouteRequest) (leaves : List RouteRecord) (leaf : ℕ) (x : RouteRecord) (is : slice_get leaves leaf ≡ Some x) (base : List (Node A)) (q rest : List ℕ) (count : ℕ)
@@ -221,29 +227,20 @@ module _ {A : Type 0} (p : ContactPlan) (r : RouteRequest) (t : Shape A) (is : I
   same_parts (id ∷ ids) f = λ i. other_part id (is.known id (f id (inl refl)).0) (f id (inl refl)).1 i ∷ same_parts ids (λ w m. f w (inr m)) i
 
   -- other places of the index name other nodes
-  not_before : (a : NodeId) → IsBefore t.leaves t.nodes a node → a.0 ≡ node.0 → ⊥
-  not_before a h e = Less-apart nat_list_cmp_total (part node).prefix (ap (λ (z : NodeId). by_numbers (part z).prefix (part node).prefix) (sym (same_node a node e)) ∙ h)
+  order_is : InPairs (IsBefore t.leaves t.nodes) (F ++ node ∷ (M ++ B))
+  order_is = subst (InPairs (IsBefore t.leaves t.nodes)) (index_is ∙ append_assoc F (node ∷ M) B) order
 
-  not_after : (a : NodeId) → IsBefore t.leaves t.nodes node a → a.0 ≡ node.0 → ⊥
-  not_after a h e = Less-apart nat_list_cmp_total (part node).prefix (ap (λ (z : NodeId). by_numbers (part node).prefix (part z).prefix) (sym (same_node a node e)) ∙ h)
+  never : IsBefore t.leaves t.nodes node node → ⊥
+  never = Less-apart nat_list_cmp_total (part node).prefix
 
-  order_is : InPairs (IsBefore t.leaves t.nodes) ((F ++ node ∷ M) ++ B)
-  order_is = subst (InPairs (IsBefore t.leaves t.nodes)) index_is order
-
-  order_front : InPairs (IsBefore t.leaves t.nodes) (F ++ node ∷ M)
-  order_front = pairs_front (IsBefore t.leaves t.nodes) (F ++ node ∷ M) B order_is
-
-  other_F : (id : NodeId) → Member id F → Member id t.index × (id.0 ≡ node.0 → ⊥)
-  other_F id m = (member_taken k id t.index (front_in id (Member-append_left id F (node ∷ M) m)), not_before id (pair_across (IsBefore t.leaves t.nodes) F (node ∷ M) id node order_front m (inl refl)))
-
-  other_M : (id : NodeId) → Member id M → Member id t.index × (id.0 ≡ node.0 → ⊥)
-  other_M id m = (
-    member_taken k id t.index (front_in id (Member-append_right id F (node ∷ M) (inr m))),
-    not_after id ((pairs_back (IsBefore t.leaves t.nodes) F (node ∷ M) order_front).0 id m),
+  other : (id : NodeId) → Member id F ⊎ Member id (M ++ B) → Member id t.index × (id.0 ≡ node.0 → ⊥)
+  other id m = (
+    subst (Member id) (sym (index_is ∙ append_assoc F (node ∷ M) B)) (elim m [ inl a ↦ Member-append_left id F (node ∷ (M ++ B)) a | inr b ↦ Member-append_right id F (node ∷ (M ++ B)) (inr b) ]),
+    (λ e. elim m [
+      | inl a ↦ never (subst (λ z. IsBefore t.leaves t.nodes z node) (same_node id node e) (pair_across (IsBefore t.leaves t.nodes) F (node ∷ (M ++ B)) id node order_is a (inl refl)))
+      | inr b ↦ never (subst (IsBefore t.leaves t.nodes node) (same_node id node e) ((pairs_back (IsBefore t.leaves t.nodes) F (node ∷ (M ++ B)) order_is).0 id b))
+    ]),
   )
-
-  other_B : (id : NodeId) → Member id B → Member id t.index × (id.0 ≡ node.0 → ⊥)
-  other_B id m = (member_dropped k id t.index m, not_after id (pair_across (IsBefore t.leaves t.nodes) (F ++ node ∷ M) B node id order_is (Member-append_right node F (node ∷ M) (inl refl)) m))
 
   abbrev ids : List NodeId
   ids = ids_from (length t.nodes) (length new)
@@ -262,7 +259,7 @@ module _ {A : Type 0} (p : ContactPlan) (r : RouteRequest) (t : Shape A) (is : I
   parts_then =
       map-append part' (take k t.index ++ ids) B
       ∙ ap (λ z. z ++ map part' B) (map-append part' (take k t.index) ids ∙ ap (λ z. map part' z ++ map part' ids) parted.2 ∙ ap (λ z. z ++ map part' ids) (map-append part' F (node ∷ M)))
-      ∙ (λ i. ((same_parts F other_F i ++ this_part i ∷ same_parts M other_M i) ++ new_parts i) ++ same_parts B other_B i)
+      ∙ (λ i. ((same_parts F (λ id m. other id (inl m)) i ++ this_part i ∷ same_parts M (λ id m. other id (inr (Member-append_left id M B m))) i) ++ new_parts i) ++ same_parts B (λ id m. other id (inr (Member-append_right id M B m))) i)
       ∙ append_assoc (map part F ++ wide_part ∷ map part M) (fresh (is_route p r) (least_in p r) (pre ++ y ∷ []) rest) (map part B)
 
   parts_stepped : map part' (with_block k ids t.index) ≡ parts_after (is_route p r) (least_in p r) old s

@@ -23,7 +23,7 @@ use Rattle.sabr_frontier.proofs.ListingLemmas.Paths.{route_filled, routes_apart,
 use Rattle.sabr_frontier.proofs.ListingLemmas.AllRoutes.{least_some}
 use Rattle.sabr_frontier.proofs.TreeLemmas.DividedStates.{best_numbers}
 use Rattle.sabr_frontier.proofs.TreeLemmas.SoundSteps.{best_is}
-use Rattle.sabr_frontier.proofs.TreeLemmas.NodePlaces.{same_node, get_Member}
+use Rattle.sabr_frontier.proofs.TreeLemmas.ModifiedPlaces.{same_node, get_Member}
 
 pub shown_root : (A : Type 0) (p : ContactPlan) (r : RouteRequest) → shown (root {A = A} (best_of p r [] [])) ≡ state_at p r 0
 unfolding state_at

@@ -1,5 +1,5 @@
 -- Fronts of a list and the number after them.
-use Rattle.std.proofs.Common.{◌≡◌, ℕ, zero, suc, ◌+◌, ◌<◌, ◌≤◌, false, ◌||◌, List, [], ◌∷◌, ◌++◌, length, take, drop, get_or, refl, sym, ap, ◌∙◌, arith, Option, Some, append_assoc, append-nil, drop-cons, length-take-le, take-suc}
+use Rattle.std.proofs.Common.{◌≡◌, ℕ, zero, suc, ◌+◌, ◌<◌, ◌≤◌, ◌||◌, List, [], ◌∷◌, ◌++◌, length, take, drop, get_or, refl, sym, ap, ◌∙◌, arith, Option, Some, append_assoc, append-nil, drop-cons, length-take-le, take-suc}
 use Rattle.std.proofs.lemmas.List.{drop_all}
 use Rattle.std.specs.Prelude.{is_some}
 use Rattle.sabr_model.specs.routes.Parts.{number_after}
@@ -46,7 +46,3 @@ longer_next best s n l =
     ap (longer_go_on best (take n s)) (drop-cons s n 0 l)
     ∙ ap (λ z. is_some (best (take n s) (get_or s n 0 ∷ [])) || longer_go_on best z (drop (suc n) s)) (sym (take-suc s n 0 l))
     ∙ ap (λ m. is_some (best (take n s) (get_or s n 0 ∷ [])) || longer_go_on best (take m s) (drop m s)) next
-
--- no beginning is longer than all of it
-pub longer_none : (best : List ℕ → List ℕ → Option RouteRecord) (s : List ℕ) (n : ℕ) → length s ≤ n → longer_go_on best (take n s) (drop n s) ≡ false
-longer_none best s n l = ap (longer_go_on best (take n s)) (drop_all n s l)

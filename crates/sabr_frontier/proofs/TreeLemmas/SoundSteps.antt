@@ -1,7 +1,6 @@
 -- A sound tree stays sound where a node's route is given, and the undo of that gives the tree back.
-use Rattle.std.proofs.Common.{◌≡◌, ℕ, ◌+◌, ◌<◌, nat_lt, List, [], ◌∷◌, ◌++◌, length, take, drop, refl, sym, ap, subst, ◌∙◌, ◌⊎◌, inl, inr, arith, Option, Some, None, append_assoc, length-append, slice_index, take_at}
+use Rattle.std.proofs.Common.{◌≡◌, ℕ, ◌+◌, ◌<◌, nat_lt, List, [], ◌∷◌, ◌++◌, length, take, drop, refl, sym, ap, subst, ◌∙◌, ◌⊎◌, inl, inr, arith, Option, Some, append_assoc, length-append, slice_index, take_at, ◌≤◌, zero, suc, Bool, true, false, cond, filter, take-append-drop, append-nil}
 use Rattle.std.specs.Prelude.{slice_get, slice_index_or}
-use Rattle.std.specs.Option.{option_map}
 use Rattle.std.proofs.lemmas.Bool.{cases_lt, lt-ltb}
 use Rattle.std.proofs.lemmas.List.{take-append-drop}
 use Rattle.std.proofs.lemmas.Option.{get_or_from_slice_get}
@@ -17,33 +16,70 @@ use Rattle.sabr_frontier.specs.declared.tree.Node.{Node}
 use Rattle.sabr_frontier.specs.listing.State.{Member}
 use Rattle.sabr_frontier.specs.listing.Listing.{IsState, leaves_in}
 use Rattle.sabr_frontier.specs.tree.Shape.{Shape, shown}
-use Rattle.sabr_frontier.specs.tree.Undo.{modify, undone, without, CanUndo, IsIndexed}
+use Rattle.sabr_frontier.specs.tree.Undo.{modify, undone, without, CanUndo, IsIndexed, given_back, undone_by}
 use Rattle.sabr_frontier.specs.tree.Best.{best_of}
-use Rattle.sabr_frontier.specs.tree.Taking.{passing, stands_before, widened, wide_of, fresh_nodes, ids_from, divided}
+use Rattle.sabr_frontier.specs.tree.Taking.{passing, stands_before, widened, wide_of, fresh_nodes, ids_from, divided, divided_by}
 use Rattle.sabr_frontier.specs.tree.Sound.{IsTree, IsLent, AreGiven}
 use Rattle.sabr_frontier.proofs.ListingLemmas.ListMembers.{Member-append_left, Member-append_right, Member-append_cases}
 use Rattle.sabr_frontier.proofs.ListingLemmas.TreeSets.{In-put_in, put_in-In}
 use Rattle.sabr_frontier.proofs.ListingLemmas.ClosedTrees.{In_Member, Member_In}
 use Rattle.sabr_frontier.proofs.ListingLemmas.FormedSteps.{formed_after, leaves_after}
-use Rattle.sabr_frontier.proofs.LoadingLemmas.ForgottenNumbers.{forget-put_in}
+use Rattle.sabr_frontier.proofs.TreeLemmas.Excluding.{forget-put_in}
 use Rattle.sabr_frontier.proofs.ListingLemmas.Paths.{route_filled, routes_apart, route_chains, route_fits}
 use Rattle.sabr_frontier.proofs.ListingLemmas.AllRoutes.{least_some}
-use Rattle.sabr_frontier.proofs.TreeLemmas.ModifiedPlaces.{length-modify, last_item_push}
-use Rattle.sabr_frontier.proofs.TreeLemmas.UndoneTakes.{passes_from, undone-after}
-use Rattle.sabr_frontier.proofs.TreeLemmas.NodePlaces.{get_Member, get_at_end, get_same, modify_cases, member_cut, member_taken, member_dropped, ids_cases, ids_has}
-use Rattle.sabr_frontier.proofs.TreeLemmas.CutRoutes.{lent_stable}
-use Rattle.sabr_frontier.proofs.TreeLemmas.CarryingNodes.{node_within, here, here_in, cut, can_exclude, record_is}
+use Rattle.sabr_frontier.proofs.TreeLemmas.ModifiedPlaces.{length-modify, last_item_push, front_push, modify_twice, modify_back, get_Member, get_at_end, get_same, modify_cases, member_cut, member_taken, member_dropped, ids_cases, ids_has}
+use Rattle.sabr_frontier.proofs.TreeLemmas.CarryingNodes.{lent_stable, node_within, here, here_in, cut, can_exclude, record_is}
 use Rattle.sabr_frontier.proofs.TreeLemmas.IndexedNodes.{tree_indexed}
-use Rattle.sabr_frontier.proofs.TreeLemmas.DividedStates.{shown_divided}
+use Rattle.sabr_frontier.proofs.TreeLemmas.DividedStates.{told_back, shown_divided}
+use Rattle.std.proofs.lemmas.Bool.Decides.{nat_tests}
+use Rattle.std.proofs.lemmas.List.Elements.{filter-append}
+use Rattle.sabr_frontier.specs.declared.tree.Entry.{Entry}
+
+-- ---- taking a route and undoing it give back the tree, on the nose
+
+pub filter_all : {X : Type 0} (p : X → Bool) (xs : List X) → ((x : X) → Member x xs → p x ≡ true) → filter p xs ≡ xs
+filter_all p [] h = refl
+filter_all p (x ∷ xs) h = ap (λ b. cond b (x ∷ filter p xs) (filter p xs)) (h x (inl refl)) ∙ ap (λ t. x ∷ t) (filter_all p xs (λ y m. h y (inr m)))
+
+not_below : (f n c : ℕ) → c ≤ f → filter (λ (id : NodeId). nat_lt id.0 c) (ids_from f n) ≡ []
+not_below f zero c l = refl
+not_below f (suc n) c l = let no : nat_lt f c ≡ false = grind (arith, nat_tests) in ap (λ b. cond b (record { 0 = f } ∷ filter (λ (id : NodeId). nat_lt id.0 c) (ids_from (suc f) n)) (filter (λ (id : NodeId). nat_lt id.0 c) (ids_from (suc f) n))) no ∙ not_below (suc f) n c (omega arith)
+
+module _ {A : Type 0} (t : Shape A) (node : NodeId) (part : Node A) (r : RouteRecord) (wide : List ℕ) (found : Option RouteRecord) (fresh : List (Node A)) (place : ℕ)
+    (stands : slice_get t.nodes node.0 ≡ Some part)
+    (carries : part.route ≡ Some r)
+    (forgets : without (slice_index r.contacts part.length) wide ≡ part.excluded)
+    (known : (id : NodeId) → Member id t.index → nat_lt id.0 (length t.nodes) ≡ true) where
+  abbrev entry : Entry
+  entry = record { node = node; nodes = length t.nodes; last = t.last }
+
+  -- the tree once the route is
+  abbrev after : Shape A
+  after = divided_by t node r place wide found fresh
+
+  nodes_back : modify (given_back r) (take (length t.nodes) (modify (widened wide found) t.nodes node.0 ++ fresh)) node.0 ≡ t.nodes
+  nodes_back = ap (λ z. modify (given_back r) z node.0) (take_at (modify (widened wide found) t.nodes node.0) fresh (length t.nodes) (length-modify (widened wide found) t.nodes node.0))
+      ∙ modify_twice (widened wide found) (given_back r) t.nodes node.0
+      ∙ modify_back (λ n. given_back r (widened wide found n)) t.nodes node.0 part stands (λ i. record { leaf = part.leaf; length = part.length; excluded = forgets i; route = sym carries i })
+
+  index_back : filter (λ (id : NodeId). nat_lt id.0 (length t.nodes)) after.index ≡ t.index
+  index_back =
+      let p : NodeId → Bool = λ id. nat_lt id.0 (length t.nodes) in
+      let block : List NodeId = ids_from (length t.nodes) (length fresh) in
+      filter-append p (take place t.index ++ block) (drop place t.index)
+      ∙ ap (λ z. z ++ filter p (drop place t.index)) (filter-append p (take place t.index) block ∙ ap (λ z. filter p (take place t.index) ++ z) (not_below (length t.nodes) (length fresh) (length t.nodes) (omega arith)) ∙ append-nil (filter p (take place t.index)))
+      ∙ sym (filter-append p (take place t.index) (drop place t.index)) ∙ ap (filter p) (take-append-drop place t.index) ∙ filter_all p t.index known
+
+  pub undone-after : undone after ≡ t
+  undone-after =
+      let base : undone after ≡ undone_by after (Some entry) (Some r) = λ i. undone_by after (last_item_push after.journal t.journal entry refl i) (last_item_push after.leaves t.leaves r refl i) in
+      base ∙ (λ i. record { nodes = nodes_back i; index = index_back i; leaves = front_push after.leaves t.leaves r refl i; last = t.last; journal = front_push after.journal t.journal entry refl i })
 
 -- ---- what the searches' records are
 
 pub best_is : (p : ContactPlan) (r : RouteRequest) (q X : List ℕ) (x : RouteRecord) → best_of p r q X ≡ Some x → x ≡ record_of p r x.contacts
 unfolding best_of
-best_is p r q X x e = elim (least_in p r q X) as (λ o. option_map (record_of p r) o ≡ Some x → x ≡ record_of p r x.contacts) [
-  | None ↦ λ h. absurd cc
-  | Some s ↦ λ h. let same : record_of p r s ≡ x = cc in sym same ∙ ap (λ (z : RouteRecord). record_of p r z.contacts) same
-] e
+best_is p r q X x e = told_back p r (least_in p r q X) x e
 
 fresh_records : {A : Type 0} (p : ContactPlan) (r : RouteRequest) (leaf : ℕ) (q rest : List ℕ) (n : Node A) (x : RouteRecord) → Member n (fresh_nodes (best_of p r) leaf q rest) → n.route ≡ Some x → x ≡ record_of p r x.contacts
 fresh_records p r leaf q [] n x m e = absurd m
@@ -84,6 +120,9 @@ module _ {A : Type 0} (p : ContactPlan) (r : RouteRequest) (good : IsPlan p) (t 
   abbrev ids : List NodeId
   ids = ids_from N (length new)
 
+  abbrev k : ℕ
+  k = passing (stands_before t.leaves t.nodes q0) t.index
+
   within_node : node.0 < N
   within_node = node_within p r t is node n x stands carries
 
@@ -123,17 +162,14 @@ module _ {A : Type 0} (p : ContactPlan) (r : RouteRequest) (good : IsPlan p) (t 
     | inl a ↦ elim (Member-append_cases id (take k t.index) ids a) [ inl b ↦ inl (member_taken k id t.index b) | inr b ↦ inr b ]
     | inr a ↦ inl (member_dropped k id t.index a)
   ]
-    where
-      k : ℕ
-      k = passing (stands_before t.leaves t.nodes q0) t.index
 
   index_has : (id : NodeId) → Member id t.index ⊎ Member id ids → Member id D.index
   index_has id m = elim m [
-    | inl a ↦ elim (member_cut (passing (stands_before t.leaves t.nodes q0) t.index) id t.index a) [
-      | inl b ↦ Member-append_left id (take (passing (stands_before t.leaves t.nodes q0) t.index) t.index ++ ids) (drop (passing (stands_before t.leaves t.nodes q0) t.index) t.index) (Member-append_left id (take (passing (stands_before t.leaves t.nodes q0) t.index) t.index) ids b)
-      | inr b ↦ Member-append_right id (take (passing (stands_before t.leaves t.nodes q0) t.index) t.index ++ ids) (drop (passing (stands_before t.leaves t.nodes q0) t.index) t.index) b
+    | inl a ↦ elim (member_cut k id t.index a) [
+      | inl b ↦ Member-append_left id (take k t.index ++ ids) (drop k t.index) (Member-append_left id (take k t.index) ids b)
+      | inr b ↦ Member-append_right id (take k t.index ++ ids) (drop k t.index) b
     ]
-    | inr a ↦ Member-append_left id (take (passing (stands_before t.leaves t.nodes q0) t.index) t.index ++ ids) (drop (passing (stands_before t.leaves t.nodes q0) t.index) t.index) (Member-append_right id (take (passing (stands_before t.leaves t.nodes q0) t.index) t.index) ids a)
+    | inr a ↦ Member-append_left id (take k t.index ++ ids) (drop k t.index) (Member-append_right id (take k t.index) ids a)
   ]
 
   pub tree_divided : IsTree p r D
@@ -170,7 +206,7 @@ module _ {A : Type 0} (p : ContactPlan) (r : RouteRequest) (good : IsPlan p) (t 
   forgets = forget-put_in (slice_index s n.length) n.excluded (can_exclude p r t is node n x stands carries).absent
 
   pub undone_divided : undone D ≡ t
-  undone_divided = undone-after t node n x wide found new (passing (stands_before t.leaves t.nodes q0) t.index) stands carries forgets (passes_from (λ (id : NodeId). nat_lt id.0 N) t.index (λ id m. lt-ltb id.0 N (is.known id m)))
+  undone_divided = undone-after t node n x wide found new k stands carries forgets (λ id m. lt-ltb id.0 N (is.known id m))
 
   pub can_undo : CanUndo D
   can_undo = record {

@@ -1,17 +1,41 @@
 -- Where a test of a list in order changes its answer, and what is put there.
-use Rattle.std.proofs.Common.{◌≡◌, ℕ, zero, suc, ◌+◌, slice_index, subst, ◌<◌, ◌≤◌, Bool, true, false, cond, ltb, List, [], ◌∷◌, length, take, drop, get_or, insert, refl, sym, ap, ◌∙◌, inl, inr, arith, true≢false}
-use Rattle.std.specs.List.{AllWithin}
+use Rattle.std.proofs.Common.{◌≡◌, ℕ, zero, suc, ◌+◌, slice_index, subst, ◌<◌, ◌≤◌, Bool, true, false, cond, ltb, List, [], ◌∷◌, length, take, drop, get_or, insert, refl, sym, ap, ◌∙◌, inl, inr, arith, true≢false, Some, None}
+use Rattle.std.specs.List.{find}
 use Rattle.std.specs.List.Sorted.{IsPartitionPoint, IsPartitionedBy, IsStrictlyIncreasing}
+use Rattle.std.specs.Prelude.{map}
+use Rattle.std.specs.Cmp.{IsTotalOrder}
 use Rattle.std.specs.Ordering.{nat_cmp, is_eq}
 use Rattle.std.specs.declared.cmp.Ordering.{Ordering}
 use Rattle.std.specs.declared.cmp.Ordering.TheVariants.{Less, Equal, Greater}
 use Rattle.std.proofs.lemmas.Bool.Decides.{nat_tests}
 use Rattle.std.proofs.lemmas.Bool.{or_parts, cases_Bool}
 use Rattle.sabr_model.specs.Order.{put_in}
-use Rattle.sabr_frontier.specs.listing.Rising.{has, Below, Rises}
+use Rattle.sabr_frontier.specs.listing.Rising.{has, Rises}
 use Rattle.sabr_frontier.specs.listing.State.{Member}
 use Rattle.sabr_frontier.specs.tree.Taking.{passing, put_past}
 use Rattle.sabr_frontier.specs.tree.Queue.{InPairs}
+use Rattle.sabr_frontier.proofs.ListingLemmas.ListMembers.{Below-member, Member-map}
+use Rattle.sabr_frontier.proofs.TreeLemmas.ModifiedPlaces.{member_at}
+
+-- ---- the first that passes a test
+
+module _ {X : Type 0} (test : X → Bool) where
+  pub found_is : (xs : List X) (x : X) → find test xs ≡ Some x → Member x xs × (test x ≡ true)
+  found_is [] x e = absurd cc
+  found_is (y ∷ xs) x e = elim (test y) as (λ b. test y ≡ b → cond b (Some y) (find test xs) ≡ Some x → Member x (y ∷ xs) × (test x ≡ true)) [
+    | true ↦ λ t k. let same : y ≡ x = cc in (inl (sym same), ap test (sym same) ∙ t)
+    | false ↦ λ _ k. let w = found_is xs x k in (inr w.0, w.1)
+  ] refl e
+
+  pub none_found : (xs : List X) → find test xs ≡ None → (x : X) → Member x xs → test x ≡ true → ⊥
+  none_found [] e x m p = m
+  none_found (y ∷ xs) e x m p = elim (test y) as (λ b. test y ≡ b → cond b (Some y) (find test xs) ≡ None → ⊥) [
+    | true ↦ λ _ k. cc
+    | false ↦ λ f k. elim m [
+      | inl h ↦ true≢false (sym p ∙ ap test h ∙ f)
+      | inr n ↦ none_found xs k x n p
+    ]
+  ] refl e
 
 module _ {X : Type 0} (test : X → Bool) where
   -- the answer of a search for the place
@@ -42,12 +66,7 @@ module _ {X : Type 0} (test : X → Bool) where
     pub partitioned : (xs : List X) → InPairs Q xs → IsPartitionedBy test xs
     partitioned [] h i j d le lt t = absurd (omega arith)
     partitioned (x ∷ xs) h zero zero d le lt t = t
-    partitioned (x ∷ xs) h zero (suc j) d le lt t = falls x (get_or xs j d) (at xs h.0 j d (omega arith)) t
-      where
-        at : (ys : List X) → ((y : X) → Member y ys → Q x y) → (j : ℕ) (d : X) → j < length ys → Q x (get_or ys j d)
-        at [] f j d l = absurd (omega arith)
-        at (y ∷ ys) f zero d l = f y (inl refl)
-        at (y ∷ ys) f (suc j) d l = at ys (λ z m. f z (inr m)) j d (omega arith)
+    partitioned (x ∷ xs) h zero (suc j) d le lt t = falls x (get_or xs j d) (h.0 (get_or xs j d) (member_at xs j d (omega arith))) t
     partitioned (x ∷ xs) h (suc i) zero d le lt t = absurd (omega arith)
     partitioned (x ∷ xs) h (suc i) (suc j) d le lt t = partitioned xs h.1 i j d (omega arith) (omega arith) t
 
@@ -62,24 +81,15 @@ module _ {X : Type 0} (test : X → Bool) where
       ]
     ] refl m
 
--- a list that rises by a key, pair by pair
-pub pairs_from_rises : {X K : Type 0} (R : K → K → Ordering) (key : X → K) (xs : List X) → Rises R (Rattle.std.specs.Prelude.map key xs) → InPairs (λ a b. R (key a) (key b) ≡ Less) xs
-pairs_from_rises R key [] h = tt
-pairs_from_rises {X} R key (x ∷ xs) h = (below xs h.0, pairs_from_rises R key xs h.1)
-  where
-    below : (ys : List X) → Below R (key x) (Rattle.std.specs.Prelude.map key ys) → (y : X) → Member y ys → R (key x) (key y) ≡ Less
-    below [] b y m = absurd m
-    below (z ∷ ys) b y (inl e) = ap (λ w. R (key x) (key w)) e ∙ b.0
-    below (z ∷ ys) b y (inr m) = below ys b.1 y m
+-- a list that rises, pair by pair
+pub rises_pairs : {K : Type 0} {R : K → K → Ordering} → IsTotalOrder R → (xs : List K) → Rises R xs → InPairs (λ a b. R a b ≡ Less) xs
+rises_pairs o [] h = tt
+rises_pairs o (x ∷ xs) h = ((λ y m. Below-member o x y xs h.0 m), rises_pairs o xs h.1)
 
-pub pairs_of_numbers : (xs : List ℕ) → Rises nat_cmp xs → InPairs (λ a b. nat_cmp a b ≡ Less) xs
-pairs_of_numbers [] h = tt
-pairs_of_numbers (x ∷ xs) h = (below xs h.0, pairs_of_numbers xs h.1)
-  where
-    below : (ys : List ℕ) → Below nat_cmp x ys → (y : ℕ) → Member y ys → nat_cmp x y ≡ Less
-    below [] b y m = absurd m
-    below (z ∷ ys) b y (inl e) = ap (nat_cmp x) e ∙ b.0
-    below (z ∷ ys) b y (inr m) = below ys b.1 y m
+-- one that rises by a key
+pub pairs_from_rises : {X K : Type 0} {R : K → K → Ordering} → IsTotalOrder R → (key : X → K) (xs : List X) → Rises R (map key xs) → InPairs (λ a b. R (key a) (key b) ≡ Less) xs
+pairs_from_rises o key [] h = tt
+pairs_from_rises o key (x ∷ xs) h = ((λ y m. Below-member o (key x) (key y) (map key xs) h.0 (Member-map key y xs m)), pairs_from_rises o key xs h.1)
 
 less_number : (x y : ℕ) → nat_cmp x y ≡ Less → ltb y x ≡ false
 less_number x y e = grind (arith, nat_tests)

@@ -12,7 +12,7 @@ use Rattle.sabr_plan.specs.Words.{is_one_line}
 use Rattle.sabr_frontier.specs.listing.Rising.{Rises}
 use Rattle.sabr_frontier.specs.listing.State.{PartState, pair_of}
 use Rattle.sabr_frontier.specs.tree.Undo.{last_item, front}
-use Rattle.sabr_frontier.proofs.TreeLemmas.NodePlaces.{last_split}
+use Rattle.sabr_frontier.proofs.TreeLemmas.ModifiedPlaces.{last_split}
 use Rattle.sabr_session.specs.SpacedNumbers.{list_text}
 use Rattle.sabr_session.specs.SessionWords.{words_of, contacts_of, most_number}
 use Rattle.sabr_session.specs.SessionLines.{carried_of, part_of}

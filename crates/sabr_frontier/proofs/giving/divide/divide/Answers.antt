@@ -7,7 +7,7 @@ use Rattle.sabr_frontier.specs.declared.tree.Node.{Node}
 use Rattle.sabr_frontier.specs.listing.Rising.{Rises}
 use Rattle.sabr_frontier.specs.tree.Undo.{modify}
 use Rattle.sabr_frontier.specs.tree.Prepared.{excluding}
-use Rattle.sabr_frontier.proofs.TreeLemmas.NodePlaces.{within_get}
+use Rattle.sabr_frontier.proofs.TreeLemmas.ModifiedPlaces.{within_get}
 use Rattle.sabr_frontier.proofs.ListingLemmas.Rising.{Rises-put_in}
 use Rattle.sabr_frontier.proofs.TreeLemmas.Excluding.{excluded_there, included}
 use Rattle.sabr_frontier.proofs.giving.divide.divide.Goals as goal

@@ -1,54 +1,29 @@
-use Rattle.std.proofs.Common.{◌≡◌, ap, sym, subst, ◌∙◌, Some, None, Ok, Err}
+use Rattle.std.proofs.Common.{◌≡◌, ap, sym, subst, ◌∙◌, Some, None, Err}
 use Rattle.std.proofs.lemmas.Bool.{and_parts}
-use Rattle.std.specs.Prelude.{IsOkUnless, Result}
 use Rattle.std.proofs.lemmas.Result.{err_from_is_err_and}
 use Rattle.std.specs.Option.{option_copied}
-use Rattle.sabr_frontier.specs.declared.loader.load_fault.LoadFault.{LoadFault}
 use Rattle.sabr_frontier.specs.declared.loader.load_fault.LoadFault.TheVariants as load
-use Rattle.sabr_frontier.specs.loading.Loading.{Loaded, comes_after, refusal_by, rise_strictly, with_part}
-use Rattle.sabr_frontier.specs.listing.State.{PartState}
+use Rattle.sabr_frontier.specs.loading.Loading.{Loaded, comes_after, rise_strictly, with_part}
+use Rattle.sabr_frontier.specs.listing.State.{part_with}
 use Rattle.sabr_frontier.specs.loading.Holding.{IsHeld, holding_of, loaded, parts_in}
-use Rattle.sabr_frontier.proofs.LoadingLemmas.AnsweredParts.{held_more, parts_then}
-use Rattle.sabr_frontier.proofs.LoadingLemmas.PartRefusals.{accepted, carry_accepted, carry_told, not_refused, order_refused, told}
+use Rattle.sabr_frontier.proofs.LoadingLemmas.AnsweredParts.{held_more, parts_then, carry_accepted, carry_told, not_refused, order_refused}
 use Rattle.sabr_frontier.proofs.loader.Loader.add_part.Goals as goal
 
 pub returns-then-not-is_next-clause-refused : goal.returns-then-not-is_next-clause-refused
-returns-then-not-is_next-clause-refused g c =
-    let s = c.self.inside in
-    let p = s.question.plan.now.plan in
-    let parts = parts_in (holding_of s.held) in
-    let t : PartState = record { prefix = c.args.prefix.now; excluded = c.args.excluded.now; carried = option_copied c.args.route } in
-    subst (λ (v : Loaded). (f : LoadFault) → refusal_by v t ≡ Some f → ◌≡◌ {A = Result (Unit {0}) LoadFault} (Err load.BadOrder) (Err f)) c.self.view_is
-    (λ f h. told p s.question.request parts t load.BadOrder f (order_refused p s.question.request parts t (sym c.is_next.ensures ∙ c.if-not-is_next.true)) h)
+returns-then-not-is_next-clause-refused g c f h = let both : Some load.BadOrder ≡ Some f = sym (order_refused c.self.inside.held c.self.view_is (part_with c.args.prefix.now c.args.excluded.now (option_copied c.args.route)) (sym c.is_next.ensures ∙ c.if-not-is_next.true)) ∙ h in cc
 
 pub returns-then-not-is_next-clause-accepted : goal.returns-then-not-is_next-clause-accepted
-returns-then-not-is_next-clause-accepted g c =
-    let s = c.self.inside in
-    let p = s.question.plan.now.plan in
-    let parts = parts_in (holding_of s.held) in
-    let t : PartState = record { prefix = c.args.prefix.now; excluded = c.args.excluded.now; carried = option_copied c.args.route } in
-    subst (λ (v : Loaded). refusal_by v t ≡ None → load.BadOrder ≡ load.NoMemory) c.self.view_is
-    (λ h. accepted p s.question.request parts t load.BadOrder h (order_refused p s.question.request parts t (sym c.is_next.ensures ∙ c.if-not-is_next.true)))
+returns-then-not-is_next-clause-accepted g c h = let both : Some load.BadOrder ≡ None = sym (order_refused c.self.inside.held c.self.view_is (part_with c.args.prefix.now c.args.excluded.now (option_copied c.args.route)) (sym c.is_next.ensures ∙ c.if-not-is_next.true)) ∙ h in cc
 
 pub returns-in_err-route-clause-refused : goal.returns-in_err-route-clause-refused
-returns-in_err-route-clause-refused g c =
-    let s = c.self.inside in
-    let p = s.question.plan.now.plan in
-    let parts = parts_in (holding_of s.held) in
-    let t : PartState = record { prefix = c.args.prefix.now; excluded = c.args.excluded.now; carried = option_copied c.args.route } in
+returns-in_err-route-clause-refused g c f h =
     let (failure, is, same) = err_from_is_err_and c.from_residual.result c.from_residual.ensures.1 in
-    subst (λ (v : Loaded). (f : LoadFault) → refusal_by v t ≡ Some f → c.from_residual.result ≡ Err f) c.self.view_is
-    (λ f h. is ∙ ap Err same ∙ carry_told p s.question.request parts t c.in_err-route.field-0.0 (sym c.is_next.ensures ∙ c.if-not-is_next.false) c.in_err-route.ensures.err f h)
+    is ∙ ap Err (same ∙ carry_told c.self.inside.held c.self.view_is (part_with c.args.prefix.now c.args.excluded.now (option_copied c.args.route)) (sym c.is_next.ensures ∙ c.if-not-is_next.false) c.in_err-route.field-0.0 f c.in_err-route.ensures.err h)
 
 pub returns-in_err-route-clause-accepted : goal.returns-in_err-route-clause-accepted
-returns-in_err-route-clause-accepted g c =
-    let s = c.self.inside in
-    let p = s.question.plan.now.plan in
-    let parts = parts_in (holding_of s.held) in
-    let t : PartState = record { prefix = c.args.prefix.now; excluded = c.args.excluded.now; carried = option_copied c.args.route } in
+returns-in_err-route-clause-accepted g c h =
     let (failure, is, same) = err_from_is_err_and c.from_residual.result c.from_residual.ensures.1 in
-    subst (λ (v : Loaded). refusal_by v t ≡ None → IsOkUnless c.from_residual.result load.NoMemory) c.self.view_is
-    (λ h. rw (is, same) (carry_accepted p s.question.request parts t c.in_err-route.field-0.0 (sym c.is_next.ensures ∙ c.if-not-is_next.false) c.in_err-route.ensures.err h))
+    rw (is, same) (carry_accepted c.self.inside.held c.self.view_is (part_with c.args.prefix.now c.args.excluded.now (option_copied c.args.route)) (sym c.is_next.ensures ∙ c.if-not-is_next.false) c.in_err-route.field-0.0 c.in_err-route.ensures.err h)
 
 pub invariant_of-self : goal.invariant_of-self
 invariant_of-self g c =
@@ -60,13 +35,7 @@ invariant_of-self g c =
     }
 
 pub returns-in_err-take_in-clause-refused : goal.returns-in_err-take_in-clause-refused
-returns-in_err-take_in-clause-refused g c =
-    let s = c.self.inside in
-    let p = s.question.plan.now.plan in
-    let parts = parts_in (holding_of s.held) in
-    let t : PartState = record { prefix = c.args.prefix.now; excluded = c.args.excluded.now; carried = option_copied c.args.route } in
-    subst (λ (v : Loaded). (f : LoadFault) → refusal_by v t ≡ Some f → c.from_residual-in_err-take_in.result ≡ Err f) c.self.view_is
-    (λ f h. accepted p s.question.request parts t f (not_refused p s.question.request parts t (sym c.is_next.ensures ∙ c.if-not-is_next.false) c.in_ok-route.ensures.may) h)
+returns-in_err-take_in-clause-refused g c f h = let both : None ≡ Some f = sym (not_refused c.self.inside.held c.self.view_is (part_with c.args.prefix.now c.args.excluded.now (option_copied c.args.route)) (sym c.is_next.ensures ∙ c.if-not-is_next.false) c.in_ok-route.ensures.may) ∙ h in cc
 
 pub invariant_of-self-2 : goal.invariant_of-self-2
 invariant_of-self-2 g c =
@@ -74,10 +43,9 @@ invariant_of-self-2 g c =
     let p = s.question.plan.now.plan in
     let r = s.question.request in
     let h = holding_of s.held in
-    let parts = parts_in h in
     let q = c.args.prefix.now in
     let X = c.args.excluded.now in
-    let next = and_parts (rise_strictly X) (comes_after parts q) (sym c.is_next.ensures ∙ c.if-not-is_next.false) in
+    let next = and_parts (rise_strictly X) (comes_after (parts_in h) q) (sym c.is_next.ensures ∙ c.if-not-is_next.false) in
     let w = c.in_ok-take_in.ensures.ok in
     record {
       rules = c.self.invariant.rules;
@@ -86,13 +54,7 @@ invariant_of-self-2 g c =
     }
 
 pub returns-clause-refused : goal.returns-clause-refused
-returns-clause-refused g c =
-    let s = c.self.inside in
-    let p = s.question.plan.now.plan in
-    let parts = parts_in (holding_of s.held) in
-    let t : PartState = record { prefix = c.args.prefix.now; excluded = c.args.excluded.now; carried = option_copied c.args.route } in
-    subst (λ (v : Loaded). (f : LoadFault) → refusal_by v t ≡ Some f → ◌≡◌ {A = Result (Unit {0}) LoadFault} (Ok tt) (Err f)) c.self.view_is
-    (λ f h. accepted p s.question.request parts t f (not_refused p s.question.request parts t (sym c.is_next.ensures ∙ c.if-not-is_next.false) c.in_ok-route.ensures.may) h)
+returns-clause-refused g c f h = let both : None ≡ Some f = sym (not_refused c.self.inside.held c.self.view_is (part_with c.args.prefix.now c.args.excluded.now (option_copied c.args.route)) (sym c.is_next.ensures ∙ c.if-not-is_next.false) c.in_ok-route.ensures.may) ∙ h in cc
 
 pub returns-clause-ok : goal.returns-clause-ok
 returns-clause-ok g c =
@@ -102,8 +64,7 @@ returns-clause-ok g c =
     let h = holding_of s.held in
     let q = c.args.prefix.now in
     let X = c.args.excluded.now in
-    let t : PartState = record { prefix = q; excluded = X; carried = option_copied c.args.route } in
     let w = c.in_ok-take_in.ensures.ok in
     let parts = ap parts_in w.2 ∙ parts_then p r h c.self.invariant.held q X c.in_ok-route.route (option_copied c.args.route) c.in_ok-route.ensures.ok w.0 in
-    subst (λ (v : Loaded). loaded s.question.plan.now r c.take_in.new.self (g.B.BestOf.calls_of s.finder) ≡ with_part v t) c.self.view_is
+    subst (λ (v : Loaded). loaded s.question.plan.now r c.take_in.new.self (g.B.BestOf.calls_of s.finder) ≡ with_part v (part_with q X (option_copied c.args.route))) c.self.view_is
     (λ i. record { plan = s.question.plan.now; request = r; parts = parts i; calls = g.B.BestOf.calls_of s.finder })

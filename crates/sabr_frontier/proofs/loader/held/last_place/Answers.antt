@@ -7,8 +7,7 @@ use Rattle.sabr_model.specs.routes.Record.{RouteRecord}
 use Rattle.sabr_frontier.specs.tree.Shape.{contacts_in, numbers_of}
 use Rattle.sabr_frontier.specs.listing.State.{Member}
 use Rattle.sabr_frontier.proofs.ListingLemmas.ListMembers.{Member-append_cases}
-use Rattle.sabr_frontier.proofs.TreeLemmas.ModifiedPlaces.{get_there}
-use Rattle.sabr_frontier.proofs.TreeLemmas.NodePlaces.{get_Member}
+use Rattle.sabr_frontier.proofs.TreeLemmas.ModifiedPlaces.{get_there, get_Member}
 use Rattle.sabr_frontier.proofs.loader.held.last_place.Goals as goal
 use Rattle.sabr_frontier.proofs.loader.held.last_place.Goals.{else-is_empty-via-then-is_empty+else-is_empty-2, else-is_empty-via-else-is_empty}
 

@@ -1,4 +1,4 @@
-use Rattle.std.proofs.Common.{◌≡◌, ◌+◌, ◌-◌, ◌<◌, ◌≤◌, ◌⊎◌, inl, inr, ℕ, List, [], ◌∷◌, ◌++◌, map, length, reverse, arith, ap, sym, subst, ◌∙◌, None}
+use Rattle.std.proofs.Common.{◌≡◌, ◌+◌, ◌-◌, ◌<◌, ◌≤◌, ◌⊎◌, inl, inr, ℕ, List, [], ◌∷◌, ◌++◌, map, length, reverse, arith, ap, sym, subst, ◌∙◌, None, refl}
 use Rattle.sabr_model.specs.routes.Record.{record_of}
 use Rattle.sabr_frontier.specs.declared.tree.Tree.{Tree}
 use Rattle.sabr_frontier.specs.tree.Asking.{Asked, Asking}
@@ -16,7 +16,7 @@ use Rattle.sabr_frontier.proofs.session.Session.page.Goals as goal
 use Rattle.sabr_frontier.proofs.session.Session.page.Goals.{then-count-eq0-via-then-count-eq0, then-count-eq0-via-else-count-eq0+then-is_empty}
 
 -- what is shown of a session, and a page of k routes
-module _ {A : Type 0} (asker : Asking) (tree : Tree A) (pages : List ℕ) (searches : ℕ) (h : IsSession asker.asked tree pages) (v : Seen) (is : seen asker tree pages searches ≡ v) (k : ℕ) where
+module _ {A : Type 0} (asker : Asking) {tree : Tree A} {pages : List ℕ} {searches : ℕ} (h : IsSession asker.asked tree pages) {v : Seen} (is : seen asker tree pages searches ≡ v) (k : ℕ) where
   -- if none is asked for or left, none is given
   nothing : (k ≡ 0) ⊎ CarriesNone tree.nodes.items → next_page v k ≡ ([], v.state)
   nothing none = subst (λ (w : Seen). next_page w k ≡ ([], w.state)) is (idle asker.asked.plan.plan asker.asked.request h.rules (shape_of tree) h.sound k none)
@@ -35,58 +35,47 @@ module _ {A : Type 0} (asker : Asking) (tree : Tree A) (pages : List ℕ) (searc
       subst (λ (w : Seen). GivesNewRoutes w.plan.plan w.request k w.state) is
       (new_routes asker.asked.plan.plan asker.asked.request h.rules k (shown (shape_of tree)) (sound_tree asker.asked.plan.plan asker.asked.request (length tree.journal.items) (shape_of tree) h.sound).formed)
 
-pub returns-then-count-eq0-clause-routes : goal.returns-then-count-eq0-clause-routes
-returns-then-count-eq0-clause-routes g c =
+pub returns-then-count-eq0 : goal.returns-then-count-eq0
+returns-then-count-eq0 g c =
     let s = c.self.inside in
     let k = c.args.count in
-    let none : (k ≡ 0) ⊎ CarriesNone s.tree.nodes.items = elim c.then-count-eq0.branch [
-      | then-count-eq0-via-then-count-eq0 w ↦ inl (omega arith)
-      | then-count-eq0-via-else-count-eq0+then-is_empty w ↦ inr (w.is_empty.ensures.none w.if-is_empty.true)
-    ] in
     let v = c.args.self.now in
-    c.new-given.ensures.items ∙ sym (ap (λ (z : List (List ℕ) × State). map (record_of v.plan.plan v.request) z.0) (nothing s.asker s.tree s.pages.items s.searches c.self.invariant c.args.self.now c.self.view_is k none))
-
-pub returns-then-count-eq0-clause-state : goal.returns-then-count-eq0-clause-state
-returns-then-count-eq0-clause-state g c =
-    let s = c.self.inside in
-    let k = c.args.count in
     let none : (k ≡ 0) ⊎ CarriesNone s.tree.nodes.items = elim c.then-count-eq0.branch [
       | then-count-eq0-via-then-count-eq0 w ↦ inl (omega arith)
       | then-count-eq0-via-else-count-eq0+then-is_empty w ↦ inr (w.is_empty.ensures.none w.if-is_empty.true)
     ] in
-    ap (λ (v : Seen). v.state) c.self.view_is ∙ sym (ap (λ (z : List (List ℕ) × State). z.1) (nothing s.asker s.tree s.pages.items s.searches c.self.invariant c.args.self.now c.self.view_is k none))
-
-pub returns-then-count-eq0-clause-former : goal.returns-then-count-eq0-clause-former
-returns-then-count-eq0-clause-former g c =
-    let s = c.self.inside in
-    let k = c.args.count in
-    let none : (k ≡ 0) ⊎ CarriesNone s.tree.nodes.items = elim c.then-count-eq0.branch [
-      | then-count-eq0-via-then-count-eq0 w ↦ inl (omega arith)
-      | then-count-eq0-via-else-count-eq0+then-is_empty w ↦ inr (w.is_empty.ensures.none w.if-is_empty.true)
-    ] in
-    let v = c.args.self.now in
-    ap (λ (v : Seen). v.former) c.self.view_is ∙ sym (ap (λ (z : List (List ℕ) × State). former_then z.0 v.state v.former) (nothing s.asker s.tree s.pages.items s.searches c.self.invariant c.args.self.now c.self.view_is k none))
+    let page = sym (nothing s.asker c.self.invariant c.self.view_is k none) in
+    let still = no_search s.asker c.self.invariant c.self.view_is k none in
+    record {
+      routes = c.new-given.ensures.items ∙ ap (λ (z : List (List ℕ) × State). map (record_of v.plan.plan v.request) z.0) page;
+      state = ap (λ (v : Seen). v.state) c.self.view_is ∙ ap (λ (z : List (List ℕ) × State). z.1) page;
+      former = ap (λ (v : Seen). v.former) c.self.view_is ∙ ap (λ (z : List (List ℕ) × State). former_then z.0 v.state v.former) page;
+      searches = sym still;
+      calls = (let same = ap (λ (v : Seen). v.calls) c.self.view_is in omega (arith, same, still));
+      plan = ap (λ (v : Seen). v.plan) c.self.view_is;
+      request = ap (λ (v : Seen). v.request) c.self.view_is;
+      new_routes = no_route_twice s.asker c.self.invariant c.self.view_is k;
+      err = tt;
+      no_fewer = tt;
+      at_most = tt;
+      free = λ _. refl;
+    }
 
 pub returns-in_err-reserve-clause-free : goal.returns-in_err-reserve-clause-free
-returns-in_err-reserve-clause-free g c h =
-    let s = c.self.inside in
-    absurd (something s.asker s.tree s.pages.items s.searches c.self.invariant c.args.self.now c.self.view_is c.args.count (omega arith) (c.is_empty.ensures.some c.if-is_empty.false) h)
+returns-in_err-reserve-clause-free g c h = absurd (something c.self.inside.asker c.self.invariant c.self.view_is c.args.count (omega arith) (c.is_empty.ensures.some c.if-is_empty.false) h)
 
-pub settle-requires-clause-all : goal.settle-requires-clause-all
-settle-requires-clause-all g c =
-    let s = c.self.inside in
-    let t = shape_of c.gather.new.self in
-    (sound_tree s.asker.asked.plan.plan s.asker.asked.request (length t.journal) t c.in-Ok.ensures.sound).listed
-
-pub settle-requires-clause-part : goal.settle-requires-clause-part
-settle-requires-clause-part g c =
+pub settle-requires : goal.settle-requires
+settle-requires g c =
     let s = c.self.inside in
     let p = s.asker.asked.plan.plan in
     let r = s.asker.asked.request in
     let t = shape_of c.gather.new.self in
     let first = shape_of s.tree in
-    part_before p r t first (length t.journal - length first.journal) c.gather.new.self.index.items (omega arith) c.in-Ok.ensures.sound c.in-Ok.ensures.back (sound_tree p r (length first.journal) first c.self.invariant.sound)
-    (c.in-Ok.ensures.index ∙ c.self.invariant.index)
+    record {
+      all = (sound_tree p r (length t.journal) t c.in-Ok.ensures.sound).listed;
+      part = part_before p r t first (length t.journal - length first.journal) c.gather.new.self.index.items (omega arith) c.in-Ok.ensures.sound c.in-Ok.ensures.back (sound_tree p r (length first.journal) first c.self.invariant.sound) (c.in-Ok.ensures.index ∙ c.self.invariant.index);
+      room = c.in-Ok.ensures.room;
+    }
 
 pub invariant_of-self-in-Ok : goal.invariant_of-self-in-Ok
 invariant_of-self-in-Ok g c =
@@ -107,21 +96,21 @@ invariant_of-self-in-Ok g c =
       room = c.settle.ensures.room;
     })
 
-pub undo_to-requires-clause-possible : goal.undo_to-requires-clause-possible
-undo_to-requires-clause-possible g c =
-    let s = c.self.inside in
-    let n : ℕ = length c.gather.new.self.journal.items in
-    sound_undos s.asker.asked.plan.plan s.asker.asked.request (n - c.len-start.result) n (shape_of c.gather.new.self) (omega arith) c.in-Err.ensures.sound
-
-pub undo_to-requires-clause-index : goal.undo_to-requires-clause-index
-undo_to-requires-clause-index g c =
+pub undo_to-requires : goal.undo_to-requires
+undo_to-requires g c =
     let s = c.self.inside in
     let p = s.asker.asked.plan.plan in
     let r = s.asker.asked.request in
+    let n : ℕ = length c.gather.new.self.journal.items in
     let first = shape_of s.tree in
     let start : c.len-start.result ≡ length first.journal = omega (arith, c.len-start.ensures) in
     let same = ap (λ n. tree_before n (shape_of c.gather.new.self)) start ∙ c.in-Err.ensures.back in
-    subst (λ (z : Shape g.row.A.Denot). IsIndexBack z c.gather.new.self.index.items) (sym same) (back_before p r first c.gather.new.self.index.items (sound_tree p r (length first.journal) first c.self.invariant.sound) (c.in-Err.ensures.index ∙ c.self.invariant.index))
+    let index = back_before p r first c.gather.new.self.index.items (sound_tree p r (length first.journal) first c.self.invariant.sound) (c.in-Err.ensures.index ∙ c.self.invariant.index) in
+    record {
+      possible = sound_undos p r (n - c.len-start.result) n (shape_of c.gather.new.self) (omega arith) c.in-Err.ensures.sound;
+      index = subst (λ (z : Shape g.row.A.Denot). IsIndexBack z c.gather.new.self.index.items) (sym same) index;
+      room = c.in-Err.ensures.room;
+    }
 
 pub invariant_of-self-in-Err-1 : goal.invariant_of-self-in-Err-1
 invariant_of-self-in-Err-1 g c =
@@ -154,51 +143,16 @@ returns-in-Ok-clause-former g c =
     ∙ ap (λ (v : Seen). former_then (next_page v c.args.count).0 v.state v.former) c.self.view_is
 
 pub returns-in-Err-clause-free : goal.returns-in-Err-clause-free
-returns-in-Err-clause-free g c h =
-    let s = c.self.inside in
-    absurd (something s.asker s.tree s.pages.items s.searches c.self.invariant c.args.self.now c.self.view_is c.args.count (omega arith) (c.is_empty.ensures.some c.if-is_empty.false) h)
-
-pub returns-then-count-eq0-clause-searches : goal.returns-then-count-eq0-clause-searches
-returns-then-count-eq0-clause-searches g c =
-    let s = c.self.inside in
-    let k = c.args.count in
-    let none : (k ≡ 0) ⊎ CarriesNone s.tree.nodes.items = elim c.then-count-eq0.branch [
-      | then-count-eq0-via-then-count-eq0 w ↦ inl (omega arith)
-      | then-count-eq0-via-else-count-eq0+then-is_empty w ↦ inr (w.is_empty.ensures.none w.if-is_empty.true)
-    ] in
-    sym (no_search s.asker s.tree s.pages.items s.searches c.self.invariant c.args.self.now c.self.view_is k none)
-
-pub returns-then-count-eq0-clause-calls : goal.returns-then-count-eq0-clause-calls
-returns-then-count-eq0-clause-calls g c =
-    let s = c.self.inside in
-    let k = c.args.count in
-    let none : (k ≡ 0) ⊎ CarriesNone s.tree.nodes.items = elim c.then-count-eq0.branch [
-      | then-count-eq0-via-then-count-eq0 w ↦ inl (omega arith)
-      | then-count-eq0-via-else-count-eq0+then-is_empty w ↦ inr (w.is_empty.ensures.none w.if-is_empty.true)
-    ] in
-    let same = ap (λ (v : Seen). v.calls) c.self.view_is in
-    let still = no_search s.asker s.tree s.pages.items s.searches c.self.invariant c.args.self.now c.self.view_is k none in
-    omega (arith, same, still)
-
-pub returns-then-count-eq0-clause-new_routes : goal.returns-then-count-eq0-clause-new_routes
-returns-then-count-eq0-clause-new_routes g c =
-    let s = c.self.inside in
-    no_route_twice s.asker s.tree s.pages.items s.searches c.self.invariant c.args.self.now c.self.view_is c.args.count
+returns-in-Err-clause-free g c h = absurd (something c.self.inside.asker c.self.invariant c.self.view_is c.args.count (omega arith) (c.is_empty.ensures.some c.if-is_empty.false) h)
 
 pub returns-in_err-reserve-clause-new_routes : goal.returns-in_err-reserve-clause-new_routes
-returns-in_err-reserve-clause-new_routes g c =
-    let s = c.self.inside in
-    no_route_twice s.asker s.tree s.pages.items s.searches c.self.invariant c.args.self.now c.self.view_is c.args.count
+returns-in_err-reserve-clause-new_routes g c = no_route_twice c.self.inside.asker c.self.invariant c.self.view_is c.args.count
 
 pub returns-in-Ok-clause-new_routes : goal.returns-in-Ok-clause-new_routes
-returns-in-Ok-clause-new_routes g c =
-    let s = c.self.inside in
-    no_route_twice s.asker s.tree s.pages.items s.searches c.self.invariant c.args.self.now c.self.view_is c.args.count
+returns-in-Ok-clause-new_routes g c = no_route_twice c.self.inside.asker c.self.invariant c.self.view_is c.args.count
 
 pub returns-in-Err-clause-new_routes : goal.returns-in-Err-clause-new_routes
-returns-in-Err-clause-new_routes g c =
-    let s = c.self.inside in
-    no_route_twice s.asker s.tree s.pages.items s.searches c.self.invariant c.args.self.now c.self.view_is c.args.count
+returns-in-Err-clause-new_routes g c = no_route_twice c.self.inside.asker c.self.invariant c.self.view_is c.args.count
 
 pub returns-in-Err-clause-at_most : goal.returns-in-Err-clause-at_most
 returns-in-Err-clause-at_most g c =

@@ -12,22 +12,17 @@ use Rattle.sabr_frontier.proofs.TreeLemmas.TestBoundaries.{increasing}
 use Rattle.sabr_frontier.proofs.SessionLemmas.Verdicts.{excluded_rise, front_is, least_best, best_least}
 use Rattle.sabr_frontier.proofs.tree.Tree.carries_least.Goals as goal
 
-pub ask-requires-clause-fits : goal.ask-requires-clause-fits
-ask-requires-clause-fits g c =
+pub ask-requires : goal.ask-requires
+ask-requires g c =
     let p = c.args.asker.now.asked.plan.plan in
     let r = c.args.asker.now.asked.request in
     let t = shape_of c.args.self.now in
     let n = c.node-item.result in
     let here = subst (λ (xs : List (Node g.row.A.Denot)). slice_get xs c.loop-node.node-index ≡ Some n) c.deref-node-items.ensures.value (get_there c.deref-node-items.result.now c.loop-node.node-index n c.loop-node-test.true c.node-item.is) in
-    subst (λ (a : Asked). IsTrue (is_prefix a.plan.plan a.request c.prefix-front.result.now)) (sym c.loop-node.invariant.same)
-    (ap (is_prefix p r) (c.prefix-front.ensures ∙ ap (λ l. prefix_of l n) c.as_slice.ensures.value) ∙ front_is p r t c.requires.tree c.loop-node.node-index n here)
-
-pub ask-requires-clause-rising : goal.ask-requires-clause-rising
-ask-requires-clause-rising g c =
-    let t = shape_of c.args.self.now in
-    let n = c.node-item.result in
-    let here = subst (λ (xs : List (Node g.row.A.Denot)). slice_get xs c.loop-node.node-index ≡ Some n) c.deref-node-items.ensures.value (get_there c.deref-node-items.result.now c.loop-node.node-index n c.loop-node-test.true c.node-item.is) in
-    subst IsStrictlyIncreasing (sym c.as_slice-in-loop-node.ensures) (increasing n.excluded (excluded_rise c.args.asker.now.asked.plan.plan c.args.asker.now.asked.request t c.requires.tree c.loop-node.node-index n here))
+    record {
+      fits = subst (λ (a : Asked). IsTrue (is_prefix a.plan.plan a.request c.prefix-front.result.now)) (sym c.loop-node.invariant.same) (ap (is_prefix p r) (c.prefix-front.ensures ∙ ap (λ l. prefix_of l n) c.as_slice.ensures.value) ∙ front_is p r t c.requires.tree c.loop-node.node-index n here);
+      rising = subst IsStrictlyIncreasing (sym c.as_slice-in-loop-node.ensures) (increasing n.excluded (excluded_rise p r t c.requires.tree c.loop-node.node-index n here));
+    }
 
 pub returns-then-not-is_same-clause-least : goal.returns-then-not-is_same-clause-least
 returns-then-not-is_same-clause-least g c =

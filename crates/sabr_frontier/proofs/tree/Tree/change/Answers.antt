@@ -5,8 +5,7 @@ use Rattle.sabr_frontier.specs.tree.Shape.{order_of, route_of}
 use Rattle.sabr_frontier.specs.tree.Undo.{modify}
 use Rattle.sabr_frontier.specs.tree.Prepared.{carrying}
 use Rattle.sabr_frontier.specs.tree.Winners.{AreOthersWinners, AreWinners}
-use Rattle.sabr_frontier.proofs.TreeLemmas.ModifiedPlaces.{get_taken}
-use Rattle.sabr_frontier.proofs.TreeLemmas.NodePlaces.{get_other}
+use Rattle.sabr_frontier.proofs.TreeLemmas.ModifiedPlaces.{get_taken, get_other}
 use Rattle.sabr_frontier.proofs.TreeLemmas.SlotWinners.{others_changed}
 use Rattle.sabr_frontier.proofs.tree.Tree.change.Goals as goal
 

@@ -1,12 +1,11 @@
-use Rattle.std.proofs.Common.{◌≡◌, refl, ◌-◌, ◌+◌, ◌≤◌, suc, length, arith, ap, sym, subst, ◌∙◌, inr, zero-add}
+use Rattle.std.proofs.Common.{◌≡◌, refl, ◌-◌, ◌+◌, ◌≤◌, suc, length, arith, ap, sym, subst, ◌∙◌, inl, inr, zero-add}
 use Rattle.sabr_model.specs.plan.Plan.{IsPlan}
 use Rattle.sabr_model.proofs.ListLemmas.Answered.{on_err}
 use Rattle.sabr_frontier.specs.tree.Asking.{Asked}
 use Rattle.sabr_frontier.specs.tree.Shape.{shape_of, shown}
 use Rattle.sabr_frontier.specs.tree.Sound.{IsTree}
 use Rattle.sabr_frontier.specs.tree.Taking.{IsTaken}
-use Rattle.sabr_frontier.proofs.TreeLemmas.GivenLeast.{is_given}
-use Rattle.sabr_frontier.proofs.SessionLemmas.Pages.{IsOnTheWay, at_first, one_on, at_last, at_end, sound_tree, last_steps, counts_on, counts_idle, counts_none, counts_first}
+use Rattle.sabr_frontier.proofs.SessionLemmas.Pages.{is_given, IsOnTheWay, at_first, one_on, at_end, sound_tree, counts_on, counts_idle, counts_none, counts_first}
 use Rattle.sabr_frontier.specs.listing.Listing.{searches_in}
 use Rattle.sabr_frontier.proofs.tree.Tree.gather.Goals as goal
 
@@ -22,19 +21,13 @@ loop-init g c = record {
 }
 
 pub returns-then-is_empty-clause-routes : goal.returns-then-is_empty-clause-routes
-returns-then-is_empty-clause-routes g c =
-    let empty = c.is_empty.ensures.none c.if-is_empty.true in
-    (at_end c.args.asker.now.asked.plan.plan c.args.asker.now.asked.request c.requires.plan (shown (shape_of c.args.self.now)) c.args.count (shape_of c.args.self.now) c.args.given.now.items (c.args.count - c.loop.counter) (shape_of c.loop.self) c.loop.given.items empty c.loop.invariant.way).routes
+returns-then-is_empty-clause-routes g c = (at_end c.requires.plan c.loop.invariant.way (inr (c.is_empty.ensures.none c.if-is_empty.true))).routes
 
 pub returns-then-is_empty-clause-state : goal.returns-then-is_empty-clause-state
-returns-then-is_empty-clause-state g c =
-    let empty = c.is_empty.ensures.none c.if-is_empty.true in
-    (at_end c.args.asker.now.asked.plan.plan c.args.asker.now.asked.request c.requires.plan (shown (shape_of c.args.self.now)) c.args.count (shape_of c.args.self.now) c.args.given.now.items (c.args.count - c.loop.counter) (shape_of c.loop.self) c.loop.given.items empty c.loop.invariant.way).state
+returns-then-is_empty-clause-state g c = (at_end c.requires.plan c.loop.invariant.way (inr (c.is_empty.ensures.none c.if-is_empty.true))).state
 
 pub returns-then-is_empty-clause-entries : goal.returns-then-is_empty-clause-entries
-returns-then-is_empty-clause-entries g c =
-    let empty = c.is_empty.ensures.none c.if-is_empty.true in
-    (at_end c.args.asker.now.asked.plan.plan c.args.asker.now.asked.request c.requires.plan (shown (shape_of c.args.self.now)) c.args.count (shape_of c.args.self.now) c.args.given.now.items (c.args.count - c.loop.counter) (shape_of c.loop.self) c.loop.given.items empty c.loop.invariant.way).entries
+returns-then-is_empty-clause-entries g c = (at_end c.requires.plan c.loop.invariant.way (inr (c.is_empty.ensures.none c.if-is_empty.true))).entries
 
 pub take-requires-clause-plan : goal.take-requires-clause-plan
 take-requires-clause-plan g c = subst (λ (a : Asked). IsPlan a.plan.plan) (sym c.loop.invariant.same) c.requires.plan
@@ -77,19 +70,13 @@ loop-preserved g c =
     }
 
 pub returns-clause-routes : goal.returns-clause-routes
-returns-clause-routes g c =
-    let none : c.args.count - c.loop.counter ≡ 0 = omega (arith, c.loop-test.false) in
-    (at_last c.args.asker.now.asked.plan.plan c.args.asker.now.asked.request (shown (shape_of c.args.self.now)) c.args.count (shape_of c.args.self.now) c.args.given.now.items (c.args.count - c.loop.counter) (shape_of c.loop.self) c.loop.given.items (last_steps c.args.asker.now.asked.plan.plan c.args.asker.now.asked.request (shown (shape_of c.loop.self)) (c.args.count - c.loop.counter) none) c.loop.invariant.way).routes
+returns-clause-routes g c = (at_end c.requires.plan c.loop.invariant.way (inl (omega (arith, c.loop-test.false)))).routes
 
 pub returns-clause-state : goal.returns-clause-state
-returns-clause-state g c =
-    let none : c.args.count - c.loop.counter ≡ 0 = omega (arith, c.loop-test.false) in
-    (at_last c.args.asker.now.asked.plan.plan c.args.asker.now.asked.request (shown (shape_of c.args.self.now)) c.args.count (shape_of c.args.self.now) c.args.given.now.items (c.args.count - c.loop.counter) (shape_of c.loop.self) c.loop.given.items (last_steps c.args.asker.now.asked.plan.plan c.args.asker.now.asked.request (shown (shape_of c.loop.self)) (c.args.count - c.loop.counter) none) c.loop.invariant.way).state
+returns-clause-state g c = (at_end c.requires.plan c.loop.invariant.way (inl (omega (arith, c.loop-test.false)))).state
 
 pub returns-clause-entries : goal.returns-clause-entries
-returns-clause-entries g c =
-    let none : c.args.count - c.loop.counter ≡ 0 = omega (arith, c.loop-test.false) in
-    (at_last c.args.asker.now.asked.plan.plan c.args.asker.now.asked.request (shown (shape_of c.args.self.now)) c.args.count (shape_of c.args.self.now) c.args.given.now.items (c.args.count - c.loop.counter) (shape_of c.loop.self) c.loop.given.items (last_steps c.args.asker.now.asked.plan.plan c.args.asker.now.asked.request (shown (shape_of c.loop.self)) (c.args.count - c.loop.counter) none) c.loop.invariant.way).entries
+returns-clause-entries g c = (at_end c.requires.plan c.loop.invariant.way (inl (omega (arith, c.loop-test.false)))).entries
 
 pub returns-then-is_empty-clause-searches : goal.returns-then-is_empty-clause-searches
 returns-then-is_empty-clause-searches g c =

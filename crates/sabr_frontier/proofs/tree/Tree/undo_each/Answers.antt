@@ -1,7 +1,7 @@
 use Rattle.std.proofs.Common.{arith, ℕ, length, ◌<◌, ◌-◌, ◌≡◌, ap, ◌∙◌, sym, subst}
 use Rattle.sabr_frontier.specs.tree.Shape.{shape_of}
 use Rattle.sabr_frontier.specs.tree.Undo.{CanUndoTimes, undone, undone_times}
-use Rattle.sabr_frontier.proofs.TreeLemmas.SingleUndos.{entries, entries_undone, can_undo_first, undone_first}
+use Rattle.sabr_frontier.proofs.SessionLemmas.Pages.{entries, entries_undone, can_undo_first, undone_first}
 use Rattle.sabr_frontier.proofs.tree.Tree.undo_each.Goals as goal
 
 pub loop-self-preserved : goal.loop-self-preserved
