@@ -3,7 +3,6 @@ pub mod SessionPages
 pub mod PageTexts
 pub mod ManyAnswers
 pub mod ManyAsFirst
-pub mod OldSessions
 pub mod RunsFollow
 pub mod NextPages
 pub mod RunsInTurn

@@ -6,6 +6,7 @@ ghost use Rattle.commands.specs.texts.Explanation.{refused_at, explanation_text}
 ghost use Rattle.commands.specs.texts.ExplanationRows.{first_hop, second_hop, route_of_both};
 
 /// Shows the explanation of a route over plan A, and of lists with one fault each.
+#[tactic(auto, unfolding(crate::specs::texts::Explanation::explanation_text))]
 pub fn explanations_of_plan_a()
     ensures route { explanation_text plan_a from_1_to_3 (1 ∷ 2 ∷ []) ≡ first_hop ++ (second_hop ++ route_of_both) }
     ensures empty { explanation_text plan_a from_1_to_3 [] ≡ codes "refused: Empty\n" }

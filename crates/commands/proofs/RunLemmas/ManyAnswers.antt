@@ -19,7 +19,6 @@ use Rattle.commands.specs.runs.SessionRuns.{next_report}
 use Rattle.commands.proofs.RunLemmas.PageTexts.{report_of_page}
 use Rattle.commands.proofs.RunLemmas.SessionPages.{first_report_is}
 use Rattle.std.specs.Prelude.{is_some, nat_lt}
-use Rattle.std.specs.Result.{IsErrAnd}
 use Rattle.commands.specs.declared.failure.Failure.{Failure}
 use Rattle.commands.specs.declared.failure.Failure.TheVariants as failure
 
@@ -118,20 +117,7 @@ module _ (p : ContactPlan) (count : ℕ) (requested : Result (List RequestLine) 
       → (xs : List RequestLine) × (requested ≡ Ok xs) × LeavesAnswers p xs count (Err f) old new
   fails new r is failure.Write part = breaks new r is part
   fails new r is failure.NoMemory same = rw same stops
-  fails new r is (failure.BadValue _) bad = absurd bad
-  fails new r is failure.SameNode bad = absurd bad
-  fails new r is failure.BadAvoid bad = absurd bad
-  fails new r is failure.CannotOpenPlan bad = absurd bad
-  fails new r is failure.CannotOpenSession bad = absurd bad
-  fails new r is failure.CannotMakeSession bad = absurd bad
-  fails new r is (failure.PlanLine _) bad = absurd bad
-  fails new r is failure.PlanRead bad = absurd bad
-  fails new r is (failure.Session _) bad = absurd bad
-  fails new r is failure.SessionRead bad = absurd bad
-  fails new r is failure.CannotOpenRequests bad = absurd bad
-  fails new r is (failure.RequestsLine _ _) bad = absurd bad
-  fails new r is failure.RequestsRead bad = absurd bad
-  fails new r is failure.NotUtf8 bad = absurd bad
+  fails new r is _ bad = absurd bad
 
 -- none is left
 pub all_answered : (p : ContactPlan) (count : ℕ) (requested : Result (List RequestLine) RequestsFault) (lines : List (List ℕ)) (old new : Output) → HasAnswered p count requested lines old new → lines ≡ []
@@ -151,15 +137,6 @@ first_of_page p r s k routes rank more rules (plan, request, state) given count 
     report_of_page s k routes rank more given count goes_on
     ∙ (λ i. next_report (plan i).plan (request i) (state i) k)
     ∙ first_report_is p.plan r k rules
-
--- one answer, where its writer failed, or memory was refused
-pub answer_failed : (p : ContactPlan) (count : ℕ) (x : RequestLine) (end : Result (Unit {0}) Failure) (a c : Output) → IsErrAnd end (λ e. e ≡ failure.Write) → WrittenInPart a (answer_text p count x) c → LeavesAnswer p count x end a c
-answer_failed p count x (Ok _) a c bad h = absurd bad
-answer_failed p count x (Err e) a c is h = rw is h
-
-pub answer_refused : (p : ContactPlan) (count : ℕ) (x : RequestLine) (end : Result (Unit {0}) Failure) (a : Output) → IsErrAnd end (λ e. e ≡ failure.NoMemory) → LeavesAnswer p count x end a a
-answer_refused p count x (Ok _) a bad = absurd bad
-answer_refused p count x (Err e) a is = rw is refl
 
 -- what a run leaves, where the requests were refused, or were answered and flushed
 pub none_bad : (text : List ℕ) (requested : Result (List RequestLine) RequestsFault) → HasRequests text requested → fault_of (requests_from 1 (lines_in text)) ≡ None

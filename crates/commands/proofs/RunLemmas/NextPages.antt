@@ -36,6 +36,14 @@ pub none_more : (bytes given : List ℕ) (left : Option (List ℕ)) → Consumes
 none_more bytes given None taken end = absurd taken
 none_more bytes given (Some more) taken end = sym (append-nil given) ∙ ap (λ b. given ++ b) (sym end) ∙ sym taken
 
+-- a session that was read over a plan is over that plan
+pub is_over_plan : (plan : TabledPlan) (old : Input) (s : Seen) (new : Input) → ReadsSession plan old (Ok s) new → s.plan ≡ plan
+is_over_plan plan old s new h = elim h.told [
+  | inl (ended, same, from) ↦ ap (λ (x : Seen). x.plan) from.0
+  | inr (inl broken) ↦ absurd broken
+  | inr (inr refused) ↦ absurd refused
+]
+
 -- the session that a run kept is the text of its place
 pub place_kept : (p : ContactPlan) (r : RouteRequest) (i : ℕ) → IsRequest r → i ≤ length (routes p r)
     → (keep : Bool) (report : List ℕ) (end : Result (Unit {0}) Failure) (old new old₁ new₁ : Output) → WritesPage keep p report (r, state_at p r i) end old new old₁ new₁ → KeepsPlace keep p r i end

@@ -1,22 +1,16 @@
 -- What a page leaves on its two writers, from what each step of writing it left.
-use Rattle.std.proofs.Common.{◌≡◌, ℕ, ◌+◌, Bool, List, [], Result, Ok, Err, map, refl, sym, ap, ◌∙◌, append-nil, inl, inr}
-use Rattle.std.specs.Prelude.{is_some, IsTrue}
-use Rattle.std.specs.Result.{IsErrAnd}
+use Rattle.std.proofs.Common.{◌≡◌, ℕ, ◌+◌, Bool, List, [], map, refl, sym, ap, ◌∙◌, append-nil}
+use Rattle.std.specs.Prelude.{is_some}
 use Rattle.std.specs.Io.KnownBytes.{Keeps}
 use Rattle.std.proofs.KnownBytes.{Appends-kept}
-use Rattle.sabr_model.specs.Devices.{Output, Written, WrittenAndFlushed, WrittenInPart}
-use Rattle.sabr_model.specs.plan.Plan.{ContactPlan}
-use Rattle.sabr_model.specs.routes.Arrival.{RouteRequest}
+use Rattle.sabr_model.specs.Devices.{Output, Written, WrittenInPart}
 use Rattle.sabr_model.specs.routes.Record.{RouteRecord, record_of}
-use Rattle.sabr_frontier.specs.listing.State.{State}
 use Rattle.sabr_frontier.specs.listing.Listing.{steps, next_route}
 use Rattle.sabr_frontier.specs.session.Session.{Seen}
 use Rattle.sabr_plan.specs.Canonical.{digest_of}
 use Rattle.sabr_session.specs.ReportText.{report_text}
 use Rattle.sabr_session.specs.SessionText.{text_of}
-use Rattle.commands.specs.declared.failure.Failure.{Failure}
-use Rattle.commands.specs.declared.failure.Failure.TheVariants as failure
-use Rattle.commands.specs.runs.SessionRuns.{next_report, text_over, WritesPage}
+use Rattle.commands.specs.runs.SessionRuns.{next_report}
 
 -- a text was written, and then its flush failed
 pub flush_failed : (a b c : Output) (text : List ℕ) → Written a text b → Keeps b.contents c.contents → c.failures ≡ b.failures + 1 → WrittenInPart a text c
@@ -42,21 +36,3 @@ pub text_of_page : (before after : Seen) (k : ℕ) → after.plan ≡ before.pla
     → text_of (digest_of after.plan.plan) after.request after.state
     ≡ text_of (digest_of before.plan.plan) before.request (steps before.plan.plan before.request k before.state).1
 text_of_page before after k plan request state = rw (plan, request, state) refl
-
--- memory was refused
-pub page_refused : (keep : Bool) (p : ContactPlan) (report : List ℕ) (x : RouteRequest × State) (end : Result (Unit {0}) Failure) (a b : Output)
-    → IsErrAnd end (λ e. e ≡ failure.NoMemory) → WritesPage keep p report x end a a b b
-page_refused keep p report x (Ok _) a b bad = absurd bad
-page_refused keep p report x (Err e) a b is = rw is (refl, refl)
-
--- the report's writer failed: nothing is left on the session's
-pub report_failed : (keep : Bool) (p : ContactPlan) (report : List ℕ) (x : RouteRequest × State) (end : Result (Unit {0}) Failure) (a c b : Output)
-    → IsErrAnd end (λ e. e ≡ failure.Write) → WrittenInPart a report c → WritesPage keep p report x end a c b b
-report_failed keep p report x (Ok _) a c b bad h = absurd bad
-report_failed keep p report x (Err e) a c b is h = rw is (inl (h, refl))
-
--- the session's writer failed, after the report
-pub session_failed : (keep : Bool) (p : ContactPlan) (report : List ℕ) (x : RouteRequest × State) (end : Result (Unit {0}) Failure) (a c b d : Output)
-    → IsErrAnd end (λ e. e ≡ failure.Write) → IsTrue keep → WrittenAndFlushed a report c → WrittenInPart b (text_over p x) d → WritesPage keep p report x end a c b d
-session_failed keep p report x (Ok _) a c b d bad kept h i = absurd bad
-session_failed keep p report x (Err e) a c b d is kept h i = rw is (inr (kept, h, i))

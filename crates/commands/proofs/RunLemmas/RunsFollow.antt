@@ -16,7 +16,7 @@ use Rattle.sabr_session.specs.SessionText.{text_of, HasText, IsUnlimited, sessio
 use Rattle.sabr_session.specs.SessionRead.{IsSessionOf}
 use Rattle.sabr_session.specs.TextLaws.{IsReadBack}
 use Rattle.sabr_session.proofs.TextLemmas.OneAnswer.{answers_once, is_read_back}
-use Rattle.commands.specs.runs.EveryRun.{Event, answered, refused, reread, unread, Beginning, started, from_text, EventsLeadTo, IsAt, BeginsWith, IsRun, asked_for, HaveTexts, FollowsListing, RunsFollow}
+use Rattle.commands.specs.runs.EveryRun.{Event, answered, reread, Beginning, started, from_text, EventsLeadTo, IsAt, BeginsWith, IsRun, asked_for, HaveTexts, FollowsListing, RunsFollow}
 
 -- ---- pages
 
@@ -86,11 +86,9 @@ module _ (p : ContactPlan) (r : RouteRequest) (good : IsPlan p) (accepted : IsRe
       let whole : length given ≡ length page + length rest = ap length joined ∙ length-append first rest ∙ ap (λ (l : List (List ℕ)). length l + length rest) same in
       let count : after + length rest ≡ i + length given = omega (arith, whole) in
       (joined ∙ ap (λ l. l ++ rest) same ∙ ap (λ l. page ++ l) stood.0 ∙ pages_joined i k (asked_for es), stood.1 ∙ ap (λ n. (r, state_at p r n)) count)
-  stands i h (refused ∷ es) given y x at (first, z, rest, led, on, joined) =
-      stays i es first rest given y led.0 joined (stands i h es rest y z (led.1 ∙ at) on)
   stands i h (reread ∷ es) given y x at (first, z, rest, led, on, joined) =
       stays i es first rest given y led.0 joined (stands i h es rest y z (read_place i z x h at led.1 led.2) on)
-  stands i h (unread ∷ es) given y x at (first, z, rest, led, on, joined) =
+  stands i h (_ ∷ es) given y x at (first, z, rest, led, on, joined) =
       stays i es first rest given y led.0 joined (stands i h es rest y z (led.1 ∙ at) on)
 
   -- a run of these events
@@ -101,14 +99,11 @@ module _ (p : ContactPlan) (r : RouteRequest) (good : IsPlan p) (accepted : IsRe
       let page = steps p x.0 k x.1 in
       let run = runs_on (i + length (page_of p r i k)) (next_within i k h) es (x.0, page.1) (place_led i k x h at) texts in
       (page.0 ++ run.0, run.1, (page.0, (x.0, page.1), run.0, (refl, refl), run.2, refl))
-  runs_on i h (refused ∷ es) x at texts =
-      let run = runs_on i h es x at texts in
-      (run.0, run.1, ([], x, run.0, (refl, refl), run.2, refl))
   runs_on i h (reread ∷ es) x at texts =
       let run = runs_on i h es x at texts.1 in
       let led = subst (λ (w : RouteRequest × State). HasText w.1 × IsSessionOf p (digest_of p) (text_of (digest_of p) w.0 w.1) true (Ok w)) (sym at) (texts.0, (read_back i h texts.0).text) in
       (run.0, run.1, ([], x, run.0, (refl, led.0, led.1), run.2, refl))
-  runs_on i h (unread ∷ es) x at texts =
+  runs_on i h (_ ∷ es) x at texts =
       let run = runs_on i h es x at texts in
       (run.0, run.1, ([], x, run.0, (refl, refl), run.2, refl))
 

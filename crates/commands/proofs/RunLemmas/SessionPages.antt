@@ -1,7 +1,8 @@
 -- What a page of a session just started gives of the listing.
-use Rattle.std.proofs.Common.{◌≡◌, ℕ, zero, suc, ◌+◌, ◌<◌, ◌≤◌, List, [], ◌∷◌, map, length, take, refl, sym, ◌∙◌, ap, arith, ◌⊎◌, inl, inr}
+use Rattle.std.proofs.Common.{◌≡◌, ℕ, ◌+◌, ◌≤◌, List, map, length, take, sym, ◌∙◌, ap, arith}
 use Rattle.std.specs.Prelude.{is_some, nat_lt}
 use Rattle.std.proofs.lemmas.Bool.Decides.{nat_tests}
+use Rattle.std.proofs.lemmas.List.{length-take}
 use Rattle.sabr_model.specs.plan.Plan.{ContactPlan, IsPlan}
 use Rattle.sabr_model.specs.routes.Arrival.{RouteRequest}
 use Rattle.sabr_model.specs.routes.Listing.{routes, page_of}
@@ -24,24 +25,12 @@ first_steps p r k rules =
     (steps_follow p r rules).pages 0 k (omega arith)
     ∙ ap (λ n. (page_of p r 0 k, state_at p r n)) (none_before (length (page_of p r 0 k)))
 
-taken : {X : Type 0} (k : ℕ) (xs : List X) → ((k < length xs) × (length (take k xs) ≡ k)) ⊎ ((length xs ≤ k) × (length (take k xs) ≡ length xs))
-taken zero [] = inr (omega arith, refl)
-taken zero (x ∷ xs) = inl (omega arith, refl)
-taken (suc k) [] = inr (omega arith, refl)
-taken (suc k) (x ∷ xs) = elim (taken k xs) [
-  | inl h ↦ inl (omega arith, ap suc h.1)
-  | inr h ↦ inr (omega arith, ap suc h.1)
-]
-
 -- the list goes on after its first k members exactly if it has more than k
 after : {X : Type 0} (k : ℕ) (xs : List X) → nat_lt (length (take k xs)) (length xs) ≡ nat_lt k (length xs)
-after k xs = elim (taken k xs) [
-  | inl h ↦ ap (λ n. nat_lt n (length xs)) h.1
-  | inr h ↦ let e = h.1 in let le = h.0 in rw e (grind (arith, nat_tests))
-]
+after k xs = rw (length-take k xs) (grind (arith, nat_tests))
 
 within : {X : Type 0} (k : ℕ) (xs : List X) → length (take k xs) ≤ length xs
-within k xs = elim (taken k xs) [ inl h ↦ let e = h.1 in let lt = h.0 in omega arith | inr h ↦ let e = h.1 in omega arith ]
+within k xs = omega (arith, length-take k xs)
 
 -- a route is carried after the first page exactly if the list goes on
 more_after : (p : ContactPlan) (r : RouteRequest) (k : ℕ) → IsPlan p

@@ -70,13 +70,7 @@ module _ (x : Seen) where
     }
 
     stands_refused : Leaves refused z w → Stands sizes w
-    stands_refused led = record {
-      plan = ap (λ (t : Seen). t.plan) led ∙ h.plan;
-      request = ap (λ (t : Seen). t.request) led ∙ h.request;
-      state = ap (λ (t : Seen). t.state) led ∙ h.state;
-      former = ap (λ (t : Seen). t.former) led ∙ h.former;
-      gave = h.gave;
-    }
+    stands_refused led = subst (Stands sizes) (sym led) (record { plan = h.plan; request = h.request; state = h.state; former = h.former; gave = h.gave })
 
     stands_no_back : Leaves no_back z w → Stands sizes w
     stands_no_back led = subst (Stands sizes) (sym led.1) h

@@ -1,12 +1,13 @@
 -- The times of every record of an accepted plan and request can be spelled.
-use Rattle.std.proofs.Common.{◌≡◌, ℕ, ◌+◌, ◌*◌, ◌/◌, ◌<◌, ◌≤◌, max, min, Bool, true, false, cond, List, [], ◌∷◌, map, refl, subst, arith}
+use Rattle.std.proofs.Common.{◌≡◌, ℕ, ◌+◌, ◌*◌, ◌/◌, ◌<◌, ◌≤◌, max, min, Bool, true, false, cond, List, [], ◌∷◌, get_or, map, refl, subst, arith}
 use Rattle.std.specs.Prelude.{All, IfSome, nat_lt, unwrap_or}
-use Rattle.std.specs.List.{AllByRecursion, fold}
+use Rattle.std.specs.List.{fold}
 use Rattle.std.specs.Option.{option_map, option_and_then}
 use Rattle.std.specs.declared.option.Option.{Option}
 use Rattle.std.specs.declared.option.Option.TheVariants.{Some, None}
 use Rattle.std.proofs.lemmas.Nat.{mul-le}
 use Rattle.std.proofs.lemmas.Bool.{ltb-true}
+use Rattle.std.proofs.lemmas.List.Elements.{All-map}
 use Rattle.sabr_model.specs.declared.contact.Contact.{Contact}
 use Rattle.sabr_model.specs.plan.Plan.{ContactPlan, IsPlan, IsWindow, contact_named, last_time}
 use Rattle.sabr_model.specs.plan.Light.{light_of}
@@ -15,7 +16,6 @@ use Rattle.sabr_model.specs.routes.Asking.{IsRequest}
 use Rattle.sabr_model.specs.routes.Route.{contacts_of}
 use Rattle.sabr_model.specs.routes.Record.{record_of}
 use Rattle.sabr_model.proofs.PlanLemmas.Deletions.{all_found}
-use Rattle.sabr_model.proofs.PlanLemmas.RangeLemmas.{all_at}
 use Rattle.sabr_model.proofs.PlanLemmas.RangeKeys.{light_of_limit}
 use Rattle.sabr_session.specs.ReportText.{HasSpelledTimes}
 
@@ -74,10 +74,6 @@ record_spelled p r s h q =
     let until = least_end last_time (contacts_of p s) in
     (omega (arith, delivery), omega (arith, until))
 
-each_spelled : (p : ContactPlan) (r : RouteRequest) (ss : List (List ℕ)) → IsPlan p → IsRequest r → AllByRecursion HasSpelledTimes (map (record_of p r) ss)
-each_spelled p r [] h q = tt
-each_spelled p r (s ∷ ss) h q = (record_spelled p r s h q, each_spelled p r ss h q)
-
 -- and so have the records of all lists
 pub records_spelled : (p : ContactPlan) (r : RouteRequest) (ss : List (List ℕ)) → IsPlan p → IsRequest r → All HasSpelledTimes (map (record_of p r) ss)
-records_spelled p r ss h q k d lt = all_at HasSpelledTimes (map (record_of p r) ss) k d (each_spelled p r ss h q) lt
+records_spelled p r ss h q = All-map HasSpelledTimes (record_of p r) ss (λ k d lt. record_spelled p r (get_or ss k d) h q)

@@ -1,11 +1,7 @@
 -- The lines of a text of requests.
-use Rattle.std.proofs.Common.{◌≡◌, ℕ, ◌+◌, ◌<◌, List, [], ◌∷◌, length, refl, ap, sym, ◌∙◌, arith, Result, Ok, Err, Some}
-use Rattle.sabr_model.specs.routes.Arrival.{RouteRequest}
-use Rattle.commands.specs.declared.words.requests_fault.RequestKind.{RequestKind}
-use Rattle.commands.specs.declared.words.requests_fault.RequestsFault.{RequestsFault}
-use Rattle.commands.specs.declared.words.requests_fault.RequestsFault.TheVariants.{Line}
+use Rattle.std.proofs.Common.{◌≡◌, ℕ, ◌<◌, List, [], ◌∷◌, length, refl, ap, sym, ◌∙◌, arith}
 use Rattle.commands.specs.words.Lists.{pieces_of}
-use Rattle.commands.specs.words.Requests.{RequestLine, fault_of, lines_in, put_first, request_at, requests_from, without_last_empty}
+use Rattle.commands.specs.words.Requests.{lines_in, without_last_empty}
 use Rattle.commands.proofs.WordLemmas.RequestWords.{some_piece}
 
 -- an empty text has no lines
@@ -30,21 +26,3 @@ pub next_line : (text line rest : List ℕ) → pieces_of 10 text ≡ line ∷ p
 unfolding lines_in
 next_line text line rest e =
     ap without_last_empty e ∙ before line (pieces_of 10 rest) (some_piece 10 rest)
-
--- a line with a request changes no fault
-pub no_fault : (n : ℕ) (line : List ℕ) (r : RouteRequest) (rest : Result (List RequestLine) RequestsFault) → fault_of (put_first n line (Ok r) rest) ≡ fault_of rest
-no_fault n line r (Ok xs) = refl
-no_fault n line r (Err f) = refl
-
--- the fault of lines after one with a request
-pub fault_after : (n : ℕ) (lines lines₁ : List (List ℕ)) (line : List ℕ) (r : RouteRequest) → lines ≡ line ∷ lines₁ → Ok r ≡ request_at n line → fault_of (requests_from (n + 1) lines₁) ≡ fault_of (requests_from n lines)
-fault_after n lines lines₁ line r e is =
-    sym (no_fault n line r (requests_from (n + 1) lines₁))
-    ∙ ap (λ a. fault_of (put_first n line a (requests_from (n + 1) lines₁))) is
-    ∙ ap (λ ls. fault_of (requests_from n ls)) (sym e)
-
--- the fault of a line
-pub fault_at : (n : ℕ) (lines lines₁ : List (List ℕ)) (line : List ℕ) (kind : RequestKind) → lines ≡ line ∷ lines₁ → Err kind ≡ request_at n line → Some (Line n kind) ≡ fault_of (requests_from n lines)
-fault_at n lines lines₁ line kind e is =
-    ap (λ a. fault_of (put_first n line a (requests_from (n + 1) lines₁))) is
-    ∙ ap (λ ls. fault_of (requests_from n ls)) (sym e)

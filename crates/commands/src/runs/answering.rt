@@ -8,7 +8,7 @@ ghost use Rattle.commands.specs.runs.Many.{LeavesAnswer, heading};
 use crate::failure::Failure;
 use sabr_frontier::{LastPage, Session};
 use sabr_model::{NoMemory, Plan, Request, Write, WriteFault};
-use sabr_search::{BestOf, Settled};
+use sabr_search::Settled;
 use sabr_session::{TextBuffer, put_pieces, write_report};
 use std::alloc::{Allocator, Global};
 use std::marker::Model;

@@ -1,10 +1,11 @@
-use Rattle.std.proofs.Common.{true, refl, sym, subst, ◌∙◌}
+use Rattle.std.proofs.Common.{refl, sym, subst, ◌∙◌, inl, inr}
+use Rattle.std.proofs.lemmas.Result.{err_from_is_err_and}
 use Rattle.std.specs.Prelude.{All}
 use Rattle.sabr_model.specs.plan.Plan.{TabledPlan, IsPlan}
 use Rattle.sabr_model.specs.routes.Asking.{IsRequest}
 use Rattle.sabr_session.specs.ReportText.{HasSpelledTimes}
 use Rattle.commands.proofs.TextLemmas.SpelledTimes.{records_spelled}
-use Rattle.commands.proofs.RunLemmas.PageTexts.{left_after_page, page_refused, report_of_page, text_of_page, report_failed, session_failed}
+use Rattle.commands.proofs.RunLemmas.PageTexts.{left_after_page, report_of_page, text_of_page}
 use Rattle.commands.proofs.runs.pages.write_page.Goals as goal
 
 pub send_report-requires-clause-times : goal.send_report-requires-clause-times
@@ -19,10 +20,13 @@ pub returns-in_err-send_report : goal.returns-in_err-send_report
 returns-in_err-send_report g c =
     let last = c.in_ok-last.ensures {u = tt} in
     let report = report_of_page c.args.listing c.args.count _ _ _ (c.routes.ensures ∙ last.routes) c.emitted-first_rank.ensures.count (c.more.ensures ∙ last.more) in
-    report_failed _ _ _ _ _ _ _ _ c.from_residual-in_err-send_report.ensures.1 (rw report at (c.in_err-send_report.ensures).text)
+    let (failure, is, same) = err_from_is_err_and c.from_residual-in_err-send_report.result c.from_residual-in_err-send_report.ensures.1 in
+    rw (is, same) (inl (rw report at (c.in_err-send_report.ensures).text, refl))
 
 pub returns-in_err-routes : goal.returns-in_err-routes
-returns-in_err-routes g c = page_refused _ _ _ _ _ _ _ c.from_residual-in_err-routes.ensures.1
+returns-in_err-routes g c =
+    let (failure, is, same) = err_from_is_err_and c.from_residual-in_err-routes.result c.from_residual-in_err-routes.ensures.1 in
+    rw (is, same) (refl, refl)
 
 pub send_report-requires-2-clause-times : goal.send_report-requires-2-clause-times
 send_report-requires-2-clause-times g c =
@@ -37,7 +41,8 @@ returns-in_err-send_report-2 g c =
     let paged = c.in_ok-routes.ensures {u = tt} in
     let left = left_after_page c.args.listing c.page.new.self c.args.count c.page.ensures.plan c.page.ensures.request paged.state in
     let report = report_of_page c.args.listing c.args.count _ _ _ (c.as_slice.ensures.value ∙ paged.routes) c.emitted-first_rank.ensures.count (c.more-2.ensures ∙ left) in
-    report_failed _ _ _ _ _ _ _ _ c.from_residual-in_err-send_report-2.ensures.1 (rw report at (c.in_err-send_report-2.ensures).text)
+    let (failure, is, same) = err_from_is_err_and c.from_residual-in_err-send_report-2.result c.from_residual-in_err-send_report-2.ensures.1 in
+    rw (is, same) (inl (rw report at (c.in_err-send_report-2.ensures).text, refl))
 
 pub returns-in_err-send_session : goal.returns-in_err-send_session
 returns-in_err-send_session g c =
@@ -46,5 +51,5 @@ returns-in_err-send_session g c =
     let report = report_of_page c.args.listing c.args.count _ _ _ (c.as_slice.ensures.value ∙ paged.routes) c.emitted-first_rank.ensures.count (c.more-2.ensures ∙ left) in
     let sent = c.in_ok-send_report-2.ensures in
     let text = text_of_page c.args.listing c.page.new.self c.args.count c.page.ensures.plan c.page.ensures.request paged.state in
-    rw c.in-Some.is
-    (session_failed true _ _ _ _ _ _ _ _ c.from_residual-in_err-send_session.ensures.1 refl (rw report at sent.text, sent.flushed) (rw text at (c.in_err-send_session.ensures).text))
+    let (failure, is, same) = err_from_is_err_and c.from_residual-in_err-send_session.result c.from_residual-in_err-send_session.ensures.1 in
+    rw (c.in-Some.is, is, same) (inr (refl, (rw report at sent.text, sent.flushed), rw text at (c.in_err-send_session.ensures).text))

@@ -1,48 +1,35 @@
-use Rattle.std.proofs.Common.{ℕ, [], Err, Ok, ◌∙◌, rules}
+use Rattle.std.proofs.Common.{ℕ, Err, Ok, ◌∙◌, rules}
 use Rattle.std.proofs.lemmas.Result.{err_from_is_err_and}
 use Rattle.sabr_session.proofs.TextLemmas.Gathering.{HasPut-append, StopsIn-before, StopsIn-after, WritesText-stopped, WritesText-sent}
-use Rattle.commands.specs.texts.Explanation.{hop_lines, ending_line, explanation_text}
+use Rattle.commands.specs.texts.Explanation.{explanation_text}
 use Rattle.commands.proofs.TextLemmas.Explained.{answered}
 use Rattle.commands.proofs.texts.explanation.write_explanation.Goals as goal
 
 pub returns-in_err-put_hops-clause-text : goal.returns-in_err-put_hops-clause-text
 unfolding explanation_text
 returns-in_err-put_hops-clause-text g c =
-    let p = c.args.plan.now.plan in
-    let r = c.args.request.now in
-    let s = c.args.contacts.now in
     WritesText-stopped _ _ _ c.from_residual.result c.new-text.ensures (search rules) c.from_residual.ensures.1
-    (StopsIn-before (hop_lines p r [] s) (ending_line p r s) (rw (← c.followed-outcome.ensures.lines) at c.in_err-put_hops.ensures))
+    (StopsIn-before _ _ (rw (← c.followed-outcome.ensures.lines) at c.in_err-put_hops.ensures))
 
 pub returns-in_err-put_ending-clause-text : goal.returns-in_err-put_ending-clause-text
 unfolding explanation_text
 returns-in_err-put_ending-clause-text g c =
-    let p = c.args.plan.now.plan in
-    let r = c.args.request.now in
-    let s = c.args.contacts.now in
-    let fault = c.from_residual-in_err-put_ending in
-    WritesText-stopped _ _ _ fault.result c.new-text.ensures (search rules) fault.ensures.1
-    (StopsIn-after (hop_lines p r [] s) (ending_line p r s) (rw (← c.followed-outcome.ensures.lines) at c.in_ok-put_hops.ensures) c.in_err-put_ending.ensures)
+    WritesText-stopped _ _ _ c.from_residual-in_err-put_ending.result c.new-text.ensures (search rules) c.from_residual-in_err-put_ending.ensures.1
+    (StopsIn-after _ _ (rw (← c.followed-outcome.ensures.lines) at c.in_ok-put_hops.ensures) c.in_err-put_ending.ensures)
 
 pub returns-in_err-send-clause-text : goal.returns-in_err-send-clause-text
 unfolding explanation_text
 returns-in_err-send-clause-text g c =
-    let p = c.args.plan.now.plan in
-    let r = c.args.request.now in
-    let s = c.args.contacts.now in
     let failed = err_from_is_err_and c.from_residual-in_err-send.result c.from_residual-in_err-send.ensures.1 in
     rw failed.1
     (WritesText-sent {A = ℕ} _ _ _ (Err failed.0) c.new-text.ensures (search rules)
-    (HasPut-append (hop_lines p r [] s) (ending_line p r s) (rw (← c.followed-outcome.ensures.lines) at c.in_ok-put_hops.ensures) c.in_ok-put_ending.ensures) c.in_err-send.ensures)
+    (HasPut-append _ _ (rw (← c.followed-outcome.ensures.lines) at c.in_ok-put_hops.ensures) c.in_ok-put_ending.ensures) c.in_err-send.ensures)
 
 pub returns-clause-text : goal.returns-clause-text
 unfolding explanation_text
 returns-clause-text g c =
-    let p = c.args.plan.now.plan in
-    let r = c.args.request.now in
-    let s = c.args.contacts.now in
     WritesText-sent {A = ℕ} {E = ℕ} _ _ _ (Ok 0) c.new-text.ensures (search rules)
-    (HasPut-append (hop_lines p r [] s) (ending_line p r s) (rw (← c.followed-outcome.ensures.lines) at c.in_ok-put_hops.ensures) c.in_ok-put_ending.ensures) c.in_ok-send.ensures
+    (HasPut-append _ _ (rw (← c.followed-outcome.ensures.lines) at c.in_ok-put_hops.ensures) c.in_ok-put_ending.ensures) c.in_ok-send.ensures
 
 pub returns-clause-route : goal.returns-clause-route
 returns-clause-route g c = c.is_ok.ensures.value ∙ answered c.args.plan.now.plan c.args.request.now c.args.contacts.now c.followed-outcome.result.1 c.followed-outcome.ensures.outcome

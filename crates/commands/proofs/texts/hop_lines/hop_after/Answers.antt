@@ -35,32 +35,20 @@ unreachable-requires-in_default-arrive g c =
     let e : None ≡ Some hop.2.0 = sym none ∙ ap (λ x. arrival p r c.args.at x) (sym same) ∙ hop.2.1 in
     cc (e)
 
-pub returns-clause-line : goal.returns-clause-line
-returns-clause-line g c =
+pub returns : goal.returns
+returns g c =
     let p = c.args.plan.now.plan in
     let r = c.args.request.now in
+    let n = c.args.number in
+    let u = c.in-Some-arrive.arrived in
     let contact : Contact = c.in-Some.contact.now in
-    let named : contact_named p c.args.number ≡ Some contact = search rules in
-    let arrives : arrival p r c.args.at contact ≡ Some c.in-Some-arrive.arrived = search rules in
-    rw c.max.ensures (line_after_is p r c.args.front.now c.args.number contact c.args.at c.in-Some-arrive.arrived named c.requires.at arrives)
-
-pub returns-clause-times : goal.returns-clause-times
-returns-clause-times g c =
-    let p = c.args.plan.now.plan in
-    let r = c.args.request.now in
-    let contact : Contact = c.in-Some.contact.now in
-    let named : contact_named p c.args.number ≡ Some contact = search rules in
-    let arrives : arrival p r c.args.at contact ≡ Some c.in-Some-arrive.arrived = search rules in
-    let window : contact.end ≤ last_time = ends_in_time p c.args.number contact c.requires.rules named in
-    let early = sent_before_end p r c.args.at c.in-Some-arrive.arrived contact arrives in
-    let most = arrival_bound p r c.args.at c.in-Some-arrive.arrived contact c.requires.rules c.requires.limits.margin window arrives in
-    (rw c.max.ensures (omega (arith, early, window)), omega (arith, most))
-
-pub returns-clause-arrived : goal.returns-clause-arrived
-returns-clause-arrived g c =
-    let p = c.args.plan.now.plan in
-    let r = c.args.request.now in
-    let contact : Contact = c.in-Some.contact.now in
-    let named : contact_named p c.args.number ≡ Some contact = search rules in
-    let arrives : arrival p r c.args.at contact ≡ Some c.in-Some-arrive.arrived = search rules in
-    arrival_after_push p r r.at c.args.front.now c.args.number contact c.args.at c.in-Some-arrive.arrived named c.requires.at arrives
+    let named : contact_named p n ≡ Some contact = search rules in
+    let arrives : arrival p r c.args.at contact ≡ Some u = search rules in
+    let window : contact.end ≤ last_time = ends_in_time p n contact c.requires.rules named in
+    let early = sent_before_end p r c.args.at u contact arrives in
+    let most = arrival_bound p r c.args.at u contact c.requires.rules c.requires.limits.margin window arrives in
+    record {
+      line = rw c.max.ensures (line_after_is p r c.args.front.now n contact c.args.at u named c.requires.at arrives);
+      times = (rw c.max.ensures (omega (arith, early, window)), omega (arith, most));
+      arrived = arrival_after_push p r r.at c.args.front.now n contact c.args.at u named c.requires.at arrives;
+    }
