@@ -25,7 +25,7 @@ use Rattle.sabr_frontier.proofs.ListingLemmas.Paths.{route_filled, routes_apart}
 use Rattle.sabr_frontier.proofs.ListingLemmas.AllRoutes.{within_goes_on, goes_on_within, member_of, contains_of}
 use Rattle.sabr_frontier.proofs.SessionLemmas.Pages.{steps_stop, steps_go, steps_none}
 use Rattle.std.proofs.lemmas.List.{drop_all, take_all, take-append-drop}
-use Rattle.sabr_frontier.proofs.TreeLemmas.NodePlaces.{within_get}
+use Rattle.sabr_frontier.proofs.TreeLemmas.ModifiedPlaces.{within_get}
 
 -- ---- how the parts divide the routes
 
