@@ -183,7 +183,7 @@ fn include_next<A: Allocator + Copy>(nodes: &mut Vec<Node<A>, A>, node: NodeId, 
 /// Divides the part of a node by a route of it, which is then the leaf `leaf`: the node excludes one number more, and
 /// the new parts come after the others. There is room for them. It returns what the node carries then. After a refusal
 /// the nodes are as they were.
-#[tactic(auto, using(crate::proofs::TreeLemmas::NodePlaces::get_same))]
+#[tactic(auto, using(crate::proofs::TreeLemmas::ModifiedPlaces::get_same))]
 pub fn divide<B: BestOf<A>, A: Allocator + Copy>(
     asker: &mut Asker<'_, B, A>,
     nodes: &mut Vec<Node<A>, A>,
