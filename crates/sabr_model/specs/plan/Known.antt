@@ -1,6 +1,7 @@
 -- What a plan keeps of its first contacts: their ends, and their light times.
-use Rattle.std.specs.Prelude.{◌≡◌, ℕ, ◌<◌, List, [], length, slice_index_or}
+use Rattle.std.specs.Prelude.{◌≡◌, ℕ, ◌<◌, ◌==◌, List, [], if◌then◌else◌, length, slice_index_or}
 use Rattle.std.specs.declared.option.Option.{Option}
+use Rattle.std.specs.declared.option.Option.TheVariants.{Some, None}
 use Rattle.sabr_model.specs.declared.contact.Contact.{Contact}
 use Rattle.sabr_model.specs.declared.contact.Range.{Range}
 use Rattle.sabr_model.specs.declared.plan.ends.Ends.{Ends}
@@ -11,6 +12,10 @@ use Rattle.sabr_model.specs.plan.ContactEnds.{AreEndsOf}
 -- beside the first contacts stand their ends
 abbrev pub BeginEnds : List ℕ → List Contact → List Ends → Type 0
 BeginEnds table contacts ends = (k : ℕ) (d : Contact) (e : Ends) → k < length ends → AreEndsOf table (slice_index_or contacts k d) (slice_index_or ends k e)
+
+-- the light time that a kept word tells: none if it is the greatest of 32 bits
+abbrev pub light_of_word : ℕ → Option ℕ
+light_of_word word = if word == 4294967295 then None else Some word
 
 -- beside the first contacts stand their light times
 abbrev pub BeginLights : List Range → List Contact → List (Option ℕ) → Type 0
