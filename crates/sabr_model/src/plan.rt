@@ -6,6 +6,7 @@ mod arriving;
 mod delete;
 pub mod ends;
 mod light;
+mod light_times;
 mod lights;
 mod nodes;
 mod parts;
@@ -22,6 +23,7 @@ use crate::openings::Openings;
 pub use arriving::arrive;
 pub use ends::{Ends, as_u16};
 use indexmap::IndexMap;
+use light_times::LightTimes;
 pub use ranges::comes_by;
 use std::alloc::{Allocator, Global};
 use std::marker::Model;
@@ -46,7 +48,7 @@ pub struct Plan<A: Allocator + Copy = Global> {
     /// For the first contacts the indexes of their nodes.
     ends: Vec<Ends, A>,
     /// For the first contacts their light times.
-    lights: Vec<Option<u32>, A>,
+    lights: LightTimes<A>,
 }
 
 impl<A: Allocator + Copy> Model for Plan<A> {
@@ -60,7 +62,7 @@ impl<A: Allocator + Copy> Model for Plan<A> {
 
     ghost view = { λ a. record { plan = record { contacts = a.contacts.items; ranges = a.ranges.items; greatest = a.greatest }; table = keys a.table } };
 
-    ghost invariant = { λ a. IsPlan (record { contacts = a.contacts.items; ranges = a.ranges.items; greatest = a.greatest }) × IsTableOf a.contacts.items a.table × IsKnown (record { plan = record { contacts = a.contacts.items; ranges = a.ranges.items; greatest = a.greatest }; table = keys a.table }) a.ends.items a.lights.items × KnowsOpenings a.openings.kept a.openings.set.keys a.contacts.items };
+    ghost invariant = { λ a. IsPlan (record { contacts = a.contacts.items; ranges = a.ranges.items; greatest = a.greatest }) × IsTableOf a.contacts.items a.table × IsKnown (record { plan = record { contacts = a.contacts.items; ranges = a.ranges.items; greatest = a.greatest }; table = keys a.table }) a.ends.items a.lights × KnowsOpenings a.openings.kept a.openings.set.keys a.contacts.items };
 }
 
 impl<A: Allocator + Copy> Plan<A> {
@@ -76,7 +78,7 @@ impl<A: Allocator + Copy> Plan<A> {
             greatest: 0,
             openings: Openings::new(alloc),
             ends: Vec::new(alloc),
-            lights: Vec::new(alloc),
+            lights: LightTimes::new(alloc),
         }
     }
 }

@@ -337,24 +337,27 @@ overlap_none rs r count h a b c e = none_overlaps rs h r a b (subst (IsCountUnti
 -- ---- light times
 
 -- a pair's light time is within the limit
-light_limit : (p : ContactPlan) (one other t : ℕ) → IsPlan p → IfSome (light_of_pair p.ranges one other t) (λ l. l ≤ 1000000)
+light_limit : (p : ContactPlan) (one other t : ℕ) → AllByRecursion (λ r. r.light ≤ 1000000) p.ranges → IfSome (light_of_pair p.ranges one other t) (λ l. l ≤ 1000000)
 light_limit p one other t h = by (find (in_force one other t) p.ranges) refl
   where
     by : (o : Option Range) → find (in_force one other t) p.ranges ≡ o → IfSome (option_map (λ (r : Range). r.light) (find (in_force one other t) p.ranges)) (λ l. l ≤ 1000000)
     by None e = subst (λ (o : Option Range). IfSome (option_map (λ r. r.light) o) (λ l. l ≤ 1000000)) (sym e) tt
-    by (Some r) e = subst (λ (o : Option Range). IfSome (option_map (λ r. r.light) o) (λ l. l ≤ 1000000)) (sym e) (all_found (λ s. s.light ≤ 1000000) (in_force one other t) p.ranges r h.lights e)
+    by (Some r) e = subst (λ (o : Option Range). IfSome (option_map (λ r. r.light) o) (λ l. l ≤ 1000000)) (sym e) (all_found (λ s. s.light ≤ 1000000) (in_force one other t) p.ranges r h e)
 
 -- the first of two values, each within the limit, is within it
 or_else_limit : (o u : Option ℕ) → IfSome o (λ l. l ≤ 1000000) → IfSome u (λ l. l ≤ 1000000) → IfSome (or_else o u) (λ l. l ≤ 1000000)
 or_else_limit None u a b = b
 or_else_limit (Some x) u a b = a
 
--- a contact's light time is within the limit
-pub light_of_limit : (p : ContactPlan) (c : Contact) → IsPlan p → IfSome (light_of p c) (λ l. l ≤ 1000000)
-light_of_limit p c h =
+-- a contact's light time is within the limit, as those of all ranges are
+pub light_of_small : (p : ContactPlan) (c : Contact) → AllByRecursion (λ r. r.light ≤ 1000000) p.ranges → IfSome (light_of p c) (λ l. l ≤ 1000000)
+light_of_small p c h =
     or_else_limit (light_of_pair p.ranges c.from c.to c.start) (cond (ltb c.to c.from) (light_of_pair p.ranges c.to c.from c.start) None)
     (light_limit p c.from c.to c.start h)
     (elim (ltb c.to c.from) as (λ b. IfSome (cond b (light_of_pair p.ranges c.to c.from c.start) None) (λ l. l ≤ 1000000)) [ true ↦ light_limit p c.to c.from c.start h | false ↦ tt ])
+
+pub light_of_limit : (p : ContactPlan) (c : Contact) → IsPlan p → IfSome (light_of p c) (λ l. l ≤ 1000000)
+light_of_limit p c h = light_of_small p c h.lights
 
 -- ---- where a range goes
 

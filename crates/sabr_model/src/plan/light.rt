@@ -43,7 +43,7 @@ impl<A: Allocator + Copy> Plan<A> {
         ensures { result ≡ light_of self.now.plan contact.now }
     {
         match self.lights.get(place) {
-            Some(light) => *light,
+            Some(light) => light,
             None => light_of_contact(&self.ranges, contact),
         }
     }

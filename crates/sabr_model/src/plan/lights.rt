@@ -1,11 +1,13 @@
 //! The light times of all contacts, looked up side by side.
 
-ghost use Rattle.std.specs.Prelude.{◌≡◌, [], IfOk, IfSome, Some, IsTrue};
-ghost use Rattle.std.specs.List.{list_all};
+ghost use Rattle.std.specs.Prelude.{◌≡◌, ◌≤◌, [], IfOk, IfSome, Some, IsTrue};
+ghost use Rattle.std.specs.List.{list_all, AllByRecursion};
+ghost use Rattle.sabr_model.specs.plan.Plan.{most_light};
 ghost use Rattle.sabr_model.specs.plan.Known.{AreLights};
 ghost use Rattle.sabr_model.specs.plan.Light.{light_of, light_of_pair, is_rising};
 ghost use Rattle.sabr_model.specs.plan.RangeOrder.{IsRangeList};
 
+use super::light_times::LightTimes;
 use super::ranges::{light_of_range, light_until, ranges_until};
 use crate::contact::{Contact, Range};
 use std::alloc::{AllocError, Allocator};
@@ -23,12 +25,13 @@ pub fn lights_of<A: Allocator + Copy>(
     alloc: A,
     contacts: &[Contact],
     ranges: &[Range],
-) -> Result<Vec<Option<u32>, A>, AllocError>
-    requires { IsRangeList ranges.now }
-    ensures { IfOk result (λ v. AreLights ranges.now contacts.now v.items) }
+) -> Result<LightTimes<A>, AllocError>
+    requires ranges { IsRangeList ranges.now }
+    requires limit { AllByRecursion (λ r. r.light ≤ most_light) ranges.now }
+    ensures { IfOk result (λ lights. AreLights ranges.now contacts.now lights) }
 {
     let rising = are_rising(ranges);
-    let mut lights = Vec::new(alloc);
+    let mut lights = LightTimes::new(alloc);
     lights.reserve(contacts.len())?;
     let mut guesses = guesses_of(alloc, ranges)?;
     for contact in contacts {

@@ -1,5 +1,6 @@
-use Rattle.std.proofs.Common.{List, subst, sym}
+use Rattle.std.proofs.Common.{◌≤◌, List, subst, sym}
 use Rattle.std.proofs.lemmas.Bool.{both_ways}
+use Rattle.std.specs.List.{AllByRecursion}
 use Rattle.indexmap.specs.IndexMap.{keys}
 use Rattle.sabr_model.specs.declared.contact.Contact.{Contact}
 use Rattle.sabr_model.specs.declared.contact.Range.{Range}
@@ -15,13 +16,16 @@ use Rattle.sabr_model.proofs.plan.Plan.of_parts.Goals as goal
 pub lights_of-requires : goal.lights_of-requires
 lights_of-requires g c =
     let p : ContactPlan = record { contacts = c.args.contacts.items; ranges = c.args.ranges.items; greatest = c.args.greatest } in
-    subst IsRangeList (sym c.deref-3.ensures.value) (range_list p c.requires)
+    record {
+      ranges = subst IsRangeList (sym c.deref-3.ensures.value) (range_list p c.requires);
+      limit = subst (λ (rs : List Range). AllByRecursion (λ r. r.light ≤ 1000000) rs) (sym c.deref-3.ensures.value) c.requires.lights;
+    }
 
 pub invariant_of-result : goal.invariant_of-result
 invariant_of-result g c =
     let lent = c.deref.ensures.value in
     let table = c.in_ok-table.table in
-    let lights = c.in_ok-lights.lights.items in (
+    let lights = c.in_ok-lights.lights in (
       c.requires,
       subst (λ (cs : List Contact). IsTableOf cs table) lent c.in_ok-table.ensures.table,
       record {

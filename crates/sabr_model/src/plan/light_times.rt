@@ -1,0 +1,69 @@
+//! A list of light times, in a word each.
+
+ghost use Rattle.std.specs.Prelude.{◌≡◌, ◌≤◌, ◌<◌, ◌∷◌, ◌++◌, [], IfOk, IfSome, MatchOption, length, slice_index_or};
+ghost use Rattle.sabr_model.specs.plan.Plan.{most_light};
+
+use std::alloc::{AllocError, Allocator};
+use std::marker::Model;
+
+/// The word that stands for no light time. It is above the greatest light time.
+const NO_LIGHT: u32 = u32::MAX;
+
+/// Light times, each of which may be missing. They take 4 bytes each.
+#[derive(Drop)]
+pub struct LightTimes<A: Allocator + Copy> {
+    words: Vec<u32, A>,
+}
+
+impl<A: Allocator + Copy> Model for LightTimes<A> {
+    ghost use Rattle.std.specs.Prelude.{List, ℕ, map};
+    ghost use Rattle.std.specs.declared.option.Option.{Option};
+    ghost use Rattle.sabr_model.specs.plan.Known.{light_of_word};
+
+    ghost Value = { List (Option ℕ) };
+
+    ghost view = { λ a. map light_of_word a.words.items };
+}
+
+impl<A: Allocator + Copy> LightTimes<A> {
+    /// Makes an empty list. It takes no memory.
+    pub fn new(alloc: A) -> LightTimes<A>
+        ensures items { result ≡ [] }
+    {
+        LightTimes {
+            words: Vec::new(alloc),
+        }
+    }
+
+    /// Reserves room for so many more.
+    pub fn reserve(&mut self, count: usize) -> Result<(), AllocError>
+        ensures { self.new ≡ self.old }
+    {
+        self.words.reserve(count)
+    }
+
+    /// Adds a light time at the end.
+    pub fn push(&mut self, light: Option<u32>) -> Result<(), AllocError>
+        requires { IfSome light (λ l. l ≤ most_light) }
+        ensures items { IfOk result (λ _. self.new ≡ self.old ++ light ∷ []) }
+    {
+        self.words.push(light.unwrap_or(NO_LIGHT))?;
+        Ok(())
+    }
+
+    /// Returns the light time at a place. None if the list ends before it.
+    #[inline(always)]
+    pub fn get(&self, place: usize) -> Option<Option<u32>>
+        ensures { MatchOption result (length self.now ≤ place) (λ l. (place < length self.now) × (l ≡ slice_index_or self.now place l)) }
+    {
+        let word = *self.words.get(place)?;
+        Some(if word == NO_LIGHT { None } else { Some(word) })
+    }
+
+    /// Forgets all of them.
+    pub fn clear(&mut self)
+        ensures items { self.new ≡ [] }
+    {
+        self.words.clear();
+    }
+}
