@@ -18,7 +18,8 @@ use sabr_model::{NoMemory, Plan, Request};
 use std::alloc::{Allocator, Global};
 
 /// How many questions are asked before what bounds every search is found. Finding it takes as long as several searches,
-/// and a list's first route, with the question whether another follows, takes two.
+/// and a list's first route, with the question whether another follows, takes two. With 1, runs for one route take 4 percent
+/// more instructions, the mean of 24 questions; with 3, those for ten routes take 0.3 percent more.
 const FIRST_QUESTIONS: u32 = 2;
 
 /// What is kept for the searches of one plan and request.
