@@ -9,6 +9,7 @@ use Rattle.sabr_search.specs.questions.Task.{SearchTask, Takes}
 use Rattle.sabr_search.specs.questions.Linked.{IsLinkWithin, HasNumber}
 use Rattle.sabr_index.specs.declared.link.Pass.{Pass}
 use Rattle.sabr_index.specs.declared.link.SenderHead.{SenderHead}
+use Rattle.sabr_index.specs.Incoming.{bounds_until}
 use Rattle.sabr_search.specs.layers.Made.{Entry}
 
 -- by node a second before which no way comes there; 0 after the list's end
@@ -66,7 +67,7 @@ IsToldOver task since late u passes before = (n t w b : ℕ) → HasNumber passe
 -- so it is for each step over a link with this head that arrives before a second
 abbrev pub IsToldByHead : SearchTask → List ℕ → List ℕ → SenderHead → ℕ → Type 0
 IsToldByHead task since late head before =
-    (to : ℕ) (passes : List Pass) (n t w b : ℕ) → IsLinkWithin task head.node to passes head.bounds → HasNumber passes n → Takes task n head.node t w b → b < before → IsToldLate task since late head.node t
+    (to end : ℕ) (passes : List Pass) → IsLinkWithin task head.node to passes (bounds_until end head) → IsToldOver task since late head.node passes before
 
 -- that holds for each step to an entry at the places from `first` to before `begin`
 abbrev pub AreTold : SearchTask → List ℕ → List LayerEntry → ℕ → ℕ → List ℕ → Type 0
