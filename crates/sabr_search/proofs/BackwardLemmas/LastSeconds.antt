@@ -1,5 +1,5 @@
 -- The seconds from which on no way leads to the goal: what holds while the links to nodes are taken, and what they come to.
-use Rattle.std.proofs.Common.{◌≡◌, ◌≢◌, inl, inr, ℕ, ◌+◌, ◌<◌, ◌≤◌, min, Bool, true, false, List, [], ◌∷◌, length, replicate, Contains, All, slice_get, slice_index, slice_index_or, slice_set, refl, ap, sym, ◌∙◌, arith}
+use Rattle.std.proofs.Common.{◌≡◌, ◌≢◌, inl, inr, ℕ, ◌+◌, ◌<◌, ◌≤◌, min, Bool, true, false, List, [], ◌∷◌, length, replicate, Contains, All, slice_get, slice_index, slice_index_or, slice_set, Some, subst, refl, ap, sym, ◌∙◌, arith}
 use Rattle.std.specs.List.Sorted.{IsPermutation}
 use Rattle.std.proofs.lemmas.Bool.{cases_lt, cases_eq, both_ways, cases_Bool}
 use Rattle.std.proofs.lemmas.Grind.{common_steps}
@@ -22,6 +22,7 @@ use Rattle.sabr_search.specs.questions.Linked.{IsLinkWithin, HasNumber}
 use Rattle.sabr_search.proofs.LinkLemmas.Linking.{cost_rises}
 use Rattle.sabr_search.proofs.LinkLemmas.OverLinks.{over_pass, step_over}
 use Rattle.sabr_search.proofs.WayLemmas.RoutesAndWays.{same_some}
+use Rattle.sabr_search.proofs.ForwardLemmas.Forward.{last_or_before}
 use Rattle.sabr_search.proofs.ForwardLemmas.Queues.{set_here, set_other, set_many, all_off, only_one}
 use Rattle.sabr_search.proofs.WayLemmas.EarliestSeconds.{same_everywhere, replicate_many}
 
@@ -107,6 +108,21 @@ over_bounds task is u to passes bounds link n t b has s =
     let o = over_pass task is u to t has.1 to b (link.0.each has.0 has.1 has.2) (step_over task passes n u t to b has s) in
     let kept = link.1 has.0 has.1 has.2 in
     omega (arith, o.sum, cost_rises task.request.margin (min bounds.least_light 1000000) has.1.light (omega (arith, kept.light)))
+
+-- a link that has ended by a second is left before it
+pub left_before : (task : SearchTask) → IsTask task → (u to : ℕ) (passes : List Pass) (bounds : LinkBounds) → IsLinkWithin task u to passes bounds → (at : ℕ) → bounds.latest_end ≤ at →
+    (n t w b : ℕ) → HasNumber passes n → Takes task n u t w b → t < at
+left_before task is u to passes bounds link at ended n t w b has s =
+    let o = over_pass task is u to t has.1 w b (link.0.each has.0 has.1 has.2) (step_over task passes n u t w b has s) in
+    omega (arith, o.before_end, (link.1 has.0 has.1 has.2).ends, ended)
+
+-- what holds of each item before a place, and of the item there, holds of each before the next place
+pub each_until : {X : Type 0} (P : X → Type 0) (xs : List X) (place : ℕ) (x : X) → slice_get xs place ≡ Some x → ((j : ℕ) (y : X) → j < place → slice_get xs j ≡ Some y → P y) → P x →
+    (j : ℕ) (y : X) → j < place + 1 → slice_get xs j ≡ Some y → P y
+each_until P xs place x here so_far own j y less at = elim (last_or_before j place less) [
+  | inl before ↦ so_far j y before at
+  | inr same ↦ subst P (same_some (sym here ∙ ap (slice_get xs) (sym same) ∙ at)) own
+]
 
 -- who is in time stays so
 pub left_later : (task : SearchTask) (late late' : List ℕ) → ((k : ℕ) → slice_index late k ≤ slice_index late' k) → (u t : ℕ) → IsLeftBy task late u t → IsLeftBy task late' u t

@@ -14,7 +14,7 @@ use crate::backward::pick::Standing;
 use crate::backward::since::Since;
 use crate::forward::layers::{LayerEntry, Layers};
 use crate::links::looks::Looks;
-use crate::links::over_link::{WalkedLink, rules_out};
+use crate::links::over_link::{WalkedLink, is_soonest};
 use crate::task::Task;
 use sabr_index::{Sender, SenderHead};
 use sabr_model::NoMemory;
@@ -55,7 +55,8 @@ impl<A: Allocator + Copy> Layers<A> {
     }
 
     /// Returns true if a link to a node that is left in time before `before` needn't be taken: its sender is in no layer,
-    /// as the start, or its bounds show that its sender is too late then already. What is cheapest is compared first.
+    /// as the start, or what is listed with it shows that its sender is too late then already. What is cheapest is compared
+    /// first.
     #[inline(always)]
     fn is_told(&self, aim: &Aim<'_, '_, '_, A>, head: SenderHead, before: u64) -> bool
         requires task { IsTask aim.now.task.now }
@@ -65,12 +66,12 @@ impl<A: Allocator + Copy> Layers<A> {
         ensures unshut { result ≡ false → slice_index_or aim.now.task.now.shut head.node false ≡ false }
         ensures other { result ≡ false → head.node ≢ aim.now.task.now.goal }
     {
-        if before <= head.bounds.soonest {
+        if before <= head.soonest {
             return true;
         }
         let node = head.node;
         let late = self.late.at(node);
-        if rules_out(head.bounds, late, before) {
+        if is_soonest(head.soonest, head.least_light, late, before) {
             return true;
         }
         node == aim.task.goal() || aim.task.shut()[node]
@@ -155,6 +156,9 @@ impl<A: Allocator + Copy> Layers<A> {
                 continue;
             }
             let from = senders.at(place);
+            if from.bounds.latest_end <= self.late.at(from.node) {
+                continue;
+            }
             if from.passes.len() as u64 > looks.left {
                 return Ok(false);
             }

@@ -10,7 +10,7 @@ ghost use Rattle.sabr_search.specs.layers.Latest.{IsWhole, IsBegun, AreRising, A
 use crate::forward::layers::NEVER;
 use crate::forward::queue::{Event, LAST_AT, Queue};
 use crate::links::looks::Looks;
-use crate::links::over_link::{WalkedLink, rules_out};
+use crate::links::over_link::{WalkedLink, is_soonest};
 use crate::task::Task;
 use sabr_index::Sender;
 use sabr_model::NoMemory;
@@ -117,10 +117,14 @@ impl<A: Allocator + Copy> Latest<A> {
         let senders = task.senders(to);
         for place in 0..senders.len() {
             let head = senders.head(place);
-            if rules_out(head.bounds, self.late[head.node], before) {
+            let latest = self.late[head.node];
+            if is_soonest(head.soonest, head.least_light, latest, before) {
                 continue;
             }
             let from = senders.at(place);
+            if from.bounds.latest_end <= latest {
+                continue;
+            }
             if from.passes.len() as u64 > looks.left {
                 return Ok(false);
             }

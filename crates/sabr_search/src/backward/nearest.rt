@@ -1,9 +1,9 @@
 //! For each node, how near the destination is, by the bounds of links alone: from the goal backward over the whole graph.
 
-ghost use Rattle.sabr_index.specs.declared.link.Pass.{Pass};
-ghost use Rattle.std.specs.Prelude.{List, ◌≡◌, ◌≢◌, ℕ, ◌+◌, ◌≤◌, ◌<◌, [], Some, IfOk, OnOk, IsTrue, false, length, slice_get, slice_index, slice_index_or};
+ghost use Rattle.sabr_index.specs.Links.{SentLink};
+ghost use Rattle.std.specs.Prelude.{◌≡◌, ◌≢◌, ℕ, ◌+◌, ◌≤◌, ◌<◌, [], Some, IfOk, OnOk, IsTrue, false, length, slice_get, slice_index, slice_index_or};
 ghost use Rattle.sabr_search.specs.questions.Task.{IsTask, Takes};
-ghost use Rattle.sabr_search.specs.questions.Linked.{IsLinkWithin, HasNumber};
+ghost use Rattle.sabr_search.specs.questions.Linked.{AreSendersAt, HasNumber};
 ghost use Rattle.sabr_search.specs.questions.FirstSteps.{tabled_of};
 ghost use Rattle.sabr_search.specs.layers.Reach.{AreNearFor};
 ghost use Rattle.sabr_search.specs.layers.Latest.{IsWhole, AreRising, AreTaken, IsNearBy, IsNear};
@@ -12,7 +12,7 @@ use crate::backward::latest::Latest;
 use crate::forward::layers::NEVER;
 use crate::forward::queue::{Event, LAST_AT};
 use crate::task::Task;
-use sabr_index::SenderHead;
+use sabr_index::Senders;
 use sabr_model::{MOST_LIGHT, NoMemory};
 use std::alloc::Allocator;
 
@@ -27,24 +27,27 @@ fn note_hops<A: Allocator + Copy>(hops: &mut Vec<u64, A>, node: usize, next: usi
 }
 
 impl<A: Allocator + Copy> Latest<A> {
-    /// Takes the bounds of one link to a node that is so near, unless it has ended when the request begins.
+    /// Takes the bounds of the link at a place among those to a node, unless it has ended when the request begins. Its end
+    /// is read only if it makes the sender nearer.
     fn near_sender(
         &mut self,
         task: &Task<'_, A>,
-        head: SenderHead,
+        senders: &Senders<'_, A>,
+        place: usize,
         to: usize,
-        near: u64,
         hops: &mut Vec<u64, A>,
     ) -> Result<(), NoMemory>
         requires task { IsTask task.now }
-        requires node { head.node < length task.now.table }
+        requires node { to < length task.now.table }
+        requires senders { AreSendersAt task.now to senders.now }
+        requires place { place < length senders.now }
         requires rising { AreRising (IsNearBy task.now) task.now self.old.late.items self.old.taken.items self.old.queue to }
-        requires same { slice_index self.old.late.items to ≡ near }
         ensures rising { OnOk result (AreRising (IsNearBy task.now) task.now self.new.late.items self.new.taken.items self.new.queue to) }
-        ensures same { OnOk result (slice_index self.new.late.items to ≡ near) }
+        ensures same { OnOk result (slice_index self.new.late.items to ≡ slice_index self.old.late.items to) }
         ensures rises { OnOk result ((k : ℕ) → slice_index self.old.late.items k ≤ slice_index self.new.late.items k) }
-        ensures told { OnOk result ((passes : List Pass) → IsLinkWithin task.now head.node to passes head.bounds → (n t b : ℕ) → HasNumber passes n → Takes task.now n head.node t to b → IsNear task.now self.new.late.items head.node t to b) }
+        ensures told { OnOk result ((s : SentLink) → slice_get senders.now place ≡ Some s → (n t b : ℕ) → HasNumber s.passes n → Takes task.now n s.sender t to b → IsNear task.now self.new.late.items s.sender t to b) }
     {
+        let head = senders.head(place);
         let node = head.node;
         if node == to {
             return Ok(());
@@ -55,13 +58,14 @@ impl<A: Allocator + Copy> Latest<A> {
         if task.shut()[node] {
             return Ok(());
         }
-        if head.bounds.latest_end <= task.request().at() {
+        let cost = task.cost(head.least_light.min(MOST_LIGHT));
+        let latest = self.late[node];
+        let last = self.late[to].saturating_sub(cost);
+        if last <= latest {
             return Ok(());
         }
-        let cost = task.cost(head.bounds.least_light.min(MOST_LIGHT));
-        let latest = self.late[node];
-        let last = near.saturating_sub(cost);
-        if last <= latest {
+        let from = senders.at(place);
+        if from.bounds.latest_end <= task.request().at() {
             return Ok(());
         }
         let rank = note_hops(hops, node, to);
@@ -88,11 +92,9 @@ impl<A: Allocator + Copy> Latest<A> {
         ensures rising { OnOk result (AreRising (IsNearBy task.now) task.now self.new.late.items self.new.taken.items self.new.queue to) }
         ensures taken { OnOk result (IsNearBy task.now self.new.late.items to) }
     {
-        let near = self.late[to];
         let senders = task.senders(to);
         for place in 0..senders.len() {
-            let head = senders.head(place);
-            self.near_sender(task, head, to, near, hops)?;
+            self.near_sender(task, &senders, place, to, hops)?;
         }
         Ok(())
     }

@@ -69,10 +69,10 @@ impl<A: Allocator + Copy> Enclosure<A> {
         ensures met { self.new.met ≡ self.old.met }
         ensures seen { OnOk result (AreSeen task.now self.old.met.items self.new.seen.items self.new.nodes.items) }
         ensures more { OnOk result (IsMoreSeen self.old.seen.items self.old.nodes.items self.new.seen.items self.new.nodes.items) }
-        ensures told { IfOk result (λ apart. IsTrue apart → slice_index_or task.now.shut head.node false ≡ false → (before ≤ head.bounds.soonest) ⊎ (slice_index_or self.new.seen.items head.node false ≡ true)) }
+        ensures told { IfOk result (λ apart. IsTrue apart → slice_index_or task.now.shut head.node false ≡ false → (before ≤ head.soonest) ⊎ (slice_index_or self.new.seen.items head.node false ≡ true)) }
     {
         let node = head.node;
-        if before <= head.bounds.soonest {
+        if before <= head.soonest {
             return Ok(true);
         }
         if self.seen[node] {

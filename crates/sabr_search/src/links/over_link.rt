@@ -35,13 +35,13 @@ pub fn link_passes<'a>(links: Links<'a>, link: &Link) -> &'a [Pass]
     &links.passes[link.first as usize..link.end as usize]
 }
 
-/// Returns true if, by what bounds the arrivals over the whole link, nothing that is at its sender at `at` or later
-/// arrives before `before`.
-pub fn is_soonest(bounds: LinkBounds, at: u64, before: u64) -> bool
-    ensures late { IsTrue result → (before ≤ bounds.soonest) ⊎ (before ≤ at + bounds.least_light) }
+/// Returns true if, by what bounds the arrivals over a whole link, nothing that is at its sender at `at` or later arrives
+/// before `before`.
+pub fn is_soonest(soonest: u64, least_light: u32, at: u64, before: u64) -> bool
+    ensures late { IsTrue result → (before ≤ soonest) ⊎ (before ≤ at + least_light) }
     ensures early { result ≡ false → at < before }
 {
-    before <= bounds.soonest || before.saturating_sub(at) <= bounds.least_light as u64
+    before <= soonest || before.saturating_sub(at) <= least_light as u64
 }
 
 /// Returns true if, by the bounds of the whole link, nothing that is at its sender at `at` or later arrives before
@@ -50,7 +50,7 @@ pub fn rules_out(bounds: LinkBounds, at: u64, before: u64) -> bool
     ensures late { IsTrue result → (bounds.latest_end ≤ at) ⊎ ((before ≤ bounds.soonest) ⊎ (before ≤ at + bounds.least_light)) }
     ensures early { result ≡ false → at < before }
 {
-    bounds.latest_end <= at || is_soonest(bounds, at, before)
+    bounds.latest_end <= at || is_soonest(bounds.soonest, bounds.least_light, at, before)
 }
 
 /// Returns the number of passes at the front of a link that have ended by `at`. Those after them, or the only one, may
@@ -128,7 +128,7 @@ impl<'a, A: Allocator + Copy> Task<'a, A> {
             }
             let hop = self.hop_over(link.to, pass);
             if let Some(arrival) = self.arrive_before(at, &hop, least) {
-                if is_soonest(link.bounds, at, arrival) {
+                if is_soonest(link.bounds.soonest, link.bounds.least_light, at, arrival) {
                     return arrival;
                 }
                 least = arrival;

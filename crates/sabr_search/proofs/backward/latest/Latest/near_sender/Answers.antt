@@ -1,61 +1,95 @@
-use Rattle.std.proofs.Common.{◌≡◌, ◌+◌, ◌≤◌, min, true, false, slice_index, slice_index_or, ap, sym, subst, ◌∙◌, inl, arith}
+use Rattle.std.proofs.Common.{◌≡◌, ◌+◌, ◌≤◌, ℕ, Some, min, true, false, slice_get, slice_index, slice_index_or, slice_set, ap, sym, subst, ◌∙◌, arith}
 use Rattle.std.proofs.lemmas.Bool.{both_ways}
+use Rattle.sabr_index.specs.Links.{SentLink}
+use Rattle.sabr_index.specs.Incoming.{bounds_until}
 use Rattle.sabr_model.specs.routes.Arrival.{RouteRequest, cost}
+use Rattle.sabr_search.specs.questions.Task.{Takes}
+use Rattle.sabr_search.specs.questions.Linked.{HasNumber}
 use Rattle.sabr_search.proofs.ForwardLemmas.LayerEntries.{read_at}
-use Rattle.sabr_search.proofs.WayLemmas.RoutesAndWays.{takes_timely}
-use Rattle.sabr_search.proofs.LinkLemmas.OverLinks.{ruled_out}
-use Rattle.sabr_search.proofs.BackwardLemmas.LastSeconds.{risen, late_rises, still_near, over_bounds}
+use Rattle.sabr_search.proofs.WayLemmas.RoutesAndWays.{same_some, takes_timely}
+use Rattle.sabr_search.proofs.BackwardLemmas.LastSeconds.{risen, late_rises, still_near, over_bounds, left_before}
 use Rattle.sabr_search.proofs.ForwardLemmas.Queues.{set_here, set_other}
+use Rattle.sabr_search.proofs.backward.latest.Latest.near_sender.Given.{Over}
+use Rattle.sabr_search.proofs.backward.latest.Latest.near_sender.Goals.{After-head-head, After-saturating_sub-last}
 use Rattle.sabr_search.proofs.backward.latest.Latest.near_sender.Goals as goal
 
+-- the link at the place is from the head's node
+sender_is : (g : Over) (c : After-head-head g) (s : SentLink) → slice_get c.args.senders.now c.args.place ≡ Some s → s.sender ≡ c.head-head.result.node
+sender_is g c s at = ap (λ (x : SentLink). x.sender) (same_some (sym at ∙ c.head-head.ensures.1))
+
 pub returns-then-node-to-clause-told : goal.returns-then-node-to-clause-told
-returns-then-node-to-clause-told g c = λ ps link n t b has s open' other since.
-    omega (arith, (takes_timely c.args.task.now c.requires.task.nodes).later n c.args.head.node t c.args.to b s, ap (slice_index c.args.self.now.late.items) c.if-node-to.true)
+returns-then-node-to-clause-told g c = λ s at n t b has step open' other since.
+    let same = sender_is g (goal.at.returns-then-node-to-clause-told g c).After-head-head s at ∙ c.if-node-to.true in
+    omega (arith, (takes_timely c.args.task.now c.requires.task.nodes).later n s.sender t c.args.to b step, ap (slice_index c.args.self.now.late.items) same)
 
 pub returns-then-node-goal-clause-told : goal.returns-then-node-goal-clause-told
-returns-then-node-goal-clause-told g c = λ ps link n t b has s open' other since. absurd (other (c.if-node-goal.true ∙ c.goal.ensures))
+returns-then-node-goal-clause-told g c = λ s at n t b has step open' other since.
+    absurd (other (sender_is g (goal.at.returns-then-node-goal-clause-told g c).After-head-head s at ∙ c.if-node-goal.true ∙ c.goal.ensures))
 
 pub returns-then-shut-node-clause-told : goal.returns-then-shut-node-clause-told
-returns-then-shut-node-clause-told g c = λ ps link n t b has s open' other since.
-    absurd (both_ways (slice_index_or c.args.task.now.shut c.args.head.node false) open' (subst (λ xs. slice_index_or xs c.args.head.node false ≡ true) c.shut.ensures c.if-shut-node.true))
+returns-then-shut-node-clause-told g c = λ s at n t b has step open' other since.
+    let node = c.head-head.result.node in
+    let is = sender_is g (goal.at.returns-then-shut-node-clause-told g c).After-head-head s at in
+    absurd (both_ways (slice_index_or c.args.task.now.shut node false) (rw is at open') (subst (λ xs. slice_index_or xs node false ≡ true) c.shut.ensures c.if-shut-node.true))
 
-pub returns-then-head-at-clause-told : goal.returns-then-head-at-clause-told
-returns-then-head-at-clause-told g c = λ ps link n t b has s open' other since.
-    let begins = ap (λ (r : RouteRequest). r.at) c.request.ensures in
-    let ended : c.args.head.bounds.latest_end ≤ c.args.task.now.request.at = omega (arith, c.at.ensures.value, begins, c.if-head-at.true) in
-    absurd (omega (arith, ruled_out c.args.task.now c.requires.task c.args.head.node c.args.to ps link.0 c.args.head.bounds link.1 c.args.task.now.request.at (b + 1) (inl ended) n t c.args.to b has since s))
+-- over the link a step takes the cost of its least light time
+over : (g : Over) (c : After-saturating_sub-last g) (s : SentLink) → slice_get c.args.senders.now c.args.place ≡ Some s → (n t b : ℕ) → HasNumber s.passes n → Takes c.args.task.now n s.sender t c.args.to b → t + c.cost-cost.result ≤ b
+over g c s at n t b has step =
+    let here = c.head-head.ensures in
+    let sent : SentLink = record { sender = c.head-head.result.node; passes = here.0 } in
+    let is : s ≡ sent = same_some (sym at ∙ here.1) in
+    let costs : c.cost-cost.result ≡ cost c.args.task.now.request.margin (min c.head-head.result.least_light 1000000) = c.cost-cost.ensures ∙ ap (cost c.args.task.now.request.margin) c.min.ensures in
+    let link = c.requires.senders.each c.args.place sent here.1 in
+    rw costs (over_bounds c.args.task.now c.requires.task c.head-head.result.node c.args.to here.0 (bounds_until here.2 c.head-head.result) (link, here.3) n t b (rw is at has) (rw is at step))
 
 pub returns-then-last-latest-clause-told : goal.returns-then-last-latest-clause-told
-returns-then-last-latest-clause-told g c = λ ps link n t b has s open' other since.
-    let latest = read_at c.args.self.now.late.items c.args.head.node c.index-latest.result.now (omega (arith, c.requires.node, c.requires.rising.many)) c.index-latest.ensures in
-    let costs : c.cost-cost.result ≡ cost c.args.task.now.request.margin (min c.args.head.bounds.least_light 1000000) = c.cost-cost.ensures ∙ ap (cost c.args.task.now.request.margin) c.min.ensures in
-    let over : t + c.cost-cost.result ≤ b = rw costs (over_bounds c.args.task.now c.requires.task c.args.head.node c.args.to ps _ link n t b has s) in
-    omega (arith, over, c.if-last-latest.true, latest, c.requires.same)
+returns-then-last-latest-clause-told g c = λ s at n t b has step open' other since.
+    let here = goal.at.returns-then-last-latest-clause-told g c in
+    let near = read_at c.args.self.now.late.items c.args.to c.index.result.now (omega (arith, c.requires.node, c.requires.rising.many)) c.index.ensures in
+    let inside = c.requires.senders.senders c.args.place _ c.head-head.ensures.1 in
+    let latest = read_at c.args.self.now.late.items c.head-head.result.node c.index-latest.result.now (omega (arith, inside, c.requires.rising.many)) c.index-latest.ensures in
+    let same = ap (slice_index c.args.self.now.late.items) (sender_is g here.After-head-head s at) in
+    omega (arith, over g here.After-saturating_sub-last s at n t b has step, c.if-last-latest.true, near, latest, same)
+
+pub returns-then-from-at-clause-told : goal.returns-then-from-at-clause-told
+returns-then-from-at-clause-told g c = λ s at n t b has step open' other since.
+    let from = c.at-from.result in
+    let sent : SentLink = record { sender = from.node; passes = from.passes.now } in
+    let is : s ≡ sent = same_some (sym at ∙ c.at-from.ensures.link) in
+    let link = c.requires.senders.each c.args.place sent c.at-from.ensures.link in
+    let begins = ap (λ (r : RouteRequest). r.at) c.request.ensures in
+    let ended : from.bounds.latest_end ≤ c.args.task.now.request.at = omega (arith, c.at.ensures.value, begins, c.if-from-at.true) in
+    absurd (omega (arith, since, left_before c.args.task.now c.requires.task from.node c.args.to from.passes.now from.bounds (link, c.at-from.ensures.bounds) c.args.task.now.request.at ended n t c.args.to b (rw is at has) (rw is at step)))
 
 pub returns-clause-rising : goal.returns-clause-rising
 returns-clause-rising g c =
     let task = c.args.task.now in
     let late = c.args.self.now.late.items in
-    let node = c.args.head.node in
+    let node = c.head-head.result.node in
     let last = c.saturating_sub-last.result in
-    let latest = read_at late node c.index-latest.result.now (omega (arith, c.requires.node, c.requires.rising.many)) c.index-latest.ensures in
-    risen _ task late c.args.self.now.taken.items c.args.self.now.queue _ c.args.to last _ c.requires.rising c.requires.node (λ same. c.if-node-goal.false (same ∙ sym c.goal.ensures)) (omega (arith, latest, c.if-last-latest.false)) c.in_ok-push.ensures.ok
-    (still_near task late node last (late_rises late node last (omega (arith, c.requires.node, c.requires.rising.many)) (omega (arith, latest, c.if-last-latest.false))))
+    let inside = c.requires.senders.senders c.args.place _ c.head-head.ensures.1 in
+    let latest = read_at late node c.index-latest.result.now (omega (arith, inside, c.requires.rising.many)) c.index-latest.ensures in
+    risen _ task late c.args.self.now.taken.items c.args.self.now.queue _ c.args.to last _ c.requires.rising inside (λ same. c.if-node-goal.false (same ∙ sym c.goal.ensures)) (omega (arith, latest, c.if-last-latest.false)) c.in_ok-push.ensures.ok
+    (still_near task late node last (late_rises late node last (omega (arith, inside, c.requires.rising.many)) (omega (arith, latest, c.if-last-latest.false))))
 
 pub returns-clause-same : goal.returns-clause-same
-returns-clause-same g c = set_other c.args.self.now.late.items c.args.head.node c.saturating_sub-last.result c.args.to (λ same. c.if-node-to.false (sym same)) ∙ c.requires.same
+returns-clause-same g c = set_other c.args.self.now.late.items c.head-head.result.node c.saturating_sub-last.result c.args.to (λ same. c.if-node-to.false (sym same))
 
 pub returns-clause-rises : goal.returns-clause-rises
 returns-clause-rises g c =
     let late = c.args.self.now.late.items in
-    let node = c.args.head.node in
-    let latest = read_at late node c.index-latest.result.now (omega (arith, c.requires.node, c.requires.rising.many)) c.index-latest.ensures in
-    late_rises late node c.saturating_sub-last.result (omega (arith, c.requires.node, c.requires.rising.many)) (omega (arith, latest, c.if-last-latest.false))
+    let node = c.head-head.result.node in
+    let inside = c.requires.senders.senders c.args.place _ c.head-head.ensures.1 in
+    let latest = read_at late node c.index-latest.result.now (omega (arith, inside, c.requires.rising.many)) c.index-latest.ensures in
+    late_rises late node c.saturating_sub-last.result (omega (arith, inside, c.requires.rising.many)) (omega (arith, latest, c.if-last-latest.false))
 
 pub returns-clause-told : goal.returns-clause-told
-returns-clause-told g c = λ ps link n t b has s open' other since.
+returns-clause-told g c = λ s at n t b has step open' other since.
+    let here = goal.at.returns-clause-told g c in
     let late = c.args.self.now.late.items in
-    let node = c.args.head.node in
-    let costs : c.cost-cost.result ≡ cost c.args.task.now.request.margin (min c.args.head.bounds.least_light 1000000) = c.cost-cost.ensures ∙ ap (cost c.args.task.now.request.margin) c.min.ensures in
-    let over : t + c.cost-cost.result ≤ b = rw costs (over_bounds c.args.task.now c.requires.task c.args.head.node c.args.to ps _ link n t b has s) in
-    omega (arith, over, c.saturating_sub-last.ensures, c.requires.same, set_here late node c.saturating_sub-last.result (omega (arith, c.requires.node, c.requires.rising.many)), set_other late node c.saturating_sub-last.result c.args.to (λ same. c.if-node-to.false (sym same)))
+    let node = c.head-head.result.node in
+    let last = c.saturating_sub-last.result in
+    let inside = c.requires.senders.senders c.args.place _ c.head-head.ensures.1 in
+    let near = read_at c.args.self.now.late.items c.args.to c.index.result.now (omega (arith, c.requires.node, c.requires.rising.many)) c.index.ensures in
+    let same = ap (slice_index (slice_set late node last)) (sender_is g here.After-head-head s at) in
+    omega (arith, over g here.After-saturating_sub-last s at n t b has step, c.saturating_sub-last.ensures, near, same, set_here late node last (omega (arith, inside, c.requires.rising.many)), set_other late node last c.args.to (λ same. c.if-node-to.false (sym same)))

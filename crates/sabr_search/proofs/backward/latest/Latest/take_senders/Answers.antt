@@ -1,45 +1,64 @@
-use Rattle.std.proofs.Common.{◌≡◌, inl, inr, slice_get, slice_index, sym, ap, ◌∙◌, arith}
+use Rattle.std.proofs.Common.{◌≡◌, ◌<◌, inl, inr, ℕ, List, slice_index, sym, ap, ◌∙◌, arith}
 use Rattle.std.proofs.lemmas.Bool.{cases_lt}
 use Rattle.sabr_index.specs.Links.{SentLink}
+use Rattle.sabr_index.specs.Incoming.{bounds_until}
+use Rattle.sabr_search.specs.questions.Task.{SearchTask, Takes}
+use Rattle.sabr_search.specs.questions.Linked.{HasNumber}
+use Rattle.sabr_search.specs.layers.Latest.{IsLeftBy}
 use Rattle.sabr_search.proofs.LinkLemmas.OverLinks.{ruled_out}
 use Rattle.std.proofs.lemmas.Option.{slice_get_within}
 use Rattle.sabr_search.proofs.ForwardLemmas.LayerEntries.{read_at}
 use Rattle.sabr_search.proofs.WayLemmas.RoutesAndWays.{same_some}
-use Rattle.sabr_search.proofs.ForwardLemmas.Forward.{last_or_before}
-use Rattle.sabr_search.proofs.BackwardLemmas.LastSeconds.{left_later}
+use Rattle.sabr_search.proofs.BackwardLemmas.LastSeconds.{left_later, left_before, each_until}
 use Rattle.sabr_search.proofs.backward.latest.Latest.take_senders.Goals as goal
+
+-- what is told of one link to the node
+abbrev IsTold : SearchTask → List ℕ → ℕ → ℕ → SentLink → Type 0
+IsTold task late to before s = (n t b : ℕ) → HasNumber s.passes n → Takes task n s.sender t to b → b < before → IsLeftBy task late s.sender t
 
 pub loop-place-init : goal.loop-place-init
 loop-place-init g c = record {
   rising = c.requires.rising;
   same = sym (read_at c.args.self.now.late.items c.args.to c.index-before.result.now (omega (arith, c.requires.node, c.requires.rising.many)) c.index-before.ensures);
-  told = λ j s n t b less. absurd (omega (arith, less));
+  told = λ j s less. absurd (omega (arith, less));
 }
 
-pub index-requires : goal.index-requires
-index-requires g c = omega (arith, c.senders-senders.ensures.senders c.loop-place.place (record { sender = c.head-head.result.node; passes = c.head-head.ensures.0 }) c.head-head.ensures.1, c.loop-place.invariant.rising.many)
+pub index-latest-requires : goal.index-latest-requires
+index-latest-requires g c = omega (arith, c.senders-senders.ensures.senders c.loop-place.place (record { sender = c.head-head.result.node; passes = c.head-head.ensures.0 }) c.head-head.ensures.1, c.loop-place.invariant.rising.many)
 
-pub loop-place-preserved-then-rules_out : goal.loop-place-preserved-then-rules_out
-loop-place-preserved-then-rules_out g c =
+pub loop-place-preserved-then-is_soonest : goal.loop-place-preserved-then-is_soonest
+loop-place-preserved-then-is_soonest g c =
     let task = c.args.task.now in
     let so_far = c.loop-place.invariant in
     let here = c.head-head.ensures in
     let u = c.head-head.result.node in
-    let sent : SentLink = record { sender = u; passes = here.0 } in
-    let link = c.senders-senders.ensures.each c.loop-place.place sent here.1 in
-    let late = read_at c.loop-place.self.late.items u c.index.result.now (omega (arith, c.senders-senders.ensures.senders c.loop-place.place sent here.1, so_far.rising.many)) c.index.ensures in
+    let link = c.senders-senders.ensures.each c.loop-place.place (record { sender = u; passes = here.0 }) here.1 in
+    let late = read_at c.loop-place.self.late.items u c.index-latest.result.now (omega (arith, c.senders-senders.ensures.senders c.loop-place.place _ here.1, so_far.rising.many)) c.index-latest.ensures in
     record {
       rising = so_far.rising;
       same = so_far.same;
-      told = λ j s n t b less at has step by. elim (last_or_before j c.loop-place.place less) [
-        | inl before ↦ so_far.told j s n t b before at has step by
-        | inr same ↦
-            (let is : s ≡ sent = same_some (sym at ∙ ap (slice_get c.senders-senders.result) same ∙ here.1) in
-            rw is (λ open' other. elim (cases_lt t (slice_index c.loop-place.self.late.items u)) [
-              | inl early ↦ early
-              | inr late_there ↦ absurd (omega (arith, by, late, ruled_out task c.requires.task u c.args.to here.0 link c.head-head.result.bounds here.2 c.index.result.now c.index-before.result.now (c.rules_out.ensures.late c.if-rules_out.true) n t c.args.to b (rw is at has) (omega (arith, late, late_there)) (rw is at step)))
-            ]))
-      ];
+      told = each_until (IsTold task c.loop-place.self.late.items c.args.to c.index-before.result.now) c.senders-senders.result c.loop-place.place _ here.1 so_far.told
+          (λ n t b has s by open' other. elim (cases_lt t (slice_index c.loop-place.self.late.items u)) [
+            | inl early ↦ early
+            | inr late_there ↦
+                absurd (omega (arith, by, late, ruled_out task c.requires.task u c.args.to here.0 link (bounds_until here.2 c.head-head.result) here.3 c.index-latest.result.now c.index-before.result.now (inr (c.is_soonest.ensures.late c.if-is_soonest.true)) n t c.args.to b has (omega (arith, late, late_there)) s))
+          ]);
+    }
+
+pub loop-place-preserved-then-from-latest : goal.loop-place-preserved-then-from-latest
+loop-place-preserved-then-from-latest g c =
+    let task = c.args.task.now in
+    let so_far = c.loop-place.invariant in
+    let here = c.at-from.ensures in
+    let from = c.at-from.result in
+    let link = c.senders-senders.ensures.each c.loop-place.place (record { sender = from.node; passes = from.passes.now }) here.link in
+    let node : from.node ≡ c.head-head.result.node = ap (λ (s : SentLink). s.sender) (same_some (sym here.link ∙ c.head-head.ensures.1)) in
+    let late = read_at c.loop-place.self.late.items from.node c.index-latest.result.now (omega (arith, c.senders-senders.ensures.senders c.loop-place.place _ here.link, so_far.rising.many)) (rw node c.index-latest.ensures) in
+    record {
+      rising = so_far.rising;
+      same = so_far.same;
+      told = each_until (IsTold task c.loop-place.self.late.items c.args.to c.index-before.result.now) c.senders-senders.result c.loop-place.place _ here.link so_far.told
+          (λ n t b has s by open' other. omega (arith, late, left_before task c.requires.task from.node c.args.to from.passes.now from.bounds (link, here.bounds) c.index-latest.result.now c.if-from-latest.true n t c.args.to b has s));
     }
 
 pub take_sender-requires-clause-link : goal.take_sender-requires-clause-link
@@ -56,16 +75,13 @@ loop-place-preserved g c =
     record {
       rising = one.rising;
       same = one.same;
-      told = λ j s n t b less at has step by. elim (last_or_before j c.loop-place.place less) [
-        | inl before ↦ left_later task _ _ one.rises s.sender t (so_far.told j s n t b before at has step by)
-        | inr same ↦
-            (let is : s ≡ record { sender = c.at-from.result.node; passes = c.at-from.result.passes.now } = same_some (sym at ∙ ap (slice_get c.senders-senders.result) same ∙ c.at-from.ensures.link) in
-            rw is (one.told n t b (rw is at has) (rw is at step) by))
-      ];
+      told = each_until (IsTold task c.take_sender.new.self.late.items c.args.to c.index-before.result.now) c.senders-senders.result c.loop-place.place _ c.at-from.ensures.link
+          (λ j s less at n t b has step by. left_later task _ _ one.rises s.sender t (so_far.told j s less at n t b has step by))
+          one.told;
     }
 
 pub returns-clause-taken : goal.returns-clause-taken
 returns-clause-taken g c = λ yes' n u t b step less.
     let so_far = c.loop-place.invariant in
     let on = c.senders-senders.ensures.whole n u t b step in
-    rw (← on.3) (so_far.told on.0 on.1 n t b (omega (arith, slice_get_within c.senders-senders.result on.0 on.1 on.2, c.loop-place-test.false, c.len-place-end.ensures)) on.2 on.4 (rw (← on.3) at step) (omega (arith, less, so_far.same)))
+    rw (← on.3) (so_far.told on.0 on.1 (omega (arith, slice_get_within c.senders-senders.result on.0 on.1 on.2, c.loop-place-test.false, c.len-place-end.ensures)) on.2 n t b on.4 (rw (← on.3) at step) (omega (arith, less, so_far.same)))

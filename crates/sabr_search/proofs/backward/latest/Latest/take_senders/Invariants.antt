@@ -9,5 +9,5 @@ abbrev pub invariant-loop-place : goal.invariant-loop-place
 invariant-loop-place g l = record {
   rising : AreRising (IsTakenBy l.task) l.task l.self.late.items l.self.taken.items l.self.queue l.to;
   same : slice_index l.self.late.items l.to ≡ l.before;
-  told : (j : ℕ) (s : SentLink) (n t b : ℕ) → j < l.place → slice_get l.senders j ≡ Some s → HasNumber s.passes n → Takes l.task n s.sender t l.to b → b < l.before → IsLeftBy l.task l.self.late.items s.sender t;
+  told : (j : ℕ) (s : SentLink) → j < l.place → slice_get l.senders j ≡ Some s → (n t b : ℕ) → HasNumber s.passes n → Takes l.task n s.sender t l.to b → b < l.before → IsLeftBy l.task l.self.late.items s.sender t;
 }

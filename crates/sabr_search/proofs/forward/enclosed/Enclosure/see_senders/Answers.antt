@@ -1,6 +1,7 @@
 use Rattle.std.proofs.Common.{◌≡◌, inl, inr, slice_get, sym, ap, ◌∙◌, arith}
 use Rattle.std.proofs.lemmas.Option.{slice_get_within}
 use Rattle.sabr_index.specs.Links.{SentLink}
+use Rattle.sabr_index.specs.Incoming.{bounds_until}
 use Rattle.sabr_search.proofs.LinkLemmas.OverLinks.{ruled_out}
 use Rattle.sabr_search.proofs.WayLemmas.RoutesAndWays.{same_some}
 use Rattle.sabr_search.proofs.ForwardLemmas.Forward.{last_or_before}
@@ -28,7 +29,7 @@ loop-place-preserved g c =
         | inr same ↦
             (let is : s ≡ sent = same_some (sym at ∙ ap (slice_get c.senders-senders.result) same ∙ here.1) in
             rw is (λ open'. elim (one.told c.if-not-apart.false open') [
-              | inl late ↦ absurd (omega (arith, by, ruled_out task c.requires.task u c.args.to here.0 link c.head-head.result.bounds here.2 0 c.args.before (inr (inl late)) n t c.args.to b (rw is at has) (omega arith) (rw is at step)))
+              | inl late ↦ absurd (omega (arith, by, ruled_out task c.requires.task u c.args.to here.0 link (bounds_until here.2 c.head-head.result) here.3 0 c.args.before (inr (inl late)) n t c.args.to b (rw is at has) (omega arith) (rw is at step)))
               | inr on ↦ on
             ]))
       ];

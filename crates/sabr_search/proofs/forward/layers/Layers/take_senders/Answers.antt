@@ -1,7 +1,8 @@
-use Rattle.std.proofs.Common.{◌≡◌, ◌+◌, inl, inr, length, slice_get, slice_index, sym, ap, ◌∙◌, arith}
+use Rattle.std.proofs.Common.{◌≡◌, ◌+◌, length, slice_index, sym, ap, ◌∙◌, arith}
 use Rattle.sabr_index.specs.Links.{SentLink}
 use Rattle.std.proofs.lemmas.Option.{slice_get_within}
-use Rattle.sabr_search.proofs.ForwardLemmas.Forward.{last_or_before}
+use Rattle.sabr_search.specs.layers.Late.{IsToldOver}
+use Rattle.sabr_search.proofs.BackwardLemmas.LastSeconds.{left_before, each_until}
 use Rattle.sabr_search.proofs.BackwardLemmas.LateLists.{in_time_kept, told_rises}
 use Rattle.sabr_search.proofs.LinkLemmas.Linking.{passes_within}
 use Rattle.sabr_search.proofs.LinkLemmas.StepLists.{sum_taken_le}
@@ -47,12 +48,25 @@ loop-place-preserved-then-is_told g c =
       lists = so_far.lists;
       kept = so_far.kept;
       rises = so_far.rises;
-      told = λ j s n t w b less at has step by. elim (last_or_before j c.loop-place.place less) [
-        | inl before ↦ so_far.told j s n t w b before at has step by
-        | inr same ↦
-            (let is : s ≡ record { sender = c.head-head.result.node; passes = here.0 } = same_some (sym at ∙ ap (slice_get c.senders-senders.result) same ∙ here.1) in
-            rw is (c.is_told.ensures.told c.if-is_told.true c.args.to.node here.0 n t w b (link, here.2) (rw is at has) (rw is at step) by))
-      ];
+      told = each_until (λ (s : SentLink). IsToldOver c.args.aim.now.task.now c.args.aim.now.since.now c.loop-place.self.late s.sender s.passes c.args.to.deadline) c.senders-senders.result c.loop-place.place _ here.1 so_far.told
+          (c.is_told.ensures.told c.if-is_told.true c.args.to.node here.2 here.0 (link, here.3));
+    }
+
+pub loop-place-preserved-then-from-at : goal.loop-place-preserved-then-from-at
+loop-place-preserved-then-from-at g c =
+    let task = c.args.aim.now.task.now in
+    let so_far = c.loop-place.invariant in
+    let here = c.at-from.ensures in
+    let from = c.at-from.result in
+    let link = c.senders-senders.ensures.each c.loop-place.place (record { sender = from.node; passes = from.passes.now }) here.link in
+    record {
+      ends = so_far.ends;
+      counted = omega (arith, so_far.counted, (passes_within task c.args.to.node c.senders-senders.result c.senders-senders.ensures c.loop-place.place _ here.link).0);
+      lists = so_far.lists;
+      kept = so_far.kept;
+      rises = so_far.rises;
+      told = each_until (λ (s : SentLink). IsToldOver task c.args.aim.now.since.now c.loop-place.self.late s.sender s.passes c.args.to.deadline) c.senders-senders.result c.loop-place.place _ here.link so_far.told
+          (λ n t w b has s by open' other soon. left_before task c.requires.task from.node c.args.to.node from.passes.now from.bounds (link, here.bounds) (slice_index c.loop-place.self.late from.node) (omega (arith, c.if-from-at.true, c.at.ensures)) n t w b has s);
     }
 
 pub loop-place-preserved : goal.loop-place-preserved
@@ -66,12 +80,9 @@ loop-place-preserved g c =
       lists = rw so_far.ends at one.lists;
       kept = rw so_far.ends at one.kept ∙ so_far.kept;
       rises = λ k. omega (arith, so_far.rises k, one.rises k);
-      told = λ j s n t w b less at has step by. elim (last_or_before j c.loop-place.place less) [
-        | inl before ↦ told_rises task c.args.aim.now.since.now _ _ s.sender t one.rises (so_far.told j s n t w b before at has step by)
-        | inr same ↦
-            (let is : s ≡ record { sender = c.at-from.result.node; passes = c.at-from.result.passes.now } = same_some (sym at ∙ ap (slice_get c.senders-senders.result) same ∙ c.at-from.ensures.link) in
-            rw is (one.told n t w b (rw is at has) (rw is at step) by))
-      ];
+      told = each_until (λ (s : SentLink). IsToldOver task c.args.aim.now.since.now c.take_sender.new.self.late s.sender s.passes c.args.to.deadline) c.senders-senders.result c.loop-place.place _ c.at-from.ensures.link
+          (λ j s less at n t w b has step by. told_rises task c.args.aim.now.since.now _ _ s.sender t one.rises (so_far.told j s less at n t w b has step by))
+          one.told;
     }
 
 pub returns-then-from-looks-clause-none : goal.returns-then-from-looks-clause-none
@@ -93,4 +104,4 @@ returns-clause-counted g c =
 pub returns-clause-told : goal.returns-clause-told
 returns-clause-told g c = λ same n u t b step by.
     let on = c.senders-senders.ensures.whole n u t b step in
-    rw (← on.3) (c.loop-place.invariant.told on.0 on.1 n t c.args.to.node b (omega (arith, slice_get_within c.senders-senders.result on.0 on.1 on.2, c.loop-place-test.false, c.len-place-end.ensures)) on.2 on.4 (rw (← on.3) at step) by)
+    rw (← on.3) (c.loop-place.invariant.told on.0 on.1 (omega (arith, slice_get_within c.senders-senders.result on.0 on.1 on.2, c.loop-place-test.false, c.len-place-end.ensures)) on.2 n t c.args.to.node b on.4 (rw (← on.3) at step) by)

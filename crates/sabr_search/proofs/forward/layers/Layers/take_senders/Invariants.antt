@@ -1,9 +1,7 @@
 use Rattle.std.proofs.Common.{◌≡◌, ℕ, ◌+◌, ◌<◌, ◌≤◌, Some, length, take, slice_get, slice_index}
 use Rattle.std.specs.List.{sum_by}
 use Rattle.sabr_index.specs.Links.{SentLink}
-use Rattle.sabr_search.specs.questions.Task.{Takes}
-use Rattle.sabr_search.specs.questions.Linked.{HasNumber}
-use Rattle.sabr_search.specs.layers.Late.{AreLate, IsToldLate}
+use Rattle.sabr_search.specs.layers.Late.{AreLate, IsToldOver}
 use Rattle.sabr_search.proofs.forward.layers.Layers.take_senders.Given as goal
 
 abbrev pub invariant-loop-place : goal.invariant-loop-place
@@ -13,5 +11,5 @@ invariant-loop-place g l = record {
   lists : AreLate l.aim.task.now l.aim.since.now (slice_index l.fn.self.ends.items l.left) (slice_index l.fn.self.ends.items (l.left + 1)) l.self.late l.self.place.items l.self.reached.items;
   kept : take (slice_index l.fn.self.ends.items (l.left + 1)) l.self.reached.items ≡ take (slice_index l.fn.self.ends.items (l.left + 1)) l.fn.self.reached.items;
   rises : (k : ℕ) → slice_index l.fn.self.late k ≤ slice_index l.self.late k;
-  told : (j : ℕ) (s : SentLink) (n t w b : ℕ) → j < l.place → slice_get l.senders j ≡ Some s → HasNumber s.passes n → Takes l.aim.task.now n s.sender t w b → b < l.to.deadline → IsToldLate l.aim.task.now l.aim.since.now l.self.late s.sender t;
+  told : (j : ℕ) (s : SentLink) → j < l.place → slice_get l.senders j ≡ Some s → IsToldOver l.aim.task.now l.aim.since.now l.self.late s.sender s.passes l.to.deadline;
 }
