@@ -265,9 +265,13 @@ impl<'a, A: Allocator + Copy> Task<'a, A> {
         ensures kept { (t : ℕ) → t < result → (b : ℕ) × (hop_arrival self.now.request.margin t hop.now ≡ Some b) × (b < before) }
         ensures missed { (t b : ℕ) → result ≤ t → hop_arrival self.now.request.margin t hop.now ≡ Some b → before ≤ b }
     {
-        match self.arrive_before(hop.start, hop, before) {
-            None => 0,
-            Some(soonest) => hop.end.min(before - (soonest - hop.start)),
+        let Some(light) = hop.light else {
+            return 0;
+        };
+        let cost = self.request.cost(light);
+        if hop.start + cost >= before {
+            return 0;
         }
+        hop.end.min(before - cost)
     }
 }

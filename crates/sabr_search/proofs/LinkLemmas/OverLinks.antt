@@ -26,9 +26,8 @@ use Rattle.sabr_model.specs.routes.Hops.{hop_arrival, IsSmall}
 use Rattle.sabr_search.specs.questions.Steps.{IsHopAt}
 use Rattle.sabr_search.specs.questions.Linked.{IsPassAt, IsLinkAt, IsLinkWithin, AreInOrder, HasNumber, passes_of, AreLinksAt}
 use Rattle.sabr_search.proofs.LinkLemmas.Arrivals.{arrival_parts}
-use Rattle.sabr_search.proofs.LinkLemmas.PlanFacts.{hop_small, light_small}
+use Rattle.sabr_search.proofs.LinkLemmas.PlanFacts.{hop_small}
 use Rattle.sabr_search.proofs.ForwardLemmas.Forward.{hop_takes}
-use Rattle.sabr_search.proofs.LinkLemmas.Linking.{cost_rises}
 use Rattle.sabr_search.proofs.WayLemmas.RoutesAndWays.{same_some}
 
 -- the default after the end of a list of passes
@@ -106,11 +105,6 @@ module _ (task : SearchTask) (is : IsTask task) (u to : ℕ) (passes : List Pass
   pub none_ended : (t k : ℕ) (x : Pass) (w b : ℕ) → slice_get passes k ≡ Some x → x.end ≤ t → Takes task x.number u t w b → ⊥
   none_ended t k x w b at ended s = let o = over_pass task is u to t x w b (link.each k x at) s in omega (arith, o.before_end, ended)
 
-  pub least_light_small : (k : ℕ) (x : Pass) → slice_get passes k ≡ Some x → x.least_light_behind ≤ 1000000
-  least_light_small k x at =
-      let p = link.each k x at in
-      omega (arith, (link.kept k k x x (omega arith) at at).light_behind, light_small task.plan is.plan p.contact x.light p.light)
-
   -- what a walk jumps over takes nothing
   pub none_excluded : (t i k r : ℕ) (x y : Pass) (w b : ℕ) → slice_get passes i ≡ Some x → i ≤ k → k < i + r → slice_get passes k ≡ Some y → r ≤ x.in_row_behind + 1 →
       ((j : ℕ) → j < r → (u ≡ task.start) × (has (x.number + j) task.excluded ≡ true)) → Takes task y.number u t w b → ⊥
@@ -121,31 +115,27 @@ module _ (task : SearchTask) (is : IsTask task) (u to : ℕ) (passes : List Pass
       both_ways (has y.number task.excluded) (s.allowed here.0) (ap (λ n. has n task.excluded) number ∙ here.1)
 
   -- if a pass and the lightest contact after it arrive late, all after it do
-  pub late_over : (t before i : ℕ) (x : Pass) → slice_get passes i ≡ Some x → before ≤ max t x.start + cost task.request.margin x.least_light_behind →
+  pub late_over : (t before i : ℕ) (x : Pass) → slice_get passes i ≡ Some x → before ≤ max t x.start + x.least_light_behind →
       (k : ℕ) (y : Pass) (w b : ℕ) → i ≤ k → slice_get passes k ≡ Some y → Takes task y.number u t w b → before ≤ b
   late_over t before i x at_i late k y w b le at_k s =
       let o = over_pass task is u to t y w b (link.each k y at_k) s in
       let kept = link.kept i k x y le at_i at_k in
-      omega (arith, o.sum, late, kept.start, cost_rises task.request.margin x.least_light_behind y.light kept.light_behind)
-
-  pub least_before_small : (k : ℕ) (x : Pass) → slice_get passes k ≡ Some x → x.least_light_before ≤ 1000000
-  least_before_small k x at =
-      let p = link.each k x at in
-      omega (arith, (link.kept k k x x (omega arith) at at).light_before, light_small task.plan is.plan p.contact x.light p.light)
+      let light : y.light ≤ cost task.request.margin y.light = omega arith in
+      omega (arith, o.sum, late, kept.start, kept.light_behind, light)
 
   -- nothing arrives before its pass starts, or before it is sent
   pub starts_late : (t k : ℕ) (x : Pass) (w b : ℕ) → slice_get passes k ≡ Some x → Takes task x.number u t w b → (x.start ≤ b) × (t ≤ b)
   starts_late t k x w b at s = let o = over_pass task is u to t x w b (link.each k x at) s in (omega (arith, o.sum), omega (arith, o.sum))
 
   -- if a pass ends early, or arrives late with the lightest contact before it, none before it leaves later
-  pub none_later : (latest since before i : ℕ) (x : Pass) → slice_get passes i ≡ Some x → (x.latest_end ≤ max latest since) ⊎ (before ≤ latest + cost task.request.margin x.least_light_before) →
-      (k : ℕ) (y : Pass) (t w b : ℕ) → k ≤ i → slice_get passes k ≡ Some y → since ≤ t → Takes task y.number u t w b → b < before → t < latest
-  none_later latest since before i x at_i early k y t w b le at_k after s less =
+  pub none_later : (latest before i : ℕ) (x : Pass) → slice_get passes i ≡ Some x → (x.latest_end ≤ latest) ⊎ (before ≤ latest + x.least_light_before) →
+      (k : ℕ) (y : Pass) (t w b : ℕ) → k ≤ i → slice_get passes k ≡ Some y → Takes task y.number u t w b → b < before → t < latest
+  none_later latest before i x at_i early k y t w b le at_k s less =
       let o = over_pass task is u to t y w b (link.each k y at_k) s in
       let kept = link.kept k i y x le at_k at_i in
       elim early [
-        | inl ended ↦ omega (arith, o.before_end, kept.end, ended, after)
-        | inr near ↦ omega (arith, o.sum, near, less, cost_rises task.request.margin x.least_light_before y.light kept.light_before)
+        | inl ended ↦ omega (arith, o.before_end, kept.end, ended)
+        | inr near ↦ (let light : y.light ≤ cost task.request.margin y.light = omega arith in omega (arith, o.sum, near, less, kept.light_before, light))
       ]
 
   -- if the bounds of the link rule it out, nothing arrives over it before a second

@@ -1,11 +1,12 @@
 -- Before which second no way comes to a node, and the least way within other limits.
-use Rattle.std.proofs.Common.{◌≡◌, inl, inr, ℕ, zero, suc, ◌<◌, ◌≤◌, List, [], ◌∷◌, ◌++◌, length, take, replicate, slice_index, ◌∙◌, arith}
+use Rattle.std.proofs.Common.{◌≡◌, inl, inr, ℕ, zero, suc, ◌<◌, ◌≤◌, ◌-◌, min, max, List, [], ◌∷◌, ◌++◌, length, take, replicate, slice_index, ◌∙◌, arith}
 use Rattle.std.proofs.lemmas.Bool.{cases_lt}
 use Rattle.std.proofs.lemmas.Grind.{common_steps}
 use Rattle.std.proofs.lemmas.List.FromFn.{get_or-map-range_with_len, length-map-range_with_len}
 use Rattle.sabr_search.specs.questions.Task.{SearchTask, Takes, IsTask}
 use Rattle.sabr_search.specs.layers.Late.{AreSince, AreArrivals}
-use Rattle.sabr_search.specs.layers.Since.{since_at, since_of}
+use Rattle.sabr_search.specs.layers.Reach.{cost_to}
+use Rattle.sabr_search.specs.layers.Since.{first_of, since_at, since_of}
 use Rattle.sabr_search.specs.layers.Settling.{AreArrivalsBy}
 use Rattle.sabr_search.proofs.WayLemmas.Ways.{Leads-later}
 use Rattle.sabr_search.proofs.ForwardLemmas.MadeLayers.{index_past}
@@ -38,12 +39,24 @@ since_most nodes arrival near soon d k = elim (cases_lt k nodes) [
   | inr past ↦ omega (arith, index_past (since_of nodes arrival near soon d) k (omega (arith, since_many nodes arrival near soon d)))
 ]
 
+pub first_before : (a l s : ℕ) → a < l → first_of a l s ≡ a
+first_before a l s less = grind (arith, less)
+
+pub first_after : (a l s : ℕ) → l ≤ a → first_of a l s ≡ max l s
+first_after a l s le = grind (arith, le)
+
+pub first_most : (a l s : ℕ) → first_of a l s ≤ max (min a l) s
+first_most a l s = elim (cases_lt a l) [
+  | inl less ↦ omega (arith, first_before a l s less, less)
+  | inr le ↦ omega (arith, first_after a l s le, le)
+]
+
 -- nor before the arrivals that were found, each lowered to the last second from which a way may still deliver by then; nor
 -- before the soonest seconds
 pub arrivals_lowered : (task : SearchTask) (nodes : ℕ) (arrival near soon : List ℕ) (d : ℕ) → nodes ≡ length task.table → AreSince task soon → AreArrivalsBy task near arrival d → AreArrivals task (since_of nodes arrival near soon d)
 arrivals_lowered task nodes arrival near soon d all since by = record {
   flags = since_many nodes arrival near soon d ∙ all;
-  least = λ ns v t some way. omega (arith, since_most nodes arrival near soon d v, since ns v t some way, by ns v t some way);
+  least = λ ns v t some way. omega (arith, since_most nodes arrival near soon d v, first_most (slice_index arrival v) (d - cost_to near v) (slice_index soon v), since ns v t some way, by ns v t some way);
 }
 
 -- an empty list that is made longer has the new value alone

@@ -104,15 +104,18 @@ impl<A: Allocator + Copy> Layers<A> {
         ensures rises { OnOk result ((k : ℕ) → slice_index self.old.late k ≤ slice_index self.new.late k) }
         ensures told { OnOk result (IsToldOver aim.now.task.now aim.now.since.now self.new.late from.entry.node from.entry.passes.now to.deadline) }
     {
-        let latest = self.late.at(from.node);
         let since = aim.since.at(from.node);
+        if to.deadline <= since {
+            return Ok(());
+        }
+        let latest = self.late.at(from.node);
         let link = WalkedLink {
             from: from.node,
             to: to.node,
             passes: from.passes,
             bounds: from.bounds,
         };
-        let last = aim.task.leave_over(looks, link, since, to.deadline, latest);
+        let last = aim.task.leave_over(looks, link, to.deadline, latest);
         if last <= latest || last <= since {
             return Ok(());
         }

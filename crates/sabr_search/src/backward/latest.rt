@@ -86,7 +86,7 @@ impl<A: Allocator + Copy> Latest<A> {
             passes: from.passes,
             bounds: from.bounds,
         };
-        let last = task.leave_over(looks, link, 0, before, latest);
+        let last = task.leave_over(looks, link, before, latest);
         if last <= latest {
             return Ok(());
         }

@@ -67,8 +67,11 @@ impl<A: Allocator + Copy> Layers<A> {
     {
         let mut least: Option<Step> = None;
         for link in links.links {
-            let passes = link_passes(links, link);
             let before = self.deadline(hops, link.receiver as usize);
+            if before <= from.at {
+                continue;
+            }
+            let passes = link_passes(links, link);
             let walked = WalkedLink {
                 from: from.node,
                 to: link.receiver as usize,

@@ -6,12 +6,12 @@ use sabr_model::NoMemory;
 use std::alloc::Allocator;
 use std::marker::Model;
 
-/// For each node a second, which is 0 until it is set. To begin anew takes a step for each node that was set, and none for
-/// the others. Contracts see the seconds.
+/// For each node a second, which is 0 until it is set. To begin anew takes a step for each time that a node was set, and none
+/// for the others. Contracts see the seconds.
 #[derive(Drop)]
 pub struct Seconds<A: Allocator + Copy> {
     seconds: Vec<u64, A>,
-    /// The nodes that were set.
+    /// The nodes that were set, each as often as it was.
     nodes: Vec<usize, A>,
 }
 
@@ -73,10 +73,6 @@ impl<A: Allocator + Copy> Seconds<A> {
         requires { node < length self.old }
         ensures { OnOk result (self.new ≡ slice_set self.old node second) }
     {
-        if self.seconds[node] > 0 {
-            self.seconds[node] = second;
-            return Ok(());
-        }
         self.nodes.push(node)?;
         self.seconds[node] = second;
         Ok(())

@@ -75,7 +75,10 @@ impl<'a> Since<'a> {
         ensures { result ≡ slice_index self.now node }
     {
         let last = self.delivery.saturating_sub(cost_by(self.near, node));
-        let since = second(self.arrival, node).min(last);
-        since.max(second(self.soon, node))
+        let arrival = second(self.arrival, node);
+        if arrival < last {
+            return arrival;
+        }
+        last.max(second(self.soon, node))
     }
 }

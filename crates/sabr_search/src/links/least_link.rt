@@ -8,7 +8,7 @@ ghost use Rattle.sabr_search.specs.questions.Linked.{IsLinkWithin, HasNumber};
 use crate::backward::pick::{Step, is_at_most};
 use crate::links::finger::Finger;
 use crate::links::looks::Looks;
-use crate::links::over_link::{WalkedLink, first_open, rules_out};
+use crate::links::over_link::{WalkedLink, comes_late, first_open, rules_out};
 use crate::task::Task;
 use std::alloc::Allocator;
 
@@ -50,7 +50,7 @@ impl<'a, A: Allocator + Copy> Task<'a, A> {
                 place += excluded.min(passes.len() - place);
                 continue;
             }
-            if self.comes_late(pass, at, before) {
+            if comes_late(pass, at, before) {
                 return chosen;
             }
             place += 1;

@@ -2,52 +2,53 @@
 
 ghost use Rattle.std.specs.Prelude.{◌≡◌, ◌≢◌, ◌⊎◌, ℕ, ◌+◌, ◌^◌, ◌≤◌, ◌<◌, max, IsTrue, false, Some, length, slice_get, slice_index_or};
 ghost use Rattle.sabr_index.specs.declared.link.Pass.{Pass};
-ghost use Rattle.sabr_model.specs.routes.Arrival.{cost};
-ghost use Rattle.sabr_model.specs.plan.Plan.{most_light};
 ghost use Rattle.sabr_search.specs.questions.Task.{IsTask, Takes};
 ghost use Rattle.sabr_search.specs.questions.Linked.{IsLinkWithin, AreInOrder, HasNumber};
 
 use crate::links::looks::Looks;
-use crate::links::over_link::{WalkedLink, rules_out};
+use crate::links::over_link::WalkedLink;
 use crate::task::Task;
 use sabr_index::Pass;
 use std::alloc::Allocator;
 
-/// Returns the number of passes of a link that start before `before`; these come first. A link's only pass is counted
-/// even if it starts later. A binary search: it compares the starts, by which a link's passes are sorted.
+/// Returns the number of passes that start before `before`; these come first. A binary search: it compares the starts, by
+/// which passes are sorted.
+fn started(passes: &[Pass], before: u64) -> usize
+    requires { AreInOrder passes.now }
+    ensures within { result ≤ length passes.now }
+    ensures late { (k : ℕ) (x : Pass) → result ≤ k → slice_get passes.now k ≡ Some x → before ≤ x.start }
+{
+    passes.partition_point(|pass| pass.start < before)
+}
+
+/// Returns the number of passes of a link that start before `before`; the first is counted even if it starts later.
 fn begun(passes: &[Pass], before: u64) -> usize
     requires { AreInOrder passes.now }
     ensures within { result ≤ length passes.now }
     ensures late { (k : ℕ) (x : Pass) → result ≤ k → slice_get passes.now k ≡ Some x → before ≤ x.start }
 {
-    if passes.len() == 1 {
-        return 1;
-    }
-    passes.partition_point(|pass| pass.start < before)
+    let Some((_, rest)) = passes.split_first() else {
+        return 0;
+    };
+    1 + started(rest, before)
+}
+
+/// Returns true if, by its end and the light times up to it, nothing that is at the sender at `latest` or later arrives
+/// before `before` over this pass or an earlier one. The margin is left out.
+fn leaves_no_later(pass: &Pass, before: u64, latest: u64) -> bool
+    ensures { IsTrue result → (pass.now.latest_end ≤ latest) ⊎ (before ≤ latest + pass.now.least_light_before) }
+{
+    pass.latest_end <= latest || before.saturating_sub(latest) <= pass.least_light_before as u64
 }
 
 impl<'a, A: Allocator + Copy> Task<'a, A> {
-    /// Returns true if nothing that is at the sender at `since` or later, and at `latest` or later, arrives before
-    /// `before` over this pass or an earlier one.
-    fn leaves_no_later(&self, pass: &Pass, since: u64, before: u64, latest: u64) -> bool
-        requires light { pass.now.least_light_before ≤ most_light }
-        ensures { IsTrue result → (pass.now.latest_end ≤ max latest since) ⊎ (before ≤ latest + cost self.now.request.margin pass.now.least_light_before) }
-    {
-        if pass.latest_end <= latest.max(since) || before <= latest {
-            return true;
-        }
-        before - latest <= self.cost(pass.least_light_before)
-    }
-
     /// Returns the first second from which on nothing leaves over a link and arrives before `before`, if that is later
-    /// than `latest`; otherwise `latest`. Nothing is said of what is at the sender before `since`. It takes a binary
-    /// search and one look for each pass in question.
+    /// than `latest`; otherwise `latest`. It takes a binary search and one look for each pass in question.
     #[inline(always)]
     pub fn leave_over(
         &self,
         looks: &mut Looks,
         link: WalkedLink<'_>,
-        since: u64,
         before: u64,
         latest: u64,
     ) -> u64
@@ -59,17 +60,14 @@ impl<'a, A: Allocator + Copy> Task<'a, A> {
         ensures some_looks { latest < result → looks.new.left < looks.old.left }
         ensures lower { latest ≤ result }
         ensures sound { (t : ℕ) → latest ≤ t → t < result → (b : ℕ) × (b < before) × (slice_index_or self.now.shut link.entry.to false ≡ false → (n : ℕ) × Takes self.now n link.entry.from t link.entry.to b) }
-        ensures full { (n t w b : ℕ) → HasNumber link.entry.passes.now n → since ≤ t → Takes self.now n link.entry.from t w b → b < before → t < result }
+        ensures full { (n t w b : ℕ) → HasNumber link.entry.passes.now n → Takes self.now n link.entry.from t w b → b < before → t < result }
     {
-        if rules_out(link.bounds, latest.max(since), before) {
-            return latest;
-        }
         let passes = link.passes;
         let mut last = latest;
         let end = begun(passes, before);
         for back in 0..end {
             let pass = looks.look(&passes[end - 1 - back]);
-            if self.leaves_no_later(pass, since, before, last) {
+            if leaves_no_later(pass, before, last) {
                 return last;
             }
             let hop = self.hop_over(link.to, pass);

@@ -2,9 +2,7 @@
 
 ghost use Rattle.std.specs.Prelude.{◌≡◌, ◌⊎◌, ℕ, ◌+◌, ◌^◌, ◌≤◌, ◌<◌, max, IsTrue, false, Some, length, slice_get, slice_index_or};
 ghost use Rattle.sabr_index.specs.declared.link.Pass.{Pass};
-ghost use Rattle.sabr_model.specs.routes.Arrival.{cost};
 ghost use Rattle.sabr_model.specs.routes.Hops.{IsSmall};
-ghost use Rattle.sabr_model.specs.plan.Plan.{most_light};
 ghost use Rattle.sabr_search.specs.questions.Task.{IsTask, Takes};
 ghost use Rattle.sabr_search.specs.questions.Steps.{IsHopAt};
 ghost use Rattle.sabr_search.specs.questions.Linked.{IsPassAt, IsLinkWithin, AreInOrder, HasNumber, passes_of};
@@ -66,6 +64,14 @@ pub fn first_open(passes: &[Pass], at: u64) -> usize
     passes.partition_point(|pass| pass.latest_end <= at)
 }
 
+/// Returns true if, by its start and the light times from it on, what is at the sender at `at` arrives at `before` or later
+/// over this pass and over each one after it. The margin is left out.
+pub fn comes_late(pass: &Pass, at: u64, before: u64) -> bool
+    ensures { IsTrue result → before ≤ max at pass.now.start + pass.now.least_light_behind }
+{
+    before.saturating_sub(at.max(pass.start)) <= pass.least_light_behind as u64
+}
+
 impl<'a, A: Allocator + Copy> Task<'a, A> {
     /// Returns the record of a pass that was looked at.
     pub fn hop_over(&self, to: usize, pass: &Pass) -> Hop
@@ -81,16 +87,6 @@ impl<'a, A: Allocator + Copy> Task<'a, A> {
             receiver: to,
             light: Some(pass.light),
         }
-    }
-
-    /// Returns true if what is at the sender at `at` arrives at `before` or later over this pass and over each one
-    /// after it.
-    pub fn comes_late(&self, pass: &Pass, at: u64, before: u64) -> bool
-        requires light { pass.now.least_light_behind ≤ most_light }
-        ensures { IsTrue result → before ≤ max at pass.now.start + cost self.now.request.margin pass.now.least_light_behind }
-    {
-        let sent = at.max(pass.start);
-        sent >= before || self.cost(pass.least_light_behind) >= before - sent
     }
 
     /// Returns the least arrival over a link of what is at its sender at `at`, if it is before `before`; otherwise
@@ -123,7 +119,7 @@ impl<'a, A: Allocator + Copy> Task<'a, A> {
                 place += excluded.min(passes.len() - place);
                 continue;
             }
-            if self.comes_late(pass, at, least) {
+            if comes_late(pass, at, least) {
                 return least;
             }
             let hop = self.hop_over(link.to, pass);

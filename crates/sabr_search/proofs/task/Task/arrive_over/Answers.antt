@@ -4,7 +4,7 @@ use Rattle.std.proofs.lemmas.Bool.{cases_lt}
 use Rattle.sabr_index.specs.declared.link.Pass.{Pass}
 use Rattle.sabr_search.proofs.LinkLemmas.PlanFacts.{hop_arrives}
 use Rattle.sabr_search.proofs.ForwardLemmas.Forward.{step_of_hop, last_or_before}
-use Rattle.sabr_search.proofs.LinkLemmas.OverLinks.{no_pass, none_ended, none_excluded, least_light_small, late_over, ruled_out, pass_takes, step_at, step_over}
+use Rattle.sabr_search.proofs.LinkLemmas.OverLinks.{no_pass, none_ended, none_excluded, late_over, ruled_out, pass_takes, step_at, step_over}
 use Rattle.sabr_search.proofs.task.Task.arrive_over.Goals as goal
 use Rattle.sabr_search.proofs.task.Task.arrive_over.Goals.{in-Some+else-is_soonest, in_default}
 use Rattle.sabr_search.proofs.WayLemmas.RoutesAndWays.{same_some}
@@ -24,14 +24,6 @@ loop-place-init g c = record {
   sound = λ less. absurd (omega (arith, less));
   full = λ k x w b less at s. absurd (none_ended c.args.self.now c.requires.task c.args.link.from c.args.link.to c.args.link.passes.now c.requires.link.0 c.args.at k x w b at (c.first_open-place.ensures.ended k x less at) s);
 }
-
-pub comes_late-requires : goal.comes_late-requires
-comes_late-requires g c =
-    let passes = c.args.link.passes.now in
-    let i = c.loop-place.place in
-    let pass = c.look-pass.result.now in
-    let here : slice_get passes i ≡ Some pass = slice_get-get_or passes i no_pass c.loop-place-test.true ∙ ap (λ (z : Bor Pass). Some z.now) (sym c.look-pass.ensures.same) in
-    record { light = least_light_small c.args.self.now c.requires.task c.args.link.from c.args.link.to passes c.requires.link.0 i pass here }
 
 pub returns-then-comes_late-clause-full : goal.returns-then-comes_late-clause-full
 returns-then-comes_late-clause-full g c = λ n w b has s.

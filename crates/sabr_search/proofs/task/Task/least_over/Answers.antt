@@ -3,7 +3,7 @@ use Rattle.std.proofs.lemmas.Option.{slice_get-get_or, slice_get_within}
 use Rattle.std.proofs.lemmas.Bool.{cases_lt}
 use Rattle.sabr_index.specs.declared.link.Pass.{Pass}
 use Rattle.sabr_search.proofs.ForwardLemmas.Forward.{step_of_hop, last_or_before}
-use Rattle.sabr_search.proofs.LinkLemmas.OverLinks.{no_pass, none_ended, none_excluded, least_light_small, late_over, ruled_out, pass_takes, step_at, step_over, same_number, at_most_more}
+use Rattle.sabr_search.proofs.LinkLemmas.OverLinks.{no_pass, none_ended, none_excluded, late_over, ruled_out, pass_takes, step_at, step_over, same_number, at_most_more}
 use Rattle.sabr_search.proofs.task.Task.least_over.Goals as goal
 
 pub returns-then-rules_out-clause-full : goal.returns-then-rules_out-clause-full
@@ -20,14 +20,6 @@ loop-place-init g c = record {
   sound = inl refl;
   full = λ k x w b less at s early. absurd (none_ended c.args.self.now c.requires.task c.args.link.from c.args.link.to c.args.link.passes.now c.requires.link.0 c.args.at k x w b at (c.first_open-place.ensures.ended k x less at) s);
 }
-
-pub comes_late-requires : goal.comes_late-requires
-comes_late-requires g c =
-    let passes = c.args.link.passes.now in
-    let i = c.loop-place.place in
-    let pass = c.look-pass.result.now in
-    let here : slice_get passes i ≡ Some pass = slice_get-get_or passes i no_pass c.loop-place-test.true ∙ ap (λ (z : Bor Pass). Some z.now) (sym c.look-pass.ensures.same) in
-    record { light = least_light_small c.args.self.now c.requires.task c.args.link.from c.args.link.to passes c.requires.link.0 i pass here }
 
 pub returns-then-comes_late-clause-full : goal.returns-then-comes_late-clause-full
 returns-then-comes_late-clause-full g c = λ n w b has s early.

@@ -4,14 +4,8 @@ use Rattle.std.proofs.lemmas.Bool.{cases_lt, cases_eq}
 use Rattle.sabr_index.specs.declared.link.Pass.{Pass}
 use Rattle.sabr_search.proofs.LinkLemmas.PlanFacts.{hop_at_window}
 use Rattle.sabr_search.proofs.ForwardLemmas.Forward.{step_of_hop}
-use Rattle.sabr_search.proofs.LinkLemmas.OverLinks.{no_pass, least_before_small, starts_late, ruled_out, none_later, pass_takes, step_at, step_over}
+use Rattle.sabr_search.proofs.LinkLemmas.OverLinks.{no_pass, starts_late, none_later, pass_takes, step_at, step_over}
 use Rattle.sabr_search.proofs.task.Task.leave_over.Goals as goal
-
-pub returns-then-rules_out-clause-full : goal.returns-then-rules_out-clause-full
-returns-then-rules_out-clause-full g c = λ n t w b has after s less. elim (cases_lt t c.args.latest) [
-  | inl before ↦ before
-  | inr behind ↦ absurd (omega (arith, less, ruled_out c.args.self.now c.requires.task c.args.link.from c.args.link.to c.args.link.passes.now c.requires.link.0 c.args.link.bounds c.requires.link.1 c.max.result c.args.before (c.rules_out.ensures.late c.if-rules_out.true) n t w b has (omega (arith, behind, after, c.max.ensures)) s))
-]
 
 pub loop-back-init : goal.loop-back-init
 loop-back-init g c = record {
@@ -20,20 +14,12 @@ loop-back-init g c = record {
   some_looks = λ later. absurd (omega (arith, later));
   lower = omega arith;
   sound = λ t from less. absurd (omega (arith, from, less));
-  full = λ k x t w b le at after s less.
+  full = λ k x t w b le at s less.
       absurd (omega (arith, less, c.begun-end.ensures.late k x (omega (arith, le)) at, (starts_late c.args.self.now c.requires.task c.args.link.from c.args.link.to c.args.link.passes.now c.requires.link.0 t k x w b at s).0));
 }
 
-pub leaves_no_later-requires : goal.leaves_no_later-requires
-leaves_no_later-requires g c =
-    let passes = c.args.link.passes.now in
-    let i = c.begun-end.result - 1 - c.loop-back.back in
-    let pass = c.look-pass.result.now in
-    let here : slice_get passes i ≡ Some pass = slice_get-get_or passes i no_pass (omega (arith, c.loop-back-test.true, c.begun-end.ensures.within)) ∙ ap (λ (z : Bor Pass). Some z.now) (sym c.look-pass.ensures.same) in
-    record { light = least_before_small c.args.self.now c.requires.task c.args.link.from c.args.link.to passes c.requires.link.0 i pass here }
-
 pub returns-then-leaves_no_later-clause-full : goal.returns-then-leaves_no_later-clause-full
-returns-then-leaves_no_later-clause-full g c = λ n t w b has after s less.
+returns-then-leaves_no_later-clause-full g c = λ n t w b has s less.
     let task = c.args.self.now in
     let passes = c.args.link.passes.now in
     let i = c.begun-end.result - 1 - c.loop-back.back in
@@ -41,10 +27,10 @@ returns-then-leaves_no_later-clause-full g c = λ n t w b has after s less.
     let here : slice_get passes i ≡ Some pass = slice_get-get_or passes i no_pass (omega (arith, c.loop-back-test.true, c.begun-end.ensures.within)) ∙ ap (λ (z : Bor Pass). Some z.now) (sym c.look-pass.ensures.same) in
     let step = step_over task passes n c.args.link.from t w b has s in
     elim (cases_lt i has.0) [
-      | inl above ↦ c.loop-back.invariant.full has.0 has.1 t w b (omega (arith, above, c.loop-back-test.true)) has.2 after step less
+      | inl above ↦ c.loop-back.invariant.full has.0 has.1 t w b (omega (arith, above, c.loop-back-test.true)) has.2 step less
       | inr below ↦
-          none_later task c.requires.task c.args.link.from c.args.link.to passes c.requires.link.0 c.loop-back.last c.args.since c.args.before i pass here
-          (c.leaves_no_later.ensures c.if-leaves_no_later.true) has.0 has.1 t w b below has.2 after step less
+          none_later task c.requires.task c.args.link.from c.args.link.to passes c.requires.link.0 c.loop-back.last c.args.before i pass here
+          (c.leaves_no_later.ensures c.if-leaves_no_later.true) has.0 has.1 t w b below has.2 step less
     ]
 
 pub hop_over-hop-requires-clause-pass : goal.hop_over-hop-requires-clause-pass
@@ -80,20 +66,20 @@ loop-back-preserved g c =
             (let kept = c.leave_before.ensures.kept t (omega (arith, c.max-last.ensures, less, behind)) in
             (kept.0, kept.2, λ open'. (pass.number, pass_takes task c.requires.task u c.args.link.to t pass kept.0 hop (c.requires.link.0.each i pass here) c.hop_over-hop.ensures.receiver is_hop open' (λ same. absurd (c.requires.other same)) kept.1)))
       ];
-      full = λ k x t w b le at after s less. elim (cases_eq k i) [
+      full = λ k x t w b le at s less. elim (cases_eq k i) [
         | inl same ↦
             (let step = step_of_hop task c.requires.task pass.number hop is_hop u t w b (step_at task passes u t i k pass x w b here at same s) in
             elim (cases_lt t c.leave_before.result) [
               | inl before ↦ omega (arith, c.max-last.ensures, before)
               | inr behind ↦ absurd (omega (arith, less, c.leave_before.ensures.missed t b behind step.1))
             ])
-        | inr other ↦ omega (arith, c.max-last.ensures, so_far.full k x t w b (omega (arith, le, other, c.loop-back-test.true)) at after s less)
+        | inr other ↦ omega (arith, c.max-last.ensures, so_far.full k x t w b (omega (arith, le, other, c.loop-back-test.true)) at s less)
       ];
     }
 
 pub returns-clause-full : goal.returns-clause-full
-returns-clause-full g c = λ n t w b has after s less.
-    c.loop-back.invariant.full has.0 has.1 t w b (omega (arith, c.loop-back-test.false)) has.2 after (step_over c.args.self.now c.args.link.passes.now n c.args.link.from t w b has s) less
+returns-clause-full g c = λ n t w b has s less.
+    c.loop-back.invariant.full has.0 has.1 t w b (omega (arith, c.loop-back-test.false)) has.2 (step_over c.args.self.now c.args.link.passes.now n c.args.link.from t w b has s) less
 
 pub returns-then-leaves_no_later-clause-some_looks : goal.returns-then-leaves_no_later-clause-some_looks
 returns-then-leaves_no_later-clause-some_looks g c = λ later. omega (arith, c.loop-back.invariant.looked, c.look-pass.ensures.counted)

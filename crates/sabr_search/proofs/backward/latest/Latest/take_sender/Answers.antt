@@ -24,7 +24,7 @@ leave_over-last-requires-clause-other g c = not_start c.args.task.now c.requires
 pub returns-then-last-latest-clause-told : goal.returns-then-last-latest-clause-told
 returns-then-last-latest-clause-told g c = λ n t b has s less open' other.
     let latest = read_at c.args.self.now.late.items c.args.from.node c.index-latest.result.now (omega (arith, c.requires.node, c.requires.rising.many)) c.index-latest.ensures in
-    omega (arith, c.leave_over-last.ensures.full n t c.args.to b has (omega arith) s less, c.if-last-latest.true, latest)
+    omega (arith, c.leave_over-last.ensures.full n t c.args.to b has s less, c.if-last-latest.true, latest)
 
 pub returns-clause-rising : goal.returns-clause-rising
 returns-clause-rising g c =
@@ -48,4 +48,4 @@ returns-clause-rises g c =
 
 pub returns-clause-told : goal.returns-clause-told
 returns-clause-told g c = λ n t b has s less open' other.
-    omega (arith, set_here c.args.self.now.late.items c.args.from.node c.leave_over-last.result (omega (arith, c.requires.node, c.requires.rising.many)), c.leave_over-last.ensures.full n t c.args.to b has (omega arith) s less)
+    omega (arith, set_here c.args.self.now.late.items c.args.from.node c.leave_over-last.result (omega (arith, c.requires.node, c.requires.rising.many)), c.leave_over-last.ensures.full n t c.args.to b has s less)

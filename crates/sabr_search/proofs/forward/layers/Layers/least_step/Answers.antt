@@ -3,6 +3,7 @@ use Rattle.std.proofs.lemmas.Option.{slice_get_within}
 use Rattle.sabr_search.proofs.ForwardLemmas.Forward.{last_or_before}
 use Rattle.sabr_search.proofs.BackwardLemmas.LeastPicks.{least_found, least_missing}
 use Rattle.sabr_search.proofs.LinkLemmas.OverLinks.{link_here, link_by_place, no_link, chosen_from}
+use Rattle.sabr_search.proofs.WayLemmas.RoutesAndWays.{takes_timely}
 use Rattle.sabr_search.proofs.forward.layers.Layers.least_step.Goals as goal
 
 pub link_passes-passes-requires-clause-ordered : goal.link_passes-passes-requires-clause-ordered
@@ -22,6 +23,24 @@ least_over-least-requires-clause-few g c =
 
 pub deadline-before-requires-clause-node : goal.deadline-before-requires-clause-node
 deadline-before-requires-clause-node g c = omega (arith, c.requires.many, (link_by_place _ _ _ _ c.loop-link.invariant.links _ c.loop-link-test.true).receiver)
+
+pub loop-link-preserved-then-before-from : goal.loop-link-preserved-then-before-from
+loop-link-preserved-then-before-from g c =
+    let task = c.args.task.now in
+    let so_far = c.loop-link.invariant in
+    let link = link_by_place _ _ _ _ so_far.links _ c.loop-link-test.true in
+    record {
+      links = so_far.links;
+      counted = so_far.counted;
+      placed = λ m next. omega (arith, so_far.placed _ link.here, link.few, link.next m next);
+      chosen = so_far.chosen;
+      least = λ j x n w b less at has s admits. elim (last_or_before j c.loop-link.link-index less) [
+        | inl before ↦ so_far.least j x n w b before at has s admits
+        | inr same ↦
+            (let to = link.to c.requires.task n c.args.from.at w b (link.own j x n at same has) s in
+            absurd (omega (arith, (takes_timely task c.requires.task.nodes).later n c.args.from.node c.args.from.at w b s, (c.deadline-before.ensures b).1 (rw to at admits), c.if-before-from.true)))
+      ];
+    }
 
 pub loop-link-preserved : goal.loop-link-preserved
 loop-link-preserved g c =

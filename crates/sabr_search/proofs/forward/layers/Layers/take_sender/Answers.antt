@@ -2,13 +2,18 @@ use Rattle.std.proofs.Common.{◌≡◌, ◌<◌, ◌+◌, slice_index, arith}
 use Rattle.std.proofs.lemmas.Option.{slice_get_within}
 use Rattle.sabr_search.proofs.ForwardLemmas.LayerEntries.{read_at}
 use Rattle.sabr_search.proofs.BackwardLemmas.LateLists.{late_noted, sound_back}
+use Rattle.sabr_search.proofs.WayLemmas.RoutesAndWays.{takes_timely}
 use Rattle.sabr_search.proofs.forward.layers.Layers.take_sender.Goals as goal
 use Rattle.sabr_search.proofs.forward.layers.Layers.take_sender.Goals.{then-last-latest-via-then-last-latest, then-last-latest-via-else-last-latest+then-last-since}
 use Rattle.sabr_search.proofs.ForwardLemmas.Queues.{set_here}
 
+pub returns-then-to-since-clause-told : goal.returns-then-to-since-clause-told
+returns-then-to-since-clause-told g c = λ n t w b has s less unshut other soon.
+    absurd (omega (arith, less, (takes_timely c.args.aim.now.task.now c.requires.task.nodes).later n c.args.from.node t w b s, soon, c.if-to-since.true))
+
 pub returns-then-last-latest-clause-told : goal.returns-then-last-latest-clause-told
 returns-then-last-latest-clause-told g c = λ n t w b has s less unshut other soon.
-    let sooner : t < c.leave_over-last.result = c.leave_over-last.ensures.full n t w b has (omega (arith, soon)) s less in
+    let sooner : t < c.leave_over-last.result = c.leave_over-last.ensures.full n t w b has s less in
     elim c.then-last-latest.branch [
       | then-last-latest-via-then-last-latest z ↦ omega (arith, sooner, c.at-latest.ensures, z.if-last-latest.true)
       | then-last-latest-via-else-last-latest+then-last-since z ↦ absurd (omega (arith, sooner, soon, z.if-last-since.true))
@@ -42,4 +47,4 @@ returns-clause-kept g c =
 
 pub returns-clause-told : goal.returns-clause-told
 returns-clause-told g c = λ n t w b has s less unshut other soon.
-    rw c.in_ok-note_late.ensures.late (omega (arith, set_here c.args.self.now.late c.args.from.node c.leave_over-last.result (omega (arith, c.requires.node, c.requires.lists.many)), c.leave_over-last.ensures.full n t w b has (omega (arith, soon)) s less))
+    rw c.in_ok-note_late.ensures.late (omega (arith, set_here c.args.self.now.late c.args.from.node c.leave_over-last.result (omega (arith, c.requires.node, c.requires.lists.many)), c.leave_over-last.ensures.full n t w b has s less))
