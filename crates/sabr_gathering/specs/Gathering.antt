@@ -24,9 +24,9 @@ plan_of_contacts contacts greatest = record { contacts = contacts; ranges = []; 
 abbrev pub opening_number : Opening → ℕ
 opening_number o = place_number o.start o.from o.to
 
--- the bucket of an opening, one of 8192
+-- the bucket of an opening, one of 4096
 abbrev pub opening_bucket : Opening → ℕ
-opening_bucket o = ((o.from * 11400714819323198485 % 2 ^ 64 + o.to * 14029467366897019727 % 2 ^ 64) % 2 ^ 64 + o.start * 1609587929392839161 % 2 ^ 64) % 2 ^ 64 / 2 ^ 44 % 8192
+opening_bucket o = ((o.from * 11400714819323198485 % 2 ^ 64 + o.to * 14029467366897019727 % 2 ^ 64) % 2 ^ 64 + o.start * 1609587929392839161 % 2 ^ 64) % 2 ^ 64 / 2 ^ 44 % 4096
 
 -- the buckets of contacts
 abbrev pub contact_buckets : List Contact → List ℕ
