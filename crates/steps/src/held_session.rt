@@ -55,14 +55,17 @@ impl<'p, B: Fresh<A>, A: Allocator + Copy> HeldSession<'p, B, A> {
         }
     }
 
+    /// Holds a session in place of the one before.
+    fn hold(&mut self, session: Session<'p, B, A>, desk: &Desk<'_>) -> Option<String> {
+        self.session = Some(session);
+        done(desk.alloc)
+    }
+
     /// Starts a session.
     pub fn start(&mut self, desk: &Desk<'_>) -> Option<String> {
         let request = desk.asked.request().ok()?;
         match Session::start(self.alloc, self.plan, request, B::fresh(self.alloc)) {
-            Ok(started) => {
-                self.session = Some(started);
-                done(desk.alloc)
-            }
+            Ok(started) => self.hold(started, desk),
             Err(_) => no_memory(desk.alloc),
         }
     }
@@ -73,10 +76,7 @@ impl<'p, B: Fresh<A>, A: Allocator + Copy> HeldSession<'p, B, A> {
         let digest = digest(self.plan);
         let finder = B::fresh(self.alloc);
         match read_session(self.alloc, &mut reader, self.plan, &digest, finder) {
-            Ok(told) => {
-                self.session = Some(told);
-                done(desk.alloc)
-            }
+            Ok(told) => self.hold(told, desk),
             Err(fault) => refused(desk.alloc, fault),
         }
     }
@@ -86,10 +86,7 @@ impl<'p, B: Fresh<A>, A: Allocator + Copy> HeldSession<'p, B, A> {
         let request = desk.asked.request().ok()?;
         let loader = Loader::new(self.alloc, self.plan, request, B::fresh(self.alloc));
         match loaded(loader, desk)? {
-            Ok(loaded) => {
-                self.session = Some(loaded);
-                done(desk.alloc)
-            }
+            Ok(loaded) => self.hold(loaded, desk),
             Err(fault) => refused(desk.alloc, fault),
         }
     }
@@ -100,10 +97,7 @@ impl<'p, B: Fresh<A>, A: Allocator + Copy> HeldSession<'p, B, A> {
         let finder = B::fresh(self.alloc);
         let feed = SessionFeed::new(self.alloc, self.plan, &digest, finder);
         match fed(feed, desk)? {
-            Ok(told) => {
-                self.session = Some(told);
-                done(desk.alloc)
-            }
+            Ok(told) => self.hold(told, desk),
             Err(fault) => refused(desk.alloc, fault),
         }
     }

@@ -15,15 +15,31 @@ pub fn loaded<'p, A: Allocator + Copy, B: BestOf<A>>(
 ) -> Option<Result<Session<'p, B, A>, LoadFault>> {
     let begun = done(desk.alloc);
     desk.say(begun);
+    let end = add_parts(&mut loader, desk)?;
+    Some(loader.finish(end.emitted, &end.last))
+}
+
+/// What `finish` says of the parts before it: how many routes were given, and the last of them.
+#[derive(Drop)]
+struct End {
+    emitted: u128,
+    last: Vec<u32>,
+}
+
+/// Adds parts up to `finish`.
+fn add_parts<A: Allocator + Copy, B: BestOf<A>>(
+    loader: &mut Loader<'_, B, A>,
+    desk: &mut Desk<'_>,
+) -> Option<End> {
     for _ in 0..u64::MAX {
         let (name, mut words) = desk.next()?;
         if name == "finish" {
             let emitted = words.next()?.parse::<u128>().ok()?;
             let last = numbers(desk.alloc, &mut words)?;
-            return Some(loader.finish(emitted, &last));
+            return Some(End { emitted, last });
         }
         let answer = match name {
-            "part" => add_part(&mut loader, desk.alloc, &mut words),
+            "part" => add_part(loader, desk.alloc, &mut words),
             _ => desk.step(name, &mut words),
         };
         desk.say(answer);
@@ -58,12 +74,21 @@ pub fn fed<'p, A: Allocator + Copy, B: BestOf<A>>(
 ) -> Option<Result<Session<'p, B, A>, SessionFault>> {
     let begun = done(desk.alloc);
     desk.say(begun);
+    feed_pieces(&mut feed, desk)?;
+    Some(feed.finish())
+}
+
+/// Feeds pieces up to `finish`.
+fn feed_pieces<A: Allocator + Copy, B: BestOf<A>>(
+    feed: &mut SessionFeed<'_, B, A>,
+    desk: &mut Desk<'_>,
+) -> Option<()> {
     for _ in 0..u64::MAX {
         let (name, mut words) = desk.next()?;
         if name == "finish" {
-            return Some(feed.finish());
+            return Some(());
         }
-        let answer = feed_step(&mut feed, desk, name, &mut words);
+        let answer = feed_step(feed, desk, name, &mut words);
         desk.say(answer);
     }
     None

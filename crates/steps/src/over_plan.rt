@@ -16,9 +16,17 @@ pub fn steps_over<A: Allocator + Copy, B: Fresh<A>>(
     finder: &mut B,
     desk: &mut Desk<'_>,
 ) {
-    let mut held = HeldSession::new(alloc, plan);
     let begun = done(desk.alloc);
     desk.say(begun);
+    take_steps(&mut HeldSession::new(alloc, plan), finder, desk);
+}
+
+/// Takes the steps up to `done`.
+fn take_steps<A: Allocator + Copy, B: Fresh<A>>(
+    held: &mut HeldSession<'_, B, A>,
+    finder: &mut B,
+    desk: &mut Desk<'_>,
+) {
     for _ in 0..u64::MAX {
         let Some((name, mut words)) = desk.next() else {
             return;
@@ -28,7 +36,7 @@ pub fn steps_over<A: Allocator + Copy, B: Fresh<A>>(
             desk.say(ended);
             return;
         }
-        let answer = step(&mut held, finder, desk, name, &mut words);
+        let answer = step(held, finder, desk, name, &mut words);
         desk.say(answer);
     }
 }

@@ -18,12 +18,7 @@ pub fn perform<'r>(ration: &'r Ration, desk: &mut Desk<'_>) {
         settled: Settled::new(ration),
         layered: Layered::new(ration),
     };
-    for _ in 0..u64::MAX {
-        let Some((name, mut words)) = desk.next() else {
-            return;
-        };
-        made.step(ration, desk, name, &mut words);
-    }
+    made.take_steps(ration, desk);
 }
 
 /// The plan, and a finder of each kind.
@@ -35,6 +30,16 @@ struct Made<'r> {
 }
 
 impl<'r> Made<'r> {
+    /// Takes all steps.
+    fn take_steps(&mut self, ration: &'r Ration, desk: &mut Desk<'_>) {
+        for _ in 0..u64::MAX {
+            let Some((name, mut words)) = desk.next() else {
+                return;
+            };
+            self.step(ration, desk, name, &mut words);
+        }
+    }
+
     /// Takes a step, and the steps over the plan that follow it.
     fn step(&mut self, ration: &'r Ration, desk: &mut Desk<'_>, name: &str, words: &mut Words<'_>) {
         match name {

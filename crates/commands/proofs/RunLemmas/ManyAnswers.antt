@@ -5,20 +5,25 @@ use Rattle.sabr_model.specs.plan.Plan.{ContactPlan, IsPlan, TabledPlan}
 use Rattle.sabr_model.specs.routes.Arrival.{RouteRequest}
 use Rattle.sabr_model.specs.routes.Record.{RouteRecord, record_of}
 use Rattle.sabr_frontier.specs.listing.Listing.{state_at, steps, next_route}
+use Rattle.sabr_frontier.specs.listing.State.{State}
 use Rattle.sabr_frontier.specs.session.Session.{Seen}
-use Rattle.sabr_session.specs.ReportText.{report_text}
+use Rattle.sabr_frontier.specs.session.LastPage.{IsLastPage, LastSeen}
+use Rattle.sabr_model.specs.declared.fault.NoMemory.{NoMemory}
+use Rattle.sabr_model.specs.routes.Asking.{IsRequest}
+use Rattle.sabr_session.specs.ReportText.{HasSpelledTimes, report_text}
+use Rattle.commands.proofs.TextLemmas.SpelledTimes.{records_spelled}
 use Rattle.sabr_model.proofs.ListLemmas.WrittenTexts.{Written-nil, Written-append, WrittenInPart-after, WrittenInPart-more}
 use Rattle.commands.specs.declared.words.requests_fault.RequestKind.{RequestKind}
 use Rattle.commands.specs.declared.words.requests_fault.RequestKind.TheVariants.{BadLine}
 use Rattle.commands.specs.declared.words.requests_fault.RequestsFault.{RequestsFault}
 use Rattle.commands.specs.words.Requests.{HasRequests, RequestLine, fault_of, lines_in, most_requests, put_first, request_at, request_in, requests_from}
-use Rattle.commands.specs.runs.Many.{LeavesAnswer, LeavesAnswers, StopsAtRequest, WritesAll, WritesAnswers, answer_text, answers_text}
+use Rattle.commands.specs.runs.Many.{IsFirstPage, LeavesAnswer, LeavesAnswers, StopsAtRequest, WritesAll, WritesAnswers, answer_text, answers_text}
 use Rattle.commands.specs.texts.Messages.{failure_of_requests}
 use Rattle.commands.specs.runs.Runs.{first_report}
 use Rattle.commands.specs.runs.SessionRuns.{next_report}
 use Rattle.commands.proofs.RunLemmas.PageTexts.{report_of_page}
 use Rattle.commands.proofs.RunLemmas.SessionPages.{first_report_is}
-use Rattle.std.specs.Prelude.{is_some, nat_lt}
+use Rattle.std.specs.Prelude.{All, IfOk, is_some, nat_lt}
 use Rattle.commands.specs.declared.failure.Failure.{Failure}
 use Rattle.commands.specs.declared.failure.Failure.TheVariants as failure
 
@@ -137,6 +142,19 @@ first_of_page p r s k routes rank more rules (plan, request, state) given count 
     report_of_page s k routes rank more given count goes_on
     ∙ (λ i. next_report (plan i).plan (request i) (state i) k)
     ∙ first_report_is p.plan r k rules
+
+-- the last page of a session just started is the first page of its request
+pub first_pages : (p : TabledPlan) (r : RouteRequest) (s : Seen) (k : ℕ) (o : Result LastSeen NoMemory) → IsPlan s.plan.plan → IsRequest s.request
+    → (s.plan ≡ p) × (s.request ≡ r) × (s.state ≡ state_at p.plan r 0) → IfOk o (IsLastPage s k) → IfOk o (IsFirstPage p r k)
+unfolding state_at
+first_pages p r s k (Err _) rules limits started last = tt
+first_pages p r s k (Ok l) rules limits (plan, request, state) last = record {
+  plan = last.plan ∙ plan;
+  times = subst (All HasSpelledTimes) (sym last.routes) (records_spelled s.plan.plan s.request _ rules limits);
+  report =
+      ap (λ rank. report_text l.routes (rank + 1) l.more) (sym (ap (λ (x : State). x.emitted) state))
+      ∙ first_of_page p r s k l.routes s.state.emitted l.more (subst (λ (q : TabledPlan). IsPlan q.plan) plan rules) (plan, request, state) last.routes refl last.more;
+}
 
 -- what a run leaves, where the requests were refused, or were answered and flushed
 pub none_bad : (text : List ℕ) (requested : Result (List RequestLine) RequestsFault) → HasRequests text requested → fault_of (requests_from 1 (lines_in text)) ≡ None

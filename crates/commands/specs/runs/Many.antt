@@ -1,9 +1,12 @@
 -- What a run over many requests leaves: the answers to them, one after the other.
-use Rattle.std.specs.Prelude.{◌≡◌, ℕ, List, [], ◌∷◌, ◌++◌, Result, Ok, Err, codes}
+use Rattle.std.specs.Prelude.{◌≡◌, ℕ, List, [], ◌∷◌, ◌++◌, All, Result, Ok, Err, codes}
 use Rattle.std.specs.List.{concat}
 use Rattle.sabr_model.specs.plan.Plan.{ContactPlan, TabledPlan}
 use Rattle.sabr_model.specs.Devices.{Input, Output, Written, WrittenAndFlushed, WrittenInPart}
+use Rattle.sabr_model.specs.routes.Arrival.{RouteRequest}
 use Rattle.sabr_plan.specs.declared.fault.PlanFault.{PlanFault}
+use Rattle.sabr_frontier.specs.session.LastPage.{LastSeen}
+use Rattle.sabr_session.specs.ReportText.{HasSpelledTimes, report_text}
 use Rattle.commands.specs.declared.words.requests_fault.RequestsFault.{RequestsFault}
 use Rattle.commands.specs.declared.failure.Failure.{Failure}
 use Rattle.commands.specs.declared.failure.Failure.TheVariants as failure
@@ -18,6 +21,12 @@ heading line = concat (codes "request " ∷ line ∷ codes "\n" ∷ [])
 -- the answer to a request: that line, and the report of its first page
 abbrev pub answer_text : ContactPlan → ℕ → RequestLine → List ℕ
 answer_text p count x = heading x.line ++ first_report p x.request count
+
+-- a last page is the first one of a request, as its report shows it
+pub record IsFirstPage (p : TabledPlan) (r : RouteRequest) (count : ℕ) (l : LastSeen) : Type 0 where
+  pub plan : l.plan ≡ p
+  pub times : All HasSpelledTimes l.routes
+  pub report : report_text l.routes 1 l.more ≡ first_report p.plan r count
 
 -- the answers to requests, one after the other
 abbrev pub answers_text : ContactPlan → List RequestLine → ℕ → List ℕ

@@ -1,9 +1,10 @@
 //! Answering requests over one plan, one after the other.
 
-ghost use Rattle.std.specs.Prelude.{◌≡◌, ◌≤◌, IfOk};
+ghost use Rattle.std.specs.Prelude.{◌≡◌, ◌≤◌, ◌++◌, All, IfOk};
 ghost use Rattle.sabr_model.specs.Devices.{WritesText};
 ghost use Rattle.sabr_frontier.specs.listing.Listing.{most_routes, state_at};
-ghost use Rattle.commands.specs.runs.Many.{LeavesAnswer, heading};
+ghost use Rattle.sabr_session.specs.ReportText.{HasSpelledTimes, report_text};
+ghost use Rattle.commands.specs.runs.Many.{IsFirstPage, LeavesAnswer, heading};
 
 use crate::failure::Failure;
 use sabr_frontier::{LastPage, Session};
@@ -20,7 +21,7 @@ pub struct Answering<'p, A: Allocator + Copy = Global> {
     alloc: A,
     /// The plan.
     plan: &'p Plan<A>,
-    /// The page of the request before. `None` before the first, and after one that failed.
+    /// The page of the request before. `None` before the first, and after one without a page.
     before: Option<LastPage<'p, Settled<A>, A>>,
 }
 
@@ -58,6 +59,22 @@ impl<'p, A: Allocator + Copy> Answering<'p, A> {
         }
     }
 
+    /// Finds the first `count` routes of the next request.
+    fn first_page(
+        &mut self,
+        request: Request,
+        count: u32,
+    ) -> Result<LastPage<'p, Settled<A>, A>, NoMemory>
+        requires { count ≤ most_routes }
+        ensures page { IfOk result (IsFirstPage self.old request count) }
+        ensures plan { self.new ≡ self.old }
+    {
+        let listing = self.start(request)?;
+        listing.plan().tell_rules();
+        listing.request().tell_limits();
+        listing.last_page(count)
+    }
+
     /// Writes the answer to the request of this line, with `count` routes. All of them are found first.
     ///
     /// # Errors
@@ -75,16 +92,25 @@ impl<'p, A: Allocator + Copy> Answering<'p, A> {
         ensures answer { LeavesAnswer self.old.plan count (record { line = line.now; request = request }) result (O.output out.old) (O.output out.new) }
         ensures plan { self.new ≡ self.old }
     {
-        let listing = self.start(request)?;
-        listing.plan().tell_rules();
-        listing.request().tell_limits();
-        let first_rank = listing.emitted() + 1;
-        let last = listing.last_page(count)?;
-        write_heading(line, out)?;
-        write_report(last.routes(), first_rank, last.more(), out)?;
+        let last = self.first_page(request, count)?;
+        let written = write_answer(&last, line, out);
         self.before = Some(last);
+        written?;
         Ok(())
     }
+}
+
+/// Writes an answer: its heading, and the report of a first page.
+fn write_answer<O: Write, A: Allocator + Copy>(
+    last: &LastPage<'_, Settled<A>, A>,
+    line: &[u8],
+    out: &mut O,
+) -> Result<(), WriteFault>
+    requires { All HasSpelledTimes last.now.routes }
+    ensures { WritesText (O.output out.old) (heading line.now ++ report_text last.now.routes 1 last.now.more) result (O.output out.new) }
+{
+    write_heading(line, out)?;
+    write_report(last.routes(), 1, last.more(), out)
 }
 
 /// Writes the line before an answer.

@@ -8,7 +8,7 @@ ghost use Rattle.sabr_frontier.specs.listing.Listing.{most_routes};
 ghost use Rattle.commands.specs.declared.failure.Failure.{Failure};
 ghost use Rattle.commands.specs.declared.words.requests_fault.RequestsFault.{RequestsFault};
 ghost use Rattle.commands.specs.runs.Runs.{TellsEnd, status_at};
-ghost use Rattle.commands.specs.runs.Many.{ReadsRequestsOver, WritesAll, WritesAnswers};
+ghost use Rattle.commands.specs.runs.Many.{LeavesAnswers, ReadsRequestsOver, WritesAll, WritesAnswers};
 ghost use Rattle.commands.specs.words.Requests.{RequestLine, fault_of, lines_in, requests_from};
 ghost use Rattle.commands.specs.words.Values.{IsCount};
 
@@ -20,6 +20,28 @@ use crate::words::{first_line, read_requests, request_in};
 use sabr_model::{Plan, Read, Write};
 use sabr_plan::read_plan;
 use std::alloc::Allocator;
+
+/// Writes the answers to the requests of a text without a bad line.
+fn answer_all<O: Write, A: Allocator + Copy>(
+    answering: &mut Answering<'_, A>,
+    text: &[u8],
+    count: u32,
+    out: &mut O,
+) -> Result<(), Failure>
+    requires count { count ≤ most_routes }
+    requires requests { fault_of (requests_from 1 (lines_in text.now)) ≡ None }
+    ensures { (xs : List RequestLine) × (requests_from 1 (lines_in text.now) ≡ Ok xs) × LeavesAnswers answering.old.plan xs count result (O.output out.old) (O.output out.new) }
+{
+    let mut rest = text;
+    while let Some((line, after)) = first_line(rest) {
+        let Ok(request) = request_in(line) else {
+            unreachable!();
+        };
+        answering.answer(line, request, count, out)?;
+        rest = after;
+    }
+    Ok(())
+}
 
 /// Writes the answers to the requests of a text without a bad line, and flushes them.
 fn send_answers<O: Write, A: Allocator + Copy>(
@@ -33,15 +55,8 @@ fn send_answers<O: Write, A: Allocator + Copy>(
     requires requests { fault_of (requests_from 1 (lines_in text.now)) ≡ None }
     ensures { (xs : List RequestLine) × (requests_from 1 (lines_in text.now) ≡ Ok xs) × WritesAll plan.now.plan xs count result (O.output out.old) (O.output out.new) }
 {
-    let mut answering = Answering::new(alloc, plan);
-    let mut rest = text;
-    while let Some((line, after)) = first_line(rest) {
-        let Ok(request) = request_in(line) else {
-            unreachable!();
-        };
-        answering.answer(line, request, count, out)?;
-        rest = after;
-    }
+    let answered = answer_all(&mut Answering::new(alloc, plan), text, count, out);
+    answered?;
     let Ok(()) = out.flush() else {
         return Err(Failure::Write);
     };

@@ -1,7 +1,7 @@
 //! Writing a page: its report, and then the session after it, if that is kept.
 
-ghost use Rattle.std.specs.Prelude.{◌≡◌, ℕ, ◌+◌, ◌^◌, ◌<◌, ◌≤◌, All, IfOk, IfSome, IsTrue, is_some, length};
-ghost use Rattle.sabr_model.specs.Devices.{WritesText};
+ghost use Rattle.std.specs.Prelude.{◌≡◌, ℕ, ◌+◌, ◌^◌, ◌<◌, ◌≤◌, All, IfOk, IfSome, IsTrue, false, true, is_some, length};
+ghost use Rattle.sabr_model.specs.Devices.{Output, WritesText};
 ghost use Rattle.sabr_plan.specs.Canonical.{digest_of};
 ghost use Rattle.sabr_frontier.specs.listing.Listing.{most_routes};
 ghost use Rattle.sabr_session.specs.ReportText.{HasSpelledTimes, report_text};
@@ -64,6 +64,44 @@ fn send_session<S: Write, B: BestOf<A>, A: Allocator + Copy>(
     Ok(())
 }
 
+/// Writes the next `count` routes of a listing, and whether it goes on. All are found first, and no more than is told.
+fn write_last_page<O: Write, B: BestOf<A>, A: Allocator + Copy>(
+    listing: Session<'_, B, A>,
+    count: u32,
+    out: &mut O,
+) -> Result<(), Failure>
+    requires { count ≤ most_routes }
+    ensures { (kept : Output) → WritesPageOf listing.entry false count result (O.output out.old) (O.output out.new) kept kept }
+{
+    listing.plan().tell_rules();
+    listing.request().tell_limits();
+    let first_rank = listing.emitted() + 1;
+    let last = listing.last_page(count)?;
+    send_report(last.routes(), first_rank, last.more(), out)?;
+    Ok(())
+}
+
+/// Writes the next `count` routes of a listing, and whether it goes on, and then the session after them.
+fn write_kept_page<O: Write, S: Write, B: BestOf<A>, A: Allocator + Copy>(
+    listing: &mut Session<'_, B, A>,
+    count: u32,
+    out: &mut O,
+    digest: &[u8; 32],
+    session: &mut S,
+) -> Result<(), Failure>
+    requires count { count ≤ most_routes }
+    requires digest { digest.now ≡ digest_of listing.old.plan.plan }
+    ensures { WritesPageOf listing.old true count result (O.output out.old) (O.output out.new) (S.output session.old) (S.output session.new) }
+{
+    listing.plan().tell_rules();
+    listing.request().tell_limits();
+    let first_rank = listing.emitted() + 1;
+    let routes = listing.page(count)?;
+    send_report(routes.as_slice(), first_rank, listing.more(), out)?;
+    send_session(listing, digest, session)?;
+    Ok(())
+}
+
 /// Writes the next `count` routes of a listing to `out`, with ranks that go on from the routes given before, and
 /// whether the listing goes on. Then, if `keep` is the digest of its plan, it writes the session after them to
 /// `session`. All routes are found first, and no more than is told if no session is kept. Each writer is flushed after
@@ -84,16 +122,8 @@ pub fn write_page<O: Write, S: Write, B: BestOf<A>, A: Allocator + Copy>(
     requires digest { IfSome keep (λ digest. digest ≡ digest_of listing.plan.plan) }
     ensures { WritesPageOf listing.entry (is_some keep) count result (O.output out.old) (O.output out.new) (S.output session.old) (S.output session.new) }
 {
-    listing.plan().tell_rules();
-    listing.request().tell_limits();
-    let first_rank = listing.emitted() + 1;
-    let Some(digest) = keep else {
-        let last = listing.last_page(count)?;
-        send_report(last.routes(), first_rank, last.more(), out)?;
-        return Ok(());
-    };
-    let routes = listing.page(count)?;
-    send_report(routes.as_slice(), first_rank, listing.more(), out)?;
-    send_session(&listing, &digest, session)?;
-    Ok(())
+    match keep {
+        None => write_last_page(listing, count, out),
+        Some(digest) => write_kept_page(&mut listing, count, out, &digest, session),
+    }
 }

@@ -1,6 +1,6 @@
 //! The words of the command line, as one level of subcommands with texts as values.
 
-use crate::command::{COMMANDS, CommandName};
+use crate::command::{COMMANDS, CommandName, Declared};
 use crate::files::{PLAN, REQUESTS, SESSION, SESSION_OUT};
 use clap::{Arg, ArgAction, ArgMatches, Command, Error};
 use std::alloc::{AllocError, Global};
@@ -94,26 +94,28 @@ fn contacts<'a>(alloc: Global) -> Arg<'a> {
     required(alloc, "contacts", "NUMBER,NUMBER..", help)
 }
 
-/// Adds the words for a request.
-fn with_request<'a>(alloc: Global, command: Command<'a>) -> Result<Command<'a>, AllocError> {
+/// Adds the words for where and when a request begins, and where it goes to.
+fn with_ends<'a>(alloc: Global, command: Command<'a>) -> Result<Command<'a>, AllocError> {
+    command.arg(from(alloc))?.arg(to(alloc))?.arg(at(alloc))
+}
+
+/// Adds the words for the margin and the limits of a request.
+fn with_limits<'a>(alloc: Global, command: Command<'a>) -> Result<Command<'a>, AllocError> {
     command
-        .arg(from(alloc))?
-        .arg(to(alloc))?
-        .arg(at(alloc))?
         .arg(margin_ppm(alloc))?
         .arg(max_hops(alloc))?
         .arg(avoid(alloc))
 }
 
-/// A command of the command line, as it is declared.
-fn subcommand<'a>(alloc: Global, command: CommandName) -> Result<Command<'a>, AllocError> {
-    let declared = command.declared();
-    let mut made = Command::new(alloc, declared.name)
-        .about(declared.about)
-        .after_help(declared.examples)
-        .arg(plan(alloc))?;
+/// Adds the words for what a command reads beside the plan.
+fn with_inputs<'a>(
+    alloc: Global,
+    declared: Declared<'_>,
+    command: Command<'a>,
+) -> Result<Command<'a>, AllocError> {
+    let mut made = command;
     if declared.has_request {
-        made = with_request(alloc, made)?;
+        made = with_limits(alloc, with_ends(alloc, made)?)?;
     }
     if declared.has_session {
         made = made.arg(session(alloc))?;
@@ -121,6 +123,16 @@ fn subcommand<'a>(alloc: Global, command: CommandName) -> Result<Command<'a>, Al
     if declared.has_requests {
         made = made.arg(requests(alloc))?;
     }
+    Ok(made)
+}
+
+/// Adds the words for a page and for contacts.
+fn with_others<'a>(
+    alloc: Global,
+    declared: Declared<'_>,
+    command: Command<'a>,
+) -> Result<Command<'a>, AllocError> {
+    let mut made = command;
     if declared.has_count {
         made = made.arg(count(alloc))?;
     }
@@ -133,9 +145,29 @@ fn subcommand<'a>(alloc: Global, command: CommandName) -> Result<Command<'a>, Al
     Ok(made)
 }
 
+/// A command of the command line, as it is declared.
+fn subcommand<'a>(alloc: Global, command: CommandName) -> Result<Command<'a>, AllocError> {
+    let declared = command.declared();
+    let made = Command::new(alloc, declared.name)
+        .about(declared.about)
+        .after_help(declared.examples)
+        .arg(plan(alloc))?;
+    let made = with_inputs(alloc, declared, made)?;
+    with_others(alloc, declared, made)
+}
+
+/// Adds all commands.
+fn with_commands<'a>(alloc: Global, program: Command<'a>) -> Result<Command<'a>, AllocError> {
+    let mut made = program;
+    for command in COMMANDS {
+        made = made.subcommand(subcommand(alloc, command)?)?;
+    }
+    Ok(made)
+}
+
 /// The command line, with all commands.
 fn program<'a>(alloc: Global) -> Result<Command<'a>, AllocError> {
-    let mut program = Command::new(alloc, "cgrlist")
+    let program = Command::new(alloc, "cgrlist")
         .about("Lists every feasible route of a contact plan from one node to another, best first")
         .version(VERSION)
         .after_help(
@@ -145,10 +177,7 @@ or a line of requests is refused, 5 a file can't be opened, read, made or writte
         .bin_name("cgrlist")?
         .no_binary_name(true)
         .subcommand_required(true);
-    for command in COMMANDS {
-        program = program.subcommand(subcommand(alloc, command)?)?;
-    }
-    Ok(program)
+    with_commands(alloc, program)
 }
 
 /// Parses the words after the program's name. A call for help or for the version is a refusal, too, with the answer as

@@ -1,48 +1,17 @@
-use Rattle.std.proofs.Common.{Err, sym, subst, ◌∙◌, arith}
+use Rattle.std.proofs.Common.{arith}
 use Rattle.std.proofs.KnownBytes.{Appends-kept}
-use Rattle.std.proofs.lemmas.Result.{err_from_is_err_and}
-use Rattle.sabr_model.specs.plan.Plan.{TabledPlan}
-use Rattle.commands.specs.runs.Many.{LeavesAnswer}
-use Rattle.commands.proofs.RunLemmas.ManyAnswers.{none_answered, has_request, one_answered, fails, all_answered}
 use Rattle.commands.proofs.RunLemmas.PageTexts.{flush_failed}
 use Rattle.commands.proofs.runs.many.send_answers.Goals as goal
 
-pub loop-line-init : goal.loop-line-init
-loop-line-init g c = record { answered = none_answered c.args.plan.now.plan c.args.count _ _ c.requires.requests; plan = c.new-answering.ensures }
-
-pub unreachable-requires : goal.unreachable-requires
-unreachable-requires g c =
-    let fine = has_request _ _ _ _ _ _ _ _ c.loop-line.invariant.answered (c.in-Some.ensures {u = tt}).lines in
-    let bad = sym c.in_default-request_in.is ∙ c.request_in.ensures ∙ fine in
-    cc (bad)
-
-pub returns-in_err-answer : goal.returns-in_err-answer
-returns-in_err-answer g c =
-    let (failure, is, same) = err_from_is_err_and c.from_residual.result c.from_residual.ensures.1 in
-    let left =
-    subst (λ (t : TabledPlan). LeavesAnswer t.plan c.args.count (record { line = c.in-Some.line.now; request = c.in-Ok.request }) (Err c.in_err-answer.field-0.0) (g.O.Write.output c.loop-line.out) (g.O.Write.output c.answer.new.out))
-    c.loop-line.invariant.plan (c.in_err-answer.ensures {u = tt}).answer in
-    rw (is, same)
-    (fails _ _ _ _ _ _ _ _ c.loop-line.invariant.answered (c.in-Some.ensures {u = tt}).lines (g.O.Write.output c.answer.new.out) c.in-Ok.request (sym c.in-Ok.is ∙ c.request_in.ensures) c.in_err-answer.field-0.0 left)
-
-pub loop-line-preserved : goal.loop-line-preserved
-loop-line-preserved g c =
-    let done = c.in_ok-answer.ensures {u = tt} in
-    record {
-      answered =
-          one_answered _ _ _ _ _ _ _ _ c.loop-line.invariant.answered (c.in-Some.ensures {u = tt}).lines (g.O.Write.output c.answer.new.out) c.in-Ok.request (sym c.in-Ok.is ∙ c.request_in.ensures)
-          (rw c.loop-line.invariant.plan at done.answer);
-      plan = done.plan ∙ c.loop-line.invariant.plan;
-    }
-
-pub returns-in_default-flush : goal.returns-in_default-flush
-returns-in_default-flush g c =
-    let answered = all_answered _ _ _ _ _ _ c.loop-line.invariant.answered (c.in_default.ensures {u = tt}).lines in
-    (answered.0, answered.1, flush_failed (g.O.Write.output c.args.out.now) (g.O.Write.output c.loop-line.out) (g.O.Write.output c.flush.new.self) _ answered.2 c.in_default-flush.ensures.bytes c.in_default-flush.ensures.count)
+pub returns-in_default : goal.returns-in_default
+returns-in_default g c =
+    let (xs, is, written) = rw c.new.ensures at (c.in_ok-answered.ensures {u = tt}) in
+    let failed = c.in_default.ensures {u = tt} in
+    (xs, is, flush_failed (g.O.Write.output c.args.out.now) (g.O.Write.output c.answer_all-answered.new.out) (g.O.Write.output c.flush.new.self) _ written failed.bytes failed.count)
 
 pub returns : goal.returns
 returns g c =
-    let answered = all_answered _ _ _ _ _ _ c.loop-line.invariant.answered (c.in_default.ensures {u = tt}).lines in
-    let flushed = c.in-Ok-flush.ensures {u = tt} in
-    let written = Appends-kept (g.O.Write.output c.args.out.now).contents (g.O.Write.output c.loop-line.out).contents (g.O.Write.output c.flush.new.self).contents _ answered.2.0 flushed.bytes in
-    (answered.0, answered.1, ((written, omega (arith, flushed.count, answered.2.1)), flushed.mark))
+    let (xs, is, written) = rw c.new.ensures at (c.in_ok-answered.ensures {u = tt}) in
+    let flushed = c.in-Ok.ensures {u = tt} in
+    let all = Appends-kept (g.O.Write.output c.args.out.now).contents (g.O.Write.output c.answer_all-answered.new.out).contents (g.O.Write.output c.flush.new.self).contents _ written.0 flushed.bytes in
+    (xs, is, ((all, omega (arith, flushed.count, written.1)), flushed.mark))
