@@ -1,12 +1,18 @@
 //! The page after which a listing isn't gone on with.
 
-ghost use Rattle.std.specs.Prelude.{◌≡◌, ◌+◌, ◌≤◌, IfOk};
-ghost use Rattle.sabr_frontier.specs.listing.Listing.{most_routes};
+ghost use Rattle.std.specs.Prelude.{◌≡◌, ◌+◌, ◌≤◌, ◌++◌, is_some, IfOk, OnOk};
+ghost use Rattle.sabr_model.specs.plan.Plan.{IsPlan};
+ghost use Rattle.sabr_model.specs.routes.Asking.{most_hops};
+ghost use Rattle.sabr_frontier.specs.listing.Listing.{most_routes, next_route, searches_in};
 ghost use Rattle.sabr_frontier.specs.session.LastPage.{IsLastPage};
-ghost use Rattle.sabr_frontier.specs.session.Session.{started};
+ghost use Rattle.sabr_frontier.specs.session.Session.{IsSound, started};
+ghost use Rattle.sabr_frontier.specs.tree.Asking.{records_for, steps_for};
+ghost use Rattle.sabr_frontier.specs.tree.Shape.{shape_of, shown};
+ghost use Rattle.sabr_frontier.specs.tree.Undo.{IsRoomy};
 
 use crate::giving::asker::Asker;
 use crate::session::Session;
+use crate::tree::Tree;
 use sabr_model::{NoMemory, Request, Route};
 use sabr_search::BestOf;
 use std::alloc::{Allocator, Global};
@@ -52,21 +58,44 @@ impl<'p, B: BestOf<A>, A: Allocator + Copy> Session<'p, B, A> {
             searches: _,
         } = self;
         let mut routes = Vec::new(asker.alloc());
-        if count == 0 {
-            let more = !tree.is_empty();
-            return Ok(LastPage {
-                asker,
-                routes,
-                more,
-            });
-        }
-        tree.gather(&mut asker, count - 1, &mut routes)?;
-        let more = tree.peek(&mut asker, &mut routes)?;
+        let more = tree.give_last(&mut asker, count, &mut routes)?;
         Ok(LastPage {
             asker,
             routes,
             more,
         })
+    }
+}
+
+impl<A: Allocator + Copy> Tree<A> {
+    /// Puts the next `count` routes after others, or all that are left if they are fewer, and tells whether a route is
+    /// left after them. It borrows what [`last_page`](Session::last_page) owns.
+    fn give_last<B: BestOf<A>>(
+        &mut self,
+        asker: &mut Asker<'_, B, A>,
+        count: u32,
+        routes: &mut Vec<Route<A>, A>,
+    ) -> Result<bool, NoMemory>
+        requires plan { IsPlan asker.old.asked.plan.plan }
+        requires hops { asker.old.asked.request.max_hops ≤ most_hops }
+        requires count { count ≤ most_routes }
+        requires sound { IsSound asker.old.asked.plan.plan asker.old.asked.request (shape_of self.old) }
+        requires room { IsRoomy self.old }
+
+        // The routes are those of the steps, and it tells whether one is left after these.
+        ensures routes { OnOk result (routes.new.items ≡ routes.old.items ++ records_for asker.old.asked (steps_for asker.old.asked count (shown (shape_of self.old))).0) }
+        ensures more { IfOk result (λ more. more ≡ is_some (next_route asker.old.asked.plan.plan asker.old.asked.request (steps_for asker.old.asked count (shown (shape_of self.old))).1)) }
+
+        // It takes no more searches than the steps would. The question stays.
+        ensures no_fewer { OnOk result (asker.old.calls ≤ asker.new.calls) }
+        ensures at_most { OnOk result (asker.new.calls ≤ asker.old.calls + searches_in asker.old.asked.plan.plan asker.old.asked.request count (shown (shape_of self.old))) }
+        ensures same { asker.new.asked ≡ asker.old.asked }
+    {
+        if count == 0 {
+            return Ok(!self.is_empty());
+        }
+        self.gather(asker, count - 1, routes)?;
+        self.peek(asker, routes)
     }
 }
 
