@@ -16,7 +16,7 @@ use Rattle.sabr_search.proofs.WayLemmas.Ways.{Leads-append, Leads-later}
 use Rattle.sabr_search.proofs.ForwardLemmas.HopLayers.{none_sooner}
 use Rattle.sabr_search.proofs.ForwardLemmas.LayerEntries.{same_below}
 use Rattle.sabr_search.proofs.ForwardLemmas.Forward.{last_or_before}
-use Rattle.sabr_search.proofs.WayLemmas.RoutesAndWays.{takes_timely}
+use Rattle.sabr_search.proofs.WayLemmas.RoutesAndWays.{same_some, takes_timely}
 use Rattle.sabr_search.proofs.LinkLemmas.PlanFacts.{takes_early}
 
 -- reading a list with one element more
@@ -294,6 +294,47 @@ pub layer_more : (hop hops contacts : ℕ) → hop < hops → hop * contacts + c
 layer_more hop hops contacts less =
     let le : (hop + 1) * contacts ≤ hops * contacts = mul-le-mul_right contacts (omega (arith, less)) in
     omega (arith, le)
+
+-- and so they are if a layer took at most as many, or if too few were left for it
+pub spent_more : (old left left' hop hops contacts : ℕ) → hop < hops → old ≤ left + hop * contacts → left ≤ left' + contacts → old ≤ left' + hops * contacts
+spent_more old left left' hop hops contacts less so_far one = omega (arith, layer_more hop hops contacts less, so_far, one)
+
+pub none_more : (old left hop hops contacts : ℕ) → hop < hops → old ≤ left + hop * contacts → left < contacts → old < hops * contacts
+none_more old left hop hops contacts less so_far few = omega (arith, layer_more hop hops contacts less, so_far, few)
+
+-- and those for fewer layers
+pub spent_fewer : (old left hop hops contacts : ℕ) → hop ≤ hops → old ≤ left + hop * contacts → old ≤ left + hops * contacts
+spent_fewer old left hop hops contacts le so_far =
+    let all : hop * contacts ≤ hops * contacts = mul-le-mul_right contacts le in
+    omega (arith, all, so_far)
+
+-- layer 0 is the start alone
+pub layers_first : (task : SearchTask) (bounds arrival place : List ℕ) (reached : List LayerEntry) → bounds ≡ 0 ∷ 1 ∷ [] → reached ≡ record { node = task.start; arrival = task.at; deadline = 0 } ∷ [] →
+    AreLists task.shut task.goal task.at 1 arrival place reached → AreLayers task 0 bounds arrival place reached (record { delivery = never; hops = 0 })
+layers_first task bounds arrival place reached bounds_is reached_is lists =
+    rw (bounds_is, reached_is) (record {
+      lists = rw reached_is at lists;
+      many = refl;
+      first_bound = refl;
+      second_bound = refl;
+      rising = λ j le. (let zero_is : j ≡ 0 = omega arith in rw zero_is (omega arith));
+      last_bound = refl;
+      begins = refl;
+      apart = λ h p q e f le above_p above_q below_p below_q at_p at_q same. omega (arith, slice_get_within one p e at_p, slice_get_within one q f at_q);
+      real = λ h v a x e. elim (cases_eq h 0) [
+        | inl zero_is ↦
+            (let d : LayerEntry = record { node = v; arrival = a; deadline = x } in
+            let first : e.0 ≡ 0 = omega (arith, slice_get_within one e.0 d e.3) in
+            let is : record { node = task.start; arrival = task.at; deadline = 0 } ≡ d = same_some (ap (slice_get one) (sym first) ∙ e.3) in
+            ([], sym zero_is, (ap (λ (y : LayerEntry). y.node) is, ap (λ (y : LayerEntry). y.arrival) is)))
+        | inr other ↦ absurd (omega (arith, index_past (0 ∷ 1 ∷ []) (h + 1) (omega arith), e.2))
+      ];
+      taken = λ j v a x n w b less e s. absurd (omega arith);
+      found = inl (refl, refl);
+    })
+  where
+    one : List LayerEntry
+    one = record { node = task.start; arrival = task.at; deadline = 0 } ∷ []
 
 -- what is found within fewer hops is the best within more, if nothing is sooner there
 pub best_within : (task : SearchTask) (hop : ℕ) (bounds arrival place : List ℕ) (reached : List LayerEntry) (best : Best) → AreLayers task hop bounds arrival place reached best →

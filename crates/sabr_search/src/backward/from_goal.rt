@@ -249,7 +249,6 @@ impl<A: Allocator + Copy> Layers<A> {
     /// Makes layers backward from the goal until the start is in time for one, each with at most one look for each
     /// contact. Returns how many hops that layer is from the goal. None if the start is in time for none of `hops`
     /// layers, if a layer is empty, or if more looks might be needed than are left.
-    #[tactic(auto, using(crate::proofs::ForwardLemmas::MadeLayers::layer_more))]
     pub fn make_back(
         &mut self,
         aim: &Aim<'_, '_, '_, A>,

@@ -300,7 +300,6 @@ impl<A: Allocator + Copy> Layers<A> {
 
     /// Makes layers until the goal is reached by `lower`, before which no way delivers, no node is new, or the hops are used
     /// up. Returns the least delivery; none if more looks might be needed than are left.
-    #[tactic(auto, using(crate::proofs::ForwardLemmas::MadeLayers::layer_more))]
     pub fn make(
         &mut self,
         task: &Task<'_, A>,

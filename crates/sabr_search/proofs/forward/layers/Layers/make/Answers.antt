@@ -1,10 +1,19 @@
 use Rattle.std.proofs.Common.{◌≡◌, ◌+◌, ◌++◌, [], ◌∷◌, inl, inr, length, slice_index, ap, ◌∙◌, refl, arith}
 use Rattle.sabr_search.specs.layers.Made.{AreLayers}
 use Rattle.sabr_search.proofs.ForwardLemmas.LayerEntries.{read_at}
-use Rattle.sabr_search.proofs.ForwardLemmas.MadeLayers.{layers_next, best_within, least_within, least_of_all, sources_of, index_before}
+use Rattle.sabr_search.proofs.ForwardLemmas.MadeLayers.{layers_first, layers_next, best_within, least_within, least_of_all, sources_of, index_before, spent_more, spent_fewer, none_more}
 use Rattle.sabr_search.proofs.forward.layers.Layers.make.Given.{Over}
 use Rattle.sabr_search.proofs.forward.layers.Layers.make.Goals.{In_ok-push, then-delivery-best, else-delivery-best}
 use Rattle.sabr_search.proofs.forward.layers.Layers.make.Goals as goal
+
+pub loop-hop-init : goal.loop-hop-init
+loop-hop-init g c =
+    let first = c.in_ok-first_layer.ensures in
+    record {
+      layers = layers_first c.args.task.now _ _ _ _ first.bounds first.reached first.lists;
+      counted = omega arith;
+      sooner = c.requires.sooner;
+    }
 
 pub next_layer-requires-clause-sources : goal.next_layer-requires-clause-sources
 next_layer-requires-clause-sources g c = sources_of c.args.task.now c.requires.task c.loop-hop.hop _ _ _ _ _ c.loop-hop.invariant.layers
@@ -46,3 +55,24 @@ pub returns-clause-best : goal.returns-clause-best
 returns-clause-best g c =
     let made = c.loop-hop.invariant.layers in
     best_within c.args.task.now c.loop-hop.hop _ _ _ _ _ made c.args.hops (omega arith) (λ ns e le way. least_within c.args.task.now c.requires.task c.loop-hop.hop _ _ _ _ _ made ns e (omega (arith, le)) way)
+
+pub returns-then-one_pass-looks-clause-counted : goal.returns-then-one_pass-looks-clause-counted
+returns-then-one_pass-looks-clause-counted g c = spent_fewer _ _ _ _ _ (omega arith) c.loop-hop.invariant.counted
+
+pub returns-then-one_pass-looks-clause-none : goal.returns-then-one_pass-looks-clause-none
+returns-then-one_pass-looks-clause-none g c = none_more _ _ _ _ _ c.loop-hop-test.true c.loop-hop.invariant.counted (omega (arith, c.one_pass.ensures.value, c.if-one_pass-looks.true))
+
+pub returns-in_err-delivery-clause-counted : goal.returns-in_err-delivery-clause-counted
+returns-in_err-delivery-clause-counted g c = spent_more _ _ _ _ _ _ c.loop-hop-test.true c.loop-hop.invariant.counted c.next_layer.ensures.looks
+
+pub returns-in_err-push-clause-counted : goal.returns-in_err-push-clause-counted
+returns-in_err-push-clause-counted g c = spent_more _ _ _ _ _ _ c.loop-hop-test.true c.loop-hop.invariant.counted c.next_layer.ensures.looks
+
+pub returns-then-best-lower-clause-counted : goal.returns-then-best-lower-clause-counted
+returns-then-best-lower-clause-counted g c = spent_more _ _ _ _ _ _ c.loop-hop-test.true c.loop-hop.invariant.counted c.next_layer.ensures.looks
+
+pub returns-then-end-begin-clause-counted : goal.returns-then-end-begin-clause-counted
+returns-then-end-begin-clause-counted g c = spent_more _ _ _ _ _ _ c.loop-hop-test.true c.loop-hop.invariant.counted c.next_layer.ensures.looks
+
+pub returns-clause-counted : goal.returns-clause-counted
+returns-clause-counted g c = spent_fewer _ _ _ _ _ (omega arith) c.loop-hop.invariant.counted

@@ -1,7 +1,8 @@
-use Rattle.std.proofs.Common.{◌≡◌, inr, ◌+◌, ◌++◌, [], ◌∷◌, length, slice_index, ap, sym, ◌∙◌, arith}
+use Rattle.std.proofs.Common.{◌≡◌, inl, inr, ◌+◌, ◌++◌, [], ◌∷◌, length, slice_index, ap, sym, ◌∙◌, arith}
 use Rattle.std.proofs.lemmas.Option.{slice_get_within}
 use Rattle.sabr_search.specs.declared.backward.pick.Standing.{Standing}
 use Rattle.sabr_search.proofs.ForwardLemmas.LayerEntries.{read_at}
+use Rattle.sabr_search.proofs.ForwardLemmas.MadeLayers.{spent_more, spent_fewer, none_more}
 use Rattle.sabr_search.proofs.BackwardLemmas.LateMade.{late_first, late_next, met_by, unmet_by}
 use Rattle.sabr_search.proofs.BackwardLemmas.Ended.{none_by}
 use Rattle.sabr_search.proofs.BackwardLemmas.LateLayers.{fewest}
@@ -75,3 +76,27 @@ pub returns-clause-none : goal.returns-clause-none
 returns-clause-none g c =
     let old = c.loop-left.self in
     inr (λ ns e le way. fewest c.args.aim.now.task.now c.requires.task _ _ c.loop-left.left old.ends.items old.late old.place.items old.reached.items c.loop-left.invariant.made c.requires.arrivals ns e (omega (arith, le, c.loop-left-test.false)) way)
+
+pub returns-then-is_met-clause-counted : goal.returns-then-is_met-clause-counted
+returns-then-is_met-clause-counted g c = spent_fewer _ _ _ _ _ (omega arith) c.loop-left.invariant.counted
+
+pub returns-then-is_met-clause-layers : goal.returns-then-is_met-clause-layers
+returns-then-is_met-clause-layers g c = spent_fewer _ _ _ _ _ (omega arith) c.loop-left.invariant.counted
+
+pub returns-then-index-clause-counted : goal.returns-then-index-clause-counted
+returns-then-index-clause-counted g c = spent_fewer _ _ _ _ _ (omega arith) c.loop-left.invariant.counted
+
+pub returns-in_err-whole-clause-counted : goal.returns-in_err-whole-clause-counted
+returns-in_err-whole-clause-counted g c = spent_more _ _ _ _ _ _ c.loop-left-test.true c.loop-left.invariant.counted c.next_back.ensures.counted
+
+pub returns-then-not-whole-clause-counted : goal.returns-then-not-whole-clause-counted
+returns-then-not-whole-clause-counted g c = spent_more _ _ _ _ _ _ c.loop-left-test.true c.loop-left.invariant.counted c.next_back.ensures.counted
+
+pub returns-then-not-whole-clause-none : goal.returns-then-not-whole-clause-none
+returns-then-not-whole-clause-none g c = inl (none_more _ _ _ _ _ c.loop-left-test.true c.loop-left.invariant.counted (c.in_ok-whole.ensures.none c.if-not-whole.true))
+
+pub returns-in_err-push-clause-counted : goal.returns-in_err-push-clause-counted
+returns-in_err-push-clause-counted g c = spent_more _ _ _ _ _ _ c.loop-left-test.true c.loop-left.invariant.counted c.next_back.ensures.counted
+
+pub returns-clause-counted : goal.returns-clause-counted
+returns-clause-counted g c = spent_fewer _ _ _ _ _ (omega arith) c.loop-left.invariant.counted
