@@ -130,13 +130,26 @@ fn written<R: Files + Clock + AllocGlobal>(
 ) -> Option<TextFigures> {
     let watch = Watch::new(rt);
     let finder = Settled::new(rt.alloc());
-    let mut session = Session::start(rt.alloc(), plan, question.request, finder).ok()?;
-    let routes = session.page(question.count.min(10000)).ok()?.len();
+    match Session::start(rt.alloc(), plan, question.request, finder) {
+        Ok(mut session) => listed(rt, &watch, &mut session, question.count, path),
+        Err(_) => None,
+    }
+}
+
+/// Lists so many routes of a session that was just started, and writes it.
+fn listed<R: Files + Clock + AllocGlobal>(
+    rt: &R,
+    watch: &Watch<'_, R>,
+    session: &mut Session<'_, Settled>,
+    count: u32,
+    path: &str,
+) -> Option<TextFigures> {
+    let routes = session.page(count.min(10000)).ok()?.len();
     let listing = watch.nanoseconds();
     Some(TextFigures::Written {
         routes,
         listing,
-        writing: write_again(rt, &session, path)?,
+        writing: write_again(rt, session, path)?,
     })
 }
 
@@ -212,7 +225,7 @@ pub fn time_text<R: Files + Clock + AllocGlobal>(rt: &R, words: &[String]) -> Op
     written(rt, &plan, question, text.as_str())
 }
 
-/// Reads or verifies a session's file.
+/// Reads or verifies a session's file, after its plan's file was read.
 fn time_again<R: Files + Clock + AllocGlobal>(
     rt: &R,
     mode: &str,
@@ -220,9 +233,19 @@ fn time_again<R: Files + Clock + AllocGlobal>(
     text: &str,
 ) -> Option<TextFigures> {
     let plan = plan_of(rt, file)?;
+    again(rt, &plan, mode, text)
+}
+
+/// Reads or verifies a session's file.
+fn again<R: Files + Clock + AllocGlobal>(
+    rt: &R,
+    plan: &Plan,
+    mode: &str,
+    text: &str,
+) -> Option<TextFigures> {
     match mode {
-        "read" => read_back(rt, &plan, text),
-        "verify" => verified(rt, &plan, text),
+        "read" => read_back(rt, plan, text),
+        "verify" => verified(rt, plan, text),
         _ => None,
     }
 }
