@@ -1,6 +1,6 @@
 //! The only way from a search to the record of a contact; each look is one fewer that is left.
 
-ghost use Rattle.std.specs.Prelude.{◌≡◌, ◌+◌, ◌<◌, ◌≤◌, None, MatchOption, IfSome, length};
+ghost use Rattle.std.specs.Prelude.{◌≡◌, ◌+◌, ◌<◌, ◌≤◌, min, None, MatchOption, IfSome, length};
 ghost use Rattle.sabr_model.specs.plan.Plan.{IsPlan, contact_named};
 ghost use Rattle.sabr_model.specs.plan.Tabled.{IsHopNamed};
 ghost use Rattle.sabr_model.specs.routes.Hops.{IsSmall};
@@ -55,7 +55,8 @@ impl Looks {
 
     /// Puts back looks that were set aside.
     pub fn put_back(&mut self, aside: u64)
-        ensures { aside ≤ self.new.left }
+        ensures left { self.new.left ≡ min (self.old.left + aside) many_looks }
+        ensures aside { aside ≤ self.new.left }
     {
         self.left = self.left.saturating_add(aside);
     }
