@@ -6,4 +6,3 @@ pub mod LayerEntries
 pub mod MadeLayers
 pub mod Queues
 pub mod FirstWays
-pub mod Enclosed

@@ -12,4 +12,3 @@ pub mod Reach
 pub mod Since
 pub mod Seconds
 pub mod Latest
-pub mod Enclosed

@@ -1,6 +1,5 @@
 //! From the start forward: arrivals in order, and layers by hops.
 
-pub mod enclosed;
 mod first_steps;
 pub mod layers;
 pub mod queue;

@@ -98,14 +98,6 @@ impl<A: Allocator + Copy> Queue<A> {
         Ok(())
     }
 
-    /// Returns the second of the earliest event; `u64::MAX` if none waits.
-    pub fn first_at(&self) -> u64 {
-        match self.keys.peek() {
-            Some(Reverse(key)) => event_of_key(*key).at,
-            None => u64::MAX,
-        }
-    }
-
     /// Removes and returns the earliest event.
     #[inline(always)]
     pub fn pop(&mut self) -> Option<Event>

@@ -8,12 +8,10 @@ ghost use Rattle.sabr_search.specs.layers.Lists.{IsKnown};
 ghost use Rattle.sabr_search.specs.layers.Made.{AreOpened};
 ghost use Rattle.sabr_search.specs.layers.Reach.{cost_to};
 ghost use Rattle.sabr_search.specs.questions.FirstSteps.{AreFirstSteps};
-ghost use Rattle.sabr_search.specs.layers.Enclosed.{IsEnclosed};
 ghost use Rattle.sabr_search.specs.layers.Settling.{IsBound, AreReal, AreArrivalsBy, IsFirstWay, AreSettling, AreSettled, IsFallen, AreSettledTaken};
 
 use crate::backward::pick::Standing;
 use crate::backward::since::cost_by;
-use crate::forward::enclosed::Enclosure;
 use crate::forward::layers::{Best, UNDELIVERED, open_nodes};
 use crate::forward::queue::{Event, Queue};
 use crate::links::looks::Looks;
@@ -66,26 +64,6 @@ impl<'t, 'a, 'b, A: Allocator + Copy> Forward<'t, 'a, 'b, A> {
     {
         delivery.saturating_sub(self.cost(to)).min(arrival[to])
     }
-
-    /// Returns true if no way but a first step straight to the goal delivers before `best`, where there is such a step. It
-    /// isn't asked if no event comes before that, nor without the costs to the goal: then all arrivals are wanted, too.
-    fn is_enclosed(
-        &self,
-        enclosure: &mut Enclosure<A>,
-        first: &[Standing],
-        event: u64,
-        best: Best,
-    ) -> Result<bool, NoMemory>
-        requires task { IsTask self.now.task.now }
-        requires inside { (k : ℕ) (s : Standing) → slice_get first.now k ≡ Some s → s.node < length self.now.task.now.table }
-        requires steps { AreFirstSteps self.now.task.now first.now }
-        ensures { IfOk result (λ enclosed. IsTrue enclosed → IsEnclosed self.now.task.now best.delivery) }
-    {
-        if best.hops == 0 || event >= best.delivery || self.near.is_empty() {
-            return Ok(false);
-        }
-        enclosure.is_enclosed(self.task, first, best.delivery)
-    }
 }
 
 /// Returns true if, by the bounds of a link, nothing that is at its sender at `at` comes to its receiver sooner than is known.
@@ -106,7 +84,6 @@ pub struct Settling<A: Allocator + Copy> {
     hops: Vec<u32, A>,
     settled: Vec<bool, A>,
     queue: Queue<A>,
-    enclosure: Enclosure<A>,
 }
 
 impl<A: Allocator + Copy> Settling<A> {
@@ -117,7 +94,6 @@ impl<A: Allocator + Copy> Settling<A> {
             hops: Vec::new(alloc),
             settled: Vec::new(alloc),
             queue: Queue::new(alloc),
-            enclosure: Enclosure::new(alloc),
         }
     }
 
@@ -314,12 +290,6 @@ impl<A: Allocator + Copy> Settling<A> {
     {
         self.first_events(forward)?;
         let mut best = self.settle_start(forward, first)?;
-        let event = self.queue.first_at();
-        let enclosed = forward.is_enclosed(&mut self.enclosure, first, event, best)?;
-        if enclosed {
-            self.arrival.clear();
-            return Ok(Some(best));
-        }
         while let Some(event) = self.queue.pop() {
             if event.at >= best.delivery {
                 return Ok(Some(best));

@@ -1,8 +1,7 @@
 use Rattle.std.proofs.Common.{◌≡◌, ◌<◌, length, slice_index_or, false, refl, sym, ◌∙◌, arith}
 use Rattle.std.proofs.lemmas.List.Sorted.{length_permutation}
 use Rattle.sabr_search.proofs.ForwardLemmas.Queues.{head_inside, waits_later, queue_stale}
-use Rattle.sabr_search.proofs.ForwardLemmas.FirstWays.{start_sent, sent_most, next_most, next_state, next_counted, next_settled, settled_stale, first_found, arrivals_found, read_flag}
-use Rattle.sabr_search.proofs.ForwardLemmas.Enclosed.{enclosed_first, none_told}
+use Rattle.sabr_search.proofs.ForwardLemmas.FirstWays.{start_sent, next_most, next_state, next_counted, next_settled, settled_stale, first_found, arrivals_found, read_flag}
 use Rattle.sabr_search.proofs.ForwardLemmas.LayerEntries.{read_at}
 use Rattle.sabr_search.proofs.forward.settling.Settling.settle_all.Goals as goal
 
@@ -13,17 +12,6 @@ loop-event-init g c =
     record {
       counted = omega (arith, start_sent task c.requires.task c.first_events.new.self.settled.items c.settle_start.new.self.settled.items task.start c.in_ok-first_events.ensures.settled refl c.settle_start.ensures.settled);
       settled = start.state;
-    }
-
-pub returns-then-enclosed : goal.returns-then-enclosed
-returns-then-enclosed g c =
-    let task = c.args.forward.now.task.now in
-    let settled = c.settle_start.new.self.settled.items in
-    record {
-      counted = omega (arith, start_sent task c.requires.task c.first_events.new.self.settled.items settled task.start c.in_ok-first_events.ensures.settled refl c.settle_start.ensures.settled, sent_most task settled);
-      none = tt;
-      first = enclosed_first task c.requires.task _ _ c.requires.bound _ _ _ _ c.in_ok-best.best c.in_ok-best.ensures.state (c.in_ok-enclosed.ensures c.if-enclosed.true);
-      arrivals = none_told task c.args.forward.now.near.now _ c.in_ok-best.best.delivery c.clear.ensures.items;
     }
 
 pub index-requires : goal.index-requires
