@@ -10,3 +10,6 @@ pub mod Faults
 pub mod Follows
 pub mod Marks
 pub mod Tellings
+pub mod Waiting
+pub mod Loops
+pub mod EveryWay

@@ -1,5 +1,5 @@
 -- Laws of the definitions, over all plans and requests.
-use Rattle.std.specs.Prelude.{◌≡◌, ℕ, ◌<◌, ◌≤◌, ◌↔◌, List, [], ◌++◌, IsTrue}
+use Rattle.std.specs.Prelude.{◌≡◌, ◌≢◌, ℕ, ◌<◌, ◌≤◌, ◌↔◌, List, [], ◌++◌, IsTrue}
 use Rattle.std.specs.List.{Contains, AllByRecursion}
 use Rattle.std.specs.List.Sorted.{IsStrictlySortedBy}
 use Rattle.std.specs.declared.option.Option.TheVariants.{Some, None}
@@ -7,9 +7,10 @@ use Rattle.sabr_model.specs.declared.contact.Contact.{Contact}
 use Rattle.sabr_model.specs.Order.{same_numbers}
 use Rattle.sabr_model.specs.plan.Plan.{ContactPlan, IsPlan, are_different, none_twice}
 use Rattle.sabr_model.specs.routes.Arrival.{RouteRequest, arrival}
-use Rattle.sabr_model.specs.routes.Route.{is_route, by_key}
+use Rattle.sabr_model.specs.routes.Route.{is_route, by_key, delivery_of}
 use Rattle.sabr_model.specs.routes.Fault.{fault_of}
 use Rattle.sabr_model.specs.routes.Listing.{candidates, routes}
+use Rattle.sabr_model.specs.routes.Journeys.{IsJourney, MeetsNoneTwice, FirstDeliversBy, asked_at}
 
 -- a bundle that is at the sender earlier also arrives, and no later
 abbrev pub ArrivalIsMonotone : Type 0
@@ -44,3 +45,18 @@ pub record IsListOfRoutes (p : ContactPlan) (r : RouteRequest) : Type 0 where
 -- the same, for every contact plan and request
 abbrev pub RoutesAreListed : Type 0
 RoutesAreListed = (p : ContactPlan) (r : RouteRequest) → IsPlan p → IsListOfRoutes p r
+
+-- the list leaves no way out
+pub record LeavesNoWayOut (p : ContactPlan) (r : RouteRequest) : Type 0 where
+  -- the contacts of each journey that comes to no node twice are a listed route, which delivers no later
+  pub listed : (s : List ℕ) (d : ℕ) → IsJourney p r s d → MeetsNoneTwice p r s → Contains (routes p r) s × (delivery_of p r s ≤ d)
+  -- each listed route is the way of such a journey, which ends at its delivery
+  pub travelled : (s : List ℕ) → Contains (routes p r) s → IsJourney p r s (delivery_of p r s) × MeetsNoneTwice p r s
+  -- no journey ends before the first route delivers, and there is none at all if no route is listed
+  pub first : (s : List ℕ) (d : ℕ) → IsJourney p r s d → FirstDeliversBy p r d
+  -- whoever is at the source later never arrives earlier
+  pub later : (t d : ℕ) → r.at ≤ t → FirstDeliversBy p (asked_at r t) d → FirstDeliversBy p r d
+
+-- the same, for every contact plan, and every request between two nodes
+abbrev pub EveryWayIsListed : Type 0
+EveryWayIsListed = (p : ContactPlan) (r : RouteRequest) → IsPlan p → r.source ≢ r.destination → LeavesNoWayOut p r

@@ -6,6 +6,7 @@ pub mod Route
 pub mod Fault
 pub mod Following
 pub mod Listing
+pub mod Journeys
 pub mod Parts
 pub mod Record
 pub mod Telling

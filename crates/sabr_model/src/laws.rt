@@ -1,6 +1,6 @@
 //! Laws of the definitions, each the contract of a function that does nothing.
 
-ghost use Rattle.sabr_model.specs.Laws.{ArrivalIsMonotone, NoRouteBeginsAnother, RoutesAreListed, CandidatesAreListed, FaultsTellRoutes};
+ghost use Rattle.sabr_model.specs.Laws.{ArrivalIsMonotone, NoRouteBeginsAnother, RoutesAreListed, CandidatesAreListed, FaultsTellRoutes, EveryWayIsListed};
 
 /// States that a bundle that is at the sender earlier also arrives, and no later.
 pub fn law1()
@@ -26,4 +26,12 @@ pub fn candidates_hold_each_once()
 /// States that a list of contacts has no fault if and only if it is a route.
 pub fn faults_tell_routes()
     ensures { FaultsTellRoutes }
+{}
+
+/// States that the list of all routes leaves no way out. If a bundle can travel over contacts that come to no node twice,
+/// within the limits, and wait at each node as long as it likes, these contacts are a listed route, which delivers no later;
+/// each listed route is the way of such a journey. No bundle at all arrives before the first route delivers, even one that
+/// comes to a node again, or is at the source later.
+pub fn every_way_is_listed()
+    ensures { EveryWayIsListed }
 {}

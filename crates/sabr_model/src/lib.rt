@@ -27,7 +27,9 @@ pub use fault::{AddFault, HopFault, NoMemory, RequestError};
 pub use following::{Reached, follow, follow_behind, follow_hop};
 pub use ghost_count::GhostCount;
 pub use hop::Hop;
-pub use laws::{candidates_hold_each_once, faults_tell_routes, law1, law2, law3};
+pub use laws::{
+    candidates_hold_each_once, every_way_is_listed, faults_tell_routes, law1, law2, law3,
+};
 pub use limits::{LAST_TIME, MOST_AVOIDED, MOST_HOPS, MOST_LIGHT, MOST_MARGIN, MOST_RECORDS};
 pub use node_list::NodeList;
 pub use numbers::Numbers;
