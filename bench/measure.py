@@ -29,10 +29,11 @@ class Program:
 
 
 class Answer:
-    """How a run ended: its seconds by the wall clock, its status (None: it was stopped), and what it wrote."""
+    """How a run ended: its seconds by the clock and of the processor, its status (None: it was stopped), and its text."""
 
-    def __init__(self, seconds, status, text, peak_kb):
-        self.seconds, self.status, self.text, self.peak_kb = seconds, status, text, peak_kb
+    def __init__(self, seconds, processor, status, text, peak_kb):
+        self.seconds, self.processor, self.status = seconds, processor, status
+        self.text, self.peak_kb = text, peak_kb
 
     def is_good(self):
         return self.status == 0
@@ -66,7 +67,7 @@ def run(words, most_seconds, given=None):
         child.returncode = os.waitstatus_to_exitcode(ending)
         status = child.returncode if child.returncode >= 0 else None
         out.seek(0)
-        return Answer(seconds, status, out.read(), used.ru_maxrss)
+        return Answer(seconds, used.ru_utime + used.ru_stime, status, out.read(), used.ru_maxrss)
 
 
 def peak_kb(words, most_seconds, given=None):

@@ -19,10 +19,12 @@ trailing    as relative, with a space at the end of each line
 tabs        as relative, with a tab between words
 """
 import argparse
+import calendar
 import os
 import random
 import time
 
+TIME_TEXT = "%Y/%m/%d-%H:%M:%S"
 DAY_BEGINS = "2030/01/01-00:00:00"
 DAY_SECOND = 1893456000
 QUARTER = 6 * 3600
@@ -30,12 +32,16 @@ MINUTE = 60
 SIZES = (1250, 2500, 5000, 10000, 20000)
 
 
-def relative(second):
+def relative(second, _):
     return f"+{second}"
 
 
-def absolute(second):
-    return time.strftime("%Y/%m/%d-%H:%M:%S", time.gmtime(DAY_SECOND + second))
+def absolute(second, reference):
+    return time.strftime(TIME_TEXT, time.gmtime(reference + second))
+
+
+def second_of(text):
+    return calendar.timegm(time.strptime(text, TIME_TEXT))
 
 
 def in_columns(words):
@@ -78,11 +84,11 @@ class Plan:
         return "".join(line + "\n" for line in head + [spelled(record, spelling) for record in parts])
 
 
-def spelled(record, spelling):
-    """The line of a record."""
+def spelled(record, spelling, reference=DAY_SECOND):
+    """The line of a record, whose times are seconds after the reference."""
     name, start, end, *numbers = record
     time_text, line_of = SPELLINGS[spelling]
-    return line_of(["a", name, time_text(start), time_text(end), *map(str, numbers)])
+    return line_of(["a", name, time_text(start, reference), time_text(end, reference), *map(str, numbers)])
 
 
 def links_between(nodes, count, dice):

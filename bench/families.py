@@ -1,0 +1,386 @@
+#!/usr/bin/env python3
+"""Makes the plans of the figures and their questions. The same seed gives the same bytes.
+
+    families.py [--out FOLDER] [--only NAME,..] [--seed N]
+
+Leaves 20 plans and `questions.json`, with 24 questions, in the folder. Of a family's plans, the number is mostly that of
+their contacts; of walkers the first is that of the satellites, of grids that of the nodes on a side, of dense the nodes.
+
+relay    ground stations, relays and landers at the Moon or at Mars; one question from a lander to the control centre
+walker   satellites on circular orbits with links to their neighbours, and ground stations
+grid     a square grid without light time, whose windows are all open at one time: nearly all routes tie
+dense    all nodes see each other, without light time, in windows in no order
+line     parallel contacts to one node, and two from there
+sparse   pairs of nodes by lot, in windows by lot
+real     two plans that nobody made up, in real/: windows of satellites from the orbital elements of 22 January 2018 that
+         Debian's gpredict has, reckoned by SGP4, with ten ground stations, and links between satellites in sight of each
+         other; `iridium` has 128 satellites, with links up to 4500 km, and `cube` 437, with links up to 2500 km
+"""
+import argparse
+import json
+import lzma
+import math
+import os
+import random
+import time
+
+HERE = os.path.dirname(os.path.abspath(__file__))
+BEGINS = "2030/01/01-00:00:00"
+BEGIN = 1893456000
+DAY = 86400
+REAL = [("iridium", 1, 2), ("iridium", 6, 10), ("iridium", 3, 8), ("cube", 1, 2), ("cube", 6, 10), ("cube", 3, 8)]
+
+
+class Plan:
+    """The records of a plan, in seconds after its reference, and what is asked of it."""
+
+    def __init__(self, name, seed):
+        self.name, self.dice = name, random.Random(f"{name}/{seed}")
+        self.contacts = []  # start, end, sender, receiver, rate
+        self.ranges = []  # start, end, one, other, light
+        self.asked = (1, 2, 0)  # from, to, second
+
+    def contact(self, start, end, sender, receiver, rate=125000):
+        if int(end) > int(start):
+            self.contacts.append((int(start), int(end), sender, receiver, rate))
+
+    def both(self, start, end, one, other, rate=125000, rate_back=125000):
+        self.contact(start, end, one, other, rate)
+        self.contact(start, end, other, one, rate_back)
+
+    def light(self, start, end, one, other, light):
+        """Holds both ways."""
+        self.ranges.append((start, end, min(one, other), max(one, other), light))
+
+    def cut(self, count):
+        """Keeps the first contacts by start, and of those with one start, sender and receiver the one that ends first."""
+        self.contacts.sort(key=lambda it: (it[0], it[2], it[3], it[1]))
+        kept = {}
+        for contact in self.contacts:
+            kept.setdefault((contact[0], *contact[2:4]), contact)
+        self.contacts = list(kept.values())[:count]
+
+    def drop_unused_ranges(self):
+        last = max(it[0] for it in self.contacts)
+        pairs = {tuple(sorted(it[2:4])) for it in self.contacts}
+        self.ranges = [it for it in self.ranges if it[0] <= last and tuple(sorted(it[2:4])) in pairs]
+
+    def text(self):
+        lines = [f"# {self.name}", f"@ {BEGINS}"]
+        lines += [f"a range +{start} +{end} {one} {other} {light}" for start, end, one, other, light in self.ranges]
+        lines += [f"a contact +{start} +{end} {one} {other} {rate}" for start, end, one, other, rate in self.contacts]
+        return "\n".join([*lines, ""])
+
+
+# ---- Relays -----------------------------------------------------------------------------------------------------
+
+
+def windows(dice, period, length, jitter, begin, horizon, is_up=lambda second: True):
+    """Spans of about that length, one each period, if their middle is up."""
+    second = begin - period
+    while second < horizon:
+        start = second + dice.uniform(-jitter, jitter)
+        end = start + length * dice.uniform(0.7, 1.1)
+        if end > 0 and is_up((start + end) / 2):
+            yield max(0, int(start)), int(end)
+        second += period
+
+
+def sees_far_body(dice, middle):
+    """When a station sees the far body: 9 to 11 hours a day."""
+    half = dice.uniform(4.5, 5.5) * 3600
+    return lambda second: min((second - middle) % DAY, DAY - (second - middle) % DAY) < half
+
+
+def station_links(plan, station, middle, relays, is_mars, days):
+    is_up = sees_far_body(plan.dice, middle)
+    for relay in relays:
+        if is_mars:
+            for day in range(days + 1):
+                light = round(900 + 320 * math.sin(2 * math.pi * day / 780))
+                plan.light(day * DAY, (day + 1) * DAY, station, relay, light)
+        else:
+            plan.light(0, (days + 1) * DAY, station, relay, 1)
+        period = (7000 if is_mars else 43200) + 150 * (relay - 100)
+        begin = plan.dice.uniform(0, period)
+        for start, end in windows(plan.dice, period, period * 0.6, 60, begin, days * DAY, is_up):
+            plan.both(start, end, station, relay, 2000, 250000)
+
+
+def lander_links(plan, relay, lander, is_mars, days):
+    plan.light(0, (days + 1) * DAY, relay, lander, 0)
+    if is_mars:  # about two passes in a row are high enough
+        period, length = 7100 + 170 * (relay - 100) + 13 * (lander - 1000), 700
+        middle = plan.dice.uniform(0, DAY)
+        is_up = lambda second: (second - middle) % 44000 < 15000
+    else:
+        period, length, is_up = 43200 + 900 * (relay - 100), 25000, lambda second: True
+    begin = plan.dice.uniform(0, period)
+    for start, end in windows(plan.dice, period, length, 120, begin, days * DAY, is_up):
+        plan.both(start, end, relay, lander, 32000, 256000)
+
+
+def relay_days(name, stations, relays, landers, is_mars, seed, days):
+    """A plan of so many days. Node 1 is the control centre, on the ground with the stations."""
+    plan = Plan(name, seed)
+    plan.asked = (landers[0], 1, 0)
+    for station in stations:
+        plan.light(0, (days + 1) * DAY, 1, station, 0)
+        for day in range(days):
+            plan.both(day * DAY, (day + 1) * DAY, 1, station, 10**9, 10**9)
+    for place, station in enumerate(stations):
+        station_links(plan, station, DAY * (place + 0.5) / len(stations), relays, is_mars, days)
+    for relay in relays:
+        for lander in landers:
+            lander_links(plan, relay, lander, is_mars, days)
+    for place, one in enumerate(relays):
+        for other in relays[place + 1 :]:
+            plan.light(0, (days + 1) * DAY, one, other, 0)
+            begin = plan.dice.uniform(0, 11000)
+            for start, end in windows(plan.dice, 11000 + 300 * place, 1500, 300, begin, days * DAY):
+                plan.both(start, end, one, other, 64000, 64000)
+    for one, other in zip(landers[::2], landers[1::2]):
+        plan.light(0, (days + 1) * DAY, one, other, 0)
+        begin = plan.dice.uniform(0, DAY / 3)
+        for start, end in windows(plan.dice, DAY / 3, 3600, 1800, begin, days * DAY):
+            plan.both(start, end, one, other, 10**6, 10**6)
+    return plan
+
+
+def relay(name, seed, count, stations, relays, landers, is_mars):
+    """As many days as it takes for so many contacts."""
+    nodes = [list(range(first, first + many)) for first, many in ((11, stations), (101, relays), (1001, landers))]
+    days = 1
+    while True:
+        plan = relay_days(name, *nodes, is_mars, seed, days)
+        if len(plan.contacts) >= count:
+            plan.cut(count)
+            plan.drop_unused_ranges()
+            return plan
+        days = max(days + 1, int(days * 1.15))
+
+
+# ---- Walkers ----------------------------------------------------------------------------------------------------
+
+EARTH = 6371.0  # kilometres
+ORBIT = EARTH + 780.0
+RATE_OF_ORBIT = math.sqrt(398600.4 / ORBIT**3)
+RATE_OF_EARTH = 7.2921e-5
+SLOPE = math.radians(70.0)
+HIGHEST = ORBIT * math.sin(math.radians(65))  # links across planes break above this latitude
+STEP = 60  # seconds
+
+
+def satellite_at(planes, each, place, second):
+    plane, number = place
+    node = 2 * math.pi * plane / planes
+    angle = 2 * math.pi * (number / each + plane / (planes * each)) + RATE_OF_ORBIT * second
+    along, across = math.cos(angle), math.sin(angle)
+    east = along * math.cos(node) - across * math.sin(node) * math.cos(SLOPE)
+    north = along * math.sin(node) + across * math.cos(node) * math.cos(SLOPE)
+    return ORBIT * east, ORBIT * north, ORBIT * across * math.sin(SLOPE)
+
+
+def station_at(station, second):
+    latitude, longitude = station[0], station[1] + RATE_OF_EARTH * second
+    round_axis = EARTH * math.cos(latitude)
+    return round_axis * math.cos(longitude), round_axis * math.sin(longitude), EARTH * math.sin(latitude)
+
+
+def is_ten_degrees_up(station, satellite):
+    offset = [there - here for here, there in zip(station, satellite)]
+    up = sum(part * here for part, here in zip(offset, station)) / EARTH
+    return up > 0 and up * up > sum(part * part for part in offset) * 0.0302
+
+
+class Sky:
+    """The satellites of a Walker constellation, from node 101 on, and stations, from node 1 on."""
+
+    def __init__(self, planes, each, stations, dice):
+        self.planes, self.each = planes, each
+        self.nodes = {place: 101 + at for at, place in enumerate((p, q) for p in range(planes) for q in range(each))}
+        self.stations = [(math.radians(dice.uniform(-60, 68)), math.radians(dice.uniform(-180, 180))) for _ in range(stations)]
+        self.links = []
+        for plane, number in self.nodes:
+            self.links.append(((plane, number), (plane, (number + 1) % each), False))
+            self.links.append(((plane, number), ((plane + 1) % planes, number), True))
+
+    def open_at(self, second):
+        """The pairs of nodes that see each other, in a set."""
+        where = {place: satellite_at(self.planes, self.each, place, second) for place in self.nodes}
+        pairs = set()
+        for one, other, is_across in self.links:
+            if not is_across or max(abs(where[one][2]), abs(where[other][2])) <= HIGHEST:
+                pairs.add((self.nodes[one], self.nodes[other]))
+        for station, place in enumerate(self.stations, 1):
+            here = station_at(place, second)
+            pairs.update((station, node) for it, node in self.nodes.items() if is_ten_degrees_up(here, where[it]))
+        return pairs
+
+
+def walker(name, seed, count, planes, each, stations, light):
+    """Links stand as contacts of at most one hour."""
+    plan = Plan(name, seed)
+    plan.asked = (1, 2, 600)
+    sky, dice = Sky(planes, each, stations, plan.dice), plan.dice
+    opened, second = {}, 0
+    while len(plan.contacts) < count * 1.15 + 200:
+        now = sky.open_at(second)
+        for pair in list(opened):
+            if pair not in now or second - opened[pair] >= 3600:
+                plan.both(opened.pop(pair), second if pair in now else second + dice.randrange(-20, 20), *pair)
+        for pair in now:
+            if pair not in opened:
+                opened[pair] = max(0, second + (dice.randrange(-20, 20) if second else 0))
+        second += STEP
+    for pair, start in opened.items():
+        plan.both(start, second, *pair)
+    for one, other, _ in sky.links:
+        plan.light(0, second + DAY, sky.nodes[one], sky.nodes[other], light)
+    for station in range(1, stations + 1):
+        for node in sky.nodes.values():
+            plan.light(0, second + DAY, station, node, light)
+    plan.cut(count)
+    plan.drop_unused_ranges()
+    return plan
+
+
+# ---- Others -----------------------------------------------------------------------------------------------------
+
+
+def grid(name, seed, side, each):
+    plan = Plan(name, seed)
+    plan.asked = (1, side * side, 0)
+    for row in range(side):
+        for column in range(side):
+            one = 1 + row * side + column
+            for other in [one + side] * (row + 1 < side) + [one + 1] * (column + 1 < side):
+                plan.light(0, 100000, one, other, 0)
+                for start in range(each):
+                    plan.both(start, 50000 + plan.dice.randrange(100), one, other)
+    plan.dice.shuffle(plan.contacts)
+    return plan
+
+
+def dense(name, seed, nodes, each):
+    """The destination can be reached late alone, so that all that comes before ties."""
+    plan = Plan(name, seed)
+    plan.asked = (1, nodes, 0)
+    for one in range(1, nodes + 1):
+        for other in range(1, nodes + 1):
+            if one < other:
+                plan.light(0, 10000, one, other, 0)
+            if one != other:
+                for start in plan.dice.sample(range(2000), each):
+                    plan.contact(start, start + plan.dice.randrange(200, 4000), one, other)
+    plan.contacts = [it for it in plan.contacts if it[3] != nodes or it[0] >= 1500]
+    plan.dice.shuffle(plan.contacts)
+    return plan
+
+
+def line(name, seed, count):
+    plan = Plan(name, seed)
+    plan.asked = (1, 3, 0)
+    top = 5000 + max(0, count - 1000) * 2
+    plan.light(0, top + 4000, 1, 2, 0)
+    plan.light(0, top + 4000, 2, 3, 0)
+    for start in range(1, count + 1):
+        plan.contact(start, top, 1, 2, 1000)
+    plan.contact(top - 3000, top, 2, 3, 1000)
+    plan.contact(top - 2999, top, 2, 3, 1000)
+    return plan
+
+
+def sparse(name, seed, count, nodes, horizon):
+    """Light times of 0 to 5 seconds; some hold one way alone."""
+    plan = Plan(name, seed)
+    plan.asked = (1, nodes, 0)
+    pairs = set()
+    for _ in range(count):
+        one, other = plan.dice.sample(range(1, nodes + 1), 2)
+        start = plan.dice.randrange(horizon)
+        plan.contact(start, start + plan.dice.randrange(60, 1800), one, other)
+        pairs.add((min(one, other), max(one, other)))
+    plan.cut(count)
+    for one, other in sorted(pairs):
+        plan.light(0, horizon + DAY, one, other, plan.dice.randrange(6))
+    for one, other in sorted(pairs)[::60]:
+        if len(plan.ranges) < 20000:
+            plan.ranges.append((0, horizon // 2, other, one, plan.dice.randrange(6)))
+    return plan
+
+
+# Each plan by its name: how it is made, and what of.
+PLANS = {
+    "relay-moon-500": (relay, 500, 3, 2, 4, False),
+    "relay-mars-500": (relay, 500, 3, 3, 3, True),
+    "relay-moon-2000": (relay, 2000, 4, 4, 8, False),
+    "relay-mars-2000": (relay, 2000, 3, 4, 6, True),
+    "relay-moon-20000": (relay, 20000, 5, 6, 10, False),
+    "relay-mars-20000": (relay, 20000, 5, 6, 10, True),
+    "walker-24-5000": (walker, 5000, 4, 6, 6, 1),
+    "walker-66-5000": (walker, 5000, 6, 11, 10, 0),
+    "walker-66-20000": (walker, 20000, 6, 11, 10, 0),
+    "walker-24-20000": (walker, 20000, 4, 6, 6, 1),
+    "grid-8": (grid, 8, 2),
+    "grid-40": (grid, 40, 3),
+    "dense-20": (dense, 20, 5),
+    "dense-60": (dense, 60, 5),
+    "line-1000": (line, 1000),
+    "line-19998": (line, 19998),
+    "sparse-2000": (sparse, 2000, 200, 40000),
+    "sparse-20000": (sparse, 20000, 1000, 40000),
+}
+
+
+def question(name, plan, source, target, at):
+    return {"name": name, "plan": f"{plan}.txt", "from": source, "to": target, "at": at}
+
+
+def write_drawn(name, folder, seed):
+    """Writes a plan, and returns its question."""
+    make, *sizes = PLANS[name]
+    plan = make(name, seed, *sizes)
+    source, target, second = plan.asked
+    with open(os.path.join(folder, f"{name}.txt"), "w", encoding="ascii") as file:
+        file.write(plan.text())
+    at = time.strftime("%Y/%m/%d-%H:%M:%S", time.gmtime(BEGIN + second))
+    return question(name, name, source, target, at)
+
+
+def write_real(name, folder):
+    """Unpacks a plan of real satellites, and returns its questions."""
+    with lzma.open(os.path.join(HERE, "real", f"{name}.txt.xz")) as packed:
+        text = packed.read()
+    with open(os.path.join(folder, f"{name}.txt"), "wb") as file:
+        file.write(text)
+    ends = [(one, other) for plan, one, other in REAL if plan == name]
+    return [question(f"{name}-{one}-{other}", name, one, other, "2018/01/22-00:10:00") for one, other in ends]
+
+
+def write(folder, seed=1, only=()):
+    """Writes the plans, or only those, with their questions, which it returns."""
+    os.makedirs(folder, exist_ok=True)
+    names = [*PLANS, *dict.fromkeys(name for name, _, _ in REAL)]
+    questions = []
+    for name in names:
+        if not only or name in only:
+            questions += [write_drawn(name, folder, seed)] if name in PLANS else write_real(name, folder)
+    with open(os.path.join(folder, "questions.json"), "w", encoding="ascii") as file:
+        json.dump(questions, file, indent=1)
+        file.write("\n")
+    return questions
+
+
+def main():
+    words = argparse.ArgumentParser(description=__doc__, formatter_class=argparse.RawDescriptionHelpFormatter)
+    words.add_argument("--out", default=os.path.join(HERE, "out"))
+    words.add_argument("--only", type=lambda text: text.split(","), default=[])
+    words.add_argument("--seed", type=int, default=1)
+    given = words.parse_args()
+    for one in write(given.out, given.seed, given.only):
+        print(f"{one['name']:16} {one['from']} to {one['to']} at {one['at']}")
+
+
+if __name__ == "__main__":
+    main()
