@@ -6,9 +6,11 @@ import itertools
 import json
 from dataclasses import dataclass
 
-from contact_plan import Names, Plan, date_of, iso_text
-from report_listing import Listing
-from routes import Request
+from .listing import Listing
+from .names import Names
+from .plans import Plan
+from .routes import Request
+from .times import iso_text
 
 EXACT = 2**53 - 1  # up to here, numbers of JSON are read exactly everywhere
 
@@ -137,11 +139,6 @@ def csv_text(answers, form):
             lines = [[*request_cells(answer.request, form), *line] for line in lines or [[""] * len(fields)]]
         table.writerows(lines)
     return text.getvalue()
-
-
-def sheet_text(second):
-    """Spells a second since 1970 as spreadsheets do."""
-    return f"{date_of(second):%Y-%m-%d %H:%M:%S}"
 
 
 def request_cells(request, form):

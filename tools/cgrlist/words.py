@@ -2,49 +2,48 @@
 
 A tool reads its words and what they ask for as follows; a bad word is refused in one form, with status 2.
 
-    parser = contact_plan.Words(__doc__)
-    questions.add_plan_words(parser)
-    questions.add_request_words(parser)
-    asked = questions.Asked(parser)
+    parser = words.Words(__doc__)
+    words.add_plan_words(parser)
+    words.add_request_words(parser)
+    asked = words.Asked(parser)
 """
 
 import argparse
 import functools
 import re
-import time
 from dataclasses import replace
 from pathlib import Path
 
-import hints
-from contact_plan import DAY, LAST, Names, Plan, Refused, iso_text, scratch, seconds_of, time_text
-from routes import Program, Request, program_path
-
-# ---- Times ------------------------------------------------------------------------------------------------------
-
-NOW = int(time.time())
-TIMES = "a time is 2031/03/03-01:00:00, 2031-03-03T01:00:00Z, 2031-03-03, now or now+2h"
-_ISO = re.compile(r"(\d{4})-(\d\d)-(\d\d)(?:T(\d\d:\d\d:\d\d)Z)?", re.ASCII)
-_NOW = re.compile(r"now(?:([+-]\d{1,12})([smhd]))?", re.ASCII)
-_UNITS = {"s": 1, "m": 60, "h": 3600, "d": DAY, None: 1}
+from . import hints
+from .errors import WORDS_STATUS, Refused
+from .names import Names
+from .plans import Plan
+from .routes import Program, Request, program_path
+from .times import TIMES, iso_text, time_of, time_text
+from .tool import Tool, scratch
 
 
-def time_of(text):
-    """The second that a time of the command line says; ValueError if it says none that a plan can have."""
-    second = _second_of(text)
-    if not 0 <= second <= LAST:
-        raise ValueError(f"no time of the years 1970 to 9998: {text}")
-    return second
+# ---- The parser -------------------------------------------------------------------------------------------------
 
 
-def _second_of(text):
-    if found := _NOW.fullmatch(text):
-        return NOW + int(found[1] or 0) * _UNITS[found[2]]
-    if found := _ISO.fullmatch(text):
-        text = f"{found[1]}/{found[2]}/{found[3]}-{found[4] or '00:00:00'}"
-    try:
-        return seconds_of(text)
-    except ValueError:
-        return -1
+class Words(argparse.ArgumentParser):
+    """A parser of a tool's command line, whose help is the tool's own text. A bad word has a message of one line."""
+
+    def __init__(self, text):
+        shape = argparse.RawDescriptionHelpFormatter
+        text = with_commands(text) if Tool.name.startswith("cgrlist-") else text
+        super().__init__(prog=Tool.name, description=text, formatter_class=shape, allow_abbrev=False)
+
+    def error(self, message):
+        """Refuses the words."""
+        raise Refused(f"{message}; see --help", WORDS_STATUS)
+
+
+def with_commands(text):
+    """A tool's text with the commands of installed tools, `cgrlist-report` for `tools/report`; columns stay."""
+    # A column begins after two spaces or more, and there are two more for the two letters that a command is longer.
+    of_line = re.compile(r"tools/(\w+)((?:(?!  ).)*)(?:  (?=  ))?")
+    return of_line.sub(lambda it: f"cgrlist-{it[1].replace('_', '-')}{it[2]}", text)
 
 
 def time_word(text):

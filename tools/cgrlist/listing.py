@@ -4,9 +4,11 @@ import argparse
 import re
 from dataclasses import dataclass
 
-import questions
-from contact_plan import Progress, Refused, tell, time_text
-from routes import Route
+from .errors import Refused
+from .routes import Route
+from .times import time_text
+from .tool import Progress, tell
+from .words import time_word
 
 NUMBER = re.compile(r"[1-9]\d{0,17}", re.ASCII)
 LOOK = 100000  # so many routes are looked at for distinct ones if no other number is given
@@ -126,7 +128,7 @@ def add_choice_words(parser):
     """Adds the words that choose routes to a parser of the command line, and returns the group of those for how many."""
     number = parser.add_mutually_exclusive_group()
     number.add_argument("--count", metavar="K", help="how many routes")
-    number.add_argument("--by", type=questions.time_word, metavar="T", help="all routes that deliver by T")
+    number.add_argument("--by", type=time_word, metavar="T", help="all routes that deliver by T")
     parser.add_argument("--via", metavar="N", help="only the routes through this node")
     parser.add_argument("--distinct", choices=DISTINCT, help="only the first of routes that are alike in this")
     parser.add_argument("--look", type=number_word, metavar="N", help="how many routes --distinct looks at")

@@ -2,7 +2,8 @@
 
 import shlex
 
-from contact_plan import FILE_STATUS, Refused, tell
+from .errors import FILE_STATUS, Refused
+from .tool import tell
 
 MOST = 10  # so many hints are told
 

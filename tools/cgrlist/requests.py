@@ -2,9 +2,10 @@
 
 from dataclasses import dataclass
 
-from contact_plan import WORDS_STATUS, Refused
-from questions import time_of
-from routes import Request, processors
+from .errors import WORDS_STATUS, Refused
+from .routes import Request
+from .times import time_of
+from .tool import processors
 
 MOST_OF_PART = 1000  # requests that one run answers, so that progress can be told
 

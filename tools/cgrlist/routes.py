@@ -6,22 +6,16 @@ import shutil
 import subprocess
 import sys
 import threading
-from concurrent.futures import ThreadPoolExecutor
 from dataclasses import dataclass, replace
 
-import hints
-from contact_plan import (
-    BUILT,
-    PLAN_STATUS,
-    REQUESTS_STATUS,
-    SCRIPT,
-    START_STATUS,
-    Progress,
-    Refused,
-    scratch,
-    seconds_of,
-    time_text,
-)
+from . import hints
+from .errors import PLAN_STATUS, REQUESTS_STATUS, START_STATUS, Refused
+from .times import seconds_of, time_text
+from .tool import Progress, Tool, processors, scratch, threads
+
+CLONE = os.path.dirname(os.path.dirname(os.path.dirname(os.path.realpath(__file__))))  # if the package stands in one
+SCRIPT = os.path.join(CLONE, "cgrlist")
+BUILT = os.path.join(CLONE, "crates/cgrlist/out/cgrlist")  # what the script runs if it is current
 
 # ---- Routes -----------------------------------------------------------------------------------------------------
 
@@ -155,13 +149,8 @@ class Request:
         """The request as a line of many; None if a limit isn't one word."""
         given = dict(zip(self.limits[::2], self.limits[1::2]))
         limits = [given.get("--margin-ppm", "0"), given.get("--max-hops", "20000"), given.get("--avoid")]
-        words = [str(self.source), str(self.destination), time_text(self.at), *filter(None.__ne__, limits)]
+        words = [str(self.source), str(self.destination), time_text(self.at), *(it for it in limits if it is not None)]
         return " ".join(words) if all(len(word.split()) == 1 for word in words) else None
-
-
-def processors():
-    """How many processors this process may use."""
-    return len(os.sched_getaffinity(0))
 
 
 _PROCESSES = threading.BoundedSemaphore(processors())  # no more of them run at a time
@@ -183,8 +172,7 @@ def _built(script):
     """The program that a clone's script runs, which takes a while to find that it is current."""
     ran = subprocess.run([script, "--version"], env=_WITHOUT_TRIAL, stdout=subprocess.DEVNULL, stderr=subprocess.PIPE)
     if ran.returncode == START_STATUS:
-        sys.stderr.write(ran.stderr.decode(errors="replace"))
-        raise Refused(None, START_STATUS)
+        raise Refused(ran.stderr.decode(errors="replace"), START_STATUS, is_told=True)
     return BUILT
 
 
@@ -228,7 +216,7 @@ class Program:
     def explained(self, request, routes, plan):
         """The routes with their hops, each as the program explains it."""
         part, progress, told = PartOfPlan(self, plan, routes), Progress(), []
-        with ThreadPoolExecutor(processors()) as pool:
+        with threads() as pool:
             for route in pool.map(lambda route: part.explained(request, route), routes):
                 told.append(route)
                 progress.tell(f"{len(told)} of {len(routes)} routes are explained")
@@ -240,26 +228,35 @@ class Program:
         return self._told(command, *words)
 
     def _told(self, command, *words, but=None):
-        """The same, but None if its status is that one; then nothing of it goes to standard error."""
-        asked = [self.path, command, "--plan", self.plan_file, *words]
-        how = {"stdout": subprocess.PIPE, "stderr": None if but is None else subprocess.PIPE}
-        try:
-            with _PROCESSES:
-                ran = subprocess.run(asked, env=_WITHOUT_TRIAL, text=True, errors="replace", **how)
-        except OSError as error:
-            raise Refused(f"cannot start {self.path}: {error.strerror}", START_STATUS) from error
-        if ran.returncode and ran.returncode == but:
+        """The same, but None if its status is that one."""
+        status, said, told = _ran([self.path, command, "--plan", self.plan_file, *words])
+        if status and status == but:
             return None
-        sys.stderr.write(ran.stderr or "")
-        if ran.returncode < 0:
-            raise Refused(f"cgrlist {command} was ended by signal {-ran.returncode}", 128 - ran.returncode)
-        if ran.returncode == 1:
-            raise Refused(f"cgrlist {command} answers: {[*ran.stdout.splitlines(), 'no'][-1]}")
-        if ran.returncode == PLAN_STATUS:
-            hints.tell_all(hints.of_bytes(self.plan_file))
-        if ran.returncode:
-            raise Refused(None, ran.returncode)
-        return ran.stdout
+        if status < 0:
+            raise Refused(f"cgrlist {command} was ended by signal {-status}", 128 - status)
+        if status == 1:
+            raise Refused(f"cgrlist {command} answers: {[*said.splitlines(), 'no'][-1]}")
+        if status:
+            found = hints.of_bytes(self.plan_file) if status == PLAN_STATUS else ()
+            raise Refused(told, status, is_told=True, hints=found)
+        sys.stderr.write(told)
+        return said
+
+
+def _ran(words):
+    """Runs the program: its status, and what it prints on standard output and standard error."""
+    how = {"stdout": subprocess.PIPE, "stderr": subprocess.PIPE, "text": True, "errors": "replace"}
+    with _PROCESSES:
+        try:
+            process = subprocess.Popen(words, env=_WITHOUT_TRIAL, **how)
+        except OSError as error:
+            raise Refused(f"cannot start {words[0]}: {error.strerror}", START_STATUS) from error
+        Tool.children.add(process)
+        try:
+            said, told = process.communicate()
+        finally:
+            Tool.children.discard(process)
+    return process.returncode, said, told
 
 
 class PartOfPlan:
