@@ -30,19 +30,18 @@ no program. Any other status is the program's.
 import os
 from dataclasses import replace
 
-from .. import routes as explanations
 from ..drawing.axis import Span
 from ..drawing.picture import MOST, Picture
 from ..drawing.scene import Choice, View
 from ..drawing.text import Text, list_text
 from ..errors import WORDS_STATUS, Refused
-from ..listing import add_choice_words, check_choice_words, chosen, pages_of, tell_looked
-from ..plans import lines_of
-from ..tool import run_tool
+from ..listing import add_choice_words, added, check_choice_words, listing_of, pages_of, tell_looked
+from ..routes import explained_routes, report_of
+from ..tool import lines_of, run_tool
 from ..words import Asked, Words, add_plan_words, add_request_words, time_word
 
 NEEDED = ("from", "to", "at")  # the words that a request has to have
-OTHERS = ("margin-ppm", "max-hops", "avoid", "via", "distinct", "look")  # words that go with a request
+OTHERS = ("margin-ppm", "max-hops", "avoid", "via", "fits", "distinct", "look")  # words that go with a request
 
 
 # ---- The command line -------------------------------------------------------------------------------------------
@@ -53,9 +52,9 @@ def parser_of_words():
     parser = Words(__doc__)
     add_plan_words(parser)
     add_request_words(parser)
-    routes = add_choice_words(parser)
-    routes.add_argument("--report", metavar="G", help="the routes of this report of the request")
-    routes.add_argument("--explained", metavar="G", help="the routes of these explanations")
+    add_choice_words(parser)
+    parser.add_argument("--report", metavar="G", help="the routes of this report of the request")
+    parser.add_argument("--explained", metavar="G", help="the routes of these explanations")
     add_view_words(parser)
     return parser
 
@@ -128,21 +127,21 @@ def routes_of(asked):
     """The routes that are asked for, with their hops; None if none are."""
     words = asked.words
     if words.explained is not None:
-        return explanations.explained_routes(lines_of(words.explained))
+        return explained_routes(lines_of(words.explained))
     if not asks_for_routes(words):
         return None
     request = asked.request()
-    pages = pages_of(asked, request) if words.report is None else [report_of(words.report)]
-    listing = chosen(asked, pages)
+    pages = pages_of(asked, request) if words.report is None else [given_report(words.report, request)]
+    listing = listing_of(asked, pages, lambda answers: added(asked, answers, with_hops=True))
+    routes = listing.routes()
     asked.tell_hints([request])
-    if words.distinct:
-        tell_looked([listing], words)
-    return asked.program.explained(request, [row.route for row in listing.rows], asked.plan)
+    tell_looked([listing], words)
+    return routes
 
 
-def report_of(path):
+def given_report(path, request):
     """The routes of a report's file, as of a report that may go on."""
-    return replace(explanations.report_of(lines_of(path)), is_whole=False)
+    return replace(report_of(lines_of(path), request), is_whole=False)
 
 
 def check_routes(plan, routes):
