@@ -1,7 +1,7 @@
 """What tools/timeline prints as text: the picture with characters, and the list of contacts."""
 
-from timeline_axis import Axis
-from timeline_scene import columns_of
+from .axis import Axis
+from .scene import columns_of
 
 # ---- The picture as text ----------------------------------------------------------------------------------------
 

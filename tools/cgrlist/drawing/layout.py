@@ -2,9 +2,9 @@
 
 from collections import defaultdict
 
-from contact_plan import WORDS_STATUS, Refused
-from timeline_axis import Axis
-from timeline_scene import columns_of, lanes_of
+from ..errors import WORDS_STATUS, Refused
+from .axis import Axis
+from .scene import columns_of, lanes_of
 
 ARROW = "\u2192"
 PLOT = 560  # width of the plot, in pixels, as all below

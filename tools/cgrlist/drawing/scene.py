@@ -6,9 +6,10 @@ from collections import defaultdict
 from dataclasses import dataclass
 from functools import cached_property
 
-from contact_plan import Names, Refused
-from routes import Hop
-from timeline_axis import Span, span_of
+from ..errors import Refused
+from ..names import Names
+from ..routes import Hop
+from .axis import Span, span_of
 
 # ---- Routes -----------------------------------------------------------------------------------------------------
 

@@ -3,7 +3,7 @@
 from dataclasses import dataclass
 from datetime import datetime, timezone
 
-from contact_plan import DAY, EPOCH, date_of
+from ..times import DAY, EPOCH, date_of
 
 END = 253402300799  # 9999/12/31-23:59:59, the last second that can be spelled
 

@@ -2,7 +2,7 @@
 
 import html
 
-from timeline_layout import ARROW, BAR, DIGIT, HEAD, Layout
+from .layout import ARROW, BAR, DIGIT, HEAD, Layout
 
 LINE = 19  # height of a line of words below the rows
 MOST = 20000  # height of a picture that is drawn without being asked for twice

@@ -1,0 +1,129 @@
+"""Prints the latest second at which a bundle can be at the source and still be at the destination in time.
+
+    tools/latest --plan F --from N --to N --by T [--after T] [--margin-ppm P] [--max-hops H] [--avoid LIST]
+    tools/latest .. --without LIST  as if these contacts were lost; the others keep their numbers
+    tools/latest .. --names FILE    the route's nodes by their names, which can be given in place of numbers, too
+    tools/latest .. --iso           times as 2030-01-01T02:47:22Z
+
+prints that second, and the best route from then on as `cgrlist first` prints it. A delivery at T is in time. The
+`until` of a report isn't that second: it is the earliest end among a route's contacts, which is often later.
+
+T is 2031/03/03-01:00:00, 2031-03-03T01:00:00Z, 2031-03-03, now, or now+2h with s, m, h or d. All times are UTC.
+
+The program is asked for the best route at several seconds, by binary search. It is proved that a bundle that is at the
+source later never arrives earlier (ArrivalIsMonotone in docs/proofs.md).
+
+Hints on standard error name what may be mistyped. They change neither the answer nor the status.
+
+Status 0: there is such a second. 1: there is none, and one line names the best delivery. 2: the words or the names
+can't be used. 125: there is no program. Any other status is the program's, as its message is.
+"""
+
+import sys
+from dataclasses import dataclass, replace
+
+from ..errors import WORDS_STATUS, Refused
+from ..program import Program
+from ..routes import Request, Route
+from ..tool import run_tool
+from ..words import Asked, Words, add_plan_words, add_request_words, time_word
+
+NONE_STATUS = 1
+
+
+@dataclass(frozen=True)
+class Start:
+    """A second at which a bundle is at the source, and its best route from then on; None if there is none."""
+
+    second: int
+    route: "Route | None"
+
+
+@dataclass(frozen=True)
+class Question:
+    """A request, which the program answers for any second in place of its own; and a deadline."""
+
+    program: Program
+    request: Request
+    deadline: int
+
+    def start_at(self, second):
+        """The start at a second, with the route that the program prints first."""
+        routes = self.program.first(replace(self.request, at=second), 1).routes
+        return Start(second, routes[0] if routes else None)
+
+    def is_in_time(self, start):
+        """Whether a start has a route that delivers by the deadline."""
+        return start.route is not None and start.route.delivery <= self.deadline
+
+    def latest_start(self, start):
+        """The latest start that is in time, by binary search from one that is."""
+        too_late = self.deadline + 1
+        while too_late - start.second > 1:
+            middle = self.start_at((start.second + too_late) // 2)
+            if self.is_in_time(middle):
+                start = middle
+            else:
+                too_late = middle.second
+        return start
+
+
+def none_text(start, time_text):
+    """Says that no start is in time, and what the earliest one brings."""
+    if start.route is None:
+        return "none: there is no route\n"
+    return f"none: the best delivery is {time_text(start.route.delivery)}\n"
+
+
+def start_text(start, time_text):
+    """Prints a start, and its route as a report does."""
+    return f"latest {time_text(start.second)}\n{start.route.rank} {start.route.text(time_text)}\n"
+
+
+def nodes_text(route, plan, names):
+    """The nodes of a route by their names."""
+    return " > ".join(map(names.of, plan.nodes_of(route.contacts))) + "\n"
+
+
+def read_words():
+    """What the words of the command line ask for."""
+    parser = Words(__doc__)
+    time = {"type": time_word, "metavar": "T"}
+    parser.add_argument("--by", required=True, **time, help="the deadline")
+    parser.add_argument("--after", default=0, **time, help="no second before T; 1970 if not given")
+    add_plan_words(parser)
+    add_request_words(parser, required=("from", "to"), without=("at",))
+    return Asked(parser)
+
+
+def answer(asked):
+    """The text of the answer, and whether there is a start that is in time."""
+    question = Question(asked.program, asked.request(asked.words.after), asked.words.by)
+    earliest = question.start_at(asked.words.after)
+    asked.tell_hints([question.request])
+    if not question.is_in_time(earliest):
+        return none_text(earliest, asked.time_text), False
+    latest = question.latest_start(earliest)
+    text = start_text(latest, asked.time_text)
+    if asked.words.names:
+        text += nodes_text(latest.route, asked.plan, asked.names)
+    return text, True
+
+
+def tool():
+    """What is printed. Status 1 is for the answer that there is no start: whatever else has it in other tools has 2."""
+    try:
+        text, is_found = answer(read_words())
+    except Refused as refused:
+        refused.status = max(refused.status, WORDS_STATUS)
+        raise
+    if not is_found:
+        sys.stdout.write(text)
+        sys.stdout.flush()
+        raise Refused(None, NONE_STATUS)
+    return text
+
+
+def main():
+    """Runs the command."""
+    run_tool(tool)

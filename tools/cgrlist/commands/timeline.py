@@ -1,0 +1,182 @@
+"""Draws a contact plan in time: a row for each link, its windows as bars, and the routes below the bars that they use.
+
+    tools/timeline --plan F                    the plan, as an SVG on standard output
+    tools/timeline --plan F --from N --to N --at T --count K [--margin-ppm P] [--max-hops H] [--avoid LIST]
+                                               with the first K routes, which the program is asked for
+    tools/timeline --plan F --from N --to N --at T .. --by T
+                                               with all routes that deliver by T
+    tools/timeline --plan F --from N --to N --at T .. --report G
+                                               with the routes of the report G, which the program explains
+    tools/timeline --plan F --explained G      with the routes of the explanations in G
+    tools/timeline .. --between T T            a span of time; if not given, that of the routes, or else of the plan
+    tools/timeline .. --used                   only the links that the routes use
+    tools/timeline .. --links 'A>B,..'         only these links
+    tools/timeline .. --nodes A,..             only the links from and to these nodes
+    tools/timeline .. --order route            the links of the first route first, in its order, and so on
+    tools/timeline .. --width PX [--all]       how wide the picture is; it is at most 20000 high without --all
+    tools/timeline .. --text [--columns N]     the same as text
+    tools/timeline --plan F --list             each contact with its number, one a line
+
+Each option may go with the others. Of a request's or a report's routes, --via, --distinct and --look choose those that
+they choose for tools/report. --without draws the plan and its routes as if contacts were lost. A plan is one that
+`cgrlist check` accepts. T is 2031/03/03-01:00:00, 2031-03-03T01:00:00Z, 2031-03-03, now, or now+2h with s, m, h or d.
+All times are UTC. A and B are nodes, by their numbers or by the names of --names. G may be /dev/stdin.
+
+Status 0: done. 1: the routes or the names can't be used, or the routes are not of this plan. 2: the words can't be
+used, or the picture is too high. 3: the plan can't be read. 5: a file can't be read, or writing failed. 125: there is
+no program. Any other status is the program's.
+"""
+
+import os
+from dataclasses import replace
+
+from ..drawing.axis import Span
+from ..drawing.picture import MOST, Picture
+from ..drawing.scene import Choice, View
+from ..drawing.text import Text, list_text
+from ..errors import WORDS_STATUS, Refused
+from ..listing import add_choice_words, added, check_choice_words, listing_of, pages_of, tell_looked
+from ..routes import explained_routes, report_of
+from ..tool import lines_of, run_tool
+from ..words import Asked, Words, add_plan_words, add_request_words, time_word
+
+NEEDED = ("from", "to", "at")  # the words that a request has to have
+OTHERS = ("margin-ppm", "max-hops", "avoid", "via", "fits", "distinct", "look")  # words that go with a request
+
+
+# ---- The command line -------------------------------------------------------------------------------------------
+
+
+def parser_of_words():
+    """A parser of the command line."""
+    parser = Words(__doc__)
+    add_plan_words(parser)
+    add_request_words(parser)
+    add_choice_words(parser)
+    parser.add_argument("--report", metavar="G", help="the routes of this report of the request")
+    parser.add_argument("--explained", metavar="G", help="the routes of these explanations")
+    add_view_words(parser)
+    return parser
+
+
+def add_view_words(parser):
+    """Adds the words that say what is shown and how."""
+    span = {"nargs": 2, "type": time_word, "metavar": ("T", "T")}
+    parser.add_argument("--between", **span, help="the span of time")
+    parser.add_argument("--used", action="store_true", help="only the links that the routes use")
+    parser.add_argument("--links", metavar="LIST", help="only these links: 'A>B', joined by commas")
+    parser.add_argument("--nodes", metavar="LIST", help="only the links from and to these nodes, joined by commas")
+    parser.add_argument("--order", choices=("link", "route"), default="link", help="rows by nodes, or as routes go")
+    shape = parser.add_mutually_exclusive_group()
+    shape.add_argument("--text", action="store_true", help="draw with characters")
+    shape.add_argument("--list", action="store_true", help="list the contacts by number")
+    parser.add_argument("--columns", type=int, default=100, metavar="N", help="how wide a text is; 100 if not given")
+    parser.add_argument("--width", type=int, metavar="PX", help="how wide a picture is")
+    parser.add_argument("--all", action="store_true", help=f"draw a picture that is higher than {MOST}, too")
+
+
+def check_words(parser, words):
+    """Refuses words without those that they need."""
+    given = [f"--{name}" for name in (*NEEDED, *OTHERS) if getattr(words, name.replace("-", "_")) not in (None, [])]
+    asks = asks_for_routes(words)
+    if given and words.explained is not None:
+        parser.error(f"--explained takes the place of a request: {', '.join(given)}")
+    needed = [f"--{name}" for name in NEEDED] + ["--count or --by"] * (not asks)
+    missing = [name for name in needed if name not in given]
+    if missing and (given or asks):
+        parser.error(f"these words are missing: {', '.join(missing)}")
+    if (words.used or words.order == "route") and not asks and words.explained is None:
+        parser.error("--used and --order route need routes: --count, --by, --report or --explained")
+    check_choice_words(parser, words)
+
+
+def asks_for_routes(words):
+    """Whether the routes of a request are asked for."""
+    return any(it is not None for it in (words.count, words.by, words.report))
+
+
+def view_of(asked, parser):
+    """How the words ask for a plan to be shown."""
+    words = asked.words
+    choice = Choice(words.used, links_of(asked), nodes_of(asked, "nodes", words.nodes), words.order == "route")
+    span = Span(*words.between) if words.between else None
+    if span and span.first >= span.last:
+        parser.error("--between: the first time isn't before the second")
+    return View(os.path.basename(words.plan), choice, span, asked.names, asked.time_text)
+
+
+def nodes_of(asked, word, text, sign=","):
+    """The nodes in a word's value, in which a sign joins them; None if it isn't given."""
+    return text if text is None else tuple(asked.node(word, node) for node in text.split(sign))
+
+
+def links_of(asked):
+    """The links that the words choose, as pairs of nodes; None if they don't."""
+    if asked.words.links is None:
+        return None
+    links = [nodes_of(asked, "links", text, ">") for text in asked.words.links.split(",")]
+    if any(len(link) != 2 for link in links):
+        raise Refused(f"argument --links: not nodes as 'A>B': {asked.words.links}; see --help", WORDS_STATUS)
+    return frozenset(links)
+
+
+# ---- The answer -------------------------------------------------------------------------------------------------
+
+
+def routes_of(asked):
+    """The routes that are asked for, with their hops; None if none are."""
+    words = asked.words
+    if words.explained is not None:
+        return explained_routes(lines_of(words.explained))
+    if not asks_for_routes(words):
+        return None
+    request = asked.request()
+    pages = pages_of(asked, request) if words.report is None else [given_report(words.report, request)]
+    listing = listing_of(asked, pages, lambda answers: added(asked, answers, with_hops=True))
+    routes = listing.routes()
+    asked.tell_hints([request])
+    tell_looked([listing], words)
+    return routes
+
+
+def given_report(path, request):
+    """The routes of a report's file, as of a report that may go on."""
+    return replace(report_of(lines_of(path), request), is_whole=False)
+
+
+def check_routes(plan, routes):
+    """Refuses routes that are not of a plan."""
+    known = {it.number: it.link for it in plan.contacts}
+    for hop in (hop for route in routes for hop in route.hops):
+        if known.get(hop.contact) != hop.link:
+            told = f"it has no contact {hop.contact} from {hop.sender} to {hop.receiver}"
+            raise Refused(f"the routes are not of this plan: {told}")
+
+
+def picture_text(scene, words):
+    """The scene as an SVG, if it isn't too high."""
+    picture = Picture(scene, words.width)
+    if picture.height > MOST and not words.all:
+        smaller = "--used, --links, --nodes and --between choose links, a smaller --count routes; --all draws it so"
+        raise Refused(f"the picture would be {picture.height} px high, more than {MOST}: {smaller}", WORDS_STATUS)
+    return picture.svg()
+
+
+def timeline():
+    """The text that the words ask for."""
+    parser = parser_of_words()
+    asked = Asked(parser)
+    words = asked.words
+    check_words(parser, words)
+    view = view_of(asked, parser)
+    routes = routes_of(asked)  # first, since the program says more of a plan that it refuses
+    check_routes(asked.plan, routes or [])
+    scene = view.scene(asked.plan, routes, words.list)
+    if words.list:
+        return list_text(scene, words.names)
+    return Text(scene, words.columns).text() if words.text else picture_text(scene, words)
+
+
+def main():
+    """Runs the command."""
+    run_tool(timeline)

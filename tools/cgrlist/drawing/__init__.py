@@ -1,0 +1,1 @@
+"""Plans and routes drawn in time."""

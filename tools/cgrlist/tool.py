@@ -1,0 +1,192 @@
+"""How a tool runs: what it prints, what it tells meanwhile, and how it ends."""
+
+import collections
+import contextlib
+import itertools
+import os
+import signal
+import sys
+import tempfile
+import threading
+import time
+from concurrent.futures import ThreadPoolExecutor
+
+from .errors import FILE_STATUS, Refused
+
+
+class Tool:
+    """The tool that runs: its name, a folder of its own if it needed one, what tells how far it is, the processes that it
+    waits for, and what is to be told if a signal ends it.
+    """
+
+    name = os.path.basename(sys.argv[0])
+    progress = None
+    folder = None
+    children = set()
+    when_ended = None
+    lock = threading.Lock()
+    counted = itertools.count(1)
+
+
+def scratch():
+    """The path of a new file, in a folder that goes when the process ends."""
+    with Tool.lock:
+        Tool.folder = Tool.folder or tempfile.TemporaryDirectory(prefix="cgrlist-")
+    return os.path.join(Tool.folder.name, str(next(Tool.counted)))
+
+
+def lines_of(path):
+    """The lines of a file, without their line feeds."""
+    with open(path, encoding="utf-8", errors="replace", newline="\n") as file:
+        return file.read().split("\n")
+
+
+def tell(message):
+    """Prints a line on standard error."""
+    if Tool.progress:
+        Tool.progress.clear()
+    line = "".join(it if it.isprintable() else repr(it)[1:-1] for it in message)
+    print(f"{Tool.name}: {line}", file=sys.stderr)
+
+
+class Progress:
+    """Tells on standard error how far a tool is: on a terminal once it has taken a second and then in one line, else in
+    a line every ten seconds. One within another tells nothing.
+    """
+
+    def __init__(self):
+        self._is_first = Tool.progress is None
+        if self._is_first:
+            Tool.progress = self
+        self._is_terminal = sys.stderr is not None and sys.stderr.isatty()
+        self._is_shown, self._due = False, time.monotonic() + (1 if self._is_terminal else 10)
+
+    def tell(self, text):
+        """Shows a text, on a terminal in place of the last one."""
+        if not self._is_first or time.monotonic() < self._due:
+            return
+        self._due = time.monotonic() + (0.2 if self._is_terminal else 10)
+        if self._is_terminal:
+            print(f"\r\033[K{Tool.name}: {text}", end="", file=sys.stderr, flush=True)
+            self._is_shown = True
+        else:
+            tell(text)
+
+    def clear(self):
+        """Takes the text from a terminal."""
+        if self._is_shown:
+            print("\r\033[K", end="", file=sys.stderr, flush=True)
+            self._is_shown = False
+
+    def end(self):
+        """Ends the telling."""
+        self.clear()
+        if self._is_first:
+            Tool.progress = None
+
+
+# ---- Work on several processors ---------------------------------------------------------------------------------
+
+
+def processors():
+    """How many processors this process may use."""
+    return len(os.sched_getaffinity(0))
+
+
+@contextlib.contextmanager
+def threads():
+    """A pool with a thread for each processor. If it is left early, what it hasn't begun is dropped at once."""
+    pool = ThreadPoolExecutor(processors())
+    try:
+        yield pool
+    except BaseException:
+        pool.shutdown(wait=False, cancel_futures=True)
+        stop_children()
+        raise
+    pool.shutdown()
+
+
+def in_order(work, parts):
+    """The results of a function over some parts, in their order. Only as many as there are threads wait to be taken."""
+    with threads() as pool:
+        begun = collections.deque()
+        for part in parts:
+            begun.append(pool.submit(work, part))
+            if len(begun) > processors():
+                yield begun.popleft().result()
+        while begun:
+            yield begun.popleft().result()
+
+
+def stop_children():
+    """Ends the processes that the tool waits for."""
+    for process in list(Tool.children):
+        process.kill()
+
+
+# ---- A run ------------------------------------------------------------------------------------------------------
+
+
+class Ended(BaseException):
+    """A signal ends the tool."""
+
+
+def _end(number, _):
+    raise Ended(number)
+
+
+def run_tool(tool):
+    """Prints the text that a tool returns, or its pieces. If it is refused, says why and ends with that status."""
+    for number in (signal.SIGINT, signal.SIGTERM, signal.SIGHUP):
+        if number == signal.SIGINT or signal.getsignal(number) != signal.SIG_IGN:
+            signal.signal(number, _end)
+    try:
+        _run(tool)
+    except Ended as ended:
+        stop_children()
+        if ended.args[0] == signal.SIGINT:
+            _keep_what_was_found()
+        if Tool.folder:
+            Tool.folder.cleanup()
+        signal.signal(ended.args[0], signal.SIG_DFL)
+        os.kill(os.getpid(), ended.args[0])
+
+
+def _run(tool):
+    if sys.stdout is None:
+        _give_up(Refused("standard output is closed", FILE_STATUS))
+    sys.stdout.reconfigure(encoding="utf-8")
+    try:
+        told = tool()
+        for piece in [told] if isinstance(told, str) else told:
+            if Tool.progress:
+                Tool.progress.clear()
+            sys.stdout.write(piece)
+        sys.stdout.flush()
+    except Refused as refused:
+        _give_up(refused)
+    except BrokenPipeError as error:  # as the signal would end it
+        raise Ended(signal.SIGPIPE) from error
+    except OSError as error:
+        where = f"{error.filename}: " if error.filename else ""
+        _give_up(Refused(f"{where}{error.strerror}", FILE_STATUS))
+
+
+def _keep_what_was_found():
+    """Prints what was found before the tool is interrupted, and says how to go on."""
+    with contextlib.suppress(OSError, AttributeError):
+        sys.stdout.flush()
+    if Tool.when_ended:
+        Tool.when_ended()
+
+
+def _give_up(refused):
+    """Ends a tool, with one line that says why, unless it was printed already."""
+    if refused.is_told:
+        sys.stderr.write(refused.message)
+    elif refused.message is not None:
+        tell(refused.message)
+    for hint in refused.hints:
+        tell(f"hint: {hint}")
+    sys.stdout = None  # what stands there unwritten is not tried again
+    sys.exit(refused.status)
